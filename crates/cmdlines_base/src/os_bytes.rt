@@ -1,0 +1,112 @@
+//! Byte strings as words, paths, names and contents.
+
+ghost use Rattle.std.specs.Prelude.{◌≡◌, [], IfOk, nat_eq};
+ghost use Rattle.std.specs.Ordering.{nat_cmp, as_partial_cmp};
+ghost use Rattle.std.specs.Cmp.Lexicographic.{slice_cmp, pointwise};
+ghost use Rattle.std.specs.Cmp.{partial_order_from_own_ties};
+ghost use Rattle.std.specs.Cmp.Rules.{comparing};
+ghost use Rattle.std.proofs.Common.{rules};
+
+use std::alloc::{AllocError, Global};
+use std::cmp::Ordering;
+use std::marker::Model;
+
+/// A word, a path, a name or contents: bytes that need not be text.
+#[derive(Drop)]
+pub struct OsBytes {
+    bytes: Vec<u8>,
+}
+
+impl Model for OsBytes {
+    ghost use Rattle.std.specs.Prelude.{ℕ, List};
+
+    ghost Value = { List ℕ };
+
+    ghost view = { λ a. a.bytes.items };
+}
+
+impl OsBytes {
+    /// A copy of these bytes.
+    pub fn from_slice(alloc: Global, bytes: &[u8]) -> Result<OsBytes, AllocError>
+        ensures { IfOk result (λ copy. copy ≡ bytes.now) }
+    {
+        Ok(OsBytes {
+            bytes: Vec::from_slice(alloc, bytes)?,
+        })
+    }
+
+    /// These bytes. It takes no memory.
+    pub fn from_vec(bytes: Vec<u8>) -> OsBytes
+        ensures { result ≡ bytes.items }
+    {
+        OsBytes { bytes }
+    }
+
+    /// Gives the bytes back. It takes no memory.
+    pub fn into_vec(self) -> Vec<u8>
+        ensures { result.items ≡ self }
+    {
+        let OsBytes { bytes } = self;
+        bytes
+    }
+
+    /// The empty string. It takes no memory.
+    pub fn empty(alloc: Global) -> OsBytes
+        ensures { result ≡ [] }
+    {
+        OsBytes {
+            bytes: Vec::new(alloc),
+        }
+    }
+
+    pub fn as_bytes(&self) -> &[u8]
+        ensures { result.now ≡ self.now }
+    {
+        self.bytes.as_slice()
+    }
+
+    /// Another string of the same bytes.
+    pub fn clone(&self, alloc: Global) -> Result<OsBytes, AllocError>
+        ensures { IfOk result (λ copy. copy ≡ self.now) }
+    {
+        OsBytes::from_slice(alloc, self.as_bytes())
+    }
+}
+
+impl PartialEq for OsBytes {
+    ghost eq = { pointwise nat_eq };
+
+    ghost laws = { Prim.search (comparing, rules) };
+
+    fn eq(&self, other: &OsBytes) -> bool {
+        self.as_bytes() == other.as_bytes()
+    }
+}
+
+impl Eq for OsBytes {
+    ghost laws = { Prim.search (comparing, rules) };
+}
+
+impl PartialOrd for OsBytes {
+    ghost partial_cmp = { as_partial_cmp (slice_cmp nat_cmp) };
+
+    ghost laws = { partial_order_from_own_ties (Prim.search (comparing, rules)) (Prim.search (comparing, rules)) };
+
+    fn partial_cmp(&self, other: &OsBytes) -> Option<Ordering> {
+        Some(self.cmp(other))
+    }
+}
+
+impl Ord for OsBytes {
+    ghost cmp = { slice_cmp nat_cmp };
+
+    ghost total = { Prim.search (comparing, rules) };
+
+    ghost matches_partial_cmp = { Prim.search (comparing, rules) };
+
+    ghost matches_eq = { Prim.search (comparing, rules) };
+
+    fn cmp(&self, other: &OsBytes) -> Ordering {
+        self.as_bytes().cmp(other.as_bytes())
+    }
+}
