@@ -1,5 +1,10 @@
 //! What every command line stands on: words, paths, files, and how a table of options cuts words.
 #![tactic(auto)]
 
+pub mod argument;
+pub mod command;
+pub mod cutting;
 pub mod listed;
 pub mod os_bytes;
+pub mod reading_back;
+pub mod table;

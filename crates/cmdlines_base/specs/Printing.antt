@@ -1,0 +1,62 @@
+-- How arguments are written as words again.
+use Rattle.std.specs.Prelude.{ℕ, Bool, true, false, ◌==◌, List, [], ◌∷◌, ◌++◌, Option, None, Some, if◌then◌else◌, length}
+use Rattle.cmdlines_base.specs.declared.argument.ArgDisposition.{ArgDisposition}
+use Rattle.cmdlines_base.specs.declared.argument.ArgDisposition.TheVariants.{Separated, CanBeConcatenated, CanBeSeparated, Concatenated}
+use Rattle.std.specs.List.{flat_map}
+use Rattle.std.specs.Option.{option_map_or}
+use Rattle.cmdlines_base.specs.Bytes.{Bytes}
+use Rattle.cmdlines_base.specs.Table.{Entry, longest_fit}
+use Rattle.cmdlines_base.specs.Reading.{Item, raw, unknown, flag, valued}
+
+-- a value behind its flag in one word; an empty one drops the delimiter
+abbrev pub joined : Bytes → Option ℕ → Bytes → Bytes
+joined name d [] = name
+joined name None (b ∷ bs) = name ++ b ∷ bs
+joined name (Some d) (b ∷ bs) = name ++ d ∷ b ∷ bs
+
+abbrev pub printed_as : Bytes → Bytes → ArgDisposition → List (Bytes)
+printed_as name value Separated = name ∷ value ∷ []
+printed_as name value (CanBeConcatenated d) = name ∷ value ∷ []
+printed_as name value (CanBeSeparated d) = joined name d value ∷ []
+printed_as name value (Concatenated d) = joined name d value ∷ []
+
+abbrev pub printed : {K : Type 0} → Item K → List (Bytes)
+printed (raw w) = w ∷ []
+printed (unknown w) = w ∷ []
+printed (flag f k) = f ∷ []
+printed (valued f k v d) = printed_as f v d
+
+-- A value that may stand either way stands joined where the flag has two bytes, else apart.
+abbrev pub normal_disposition : Bytes → ArgDisposition → ArgDisposition
+normal_disposition name Separated = Separated
+normal_disposition name (CanBeConcatenated d) = if length name == 2 then Concatenated d else Separated
+normal_disposition name (CanBeSeparated d) = if length name == 2 then Concatenated d else Separated
+normal_disposition name (Concatenated d) = Concatenated d
+
+abbrev pub normal : {K : Type 0} → Item K → Item K
+normal (raw w) = raw w
+normal (unknown w) = unknown w
+normal (flag f k) = flag f k
+normal (valued f k v d) = valued f k v (normal_disposition f d)
+
+-- the words of items, as they are written again
+abbrev pub words_of : {K : Type 0} → List (Item K) → List Bytes
+words_of items = flat_map (λ a. printed (normal a)) items
+
+-- whether a value may stand either way
+abbrev pub either_way : ArgDisposition → Bool
+either_way Separated = false
+either_way (CanBeConcatenated d) = true
+either_way (CanBeSeparated d) = true
+either_way (Concatenated d) = false
+
+abbrev pub is_j : {K : Type 0} → Entry K → Bool
+is_j e = option_map_or either_way e.takes false
+
+-- an option whose value may stand either way was read with an empty value
+abbrev pub is_empty_j : {K : Type 0} → List (Entry K) → Item K → Bool
+is_empty_j table (raw w) = false
+is_empty_j table (unknown w) = false
+is_empty_j table (flag f k) = false
+is_empty_j table (valued f k [] d) = option_map_or is_j (longest_fit table f) false
+is_empty_j table (valued f k (b ∷ bs) d) = false

@@ -1,0 +1,94 @@
+-- How a table cuts words into arguments.
+use Rattle.std.specs.Prelude.{◌≡◌, Bool, true, false, ◌==◌, List, [], ◌∷◌, ◌++◌, Option, None, Some, if◌then◌else◌, unwrap_or, ℕ}
+use Rattle.cmdlines_base.specs.Bytes.{Bytes}
+use Rattle.cmdlines_base.specs.declared.argument.ArgDisposition.{ArgDisposition}
+use Rattle.cmdlines_base.specs.declared.argument.ArgDisposition.TheVariants.{Separated, CanBeConcatenated, CanBeSeparated, Concatenated}
+use Rattle.cmdlines_base.specs.Table.{Entry, behind, longest_fit}
+
+-- an argument as it stands in the words: a loose word, a word that looks like a flag and is in no table, a flag, or a flag with its value
+pub data Item (K : Type 0) : Type 0 where
+  raw : Bytes → Item K
+  unknown : Bytes → Item K
+  flag : Bytes → K → Item K
+  valued : Bytes → K → Bytes → ArgDisposition → Item K
+
+-- What a word makes by itself: an item, or a flag whose value is the next word.
+pub data Start (K : Type 0) : Type 0 where
+  whole : Item K → Start K
+  awaits : Bytes → K → ArgDisposition → Start K
+
+-- a word that nothing fits: 45 is '-'
+abbrev pub loose : {K : Type 0} → Bytes → Item K
+loose [] = raw []
+loose (b ∷ bs) = if b == 45 then unknown (b ∷ bs) else raw (b ∷ bs)
+
+-- the value in what stands behind the flag
+abbrev pub value_in : Option ℕ → Bytes → Bytes
+value_in None rest = rest
+value_in (Some d) [] = []
+value_in (Some d) (b ∷ rest) = rest
+
+-- a flag whose value may stand either way: apart where nothing stands behind the flag
+abbrev pub start_either : {K : Type 0} → Bytes → K → Option ℕ → Bytes → Start K
+start_either f k d [] = awaits f k (CanBeConcatenated d)
+start_either f k d (b ∷ bs) = whole (valued f k (value_in d (b ∷ bs)) (CanBeSeparated d))
+
+-- what a word makes by its entry and by what stands behind the flag
+abbrev pub start_as : {K : Type 0} → Bytes → K → Option ArgDisposition → Bytes → Start K
+start_as f k None rest = whole (flag f k)
+start_as f k (Some Separated) rest = awaits f k Separated
+start_as f k (Some (Concatenated d)) rest = whole (valued f k (value_in d rest) (Concatenated d))
+start_as f k (Some (CanBeConcatenated d)) rest = start_either f k d rest
+start_as f k (Some (CanBeSeparated d)) rest = start_either f k d rest
+
+abbrev pub first_by : {K : Type 0} → Option (Entry K) → Bytes → Start K
+first_by None word = whole (loose word)
+first_by (Some e) word = start_as e.flag e.kind e.takes (unwrap_or (behind e.flag word) [])
+
+-- what a word makes by its entry in the table
+abbrev pub first_word : {K : Type 0} → List (Entry K) → Bytes → Start K
+first_word table word = first_by (longest_fit table word) word
+
+-- the items, and whether the words end where a value should come
+pub record Reading (K : Type 0) : Type 0 where
+  pub items : List (Item K)
+  pub cut_short : Bool
+
+abbrev pub nothing : {K : Type 0} → Reading K
+nothing = record { items = []; cut_short = false }
+
+abbrev pub before : {K : Type 0} → Item K → Reading K → Reading K
+before a r = record { items = a ∷ r.items; cut_short = r.cut_short }
+
+-- A flag that awaits a value gets none: where it may stand joined without a delimiter its value is empty.
+abbrev pub unfinished : {K : Type 0} → Bytes → K → ArgDisposition → Reading K
+unfinished f k (CanBeConcatenated None) = before (valued f k [] (Concatenated None)) nothing
+unfinished f k (CanBeConcatenated (Some d)) = record { items = []; cut_short = true }
+unfinished f k Separated = record { items = []; cut_short = true }
+unfinished f k (CanBeSeparated d) = record { items = []; cut_short = true }
+unfinished f k (Concatenated d) = record { items = []; cut_short = true }
+
+-- The reading of words, rule by rule: each word is an item by itself, or a flag that takes the next word for its value, or a flag at the end that lacks one.
+pub data Reads {K : Type 0} (table : List (Entry K)) : List Bytes → Reading K → Type 0 where
+  at_end : Reads table [] nothing
+  alone : {word : Bytes} {words : List Bytes} {item : Item K} {r : Reading K} → first_word table word ≡ whole item → Reads table words r → Reads table (word ∷ words) (before item r)
+  with_value : {word value : Bytes} {words : List Bytes} {f : Bytes} {k : K} {d : ArgDisposition} {r : Reading K} → first_word table word ≡ awaits f k d → Reads table words r → Reads table (word ∷ value ∷ words) (before (valued f k value d) r)
+  lacking : {word : Bytes} {f : Bytes} {k : K} {d : ArgDisposition} → first_word table word ≡ awaits f k d → Reads table (word ∷ []) (unfinished f k d)
+
+-- The same as a function: the reading from a first word on, given those from the word behind it and from the one after that.
+abbrev pub from_last : {K : Type 0} → Start K → Reading K
+from_last (whole a) = before a nothing
+from_last (awaits f k d) = unfinished f k d
+
+abbrev pub from_first : {K : Type 0} → Start K → Bytes → Reading K → Reading K → Reading K
+from_first (whole a) next behind_one behind_two = before a behind_one
+from_first (awaits f k d) next behind_one behind_two = before (valued f k next d) behind_two
+
+abbrev pub reading : {K : Type 0} → List (Entry K) → List Bytes → Reading K
+reading table [] = nothing
+reading table (word ∷ []) = from_last (first_word table word)
+reading table (word ∷ next ∷ words) = from_first (first_word table word) next (reading table (next ∷ words)) (reading table words)
+
+-- a reading with these items before it
+abbrev pub all_before : {K : Type 0} → List (Item K) → Reading K → Reading K
+all_before so_far r = record { items = so_far ++ r.items; cut_short = r.cut_short }

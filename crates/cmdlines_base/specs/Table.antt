@@ -1,0 +1,102 @@
+-- Which entry of a table a word has.
+use Rattle.std.specs.Prelude.{◌≡◌, ℕ, ◌≤◌, Bool, true, false, ◌&&◌, ◌==◌, nat_lt, List, [], ◌∷◌, ◌++◌, length, Option, None, Some, IsTrue, if◌then◌else◌, map, Contains, All}
+use Rattle.std.specs.Option.{option_map_or, option_map}
+use Rattle.std.specs.Borrow.{Bor}
+use Rattle.cmdlines_base.specs.Bytes.{Bytes}
+use Rattle.std.specs.Ordering.{nat_cmp, is_lt}
+use Rattle.std.specs.Cmp.Lexicographic.{slice_cmp}
+use Rattle.cmdlines_base.specs.declared.argument.ArgDisposition.{ArgDisposition}
+use Rattle.cmdlines_base.specs.declared.argument.ArgDisposition.TheVariants.{Separated, CanBeConcatenated, CanBeSeparated, Concatenated}
+use Rattle.cmdlines_base.specs.declared.table.ArgInfo.{ArgInfo}
+use Rattle.cmdlines_base.specs.declared.table.ArgInfo.TheVariants.{Flag, TakeArg}
+
+-- an entry, without where its flag lies in memory: what it takes is None for a flag that stands alone
+pub record Entry (K : Type 0) : Type 0 where
+  pub flag : Bytes
+  pub kind : K
+  pub takes : Option ArgDisposition
+
+abbrev pub entry_of : {T K : Type 0} → ArgInfo T K → Entry K
+entry_of (Flag f k) = record { flag = f.now; kind = k; takes = None }
+entry_of (TakeArg f k d) = record { flag = f.now; kind = k; takes = Some d }
+
+-- the entry that a look-up lends
+abbrev pub entry_at : {T K : Type 0} → Option (Bor (ArgInfo T K)) → Option (Entry K)
+entry_at r = option_map (λ e. entry_of e.now) r
+
+abbrev pub entries_of : {T K : Type 0} → List (ArgInfo T K) → List (Entry K)
+entries_of entries = map entry_of entries
+
+-- what stands behind the flag, where the word begins with it
+abbrev pub behind : Bytes → Bytes → Option (Bytes)
+behind [] word = Some word
+behind (b ∷ flag) [] = None
+behind (b ∷ flag) (c ∷ word) = if b == c then behind flag word else None
+
+-- whether a byte may come right behind the flag
+abbrev pub delimiter_allows : Option ℕ → ℕ → Bool
+delimiter_allows None b = true
+delimiter_allows (Some d) b = b == d
+
+abbrev pub joins : ArgDisposition → ℕ → Bool
+joins Separated b = false
+joins (CanBeConcatenated d) b = delimiter_allows d b
+joins (CanBeSeparated d) b = delimiter_allows d b
+joins (Concatenated d) b = delimiter_allows d b
+
+-- whether this may stand behind the entry's flag in the same word
+abbrev pub may_follow : {K : Type 0} → Entry K → Bytes → Bool
+may_follow e [] = true
+may_follow e (b ∷ bs) = option_map_or (λ d. joins d b) e.takes false
+
+-- The word is the flag, or the flag begins the word, the disposition may join, and the delimiter, if any, comes next.
+abbrev pub fits : {K : Type 0} → Entry K → Bytes → Bool
+fits e word = option_map_or (may_follow e) (behind e.flag word) false
+
+-- the entry with the longer flag, and the second where they are as long
+abbrev pub longer : {K : Type 0} → Option (Entry K) → Option (Entry K) → Option (Entry K)
+longer a None = a
+longer None (Some e) = Some e
+longer (Some d) (Some e) = if nat_lt (length e.flag) (length d.flag) then Some d else Some e
+
+-- the fitting entry with the longest flag, and the last of those
+abbrev pub longest_fit : {K : Type 0} → List (Entry K) → Bytes → Option (Entry K)
+longest_fit [] word = None
+longest_fit (e ∷ es) word = longer (if fits e word then Some e else None) (longest_fit es word)
+
+-- The same in the words of the subject: the flag and a rest that may follow it are the word.
+abbrev pub Fits : {K : Type 0} → Entry K → Bytes → Type 0
+Fits e word = (rest : Bytes) × (word ≡ e.flag ++ rest) × IsTrue (may_follow e rest)
+
+-- It is in the table and fits, and no fitting entry has a longer flag.
+pub record IsLongestFit {K : Type 0} (entries : List (Entry K)) (word : Bytes) (e : Entry K) : Type 0 where
+  pub among : Contains entries e
+  pub fits : Fits e word
+  pub longest : All (λ other. Fits other word → length other.flag ≤ length e.flag) entries
+
+abbrev pub IsEntryOf : {K : Type 0} → List (Entry K) → Bytes → Option (Entry K) → Type 0
+IsEntryOf entries word None = All (λ e. ¬ Fits e word) entries
+IsEntryOf entries word (Some e) = IsLongestFit entries word e
+
+-- Tables: flags rise strictly, and delimiters are ASCII.
+abbrev pub is_ascii_delimiter : Option ℕ → Bool
+is_ascii_delimiter None = true
+is_ascii_delimiter (Some d) = nat_lt d 128
+
+abbrev pub ascii_disposition : ArgDisposition → Bool
+ascii_disposition Separated = true
+ascii_disposition (CanBeConcatenated d) = is_ascii_delimiter d
+ascii_disposition (CanBeSeparated d) = is_ascii_delimiter d
+ascii_disposition (Concatenated d) = is_ascii_delimiter d
+
+abbrev pub has_ascii : {K : Type 0} → Entry K → Bool
+has_ascii e = option_map_or ascii_disposition e.takes true
+
+-- the next flag, if there is one, is above this one
+abbrev pub rises_to : {K : Type 0} → Entry K → List (Entry K) → Bool
+rises_to e [] = true
+rises_to e (n ∷ ns) = is_lt (slice_cmp nat_cmp e.flag n.flag)
+
+abbrev pub is_table : {K : Type 0} → List (Entry K) → Bool
+is_table [] = true
+is_table (e ∷ es) = has_ascii e && rises_to e es && is_table es

@@ -1,0 +1,26 @@
+//! Compilers, commands and the outputs that are asked for.
+
+use crate::listed::Listed;
+use crate::os_bytes::OsBytes;
+
+/// The compilers whose command lines are read.
+#[derive(Clone, Copy, Debug, PartialEq, Eq)]
+pub enum CCompilerKind {
+    Gcc,
+}
+
+/// What is run: an executable with its words, in a directory, under an environment.
+#[derive(Drop)]
+pub struct SingleCompileCommand {
+    pub executable: OsBytes,
+    pub arguments: Listed<OsBytes>,
+    pub env_vars: Listed<(OsBytes, OsBytes)>,
+    pub cwd: OsBytes,
+}
+
+/// Where an output goes, and whether a compile may leave it out.
+#[derive(Drop)]
+pub struct ArtifactDescriptor {
+    pub path: OsBytes,
+    pub optional: bool,
+}
