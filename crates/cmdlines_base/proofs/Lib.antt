@@ -3,3 +3,5 @@ pub mod ReadingLemmas
 pub mod StepLemmas
 pub mod AgainLemmas
 pub mod ClearLemmas
+pub mod MemoryLookups
+pub mod PieceLaws

@@ -4,7 +4,11 @@
 pub mod argument;
 pub mod command;
 pub mod cutting;
+pub mod file_time;
+pub mod files;
 pub mod listed;
+pub mod memory_files;
 pub mod os_bytes;
+pub mod path;
 pub mod reading_back;
 pub mod table;

@@ -9,6 +9,7 @@ ghost use Rattle.std.proofs.Common.{rules};
 
 use std::alloc::{AllocError, Global};
 use std::cmp::Ordering;
+use std::fmt;
 use std::marker::Model;
 
 /// A word, a path, a name or contents: bytes that need not be text.
@@ -108,5 +109,18 @@ impl Ord for OsBytes {
 
     fn cmp(&self, other: &OsBytes) -> Ordering {
         self.as_bytes().cmp(other.as_bytes())
+    }
+}
+
+/// The text of the bytes, where U+FFFD stands for what is no UTF-8.
+impl fmt::Display for OsBytes {
+    fn fmt<W: fmt::Write>(&self, f: &mut fmt::Formatter<W>) -> fmt::Result {
+        for chunk in self.as_bytes().utf8_chunks() {
+            f.write_str(chunk.valid())?;
+            if !chunk.invalid().is_empty() {
+                f.write_str("\u{FFFD}")?;
+            }
+        }
+        Ok(())
     }
 }

@@ -1,0 +1,7 @@
+//! The session that answers requests.
+#![tactic(auto)]
+
+pub mod arguments;
+pub mod collected;
+pub mod commands;
+pub mod verdict;

@@ -1,0 +1,12 @@
+//! What a session stands on: requests and answers, tools, and what each of them means.
+#![tactic(auto)]
+
+pub mod answer;
+pub mod fault;
+pub mod kind;
+pub mod parsed;
+pub mod preprocessor;
+pub mod reason;
+pub mod request;
+pub mod step;
+pub mod tool;

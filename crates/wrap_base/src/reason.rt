@@ -1,0 +1,28 @@
+//! Why a request is passed through.
+
+use std::fmt;
+
+/// Why a request is passed through to its compiler.
+#[derive(Drop)]
+pub enum Reason {
+    /// It doesn't compile one input.
+    NotCompilation,
+    /// An option or the closing table refuses it: why, and what more there is to say.
+    CannotCache(&'static str, Option<String>),
+    /// An option whose value may stand either way was read with an empty value.
+    EmptyValue,
+    /// A word of a command would open a file of words.
+    OpensFile,
+}
+
+impl fmt::Display for Reason {
+    fn fmt<W: fmt::Write>(&self, f: &mut fmt::Formatter<W>) -> fmt::Result {
+        match self {
+            Reason::NotCompilation => write!(f, "not a compilation"),
+            Reason::CannotCache(reason, None) => write!(f, "{reason}"),
+            Reason::CannotCache(reason, Some(more)) => write!(f, "{reason}: {more}"),
+            Reason::EmptyValue => write!(f, "empty value"),
+            Reason::OpensFile => write!(f, "opens file"),
+        }
+    }
+}

@@ -1,0 +1,45 @@
+//! Tools: a compiler beside its preprocessor.
+
+ghost use Rattle.std.specs.Prelude.{◌≡◌, ◌⊎◌, IfOk, IsErrOf};
+ghost use Rattle.cmdlines_base.specs.Bytes.{ticked};
+ghost use Rattle.cmdlines_base.specs.Reading.{reading};
+ghost use Rattle.wrap_base.specs.SmallTable.{table_of};
+ghost use Rattle.wrap_base.specs.Meaning.{scene_of, made_of, names_of};
+
+use crate::preprocessor::{Preprocessor, ToolFail};
+use crate::step::Step;
+use cmdlines_base::command::{ArtifactDescriptor, CCompilerKind, SingleCompileCommand};
+use cmdlines_base::files::Files;
+use cmdlines_base::listed::Listed;
+use cmdlines_base::os_bytes::OsBytes;
+use std::alloc::Global;
+
+/// What a compiler made, and its status.
+#[derive(Drop)]
+pub struct Compiled {
+    pub status: i32,
+    /// For each output that was asked for its contents, or None where it wasn't made.
+    pub files: Listed<Option<OsBytes>>,
+}
+
+/// A compiler and its preprocessor, whose answers are those of one function.
+pub trait Tool: Preprocessor {
+    /// Runs the command and gives the outputs that it made.
+    fn compile<F: Files>(
+        &mut self,
+        alloc: Global,
+        kind: CCompilerKind,
+        command: &SingleCompileCommand,
+        outputs: &[(OsBytes, ArtifactDescriptor)],
+        files: &mut F,
+        moment: i64,
+    ) -> Result<Compiled, ToolFail>
+        ensures answer { IfOk result (λ made. made_of made.status made.files ≡ Self.meaning self.old Step.Compile (reading (table_of kind) command.now.arguments) (names_of outputs.now) (scene_of command.now (F.tree files.old) moment)) }
+        ensures meaning { Self.meaning self.new ≡ Self.meaning self.old }
+        ensures tree { F.tree files.new ≡ F.tree files.old }
+        ensures device { IsErrOf result ToolFail.Device → (Self.failed self.new ≡ ticked (Self.failed self.old)) × Self.fails_in self.old Step.Compile self.new }
+        ensures files_device { IsErrOf result ToolFail.Device → (F.failed files.new ≡ F.failed files.old) ⊎ (F.failed files.new ≡ ticked (F.failed files.old)) }
+        ensures steady { (IsErrOf result ToolFail.Device → ⊥) → (Self.failed self.new ≡ Self.failed self.old) × (F.failed files.new ≡ F.failed files.old) }
+        ensures runs { Self.compiled self.new ≡ ticked (Self.compiled self.old) }
+        ensures preprocesses { Self.preprocessed self.new ≡ Self.preprocessed self.old };
+}
