@@ -1,18 +1,17 @@
 -- Laws of the pieces of a path, of its last piece and of the last that counts. 47 is a slash.
-use Rattle.std.proofs.Common.{◌≡◌, ◌≢◌, ℕ, suc, ◌+◌, ◌-◌, ◌<◌, ◌≤◌, ◌==◌, ◌⊎◌, inl, inr, not, cond, Bool, true, false, List, [], ◌∷◌, ◌++◌, length, take, drop, map, reverse, filter, get_or, Option, None, Some, refl, sym, ap, subst, ◌∙◌, append_assoc, arith, rules, length-append, All, option_and_then, unwrap_or, nat_eq}
-use Rattle.std.proofs.lemmas.Grind.{common_steps}
-use Rattle.std.proofs.lemmas.List.{reverse-append, take_at, drop_at, take_all, append-nil, map-append, get_or-append_right, get_or_at, length_push, take-append-le, take-take, drop-take, take-append-drop, take_min, length-take}
+use Rattle.std.proofs.Common.{◌≡◌, ◌≢◌, ℕ, ◌+◌, ◌-◌, ◌<◌, ◌≤◌, ◌==◌, ◌⊎◌, inl, inr, not, cond, Bool, true, false, List, [], ◌∷◌, ◌++◌, length, take, drop, map, filter, get_or, Option, None, Some, refl, sym, ap, subst, ◌∙◌, append_assoc, arith, length-append, All, option_and_then, unwrap_or, nat_eq}
+use Rattle.std.proofs.lemmas.List.{reverse-append, take_at, drop_at, take_all, append-nil, get_or-append_right, get_or_at, length_push, take-append-le, take-take, drop-take, take-append-drop, take_min, length-take}
 use Rattle.std.proofs.lemmas.List.Elements.{filter-append, All-nil, All-cons}
 use Rattle.std.proofs.lemmas.Slice.Eq.{ends_is}
 use Rattle.std.proofs.lemmas.Bool.Decides.{Decides-eqb}
 use Rattle.std.proofs.lemmas.List.Splits.{join_with_byte-slice_split}
 use Rattle.std.proofs.lemmas.List.Sums.{suffix_len_is}
 use Rattle.std.specs.List.{onto_first, suffix_len, before_first, before_last, join_with_byte, last_or, ends_with}
-use Rattle.std.specs.Option.{option_map, option_map_or, MatchOption}
+use Rattle.std.specs.Option.{option_map, MatchOption}
 use Rattle.std.specs.Str.{bytes_eq}
 use denote.Ref.{Bor}
 use Rattle.cmdlines_base.specs.Bytes.{Bytes}
-use Rattle.cmdlines_base.specs.Path.{pieces, is_slash, counts, components, start_of, file_name, name_in, part_in, Part, root, current, renamed, with_slash, is_absolute, stem, has_extension, is_dot, with_extension, join}
+use Rattle.cmdlines_base.specs.Path.{pieces, is_slash, counts, start_of, file_name, name_in, part_in, root, current, renamed, with_slash, is_absolute, stem, has_extension, is_dot, with_extension, join}
 
 -- there is a first piece
 pub pieces_some : (path : Bytes) → (first : Bytes) × (others : List Bytes) × (pieces path ≡ first ∷ others)

@@ -6,9 +6,12 @@ ghost use Rattle.wrap_base.specs.SmallTable.{table_of};
 ghost use Rattle.wrap_base.specs.Commands.{compile_words, preprocess_words, first_path, command_of, kind_of, ReadsAsWanted, own_compile_items, own_preprocess_items};
 ghost use Rattle.wrap_base.specs.Verdict.{verdict_of, asks};
 
+use crate::arguments::ArgData;
 use cmdlines_base::command::{ArtifactDescriptor, SingleCompileCommand};
 use cmdlines_base::listed::Listed;
+use cmdlines_base::cutting::words_have_one_reading;
 use cmdlines_base::os_bytes::OsBytes;
+use cmdlines_base::reading_back::{items_read_again, items_read_together};
 use std::alloc::{AllocError, Global};
 use wrap_base::parsed::ParsedArguments;
 use wrap_base::request::Request;
@@ -117,6 +120,10 @@ pub fn compile_command(
     ensures again { IfOk result (λ command. (words : List Bytes) → verdict_of (kind_of request.now.compiler) words ≡ asks parsed.now
         → ReadsAsWanted (table_of (kind_of request.now.compiler)) words (own_compile_items parsed.now) command.arguments) }
 {
+    // Laws, which cost nothing: what follows from them is said above.
+    words_have_one_reading::<ArgData>();
+    items_read_again::<ArgData>();
+    items_read_together::<ArgData>();
     let words = compile_words(alloc, parsed)?;
     command_of(alloc, request, words)
 }
@@ -133,6 +140,10 @@ pub fn preprocess_command(
     ensures again { IfOk result (λ command. (words : List Bytes) → verdict_of (kind_of request.now.compiler) words ≡ asks parsed.now
         → ReadsAsWanted (table_of (kind_of request.now.compiler)) words (own_preprocess_items parsed.now) command.arguments) }
 {
+    // Laws, which cost nothing: what follows from them is said above.
+    words_have_one_reading::<ArgData>();
+    items_read_again::<ArgData>();
+    items_read_together::<ArgData>();
     let words = preprocess_words(alloc, parsed)?;
     command_of(alloc, request, words)
 }

@@ -1,11 +1,13 @@
 //! The verdict on a request's words.
 
-ghost use Rattle.std.specs.Prelude.{◌≡◌, ◌∷◌, [], false, IfOk};
+ghost use Rattle.std.specs.Prelude.{◌≡◌, ◌↔◌, ◌∷◌, [], false, codes, alloc_error, IfOk, IsErrOf, MatchResult};
 ghost use Rattle.std.specs.List.{list_any};
 ghost use Rattle.std.specs.Option.{option_copied};
 ghost use Rattle.cmdlines_base.specs.Reading.{reading};
+ghost use Rattle.wrap_base.specs.SmallTable.{table_of};
 ghost use Rattle.wrap_base.specs.Commands.{object_name, names_file, opens_file};
-ghost use Rattle.wrap_base.specs.Verdict.{parse_of, closing, is_c, is_c_extension, output_of, with_hazards, verdict_of};
+ghost use Rattle.wrap_base.specs.Verdict.{parse_of, refused, closing, close_inputs, is_c, is_c_extension, output_of, with_hazards, verdict_of};
+ghost use Rattle.wrap_base.specs.Wanted.{Collection};
 ghost use Rattle.wrap.specs.Decisions.{decision_of};
 
 use crate::arguments::{ArgData, table_for, too_hard_flag};
@@ -30,7 +32,9 @@ pub enum Verdict {
 }
 
 /// Refused for this reason, with no more text.
-fn refused(reason: &'static str) -> Verdict {
+fn refused(reason: &'static str) -> Verdict
+    ensures { decision_of result ≡ refused reason.now }
+{
     Verdict::Passes(Reason::CannotCache(reason, None))
 }
 
@@ -93,8 +97,10 @@ fn object_at(
     Ok(Listed::from_vec(outputs))
 }
 
-/// The one of the inputs.
-fn only(inputs: Vec<OsBytes>) -> Result<OsBytes, &'static str> {
+/// The one input among words, or why there is none.
+fn only(inputs: Vec<OsBytes>) -> Result<OsBytes, &'static str>
+    ensures { MatchResult result (λ input. inputs.items ≡ input ∷ []) (λ reason. (c : Collection) → close_inputs c inputs.items ≡ refused reason.now) }
+{
     let mut inputs = inputs;
     match inputs.pop() {
         None => Err("no input file"),
@@ -144,6 +150,19 @@ fn close(alloc: Global, collected: Collected) -> Result<Verdict, AllocError>
     }))
 }
 
+/// What words come to that can't be cut.
+fn not_cut(error: ArgParseError) -> Result<Verdict, AllocError>
+    ensures verdict { IfOk result (λ verdict. decision_of verdict ≡ refused (codes "argument parse")) }
+    ensures error { IsErrOf result alloc_error ↔ (error ≡ ArgParseError.Memory) }
+{
+    match error {
+        ArgParseError::Memory => Err(AllocError),
+        ArgParseError::UnexpectedEndOfArgs
+        | ArgParseError::InvalidUnicode(_)
+        | ArgParseError::Other(_) => Ok(refused("argument parse")),
+    }
+}
+
 /// What the words ask for, before the hazards.
 fn parse<S: SearchableArgInfo<ArgData>>(
     alloc: Global,
@@ -156,8 +175,7 @@ fn parse<S: SearchableArgInfo<ArgData>>(
     let mut arguments = ArgsIter::new(alloc, words, table);
     while let Some(next) = arguments.next() {
         match next {
-            Err(ArgParseError::Memory) => return Err(AllocError),
-            Err(_) => return Ok(refused("argument parse")),
+            Err(error) => return not_cut(error),
             Ok(argument) => {
                 if let Some(flag) = too_hard_flag(&argument) {
                     return Ok(refused(flag));
@@ -187,21 +205,45 @@ fn opens_file(alloc: Global, parsed: &ParsedArguments) -> Result<bool, AllocErro
     Ok(any_names_file(compile.as_slice()) || any_names_file(preprocess.as_slice()))
 }
 
-/// The verdict on the words of a request to that compiler.
-pub fn judge(alloc: Global, kind: CCompilerKind, words: &[OsBytes]) -> Result<Verdict, AllocError>
-    ensures { IfOk result (λ verdict. decision_of verdict ≡ verdict_of kind words.now) }
+/// What the words of a request to that compiler ask for, before the hazards.
+fn parse_words(
+    alloc: Global,
+    kind: CCompilerKind,
+    words: &[OsBytes],
+) -> Result<Verdict, AllocError>
+    ensures { IfOk result (λ verdict. decision_of verdict ≡ parse_of (table_of kind) (reading (table_of kind) words.now)) }
 {
     let table = table_for(alloc, kind)?;
-    match parse(alloc, &table, words)? {
+    parse(alloc, &table, words)
+}
+
+/// A verdict after the hazards: an option whose value may stand either way has an empty one, or a word of a command
+/// would open a file of words.
+fn with_hazards(alloc: Global, verdict: Verdict) -> Result<Verdict, AllocError>
+    ensures { IfOk result (λ after. decision_of after ≡ with_hazards (decision_of verdict)) }
+{
+    match verdict {
         Verdict::Passes(reason) => Ok(Verdict::Passes(reason)),
         Verdict::Asks(parsed) => {
             if parsed.empty_value {
-                return Ok(Verdict::Passes(Reason::EmptyValue));
+                Ok(Verdict::Passes(Reason::EmptyValue))
+            } else if opens_file(alloc, &parsed)? {
+                Ok(Verdict::Passes(Reason::OpensFile))
+            } else {
+                Ok(Verdict::Asks(parsed))
             }
-            if opens_file(alloc, &parsed)? {
-                return Ok(Verdict::Passes(Reason::OpensFile));
-            }
-            Ok(Verdict::Asks(parsed))
         }
     }
+}
+
+/// The verdict on the words of a request to that compiler.
+pub fn judge(
+    alloc: Global,
+    kind: CCompilerKind,
+    words: &[OsBytes],
+) -> Result<Verdict, AllocError>
+    ensures { IfOk result (λ verdict. decision_of verdict ≡ verdict_of kind words.now) }
+{
+    let verdict = parse_words(alloc, kind, words)?;
+    with_hazards(alloc, verdict)
 }

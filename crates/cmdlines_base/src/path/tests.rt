@@ -58,27 +58,27 @@ fn paths_by_example(rt: HostRuntime) -> Result<(), Fail> {
     Ok(())
 }
 
+// 97 is `a`, and 98 is `b`.
 #[test]
 fn components_by_example(rt: HostRuntime) -> Result<(), Fail> {
     let alloc = rt.alloc();
-    let a = Component::Normal(b"a");
-    let b = Component::Normal(b"b");
     for (path, want) in [
-        ("", [].as_slice()),
-        (".", [Component::CurDir].as_slice()),
-        ("./a", [Component::CurDir, a].as_slice()),
-        ("a/./b", [a, b].as_slice()),
-        ("a//b/", [a, b].as_slice()),
-        ("/", [Component::RootDir].as_slice()),
-        ("/./a", [Component::RootDir, a].as_slice()),
+        ("", "[]"),
+        (".", "[CurDir]"),
+        ("./a", "[CurDir, Normal([97])]"),
+        ("a/./b", "[Normal([97]), Normal([98])]"),
+        ("a//b/", "[Normal([97]), Normal([98])]"),
+        ("/", "[RootDir]"),
+        ("/./a", "[RootDir, Normal([97])]"),
         (
             "//a/../b",
-            [Component::RootDir, a, Component::ParentDir, b].as_slice(),
+            "[RootDir, Normal([97]), ParentDir, Normal([98])]",
         ),
-        (".a/.", [Component::Normal(b".a")].as_slice()),
+        (".a/.", "[Normal([46, 97])]"),
     ] {
         let list = components(alloc, path.as_bytes())?;
-        assert_eq!(rt; list.as_slice(), want, "{path:?}");
+        let shown = format!(in alloc; "{list:?}")?;
+        assert_eq!(rt; shown.as_str(), want, "{path:?}");
     }
     Ok(())
 }

@@ -1,7 +1,6 @@
-use Rattle.std.proofs.Common.{◌≡◌, sym, ap, ◌∙◌, None, Some, option_and_then, drop, true, false, [], ◌∷◌}
+use Rattle.std.proofs.Common.{◌≡◌, sym, drop, true, false, [], ◌∷◌}
 use Rattle.std.proofs.lemmas.List.{take_rest}
 use Rattle.std.specs.Str.{bytes_eq}
-use Rattle.cmdlines_base.specs.Path.{name_in, part_in}
 use Rattle.cmdlines_base.proofs.PieceLaws.{file_name-none, file_name-parent, file_name-named}
 use Rattle.cmdlines_base.proofs.path.up_to_name.Goals as goal
 
