@@ -1,2 +1,4 @@
 pub mod CollectLemmas
 pub mod CommandLemmas
+pub mod StepLemmas
+pub mod GatherLemmas

@@ -1,3 +1,5 @@
 pub mod Arguments
 pub mod Collecting
 pub mod Decisions
+pub mod Gathering
+pub mod Steps

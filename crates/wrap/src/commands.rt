@@ -8,8 +8,8 @@ ghost use Rattle.wrap_base.specs.Verdict.{verdict_of, asks};
 
 use crate::arguments::ArgData;
 use cmdlines_base::command::{ArtifactDescriptor, SingleCompileCommand};
-use cmdlines_base::listed::Listed;
 use cmdlines_base::cutting::words_have_one_reading;
+use cmdlines_base::listed::Listed;
 use cmdlines_base::os_bytes::OsBytes;
 use cmdlines_base::reading_back::{items_read_again, items_read_together};
 use std::alloc::{AllocError, Global};

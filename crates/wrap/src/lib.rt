@@ -4,4 +4,6 @@
 pub mod arguments;
 pub mod collected;
 pub mod commands;
+pub mod outputs;
+pub mod steps;
 pub mod verdict;

@@ -206,11 +206,7 @@ fn opens_file(alloc: Global, parsed: &ParsedArguments) -> Result<bool, AllocErro
 }
 
 /// What the words of a request to that compiler ask for, before the hazards.
-fn parse_words(
-    alloc: Global,
-    kind: CCompilerKind,
-    words: &[OsBytes],
-) -> Result<Verdict, AllocError>
+fn parse_words(alloc: Global, kind: CCompilerKind, words: &[OsBytes]) -> Result<Verdict, AllocError>
     ensures { IfOk result (λ verdict. decision_of verdict ≡ parse_of (table_of kind) (reading (table_of kind) words.now)) }
 {
     let table = table_for(alloc, kind)?;
@@ -237,11 +233,7 @@ fn with_hazards(alloc: Global, verdict: Verdict) -> Result<Verdict, AllocError>
 }
 
 /// The verdict on the words of a request to that compiler.
-pub fn judge(
-    alloc: Global,
-    kind: CCompilerKind,
-    words: &[OsBytes],
-) -> Result<Verdict, AllocError>
+pub fn judge(alloc: Global, kind: CCompilerKind, words: &[OsBytes]) -> Result<Verdict, AllocError>
     ensures { IfOk result (λ verdict. decision_of verdict ≡ verdict_of kind words.now) }
 {
     let verdict = parse_words(alloc, kind, words)?;
