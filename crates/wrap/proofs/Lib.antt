@@ -2,3 +2,4 @@ pub mod CollectLemmas
 pub mod CommandLemmas
 pub mod StepLemmas
 pub mod GatherLemmas
+pub mod TurnLemmas

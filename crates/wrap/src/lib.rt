@@ -5,5 +5,6 @@ pub mod arguments;
 pub mod collected;
 pub mod commands;
 pub mod outputs;
+pub mod session;
 pub mod steps;
 pub mod verdict;

@@ -14,9 +14,9 @@ loop-name-preserved c =
     let files = into_iter_items c.loop-name.rest in
     rw c.next_file.ensures.behind (elim c.match-next_file.branch [
       | in-Some+in_ok-clone-in-Some+in_ok-clone-in-Some-2+in_ok-push-in-Some w ↦
-      let items : c.match-next_file.map.items ≡ map ++ record { name = o.0; path = o.1.path; contents = w.in-Some.contents } ∷ [] = search rules in
-      rw items (gather_made map c.args.outputs.now i o files c.loop-name-test.true c.loop-name-item.is w.in-Some.contents (search rules) ∙ c.loop-name.invariant)
+          let items : c.match-next_file.map.items ≡ map ++ record { name = o.0; path = o.1.path; contents = w.in-Some.contents } ∷ [] = search rules in
+          rw items (gather_made map c.args.outputs.now i o files c.loop-name-test.true c.loop-name-item.is w.in-Some.contents (search rules) ∙ c.loop-name.invariant)
       | in-None+else-not-artifact w ↦
-      let items : c.match-next_file.map.items ≡ map = search rules in
-      rw items (gather_none map c.args.outputs.now i o files c.loop-name-test.true c.loop-name-item.is (search rules) (search rules) ∙ c.loop-name.invariant)
+          let items : c.match-next_file.map.items ≡ map = search rules in
+          rw items (gather_none map c.args.outputs.now i o files c.loop-name-test.true c.loop-name-item.is (search rules) (search rules) ∙ c.loop-name.invariant)
     ])

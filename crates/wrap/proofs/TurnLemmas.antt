@@ -1,0 +1,64 @@
+-- What an answer says of its account.
+use Rattle.std.proofs.Common.{◌≡◌, ℕ, List, Option, Some, None, Result, Ok, Err, IsErrOf, refl, sym, ap, subst, ◌∙◌, arith}
+use Rattle.cmdlines_base.specs.Bytes.{Bytes, ticked}
+use Rattle.cmdlines_base.specs.Tree.{Tree}
+use Rattle.wrap_base.specs.Meaning.{Meaning, FailsIn}
+use Rattle.wrap_base.specs.Commands.{kind_of}
+use Rattle.wrap_base.specs.Verdict.{Why, why_of, Decision, passes, asks, verdict_of}
+use Rattle.wrap_base.specs.Account.{Account, passed, worked, Work, scene_at, work_at, account_by, account_at, why_passed, Collected, missing, all, collected, IsFresh, outputs_in, first_fault_of, fresh_outputs_of}
+use Rattle.wrap_base.specs.Answers.{AreFresh, Says, IsPassed, outcome_by, outcome_from, outcome_of, is_passed, has_fault, has_outputs}
+use Rattle.wrap_base.specs.declared.answer.Answer.{Answer}
+use Rattle.wrap_base.specs.declared.answer.Answer.TheVariants.{Pass, Outputs}
+use Rattle.wrap_base.specs.declared.answer.Output.{Output}
+use Rattle.wrap_base.specs.declared.fault.Fault.{Fault}
+use Rattle.wrap_base.specs.declared.fault.Fault.TheVariants.{Memory, Tool, PreprocessFailed, CompileFailed, MissingOutput}
+use Rattle.wrap_base.specs.declared.parsed.ParsedArguments.{ParsedArguments}
+use Rattle.wrap_base.specs.declared.reason.Reason.{Reason}
+use Rattle.wrap_base.specs.declared.request.Request.{Request}
+use Rattle.wrap_base.specs.declared.step.Step.{Step}
+
+-- the account of a request goes by its verdict
+pub account_is : (meaning : Meaning) (tree : Tree) (request : Request) (d : Decision) → d ≡ verdict_of (kind_of request.compiler) request.words → account_at meaning tree request ≡ account_by meaning (kind_of request.compiler) (scene_at request tree) d
+account_is meaning tree request d h = ap (account_by meaning (kind_of request.compiler) (scene_at request tree)) (sym h)
+
+-- a request that is passed through
+pub why_is : (a : Account) (why other : Why) → a ≡ passed why → why_passed a ≡ Some other → why ≡ other
+why_is a why other e h = let s : Some why ≡ Some other = sym (ap why_passed e) ∙ h in cc
+
+-- a request that isn't is passed through for no reason
+pub not_passed : (a : Account) (w : Work) (why : Why) (result : Result Answer Fault) → a ≡ worked w → why_passed a ≡ Some why → IsPassed why result
+not_passed a w why result e h = let s : None ≡ Some why = sym (ap why_passed e) ∙ h in cc
+
+-- fresh outputs are those of the account
+fresh_outputs : (a : Account) (outputs : List Output) → AreFresh a outputs → fresh_outputs_of a ≡ outputs
+fresh_outputs (passed why) outputs h = absurd h
+fresh_outputs (worked w) outputs h = ap outputs_in h.made
+
+fresh_unpassed : (a : Account) (outputs : List Output) → AreFresh a outputs → why_passed a ≡ None
+fresh_unpassed (passed why) outputs h = absurd h
+fresh_unpassed (worked w) outputs h = refl
+
+-- a call with a fault isn't passed through
+fault_unpassed : (a : Account) (fault : Fault) → first_fault_of a ≡ Some fault → why_passed a ≡ None
+fault_unpassed (passed why) fault h = cc
+fault_unpassed (worked w) fault h = refl
+
+fault_outcome : (a : Account) (fault : Fault) → first_fault_of a ≡ Some fault → has_fault fault ≡ outcome_of a
+fault_outcome a fault h = let n = fault_unpassed a fault h in rw (n, h) refl
+
+never_same : (n m k : ℕ) → m ≡ n → k ≡ ticked m → k ≡ n → ⊥
+never_same n m k p q r = omega (arith, p, q, r)
+
+-- where no growth is refused and no device fails, the answer is the account's alone
+pub exactly : {T : Type 0} (meaning : T → Meaning) (failed : T → ℕ) (fails_in : T → Step → T → Type 0) (old new : T) (a : Account) (result : Result Answer Fault)
+    → Says a (FailsIn meaning failed fails_in old new) result → (IsErrOf result Memory → ⊥) → failed new ≡ failed old → outcome_by result ≡ outcome_of a
+exactly meaning failed fails_in old new a (Ok (Pass reason)) says memory steady = rw says refl
+exactly meaning failed fails_in old new a (Ok (Outputs map how dep_info)) says memory steady =
+    let n = fresh_unpassed a map says.2 in
+    let o = fresh_outputs a map says.2 in
+    rw (n, says.3, o) refl
+exactly meaning failed fails_in old new a (Err Memory) says memory steady = absurd (memory refl)
+exactly meaning failed fails_in old new a (Err (Tool step)) says memory steady = absurd (never_same (failed old) (failed says.from) (failed new) says.steady says.ticks steady)
+exactly meaning failed fails_in old new a (Err (PreprocessFailed status)) says memory steady = fault_outcome a (PreprocessFailed status) says
+exactly meaning failed fails_in old new a (Err (CompileFailed status)) says memory steady = fault_outcome a (CompileFailed status) says
+exactly meaning failed fails_in old new a (Err (MissingOutput name)) says memory steady = fault_outcome a (MissingOutput name) says
