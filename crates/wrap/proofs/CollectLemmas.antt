@@ -1,5 +1,5 @@
 -- Laws of what is collected.
-use Rattle.std.proofs.Common.{◌≡◌, Bool, true, false, ◌||◌, cond, List, [], ◌∷◌, ◌++◌, Option, Some, None, Err, refl, ap, sym, ◌∙◌, append_assoc, arith}
+use Rattle.std.proofs.Common.{◌≡◌, Bool, true, false, ◌||◌, List, [], ◌∷◌, ◌++◌, Option, Some, None, Err, refl, ap, sym, ◌∙◌, append_assoc, arith}
 use Rattle.std.proofs.lemmas.List.{append-nil}
 use Rattle.std.proofs.lemmas.List.Concat.{flat_map-append}
 use Rattle.std.proofs.lemmas.List.Elements.{filter-append}
@@ -18,7 +18,7 @@ use Rattle.wrap_base.specs.Wanted.{Collection, has_kind, is_too_hard, is_compile
 use Rattle.wrap_base.specs.Verdict.{refused, closing, flag_of}
 use Rattle.wrap.specs.declared.arguments.ArgData.{ArgData}
 use Rattle.wrap.specs.declared.arguments.ArgData.TheVariants as values
-use Rattle.wrap.specs.Arguments.{item_of, kind_in, word_in}
+use Rattle.wrap.specs.Arguments.{item_of}
 use Rattle.wrap.specs.Collecting.{absorb, decide}
 
 -- what the values of a C compiler's arguments are

@@ -1,12 +1,12 @@
 -- The commands are read again as what was wanted.
-use Rattle.std.proofs.Common.{◌≡◌, ℕ, List, [], ◌∷◌, ◌++◌, Option, None, Some, Result, Ok, Err, IfOk, Bool, true, false, ◌||◌, cond, refl, ap, sym, subst, ◌∙◌, arith, map}
+use Rattle.std.proofs.Common.{◌≡◌, List, [], ◌∷◌, ◌++◌, Option, None, Some, Result, Ok, Err, IfOk, Bool, true, false, cond, refl, ap, sym, subst, ◌∙◌, arith, map}
 use Rattle.std.proofs.lemmas.List.{append-nil, map-append}
 use Rattle.std.proofs.lemmas.List.Concat.{flat_map-append}
 use Rattle.std.specs.List.{list_any, filter, flat_map, AllByRecursion}
 use Rattle.std.specs.Prelude.{find, codes}
 use Rattle.cmdlines_base.specs.Bytes.{Bytes}
 use Rattle.cmdlines_base.specs.declared.argument.ArgDisposition.{ArgDisposition}
-use Rattle.cmdlines_base.specs.declared.argument.ArgDisposition.TheVariants.{CanBeSeparated, CanBeConcatenated}
+use Rattle.cmdlines_base.specs.declared.argument.ArgDisposition.TheVariants.{CanBeConcatenated}
 use Rattle.cmdlines_base.specs.declared.command.CCompilerKind.{CCompilerKind}
 use Rattle.cmdlines_base.specs.declared.command.CCompilerKind.TheVariants.{Gcc}
 use Rattle.cmdlines_base.specs.declared.command.SingleCompileCommand.{SingleCompileCommand}
@@ -21,7 +21,7 @@ use Rattle.wrap_base.specs.declared.request.Request.{Request}
 use Rattle.wrap_base.specs.SmallTable.{small_entries, table_of}
 use Rattle.wrap_base.specs.Wanted.{Collection, collection_of, has_kind, is_too_hard, is_preprocessor, is_unknown, input_in, preprocessor_options, hashed_options}
 use Rattle.wrap_base.specs.Commands.{command_of, compile_words, preprocess_words, first_path, colour_word, opens_file, own_compile_items, own_preprocess_items, ReadsAsWanted}
-use Rattle.wrap_base.specs.Verdict.{Decision, passes, asks, refused, empty_value, opens_a_file, not_compilation, cannot_cache, is_c, output_of, parsed_from, close_output, close_inputs, closing, without_too_hard, decided, parse_of, with_hazards, verdict_of}
+use Rattle.wrap_base.specs.Verdict.{Decision, passes, asks, refused, empty_value, opens_a_file, not_compilation, is_c, output_of, parsed_from, close_output, close_inputs, decided, parse_of, with_hazards}
 
 -- what a decision that asks says of what the items say
 record Accepts (c : Collection) (p : ParsedArguments) : Type 0 where

@@ -3,3 +3,7 @@ pub mod CommandLemmas
 pub mod StepLemmas
 pub mod GatherLemmas
 pub mod TurnLemmas
+mod LineLaws
+mod HoldLaws
+mod TextLaws
+mod InputLaws

@@ -1,5 +1,5 @@
 -- The steps of a call, by what the tool answered.
-use Rattle.std.proofs.Common.{◌≡◌, ℤ, pos, List, Bool, true, false, Option, Some, None, Result, Ok, Err, IfOk, IfErr, refl, sym, ap, ◌∙◌}
+use Rattle.std.proofs.Common.{◌≡◌, ℤ, pos, List, Bool, true, false, Option, Some, Result, Ok, Err, IfOk, IfErr, refl, sym, ap, ◌∙◌}
 use Rattle.std.specs.Ordering.{int_eq}
 use Rattle.cmdlines_base.specs.Bytes.{Bytes}
 use Rattle.cmdlines_base.specs.Tree.{Tree}
@@ -7,16 +7,16 @@ use Rattle.cmdlines_base.specs.Reading.{reading}
 use Rattle.cmdlines_base.specs.declared.command.SingleCompileCommand.{SingleCompileCommand}
 use Rattle.cmdlines_base.specs.declared.command.CCompilerKind.{CCompilerKind}
 use Rattle.wrap_base.specs.SmallTable.{table_of}
-use Rattle.wrap_base.specs.Meaning.{Meaning, Made, Artifacts, made_of, names_of, scene_of}
+use Rattle.wrap_base.specs.Meaning.{Meaning, Made, made_of, names_of, scene_of}
 use Rattle.wrap_base.specs.Commands.{command_of, compile_words, kind_of}
-use Rattle.wrap_base.specs.Account.{Work, scene_at, work_at, Collected, missing, all, collected, IsFresh, compile_fault_of}
+use Rattle.wrap_base.specs.Account.{Work, scene_at, work_at, missing, all, collected, IsFresh, compile_fault_of}
 use Rattle.wrap_base.specs.declared.answer.Output.{Output}
 use Rattle.wrap_base.specs.declared.fault.Fault.{Fault}
 use Rattle.wrap_base.specs.declared.fault.Fault.TheVariants.{Memory, Tool, PreprocessFailed, CompileFailed, MissingOutput}
 use Rattle.wrap_base.specs.declared.parsed.ParsedArguments.{ParsedArguments}
 use Rattle.wrap_base.specs.declared.request.Request.{Request}
 use Rattle.wrap_base.specs.declared.step.Step.{Step}
-use Rattle.wrap_base.specs.declared.step.Step.TheVariants.{Preprocess, Compile}
+use Rattle.wrap_base.specs.declared.step.Step.TheVariants.{Compile}
 use Rattle.wrap.specs.Steps.{CollectCause, CompileCause}
 
 -- what the compile command is answered is the fresh outcome

@@ -1,19 +1,17 @@
 -- What an answer says of its account.
-use Rattle.std.proofs.Common.{◌≡◌, ℕ, List, Option, Some, None, Result, Ok, Err, IsErrOf, refl, sym, ap, subst, ◌∙◌, arith}
-use Rattle.cmdlines_base.specs.Bytes.{Bytes, ticked}
+use Rattle.std.proofs.Common.{◌≡◌, ℕ, List, Some, None, Result, Ok, Err, IsErrOf, refl, sym, ap, ◌∙◌, arith}
+use Rattle.cmdlines_base.specs.Bytes.{ticked}
 use Rattle.cmdlines_base.specs.Tree.{Tree}
 use Rattle.wrap_base.specs.Meaning.{Meaning, FailsIn}
 use Rattle.wrap_base.specs.Commands.{kind_of}
-use Rattle.wrap_base.specs.Verdict.{Why, why_of, Decision, passes, asks, verdict_of}
-use Rattle.wrap_base.specs.Account.{Account, passed, worked, Work, scene_at, work_at, account_by, account_at, why_passed, Collected, missing, all, collected, IsFresh, outputs_in, first_fault_of, fresh_outputs_of}
-use Rattle.wrap_base.specs.Answers.{AreFresh, Says, IsPassed, outcome_by, outcome_from, outcome_of, is_passed, has_fault, has_outputs}
+use Rattle.wrap_base.specs.Verdict.{Why, Decision, verdict_of}
+use Rattle.wrap_base.specs.Account.{Account, passed, worked, Work, scene_at, account_by, account_at, why_passed, outputs_in, first_fault_of, fresh_outputs_of}
+use Rattle.wrap_base.specs.Answers.{AreFresh, Says, IsPassed, outcome_by, outcome_of, has_fault}
 use Rattle.wrap_base.specs.declared.answer.Answer.{Answer}
 use Rattle.wrap_base.specs.declared.answer.Answer.TheVariants.{Pass, Outputs}
 use Rattle.wrap_base.specs.declared.answer.Output.{Output}
 use Rattle.wrap_base.specs.declared.fault.Fault.{Fault}
 use Rattle.wrap_base.specs.declared.fault.Fault.TheVariants.{Memory, Tool, PreprocessFailed, CompileFailed, MissingOutput}
-use Rattle.wrap_base.specs.declared.parsed.ParsedArguments.{ParsedArguments}
-use Rattle.wrap_base.specs.declared.reason.Reason.{Reason}
 use Rattle.wrap_base.specs.declared.request.Request.{Request}
 use Rattle.wrap_base.specs.declared.step.Step.{Step}
 

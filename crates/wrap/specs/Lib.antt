@@ -3,3 +3,5 @@ pub mod Collecting
 pub mod Decisions
 pub mod Gathering
 pub mod Steps
+pub mod Lines
+pub mod Scripted

@@ -34,7 +34,7 @@ impl ArgumentValue for ArgData {
     ghost refuses = { λ _ _. false };
 
     fn of_flag(kind: ArgKind) -> ArgData {
-        ArgData::Flag(kind)
+        Self::Flag(kind)
     }
 
     fn of_word(alloc: Global, kind: ArgKind, word: &[u8]) -> Result<ArgData, ArgParseError> {

@@ -1,10 +1,16 @@
-//! The session that answers requests.
+//! The session that answers requests, and the program over it.
 #![tactic(auto)]
 
-pub mod arguments;
-pub mod collected;
+mod arguments;
+mod byte_text;
+mod collected;
 pub mod commands;
-pub mod outputs;
+mod lines;
+mod outputs;
+pub mod program;
+mod scenario;
+mod script;
+mod scripting;
 pub mod session;
-pub mod steps;
+mod steps;
 pub mod verdict;

@@ -1,14 +1,13 @@
 -- A call as plain values, and what it is to give.
-use Rattle.std.specs.Prelude.{◌≡◌, ℤ, pos, Bool, List, [], ◌∷◌, map, Option, Some, None, if◌then◌else◌}
+use Rattle.std.specs.Prelude.{◌≡◌, pos, List, [], ◌∷◌, Option, Some, None, if◌then◌else◌}
 use Rattle.std.specs.Ordering.{int_eq}
-use Rattle.std.specs.Str.{bytes_eq}
 use Rattle.cmdlines_base.specs.Bytes.{Bytes}
 use Rattle.cmdlines_base.specs.Tree.{Tree}
 use Rattle.cmdlines_base.specs.Reading.{reading}
 use Rattle.cmdlines_base.specs.declared.command.ArtifactDescriptor.{ArtifactDescriptor}
 use Rattle.cmdlines_base.specs.declared.command.CCompilerKind.{CCompilerKind}
 use Rattle.wrap_base.specs.SmallTable.{table_of}
-use Rattle.wrap_base.specs.Meaning.{Scene, OutputName, Made, Meaning, Artifacts, scene_of, names_of}
+use Rattle.wrap_base.specs.Meaning.{Scene, Made, Meaning, Artifacts, names_of}
 use Rattle.wrap_base.specs.Commands.{compile_words, preprocess_words, kind_of, executable_of}
 use Rattle.wrap_base.specs.Verdict.{Why, Decision, passes, asks, verdict_of}
 use Rattle.wrap_base.specs.declared.answer.Output.{Output}

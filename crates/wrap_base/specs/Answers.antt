@@ -2,10 +2,9 @@
 use Rattle.std.specs.Prelude.{◌≡◌, ◌⊎◌, ℕ, List, Option, Some, None, Result, Ok, Err}
 use Rattle.cmdlines_base.specs.Bytes.{ticked}
 use Rattle.wrap_base.specs.Verdict.{Why, why_of}
-use Rattle.wrap_base.specs.Account.{Account, passed, worked, Work, why_passed, first_fault_of, fresh_outputs_of, IsFresh}
+use Rattle.wrap_base.specs.Account.{Account, passed, worked, why_passed, first_fault_of, fresh_outputs_of, IsFresh}
 use Rattle.wrap_base.specs.declared.answer.Answer.{Answer}
 use Rattle.wrap_base.specs.declared.answer.Answer.TheVariants.{Pass, Outputs}
-use Rattle.wrap_base.specs.declared.answer.How.{How}
 use Rattle.wrap_base.specs.declared.answer.How.TheVariants.{Fresh}
 use Rattle.wrap_base.specs.declared.answer.Output.{Output}
 use Rattle.wrap_base.specs.declared.fault.Fault.{Fault}

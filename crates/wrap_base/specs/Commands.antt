@@ -1,14 +1,13 @@
 -- The commands of a request.
-use Rattle.std.specs.Prelude.{◌≡◌, Bool, false, ◌||◌, ◌==◌, List, [], ◌∷◌, ◌++◌, map, codes, None, Some}
+use Rattle.std.specs.Prelude.{◌≡◌, Bool, false, ◌||◌, ◌==◌, List, [], ◌∷◌, ◌++◌, map, codes, None}
 use Rattle.std.specs.List.{list_any}
 use Rattle.cmdlines_base.specs.Bytes.{Bytes}
 use Rattle.cmdlines_base.specs.Table.{Entry}
 use Rattle.cmdlines_base.specs.Reading.{Item, raw, unknown, flag, valued, reading}
 use Rattle.cmdlines_base.specs.Printing.{normal}
-use Rattle.cmdlines_base.specs.declared.argument.ArgDisposition.TheVariants.{Separated, CanBeSeparated}
+use Rattle.cmdlines_base.specs.declared.argument.ArgDisposition.TheVariants.{CanBeSeparated}
 use Rattle.cmdlines_base.specs.declared.command.CCompilerKind.{CCompilerKind}
 use Rattle.cmdlines_base.specs.declared.command.CCompilerKind.TheVariants as kinds
-use Rattle.cmdlines_base.specs.declared.command.ArtifactDescriptor.{ArtifactDescriptor}
 use Rattle.cmdlines_base.specs.declared.command.SingleCompileCommand.{SingleCompileCommand}
 use Rattle.wrap_base.specs.Meaning.{Artifacts}
 use Rattle.wrap_base.specs.Wanted.{preprocessor_options, hashed_options}

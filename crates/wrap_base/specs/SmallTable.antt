@@ -1,5 +1,5 @@
 -- The tables by which compilers read their words.
-use Rattle.std.specs.Prelude.{List, [], ◌∷◌, Option, None, Some, codes}
+use Rattle.std.specs.Prelude.{List, [], ◌∷◌, None, Some, codes}
 use Rattle.cmdlines_base.specs.declared.argument.ArgDisposition.TheVariants.{CanBeSeparated, Concatenated}
 use Rattle.cmdlines_base.specs.declared.command.CCompilerKind.{CCompilerKind}
 use Rattle.cmdlines_base.specs.declared.command.CCompilerKind.TheVariants.{Gcc}

@@ -1,5 +1,5 @@
 -- The verdict on a request's words: why it is passed through, or what it asks for.
-use Rattle.std.specs.Prelude.{Bool, true, false, List, [], ◌∷◌, Option, None, Some, if◌then◌else◌, codes, find, string_bytes}
+use Rattle.std.specs.Prelude.{Bool, false, List, [], ◌∷◌, Option, None, Some, if◌then◌else◌, codes, find, string_bytes}
 use Rattle.std.specs.Option.{option_map}
 use Rattle.std.specs.Str.{bytes_eq}
 use Rattle.cmdlines_base.specs.Bytes.{Bytes}

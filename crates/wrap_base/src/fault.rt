@@ -7,6 +7,9 @@ use cmdlines_base::os_bytes::OsBytes;
 use std::alloc::{AllocError, AllocFailed};
 use std::fmt;
 
+#[cfg(test)]
+mod tests;
+
 /// What went wrong.
 #[derive(Drop)]
 pub enum Fault {

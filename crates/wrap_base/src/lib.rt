@@ -2,6 +2,8 @@
 #![tactic(auto)]
 
 pub mod answer;
+pub mod fail_files;
+pub mod fail_tool;
 pub mod fault;
 pub mod kind;
 pub mod parsed;

@@ -2,6 +2,9 @@
 
 use std::fmt;
 
+#[cfg(test)]
+mod tests;
+
 /// Why a request is passed through to its compiler.
 #[derive(Drop)]
 pub enum Reason {

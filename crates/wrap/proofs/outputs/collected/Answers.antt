@@ -1,7 +1,5 @@
-use Rattle.std.proofs.Common.{rules, ◌≡◌, ◌++◌, ◌∷◌, [], ap, ◌∙◌, true, Some, None}
+use Rattle.std.proofs.Common.{rules, ◌≡◌, ◌++◌, ◌∷◌, [], ◌∙◌}
 use Rattle.std.specs.Vec.Iter.{into_iter_items}
-use Rattle.wrap_base.specs.Account.{collected, first_file, files_behind}
-use Rattle.wrap.specs.Gathering.{and_then}
 use Rattle.wrap.proofs.GatherLemmas.{gather_made, gather_none}
 use Rattle.wrap.proofs.outputs.collected.Goals as goal
 use Rattle.wrap.proofs.outputs.collected.Goals.{in-Some+in_ok-clone-in-Some+in_ok-clone-in-Some-2+in_ok-push-in-Some, in-None+else-not-artifact}

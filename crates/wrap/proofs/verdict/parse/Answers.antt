@@ -1,6 +1,6 @@
-use Rattle.std.proofs.Common.{◌≡◌, ◌∙◌, ap, sym, rules}
+use Rattle.std.proofs.Common.{◌≡◌, ◌∙◌, ap, sym}
 use Rattle.cmdlines_base.specs.Reading.{reading, before}
-use Rattle.wrap_base.specs.Verdict.{refused, flag_of}
+use Rattle.wrap_base.specs.Verdict.{refused}
 use Rattle.wrap.specs.Arguments.{item_of}
 use Rattle.wrap.specs.Collecting.{decide}
 use Rattle.wrap.proofs.CollectLemmas.{item_is, decide-more, decide-too_hard}

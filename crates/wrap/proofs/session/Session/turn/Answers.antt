@@ -1,8 +1,8 @@
-use Rattle.std.proofs.Common.{◌≡◌, Some, ap, sym, subst, rules}
+use Rattle.std.proofs.Common.{◌≡◌, ap, sym, subst}
 use Rattle.wrap_base.specs.Commands.{kind_of}
 use Rattle.wrap_base.specs.Meaning.{FailsIn}
 use Rattle.wrap_base.specs.Verdict.{passes, asks, why_of, verdict_of}
-use Rattle.wrap_base.specs.Account.{Account, account_at, why_passed}
+use Rattle.wrap_base.specs.Account.{Account, why_passed}
 use Rattle.wrap_base.specs.Answers.{Says}
 use Rattle.wrap.proofs.TurnLemmas.{account_is, why_is, not_passed}
 use Rattle.wrap.proofs.session.Session.turn.Goals as goal

@@ -1,0 +1,5 @@
+//! Tests that accept want of memory and nothing else. `bin/refusals` runs them with each allocation refused in turn.
+#![tactic(auto)]
+
+#[cfg(test)]
+mod runs;

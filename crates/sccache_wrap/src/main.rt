@@ -1,0 +1,36 @@
+//! The program `sccache-wrap`: reads a scenario from standard input and prints what its requests are answered.
+#![tactic(auto)]
+
+use std::env;
+use std::io;
+use std::io::BufWriter;
+use std::process::ExitCode;
+use std::rt::Env;
+use wrap::program::{RunFault, run};
+
+/// The status of a program that couldn't run.
+const FAILED: u8 = 2;
+
+fn main(rt: HostRuntime) -> ExitCode {
+    match run_on(&rt) {
+        Ok(()) => ExitCode::SUCCESS,
+        Err(fault) => {
+            let _ = eprintln!(rt; "{fault}");
+            ExitCode::from(FAILED)
+        }
+    }
+}
+
+/// Runs on standard input and output.
+fn run_on<R: Print + Input + Env + AllocGlobal>(rt: &R) -> Result<(), RunFault> {
+    let alloc = rt.alloc();
+    let Ok(words) = env::args(rt) else {
+        return Err(RunFault::Memory);
+    };
+    let args: Vec<String> = words.skip(1).collect(alloc)?;
+    let mut reader = rt.reader();
+    let Ok(mut writer) = BufWriter::new(alloc, io::writer(rt)) else {
+        return Err(RunFault::Memory);
+    };
+    run(alloc, args.as_slice(), &mut reader, &mut writer)
+}

@@ -1,0 +1,5 @@
+//! Tests that cross crates: tables of scenarios, run over memory.
+#![tactic(auto)]
+
+#[cfg(test)]
+mod rows;

@@ -1,0 +1,47 @@
+-- The input of a command, item by item.
+use Rattle.std.proofs.Common.{◌≡◌, false, List, ◌++◌, Option, None, Some, Ok, if◌then◌else◌, refl, ap, append_assoc}
+use Rattle.std.specs.List.{flat_map}
+use Rattle.cmdlines_base.specs.Bytes.{Bytes}
+use Rattle.cmdlines_base.specs.Reading.{Item, raw, unknown, flag, valued, Reading, reading}
+use Rattle.cmdlines_base.specs.Table.{Entry}
+use Rattle.cmdlines_base.specs.Values.{Values, values_by, IsOf, Steps}
+use Rattle.cmdlines_base.specs.declared.argument.Argument.{Argument}
+use Rattle.cmdlines_base.specs.declared.argument.Argument.TheVariants.{Raw, UnknownFlag, Flag, WithValue}
+use Rattle.wrap_base.specs.Wanted.{input_in}
+use Rattle.wrap_base.specs.declared.kind.ArgKind.{ArgKind}
+use Rattle.wrap.specs.Arguments.{item_of}
+use Rattle.wrap.specs.Scripted.{only}
+use Rattle.wrap.specs.declared.arguments.ArgData.{ArgData}
+use Rattle.wrap.specs.declared.arguments.ArgData.TheVariants as values
+
+-- what the values of a C compiler's arguments are
+abbrev pub c_values : Values ArgData ArgKind
+c_values = values_by (λ kind value. value ≡ values.Flag kind) (λ kind word value. value ≡ values.Value kind word) (λ kind word. false)
+
+-- an argument is of one item alone
+item-of : (item : Item ArgKind) (argument : Argument ArgData) → IsOf c_values item argument → item_of argument ≡ item
+item-of (raw w) (Raw v) h = ap raw h
+item-of (raw w) (UnknownFlag v) h = absurd h
+item-of (raw w) (Flag f t) h = absurd h
+item-of (raw w) (WithValue f t d) h = absurd h
+item-of (unknown w) (Raw v) h = absurd h
+item-of (unknown w) (UnknownFlag v) h = ap unknown h
+item-of (unknown w) (Flag f t) h = absurd h
+item-of (unknown w) (WithValue f t d) h = absurd h
+item-of (flag f k) (Raw v) h = absurd h
+item-of (flag f k) (UnknownFlag v) h = absurd h
+item-of (flag f k) (Flag g t) h = rw (h.0, h.1) refl
+item-of (flag f k) (WithValue g t d) h = absurd h
+item-of (valued f k w d) (Raw v) h = absurd h
+item-of (valued f k w d) (UnknownFlag v) h = absurd h
+item-of (valued f k w d) (Flag g t) h = absurd h
+item-of (valued f k w d) (WithValue g t e) h = rw (h.0, h.1, h.2) refl
+
+-- the input of a reading with these before it
+abbrev pub input_after : List Bytes → Reading ArgKind → Option Bytes
+input_after inputs r = if r.cut_short then None else only (inputs ++ flat_map input_in r.items)
+
+pub input-step : (table : List (Entry ArgKind)) (old new inputs : List Bytes) (argument : Argument ArgData) → Steps c_values table old (Some (Ok argument)) new
+    → input_after (inputs ++ input_in (item_of argument)) (reading table new) ≡ input_after inputs (reading table old)
+input-step table old new inputs argument h =
+    rw (h.1, item-of h.0 argument h.2) (ap (λ list. if (reading table new).cut_short then None else only list) (append_assoc inputs (input_in h.0) (flat_map input_in (reading table new).items)))

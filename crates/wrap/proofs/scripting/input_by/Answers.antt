@@ -1,0 +1,18 @@
+use Rattle.std.proofs.Common.{◌∙◌, refl}
+use Rattle.wrap.proofs.InputLaws.{input-step}
+use Rattle.wrap.proofs.scripting.input_by.Goals as goal
+
+pub loop-next-init : goal.loop-next-init
+loop-next-init g c = record {
+  told = rw (c.new-inputs.ensures.items, c.new-arguments.ensures.table, c.new-arguments.ensures.words) refl;
+  same = c.new-arguments.ensures.table;
+}
+
+pub loop-next-preserved : goal.loop-next-preserved
+loop-next-preserved g c =
+    let entries = g.S.SearchableArgInfo.entries in
+    let steps = rw c.in-Ok.is at c.in-Some.ensures.steps in
+    record {
+      told = rw (c.in_ok-push_input-in-Ok.ensures, steps.1) (input-step (entries c.loop-next.arguments.table.now) _ _ c.loop-next.inputs.items c.in-Ok.argument steps.0 ∙ c.loop-next.invariant.told);
+      same = steps.1 ∙ c.loop-next.invariant.same;
+    }

@@ -1,0 +1,14 @@
+use Rattle.std.proofs.Common.{◌≡◌}
+use Rattle.cmdlines_base.specs.Reading.{reading}
+use Rattle.wrap.specs.Scripted.{input_of}
+use Rattle.wrap.proofs.InputLaws.{input_after}
+use Rattle.wrap.proofs.scripting.input_by.Given as goal
+
+-- the inputs so far, and those of the words that are left
+abbrev pub invariant-loop-next : goal.invariant-loop-next
+invariant-loop-next g l =
+    let entries = g.S.SearchableArgInfo.entries in
+    record {
+      told : input_after l.inputs.items (reading (entries l.arguments.table.now) l.arguments.words.now) ≡ input_of (reading (entries l.fn.table) l.fn.words);
+      same : l.arguments.table.now ≡ l.fn.table;
+    }

@@ -1,0 +1,30 @@
+use super::Fault;
+use crate::step::Step;
+use cmdlines_base::os_bytes::OsBytes;
+use std::test::Fail;
+
+#[test]
+fn faults_are_printed(rt: HostRuntime) -> Result<(), Fail> {
+    let alloc = rt.alloc();
+    let name = OsBytes::from_slice(alloc, b"obj")?;
+    let lines = [
+        format!(in alloc; "{}", Fault::Memory)?,
+        format!(in alloc; "{}", Fault::Tool(Step::Preprocess))?,
+        format!(in alloc; "{}", Fault::Tool(Step::Compile))?,
+        format!(in alloc; "{}", Fault::PreprocessFailed(1))?,
+        format!(in alloc; "{}", Fault::CompileFailed(-9))?,
+        format!(in alloc; "{}", Fault::MissingOutput(name))?,
+    ];
+    let expected = [
+        "memory",
+        "tool preprocess",
+        "tool compile",
+        "preprocess 1",
+        "compile -9",
+        "missing obj",
+    ];
+    for (line, text) in lines.iter().zip(expected) {
+        assert_eq!(rt; line.as_str(), text);
+    }
+    Ok(())
+}
