@@ -6,6 +6,7 @@ ghost use Rattle.cmdlines_base.specs.Bytes.{Bytes};
 ghost use Rattle.cmdlines_base.specs.Refusal.{OnRefusal};
 ghost use Rattle.cmdlines_base.specs.Table.{Entry, entry_at};
 ghost use Rattle.cmdlines_base.specs.Reading.{loose, value_in, first_by, reading, Reading, Reads};
+ghost use Rattle.cmdlines_base.specs.Cutting.{words_left, table_in};
 ghost use Rattle.cmdlines_base.specs.Values.{values_by, IsOf, IsFirst, IsRefused, Steps};
 
 use crate::argument::{ArgDisposition, ArgParseError, Argument, ArgumentValue, Delimiter};
@@ -95,8 +96,8 @@ pub struct ArgsIter<'a, T, S> {
 
 impl<'a, T: ArgumentValue, S: SearchableArgInfo<T>> ArgsIter<'a, T, S> {
     pub fn new(alloc: Global, words: &'a [OsBytes], table: &'a S) -> ArgsIter<'a, T, S>
-        ensures words { result.words.now ≡ words.now }
-        ensures table { result.table.now ≡ table.now }
+        ensures words { words_left result ≡ words.now }
+        ensures table { table_in result ≡ table.now }
     {
         ArgsIter {
             alloc,
@@ -110,9 +111,9 @@ impl<'a, T: ArgumentValue, S: SearchableArgInfo<T>> ArgsIter<'a, T, S> {
 impl<'a, T: ArgumentValue, S: SearchableArgInfo<T>> Iterator for ArgsIter<'a, T, S> {
     type Item = Result<Argument<T>, ArgParseError>;
 
-    ghost next_gives = { λ s r t. Steps (values_by T.flag_value T.word_value T.refuses) (S.entries s.table.now) s.words.now r t.words.now × (t.table.now ≡ s.table.now) };
+    ghost next_gives = { λ s r t. Steps (values_by T.flag_value T.word_value T.refuses) (S.entries (table_in s)) (words_left s) r (words_left t) × (table_in t ≡ table_in s) };
 
-    ghost remaining = { λ s. at_most (length s.words.now) };
+    ghost remaining = { λ s. at_most (length (words_left s)) };
 
     fn next(&mut self) -> Option<Result<Argument<T>, ArgParseError>> {
         let (word, rest) = self.words.split_first()?;

@@ -15,26 +15,26 @@ const EXPECTED: &str = "1 fresh obj:53\n2 pass empty value\ncompiles 1\n";
 
 /// How a run went.
 #[derive(Clone, Copy, PartialEq, Eq)]
-enum Went {
+enum Outcome {
     AsExpected,
     WithoutMemory,
     Wrong,
 }
 
 /// Runs the scenario, and says whether its lines are those that are expected, or lack what memory was refused for.
-fn went(alloc: Global) -> Went {
+fn went(alloc: Global) -> Outcome {
     let mut reader = SCENARIO.as_bytes();
     let mut writer = Vec::new(alloc);
     match run(alloc, &[], &mut reader, &mut writer) {
         Ok(()) => of_lines(writer.as_slice()),
-        Err(RunFault::Memory) => Went::WithoutMemory,
-        Err(_) => Went::Wrong,
+        Err(RunFault::Memory) => Outcome::WithoutMemory,
+        Err(_) => Outcome::Wrong,
     }
 }
 
-fn of_lines(lines: &[u8]) -> Went {
+fn of_lines(lines: &[u8]) -> Outcome {
     if lines == EXPECTED.as_bytes() {
-        return Went::AsExpected;
+        return Outcome::AsExpected;
     }
     let refused = [
         "1 fault memory\n2 pass empty value\ncompiles 0\n",
@@ -43,10 +43,10 @@ fn of_lines(lines: &[u8]) -> Went {
     ];
     for other in refused {
         if lines == other.as_bytes() {
-            return Went::WithoutMemory;
+            return Outcome::WithoutMemory;
         }
     }
-    Went::Wrong
+    Outcome::Wrong
 }
 
 #[test]
@@ -55,11 +55,11 @@ fn serves_after_want_of_memory(rt: HostRuntime) -> Result<(), Fail> {
     let first = went(alloc);
     let second = went(alloc);
     let third = went(alloc);
-    assert!(rt; first != Went::Wrong);
-    assert!(rt; second != Went::Wrong);
+    assert!(rt; first != Outcome::Wrong);
+    assert!(rt; second != Outcome::Wrong);
     // One growth is refused at most, so of two runs after one another one is whole.
-    assert!(rt; first == Went::AsExpected || second == Went::AsExpected);
-    assert!(rt; second == Went::AsExpected || third == Went::AsExpected);
-    assert!(rt; first == Went::AsExpected || third == Went::AsExpected);
+    assert!(rt; first == Outcome::AsExpected || second == Outcome::AsExpected);
+    assert!(rt; second == Outcome::AsExpected || third == Outcome::AsExpected);
+    assert!(rt; first == Outcome::AsExpected || third == Outcome::AsExpected);
     Ok(())
 }

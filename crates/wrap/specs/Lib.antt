@@ -5,3 +5,4 @@ pub mod Gathering
 pub mod Steps
 pub mod Lines
 pub mod Scripted
+pub mod Idle

@@ -17,6 +17,9 @@ use wrap_base::parsed::ParsedArguments;
 use wrap_base::request::Request;
 use wrap_base::tool::Tool;
 
+#[cfg(test)]
+mod tests;
+
 /// What is fixed for all requests of a session.
 #[derive(Drop)]
 pub struct Config {}
@@ -42,7 +45,7 @@ impl Session {
     }
 
     /// Answers one request on these files by that tool: it is passed through, or it gets the outputs that the compiler
-    /// gives afresh, or there is a fault. After a fault the session is as before.
+    /// gives afresh, or there is a fault.
     pub fn serve<F: Files, T: Tool>(
         &mut self,
         request: &Request,

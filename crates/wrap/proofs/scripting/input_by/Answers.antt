@@ -1,4 +1,5 @@
 use Rattle.std.proofs.Common.{◌∙◌, refl}
+use Rattle.cmdlines_base.specs.Cutting.{table_in}
 use Rattle.wrap.proofs.InputLaws.{input-step}
 use Rattle.wrap.proofs.scripting.input_by.Goals as goal
 
@@ -13,6 +14,6 @@ loop-next-preserved g c =
     let entries = g.S.SearchableArgInfo.entries in
     let steps = rw c.in-Ok.is at c.in-Some.ensures.steps in
     record {
-      told = rw (c.in_ok-push_input-in-Ok.ensures, steps.1) (input-step (entries c.loop-next.arguments.table.now) _ _ c.loop-next.inputs.items c.in-Ok.argument steps.0 ∙ c.loop-next.invariant.told);
+      told = rw (c.in_ok-push_input-in-Ok.ensures, steps.1) (input-step (entries (table_in c.loop-next.arguments)) _ _ c.loop-next.inputs.items c.in-Ok.argument steps.0 ∙ c.loop-next.invariant.told);
       same = steps.1 ∙ c.loop-next.invariant.same;
     }

@@ -1,4 +1,5 @@
 use Rattle.std.proofs.Common.{◌≡◌}
+use Rattle.cmdlines_base.specs.Cutting.{words_left, table_in}
 use Rattle.cmdlines_base.specs.Reading.{reading}
 use Rattle.wrap.specs.Scripted.{input_of}
 use Rattle.wrap.proofs.InputLaws.{input_after}
@@ -9,6 +10,6 @@ abbrev pub invariant-loop-next : goal.invariant-loop-next
 invariant-loop-next g l =
     let entries = g.S.SearchableArgInfo.entries in
     record {
-      told : input_after l.inputs.items (reading (entries l.arguments.table.now) l.arguments.words.now) ≡ input_of (reading (entries l.fn.table) l.fn.words);
-      same : l.arguments.table.now ≡ l.fn.table;
+      told : input_after l.inputs.items (reading (entries (table_in l.arguments)) (words_left l.arguments)) ≡ input_of (reading (entries l.fn.table) l.fn.words);
+      same : table_in l.arguments ≡ l.fn.table;
     }

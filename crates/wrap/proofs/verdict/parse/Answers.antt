@@ -1,4 +1,5 @@
 use Rattle.std.proofs.Common.{◌≡◌, ◌∙◌, ap, sym}
+use Rattle.cmdlines_base.specs.Cutting.{words_left}
 use Rattle.cmdlines_base.specs.Reading.{reading, before}
 use Rattle.wrap_base.specs.Verdict.{refused}
 use Rattle.wrap.specs.Arguments.{item_of}
@@ -12,7 +13,7 @@ returns-in-Some-too_hard_flag g c =
     let entries = g.S.SearchableArgInfo.entries c.args.table.now in
     let step = rw c.loop-next.invariant.same at steps.0 in
     let item : item_of c.in-Ok.argument ≡ step.0 = item_is step.0 c.in-Ok.argument step.2 in
-    let rest = reading entries c.next.new.self.words.now in
+    let rest = reading entries (words_left c.next.new.self) in
     let before_is = step.1 ∙ ap (λ i. before i rest) (sym item) in
     let flag = c.in-Some-too_hard_flag.ensures in
     c.refused.ensures ∙ ap refused flag.1 ∙ sym (decide-too_hard entries c.loop-next.collected (item_of c.in-Ok.argument) rest flag.0)
@@ -24,7 +25,7 @@ loop-next-preserved g c =
     let entries = g.S.SearchableArgInfo.entries c.args.table.now in
     let step = rw c.loop-next.invariant.same at steps.0 in
     let item : item_of c.in-Ok.argument ≡ step.0 = item_is step.0 c.in-Ok.argument step.2 in
-    let rest = reading entries c.next.new.self.words.now in
+    let rest = reading entries (words_left c.next.new.self) in
     let before_is = step.1 ∙ ap (λ i. before i rest) (sym item) in
     record {
       same = steps.1 ∙ c.loop-next.invariant.same;

@@ -1,4 +1,5 @@
 use Rattle.std.proofs.Common.{◌≡◌, length}
+use Rattle.cmdlines_base.specs.Cutting.{words_left, table_in}
 use Rattle.cmdlines_base.specs.Reading.{reading}
 use Rattle.wrap_base.specs.Verdict.{parse_of}
 use Rattle.wrap.specs.Collecting.{decide}
@@ -9,9 +10,9 @@ abbrev pub invariant-loop-next : goal.invariant-loop-next
 invariant-loop-next g l =
     let entries = g.S.SearchableArgInfo.entries l.fn.table in
     record {
-      same : l.arguments.table.now ≡ l.fn.table;
-      told : decide entries l.collected (reading entries l.arguments.words.now) ≡ parse_of entries (reading entries l.fn.words);
+      same : table_in l.arguments ≡ l.fn.table;
+      told : decide entries l.collected (reading entries (words_left l.arguments)) ≡ parse_of entries (reading entries l.fn.words);
     }
 
 abbrev pub decreases-loop-next : goal.decreases-loop-next
-decreases-loop-next g l = length l.arguments.words.now
+decreases-loop-next g l = length (words_left l.arguments)

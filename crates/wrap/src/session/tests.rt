@@ -1,0 +1,183 @@
+//! `serve` with devices that fail, and with a compiler that makes nothing.
+
+ghost use Rattle.wrap.specs.Idle.{idle};
+
+use super::{Config, Session};
+use crate::script::ScriptTool;
+use cmdlines_base::command::{ArtifactDescriptor, CCompilerKind, SingleCompileCommand};
+use cmdlines_base::file_time::FileTime;
+use cmdlines_base::files::Files;
+use cmdlines_base::listed::Listed;
+use cmdlines_base::memory_files::{MemoryFile, MemoryFiles};
+use cmdlines_base::os_bytes::OsBytes;
+use std::alloc::{AllocError, Global};
+use std::test::Fail;
+use wrap_base::answer::{Answer, How};
+use wrap_base::fail_files::FailFiles;
+use wrap_base::fail_tool::FailTool;
+use wrap_base::fault::Fault;
+use wrap_base::preprocessor::{Preprocessor, Printed, Ticks, ToolFail};
+use wrap_base::request::{Compiler, Request};
+use wrap_base::step::Step;
+use wrap_base::tool::{Compiled, Tool};
+
+/// A tool that prints nothing, makes nothing, and ends with status 0.
+#[derive(Drop)]
+struct IdleTool {
+    preprocessed: u64,
+    compiled: u64,
+}
+
+impl Preprocessor for IdleTool {
+    ghost meaning = { λ _. idle };
+
+    ghost preprocessed = { λ t. t.preprocessed };
+
+    ghost compiled = { λ t. t.compiled };
+
+    ghost failed = { λ _. 0 };
+
+    ghost fails_in = { λ _ _ _. ⊥ };
+
+    fn preprocess<F: Files>(
+        &mut self,
+        alloc: Global,
+        _kind: CCompilerKind,
+        _command: &SingleCompileCommand,
+        _files: &mut F,
+        _moment: i64,
+    ) -> Result<Printed, ToolFail> {
+        self.preprocessed = self.preprocessed.wrapping_add(1);
+        let status = 0;
+        let text = OsBytes::empty(alloc);
+        Ok(Printed { status, text })
+    }
+
+    fn ticks(&self) -> Ticks {
+        Ticks {
+            preprocess: self.preprocessed,
+            compile: self.compiled,
+            failure: 0,
+        }
+    }
+}
+
+impl Tool for IdleTool {
+    fn compile<F: Files>(
+        &mut self,
+        alloc: Global,
+        _kind: CCompilerKind,
+        _command: &SingleCompileCommand,
+        _outputs: &[(OsBytes, ArtifactDescriptor)],
+        _files: &mut F,
+        _moment: i64,
+    ) -> Result<Compiled, ToolFail> {
+        self.compiled = self.compiled.wrapping_add(1);
+        let mut files = Vec::new(alloc);
+        files.push(None).map_err(AllocError::from)?;
+        let status = 0;
+        let files = Listed::from_vec(files);
+        Ok(Compiled { status, files })
+    }
+}
+
+/// `-c foo.c` in `/w`.
+fn request(alloc: Global) -> Result<Request, Fail> {
+    let mut words = Vec::new(alloc);
+    words.push(OsBytes::from_slice(alloc, b"-c")?)?;
+    words.push(OsBytes::from_slice(alloc, b"foo.c")?)?;
+    let executable = OsBytes::from_slice(alloc, b"gcc")?;
+    Ok(Request {
+        compiler: Compiler::Gcc { executable },
+        words: Listed::from_vec(words),
+        dir: OsBytes::from_slice(alloc, b"/w")?,
+        env: Listed::from_vec(Vec::new(alloc)),
+        moment: 0,
+    })
+}
+
+/// `/w/foo.c` is `int x;` and a line end.
+fn files(alloc: Global) -> Result<MemoryFiles, Fail> {
+    let contents = OsBytes::from_slice(alloc, b"int x;\n")?;
+    let mtime = FileTime::from_seconds(0);
+    let mut files = MemoryFiles::new(alloc);
+    files.insert(
+        OsBytes::from_slice(alloc, b"/w/foo.c")?,
+        MemoryFile { contents, mtime },
+    )?;
+    Ok(files)
+}
+
+/// Whether it is the one fresh output `obj`, at `foo.o`, of that text.
+fn is_fresh(answer: &Result<Answer, Fault>, text: &[u8]) -> bool {
+    let Ok(Answer::Outputs { map, how, dep_info }) = answer else {
+        return false;
+    };
+    let [output] = map.as_slice() else {
+        return false;
+    };
+    *how == How::Fresh
+        && dep_info.is_none()
+        && output.name.as_bytes() == b"obj".as_slice()
+        && output.path.as_bytes() == b"foo.o".as_slice()
+        && output.contents.as_bytes() == text
+}
+
+const TEXT: &[u8; 22] = b"# 1 \"/w/foo.c\"\nint x;\n";
+
+#[test]
+fn a_device_of_the_tool_is_named_by_its_step(rt: HostRuntime) -> Result<(), Fail> {
+    let alloc = rt.alloc();
+    let request = request(alloc)?;
+    let mut files = files(alloc)?;
+    for (calls_left, step, compiles) in [(0, Step::Preprocess, 1), (1, Step::Compile, 2)] {
+        let mut session = Session::new(alloc, Config::new());
+        let mut tool = FailTool::new(ScriptTool::new(), calls_left);
+        let first = session.serve(&request, &mut files, &mut tool);
+        assert!(rt; matches!(first, Err(Fault::Tool(failed)) if failed == step));
+        let second = session.serve(&request, &mut files, &mut tool);
+        assert!(rt; is_fresh(&second, TEXT));
+        assert_eq!(rt; tool.ticks().failure, 1);
+        assert_eq!(rt; tool.ticks().preprocess, 2);
+        assert_eq!(rt; tool.ticks().compile, compiles);
+    }
+    Ok(())
+}
+
+#[test]
+fn a_device_of_the_files_is_the_tools(rt: HostRuntime) -> Result<(), Fail> {
+    let alloc = rt.alloc();
+    let request = request(alloc)?;
+    for (calls_left, step) in [(0, Step::Preprocess), (1, Step::Compile)] {
+        let mut files = FailFiles::new(files(alloc)?, calls_left);
+        let mut session = Session::new(alloc, Config::new());
+        let mut tool = ScriptTool::new();
+        let first = session.serve(&request, &mut files, &mut tool);
+        assert!(rt; matches!(first, Err(Fault::Tool(failed)) if failed == step));
+        assert_eq!(rt; tool.ticks().failure, 1);
+        assert_eq!(rt; files.failures(), 1);
+        let second = session.serve(&request, &mut files, &mut tool);
+        assert!(rt; is_fresh(&second, TEXT));
+    }
+    Ok(())
+}
+
+#[test]
+fn an_output_that_is_not_made_is_named(rt: HostRuntime) -> Result<(), Fail> {
+    let alloc = rt.alloc();
+    let request = request(alloc)?;
+    let mut files = files(alloc)?;
+    let mut tool = IdleTool {
+        preprocessed: 0,
+        compiled: 0,
+    };
+    let mut session = Session::new(alloc, Config::new());
+    let answer = session.serve(&request, &mut files, &mut tool);
+    let Err(Fault::MissingOutput(name)) = answer else {
+        assert!(rt; false);
+        return Ok(());
+    };
+    assert_eq!(rt; name.as_bytes(), b"obj".as_slice());
+    assert_eq!(rt; tool.ticks().compile, 1);
+    Ok(())
+}
