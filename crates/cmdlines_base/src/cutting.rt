@@ -154,3 +154,6 @@ pub fn words_have_one_reading<T: ArgumentValue>()
     ensures is { (table : List (Entry T.Kind)) (words : List Bytes) → Reads table words (reading table words) }
     ensures only { (table : List (Entry T.Kind)) (words : List Bytes) (r : Reading T.Kind) → Reads table words r → r ≡ reading table words }
 {}
+
+#[cfg(test)]
+mod tests;

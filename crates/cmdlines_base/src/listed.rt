@@ -52,3 +52,6 @@ impl<T> Listed<T> {
         self.items.is_empty()
     }
 }
+
+#[cfg(test)]
+mod tests;

@@ -114,6 +114,11 @@ impl Ord for OsBytes {
 
 /// The text of the bytes, where U+FFFD stands for what is no UTF-8.
 impl fmt::Display for OsBytes {
+    ghost use Rattle.std.specs.Prelude.{Some};
+    ghost use Rattle.std.specs.Str.Lossy.{utf8_lossy};
+
+    ghost output = { λ bytes. Some (utf8_lossy bytes) };
+
     fn fmt<W: fmt::Write>(&self, f: &mut fmt::Formatter<W>) -> fmt::Result {
         for chunk in self.as_bytes().utf8_chunks() {
             f.write_str(chunk.valid())?;
@@ -124,3 +129,6 @@ impl fmt::Display for OsBytes {
         Ok(())
     }
 }
+
+#[cfg(test)]
+mod tests;

@@ -1,0 +1,15 @@
+//! Each function once.
+
+use super::Listed;
+use std::test::Fail;
+
+#[test]
+fn keeps_its_items(rt: HostRuntime) -> Result<(), Fail> {
+    let alloc = rt.alloc();
+    let list = Listed::from_vec(vec![in alloc; "-c", "a.c"]?);
+    assert_eq!(rt; (list.len(), list.is_empty()), (2, false));
+    assert_eq!(rt; list.as_slice(), ["-c", "a.c"].as_slice());
+    assert_eq!(rt; list.into_vec().as_slice(), ["-c", "a.c"].as_slice());
+    assert!(rt; Listed::<u8>::from_vec(Vec::new(alloc)).is_empty());
+    Ok(())
+}
