@@ -2,4 +2,12 @@
 #![tactic(auto)]
 
 #[cfg(test)]
+mod devices;
+#[cfg(test)]
+mod program;
+#[cfg(test)]
 mod rows;
+#[cfg(test)]
+mod scenario;
+#[cfg(test)]
+mod texts;

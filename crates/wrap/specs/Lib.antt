@@ -5,4 +5,3 @@ pub mod Gathering
 pub mod Steps
 pub mod Lines
 pub mod Scripted
-pub mod Idle

@@ -15,9 +15,6 @@ use wrap_base::answer::{Answer, How, Output};
 use wrap_base::fault::Fault;
 use wrap_base::preprocessor::Preprocessor;
 
-#[cfg(test)]
-mod tests;
-
 /// Why a run stopped.
 #[derive(Debug, Drop, Error)]
 pub enum RunFault {

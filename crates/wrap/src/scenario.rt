@@ -20,9 +20,6 @@ use serde_json::{Map, Value};
 use std::alloc::{AllocError, AllocFailed, Global};
 use wrap_base::request::{Compiler, Request};
 
-#[cfg(test)]
-mod tests;
-
 /// The directory of a request that names none.
 const DEFAULT_DIR: &[u8; 2] = b"/w";
 

@@ -15,9 +15,6 @@ use std::alloc::Global;
 use wrap_base::preprocessor::{Preprocessor, Printed, Ticks, ToolFail};
 use wrap_base::tool::{Compiled, Tool};
 
-#[cfg(test)]
-mod tests;
-
 /// A tool that counts how often its steps ran and a device failed in them.
 #[derive(Drop)]
 pub struct ScriptTool {

@@ -17,9 +17,6 @@ use wrap_base::parsed::ParsedArguments;
 use wrap_base::request::Request;
 use wrap_base::tool::Tool;
 
-#[cfg(test)]
-mod tests;
-
 /// What is fixed for all requests of a session.
 #[derive(Drop)]
 pub struct Config {}

@@ -1,19 +1,15 @@
-//! `serve` with devices that fail, and with a compiler that makes nothing.
+//! `serve` with a device that fails, and with a compiler that makes nothing.
 
-ghost use Rattle.wrap.specs.Idle.{idle};
+ghost use Rattle.scenario_tests.specs.Idle.{idle};
 
-use super::{Config, Session};
-use crate::script::ScriptTool;
 use cmdlines_base::command::{ArtifactDescriptor, CCompilerKind, SingleCompileCommand};
-use cmdlines_base::file_time::FileTime;
 use cmdlines_base::files::Files;
 use cmdlines_base::listed::Listed;
-use cmdlines_base::memory_files::{MemoryFile, MemoryFiles};
+use cmdlines_base::memory_files::MemoryFiles;
 use cmdlines_base::os_bytes::OsBytes;
 use std::alloc::{AllocError, Global};
 use std::test::Fail;
-use wrap_base::answer::{Answer, How};
-use wrap_base::fail_files::FailFiles;
+use wrap::session::{Config, Session};
 use wrap_base::fail_tool::FailTool;
 use wrap_base::fault::Fault;
 use wrap_base::preprocessor::{Preprocessor, Printed, Ticks, ToolFail};
@@ -26,6 +22,15 @@ use wrap_base::tool::{Compiled, Tool};
 struct IdleTool {
     preprocessed: u64,
     compiled: u64,
+}
+
+impl IdleTool {
+    fn new() -> IdleTool {
+        IdleTool {
+            preprocessed: 0,
+            compiled: 0,
+        }
+    }
 }
 
 impl Preprocessor for IdleTool {
@@ -96,47 +101,19 @@ fn request(alloc: Global) -> Result<Request, Fail> {
     })
 }
 
-/// `/w/foo.c` is `int x;` and a line end.
-fn files(alloc: Global) -> Result<MemoryFiles, Fail> {
-    let contents = OsBytes::from_slice(alloc, b"int x;\n")?;
-    let mtime = FileTime::from_seconds(0);
-    let mut files = MemoryFiles::new(alloc);
-    files.insert(
-        OsBytes::from_slice(alloc, b"/w/foo.c")?,
-        MemoryFile { contents, mtime },
-    )?;
-    Ok(files)
-}
-
-/// Whether it is the one fresh output `obj`, at `foo.o`, of that text.
-fn is_fresh(answer: &Result<Answer, Fault>, text: &[u8]) -> bool {
-    let Ok(Answer::Outputs { map, how, dep_info }) = answer else {
-        return false;
-    };
-    let [output] = map.as_slice() else {
-        return false;
-    };
-    *how == How::Fresh
-        && dep_info.is_none()
-        && output.name.as_bytes() == b"obj".as_slice()
-        && output.path.as_bytes() == b"foo.o".as_slice()
-        && output.contents.as_bytes() == text
-}
-
-const TEXT: &[u8; 22] = b"# 1 \"/w/foo.c\"\nint x;\n";
-
 #[test]
-fn a_device_of_the_tool_is_named_by_its_step(rt: HostRuntime) -> Result<(), Fail> {
+fn a_device_is_named_by_its_step(rt: HostRuntime) -> Result<(), Fail> {
     let alloc = rt.alloc();
     let request = request(alloc)?;
-    let mut files = files(alloc)?;
+    let mut files = MemoryFiles::new(alloc);
     for (calls_left, step, compiles) in [(0, Step::Preprocess, 1), (1, Step::Compile, 2)] {
         let mut session = Session::new(alloc, Config::new());
-        let mut tool = FailTool::new(ScriptTool::new(), calls_left);
+        let mut tool = FailTool::new(IdleTool::new(), calls_left);
         let first = session.serve(&request, &mut files, &mut tool);
         assert!(rt; matches!(first, Err(Fault::Tool(failed)) if failed == step));
+        // The device fails once.
         let second = session.serve(&request, &mut files, &mut tool);
-        assert!(rt; is_fresh(&second, TEXT));
+        assert!(rt; matches!(second, Err(Fault::MissingOutput(_))));
         assert_eq!(rt; tool.ticks().failure, 1);
         assert_eq!(rt; tool.ticks().preprocess, 2);
         assert_eq!(rt; tool.ticks().compile, compiles);
@@ -145,32 +122,11 @@ fn a_device_of_the_tool_is_named_by_its_step(rt: HostRuntime) -> Result<(), Fail
 }
 
 #[test]
-fn a_device_of_the_files_is_the_tools(rt: HostRuntime) -> Result<(), Fail> {
-    let alloc = rt.alloc();
-    let request = request(alloc)?;
-    for (calls_left, step) in [(0, Step::Preprocess), (1, Step::Compile)] {
-        let mut files = FailFiles::new(files(alloc)?, calls_left);
-        let mut session = Session::new(alloc, Config::new());
-        let mut tool = ScriptTool::new();
-        let first = session.serve(&request, &mut files, &mut tool);
-        assert!(rt; matches!(first, Err(Fault::Tool(failed)) if failed == step));
-        assert_eq!(rt; tool.ticks().failure, 1);
-        assert_eq!(rt; files.failures(), 1);
-        let second = session.serve(&request, &mut files, &mut tool);
-        assert!(rt; is_fresh(&second, TEXT));
-    }
-    Ok(())
-}
-
-#[test]
 fn an_output_that_is_not_made_is_named(rt: HostRuntime) -> Result<(), Fail> {
     let alloc = rt.alloc();
     let request = request(alloc)?;
-    let mut files = files(alloc)?;
-    let mut tool = IdleTool {
-        preprocessed: 0,
-        compiled: 0,
-    };
+    let mut files = MemoryFiles::new(alloc);
+    let mut tool = IdleTool::new();
     let mut session = Session::new(alloc, Config::new());
     let answer = session.serve(&request, &mut files, &mut tool);
     let Err(Fault::MissingOutput(name)) = answer else {

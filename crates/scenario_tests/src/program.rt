@@ -1,16 +1,10 @@
-//! What a run prints, and each fault of a run.
+//! Each fault of a run.
 
-use super::{RunFault, line_of, run};
-use cmdlines_base::listed::Listed;
-use cmdlines_base::os_bytes::OsBytes;
 use std::alloc::{AllocError, Global};
 use std::io;
 use std::io::{ErrorKind, Read, Write};
 use std::test::Fail;
-use wrap_base::answer::{Answer, How, Output};
-use wrap_base::fault::Fault;
-use wrap_base::reason::Reason;
-use wrap_base::step::Step;
+use wrap::program::{RunFault, run};
 
 const NO_REQUESTS: &[u8; 15] = b"{\"requests\":[]}";
 
@@ -152,52 +146,4 @@ fn full_buffer(rt: HostRuntime) -> Result<(), Fail> {
     let result = run(alloc, &[], &mut NO_REQUESTS.as_slice(), &mut writer);
     assert!(rt; matches!(result, Err(RunFault::Output)));
     Ok(())
-}
-
-#[test]
-fn lines(rt: HostRuntime) -> Result<(), Fail> {
-    let alloc = rt.alloc();
-    let pass = Answer::Pass(Reason::NotCompilation);
-    assert_eq!(rt;
-        line_of(alloc, 1, &Ok(pass))?.as_str(),
-        "1 pass not a compilation\n"
-    );
-    let fault = Fault::Tool(Step::Compile);
-    assert_eq!(rt;
-        line_of(alloc, 2, &Err(fault))?.as_str(),
-        "2 fault tool compile\n"
-    );
-    let none = outputs(alloc, &[], How::Fresh, None)?;
-    assert_eq!(rt; line_of(alloc, 3, &Ok(none))?.as_str(), "3 fresh\n");
-    let one = outputs(alloc, &["obj"], How::Stored, None)?;
-    assert_eq!(rt; line_of(alloc, 4, &Ok(one))?.as_str(), "4 stored obj:3\n");
-    let two = outputs(alloc, &["obj", "d"], How::Direct, Some("a: b"))?;
-    assert_eq!(rt;
-        line_of(alloc, 10, &Ok(two))?.as_str(),
-        "10 direct obj:3 d:1 dep-info:4\n"
-    );
-    Ok(())
-}
-
-/// An answer whose outputs hold their own names.
-fn outputs(
-    alloc: Global,
-    names: &[&str],
-    how: How,
-    dep_info: Option<&str>,
-) -> Result<Answer, AllocError> {
-    let mut map = Vec::new(alloc);
-    for name in names {
-        map.push(Output {
-            name: OsBytes::from_slice(alloc, name.as_bytes())?,
-            path: OsBytes::empty(alloc),
-            contents: OsBytes::from_slice(alloc, name.as_bytes())?,
-        })?;
-    }
-    let dep_info = match dep_info {
-        Some(text) => Some(OsBytes::from_slice(alloc, text.as_bytes())?),
-        None => None,
-    };
-    let map = Listed::from_vec(map);
-    Ok(Answer::Outputs { map, how, dep_info })
 }
