@@ -1,6 +1,7 @@
 //! Scenarios, and what is printed of each.
 
 use std::alloc::Global;
+use std::process::Abort;
 use std::test::Fail;
 use wrap::program::run;
 
@@ -19,14 +20,25 @@ fn one_request(alloc: Global, words: &str, files: &str) -> Result<String, Fail> 
     )?)
 }
 
+/// The file that most rows compile.
+const INT_X: &str = r#"{"/w/foo.c":"int x;\n"}"#;
+
+/// Each row: the words of one request, its files, and what the run prints.
+fn each_prints(rt: &impl Abort, alloc: Global, rows: &[(&str, &str, &str)]) -> Result<(), Fail> {
+    for (words, files, expected) in rows.iter() {
+        let scenario = one_request(alloc, words, files)?;
+        let lines = printed(alloc, scenario.as_str())?;
+        assert_eq!(rt; lines.as_slice(), expected.as_bytes(), "{words}");
+    }
+    Ok(())
+}
+
 #[test]
-fn one_gcc_request(rt: HostRuntime) -> Result<(), Fail> {
-    let alloc = rt.alloc();
-    let int_x = r#"{"/w/foo.c":"int x;\n"}"#;
+fn compiled(rt: HostRuntime) -> Result<(), Fail> {
     let rows = [
         (
             r#"["-o","foo.o","-c","foo.c"]"#,
-            int_x,
+            INT_X,
             "1 fresh obj:22\ncompiles 1\n",
         ),
         (
@@ -35,29 +47,9 @@ fn one_gcc_request(rt: HostRuntime) -> Result<(), Fail> {
             "1 fresh obj:24\ncompiles 1\n",
         ),
         (
-            r#"["-o","foo.o","foo.c"]"#,
-            int_x,
-            "1 pass not a compilation\ncompiles 0\n",
-        ),
-        (
-            r#"["-c","a.c","b.c"]"#,
-            int_x,
-            "1 pass multiple input files\ncompiles 0\n",
-        ),
-        (
-            r#"["-c","foo.c","-o","foo.o","-I",""]"#,
-            int_x,
-            "1 pass empty value\ncompiles 0\n",
-        ),
-        (
-            r#"["-c","foo.c","-I"]"#,
-            int_x,
-            "1 pass empty value\ncompiles 0\n",
-        ),
-        (
-            r#"["-c","-o","@out","foo.c"]"#,
-            int_x,
-            "1 pass opens file\ncompiles 0\n",
+            r#"["-c","foo.c","-o",{"hex":"666f6f2e6f"}]"#,
+            INT_X,
+            "1 fresh obj:22\ncompiles 1\n",
         ),
         (
             r#"["-c","none.c"]"#,
@@ -69,38 +61,29 @@ fn one_gcc_request(rt: HostRuntime) -> Result<(), Fail> {
             r##"{"/w/foo.c":"#error\n"}"##,
             "1 fault compile 1\ncompiles 1\n",
         ),
-        (r#"["-c"]"#, int_x, "1 pass no input file\ncompiles 0\n"),
-        (
-            r#"["-c","foo.h"]"#,
-            int_x,
-            "1 pass unknown source language\ncompiles 0\n",
-        ),
-        (
-            r#"["-c","foo.c","-x","rust"]"#,
-            int_x,
-            "1 pass unknown source language\ncompiles 0\n",
-        ),
-        (
-            r#"["-c","foo.c","-x"]"#,
-            int_x,
-            "1 pass unknown source language\ncompiles 0\n",
-        ),
-        (
-            r#"["-x","c","-c",".."]"#,
-            int_x,
-            "1 pass no output file\ncompiles 0\n",
-        ),
-        (r#"["-c","@args","foo.c"]"#, int_x, "1 pass @\ncompiles 0\n"),
-        (
-            r#"["-c","foo.c","-o",{"hex":"666f6f2e6f"}]"#,
-            int_x,
-            "1 fresh obj:22\ncompiles 1\n",
-        ),
     ];
-    for (words, files, expected) in rows {
-        let scenario = one_request(alloc, words, files)?;
-        let lines = printed(alloc, scenario.as_str())?;
-        assert_eq!(rt; lines.as_slice(), expected.as_bytes(), "{words}");
+    each_prints(&rt, rt.alloc(), &rows)
+}
+
+#[test]
+fn passed(rt: HostRuntime) -> Result<(), Fail> {
+    let rows = [
+        (r#"["-o","foo.o","foo.c"]"#, "not a compilation"),
+        (r#"["-c","a.c","b.c"]"#, "multiple input files"),
+        (r#"["-c","foo.c","-o","foo.o","-I",""]"#, "empty value"),
+        (r#"["-c","foo.c","-I"]"#, "empty value"),
+        (r#"["-c","-o","@out","foo.c"]"#, "opens file"),
+        (r#"["-c"]"#, "no input file"),
+        (r#"["-c","foo.h"]"#, "unknown source language"),
+        (r#"["-c","foo.c","-x","rust"]"#, "unknown source language"),
+        (r#"["-c","foo.c","-x"]"#, "unknown source language"),
+        (r#"["-x","c","-c",".."]"#, "no output file"),
+        (r#"["-c","@args","foo.c"]"#, "@"),
+    ];
+    let alloc = rt.alloc();
+    for (words, reason) in rows {
+        let expected = format!(in alloc; "1 pass {reason}\ncompiles 0\n")?;
+        each_prints(&rt, alloc, &[(words, INT_X, expected.as_str())])?;
     }
     Ok(())
 }
