@@ -1,11 +1,10 @@
 //! The program `sccache-wrap`: reads a scenario from standard input and prints what its requests are answered.
 #![tactic(auto)]
 
-use std::env;
-use std::io;
 use std::io::BufWriter;
 use std::process::ExitCode;
 use std::rt::Env;
+use std::{env, io};
 use wrap::program::{RunFault, run};
 
 /// The status of a program that couldn't run.
