@@ -1,7 +1,7 @@
 //! The program `sccache-wrap`: reads a scenario from standard input and prints what its requests are answered.
 #![tactic(auto)]
 
-use std::io::BufWriter;
+use std::io::{BufWriter, ErrorKind};
 use std::process::ExitCode;
 use std::rt::Env;
 use std::{env, io};
@@ -23,13 +23,19 @@ fn main(rt: HostRuntime) -> ExitCode {
 /// Runs on standard input and output.
 fn run_on<R: Print + Input + Env + AllocGlobal>(rt: &R) -> Result<(), RunFault> {
     let alloc = rt.alloc();
-    let Ok(words) = env::args(rt) else {
-        return Err(RunFault::Memory);
-    };
+    let words = env::args(rt).map_err(fault_of_arguments)?;
     let args: Vec<String> = words.skip(1).collect(alloc)?;
     let mut reader = rt.reader();
     let Ok(mut writer) = BufWriter::new(alloc, io::writer(rt)) else {
         return Err(RunFault::Memory);
     };
     run(alloc, args.as_slice(), &mut reader, &mut writer)
+}
+
+/// An argument that is no UTF-8 is an argument all the same.
+fn fault_of_arguments(error: io::Error) -> RunFault {
+    match error.kind() {
+        ErrorKind::InvalidData => RunFault::Arguments,
+        _ => RunFault::Memory,
+    }
 }
