@@ -11,6 +11,8 @@
 //!
 //! A file is a text, which is its contents, or an object with either `text`, a text, or `hex`, as in a byte text, and perhaps `mtime`, a whole number of seconds of 64 bits with a sign, else 0. All other members are passed over unread, and of a repeated member the last one counts.
 
+ghost use Rattle.std.specs.Prelude.{◌≡◌};
+
 use crate::byte_text::{read_byte_text, read_hex};
 use cmdlines_base::file_time::FileTime;
 use cmdlines_base::listed::Listed;
@@ -43,12 +45,20 @@ pub(crate) enum ScenarioFault {
 }
 
 impl From<AllocError> for ScenarioFault {
+    ghost use Rattle.wrap.specs.declared.scenario.ScenarioFault.TheVariants.{Memory};
+
+    ghost from_gives = { λ _ f. f ≡ Memory };
+
     fn from(_error: AllocError) -> ScenarioFault {
         ScenarioFault::Memory
     }
 }
 
 impl<T: Drop> From<AllocFailed<T>> for ScenarioFault {
+    ghost use Rattle.wrap.specs.declared.scenario.ScenarioFault.TheVariants.{Memory};
+
+    ghost from_gives = { λ _ f. f ≡ Memory };
+
     fn from(_error: AllocFailed<T>) -> ScenarioFault {
         ScenarioFault::Memory
     }

@@ -18,9 +18,9 @@ use wrap_base::tool::{Compiled, Tool};
 /// A tool that counts how often its steps ran and a device failed in them.
 #[derive(Drop)]
 pub struct ScriptTool {
-    preprocessed: u64,
-    compiled: u64,
-    failed: u64,
+    pub preprocessed: u64,
+    pub compiled: u64,
+    pub failed: u64,
 }
 
 impl ScriptTool {
