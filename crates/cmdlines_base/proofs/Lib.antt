@@ -3,5 +3,3 @@ pub mod ReadingLemmas
 pub mod StepLemmas
 pub mod AgainLemmas
 pub mod ClearLemmas
-pub mod MemoryLookups
-pub mod PieceLaws

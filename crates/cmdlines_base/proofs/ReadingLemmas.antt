@@ -1,6 +1,6 @@
 -- Each list of words has exactly one reading.
 use Rattle.std.proofs.Common.{◌≡◌, List, [], ◌∷◌, refl, ap, sym, ◌∙◌}
-use Rattle.cmdlines_base.specs.Bytes.{Bytes}
+use Rattle.os_files.specs.Bytes.{Bytes}
 use Rattle.cmdlines_base.specs.Table.{Entry}
 use Rattle.cmdlines_base.specs.Reading.{Item, valued, Start, whole, awaits, Reading, before, first_word, from_last, from_first, reading, Reads, at_end, alone, with_value, lacking}
 

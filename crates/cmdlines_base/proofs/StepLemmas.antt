@@ -1,7 +1,7 @@
 -- What one step of the cutting makes, by what the first word makes.
 use Rattle.std.proofs.Common.{◌≡◌, length, arith, List, [], ◌∷◌, Option, None, Some, Err, true, false, refl, ap, sym, ◌∙◌}
 use Rattle.std.specs.Borrow.{Bor}
-use Rattle.cmdlines_base.specs.Bytes.{Bytes}
+use Rattle.os_files.specs.Bytes.{Bytes}
 use Rattle.cmdlines_base.specs.Refusal.{OnRefusal}
 use Rattle.cmdlines_base.specs.Table.{Entry, longest_fit}
 use Rattle.cmdlines_base.specs.Reading.{Item, valued, Start, whole, awaits, Reading, nothing, before, unfinished, first_by, first_word, from_last, reading}

@@ -1,7 +1,7 @@
 -- How written words are read again.
 use Rattle.std.specs.Prelude.{◌≡◌, Bool, true, false, not, ◌&&◌, ◌==◌, List, [], ◌∷◌, ◌++◌, length, map, Option, None, Some, Contains}
 use Rattle.std.specs.List.{list_all, AllByRecursion}
-use Rattle.cmdlines_base.specs.Bytes.{Bytes}
+use Rattle.os_files.specs.Bytes.{Bytes}
 use Rattle.cmdlines_base.specs.Table.{Entry, behind}
 use Rattle.cmdlines_base.specs.Printing.{is_j, is_empty_j, printed, normal, words_of}
 use Rattle.cmdlines_base.specs.Reading.{Item, reading, before, all_before}

@@ -1,6 +1,6 @@
 -- What an iterator over arguments has left.
 use Rattle.std.specs.Prelude.{List}
-use Rattle.cmdlines_base.specs.Bytes.{Bytes}
+use Rattle.os_files.specs.Bytes.{Bytes}
 use Rattle.cmdlines_base.specs.declared.cutting.ArgsIter.{ArgsIter}
 
 -- the words that are left

@@ -1,6 +1,6 @@
 -- Arguments with values of a type, and the items that they are of.
 use Rattle.std.specs.Prelude.{◌≡◌, Bool, true, false, List, [], Option, None, Some, Result, Ok, Err}
-use Rattle.cmdlines_base.specs.Bytes.{Bytes}
+use Rattle.os_files.specs.Bytes.{Bytes}
 use Rattle.cmdlines_base.specs.Table.{Entry}
 use Rattle.cmdlines_base.specs.Reading.{Item, raw, unknown, flag, valued, Start, whole, awaits, Reading, reading, before}
 use Rattle.cmdlines_base.specs.declared.argument.Argument.{Argument}

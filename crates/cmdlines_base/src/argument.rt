@@ -1,10 +1,10 @@
 //! Arguments: the pieces of a command line, with values of a caller's type.
 
 ghost use Rattle.std.specs.Prelude.{◌≡◌, Bool, true, false, IfOk, IfErr, OnOk};
-ghost use Rattle.cmdlines_base.specs.Bytes.{Bytes};
+ghost use Rattle.os_files.specs.Bytes.{Bytes};
 ghost use Rattle.cmdlines_base.specs.Refusal.{OnRefusal};
 
-use crate::os_bytes::OsBytes;
+use os_files::os_bytes::OsBytes;
 use std::alloc::{AllocError, AllocFailed, Global};
 
 /// The byte between a flag and its value, where one is wanted.

@@ -1,7 +1,7 @@
 //! Compilers, commands and the outputs that are asked for.
 
-use crate::listed::Listed;
-use crate::os_bytes::OsBytes;
+use os_files::listed::Listed;
+use os_files::os_bytes::OsBytes;
 
 /// The compilers whose command lines are read.
 #[derive(Clone, Copy, Debug, PartialEq, Eq)]

@@ -2,7 +2,7 @@
 
 ghost use Rattle.std.specs.Prelude.{◌≡◌, List, [], length, IfOk, IfErr, false, true};
 ghost use Rattle.std.specs.Iterator.{at_most};
-ghost use Rattle.cmdlines_base.specs.Bytes.{Bytes};
+ghost use Rattle.os_files.specs.Bytes.{Bytes};
 ghost use Rattle.cmdlines_base.specs.Refusal.{OnRefusal};
 ghost use Rattle.cmdlines_base.specs.Table.{Entry, entry_at};
 ghost use Rattle.cmdlines_base.specs.Reading.{loose, value_in, first_by, reading, Reading, Reads};
@@ -10,7 +10,7 @@ ghost use Rattle.cmdlines_base.specs.Cutting.{words_left, table_in};
 ghost use Rattle.cmdlines_base.specs.Values.{values_by, IsOf, IsFirst, IsRefused, Steps};
 
 use crate::argument::{ArgDisposition, ArgParseError, Argument, ArgumentValue, Delimiter};
-use crate::os_bytes::OsBytes;
+use os_files::os_bytes::OsBytes;
 use crate::table::{ArgInfo, SearchableArgInfo, behind};
 use std::alloc::{AllocError, Global};
 use std::marker::PhantomData;

@@ -1,14 +1,8 @@
-//! What every command line stands on: words, paths, files, and how a table of options cuts words.
+//! What every command line stands on: arguments, tables of options, how a table cuts words, and how arguments are written as words again.
 #![tactic(auto)]
 
 pub mod argument;
 pub mod command;
 pub mod cutting;
-pub mod file_time;
-pub mod files;
-pub mod listed;
-pub mod memory_files;
-pub mod os_bytes;
-pub mod path;
 pub mod reading_back;
 pub mod table;

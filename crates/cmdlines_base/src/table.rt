@@ -2,7 +2,7 @@
 
 ghost use Rattle.std.specs.Prelude.{◌≡◌, List, ◌++◌, if◌then◌else◌};
 ghost use Rattle.std.specs.Option.{option_copied};
-ghost use Rattle.cmdlines_base.specs.Bytes.{Bytes};
+ghost use Rattle.os_files.specs.Bytes.{Bytes};
 ghost use Rattle.cmdlines_base.specs.Table.{Entry, entry_of, entry_at, entries_of, fits, has_ascii, rises_to, is_table, longer, longest_fit, IsEntryOf, behind};
 
 use crate::argument::{ArgDisposition, ArgumentValue};

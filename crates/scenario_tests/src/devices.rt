@@ -3,10 +3,10 @@
 ghost use Rattle.scenario_tests.specs.Idle.{idle};
 
 use cmdlines_base::command::{ArtifactDescriptor, CCompilerKind, SingleCompileCommand};
-use cmdlines_base::files::Files;
-use cmdlines_base::listed::Listed;
-use cmdlines_base::memory_files::MemoryFiles;
-use cmdlines_base::os_bytes::OsBytes;
+use os_files::files::Files;
+use os_files::listed::Listed;
+use os_files::memory_files::MemoryFiles;
+use os_files::os_bytes::OsBytes;
 use std::alloc::{AllocError, Global};
 use std::test::Fail;
 use wrap::session::{Config, Session};

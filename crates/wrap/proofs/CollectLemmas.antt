@@ -4,7 +4,7 @@ use Rattle.std.proofs.lemmas.List.{append-nil}
 use Rattle.std.proofs.lemmas.List.Concat.{flat_map-append}
 use Rattle.std.proofs.lemmas.List.Elements.{filter-append}
 use Rattle.std.specs.List.{flat_map, filter, list_any}
-use Rattle.cmdlines_base.specs.Bytes.{Bytes}
+use Rattle.os_files.specs.Bytes.{Bytes}
 use Rattle.cmdlines_base.specs.Table.{Entry}
 use Rattle.cmdlines_base.specs.Reading.{Item, Reading, reading, raw, unknown, flag, valued, before, nothing}
 use Rattle.cmdlines_base.specs.Printing.{is_empty_j, words_of}

@@ -1,6 +1,6 @@
 -- One more output that is gathered.
 use Rattle.std.proofs.Common.{◌≡◌, ℕ, suc, ◌+◌, ◌<◌, List, [], ◌∷◌, ◌++◌, length, get_or, drop, drop-cons, add-one, Option, None, Some, true, refl, ap, sym, ◌∙◌, append_assoc}
-use Rattle.cmdlines_base.specs.Bytes.{Bytes}
+use Rattle.os_files.specs.Bytes.{Bytes}
 use Rattle.cmdlines_base.specs.declared.command.ArtifactDescriptor.{ArtifactDescriptor}
 use Rattle.wrap_base.specs.Account.{Collected, missing, all, behind, gathered, collected, first_file, files_behind}
 use Rattle.wrap_base.specs.declared.answer.Output.{Output}

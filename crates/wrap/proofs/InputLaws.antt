@@ -1,7 +1,7 @@
 -- The input of a command, item by item.
 use Rattle.std.proofs.Common.{◌≡◌, false, List, ◌++◌, Option, None, Some, Ok, if◌then◌else◌, refl, ap, append_assoc}
 use Rattle.std.specs.List.{flat_map}
-use Rattle.cmdlines_base.specs.Bytes.{Bytes}
+use Rattle.os_files.specs.Bytes.{Bytes}
 use Rattle.cmdlines_base.specs.Reading.{Item, raw, unknown, flag, valued, Reading, reading}
 use Rattle.cmdlines_base.specs.Table.{Entry}
 use Rattle.cmdlines_base.specs.Values.{Values, values_by, IsOf, Steps}

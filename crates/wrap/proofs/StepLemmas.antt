@@ -1,8 +1,8 @@
 -- The steps of a call, by what the tool answered.
 use Rattle.std.proofs.Common.{◌≡◌, ℤ, pos, List, Bool, true, false, Option, Some, Result, Ok, Err, IfOk, IfErr, refl, sym, ap, ◌∙◌}
 use Rattle.std.specs.Ordering.{int_eq}
-use Rattle.cmdlines_base.specs.Bytes.{Bytes}
-use Rattle.cmdlines_base.specs.Tree.{Tree}
+use Rattle.os_files.specs.Bytes.{Bytes}
+use Rattle.os_files.specs.Tree.{Tree}
 use Rattle.cmdlines_base.specs.Reading.{reading}
 use Rattle.cmdlines_base.specs.declared.command.SingleCompileCommand.{SingleCompileCommand}
 use Rattle.cmdlines_base.specs.declared.command.CCompilerKind.{CCompilerKind}

@@ -1,7 +1,7 @@
 -- Parts that stand in a row.
 use Rattle.std.proofs.Common.{◌≡◌, List, ◌∷◌, ◌++◌, map, Option, None, Some, refl, ap, append_assoc}
 use Rattle.std.specs.Option.{option_map}
-use Rattle.cmdlines_base.specs.Bytes.{Bytes}
+use Rattle.os_files.specs.Bytes.{Bytes}
 use Rattle.wrap.specs.Lines.{lines}
 use Rattle.wrap.specs.Scripted.{whole}
 

@@ -1,7 +1,7 @@
 -- What an answer says of its account.
 use Rattle.std.proofs.Common.{◌≡◌, ℕ, List, Some, None, Result, Ok, Err, IsErrOf, refl, sym, ap, ◌∙◌, arith}
-use Rattle.cmdlines_base.specs.Bytes.{ticked}
-use Rattle.cmdlines_base.specs.Tree.{Tree}
+use Rattle.os_files.specs.Bytes.{ticked}
+use Rattle.os_files.specs.Tree.{Tree}
 use Rattle.wrap_base.specs.Meaning.{Meaning, FailsIn}
 use Rattle.wrap_base.specs.Commands.{kind_of}
 use Rattle.wrap_base.specs.Verdict.{Why, Decision, verdict_of}

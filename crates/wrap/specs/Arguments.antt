@@ -1,6 +1,6 @@
 -- The arguments of a C compiler, as items.
 use Rattle.std.specs.Prelude.{[]}
-use Rattle.cmdlines_base.specs.Bytes.{Bytes}
+use Rattle.os_files.specs.Bytes.{Bytes}
 use Rattle.cmdlines_base.specs.Reading.{Item, raw, unknown, flag, valued}
 use Rattle.cmdlines_base.specs.declared.argument.Argument.{Argument}
 use Rattle.cmdlines_base.specs.declared.argument.Argument.TheVariants as arguments

@@ -5,7 +5,7 @@ use Rattle.std.specs.Prelude.{find}
 use Rattle.cmdlines_base.specs.Table.{Entry}
 use Rattle.cmdlines_base.specs.Reading.{Item, Reading}
 use Rattle.cmdlines_base.specs.Printing.{is_empty_j, words_of, printed_as, normal_disposition}
-use Rattle.cmdlines_base.specs.Bytes.{Bytes}
+use Rattle.os_files.specs.Bytes.{Bytes}
 use Rattle.cmdlines_base.specs.declared.argument.ArgDisposition.{ArgDisposition}
 use Rattle.wrap_base.specs.Wanted.{Collection, has_kind, is_compile, is_output, is_language, is_too_hard, input_in, last_value, later, preprocessor_options, hashed_options}
 use Rattle.wrap_base.specs.Verdict.{Decision, decided}

@@ -2,7 +2,7 @@
 use Rattle.std.specs.Prelude.{nat_eq, ◌==◌, ◌-◌, if◌then◌else◌, List, [], ◌∷◌, ◌++◌, length, take, Option, None, Some, unwrap_or, option_and_then, codes}
 use Rattle.std.specs.List.{onto_first, ends_with}
 use Rattle.std.specs.Str.{byte}
-use Rattle.cmdlines_base.specs.Bytes.{Bytes}
+use Rattle.os_files.specs.Bytes.{Bytes}
 use Rattle.cmdlines_base.specs.Table.{behind}
 
 -- the lines of a text, each with its line end, which only the last may lack

@@ -2,10 +2,10 @@
 use Rattle.std.specs.Prelude.{pos, Bool, ◌||◌, nat_eq, if◌then◌else◌, List, [], ◌∷◌, ◌++◌, map, Option, None, Some, option_and_then, codes}
 use Rattle.std.specs.List.{flat_map, starts_with}
 use Rattle.std.specs.Option.{option_map, option_map_or}
-use Rattle.cmdlines_base.specs.Bytes.{Bytes}
-use Rattle.cmdlines_base.specs.Path.{join}
+use Rattle.os_files.specs.Bytes.{Bytes}
+use Rattle.os_files.specs.Path.{join}
 use Rattle.cmdlines_base.specs.Reading.{Reading}
-use Rattle.cmdlines_base.specs.Tree.{Tree, contents_at}
+use Rattle.os_files.specs.Tree.{Tree, contents_at}
 use Rattle.wrap_base.specs.Meaning.{Scene, OutputName, Made, Meaning, made_of}
 use Rattle.wrap_base.specs.Wanted.{input_in}
 use Rattle.wrap_base.specs.declared.kind.ArgKind.{ArgKind}

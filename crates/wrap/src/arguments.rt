@@ -9,7 +9,7 @@ ghost use Rattle.wrap.specs.Arguments.{item_of, kind_in, word_in};
 
 use cmdlines_base::argument::{ArgDisposition, ArgParseError, Argument, ArgumentValue, Delimiter};
 use cmdlines_base::command::CCompilerKind;
-use cmdlines_base::os_bytes::OsBytes;
+use os_files::os_bytes::OsBytes;
 use cmdlines_base::table::{ArgInfo, SearchableArgInfo, Table};
 use std::alloc::{AllocError, Global};
 use wrap_base::kind::ArgKind;

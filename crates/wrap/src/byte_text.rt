@@ -1,7 +1,7 @@
 //! Byte strings in JSON: a text stands for its UTF-8 bytes, and `{"hex": ".."}` for any bytes.
 
 use crate::scenario::ScenarioFault;
-use cmdlines_base::os_bytes::OsBytes;
+use os_files::os_bytes::OsBytes;
 use hex::FromHexError;
 use serde_json::{Map, Value};
 use std::alloc::Global;

@@ -7,7 +7,7 @@ ghost use Rattle.wrap.specs.Collecting.{nothing_collected, absorb, with_flag, wi
 
 use crate::arguments::{ArgData, is_empty_value};
 use cmdlines_base::argument::{ArgDisposition, Argument, Delimiter};
-use cmdlines_base::os_bytes::OsBytes;
+use os_files::os_bytes::OsBytes;
 use cmdlines_base::table::SearchableArgInfo;
 use std::alloc::{AllocError, Global};
 use std::marker::Model;

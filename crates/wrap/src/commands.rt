@@ -1,7 +1,7 @@
 //! The commands of a request.
 
 ghost use Rattle.std.specs.Prelude.{◌≡◌, ◌∷◌, ◌++◌, [], List, IfOk, OnOk, map, codes};
-ghost use Rattle.cmdlines_base.specs.Bytes.{Bytes};
+ghost use Rattle.os_files.specs.Bytes.{Bytes};
 ghost use Rattle.wrap_base.specs.SmallTable.{table_of};
 ghost use Rattle.wrap_base.specs.Commands.{compile_words, preprocess_words, first_path, command_of, kind_of, ReadsAsWanted, own_compile_items, own_preprocess_items};
 ghost use Rattle.wrap_base.specs.Verdict.{verdict_of, asks};
@@ -9,8 +9,8 @@ ghost use Rattle.wrap_base.specs.Verdict.{verdict_of, asks};
 use crate::arguments::ArgData;
 use cmdlines_base::command::{ArtifactDescriptor, SingleCompileCommand};
 use cmdlines_base::cutting::words_have_one_reading;
-use cmdlines_base::listed::Listed;
-use cmdlines_base::os_bytes::OsBytes;
+use os_files::listed::Listed;
+use os_files::os_bytes::OsBytes;
 use cmdlines_base::reading_back::{items_read_again, items_read_together};
 use std::alloc::{AllocError, Global};
 use wrap_base::parsed::ParsedArguments;

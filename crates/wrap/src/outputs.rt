@@ -6,8 +6,8 @@ ghost use Rattle.wrap_base.specs.Account.{collected, all, first_file, files_behi
 ghost use Rattle.wrap.specs.Steps.{CollectCause};
 
 use cmdlines_base::command::ArtifactDescriptor;
-use cmdlines_base::listed::Listed;
-use cmdlines_base::os_bytes::OsBytes;
+use os_files::listed::Listed;
+use os_files::os_bytes::OsBytes;
 use std::alloc::Global;
 use std::vec::IntoIter;
 use wrap_base::answer::Output;

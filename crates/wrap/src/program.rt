@@ -6,7 +6,7 @@ ghost use Rattle.std.specs.Io.KnownBytes.{IsAtEnd};
 use crate::scenario::{ScenarioCall, ScenarioFault, read_scenario};
 use crate::script::ScriptTool;
 use crate::session::{Config, Session};
-use cmdlines_base::listed::Listed;
+use os_files::listed::Listed;
 use std::alloc::{AllocError, AllocFailed, Global};
 use std::io;
 use std::io::{ErrorKind, Read, Write};

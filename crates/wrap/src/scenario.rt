@@ -14,10 +14,10 @@
 ghost use Rattle.std.specs.Prelude.{◌≡◌};
 
 use crate::byte_text::{read_byte_text, read_hex};
-use cmdlines_base::file_time::FileTime;
-use cmdlines_base::listed::Listed;
-use cmdlines_base::memory_files::{MemoryFile, MemoryFiles};
-use cmdlines_base::os_bytes::OsBytes;
+use os_files::file_time::FileTime;
+use os_files::listed::Listed;
+use os_files::memory_files::{MemoryFile, MemoryFiles};
+use os_files::os_bytes::OsBytes;
 use serde_json::{Map, Value};
 use std::alloc::{AllocError, AllocFailed, Global};
 use wrap_base::request::{Compiler, Request};

@@ -1,7 +1,7 @@
 //! A tool with the behaviour of a short script, whose compiler and preprocessor print the same text.
 
 ghost use Rattle.std.specs.Prelude.{◌≡◌, ℤ, IfOk, IsErrOf, option_and_then};
-ghost use Rattle.cmdlines_base.specs.Bytes.{ticked};
+ghost use Rattle.os_files.specs.Bytes.{ticked};
 ghost use Rattle.cmdlines_base.specs.Reading.{reading};
 ghost use Rattle.wrap_base.specs.Meaning.{StepTicks, scene_of};
 ghost use Rattle.wrap_base.specs.SmallTable.{table_of};
@@ -9,8 +9,8 @@ ghost use Rattle.wrap.specs.Scripted.{scripted, text_of, input_of};
 
 use crate::scripting::{compiled, printed, text_of};
 use cmdlines_base::command::{ArtifactDescriptor, CCompilerKind, SingleCompileCommand};
-use cmdlines_base::files::{FileFail, Files};
-use cmdlines_base::os_bytes::OsBytes;
+use os_files::files::{FileFail, Files};
+use os_files::os_bytes::OsBytes;
 use std::alloc::Global;
 use wrap_base::preprocessor::{Preprocessor, Printed, Ticks, ToolFail};
 use wrap_base::tool::{Compiled, Tool};

@@ -2,7 +2,7 @@
 
 ghost use Rattle.std.specs.Prelude.{◌≡◌, ℤ, [], ◌∷◌, ◌++◌, IfOk, OnOk, IsErrOf, Some, None, if◌then◌else◌, map, option_and_then, codes};
 ghost use Rattle.std.specs.Option.{option_map};
-ghost use Rattle.cmdlines_base.specs.Bytes.{ticked};
+ghost use Rattle.os_files.specs.Bytes.{ticked};
 ghost use Rattle.cmdlines_base.specs.Reading.{reading};
 ghost use Rattle.wrap_base.specs.Meaning.{names_of, made_of, scene_of};
 ghost use Rattle.wrap_base.specs.SmallTable.{table_of};
@@ -16,10 +16,10 @@ use crate::lines::{included, push_with_end, split_line};
 use cmdlines_base::argument::{ArgParseError, Argument};
 use cmdlines_base::command::{ArtifactDescriptor, CCompilerKind, SingleCompileCommand};
 use cmdlines_base::cutting::ArgsIter;
-use cmdlines_base::files::{FileFail, Files};
-use cmdlines_base::listed::Listed;
-use cmdlines_base::os_bytes::OsBytes;
-use cmdlines_base::path::join;
+use os_files::files::{FileFail, Files};
+use os_files::listed::Listed;
+use os_files::os_bytes::OsBytes;
+use os_files::path::join;
 use cmdlines_base::table::SearchableArgInfo;
 use memchr::memmem;
 use std::alloc::{AllocError, Global};

@@ -9,7 +9,7 @@ ghost use Rattle.wrap_base.specs.Answers.{Says, IsPassed, OnPass, Compiles, outc
 
 use crate::steps::{compiled_outputs, preprocessed_text};
 use crate::verdict::{Verdict, judge};
-use cmdlines_base::files::Files;
+use os_files::files::Files;
 use std::alloc::Global;
 use wrap_base::answer::{Answer, How};
 use wrap_base::fault::Fault;

@@ -8,9 +8,9 @@ ghost use Rattle.wrap.specs.Steps.{PreprocessCause, CompileCause, RanOnce};
 
 use crate::commands::{compile_command, preprocess_command};
 use crate::outputs::collected;
-use cmdlines_base::files::Files;
-use cmdlines_base::listed::Listed;
-use cmdlines_base::os_bytes::OsBytes;
+use os_files::files::Files;
+use os_files::listed::Listed;
+use os_files::os_bytes::OsBytes;
 use std::alloc::Global;
 use wrap_base::answer::Output;
 use wrap_base::fault::Fault;

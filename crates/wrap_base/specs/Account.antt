@@ -1,8 +1,8 @@
 -- A call as plain values, and what it is to give.
 use Rattle.std.specs.Prelude.{◌≡◌, pos, List, [], ◌∷◌, Option, Some, None, if◌then◌else◌}
 use Rattle.std.specs.Ordering.{int_eq}
-use Rattle.cmdlines_base.specs.Bytes.{Bytes}
-use Rattle.cmdlines_base.specs.Tree.{Tree}
+use Rattle.os_files.specs.Bytes.{Bytes}
+use Rattle.os_files.specs.Tree.{Tree}
 use Rattle.cmdlines_base.specs.Reading.{reading}
 use Rattle.cmdlines_base.specs.declared.command.ArtifactDescriptor.{ArtifactDescriptor}
 use Rattle.cmdlines_base.specs.declared.command.CCompilerKind.{CCompilerKind}

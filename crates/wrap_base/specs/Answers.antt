@@ -1,6 +1,6 @@
 -- What an answer says of its call.
 use Rattle.std.specs.Prelude.{◌≡◌, ◌⊎◌, ℕ, List, Option, Some, None, Result, Ok, Err}
-use Rattle.cmdlines_base.specs.Bytes.{ticked}
+use Rattle.os_files.specs.Bytes.{ticked}
 use Rattle.wrap_base.specs.Verdict.{Why, why_of}
 use Rattle.wrap_base.specs.Account.{Account, passed, worked, why_passed, first_fault_of, fresh_outputs_of, IsFresh}
 use Rattle.wrap_base.specs.declared.answer.Answer.{Answer}

@@ -1,7 +1,7 @@
 -- The commands of a request.
 use Rattle.std.specs.Prelude.{◌≡◌, Bool, false, ◌||◌, ◌==◌, List, [], ◌∷◌, ◌++◌, map, codes, None}
 use Rattle.std.specs.List.{list_any}
-use Rattle.cmdlines_base.specs.Bytes.{Bytes}
+use Rattle.os_files.specs.Bytes.{Bytes}
 use Rattle.cmdlines_base.specs.Table.{Entry}
 use Rattle.cmdlines_base.specs.Reading.{Item, raw, unknown, flag, valued, reading}
 use Rattle.cmdlines_base.specs.Printing.{normal}

@@ -1,7 +1,7 @@
 -- What a tool means: one function of the step, what the compiler's table reads of the command, the outputs asked for and the scene.
 use Rattle.std.specs.Prelude.{◌≡◌, ℕ, ℤ, Bool, List, Option, map}
-use Rattle.cmdlines_base.specs.Bytes.{Bytes, ticked}
-use Rattle.cmdlines_base.specs.Tree.{Tree}
+use Rattle.os_files.specs.Bytes.{Bytes, ticked}
+use Rattle.os_files.specs.Tree.{Tree}
 use Rattle.cmdlines_base.specs.Reading.{Reading}
 use Rattle.cmdlines_base.specs.declared.command.SingleCompileCommand.{SingleCompileCommand}
 use Rattle.cmdlines_base.specs.declared.command.ArtifactDescriptor.{ArtifactDescriptor}

@@ -2,8 +2,8 @@
 use Rattle.std.specs.Prelude.{Bool, false, List, [], ◌∷◌, Option, None, Some, if◌then◌else◌, codes, find, string_bytes}
 use Rattle.std.specs.Option.{option_map}
 use Rattle.std.specs.Str.{bytes_eq}
-use Rattle.cmdlines_base.specs.Bytes.{Bytes}
-use Rattle.cmdlines_base.specs.Path.{file_name, extension, with_extension}
+use Rattle.os_files.specs.Bytes.{Bytes}
+use Rattle.os_files.specs.Path.{file_name, extension, with_extension}
 use Rattle.cmdlines_base.specs.Table.{Entry}
 use Rattle.cmdlines_base.specs.Reading.{Item, raw, unknown, flag, valued, Reading, reading}
 use Rattle.cmdlines_base.specs.declared.command.CCompilerKind.{CCompilerKind}

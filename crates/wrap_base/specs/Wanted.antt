@@ -1,7 +1,7 @@
 -- What the items of a reading want, list by list.
 use Rattle.std.specs.Prelude.{Bool, true, false, List, [], ◌∷◌, Option, None, Some, if◌then◌else◌, filter}
 use Rattle.std.specs.List.{flat_map, list_any}
-use Rattle.cmdlines_base.specs.Bytes.{Bytes}
+use Rattle.os_files.specs.Bytes.{Bytes}
 use Rattle.cmdlines_base.specs.Table.{Entry}
 use Rattle.cmdlines_base.specs.Reading.{Item, raw, unknown, flag, valued}
 use Rattle.cmdlines_base.specs.Printing.{is_empty_j, words_of}

@@ -1,8 +1,8 @@
 //! Answers.
 
 use crate::reason::Reason;
-use cmdlines_base::listed::Listed;
-use cmdlines_base::os_bytes::OsBytes;
+use os_files::listed::Listed;
+use os_files::os_bytes::OsBytes;
 
 /// Where outputs came from.
 #[derive(Clone, Copy, Debug, PartialEq, Eq)]

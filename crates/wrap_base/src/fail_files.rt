@@ -1,10 +1,10 @@
 //! For tests: files whose device fails at one call.
 
 ghost use Rattle.std.specs.Prelude.{◌≡◌, ◌⊎◌, ◌+◌, ◌%◌, ◌^◌, None, Some, IsErrOf};
-ghost use Rattle.cmdlines_base.specs.Bytes.{ticked};
+ghost use Rattle.os_files.specs.Bytes.{ticked};
 
-use cmdlines_base::files::{FileFail, Files, Metadata};
-use cmdlines_base::os_bytes::OsBytes;
+use os_files::files::{FileFail, Files, Metadata};
+use os_files::os_bytes::OsBytes;
 use std::alloc::Global;
 
 #[cfg(test)]

@@ -1,15 +1,15 @@
 //! For tests: a tool whose device fails at one call.
 
 ghost use Rattle.std.specs.Prelude.{◌≡◌, ◌⊎◌, ◌+◌, ◌%◌, ◌^◌, None, Some, OnOk, OnErr, IfErr};
-ghost use Rattle.cmdlines_base.specs.Bytes.{ticked};
+ghost use Rattle.os_files.specs.Bytes.{ticked};
 ghost use Rattle.wrap_base.specs.Meaning.{StepTicks};
 
 use crate::preprocessor::{Preprocessor, Printed, Ticks, ToolFail};
 use crate::step::Step;
 use crate::tool::{Compiled, Tool};
 use cmdlines_base::command::{ArtifactDescriptor, CCompilerKind, SingleCompileCommand};
-use cmdlines_base::files::Files;
-use cmdlines_base::os_bytes::OsBytes;
+use os_files::files::Files;
+use os_files::os_bytes::OsBytes;
 use std::alloc::Global;
 
 /// For tests: a tool whose device fails at one call, of whichever step. No call after it fails here.

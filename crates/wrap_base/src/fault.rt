@@ -3,7 +3,7 @@
 ghost use Rattle.std.specs.Prelude.{◌≡◌};
 
 use crate::step::Step;
-use cmdlines_base::os_bytes::OsBytes;
+use os_files::os_bytes::OsBytes;
 use std::alloc::{AllocError, AllocFailed};
 use std::fmt;
 

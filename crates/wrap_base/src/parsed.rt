@@ -1,8 +1,8 @@
 //! What a request asks for, by its words.
 
 use cmdlines_base::command::ArtifactDescriptor;
-use cmdlines_base::listed::Listed;
-use cmdlines_base::os_bytes::OsBytes;
+use os_files::listed::Listed;
+use os_files::os_bytes::OsBytes;
 
 /// The options of a request that can be cached.
 #[derive(Drop)]

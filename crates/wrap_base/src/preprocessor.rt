@@ -1,7 +1,7 @@
 //! Preprocessors.
 
 ghost use Rattle.std.specs.Prelude.{◌≡◌, ◌⊎◌, ℕ, [], ◌∷◌, Some, IfOk, IsErrOf};
-ghost use Rattle.cmdlines_base.specs.Bytes.{ticked};
+ghost use Rattle.os_files.specs.Bytes.{ticked};
 ghost use Rattle.cmdlines_base.specs.Reading.{reading};
 ghost use Rattle.wrap_base.specs.SmallTable.{table_of};
 ghost use Rattle.wrap_base.specs.Meaning.{Meaning, scene_of, made_of};
@@ -9,8 +9,8 @@ ghost use Rattle.wrap_base.specs.declared.step.Step.{Step};
 
 use crate::step::Step;
 use cmdlines_base::command::{CCompilerKind, SingleCompileCommand};
-use cmdlines_base::files::Files;
-use cmdlines_base::os_bytes::OsBytes;
+use os_files::files::Files;
+use os_files::os_bytes::OsBytes;
 use std::alloc::{AllocError, Global};
 
 /// What a preprocessor printed, and its status.

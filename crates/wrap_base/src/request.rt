@@ -4,8 +4,8 @@ ghost use Rattle.std.specs.Prelude.{◌≡◌};
 ghost use Rattle.wrap_base.specs.Commands.{kind_of, executable_of};
 
 use cmdlines_base::command::CCompilerKind;
-use cmdlines_base::listed::Listed;
-use cmdlines_base::os_bytes::OsBytes;
+use os_files::listed::Listed;
+use os_files::os_bytes::OsBytes;
 
 /// Which compiler is asked, and its executable.
 #[derive(Drop)]

@@ -1,7 +1,7 @@
 //! Tools: a compiler beside its preprocessor.
 
 ghost use Rattle.std.specs.Prelude.{◌≡◌, ◌⊎◌, IfOk, IsErrOf};
-ghost use Rattle.cmdlines_base.specs.Bytes.{ticked};
+ghost use Rattle.os_files.specs.Bytes.{ticked};
 ghost use Rattle.cmdlines_base.specs.Reading.{reading};
 ghost use Rattle.wrap_base.specs.SmallTable.{table_of};
 ghost use Rattle.wrap_base.specs.Meaning.{scene_of, made_of, names_of};
@@ -9,9 +9,9 @@ ghost use Rattle.wrap_base.specs.Meaning.{scene_of, made_of, names_of};
 use crate::preprocessor::{Preprocessor, ToolFail};
 use crate::step::Step;
 use cmdlines_base::command::{ArtifactDescriptor, CCompilerKind, SingleCompileCommand};
-use cmdlines_base::files::Files;
-use cmdlines_base::listed::Listed;
-use cmdlines_base::os_bytes::OsBytes;
+use os_files::files::Files;
+use os_files::listed::Listed;
+use os_files::os_bytes::OsBytes;
 use std::alloc::Global;
 
 /// What a compiler made, and its status.

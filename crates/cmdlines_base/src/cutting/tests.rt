@@ -5,7 +5,7 @@ ghost use Rattle.std.specs.Str.{is_utf8};
 
 use super::ArgsIter;
 use crate::argument::{ArgDisposition, ArgParseError, Argument, ArgumentValue};
-use crate::os_bytes::OsBytes;
+use os_files::os_bytes::OsBytes;
 use crate::table::{ArgInfo, Table};
 use std::alloc::{AllocError, Global};
 use std::fmt::Write;

@@ -1,9 +1,9 @@
 //! Each call fails in turn.
 
 use super::FailFiles;
-use cmdlines_base::files::{FileFail, Files};
-use cmdlines_base::memory_files::MemoryFiles;
-use cmdlines_base::os_bytes::OsBytes;
+use os_files::files::{FileFail, Files};
+use os_files::memory_files::MemoryFiles;
+use os_files::os_bytes::OsBytes;
 use std::alloc::Global;
 use std::test::Fail;
 

@@ -1,6 +1,6 @@
 use super::Fault;
 use crate::step::Step;
-use cmdlines_base::os_bytes::OsBytes;
+use os_files::os_bytes::OsBytes;
 use std::test::Fail;
 
 #[test]

@@ -1,5 +1,5 @@
 use Rattle.std.proofs.Common.{◌≡◌, List}
-use Rattle.cmdlines_base.specs.Bytes.{Bytes}
+use Rattle.os_files.specs.Bytes.{Bytes}
 use Rattle.wrap_base.specs.SmallTable.{table_of}
 use Rattle.wrap_base.specs.Commands.{kind_of, preprocess_words, own_preprocess_items, ReadsAsWanted}
 use Rattle.wrap_base.specs.Verdict.{verdict_of, asks}

@@ -1,0 +1,2 @@
+pub mod MemoryLookups
+pub mod PieceLaws

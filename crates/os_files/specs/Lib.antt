@@ -1,0 +1,5 @@
+pub mod Bytes
+pub mod Tree
+pub mod Fails
+pub mod MemoryTree
+pub mod Path
