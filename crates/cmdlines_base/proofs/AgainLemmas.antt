@@ -1,5 +1,5 @@
 -- What is written is read again.
-use Rattle.std.proofs.Common.{◌≡◌, ℕ, ◌≤◌, ◌<◌, List, [], ◌∷◌, ◌++◌, length, Option, None, Some, Bool, true, false, cond, ◌==◌, refl, ap, sym, subst, ◌∙◌, arith, unwrap_or, Contains, length-append, ◌⊎◌, inl, inr, append_assoc}
+use Rattle.std.proofs.Common.{◌≡◌, ℕ, ◌≤◌, ◌<◌, List, [], ◌∷◌, ◌++◌, length, Option, None, Some, Bool, true, false, cond, ◌==◌, refl, ap, sym, subst, ◌∙◌, arith, unwrap_or, Contains, length-append, option_and_then, ◌⊎◌, inl, inr, append_assoc}
 use Rattle.std.proofs.lemmas.List.{append-nil}
 use Rattle.std.proofs.lemmas.List.Elements.{All-contains}
 use Rattle.std.proofs.lemmas.Bool.Decides.{Decides-eqb}
@@ -7,12 +7,12 @@ use Rattle.std.specs.Option.{option_map_or}
 use Rattle.std.specs.List.{AllByRecursion}
 use Rattle.cmdlines_base.specs.declared.argument.ArgDisposition.{ArgDisposition}
 use Rattle.cmdlines_base.specs.declared.argument.ArgDisposition.TheVariants.{Separated, CanBeConcatenated, CanBeSeparated, Concatenated}
-use Rattle.cmdlines_base.specs.Table.{Entry, behind, may_follow, joins, delimiter_allows, Fits, longest_fit, IsEntryOf}
+use Rattle.cmdlines_base.specs.Table.{Entry, behind, may_follow, joined_by, delimiter_allows, Fits, longest_fit, NoLonger}
 use Rattle.cmdlines_base.specs.Reading.{Item, raw, unknown, flag, valued, Start, whole, awaits, loose, value_in, start_as, start_either, first_by, first_word, reading, before, from_last, from_first}
 use Rattle.cmdlines_base.specs.Printing.{is_j, is_empty_j, either_way, printed, joined, normal, words_of}
 use Rattle.cmdlines_base.specs.Again.{IsClear, ReadsAgain, ReadsTogether, AllReadAgain}
 use Rattle.cmdlines_base.proofs.ReadingLemmas.{reading-alone, reading-with_value}
-use Rattle.cmdlines_base.proofs.TableLemmas.{IsEntryOf-longest_fit, behind-append, Unfit, AtMost}
+use Rattle.cmdlines_base.proofs.TableLemmas.{IsLongestOf, IsLongestOf-longest_fit, behind-append, Unfit}
 
 -- two fronts of one word, the second no shorter: it goes on from the first
 pub front_longer : (a b r s : List ℕ) → a ++ r ≡ b ++ s → length a ≤ length b → (more : List ℕ) × (b ≡ a ++ more)
@@ -43,13 +43,13 @@ first_allowed d (b ∷ bs) = delimiter_allows d b
 module _ {K : Type 0} (table : List (Entry K)) (clear : IsClear table) where
   -- an entry that fits, and than which no fitting entry is longer, is what a search gives
   pub longest_unique : (word : List ℕ) (e : Entry K) → Contains table e → Fits e word → ((y : Entry K) → Contains table y → Fits y word → length y.flag ≤ length e.flag) → longest_fit table word ≡ Some e
-  longest_unique word e among fit most = by (longest_fit table word) refl (IsEntryOf-longest_fit table word)
+  longest_unique word e among fit most = by (longest_fit table word) refl (IsLongestOf-longest_fit table word)
     where
-      by : (r : Option (Entry K)) → longest_fit table word ≡ r → IsEntryOf table word r → longest_fit table word ≡ Some e
+      by : (r : Option (Entry K)) → longest_fit table word ≡ r → IsLongestOf table word r → longest_fit table word ≡ Some e
       by None q d = absurd (All-contains (Unfit word) table e d among fit)
       by (Some d) q h =
           let up : length d.flag ≤ length e.flag = most d h.among h.fits in
-          let down : length e.flag ≤ length d.flag = All-contains (AtMost word d) table e h.longest among fit in
+          let down : length e.flag ≤ length d.flag = All-contains (NoLonger word d) table e h.longest among fit in
           let long : length d.flag ≡ length e.flag = omega arith in
           let same : d.flag ≡ e.flag = front_same d.flag e.flag h.fits.0 fit.0 (sym h.fits.1 ∙ fit.1) long in
           q ∙ ap Some (clear.one d e h.among among same)
@@ -146,7 +146,7 @@ module _ {K : Type 0} (table : List (Entry K)) (clear : IsClear table) where
   start_again : (f : List ℕ) (k : K) (t : Option ArgDisposition) (r : List ℕ)
       → first_word table f ≡ start_as f k t []
       → first_word table (f ++ r) ≡ start_as f k t r
-      → ((x : ℕ) (xs : List ℕ) → length f ≡ 2 → option_map_or either_way t false ≡ true → option_map_or (λ d. joins d x) t false ≡ true → first_word table (f ++ x ∷ xs) ≡ start_as f k t (x ∷ xs))
+      → ((x : ℕ) (xs : List ℕ) → length f ≡ 2 → option_map_or either_way t false ≡ true → option_map_or (λ d. delimiter_allows d x) (option_and_then joined_by t) false ≡ true → first_word table (f ++ x ∷ xs) ≡ start_as f k t (x ∷ xs))
       → option_map_or is_j (longest_fit table f) false ≡ option_map_or either_way t false
       → may_follow (record { flag = f; kind = k; takes = t }) r ≡ true
       → ReadsStart (start_as f k t r)
@@ -172,9 +172,9 @@ module _ {K : Type 0} (table : List (Entry K)) (clear : IsClear table) where
 
   -- each word
   pub starts : (word : List ℕ) → ReadsStart (first_word table word)
-  starts word = by (longest_fit table word) refl (IsEntryOf-longest_fit table word)
+  starts word = by (longest_fit table word) refl (IsLongestOf-longest_fit table word)
     where
-      by : (o : Option (Entry K)) → longest_fit table word ≡ o → IsEntryOf table word o → ReadsStart (first_word table word)
+      by : (o : Option (Entry K)) → longest_fit table word ≡ o → IsLongestOf table word o → ReadsStart (first_word table word)
       by None q h =
           let first : first_word table word ≡ whole (loose word) = ap (λ o. first_by o word) q in
           subst ReadsStart (sym first) (λ full. loose_again word first)

@@ -1,5 +1,5 @@
 -- Which entry of a table a word has.
-use Rattle.std.specs.Prelude.{◌≡◌, ℕ, ◌≤◌, Bool, true, false, ◌&&◌, ◌==◌, nat_lt, List, [], ◌∷◌, ◌++◌, length, Option, None, Some, IsTrue, if◌then◌else◌, map, Contains, All}
+use Rattle.std.specs.Prelude.{◌≡◌, ℕ, ◌≤◌, ◌<◌, Bool, true, false, ◌&&◌, ◌==◌, nat_lt, List, [], ◌∷◌, ◌++◌, length, Option, None, Some, IsTrue, if◌then◌else◌, map, Contains, All, option_and_then}
 use Rattle.std.specs.Option.{option_map_or, option_map}
 use Rattle.std.specs.Borrow.{Bor}
 use Rattle.os_files.specs.Bytes.{Bytes}
@@ -38,16 +38,20 @@ abbrev pub delimiter_allows : Option ℕ → ℕ → Bool
 delimiter_allows None b = true
 delimiter_allows (Some d) b = b == d
 
-abbrev pub joins : ArgDisposition → ℕ → Bool
-joins Separated b = false
-joins (CanBeConcatenated d) b = delimiter_allows d b
-joins (CanBeSeparated d) b = delimiter_allows d b
-joins (Concatenated d) b = delimiter_allows d b
+-- how a value may be joined: None where it may not
+abbrev pub joined_by : ArgDisposition → Option (Option ℕ)
+joined_by Separated = None
+joined_by (CanBeConcatenated d) = Some d
+joined_by (CanBeSeparated d) = Some d
+joined_by (Concatenated d) = Some d
+
+abbrev pub joins_by : {K : Type 0} → Entry K → Option (Option ℕ)
+joins_by e = option_and_then joined_by e.takes
 
 -- whether this may stand behind the entry's flag in the same word
 abbrev pub may_follow : {K : Type 0} → Entry K → Bytes → Bool
 may_follow e [] = true
-may_follow e (b ∷ bs) = option_map_or (λ d. joins d b) e.takes false
+may_follow e (b ∷ bs) = option_map_or (λ d. delimiter_allows d b) (joins_by e) false
 
 -- The word is the flag, or the flag begins the word, the disposition may join, and the delimiter, if any, comes next.
 abbrev pub fits : {K : Type 0} → Entry K → Bytes → Bool
@@ -68,29 +72,41 @@ longest_fit (e ∷ es) word = longer (if fits e word then Some e else None) (lon
 abbrev pub Fits : {K : Type 0} → Entry K → Bytes → Type 0
 Fits e word = (rest : Bytes) × (word ≡ e.flag ++ rest) × IsTrue (may_follow e rest)
 
--- It is in the table and fits, and no fitting entry has a longer flag.
-pub record IsLongestFit {K : Type 0} (entries : List (Entry K)) (word : Bytes) (e : Entry K) : Type 0 where
-  pub among : Contains entries e
-  pub fits : Fits e word
-  pub longest : All (λ other. Fits other word → length other.flag ≤ length e.flag) entries
+-- all entries of tables, in order
+abbrev pub all_entries : {K : Type 0} → List (List (Entry K)) → List (Entry K)
+all_entries [] = []
+all_entries (t ∷ []) = t
+all_entries (t ∷ u ∷ us) = t ++ all_entries (u ∷ us)
 
-abbrev pub IsEntryOf : {K : Type 0} → List (Entry K) → Bytes → Option (Entry K) → Type 0
-IsEntryOf entries word None = All (λ e. ¬ Fits e word) entries
-IsEntryOf entries word (Some e) = IsLongestFit entries word e
+-- a flag that fits is no longer than that of this entry, and is shorter
+abbrev pub NoLonger : {K : Type 0} → Bytes → Entry K → Entry K → Type 0
+NoLonger word e other = Fits other word → length other.flag ≤ length e.flag
+
+abbrev pub Shorter : {K : Type 0} → Bytes → Entry K → Entry K → Type 0
+Shorter word e other = Fits other word → length other.flag < length e.flag
+
+-- It stands in one of the tables and fits, no fitting entry has a longer flag, and none of a later table has one as long.
+pub record IsLongestFit {K : Type 0} (tables : List (List (Entry K))) (word : Bytes) (e : Entry K) : Type 0 where
+  pub before : List (List (Entry K))
+  pub table : List (Entry K)
+  pub later : List (List (Entry K))
+  pub stands : tables ≡ before ++ table ∷ later
+  pub among : Contains table e
+  pub fits : Fits e word
+  pub longest : All (NoLonger word e) (all_entries tables)
+  pub latest : All (Shorter word e) (all_entries later)
+
+abbrev pub IsEntryOf : {K : Type 0} → List (List (Entry K)) → Bytes → Option (Entry K) → Type 0
+IsEntryOf tables word None = All (λ e. ¬ Fits e word) (all_entries tables)
+IsEntryOf tables word (Some e) = IsLongestFit tables word e
 
 -- Tables: flags rise strictly, and delimiters are ASCII.
 abbrev pub is_ascii_delimiter : Option ℕ → Bool
 is_ascii_delimiter None = true
 is_ascii_delimiter (Some d) = nat_lt d 128
 
-abbrev pub ascii_disposition : ArgDisposition → Bool
-ascii_disposition Separated = true
-ascii_disposition (CanBeConcatenated d) = is_ascii_delimiter d
-ascii_disposition (CanBeSeparated d) = is_ascii_delimiter d
-ascii_disposition (Concatenated d) = is_ascii_delimiter d
-
 abbrev pub has_ascii : {K : Type 0} → Entry K → Bool
-has_ascii e = option_map_or ascii_disposition e.takes true
+has_ascii e = option_map_or is_ascii_delimiter (joins_by e) true
 
 -- the next flag, if there is one, is above this one
 abbrev pub rises_to : {K : Type 0} → Entry K → List (Entry K) → Bool

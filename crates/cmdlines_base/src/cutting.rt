@@ -4,7 +4,7 @@ ghost use Rattle.std.specs.Prelude.{◌≡◌, List, [], length, IfOk, IfErr, fa
 ghost use Rattle.std.specs.Iterator.{at_most};
 ghost use Rattle.os_files.specs.Bytes.{Bytes};
 ghost use Rattle.cmdlines_base.specs.Refusal.{OnRefusal};
-ghost use Rattle.cmdlines_base.specs.Table.{Entry, entry_at};
+ghost use Rattle.cmdlines_base.specs.Table.{Entry, entry_at, all_entries};
 ghost use Rattle.cmdlines_base.specs.Reading.{loose, value_in, first_by, reading, Reading, Reads};
 ghost use Rattle.cmdlines_base.specs.Cutting.{words_left, table_in};
 ghost use Rattle.cmdlines_base.specs.Values.{values_by, IsOf, IsFirst, IsRefused, Steps};
@@ -111,7 +111,7 @@ impl<'a, T: ArgumentValue, S: SearchableArgInfo<T>> ArgsIter<'a, T, S> {
 impl<'a, T: ArgumentValue, S: SearchableArgInfo<T>> Iterator for ArgsIter<'a, T, S> {
     type Item = Result<Argument<T>, ArgParseError>;
 
-    ghost next_gives = { λ s r t. Steps (values_by T.flag_value T.word_value T.refuses) (S.entries (table_in s)) (words_left s) r (words_left t) × (table_in t ≡ table_in s) };
+    ghost next_gives = { λ s r t. Steps (values_by T.flag_value T.word_value T.refuses) (all_entries (S.tables (table_in s))) (words_left s) r (words_left t) × (table_in t ≡ table_in s) };
 
     ghost remaining = { λ s. at_most (length (words_left s)) };
 

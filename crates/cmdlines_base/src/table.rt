@@ -1,11 +1,12 @@
 //! Tables of options, and the search for the longest flag that fits a word.
 
-ghost use Rattle.std.specs.Prelude.{◌≡◌, List, ◌++◌, if◌then◌else◌};
+ghost use Rattle.std.specs.Prelude.{◌≡◌, List, [], ◌∷◌, ◌++◌, if◌then◌else◌};
+ghost use Rattle.std.specs.List.{list_all};
 ghost use Rattle.std.specs.Option.{option_copied};
 ghost use Rattle.os_files.specs.Bytes.{Bytes};
-ghost use Rattle.cmdlines_base.specs.Table.{Entry, entry_of, entry_at, entries_of, fits, has_ascii, rises_to, is_table, longer, longest_fit, IsEntryOf, behind};
+ghost use Rattle.cmdlines_base.specs.Table.{Entry, entry_of, entry_at, entries_of, fits, joins_by, has_ascii, rises_to, is_table, longer, all_entries, longest_fit, IsEntryOf, behind};
 
-use crate::argument::{ArgDisposition, ArgumentValue};
+use crate::argument::{ArgDisposition, ArgumentValue, Delimiter};
 use std::marker::Model;
 
 /// An entry of a table: a flag that stands alone, or one that takes a value.
@@ -32,27 +33,32 @@ impl<T: ArgumentValue> ArgInfo<T> {
         }
     }
 
+    /// How the value may be joined to the flag, and None where it may not: a byte that comes between, or nothing.
+    fn joins_by(&self) -> Option<Delimiter>
+        ensures { result ≡ joins_by (entry_of self.now) }
+    {
+        match self {
+            ArgInfo::Flag(_, _) | ArgInfo::TakeArg(_, _, ArgDisposition::Separated) => None,
+            ArgInfo::TakeArg(_, _, ArgDisposition::CanBeConcatenated(delimiter))
+            | ArgInfo::TakeArg(_, _, ArgDisposition::CanBeSeparated(delimiter))
+            | ArgInfo::TakeArg(_, _, ArgDisposition::Concatenated(delimiter)) => Some(*delimiter),
+        }
+    }
+
     /// Whether the word is the flag, or the flag with its value behind it.
     pub fn fits(&self, word: &[u8]) -> bool
         ensures { result ≡ fits (entry_of self.now) word.now }
     {
-        match behind(self.flag().as_bytes(), word) {
+        let Some(rest) = behind(self.flag().as_bytes(), word) else {
+            return false;
+        };
+        let Some(next) = rest.first() else {
+            return true;
+        };
+        match self.joins_by() {
             None => false,
-            Some(rest) => match rest.first() {
-                None => true,
-                Some(next) => match self {
-                    ArgInfo::Flag(_, _) => false,
-                    ArgInfo::TakeArg(_, _, disposition) => match disposition {
-                        ArgDisposition::Separated => false,
-                        ArgDisposition::CanBeConcatenated(delimiter)
-                        | ArgDisposition::CanBeSeparated(delimiter)
-                        | ArgDisposition::Concatenated(delimiter) => match delimiter {
-                            None => true,
-                            Some(byte) => *next == *byte,
-                        },
-                    },
-                },
-            },
+            Some(None) => true,
+            Some(Some(delimiter)) => *next == delimiter,
         }
     }
 
@@ -60,17 +66,9 @@ impl<T: ArgumentValue> ArgInfo<T> {
     fn has_ascii(&self) -> bool
         ensures { result ≡ has_ascii (entry_of self.now) }
     {
-        match self {
-            ArgInfo::Flag(_, _) => true,
-            ArgInfo::TakeArg(_, _, disposition) => match disposition {
-                ArgDisposition::Separated => true,
-                ArgDisposition::CanBeConcatenated(delimiter)
-                | ArgDisposition::CanBeSeparated(delimiter)
-                | ArgDisposition::Concatenated(delimiter) => match delimiter {
-                    None => true,
-                    Some(byte) => *byte < 128,
-                },
-            },
+        match self.joins_by() {
+            Some(Some(delimiter)) => delimiter < 128,
+            _ => true,
         }
     }
 
@@ -92,18 +90,10 @@ fn longer<'a, T: ArgumentValue>(
 ) -> Option<&'a ArgInfo<T>>
     ensures { entry_at result ≡ longer (entry_at a.entry) (entry_at b.entry) }
 {
-    match b {
-        None => a,
-        Some(e) => match a {
-            None => Some(e),
-            Some(d) => {
-                if e.flag().len() < d.flag().len() {
-                    Some(d)
-                } else {
-                    Some(e)
-                }
-            }
-        },
+    match (a, b) {
+        (Some(first), Some(second)) if second.flag().len() < first.flag().len() => Some(first),
+        (a, None) => a,
+        (_, b) => b,
     }
 }
 
@@ -153,16 +143,21 @@ impl<T: ArgumentValue> Table<T> {
 
 /// What is searched for the entry of a word.
 pub trait SearchableArgInfo<T: ArgumentValue> {
-    /// All its entries; of those with equal flags the last one stands.
-    ghost entries: { Self → List (Entry T.Kind) };
+    /// Its tables, in order.
+    ghost tables: { Self → List (List (Entry T.Kind)) };
 
-    /// The entry of the word: the fitting one with the longest flag.
+    /// The entry of the word: the fitting one with the longest flag, and of two with equal flags that of the later
+    /// table. It takes no memory.
     fn search(&self, word: &[u8]) -> Option<&ArgInfo<T>>
-        ensures { entry_at result ≡ longest_fit (entries self.now) word.now };
+        ensures { entry_at result ≡ longest_fit (all_entries (tables self.now)) word.now };
+
+    /// Whether in each of the tables flags rise strictly and delimiters are ASCII. It takes no memory.
+    fn check(&self) -> bool
+        ensures { result ≡ list_all is_table (tables self.now) };
 }
 
 impl<T: ArgumentValue> SearchableArgInfo<T> for Table<T> {
-    ghost entries = { λ t. t };
+    ghost tables = { λ t. t ∷ [] };
 
     fn search(&self, word: &[u8]) -> Option<&ArgInfo<T>> {
         let mut best = None;
@@ -175,10 +170,28 @@ impl<T: ArgumentValue> SearchableArgInfo<T> for Table<T> {
         }
         best
     }
+
+    fn check(&self) -> bool {
+        is_table(self.entries.as_slice())
+    }
 }
 
-/// The longest fit in the words of the subject: an entry of the table that fits, and no fitting entry has a longer
-/// flag; and there is none only where nothing fits.
-pub fn longest_fit_is_longest<T: ArgumentValue>()
-    ensures { (entries : List (Entry T.Kind)) (word : Bytes) → IsEntryOf entries word (longest_fit entries word) }
+/// Two tables, or what else is searched: the entry with the longer flag is that of the word, and the second's on equal
+/// flags.
+impl<T: ArgumentValue, A: SearchableArgInfo<T>, B: SearchableArgInfo<T>> SearchableArgInfo<T> for (A, B) {
+    ghost tables = { λ t. A.tables t.0 ++ B.tables t.1 };
+
+    fn search(&self, word: &[u8]) -> Option<&ArgInfo<T>> {
+        longer(self.0.search(word), self.1.search(word))
+    }
+
+    fn check(&self) -> bool {
+        self.0.check() && self.1.check()
+    }
+}
+
+/// The entry of a word in the words of the subject: it stands in one of the tables and fits, no fitting entry has a
+/// longer flag, and none of a later table has the same; and there is none only where nothing fits.
+pub fn entry_has_the_longest_flag<T: ArgumentValue>()
+    ensures { (tables : List (List (Entry T.Kind))) (word : Bytes) → IsEntryOf tables word (longest_fit (all_entries tables) word) }
 {}

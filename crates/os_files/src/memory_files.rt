@@ -96,9 +96,9 @@ impl Files for MemoryFiles {
 
     ghost fails_on = { λ _ _ _. ⊥ };
 
-    fn read(&mut self, alloc: Global, path: &OsBytes) -> Result<Option<OsBytes>, FileFail> {
+    fn read(&mut self, _alloc: Global, path: &OsBytes) -> Result<Option<OsBytes>, FileFail> {
         match self.find(path) {
-            Some(file) => Ok(Some(file.contents.clone(alloc)?)),
+            Some(file) => Ok(Some(file.contents.clone()?)),
             None => Ok(None),
         }
     }
@@ -117,9 +117,9 @@ impl Files for MemoryFiles {
         Ok(self.find(path).is_some())
     }
 
-    fn canonical(&mut self, alloc: Global, path: &OsBytes) -> Result<Option<OsBytes>, FileFail> {
+    fn canonical(&mut self, _alloc: Global, path: &OsBytes) -> Result<Option<OsBytes>, FileFail> {
         match self.find(path) {
-            Some(_) => Ok(Some(path.clone(alloc)?)),
+            Some(_) => Ok(Some(path.clone()?)),
             None => Ok(None),
         }
     }

@@ -65,12 +65,13 @@ impl OsBytes {
     {
         self.bytes.as_slice()
     }
+}
 
-    /// Another string of the same bytes.
-    pub fn clone(&self, alloc: Global) -> Result<OsBytes, AllocError>
-        ensures { IfOk result (λ copy. copy ≡ self.now) }
-    {
-        OsBytes::from_slice(alloc, self.as_bytes())
+impl Clone for OsBytes {
+    ghost is_clone = { λ bytes copy. copy ≡ bytes };
+
+    fn clone(&self) -> Result<OsBytes, AllocError> {
+        OsBytes::from_slice(*self.bytes.allocator(), self.as_bytes())
     }
 }
 
@@ -109,6 +110,13 @@ impl Ord for OsBytes {
 
     fn cmp(&self, other: &OsBytes) -> Ordering {
         self.as_bytes().cmp(other.as_bytes())
+    }
+}
+
+/// The bytes between quotes, each that isn't printable ASCII escaped.
+impl fmt::Debug for OsBytes {
+    fn fmt<W: fmt::Write>(&self, f: &mut fmt::Formatter<W>) -> fmt::Result {
+        write!(f, "\"{}\"", self.as_bytes().escape_ascii())
     }
 }
 

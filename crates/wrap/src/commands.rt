@@ -21,7 +21,7 @@ fn append(alloc: Global, words: &mut Vec<OsBytes>, more: &[OsBytes]) -> Result<(
     ensures { OnOk result (words.new.items ≡ words.old.items ++ more.now) }
 {
     for word in more {
-        words.push(word.clone(alloc)?)?;
+        words.push(word.clone()?)?;
     }
     Ok(())
 }
@@ -87,7 +87,7 @@ fn copied_env(
 {
     let mut copy = Vec::with_capacity(alloc, env.len())?;
     for (name, value) in env {
-        copy.push((name.clone(alloc)?, value.clone(alloc)?))?;
+        copy.push((name.clone()?, value.clone()?))?;
     }
     Ok(Listed::from_vec(copy))
 }
@@ -101,10 +101,10 @@ fn command_of(
     ensures { IfOk result (λ command. command ≡ command_of request.now words) }
 {
     Ok(SingleCompileCommand {
-        executable: request.compiler.executable().clone(alloc)?,
+        executable: request.compiler.executable().clone()?,
         arguments: words,
         env_vars: copied_env(alloc, request.env.as_slice())?,
-        cwd: request.dir.clone(alloc)?,
+        cwd: request.dir.clone()?,
     })
 }
 

@@ -36,13 +36,13 @@ pub fn collected(
     for (name, artifact) in outputs {
         match next_file(&mut rest) {
             Some(contents) => map.push(Output {
-                name: name.clone(alloc)?,
-                path: artifact.path.clone(alloc)?,
+                name: name.clone()?,
+                path: artifact.path.clone()?,
                 contents,
             })?,
             None => {
                 if !artifact.optional {
-                    return Err(Fault::MissingOutput(name.clone(alloc)?));
+                    return Err(Fault::MissingOutput(name.clone()?));
                 }
             }
         }

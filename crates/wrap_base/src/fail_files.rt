@@ -52,7 +52,7 @@ impl<F> FailFiles<F> {
         if self.failed_name.is_some() {
             return Ok(());
         }
-        self.failed_name = Some(path.clone(alloc)?);
+        self.failed_name = Some(path.clone()?);
         self.failed = self.failed.wrapping_add(1);
         Err(FileFail::Device)
     }

@@ -19,10 +19,10 @@ fn files(alloc: Global, source: &OsBytes) -> Result<MemoryFiles, AllocError> {
     let mut files = MemoryFiles::new(alloc);
     let early = FileTime::from_seconds(1);
     let header = OsBytes::from_slice(alloc, b"/w/foo.h")?;
-    files.insert(source.clone(alloc)?, file(alloc, b"old", early)?)?;
+    files.insert(source.clone()?, file(alloc, b"old", early)?)?;
     files.insert(header, file(alloc, b"", early)?)?;
     let late = FileTime::from_seconds(-5);
-    files.insert(source.clone(alloc)?, file(alloc, b"int x;\n", late)?)?;
+    files.insert(source.clone()?, file(alloc, b"int x;\n", late)?)?;
     Ok(files)
 }
 

@@ -20,6 +20,14 @@ fn prints_what_is_no_text_by_a_sign(rt: HostRuntime) -> Result<(), Fail> {
 }
 
 #[test]
+fn shows_what_is_not_printable_escaped(rt: HostRuntime) -> Result<(), Fail> {
+    let alloc = rt.alloc();
+    let text = format!(in alloc; "{:?}", OsBytes::from_slice(alloc, b"a \"\n\xff")?)?;
+    assert_eq!(rt; text.as_str(), r#""a \"\n\xff""#);
+    Ok(())
+}
+
+#[test]
 fn compares_by_bytes(rt: HostRuntime) -> Result<(), Fail> {
     let alloc = rt.alloc();
     for (a, b, order) in [
@@ -41,7 +49,7 @@ fn compares_by_bytes(rt: HostRuntime) -> Result<(), Fail> {
 fn keeps_its_bytes(rt: HostRuntime) -> Result<(), Fail> {
     let alloc = rt.alloc();
     let name = OsBytes::from_vec(b"a\xff".to_vec(alloc)?);
-    let copy = name.clone(alloc)?;
+    let copy = name.clone()?;
     assert_eq!(rt; copy.as_bytes(), b"a\xff".as_slice());
     assert_eq!(rt; name.into_vec().as_slice(), b"a\xff".as_slice());
     assert!(rt; OsBytes::empty(alloc).as_bytes().is_empty());
