@@ -1,5 +1,7 @@
 pub mod TableLemmas
 pub mod ReadingLemmas
+pub mod SplittingLemmas
+pub mod TakeLemmas
 pub mod StepLemmas
 pub mod AgainLemmas
 pub mod ClearLemmas

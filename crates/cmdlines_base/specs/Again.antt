@@ -14,13 +14,13 @@ pub record IsClear {K : Type 0} (table : List (Entry K)) : Type 0 where
 -- Whatever follows, the item's words are read as an item that is normally written alike.
 pub record ReadsAgain {K : Type 0} (table : List (Entry K)) (a : Item K) : Type 0 where
   pub item : Item K
-  pub reads : (rest : List (Bytes)) → reading table (printed (normal a) ++ rest) ≡ before item (reading table rest)
+  pub reads : (rest : List (Bytes)) → reading false table (printed (normal a) ++ rest) ≡ before item (reading false table rest)
   pub alike : normal item ≡ normal a
 
 -- Written one after another, whatever follows, the items are read as items that are normally written alike.
 pub record ReadsTogether {K : Type 0} (table : List (Entry K)) (items : List (Item K)) (rest : List Bytes) : Type 0 where
   pub found : List (Item K)
-  pub reads : reading table (words_of items ++ rest) ≡ all_before found (reading table rest)
+  pub reads : reading false table (words_of items ++ rest) ≡ all_before found (reading false table rest)
   pub alike : map normal found ≡ map normal items
 
 -- each of the items reads again

@@ -2,6 +2,8 @@
 use Rattle.std.specs.Prelude.{ℕ, Bool, true, false, ◌==◌, List, [], ◌∷◌, ◌++◌, Option, None, Some, if◌then◌else◌, length}
 use Rattle.cmdlines_base.specs.declared.argument.ArgDisposition.{ArgDisposition}
 use Rattle.cmdlines_base.specs.declared.argument.ArgDisposition.TheVariants.{Separated, CanBeConcatenated, CanBeSeparated, Concatenated}
+use Rattle.cmdlines_base.specs.declared.argument.NormalizedDisposition.{NormalizedDisposition}
+use Rattle.cmdlines_base.specs.declared.argument.NormalizedDisposition.TheVariants as wanted
 use Rattle.std.specs.List.{flat_map}
 use Rattle.std.specs.Option.{option_map_or}
 use Rattle.os_files.specs.Bytes.{Bytes}
@@ -26,12 +28,21 @@ printed (unknown w) = w ∷ []
 printed (flag f k) = f ∷ []
 printed (valued f k v d) = printed_as f v d
 
--- A value that may stand either way stands joined where the flag has two bytes, else apart.
+-- A value that may stand either way stands as is wanted; any other stays.
+abbrev pub normalized_disposition : NormalizedDisposition → ArgDisposition → ArgDisposition
+normalized_disposition wanted Separated = Separated
+normalized_disposition wanted (Concatenated d) = Concatenated d
+normalized_disposition wanted.Separated (CanBeConcatenated d) = Separated
+normalized_disposition wanted.Separated (CanBeSeparated d) = Separated
+normalized_disposition wanted.Concatenated (CanBeConcatenated d) = Concatenated d
+normalized_disposition wanted.Concatenated (CanBeSeparated d) = Concatenated d
+
+-- It is wanted joined where the flag has two bytes, else apart.
+abbrev pub wanted_behind : Bytes → NormalizedDisposition
+wanted_behind name = if length name == 2 then wanted.Concatenated else wanted.Separated
+
 abbrev pub normal_disposition : Bytes → ArgDisposition → ArgDisposition
-normal_disposition name Separated = Separated
-normal_disposition name (CanBeConcatenated d) = if length name == 2 then Concatenated d else Separated
-normal_disposition name (CanBeSeparated d) = if length name == 2 then Concatenated d else Separated
-normal_disposition name (Concatenated d) = Concatenated d
+normal_disposition name d = normalized_disposition (wanted_behind name) d
 
 abbrev pub normal : {K : Type 0} → Item K → Item K
 normal (raw w) = raw w

@@ -1,5 +1,6 @@
 -- How a table cuts words into arguments.
-use Rattle.std.specs.Prelude.{◌≡◌, Bool, true, false, ◌==◌, List, [], ◌∷◌, ◌++◌, Option, None, Some, if◌then◌else◌, unwrap_or, ℕ}
+use Rattle.std.specs.Prelude.{◌≡◌, Bool, true, false, ◌&&◌, ◌==◌, codes, map, List, [], ◌∷◌, ◌++◌, Option, None, Some, if◌then◌else◌, unwrap_or, ℕ}
+use Rattle.std.specs.Str.{bytes_eq}
 use Rattle.os_files.specs.Bytes.{Bytes}
 use Rattle.cmdlines_base.specs.declared.argument.ArgDisposition.{ArgDisposition}
 use Rattle.cmdlines_base.specs.declared.argument.ArgDisposition.TheVariants.{Separated, CanBeConcatenated, CanBeSeparated, Concatenated}
@@ -12,10 +13,11 @@ pub data Item (K : Type 0) : Type 0 where
   flag : Bytes → K → Item K
   valued : Bytes → K → Bytes → ArgDisposition → Item K
 
--- What a word makes by itself: an item, or a flag whose value is the next word.
+-- What a word makes by itself: an item, or a flag whose value is the next word, or the end of the options.
 pub data Start (K : Type 0) : Type 0 where
   whole : Item K → Start K
   awaits : Bytes → K → ArgDisposition → Start K
+  ends : Start K
 
 -- a word that nothing fits: 45 is '-'
 abbrev pub loose : {K : Type 0} → Bytes → Item K
@@ -45,9 +47,12 @@ abbrev pub first_by : {K : Type 0} → Option (Entry K) → Bytes → Start K
 first_by None word = whole (loose word)
 first_by (Some e) word = start_as e.flag e.kind e.takes (unwrap_or (behind e.flag word) [])
 
--- what a word makes by its entry in the table
-abbrev pub first_word : {K : Type 0} → List (Entry K) → Bytes → Start K
-first_word table word = first_by (longest_fit table word) word
+abbrev pub is_double_dash : Bytes → Bool
+is_double_dash word = bytes_eq word (codes "--")
+
+-- What a word makes by its entry in the table; where double dashes end the options, they do that.
+abbrev pub first_word : {K : Type 0} → Bool → List (Entry K) → Bytes → Start K
+first_word dashes table word = if dashes && is_double_dash word then ends else first_by (longest_fit table word) word
 
 -- the items, and whether the words end where a value should come
 pub record Reading (K : Type 0) : Type 0 where
@@ -68,26 +73,33 @@ unfinished f k Separated = record { items = []; cut_short = true }
 unfinished f k (CanBeSeparated d) = record { items = []; cut_short = true }
 unfinished f k (Concatenated d) = record { items = []; cut_short = true }
 
--- The reading of words, rule by rule: each word is an item by itself, or a flag that takes the next word for its value, or a flag at the end that lacks one.
-pub data Reads {K : Type 0} (table : List (Entry K)) : List Bytes → Reading K → Type 0 where
-  at_end : Reads table [] nothing
-  alone : {word : Bytes} {words : List Bytes} {item : Item K} {r : Reading K} → first_word table word ≡ whole item → Reads table words r → Reads table (word ∷ words) (before item r)
-  with_value : {word value : Bytes} {words : List Bytes} {f : Bytes} {k : K} {d : ArgDisposition} {r : Reading K} → first_word table word ≡ awaits f k d → Reads table words r → Reads table (word ∷ value ∷ words) (before (valued f k value d) r)
-  lacking : {word : Bytes} {f : Bytes} {k : K} {d : ArgDisposition} → first_word table word ≡ awaits f k d → Reads table (word ∷ []) (unfinished f k d)
+-- words that are all loose
+abbrev pub all_loose : {K : Type 0} → List Bytes → Reading K
+all_loose words = record { items = map raw words; cut_short = false }
+
+-- The reading of words, rule by rule: each word is an item by itself, or a flag that takes the next word for its value, or a flag at the end that lacks one, or the double dashes that end the options, behind which all words are loose.
+pub data Reads {K : Type 0} (dashes : Bool) (table : List (Entry K)) : List Bytes → Reading K → Type 0 where
+  at_end : Reads dashes table [] nothing
+  alone : {word : Bytes} {words : List Bytes} {item : Item K} {r : Reading K} → first_word dashes table word ≡ whole item → Reads dashes table words r → Reads dashes table (word ∷ words) (before item r)
+  with_value : {word value : Bytes} {words : List Bytes} {f : Bytes} {k : K} {d : ArgDisposition} {r : Reading K} → first_word dashes table word ≡ awaits f k d → Reads dashes table words r → Reads dashes table (word ∷ value ∷ words) (before (valued f k value d) r)
+  lacking : {word : Bytes} {f : Bytes} {k : K} {d : ArgDisposition} → first_word dashes table word ≡ awaits f k d → Reads dashes table (word ∷ []) (unfinished f k d)
+  options_end : {word : Bytes} {words : List Bytes} → first_word dashes table word ≡ ends → Reads dashes table (word ∷ words) (all_loose words)
 
 -- The same as a function: the reading from a first word on, given those from the word behind it and from the one after that.
 abbrev pub from_last : {K : Type 0} → Start K → Reading K
 from_last (whole a) = before a nothing
 from_last (awaits f k d) = unfinished f k d
+from_last ends = nothing
 
-abbrev pub from_first : {K : Type 0} → Start K → Bytes → Reading K → Reading K → Reading K
-from_first (whole a) next behind_one behind_two = before a behind_one
-from_first (awaits f k d) next behind_one behind_two = before (valued f k next d) behind_two
+abbrev pub from_first : {K : Type 0} → Start K → Bytes → List Bytes → Reading K → Reading K → Reading K
+from_first (whole a) next words behind_one behind_two = before a behind_one
+from_first (awaits f k d) next words behind_one behind_two = before (valued f k next d) behind_two
+from_first ends next words behind_one behind_two = all_loose (next ∷ words)
 
-abbrev pub reading : {K : Type 0} → List (Entry K) → List Bytes → Reading K
-reading table [] = nothing
-reading table (word ∷ []) = from_last (first_word table word)
-reading table (word ∷ next ∷ words) = from_first (first_word table word) next (reading table (next ∷ words)) (reading table words)
+abbrev pub reading : {K : Type 0} → Bool → List (Entry K) → List Bytes → Reading K
+reading dashes table [] = nothing
+reading dashes table (word ∷ []) = from_last (first_word dashes table word)
+reading dashes table (word ∷ next ∷ words) = from_first (first_word dashes table word) next words (reading dashes table (next ∷ words)) (reading dashes table words)
 
 -- a reading with these items before it
 abbrev pub all_before : {K : Type 0} → List (Item K) → Reading K → Reading K

@@ -1,12 +1,13 @@
 -- Arguments with values of a type, and the items that they are of.
-use Rattle.std.specs.Prelude.{◌≡◌, Bool, true, false, List, [], Option, None, Some, Result, Ok, Err}
+use Rattle.std.specs.Prelude.{◌≡◌, Bool, true, false, List, [], ◌++◌, Option, None, Some, Result, Ok, Err}
 use Rattle.os_files.specs.Bytes.{Bytes}
 use Rattle.cmdlines_base.specs.Table.{Entry}
-use Rattle.cmdlines_base.specs.Reading.{Item, raw, unknown, flag, valued, Start, whole, awaits, Reading, reading, before}
+use Rattle.cmdlines_base.specs.Reading.{Item, raw, unknown, flag, valued, Start, whole, awaits, ends, Reading, nothing, before}
+use Rattle.cmdlines_base.specs.Cutting.{Place, taken, reading_at, past_dashes, IsWrittenAs}
 use Rattle.cmdlines_base.specs.declared.argument.Argument.{Argument}
 use Rattle.cmdlines_base.specs.declared.argument.Argument.TheVariants as arguments
-use Rattle.cmdlines_base.specs.declared.argument.ArgParseError.{ArgParseError}
-use Rattle.cmdlines_base.specs.declared.argument.ArgParseError.TheVariants.{UnexpectedEndOfArgs, Memory}
+use Rattle.cmdlines_base.specs.declared.argument_error.ArgParseError.{ArgParseError}
+use Rattle.cmdlines_base.specs.declared.argument_error.ArgParseError.TheVariants.{UnexpectedEndOfArgs, InvalidUnicode, Other, Memory}
 use Rattle.cmdlines_base.specs.declared.cutting.First.{First}
 use Rattle.cmdlines_base.specs.declared.cutting.First.TheVariants as firsts
 
@@ -18,6 +19,11 @@ pub record Values (T K : Type 0) : Type 1 where
 
 abbrev pub values_by : {T K : Type 0} → (K → T → Type 0) → (K → Bytes → T → Type 0) → (K → Bytes → Bool) → Values T K
 values_by flag_value word_value refuses = record { flag_value = flag_value; word_value = word_value; refuses = refuses }
+
+-- whether the item has a kind of value that prints what it reads, or none
+abbrev pub is_given_back : {K : Type 0} → (K → Bool) → Item K → Bool
+is_given_back gives_back (valued f k w d) = gives_back k
+is_given_back gives_back _ = true
 
 module _ {T K : Type 0} (values : Values T K) where
   -- the argument is that item, with its value
@@ -45,11 +51,60 @@ module _ {T K : Type 0} (values : Values T K) where
   abbrev pub IsRefused : Start K → Type 0
   IsRefused (whole a) = is_refused a ≡ true
   IsRefused (awaits f k d) = ⊥
+  IsRefused ends = ⊥
+
+  -- What a start and the words behind its word make: an argument with its value, and the words that are left.
+  pub record Takes (start : Start K) (rest : List Bytes) (argument : Argument T) (left : List Bytes) : Type 0 where
+    pub item : Item K
+    pub takes : taken start rest ≡ Some (item, left)
+    pub is : IsOf item argument
+    pub accepted : is_refused item ≡ false
+
+  -- the item that they make has a value that is refused
+  pub record TakesRefused (start : Start K) (rest : List Bytes) : Type 0 where
+    pub item : Item K
+    pub left : List Bytes
+    pub takes : taken start rest ≡ Some (item, left)
+    pub refused : is_refused item ≡ true
+
+  -- why they make no argument
+  abbrev pub FailsToTake : Start K → List Bytes → ArgParseError → Type 0
+  FailsToTake start rest UnexpectedEndOfArgs = taken start rest ≡ None
+  FailsToTake start rest Memory = Unit {0}
+  FailsToTake start rest (InvalidUnicode word) = TakesRefused start rest
+  FailsToTake start rest (Other text) = TakesRefused start rest
+
+  -- One argument is cut: it is the first item of the reading of what was left, and some words are consumed for it.
+  pub record Cuts (table : List (Entry K)) (old : Place) (argument : Argument T) (new : Place) : Type 0 where
+    pub item : Item K
+    pub consumed : List Bytes
+    pub reads : reading_at table old ≡ before item (reading_at table new)
+    pub words : (past_dashes old).words ≡ consumed ++ new.words
+    pub dashes : new.dashes ≡ (past_dashes old).dashes
+    pub written : IsWrittenAs item consumed
+    pub is : IsOf item argument
+    pub accepted : is_refused item ≡ false
+
+  -- the first item of the reading has a value that is refused
+  pub record CutsRefused (table : List (Entry K)) (old : Place) : Type 0 where
+    pub item : Item K
+    pub rest : Reading K
+    pub reads : reading_at table old ≡ before item rest
+    pub refused : is_refused item ≡ true
+
+  -- why no argument is cut
+  abbrev pub FailsToCut : List (Entry K) → Place → ArgParseError → Type 0
+  FailsToCut table old UnexpectedEndOfArgs = reading_at table old ≡ record { items = []; cut_short = true }
+  FailsToCut table old Memory = Unit {0}
+  FailsToCut table old (InvalidUnicode word) = CutsRefused table old
+  FailsToCut table old (Other text) = CutsRefused table old
+
+  -- no words are left behind double dashes that stood there
+  abbrev pub IsAtEnd : Place → Place → Type 0
+  IsAtEnd old new = (new.words ≡ []) × (new.dashes ≡ (past_dashes old).dashes)
 
   -- What one call of `next` does: it gives the first argument of the words and leaves the rest. At the end of the words, and after an error, nothing is left.
-  abbrev pub Steps : List (Entry K) → List Bytes → Option (Result (Argument T) ArgParseError) → List Bytes → Type 0
-  Steps table old None new = (old ≡ []) × (new ≡ [])
-  Steps table old (Some (Ok argument)) new = (item : Item K) × (reading table old ≡ before item (reading table new)) × IsOf item argument × (is_refused item ≡ false)
-  Steps table old (Some (Err UnexpectedEndOfArgs)) new = (reading table old ≡ record { items = []; cut_short = true }) × (new ≡ [])
-  Steps table old (Some (Err Memory)) new = new ≡ []
-  Steps table old (Some (Err _)) new = ((item : Item K) × (rest : Reading K) × (reading table old ≡ before item rest) × (is_refused item ≡ true)) × (new ≡ [])
+  abbrev pub Steps : List (Entry K) → Place → Option (Result (Argument T) ArgParseError) → Place → Type 0
+  Steps table old None new = (reading_at table old ≡ nothing) × IsAtEnd old new
+  Steps table old (Some (Ok argument)) new = Cuts table old argument new
+  Steps table old (Some (Err error)) new = FailsToCut table old error × IsAtEnd old new

@@ -1,11 +1,12 @@
 //! Arguments: the pieces of a command line, with values of a caller's type.
 
-ghost use Rattle.std.specs.Prelude.{◌≡◌, Bool, true, false, IfOk, IfErr, OnOk};
-ghost use Rattle.os_files.specs.Bytes.{Bytes};
-ghost use Rattle.cmdlines_base.specs.Refusal.{OnRefusal};
+ghost use Rattle.std.specs.Prelude.{◌≡◌, IfOk};
+ghost use Rattle.std.specs.Option.{option_copied, option_map};
+ghost use Rattle.cmdlines_base.specs.Printing.{normalized_disposition};
+ghost use Rattle.cmdlines_base.specs.Pieces.{normalized, leading_word, flag_in, data_in};
 
 use os_files::os_bytes::OsBytes;
-use std::alloc::{AllocError, AllocFailed, Global};
+use std::alloc::{AllocError, Global};
 
 /// The byte between a flag and its value, where one is wanted.
 pub type Delimiter = Option<u8>;
@@ -23,8 +24,15 @@ pub enum ArgDisposition {
     Concatenated(Delimiter),
 }
 
+/// How a value that may stand either way is to stand.
+#[derive(Clone, Copy, Debug, PartialEq, Eq)]
+pub enum NormalizedDisposition {
+    Separated,
+    Concatenated,
+}
+
 /// A piece of a command line.
-#[derive(Drop)]
+#[derive(Clone, Debug, Drop, PartialEq, Eq)]
 pub enum Argument<T> {
     /// A word that nothing fits and that doesn't begin with `-`.
     Raw(OsBytes),
@@ -36,59 +44,68 @@ pub enum Argument<T> {
     WithValue(&'static str, T, ArgDisposition),
 }
 
-/// Why words can't be cut.
-#[derive(Drop)]
-pub enum ArgParseError {
-    /// The words end where a value should come.
-    UnexpectedEndOfArgs,
-    /// A value that should be text isn't UTF-8.
-    InvalidUnicode(OsBytes),
-    /// A value that its option doesn't take.
-    Other(&'static str),
-    /// A growth was refused.
-    Memory,
-}
-
-impl From<AllocError> for ArgParseError {
-    ghost use Rattle.cmdlines_base.specs.declared.argument.ArgParseError.TheVariants.{Memory};
-
-    ghost from_gives = { λ _ e. e ≡ Memory };
-
-    fn from(_error: AllocError) -> ArgParseError {
-        ArgParseError::Memory
+impl ArgDisposition {
+    /// This disposition, or where it allows both ways, the one that is wanted.
+    fn normalize(self, wanted: NormalizedDisposition) -> ArgDisposition
+        ensures { result ≡ normalized_disposition wanted self }
+    {
+        match (self, wanted) {
+            (
+                ArgDisposition::CanBeConcatenated(_) | ArgDisposition::CanBeSeparated(_),
+                NormalizedDisposition::Separated,
+            ) => ArgDisposition::Separated,
+            (
+                ArgDisposition::CanBeConcatenated(delimiter)
+                | ArgDisposition::CanBeSeparated(delimiter),
+                NormalizedDisposition::Concatenated,
+            ) => ArgDisposition::Concatenated(delimiter),
+            (settled, _) => settled,
+        }
     }
 }
 
-impl<T: Drop> From<AllocFailed<T>> for ArgParseError {
-    ghost use Rattle.cmdlines_base.specs.declared.argument.ArgParseError.TheVariants.{Memory};
-
-    ghost from_gives = { λ _ e. e ≡ Memory };
-
-    fn from(_error: AllocFailed<T>) -> ArgParseError {
-        ArgParseError::Memory
+impl<T> Argument<T> {
+    /// The same flag and value; a disposition that allows both ways becomes the one that is wanted. It takes no memory.
+    pub fn normalize(self, disposition: NormalizedDisposition) -> Argument<T>
+        ensures { result ≡ normalized disposition self }
+    {
+        match self {
+            Argument::WithValue(flag, value, read) => {
+                Argument::WithValue(flag, value, read.normalize(disposition))
+            }
+            settled => settled,
+        }
     }
-}
 
-/// The value of an argument. A kind says what an option of a table is for.
-pub trait ArgumentValue: Drop {
-    type Kind: Copy;
+    /// The word, or the flag alone.
+    pub fn to_os_string(&self, alloc: Global) -> Result<OsBytes, AllocError>
+        ensures { IfOk result (λ word. word ≡ leading_word self.now) }
+    {
+        match self {
+            Argument::Raw(word) | Argument::UnknownFlag(word) => word.clone(),
+            Argument::Flag(flag, _) | Argument::WithValue(flag, _, _) => {
+                OsBytes::from_slice(alloc, flag.as_bytes())
+            }
+        }
+    }
 
-    /// What a flag of that kind is.
-    ghost flag_value: { Self.Kind → Self → Type 0 };
+    /// The flag, where the argument is one of a table. It takes no memory.
+    pub fn flag_str(&self) -> Option<&'static str>
+        ensures { option_copied result ≡ flag_in self.now }
+    {
+        match self {
+            Argument::Flag(flag, _) | Argument::WithValue(flag, _, _) => Some(flag),
+            _ => None,
+        }
+    }
 
-    /// What an option of that kind is with that word for its value.
-    ghost word_value: { Self.Kind → Bytes → Self → Type 0 };
-
-    /// Whether an option of that kind doesn't take that word.
-    ghost refuses: { Self.Kind → Bytes → Bool };
-
-    /// The value of a flag that stands alone.
-    fn of_flag(kind: Self::Kind) -> Self
-        ensures { flag_value kind result };
-
-    /// The value in a word.
-    fn of_word(alloc: Global, kind: Self::Kind, word: &[u8]) -> Result<Self, ArgParseError>
-        ensures value { IfOk result (λ value. word_value kind word.now value) }
-        ensures taken { OnOk result (refuses kind word.now ≡ false) }
-        ensures refused { IfErr result (λ e. OnRefusal e (refuses kind word.now ≡ true)) };
+    /// The value, where the argument has one. It takes no memory.
+    pub fn get_data(&self) -> Option<&T>
+        ensures { option_copied result ≡ data_in self.now }
+    {
+        match self {
+            Argument::Flag(_, value) | Argument::WithValue(_, value, _) => Some(value),
+            _ => None,
+        }
+    }
 }

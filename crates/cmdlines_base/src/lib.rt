@@ -2,7 +2,11 @@
 #![tactic(auto)]
 
 pub mod argument;
+pub mod argument_error;
 pub mod command;
 pub mod cutting;
+pub mod printing;
 pub mod reading_back;
+pub mod splitting;
 pub mod table;
+pub mod value;

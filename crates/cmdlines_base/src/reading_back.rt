@@ -1,17 +1,17 @@
 //! Laws of words that are written and cut again. No code calls them: whoever writes a command cites them.
 
-ghost use Rattle.std.specs.Prelude.{◌≡◌, List, true};
+ghost use Rattle.std.specs.Prelude.{◌≡◌, List, true, false};
 ghost use Rattle.os_files.specs.Bytes.{Bytes};
 ghost use Rattle.cmdlines_base.specs.Table.{Entry};
 ghost use Rattle.cmdlines_base.specs.Reading.{Item, reading};
 ghost use Rattle.cmdlines_base.specs.Again.{is_clear, AllReadAgain, AllReadAgainUnlessEmpty, ReadsTogether};
 
-use crate::argument::ArgumentValue;
+use crate::value::ArgumentValue;
 
 /// In a clear table each item of a reading, written normally, is read again as an item that is normally written
 /// alike, unless it is an empty value of an option whose value may stand either way.
 pub fn items_read_again<T: ArgumentValue>()
-    ensures { (table : List (Entry T.Kind)) → is_clear table ≡ true → (words : List Bytes) → AllReadAgainUnlessEmpty table (reading table words).items }
+    ensures { (table : List (Entry T.Kind)) → is_clear table ≡ true → (words : List Bytes) → AllReadAgainUnlessEmpty table (reading false table words).items }
 {}
 
 /// Items that are read again one by one are read again together, whatever words follow.

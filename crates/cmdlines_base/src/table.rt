@@ -6,7 +6,8 @@ ghost use Rattle.std.specs.Option.{option_copied};
 ghost use Rattle.os_files.specs.Bytes.{Bytes};
 ghost use Rattle.cmdlines_base.specs.Table.{Entry, entry_of, entry_at, entries_of, fits, joins_by, has_ascii, rises_to, is_table, longer, all_entries, longest_fit, IsEntryOf, behind};
 
-use crate::argument::{ArgDisposition, ArgumentValue, Delimiter};
+use crate::argument::{ArgDisposition, Delimiter};
+use crate::value::ArgumentValue;
 use std::marker::Model;
 
 /// An entry of a table: a flag that stands alone, or one that takes a value.

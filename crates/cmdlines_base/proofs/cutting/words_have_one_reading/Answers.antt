@@ -5,4 +5,4 @@ pub returns-clause-is : goal.returns-clause-is
 returns-clause-is g c = reading_reads
 
 pub returns-clause-only : goal.returns-clause-only
-returns-clause-only g c = λ table words r h. only_reading table h
+returns-clause-only g c = λ dashes table words r h. only_reading dashes table h

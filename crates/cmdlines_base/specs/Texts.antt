@@ -1,0 +1,57 @@
+-- Values and arguments as texts, by what a transformer of paths answers.
+use Rattle.std.specs.Prelude.{◌≡◌, ℕ, Bool, true, false, ◌⊎◌, List, [], ◌∷◌, Option, None, Some, Result, Ok, Err, String, string_bytes}
+use Rattle.std.specs.Borrow.{Bor}
+use Rattle.std.specs.Fn.{Mut, CalledAt}
+use Rattle.std.specs.Str.{is_utf8}
+use Rattle.std.specs.declared.alloc.Global.{Global}
+use Rattle.os_files.specs.Bytes.{Bytes}
+use Rattle.cmdlines_base.specs.Printing.{joined}
+use Rattle.cmdlines_base.specs.Pieces.{Part, bare, apart, behind}
+use Rattle.cmdlines_base.specs.declared.argument_error.ArgToStringError.{ArgToStringError}
+use Rattle.cmdlines_base.specs.declared.argument_error.ArgToStringError.TheVariants.{FailedPathTransform, InvalidUnicode, Memory}
+
+abbrev pub Text : Type 0
+Text = String Global
+
+-- a word as text: it has none where it isn't UTF-8
+abbrev pub WordText : Bytes → Result Text ArgToStringError → Type 0
+WordText word (Ok text) = string_bytes text ≡ word
+WordText word (Err (InvalidUnicode bytes)) = (bytes ≡ word) × (is_utf8 word ≡ false)
+WordText word (Err (FailedPathTransform path)) = ⊥
+WordText word (Err Memory) = Unit {0}
+
+module _ {F : Type 0} (g : Mut F (Bor Bytes × Unit {0}) (Option Text)) where
+  -- a path as text: the transformer was called once at it, and gave the text or none
+  abbrev pub PathText : Bytes → F → Result Text ArgToStringError → F → Type 0
+  PathText path f (Ok text) f' = CalledAt g f path (Some text) f'
+  PathText path f (Err (FailedPathTransform failed)) f' = (failed ≡ path) × CalledAt g f path None f'
+  PathText path f (Err (InvalidUnicode bytes)) f' = ⊥
+  PathText path f (Err Memory) f' = CalledAt g f path None f'
+
+  -- a value as text, which only a path asks the transformer for
+  abbrev pub ValueText : Bool → Bytes → F → Result Text ArgToStringError → F → Type 0
+  ValueText false word f r f' = WordText word r × (f' ≡ f)
+  ValueText true path f r f' = PathText path f r f'
+
+module _ {F T : Type 0} (g : Mut F (Bor Bytes × Unit {0}) (Option Text)) (word : T → Bytes) (is_path : T → Bool) where
+  abbrev TextOf : T → F → Result Text ArgToStringError → F → Type 0
+  TextOf value f r f' = ValueText g (is_path value) (word value) f r f'
+
+  -- a flag with its value as text behind it; the delimiter is dropped where the text is empty
+  abbrev pub JoinedText : Bytes → Option ℕ → T → F → Result Text ArgToStringError → F → Type 0
+  JoinedText flag d value f (Ok text) f' = (behind : Text) × TextOf value f (Ok behind) f' × (string_bytes text ≡ joined flag d (string_bytes behind))
+  JoinedText flag d value f (Err (FailedPathTransform path)) f' = TextOf value f (Err (FailedPathTransform path)) f'
+  JoinedText flag d value f (Err (InvalidUnicode bytes)) f' = TextOf value f (Err (InvalidUnicode bytes)) f' ⊎ ((behind : Text) × TextOf value f (Ok behind) f' × (bytes ≡ joined flag d (string_bytes behind)) × (is_utf8 bytes ≡ false))
+  JoinedText flag d value f (Err Memory) f' = (r : Result Text ArgToStringError) × TextOf value f r f'
+
+  -- a part of an argument as text
+  abbrev pub PartText : Part T → F → Result Text ArgToStringError → F → Type 0
+  PartText (bare w) f r f' = WordText w r × (f' ≡ f)
+  PartText (apart value) f r f' = TextOf value f r f'
+  PartText (behind flag d value) f r f' = JoinedText flag d value f r f'
+
+  -- What one call of `next` does: it gives the text of the first part that is left; after an error nothing is left.
+  abbrev pub GivesText : List (Part T) → F → Option (Result Text ArgToStringError) → List (Part T) → F → Type 0
+  GivesText old f None new f' = (old ≡ []) × (new ≡ []) × (f' ≡ f)
+  GivesText old f (Some (Ok text)) new f' = (part : Part T) × (old ≡ part ∷ new) × PartText part f (Ok text) f'
+  GivesText old f (Some (Err error)) new f' = (part : Part T) × (rest : List (Part T)) × (old ≡ part ∷ rest) × PartText part f (Err error) f' × (new ≡ [])

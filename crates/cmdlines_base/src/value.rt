@@ -1,0 +1,298 @@
+//! Values of arguments: what is read from a word, and printed as a word or a text again.
+
+ghost use Rattle.std.specs.Prelude.{◌≡◌, Bool, true, false, IfOk, IfErr, OnOk, string_bytes};
+ghost use Rattle.std.specs.Str.{is_utf8};
+ghost use Rattle.os_files.specs.Bytes.{Bytes};
+ghost use Rattle.cmdlines_base.specs.Refusal.{OnRefusal};
+ghost use Rattle.cmdlines_base.specs.Texts.{WordText, PathText, ValueText};
+
+use crate::argument_error::{ArgParseError, ArgParseResult, ArgToStringError, ArgToStringResult};
+use os_files::os_bytes::OsBytes;
+use std::alloc::{AllocError, Global};
+
+/// A value that is made of a word.
+pub trait FromArg: Drop {
+    /// What the word makes.
+    ghost reads: { Bytes → Self → Type 0 };
+
+    /// Whether the word makes no value.
+    ghost rejects: { Bytes → Bool };
+
+    /// The value in the word.
+    fn process(arg: OsBytes) -> ArgParseResult<Self>
+        ensures value { IfOk result (reads arg) }
+        ensures accepted { OnOk result (rejects arg ≡ false) }
+        ensures refused { IfErr result (λ e. OnRefusal e (rejects arg ≡ true)) };
+}
+
+/// A value that is printed.
+pub trait IntoArg: Drop {
+    /// The word that prints it.
+    ghost word: { Self → Bytes };
+
+    /// Whether it's a path, whose text a transformer gives.
+    ghost is_path: { Self → Bool };
+
+    /// The word that prints the value.
+    fn into_arg_os_string(&self, alloc: Global) -> Result<OsBytes, AllocError>
+        ensures { IfOk result (λ printed. printed ≡ word self.now) };
+
+    /// The value as text: a path's is what the transformer answers for its bytes, and it is asked once; any other
+    /// value's is its word, and the transformer isn't asked.
+    fn into_arg_string<F: FnMut(&[u8]) -> Option<String>>(
+        &self,
+        alloc: Global,
+        path_transformer: &mut F,
+    ) -> ArgToStringResult
+        requires { F.IsAlwaysCallable path_transformer.old }
+        ensures text { ValueText F.FnMut (is_path self.now) (word self.now) path_transformer.old result path_transformer.new }
+        ensures callable { F.IsAlwaysCallable path_transformer.new };
+}
+
+/// The value of an argument. A kind says what an option of a table is for.
+pub trait ArgumentValue: IntoArg {
+    type Kind: Copy;
+
+    /// What a flag of that kind is.
+    ghost flag_value: { Self.Kind → Self → Type 0 };
+
+    /// What an option of that kind is with that word for its value.
+    ghost word_value: { Self.Kind → Bytes → Self → Type 0 };
+
+    /// Whether an option of that kind doesn't take that word.
+    ghost refuses: { Self.Kind → Bytes → Bool };
+
+    /// Whether an option of that kind prints the word that was read.
+    ghost gives_back: { Self.Kind → Bool };
+
+    /// The value of a flag that stands alone. It takes no memory.
+    fn of_flag(alloc: Global, kind: Self::Kind) -> Self
+        ensures { flag_value kind result };
+
+    /// The value in a word.
+    fn of_word(alloc: Global, kind: Self::Kind, word: &[u8]) -> ArgParseResult<Self>
+        ensures value { IfOk result (word_value kind word.now) }
+        ensures accepted { OnOk result (refuses kind word.now ≡ false) }
+        ensures refused { IfErr result (λ e. OnRefusal e (refuses kind word.now ≡ true)) };
+
+    /// Printing what was read gives the word, where the kind says so.
+    ghost prints_what_it_reads: { (kind : Self.Kind) (read : Bytes) (value : Self) → gives_back kind ≡ true → word_value kind read value → Self.word value ≡ read };
+}
+
+/// The bytes as text; where they aren't UTF-8 they are handed back. It takes no memory.
+pub(crate) fn into_text(bytes: OsBytes) -> Result<String, OsBytes>
+    ensures bytes { IfOk result (λ text. string_bytes text ≡ bytes) }
+    ensures text { OnOk result (is_utf8 bytes ≡ true) }
+    ensures back { IfErr result (λ back. (back ≡ bytes) × (is_utf8 bytes ≡ false)) }
+{
+    match String::from_utf8(bytes.into_vec()) {
+        Ok(text) => Ok(text),
+        Err(error) => Err(OsBytes::from_vec(error.into_bytes())),
+    }
+}
+
+/// A word as text.
+pub fn word_to_string(alloc: Global, word: &[u8]) -> ArgToStringResult
+    ensures { WordText word.now result }
+{
+    match into_text(OsBytes::from_slice(alloc, word)?) {
+        Ok(text) => Ok(text),
+        Err(broken) => Err(ArgToStringError::InvalidUnicode(broken)),
+    }
+}
+
+/// A path as text: what the transformer answers.
+pub fn path_to_string<F: FnMut(&[u8]) -> Option<String>>(
+    alloc: Global,
+    path: &[u8],
+    path_transformer: &mut F,
+) -> ArgToStringResult
+    requires { F.IsAlwaysCallable path_transformer.old }
+    ensures text { PathText F.FnMut path.now path_transformer.old result path_transformer.new }
+    ensures callable { F.IsAlwaysCallable path_transformer.new }
+{
+    match path_transformer(path) {
+        Some(text) => Ok(text),
+        None => {
+            let failed = OsBytes::from_slice(alloc, path)?;
+            Err(ArgToStringError::FailedPathTransform(failed))
+        }
+    }
+}
+
+/// Bytes, whatever they are.
+impl FromArg for OsBytes {
+    ghost use Rattle.std.specs.Prelude.{◌≡◌, false};
+
+    ghost reads = { λ arg value. value ≡ arg };
+
+    ghost rejects = { λ _. false };
+
+    fn process(arg: OsBytes) -> ArgParseResult<OsBytes> {
+        Ok(arg)
+    }
+}
+
+impl IntoArg for OsBytes {
+    ghost use Rattle.std.specs.Prelude.{false};
+
+    ghost word = { λ bytes. bytes };
+
+    ghost is_path = { λ _. false };
+
+    fn into_arg_os_string(&self, _alloc: Global) -> Result<OsBytes, AllocError> {
+        self.clone()
+    }
+
+    fn into_arg_string<F: FnMut(&[u8]) -> Option<String>>(
+        &self,
+        alloc: Global,
+        _path_transformer: &mut F,
+    ) -> ArgToStringResult {
+        word_to_string(alloc, self.as_bytes())
+    }
+}
+
+/// A word; a flag has the empty one.
+impl ArgumentValue for OsBytes {
+    ghost use Rattle.std.specs.Prelude.{◌≡◌, [], true, false};
+
+    type Kind = ();
+
+    ghost flag_value = { λ _ value. value ≡ [] };
+
+    ghost word_value = { λ _ word value. value ≡ word };
+
+    ghost refuses = { λ _ _. false };
+
+    ghost gives_back = { λ _. true };
+
+    ghost prints_what_it_reads = { λ _ _ _ _ is. is };
+
+    fn of_flag(alloc: Global, _kind: ()) -> OsBytes {
+        OsBytes::empty(alloc)
+    }
+
+    fn of_word(alloc: Global, _kind: (), word: &[u8]) -> ArgParseResult<OsBytes> {
+        Ok(OsBytes::from_slice(alloc, word)?)
+    }
+}
+
+/// A word that is text.
+impl FromArg for String {
+    ghost use Rattle.std.specs.Prelude.{◌≡◌, not, string_bytes};
+    ghost use Rattle.std.specs.Str.{is_utf8};
+
+    ghost reads = { λ arg value. string_bytes value ≡ arg };
+
+    ghost rejects = { λ arg. not (is_utf8 arg) };
+
+    fn process(arg: OsBytes) -> ArgParseResult<String> {
+        match into_text(arg) {
+            Ok(text) => Ok(text),
+            Err(word) => Err(ArgParseError::InvalidUnicode(word)),
+        }
+    }
+}
+
+impl IntoArg for String {
+    ghost use Rattle.std.specs.Prelude.{string_bytes, false};
+
+    ghost word = { string_bytes };
+
+    ghost is_path = { λ _. false };
+
+    fn into_arg_os_string(&self, alloc: Global) -> Result<OsBytes, AllocError> {
+        OsBytes::from_slice(alloc, self.as_bytes())
+    }
+
+    fn into_arg_string<F: FnMut(&[u8]) -> Option<String>>(
+        &self,
+        alloc: Global,
+        _path_transformer: &mut F,
+    ) -> ArgToStringResult {
+        Ok(String::from_str(alloc, self.as_str())?)
+    }
+}
+
+/// A word that is text; a flag has the empty one.
+impl ArgumentValue for String {
+    ghost use Rattle.std.specs.Prelude.{◌≡◌, [], not, true, string_bytes};
+    ghost use Rattle.std.specs.Str.{is_utf8};
+
+    type Kind = ();
+
+    ghost flag_value = { λ _ value. string_bytes value ≡ [] };
+
+    ghost word_value = { λ _ word value. string_bytes value ≡ word };
+
+    ghost refuses = { λ _ word. not (is_utf8 word) };
+
+    ghost gives_back = { λ _. true };
+
+    ghost prints_what_it_reads = { λ _ _ _ _ is. is };
+
+    fn of_flag(alloc: Global, _kind: ()) -> String {
+        String::new(alloc)
+    }
+
+    fn of_word(alloc: Global, _kind: (), word: &[u8]) -> ArgParseResult<String> {
+        String::process(OsBytes::from_slice(alloc, word)?)
+    }
+}
+
+/// Nothing: what was read isn't kept.
+impl FromArg for () {
+    ghost use Rattle.std.specs.Prelude.{⊤, false};
+
+    ghost reads = { λ _ _. ⊤ };
+
+    ghost rejects = { λ _. false };
+
+    fn process(_arg: OsBytes) -> ArgParseResult<()> {
+        Ok(())
+    }
+}
+
+impl IntoArg for () {
+    ghost use Rattle.std.specs.Prelude.{[], false};
+
+    ghost word = { λ _. [] };
+
+    ghost is_path = { λ _. false };
+
+    fn into_arg_os_string(&self, alloc: Global) -> Result<OsBytes, AllocError> {
+        Ok(OsBytes::empty(alloc))
+    }
+
+    fn into_arg_string<F: FnMut(&[u8]) -> Option<String>>(
+        &self,
+        alloc: Global,
+        _path_transformer: &mut F,
+    ) -> ArgToStringResult {
+        Ok(String::new(alloc))
+    }
+}
+
+/// No value; the word of an option isn't kept, so that it isn't printed again.
+impl ArgumentValue for () {
+    ghost use Rattle.std.specs.Prelude.{⊤, false};
+
+    type Kind = ();
+
+    ghost flag_value = { λ _ _. ⊤ };
+
+    ghost word_value = { λ _ _ _. ⊤ };
+
+    ghost refuses = { λ _ _. false };
+
+    ghost gives_back = { λ _. false };
+
+    ghost prints_what_it_reads = { λ _ _ _ kept _. cc };
+
+    fn of_flag(_alloc: Global, _kind: ()) {}
+
+    fn of_word(_alloc: Global, _kind: (), _word: &[u8]) -> ArgParseResult<()> {
+        Ok(())
+    }
+}
