@@ -2,7 +2,7 @@
 use Rattle.std.specs.Prelude.{ℕ, Bool, true, false, List, [], ◌∷◌, ◌++◌, map, Option, None, Some}
 use Rattle.std.specs.Option.{option_to_list}
 use Rattle.os_files.specs.Bytes.{Bytes}
-use Rattle.cmdlines_base.specs.Printing.{normalized_disposition, joined}
+use Rattle.cmdlines_base.specs.Printing.{normalized_disposition, either_way, joined}
 use Rattle.cmdlines_base.specs.declared.argument.ArgDisposition.{ArgDisposition}
 use Rattle.cmdlines_base.specs.declared.argument.ArgDisposition.TheVariants.{Separated, CanBeConcatenated, CanBeSeparated, Concatenated}
 use Rattle.cmdlines_base.specs.declared.printing.Piece.{Piece}
@@ -18,6 +18,11 @@ normalized wanted (Raw w) = Raw w
 normalized wanted (UnknownFlag w) = UnknownFlag w
 normalized wanted (Flag f v) = Flag f v
 normalized wanted (WithValue f v d) = WithValue f v (normalized_disposition wanted d)
+
+-- whether it's a flag whose value may stand either way
+abbrev pub stands_either_way : {T : Type 0} → Argument T → Bool
+stands_either_way (WithValue f v d) = either_way d
+stands_either_way _ = false
 
 -- the word, or the flag alone
 abbrev pub leading_word : {T : Type 0} → Argument T → Bytes

@@ -1,9 +1,10 @@
 //! Arguments: the pieces of a command line, with values of a caller's type.
 
-ghost use Rattle.std.specs.Prelude.{◌≡◌, IfOk};
-ghost use Rattle.std.specs.Option.{option_copied, option_map};
+ghost use Rattle.std.specs.Prelude.{◌≡◌, false, IfOk};
+ghost use Rattle.std.specs.Option.{option_copied};
 ghost use Rattle.cmdlines_base.specs.Printing.{normalized_disposition};
-ghost use Rattle.cmdlines_base.specs.Pieces.{normalized, leading_word, flag_in, data_in};
+ghost use Rattle.cmdlines_base.specs.declared.argument.NormalizedDisposition.{NormalizedDisposition};
+ghost use Rattle.cmdlines_base.specs.Pieces.{normalized, stands_either_way, leading_word, flag_in, data_in};
 
 use os_files::os_bytes::OsBytes;
 use std::alloc::{AllocError, Global};
@@ -67,7 +68,11 @@ impl ArgDisposition {
 impl<T> Argument<T> {
     /// The same flag and value; a disposition that allows both ways becomes the one that is wanted. It takes no memory.
     pub fn normalize(self, disposition: NormalizedDisposition) -> Argument<T>
-        ensures { result ≡ normalized disposition self }
+        ensures normalized { result ≡ normalized disposition self }
+        ensures flag { flag_in result ≡ flag_in self }
+        ensures value { data_in result ≡ data_in self }
+        ensures settled { stands_either_way self ≡ false → result ≡ self }
+        ensures again { (later : NormalizedDisposition) → normalized later result ≡ result }
     {
         match self {
             Argument::WithValue(flag, value, read) => {
@@ -109,3 +114,6 @@ impl<T> Argument<T> {
         }
     }
 }
+
+#[cfg(test)]
+mod tests;

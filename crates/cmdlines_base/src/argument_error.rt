@@ -72,3 +72,6 @@ impl From<AllocError> for ArgToStringError {
         ArgToStringError::Memory
     }
 }
+
+#[cfg(test)]
+mod tests;

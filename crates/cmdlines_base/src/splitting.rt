@@ -31,3 +31,6 @@ pub fn split_os_string_arg(
         }
     }
 }
+
+#[cfg(test)]
+mod tests;

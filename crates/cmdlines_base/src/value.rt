@@ -296,3 +296,6 @@ impl ArgumentValue for () {
         Ok(())
     }
 }
+
+#[cfg(test)]
+mod tests;

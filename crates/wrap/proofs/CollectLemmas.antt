@@ -8,11 +8,12 @@ use Rattle.os_files.specs.Bytes.{Bytes}
 use Rattle.cmdlines_base.specs.Table.{Entry}
 use Rattle.cmdlines_base.specs.Reading.{Item, Reading, reading, raw, unknown, flag, valued, before, nothing}
 use Rattle.cmdlines_base.specs.Printing.{is_empty_j, words_of}
+use Rattle.cmdlines_base.specs.Cutting.{Place, reading_at}
 use Rattle.cmdlines_base.specs.Values.{IsOf, Steps, is_refused, values_by}
 use Rattle.cmdlines_base.specs.declared.argument.Argument.{Argument}
 use Rattle.cmdlines_base.specs.declared.argument.Argument.TheVariants.{Raw, UnknownFlag, Flag, WithValue}
-use Rattle.cmdlines_base.specs.declared.argument.ArgParseError.{ArgParseError}
-use Rattle.cmdlines_base.specs.declared.argument.ArgParseError.TheVariants.{UnexpectedEndOfArgs, InvalidUnicode, Other, Memory}
+use Rattle.cmdlines_base.specs.declared.argument_error.ArgParseError.{ArgParseError}
+use Rattle.cmdlines_base.specs.declared.argument_error.ArgParseError.TheVariants.{UnexpectedEndOfArgs, InvalidUnicode, Other, Memory}
 use Rattle.wrap_base.specs.declared.kind.ArgKind.{ArgKind}
 use Rattle.wrap_base.specs.Wanted.{Collection, has_kind, is_too_hard, is_compile, is_output, is_language, is_preprocessor, is_unknown, input_in, value_in, later, last_value}
 use Rattle.wrap_base.specs.Verdict.{refused, closing, flag_of}
@@ -54,11 +55,11 @@ never_refused (flag f k) h = cc
 never_refused (valued f k w d) h = cc
 
 -- words that can't be cut, and no value is refused: they end where a value should come
-pub cut_short : (table : List (Entry ArgKind)) (old new : List Bytes) (error : ArgParseError) → Steps (values_by IsFlag IsValue (λ k w. false)) table old (Some (Err error)) new → (error ≡ Memory → ⊥) → reading table old ≡ record { items = []; cut_short = true }
+pub cut_short : (table : List (Entry ArgKind)) (old new : Place) (error : ArgParseError) → Steps (values_by IsFlag IsValue (λ k w. false)) table old (Some (Err error)) new → (error ≡ Memory → ⊥) → reading_at table old ≡ record { items = []; cut_short = true }
 cut_short table old new UnexpectedEndOfArgs h other = h.0
 cut_short table old new Memory h other = absurd (other refl)
-cut_short table old new (InvalidUnicode w) h other = absurd (never_refused h.0.0 h.0.3)
-cut_short table old new (Other t) h other = absurd (never_refused h.0.0 h.0.3)
+cut_short table old new (InvalidUnicode w) h other = absurd (never_refused h.0.item h.0.refused)
+cut_short table old new (Other t) h other = absurd (never_refused h.0.item h.0.refused)
 
 flat_map-more : {X : Type 0} (f : X → List Bytes) (start : List Bytes) (x : X) (xs : List X) → (start ++ flat_map f (x ∷ [])) ++ flat_map f xs ≡ start ++ flat_map f (x ∷ xs)
 flat_map-more f start x xs = append_assoc start (flat_map f (x ∷ [])) (flat_map f xs) ∙ ap (λ (t : List Bytes). start ++ t) (sym (flat_map-append f (x ∷ []) xs))

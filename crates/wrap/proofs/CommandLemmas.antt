@@ -72,13 +72,13 @@ hazards_ask (asks q) p h = by q.empty_value refl h
 
 -- what the layer below promises of words that are written again
 abbrev pub OneReading : Type 0
-OneReading = (table : List (Entry ArgKind)) (words : List Bytes) (r : Reading ArgKind) → Reads table words r → r ≡ reading table words
+OneReading = (table : List (Entry ArgKind)) (words : List Bytes) (r : Reading ArgKind) → Reads false table words r → r ≡ reading false table words
 
 abbrev pub HasReading : Type 0
-HasReading = (table : List (Entry ArgKind)) (words : List Bytes) → Reads table words (reading table words)
+HasReading = (table : List (Entry ArgKind)) (words : List Bytes) → Reads false table words (reading false table words)
 
 abbrev pub ItemsAgain : Type 0
-ItemsAgain = (table : List (Entry ArgKind)) → is_clear table ≡ true → (words : List Bytes) → AllReadAgainUnlessEmpty table (reading table words).items
+ItemsAgain = (table : List (Entry ArgKind)) → is_clear table ≡ true → (words : List Bytes) → AllReadAgainUnlessEmpty table (reading false table words).items
 
 abbrev pub ItemsTogether : Type 0
 ItemsTogether = (table : List (Entry ArgKind)) (items : List (Item ArgKind)) → AllReadAgain table items → (rest : List Bytes) → ReadsTogether table items rest
@@ -86,11 +86,11 @@ ItemsTogether = (table : List (Entry ArgKind)) (items : List (Item ArgKind)) →
 -- how a table reads the words that commands have of their own
 pub record OwnWords (table : List (Entry ArgKind)) : Type 0 where
   pub clear : is_clear table ≡ true
-  pub language : first_word table (codes "-x") ≡ awaits (codes "-x") Language (CanBeConcatenated None)
-  pub compile : first_word table (codes "-c") ≡ whole (flag (codes "-c") Compile)
-  pub preprocess : first_word table (codes "-E") ≡ whole (unknown (codes "-E"))
-  pub output : first_word table (codes "-o") ≡ awaits (codes "-o") Output (CanBeConcatenated None)
-  pub colour : first_word table colour_word ≡ whole (unknown colour_word)
+  pub language : first_word false table (codes "-x") ≡ awaits (codes "-x") Language (CanBeConcatenated None)
+  pub compile : first_word false table (codes "-c") ≡ whole (flag (codes "-c") Compile)
+  pub preprocess : first_word false table (codes "-E") ≡ whole (unknown (codes "-E"))
+  pub output : first_word false table (codes "-o") ≡ awaits (codes "-o") Output (CanBeConcatenated None)
+  pub colour : first_word false table colour_word ≡ whole (unknown colour_word)
 
 small_own : OwnWords small_entries
 unfolding small_entries
@@ -101,12 +101,12 @@ own_words Gcc = small_own
 
 module _ (has : HasReading) (only : OneReading) (again : ItemsAgain) (together : ItemsTogether) (t : List (Entry ArgKind)) (own : OwnWords t) where
   -- a word that is an item by itself, and then the others
-  reading-alone : (word : Bytes) (item : Item ArgKind) → first_word t word ≡ whole item → (rest : List Bytes) → reading t (word ∷ rest) ≡ before item (reading t rest)
-  reading-alone word item h rest = sym (only t (word ∷ rest) (before item (reading t rest)) (alone h (has t rest)))
+  reading-alone : (word : Bytes) (item : Item ArgKind) → first_word false t word ≡ whole item → (rest : List Bytes) → reading false t (word ∷ rest) ≡ before item (reading false t rest)
+  reading-alone word item h rest = sym (only t (word ∷ rest) (before item (reading false t rest)) (alone h (has t rest)))
 
   -- a flag and its value, and then the others
-  reading-with_value : (word value f : Bytes) (k : ArgKind) (d : ArgDisposition) → first_word t word ≡ awaits f k d → (rest : List Bytes) → reading t (word ∷ value ∷ rest) ≡ before (valued f k value d) (reading t rest)
-  reading-with_value word value f k d h rest = sym (only t (word ∷ value ∷ rest) (before (valued f k value d) (reading t rest)) (with_value h (has t rest)))
+  reading-with_value : (word value f : Bytes) (k : ArgKind) (d : ArgDisposition) → first_word false t word ≡ awaits f k d → (rest : List Bytes) → reading false t (word ∷ value ∷ rest) ≡ before (valued f k value d) (reading false t rest)
+  reading-with_value word value f k d h rest = sym (only t (word ∷ value ∷ rest) (before (valued f k value d) (reading false t rest)) (with_value h (has t rest)))
 
   all_again : (items : List (Item ArgKind)) → AllReadAgainUnlessEmpty t items → list_any (is_empty_j t) items ≡ false → AllReadAgain t items
   all_again [] h none = tt
@@ -137,15 +137,15 @@ module _ (has : HasReading) (only : OneReading) (again : ItemsAgain) (together :
   -- the options behind a command's own words, and its input
   record Again (words : List Bytes) (p : ParsedArguments) : Type 0 where
     found : List (Item ArgKind)
-    reads : reading t (p.preprocessor_args ++ p.common_args) ≡ all_before found nothing
-    alike : map normal found ≡ map normal (preprocessor_options (reading t words).items ++ hashed_options (reading t words).items)
+    reads : reading false t (p.preprocessor_args ++ p.common_args) ≡ all_before found nothing
+    alike : map normal found ≡ map normal (preprocessor_options (reading false t words).items ++ hashed_options (reading false t words).items)
     input : ReadsAgain t (raw p.input)
 
-  again_of : (words : List Bytes) (p : ParsedArguments) → with_hazards (parse_of t (reading t words)) ≡ asks p → Again words p
+  again_of : (words : List Bytes) (p : ParsedArguments) → with_hazards (parse_of t (reading false t words)) ≡ asks p → Again words p
   again_of words p asked =
-      let items = (reading t words).items in
-      let asked' = hazards_ask (parse_of t (reading t words)) p asked in
-      let a : Accepts (collection_of t items) p = decided_accepts (find (has_kind is_too_hard) items) (reading t words).cut_short (collection_of t items) p asked'.0 in
+      let items = (reading false t words).items in
+      let asked' = hazards_ask (parse_of t (reading false t words)) p asked in
+      let a : Accepts (collection_of t items) p = decided_accepts (find (has_kind is_too_hard) items) (reading false t words).cut_short (collection_of t items) p asked'.0 in
       let every : AllReadAgain t items = all_again items (again t own.clear words) (a.full ∙ asked'.1) in
       let one : List (Item ArgKind) = preprocessor_options items in
       let two : List (Item ArgKind) = hashed_options items in
@@ -153,7 +153,7 @@ module _ (has : HasReading) (only : OneReading) (again : ItemsAgain) (together :
       let options = together t (one ++ two) (both_again one two (some_again (has_kind is_preprocessor) items every) (some_again is_unknown items every)) [] in
       record {
         found = options.found;
-        reads = ap (reading t) (sym written ∙ sym (append-nil (words_of (one ++ two)))) ∙ options.reads;
+        reads = ap (reading false t) (sym written ∙ sym (append-nil (words_of (one ++ two)))) ∙ options.reads;
         alike = options.alike;
         input = (subst (AllByRecursion (λ w. ReadsAgain t (raw w))) a.input (inputs_again items every)).0;
       }
@@ -162,39 +162,39 @@ module _ (has : HasReading) (only : OneReading) (again : ItemsAgain) (together :
   behind_own : (own_items : List (Item ArgKind)) (found wanted : List (Item ArgKind)) → map normal found ≡ map normal wanted → map normal own_items ++ map normal (found ++ []) ≡ map normal own_items ++ map normal wanted
   behind_own own_items found wanted alike = ap (λ more. map normal own_items ++ map normal more) (append-nil found) ∙ ap (λ more. map normal own_items ++ more) alike
 
-  pub compile_again : (words : List Bytes) (p : ParsedArguments) → with_hazards (parse_of t (reading t words)) ≡ asks p → ReadsAsWanted t words (own_compile_items p) (compile_words p)
+  pub compile_again : (words : List Bytes) (p : ParsedArguments) → with_hazards (parse_of t (reading false t words)) ≡ asks p → ReadsAsWanted t words (own_compile_items p) (compile_words p)
   compile_again words p asked =
       let a : Again words p = again_of words p asked in
       let tail : List Bytes = p.preprocessor_args ++ p.common_args in
       let path : Bytes = first_path p.outputs in
       let language : Item ArgKind = valued (codes "-x") Language (codes "c") (CanBeConcatenated None) in
       let output : Item ArgKind = valued (codes "-o") Output path (CanBeConcatenated None) in
-      let last : reading t (colour_word ∷ tail) ≡ before (unknown colour_word) (all_before a.found nothing) = reading-alone colour_word (unknown colour_word) own.colour tail ∙ ap (before (unknown colour_word)) a.reads in
-      let out : reading t (codes "-o" ∷ path ∷ colour_word ∷ tail) ≡ before output (before (unknown colour_word) (all_before a.found nothing)) = reading-with_value (codes "-o") path (codes "-o") Output (CanBeConcatenated None) own.output (colour_word ∷ tail) ∙ ap (before output) last in
-      let input : reading t (p.input ∷ codes "-o" ∷ path ∷ colour_word ∷ tail) ≡ before a.input.item (before output (before (unknown colour_word) (all_before a.found nothing))) = a.input.reads (codes "-o" ∷ path ∷ colour_word ∷ tail) ∙ ap (before a.input.item) out in
-      let compile : reading t (codes "-c" ∷ p.input ∷ codes "-o" ∷ path ∷ colour_word ∷ tail) ≡ before (flag (codes "-c") Compile) (before a.input.item (before output (before (unknown colour_word) (all_before a.found nothing)))) = reading-alone (codes "-c") (flag (codes "-c") Compile) own.compile (p.input ∷ codes "-o" ∷ path ∷ colour_word ∷ tail) ∙ ap (before (flag (codes "-c") Compile)) input in
-      let all : reading t (compile_words p) ≡ before language (before (flag (codes "-c") Compile) (before a.input.item (before output (before (unknown colour_word) (all_before a.found nothing))))) = reading-with_value (codes "-x") (codes "c") (codes "-x") Language (CanBeConcatenated None) own.language (codes "-c" ∷ p.input ∷ codes "-o" ∷ path ∷ colour_word ∷ tail) ∙ ap (before language) compile in
+      let last : reading false t (colour_word ∷ tail) ≡ before (unknown colour_word) (all_before a.found nothing) = reading-alone colour_word (unknown colour_word) own.colour tail ∙ ap (before (unknown colour_word)) a.reads in
+      let out : reading false t (codes "-o" ∷ path ∷ colour_word ∷ tail) ≡ before output (before (unknown colour_word) (all_before a.found nothing)) = reading-with_value (codes "-o") path (codes "-o") Output (CanBeConcatenated None) own.output (colour_word ∷ tail) ∙ ap (before output) last in
+      let input : reading false t (p.input ∷ codes "-o" ∷ path ∷ colour_word ∷ tail) ≡ before a.input.item (before output (before (unknown colour_word) (all_before a.found nothing))) = a.input.reads (codes "-o" ∷ path ∷ colour_word ∷ tail) ∙ ap (before a.input.item) out in
+      let compile : reading false t (codes "-c" ∷ p.input ∷ codes "-o" ∷ path ∷ colour_word ∷ tail) ≡ before (flag (codes "-c") Compile) (before a.input.item (before output (before (unknown colour_word) (all_before a.found nothing)))) = reading-alone (codes "-c") (flag (codes "-c") Compile) own.compile (p.input ∷ codes "-o" ∷ path ∷ colour_word ∷ tail) ∙ ap (before (flag (codes "-c") Compile)) input in
+      let all : reading false t (compile_words p) ≡ before language (before (flag (codes "-c") Compile) (before a.input.item (before output (before (unknown colour_word) (all_before a.found nothing))))) = reading-with_value (codes "-x") (codes "c") (codes "-x") Language (CanBeConcatenated None) own.language (codes "-c" ∷ p.input ∷ codes "-o" ∷ path ∷ colour_word ∷ tail) ∙ ap (before language) compile in
       record {
         items = ap (λ (r : Reading ArgKind). map normal r.items) all
             ∙ ap (λ i. normal language ∷ flag (codes "-c") Compile ∷ i ∷ normal output ∷ unknown colour_word ∷ map normal (a.found ++ [])) a.input.alike
-            ∙ behind_own (own_compile_items p) a.found (preprocessor_options (reading t words).items ++ hashed_options (reading t words).items) a.alike
-            ∙ sym (map-append normal (own_compile_items p) (preprocessor_options (reading t words).items ++ hashed_options (reading t words).items));
+            ∙ behind_own (own_compile_items p) a.found (preprocessor_options (reading false t words).items ++ hashed_options (reading false t words).items) a.alike
+            ∙ sym (map-append normal (own_compile_items p) (preprocessor_options (reading false t words).items ++ hashed_options (reading false t words).items));
         whole = ap (λ (r : Reading ArgKind). r.cut_short) all;
       }
 
-  pub preprocess_again : (words : List Bytes) (p : ParsedArguments) → with_hazards (parse_of t (reading t words)) ≡ asks p → ReadsAsWanted t words (own_preprocess_items p) (preprocess_words p)
+  pub preprocess_again : (words : List Bytes) (p : ParsedArguments) → with_hazards (parse_of t (reading false t words)) ≡ asks p → ReadsAsWanted t words (own_preprocess_items p) (preprocess_words p)
   preprocess_again words p asked =
       let a : Again words p = again_of words p asked in
       let tail : List Bytes = p.preprocessor_args ++ p.common_args in
       let language : Item ArgKind = valued (codes "-x") Language (codes "c") (CanBeConcatenated None) in
-      let input : reading t (p.input ∷ tail) ≡ before a.input.item (all_before a.found nothing) = a.input.reads tail ∙ ap (before a.input.item) a.reads in
-      let preprocess : reading t (codes "-E" ∷ p.input ∷ tail) ≡ before (unknown (codes "-E")) (before a.input.item (all_before a.found nothing)) = reading-alone (codes "-E") (unknown (codes "-E")) own.preprocess (p.input ∷ tail) ∙ ap (before (unknown (codes "-E"))) input in
-      let all : reading t (preprocess_words p) ≡ before language (before (unknown (codes "-E")) (before a.input.item (all_before a.found nothing))) = reading-with_value (codes "-x") (codes "c") (codes "-x") Language (CanBeConcatenated None) own.language (codes "-E" ∷ p.input ∷ tail) ∙ ap (before language) preprocess in
+      let input : reading false t (p.input ∷ tail) ≡ before a.input.item (all_before a.found nothing) = a.input.reads tail ∙ ap (before a.input.item) a.reads in
+      let preprocess : reading false t (codes "-E" ∷ p.input ∷ tail) ≡ before (unknown (codes "-E")) (before a.input.item (all_before a.found nothing)) = reading-alone (codes "-E") (unknown (codes "-E")) own.preprocess (p.input ∷ tail) ∙ ap (before (unknown (codes "-E"))) input in
+      let all : reading false t (preprocess_words p) ≡ before language (before (unknown (codes "-E")) (before a.input.item (all_before a.found nothing))) = reading-with_value (codes "-x") (codes "c") (codes "-x") Language (CanBeConcatenated None) own.language (codes "-E" ∷ p.input ∷ tail) ∙ ap (before language) preprocess in
       record {
         items = ap (λ (r : Reading ArgKind). map normal r.items) all
             ∙ ap (λ i. normal language ∷ unknown (codes "-E") ∷ i ∷ map normal (a.found ++ [])) a.input.alike
-            ∙ behind_own (own_preprocess_items p) a.found (preprocessor_options (reading t words).items ++ hashed_options (reading t words).items) a.alike
-            ∙ sym (map-append normal (own_preprocess_items p) (preprocessor_options (reading t words).items ++ hashed_options (reading t words).items));
+            ∙ behind_own (own_preprocess_items p) a.found (preprocessor_options (reading false t words).items ++ hashed_options (reading false t words).items) a.alike
+            ∙ sym (map-append normal (own_preprocess_items p) (preprocessor_options (reading false t words).items ++ hashed_options (reading false t words).items));
         whole = ap (λ (r : Reading ArgKind). r.cut_short) all;
       }
 

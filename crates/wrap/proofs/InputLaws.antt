@@ -3,6 +3,7 @@ use Rattle.std.proofs.Common.{◌≡◌, false, List, ◌++◌, Option, None, So
 use Rattle.std.specs.List.{flat_map}
 use Rattle.os_files.specs.Bytes.{Bytes}
 use Rattle.cmdlines_base.specs.Reading.{Item, raw, unknown, flag, valued, Reading, reading}
+use Rattle.cmdlines_base.specs.Cutting.{Place, reading_at}
 use Rattle.cmdlines_base.specs.Table.{Entry}
 use Rattle.cmdlines_base.specs.Values.{Values, values_by, IsOf, Steps}
 use Rattle.cmdlines_base.specs.declared.argument.Argument.{Argument}
@@ -41,7 +42,7 @@ item-of (valued f k w d) (WithValue g t e) h = rw (h.0, h.1, h.2) refl
 abbrev pub input_after : List Bytes → Reading ArgKind → Option Bytes
 input_after inputs r = if r.cut_short then None else only (inputs ++ flat_map input_in r.items)
 
-pub input-step : (table : List (Entry ArgKind)) (old new inputs : List Bytes) (argument : Argument ArgData) → Steps c_values table old (Some (Ok argument)) new
-    → input_after (inputs ++ input_in (item_of argument)) (reading table new) ≡ input_after inputs (reading table old)
+pub input-step : (table : List (Entry ArgKind)) (old new : Place) (inputs : List Bytes) (argument : Argument ArgData) → Steps c_values table old (Some (Ok argument)) new
+    → input_after (inputs ++ input_in (item_of argument)) (reading_at table new) ≡ input_after inputs (reading_at table old)
 input-step table old new inputs argument h =
-    rw (h.1, item-of h.0 argument h.2) (ap (λ list. if (reading table new).cut_short then None else only list) (append_assoc inputs (input_in h.0) (flat_map input_in (reading table new).items)))
+    rw (h.reads, item-of h.item argument h.is) (ap (λ list. if (reading_at table new).cut_short then None else only list) (append_assoc inputs (input_in h.item) (flat_map input_in (reading_at table new).items)))

@@ -21,11 +21,11 @@ use Rattle.wrap.specs.Steps.{CollectCause, CompileCause}
 
 -- what the compile command is answered is the fresh outcome
 pub fresh_is : (meaning : Meaning) (tree : Tree) (request : Request) (p : ParsedArguments) (kind : CCompilerKind) (command : SingleCompileCommand) (status : ℤ) (files : List (Option Bytes)) → kind ≡ kind_of request.compiler → command ≡ command_of request (compile_words p)
-    → made_of status files ≡ meaning Compile (reading (table_of kind) command.arguments) (names_of p.outputs) (scene_of command tree request.moment)
+    → made_of status files ≡ meaning Compile (reading false (table_of kind) command.arguments) (names_of p.outputs) (scene_of command tree request.moment)
     → made_of status files ≡ (work_at meaning (kind_of request.compiler) (scene_at request tree) p).fresh
 fresh_is meaning tree request p kind command status files k e answer =
-    answer ∙ ap (λ x. meaning Compile (reading (table_of x) command.arguments) (names_of p.outputs) (scene_of command tree request.moment)) k
-    ∙ ap (λ (c : SingleCompileCommand). meaning Compile (reading (table_of (kind_of request.compiler)) c.arguments) (names_of p.outputs) (scene_of c tree request.moment)) e
+    answer ∙ ap (λ x. meaning Compile (reading false (table_of x) command.arguments) (names_of p.outputs) (scene_of command tree request.moment)) k
+    ∙ ap (λ (c : SingleCompileCommand). meaning Compile (reading false (table_of (kind_of request.compiler)) c.arguments) (names_of p.outputs) (scene_of c tree request.moment)) e
 
 module _ (w : Work) (status : ℤ) (files : List (Option Bytes)) (made : made_of status files ≡ w.fresh) where
   status_is : status ≡ w.fresh.status

@@ -1,16 +1,19 @@
 //! The values of a C compiler's arguments, and the table by which its words are read.
 
 ghost use Rattle.std.specs.Prelude.{◌≡◌, ◌++◌, [], IfOk, OnOk, MatchOption, false, true};
+ghost use Rattle.cmdlines_base.specs.Table.{all_entries};
 ghost use Rattle.cmdlines_base.specs.Printing.{printed, normal, joined, is_empty_j};
 ghost use Rattle.wrap_base.specs.SmallTable.{small_entries, table_of};
 ghost use Rattle.wrap_base.specs.Wanted.{has_kind, is_too_hard};
 ghost use Rattle.wrap_base.specs.Verdict.{flag_of};
 ghost use Rattle.wrap.specs.Arguments.{item_of, kind_in, word_in};
 
-use cmdlines_base::argument::{ArgDisposition, ArgParseError, Argument, ArgumentValue, Delimiter};
+use cmdlines_base::argument::{ArgDisposition, Argument, Delimiter};
+use cmdlines_base::argument_error::{ArgParseResult, ArgToStringResult};
 use cmdlines_base::command::CCompilerKind;
 use os_files::os_bytes::OsBytes;
 use cmdlines_base::table::{ArgInfo, SearchableArgInfo, Table};
+use cmdlines_base::value::{ArgumentValue, IntoArg, word_to_string};
 use std::alloc::{AllocError, Global};
 use wrap_base::kind::ArgKind;
 
@@ -21,9 +24,32 @@ pub enum ArgData {
     Value(ArgKind, OsBytes),
 }
 
+impl IntoArg for ArgData {
+    ghost use Rattle.std.specs.Prelude.{false};
+    ghost use Rattle.wrap.specs.Arguments.{word_in};
+
+    ghost word = { word_in };
+
+    ghost is_path = { λ _. false };
+
+    fn into_arg_os_string(&self, alloc: Global) -> Result<OsBytes, AllocError> {
+        OsBytes::from_slice(alloc, self.word())
+    }
+
+    fn into_arg_string<F: FnMut(&[u8]) -> Option<String>>(
+        &self,
+        alloc: Global,
+        _path_transformer: &mut F,
+    ) -> ArgToStringResult {
+        word_to_string(alloc, self.word())
+    }
+}
+
 impl ArgumentValue for ArgData {
     ghost use Rattle.wrap.specs.declared.arguments.ArgData.TheVariants.{Flag, Value};
-    ghost use Rattle.std.specs.Prelude.{◌≡◌, false};
+    ghost use Rattle.std.proofs.Common.{ap};
+    ghost use Rattle.std.specs.Prelude.{◌≡◌, true, false};
+    ghost use Rattle.wrap.specs.Arguments.{word_in};
 
     type Kind = ArgKind;
 
@@ -33,11 +59,15 @@ impl ArgumentValue for ArgData {
 
     ghost refuses = { λ _ _. false };
 
-    fn of_flag(kind: ArgKind) -> ArgData {
+    ghost gives_back = { λ _. true };
+
+    ghost prints_what_it_reads = { λ _ _ _ _ is. ap word_in is };
+
+    fn of_flag(_alloc: Global, kind: ArgKind) -> ArgData {
         Self::Flag(kind)
     }
 
-    fn of_word(alloc: Global, kind: ArgKind, word: &[u8]) -> Result<ArgData, ArgParseError> {
+    fn of_word(alloc: Global, kind: ArgKind, word: &[u8]) -> ArgParseResult<ArgData> {
         Ok(ArgData::Value(kind, OsBytes::from_slice(alloc, word)?))
     }
 }
@@ -108,7 +138,7 @@ pub fn is_empty_value<S: SearchableArgInfo<ArgData>>(
     table: &S,
     argument: &Argument<ArgData>,
 ) -> bool
-    ensures { result ≡ is_empty_j (S.entries table.now) (item_of argument.now) }
+    ensures { result ≡ is_empty_j (all_entries (S.tables table.now)) (item_of argument.now) }
 {
     match argument {
         Argument::WithValue(flag, data, _) => {

@@ -1,6 +1,7 @@
 //! What the arguments of a request say, gathered one after another.
 
 ghost use Rattle.std.specs.Prelude.{◌≡◌, ◌++◌, [], ◌∷◌, OnOk};
+ghost use Rattle.cmdlines_base.specs.Table.{all_entries};
 ghost use Rattle.cmdlines_base.specs.Printing.{printed_as, normal_disposition, joined};
 ghost use Rattle.wrap.specs.Arguments.{item_of};
 ghost use Rattle.wrap.specs.Collecting.{nothing_collected, absorb, with_flag, with_value};
@@ -55,7 +56,7 @@ impl Collected {
         table: &S,
         argument: Argument<ArgData>,
     ) -> Result<(), AllocError>
-        ensures { OnOk result (self.new ≡ absorb (S.entries table.now) self.old (item_of argument ∷ [])) }
+        ensures { OnOk result (self.new ≡ absorb (all_entries (S.tables table.now)) self.old (item_of argument ∷ [])) }
     {
         if is_empty_value(table, &argument) {
             self.empty_value = true;

@@ -1,8 +1,9 @@
 //! The texts of the scripted tool, and what it makes of them.
 
-ghost use Rattle.std.specs.Prelude.{◌≡◌, ℤ, [], ◌∷◌, ◌++◌, IfOk, OnOk, IsErrOf, Some, None, if◌then◌else◌, map, option_and_then, codes};
+ghost use Rattle.std.specs.Prelude.{false, ◌≡◌, ℤ, [], ◌∷◌, ◌++◌, IfOk, OnOk, IsErrOf, Some, None, if◌then◌else◌, map, option_and_then, codes};
 ghost use Rattle.std.specs.Option.{option_map};
 ghost use Rattle.os_files.specs.Bytes.{ticked};
+ghost use Rattle.cmdlines_base.specs.Table.{all_entries};
 ghost use Rattle.cmdlines_base.specs.Reading.{reading};
 ghost use Rattle.wrap_base.specs.Meaning.{names_of, made_of, scene_of};
 ghost use Rattle.wrap_base.specs.SmallTable.{table_of};
@@ -13,7 +14,8 @@ ghost use Rattle.wrap.specs.Scripted.{only, input_of, marker, inclusion, replace
 
 use crate::arguments::{ArgData, table_for};
 use crate::lines::{included, push_with_end, split_line};
-use cmdlines_base::argument::{ArgParseError, Argument};
+use cmdlines_base::argument::Argument;
+use cmdlines_base::argument_error::ArgParseError;
 use cmdlines_base::command::{ArtifactDescriptor, CCompilerKind, SingleCompileCommand};
 use cmdlines_base::cutting::ArgsIter;
 use os_files::files::{FileFail, Files};
@@ -51,7 +53,7 @@ fn input_by<S: SearchableArgInfo<ArgData>>(
     words: &[OsBytes],
     table: &S,
 ) -> Result<Option<OsBytes>, AllocError>
-    ensures { IfOk result (λ input. input ≡ input_of (reading (S.entries table.now) words.now)) }
+    ensures { IfOk result (λ input. input ≡ input_of (reading false (all_entries (S.tables table.now)) words.now)) }
 {
     let mut inputs = Vec::new(alloc);
     let mut arguments = ArgsIter::new(alloc, words, table);
@@ -71,7 +73,7 @@ fn input(
     kind: CCompilerKind,
     words: &[OsBytes],
 ) -> Result<Option<OsBytes>, AllocError>
-    ensures { IfOk result (λ input. input ≡ input_of (reading (table_of kind) words.now)) }
+    ensures { IfOk result (λ input. input ≡ input_of (reading false (table_of kind) words.now)) }
 {
     let table = table_for(alloc, kind)?;
     input_by(alloc, words, &table)
@@ -190,7 +192,7 @@ pub fn text_of<F: Files>(
     command: &SingleCompileCommand,
     files: &mut F,
 ) -> Result<Option<OsBytes>, FileFail>
-    ensures text { (moment : ℤ) → IfOk result (λ text. text ≡ option_and_then (text_of (scene_of command.now (F.tree files.old) moment)) (input_of (reading (table_of kind) command.now.arguments))) }
+    ensures text { (moment : ℤ) → IfOk result (λ text. text ≡ option_and_then (text_of (scene_of command.now (F.tree files.old) moment)) (input_of (reading false (table_of kind) command.now.arguments))) }
     ensures tree { F.tree files.new ≡ F.tree files.old }
     ensures device { IsErrOf result FileFail.Device → F.failed files.new ≡ ticked (F.failed files.old) }
     ensures steady { (IsErrOf result FileFail.Device → ⊥) → F.failed files.new ≡ F.failed files.old }

@@ -3,6 +3,7 @@
 ghost use Rattle.std.specs.Prelude.{◌≡◌, ◌↔◌, ◌∷◌, [], false, codes, alloc_error, IfOk, IsErrOf, MatchResult};
 ghost use Rattle.std.specs.List.{list_any};
 ghost use Rattle.std.specs.Option.{option_copied};
+ghost use Rattle.cmdlines_base.specs.Table.{all_entries};
 ghost use Rattle.cmdlines_base.specs.Reading.{reading};
 ghost use Rattle.wrap_base.specs.SmallTable.{table_of};
 ghost use Rattle.wrap_base.specs.Commands.{object_name, names_file, opens_file};
@@ -13,7 +14,7 @@ ghost use Rattle.wrap.specs.Decisions.{decision_of};
 use crate::arguments::{ArgData, table_for, too_hard_flag};
 use crate::collected::Collected;
 use crate::commands::{compile_words, preprocess_words};
-use cmdlines_base::argument::ArgParseError;
+use cmdlines_base::argument_error::ArgParseError;
 use cmdlines_base::command::{ArtifactDescriptor, CCompilerKind};
 use cmdlines_base::cutting::ArgsIter;
 use os_files::listed::Listed;
@@ -169,7 +170,7 @@ fn parse<S: SearchableArgInfo<ArgData>>(
     table: &S,
     words: &[OsBytes],
 ) -> Result<Verdict, AllocError>
-    ensures { IfOk result (λ verdict. decision_of verdict ≡ parse_of (S.entries table.now) (reading (S.entries table.now) words.now)) }
+    ensures { IfOk result (λ verdict. decision_of verdict ≡ parse_of (all_entries (S.tables table.now)) (reading false (all_entries (S.tables table.now)) words.now)) }
 {
     let mut collected = Collected::new(alloc);
     let mut arguments = ArgsIter::new(alloc, words, table);
@@ -207,7 +208,7 @@ fn opens_file(alloc: Global, parsed: &ParsedArguments) -> Result<bool, AllocErro
 
 /// What the words of a request to that compiler ask for, before the hazards.
 fn parse_words(alloc: Global, kind: CCompilerKind, words: &[OsBytes]) -> Result<Verdict, AllocError>
-    ensures { IfOk result (λ verdict. decision_of verdict ≡ parse_of (table_of kind) (reading (table_of kind) words.now)) }
+    ensures { IfOk result (λ verdict. decision_of verdict ≡ parse_of (table_of kind) (reading false (table_of kind) words.now)) }
 {
     let table = table_for(alloc, kind)?;
     parse(alloc, &table, words)

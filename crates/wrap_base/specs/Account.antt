@@ -1,5 +1,5 @@
 -- A call as plain values, and what it is to give.
-use Rattle.std.specs.Prelude.{◌≡◌, pos, List, [], ◌∷◌, Option, Some, None, if◌then◌else◌}
+use Rattle.std.specs.Prelude.{false, ◌≡◌, pos, List, [], ◌∷◌, Option, Some, None, if◌then◌else◌}
 use Rattle.std.specs.Ordering.{int_eq}
 use Rattle.os_files.specs.Bytes.{Bytes}
 use Rattle.os_files.specs.Tree.{Tree}
@@ -35,8 +35,8 @@ scene_at request tree = record { executable = executable_of request.compiler; di
 abbrev pub work_at : Meaning → CCompilerKind → Scene → ParsedArguments → Work
 work_at meaning kind scene p = record {
   outputs = p.outputs;
-  printed = meaning Preprocess (reading (table_of kind) (preprocess_words p)) [] scene;
-  fresh = meaning Compile (reading (table_of kind) (compile_words p)) (names_of p.outputs) scene;
+  printed = meaning Preprocess (reading false (table_of kind) (preprocess_words p)) [] scene;
+  fresh = meaning Compile (reading false (table_of kind) (compile_words p)) (names_of p.outputs) scene;
 }
 
 abbrev pub account_by : Meaning → CCompilerKind → Scene → Decision → Account

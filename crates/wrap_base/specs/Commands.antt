@@ -67,5 +67,5 @@ own_preprocess_items p = valued (codes "-x") Language (codes "c") (CanBeSeparate
 
 -- Beside its own items the command is read as the wanted options of the request's words, and nothing is cut short. Where a value may stand either way it may stand otherwise than in the request.
 pub record ReadsAsWanted (table : List (Entry ArgKind)) (words : List Bytes) (own : List (Item ArgKind)) (command : List Bytes) : Type 0 where
-  pub items : map normal (reading table command).items ≡ map normal (own ++ (preprocessor_options (reading table words).items ++ hashed_options (reading table words).items))
-  pub whole : (reading table command).cut_short ≡ false
+  pub items : map normal (reading false table command).items ≡ map normal (own ++ (preprocessor_options (reading false table words).items ++ hashed_options (reading false table words).items))
+  pub whole : (reading false table command).cut_short ≡ false

@@ -99,4 +99,4 @@ with_hazards (asks p) = if p.empty_value then passes empty_value else (if opens_
 
 -- the verdict on words of that compiler
 abbrev pub verdict_of : CCompilerKind → List Bytes → Decision
-verdict_of kind words = with_hazards (parse_of (table_of kind) (reading (table_of kind) words))
+verdict_of kind words = with_hazards (parse_of (table_of kind) (reading false (table_of kind) words))

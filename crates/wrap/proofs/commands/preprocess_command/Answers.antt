@@ -1,4 +1,4 @@
-use Rattle.std.proofs.Common.{◌≡◌, List}
+use Rattle.std.proofs.Common.{false, ◌≡◌, List}
 use Rattle.os_files.specs.Bytes.{Bytes}
 use Rattle.wrap_base.specs.SmallTable.{table_of}
 use Rattle.wrap_base.specs.Commands.{kind_of, preprocess_words, own_preprocess_items, ReadsAsWanted}
@@ -13,4 +13,4 @@ returns-clause-again c =
     again_in c.command_of.result c.args.request.now
     (λ command. (words : List Bytes) → verdict_of kind words ≡ asks parsed → ReadsAsWanted (table_of kind) words (own_preprocess_items parsed) command)
     c.in_ok-words.words (preprocess_words parsed) c.in_ok-words.ensures c.command_of.ensures
-    (λ words. preprocess_again c.words_have_one_reading.ensures.is c.words_have_one_reading.ensures.only c.items_read_again.ensures c.items_read_together.ensures (table_of kind) (own_words kind) words parsed)
+    (λ words. preprocess_again (c.words_have_one_reading.ensures.is false) (c.words_have_one_reading.ensures.only false) c.items_read_again.ensures c.items_read_together.ensures (table_of kind) (own_words kind) words parsed)

@@ -1,0 +1,60 @@
+//! Each call through its bound, at the types of the crate.
+
+use super::{ArgumentValue, FromArg, IntoArg};
+use crate::argument_error::{ArgParseError, ArgToStringError};
+use os_files::os_bytes::OsBytes;
+use std::alloc::Global;
+use std::test::Fail;
+
+/// The word that a value of a word prints.
+fn printed_again<T: FromArg + IntoArg>(alloc: Global, word: &[u8]) -> Result<OsBytes, Fail> {
+    match T::process(OsBytes::from_slice(alloc, word)?) {
+        Ok(value) => Ok(value.into_arg_os_string(alloc)?),
+        Err(_) => Err("no value".into()),
+    }
+}
+
+/// The text of an option's value.
+fn text_of<T: ArgumentValue<Kind = ()>>(alloc: Global, word: &[u8]) -> Result<String, Fail> {
+    match T::of_word(alloc, (), word) {
+        Ok(value) => match value.into_arg_string(alloc, &mut |_: &[u8]| None) {
+            Ok(text) => Ok(text),
+            Err(_) => Err("no text".into()),
+        },
+        Err(_) => Err("no value".into()),
+    }
+}
+
+#[test]
+fn values_print_what_they_read(rt: HostRuntime) -> Result<(), Fail> {
+    let alloc = rt.alloc();
+    let word = "a b\u{e9}".as_bytes();
+    assert_eq!(rt; printed_again::<OsBytes>(alloc, word)?.as_bytes(), word);
+    assert_eq!(rt; printed_again::<String>(alloc, word)?.as_bytes(), word);
+    assert_eq!(rt; printed_again::<()>(alloc, word)?.as_bytes(), b"".as_slice());
+    assert_eq!(rt; text_of::<OsBytes>(alloc, word)?.as_str(), "a b\u{e9}");
+    assert_eq!(rt; text_of::<String>(alloc, word)?.as_str(), "a b\u{e9}");
+    assert_eq!(rt; text_of::<()>(alloc, word)?.as_str(), "");
+    Ok(())
+}
+
+#[test]
+fn flags_have_nothing(rt: HostRuntime) -> Result<(), Fail> {
+    let alloc = rt.alloc();
+    assert!(rt; OsBytes::of_flag(alloc, ()).as_bytes().is_empty());
+    assert!(rt; String::of_flag(alloc, ()).is_empty());
+    let () = <()>::of_flag(alloc, ());
+    Ok(())
+}
+
+#[test]
+fn what_is_no_text_is_handed_back(rt: HostRuntime) -> Result<(), Fail> {
+    let alloc = rt.alloc();
+    let word = OsBytes::from_slice(alloc, b"a\xff")?;
+    let refused = String::process(word.clone()?);
+    assert!(rt; matches!(refused, Err(ArgParseError::InvalidUnicode(back)) if back == word));
+    let text = word.into_arg_string(alloc, &mut |_: &[u8]| None);
+    assert!(rt; matches!(text, Err(ArgToStringError::InvalidUnicode(back)) if back == word));
+    assert_eq!(rt; OsBytes::process(word)?.as_bytes(), b"a\xff".as_slice());
+    Ok(())
+}
