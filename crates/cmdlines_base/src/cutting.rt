@@ -11,9 +11,9 @@ ghost use Rattle.cmdlines_base.specs.Values.{values_by, IsOf, IsFirst, IsRefused
 
 use crate::argument::{ArgDisposition, Argument, Delimiter};
 use crate::argument_error::{ArgParseError, ArgParseResult};
+use crate::table::{ArgInfo, SearchableArgInfo, behind};
 use crate::value::ArgumentValue;
 use os_files::os_bytes::OsBytes;
-use crate::table::{ArgInfo, SearchableArgInfo, behind};
 use std::alloc::{AllocError, Global};
 use std::marker::PhantomData;
 

@@ -179,7 +179,8 @@ impl<T: ArgumentValue> SearchableArgInfo<T> for Table<T> {
 
 /// Two tables, or what else is searched: the entry with the longer flag is that of the word, and the second's on equal
 /// flags.
-impl<T: ArgumentValue, A: SearchableArgInfo<T>, B: SearchableArgInfo<T>> SearchableArgInfo<T> for (A, B) {
+impl<T: ArgumentValue, A: SearchableArgInfo<T>, B: SearchableArgInfo<T>> SearchableArgInfo<T>
+    for (A, B) {
     ghost tables = { λ t. A.tables t.0 ++ B.tables t.1 };
 
     fn search(&self, word: &[u8]) -> Option<&ArgInfo<T>> {

@@ -11,9 +11,9 @@ ghost use Rattle.wrap.specs.Arguments.{item_of, kind_in, word_in};
 use cmdlines_base::argument::{ArgDisposition, Argument, Delimiter};
 use cmdlines_base::argument_error::{ArgParseResult, ArgToStringResult};
 use cmdlines_base::command::CCompilerKind;
-use os_files::os_bytes::OsBytes;
 use cmdlines_base::table::{ArgInfo, SearchableArgInfo, Table};
 use cmdlines_base::value::{ArgumentValue, IntoArg, word_to_string};
+use os_files::os_bytes::OsBytes;
 use std::alloc::{AllocError, Global};
 use wrap_base::kind::ArgKind;
 

@@ -1,8 +1,8 @@
 //! Byte strings in JSON: a text stands for its UTF-8 bytes, and `{"hex": ".."}` for any bytes.
 
 use crate::scenario::ScenarioFault;
-use os_files::os_bytes::OsBytes;
 use hex::FromHexError;
+use os_files::os_bytes::OsBytes;
 use serde_json::{Map, Value};
 use std::alloc::Global;
 

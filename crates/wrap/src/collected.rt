@@ -8,8 +8,8 @@ ghost use Rattle.wrap.specs.Collecting.{nothing_collected, absorb, with_flag, wi
 
 use crate::arguments::{ArgData, is_empty_value};
 use cmdlines_base::argument::{ArgDisposition, Argument, Delimiter};
-use os_files::os_bytes::OsBytes;
 use cmdlines_base::table::SearchableArgInfo;
+use os_files::os_bytes::OsBytes;
 use std::alloc::{AllocError, Global};
 use std::marker::Model;
 use wrap_base::kind::ArgKind;

@@ -5,10 +5,7 @@ use os_files::os_bytes::OsBytes;
 use std::alloc::{AllocError, Global};
 use std::test::Fail;
 
-fn with_value(
-    alloc: Global,
-    disposition: ArgDisposition,
-) -> Result<Argument<OsBytes>, AllocError> {
+fn with_value(alloc: Global, disposition: ArgDisposition) -> Result<Argument<OsBytes>, AllocError> {
     let value = OsBytes::from_slice(alloc, b"inc")?;
     Ok(Argument::WithValue("-I", value, disposition))
 }
@@ -19,19 +16,38 @@ fn either_way_stands_as_is_wanted(rt: HostRuntime) -> Result<(), Fail> {
     let apart = NormalizedDisposition::Separated;
     let joined = NormalizedDisposition::Concatenated;
     for (read, wanted, stands) in [
-        (ArgDisposition::CanBeConcatenated(None), apart, ArgDisposition::Separated),
-        (ArgDisposition::CanBeSeparated(Some(b'=')), apart, ArgDisposition::Separated),
+        (
+            ArgDisposition::CanBeConcatenated(None),
+            apart,
+            ArgDisposition::Separated,
+        ),
+        (
+            ArgDisposition::CanBeSeparated(Some(b'=')),
+            apart,
+            ArgDisposition::Separated,
+        ),
         (
             ArgDisposition::CanBeConcatenated(Some(b'=')),
             joined,
             ArgDisposition::Concatenated(Some(b'=')),
         ),
-        (ArgDisposition::CanBeSeparated(None), joined, ArgDisposition::Concatenated(None)),
+        (
+            ArgDisposition::CanBeSeparated(None),
+            joined,
+            ArgDisposition::Concatenated(None),
+        ),
         (ArgDisposition::Separated, joined, ArgDisposition::Separated),
-        (ArgDisposition::Concatenated(None), apart, ArgDisposition::Concatenated(None)),
+        (
+            ArgDisposition::Concatenated(None),
+            apart,
+            ArgDisposition::Concatenated(None),
+        ),
     ] {
         let argument = with_value(alloc, read)?.normalize(wanted);
-        assert!(rt; argument == with_value(alloc, stands)?, "{read:?} {wanted:?}");
+        assert!(rt;
+            argument == with_value(alloc, stands)?,
+            "{read:?} {wanted:?}"
+        );
     }
     let raw = Argument::<OsBytes>::Raw(OsBytes::from_slice(alloc, b"a.c")?);
     assert!(rt; raw.clone()?.normalize(apart) == raw);

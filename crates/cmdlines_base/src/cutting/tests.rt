@@ -81,7 +81,10 @@ fn words_by_example(rt: HostRuntime) -> Result<(), Fail> {
         ("-stdlibc", "unknown <-stdlibc>; "),
         ("-std=", "-std <> Concatenated(Some(61)); "),
         ("-std=c99", "-std <c99> Concatenated(Some(61)); "),
-        ("-O -O2", "-O <> Concatenated(None); -O <2> Concatenated(None); "),
+        (
+            "-O -O2",
+            "-O <> Concatenated(None); -O <2> Concatenated(None); ",
+        ),
         ("-cc - x.c", "unknown <-cc>; unknown <->; raw <x.c>; "),
         ("", "raw <>; "),
         ("-c -- -c", "-c; unknown <-->; -c; "),

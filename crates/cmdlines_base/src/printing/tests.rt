@@ -1,11 +1,11 @@
 //! Words cut and printed again, and texts by closures.
 
 use crate::argument::{ArgDisposition, Argument};
-use crate::argument_error::ArgToStringError;
 use crate::cutting::ArgsIter;
 use crate::examples::{Value, table, words};
 use os_files::os_bytes::OsBytes;
-use std::alloc::Global;
+use std::alloc::{AllocError, Global};
+use std::fmt::Write;
 use std::test::Fail;
 
 /// The words of a line, cut and printed again, between spaces.
@@ -37,7 +37,11 @@ fn words_are_printed_as_they_stood(rt: HostRuntime) -> Result<(), Fail> {
         assert_eq!(rt; printed_again(alloc, line.as_bytes())?.as_str(), line);
     }
     // A delimiter before nothing is dropped.
-    for (line, want) in [("-std=", "-std"), ("--sysroot= -c", "--sysroot -c"), ("-I", "-I")] {
+    for (line, want) in [
+        ("-std=", "-std"),
+        ("--sysroot= -c", "--sysroot -c"),
+        ("-I", "-I"),
+    ] {
         assert_eq!(rt; printed_again(alloc, line.as_bytes())?.as_str(), want);
     }
     Ok(())
@@ -52,58 +56,82 @@ fn path(alloc: Global, flag: &'static str, read: ArgDisposition) -> Result<Argum
     Ok(Argument::WithValue(flag, value, read))
 }
 
+/// The texts of an argument, each before a `|`, and the error that ends them.
+fn texts_of<F: FnMut(&[u8]) -> Option<String> + Drop>(
+    alloc: Global,
+    argument: &Argument<Value>,
+    path_transformer: F,
+) -> Result<String, AllocError>
+    requires { F.IsAlwaysCallable path_transformer }
+{
+    let mut text = String::new(alloc);
+    for part in argument.iter_strings(alloc, path_transformer) {
+        match part {
+            Ok(part) => write!(text, "{part}|")?,
+            Err(error) => write!(text, "{error}")?,
+        }
+    }
+    Ok(text)
+}
+
 #[test]
 fn paths_are_what_the_closure_answers(rt: HostRuntime) -> Result<(), Fail> {
     let alloc = rt.alloc();
-    for (read, want) in [
-        (ArgDisposition::Concatenated(Some(b'=')), "--sysroot=/there|"),
-        (ArgDisposition::CanBeSeparated(None), "--sysroot/there|"),
-        (ArgDisposition::Separated, "--sysroot|/there|"),
-        (ArgDisposition::CanBeConcatenated(Some(b'=')), "--sysroot|/there|"),
+    for (read, there, none) in [
+        (
+            ArgDisposition::Concatenated(Some(b'=')),
+            "--sysroot=/there|",
+            "--sysroot|",
+        ),
+        (
+            ArgDisposition::CanBeSeparated(None),
+            "--sysroot/there|",
+            "--sysroot|",
+        ),
+        (
+            ArgDisposition::Separated,
+            "--sysroot|/there|",
+            "--sysroot||",
+        ),
+        (
+            ArgDisposition::CanBeConcatenated(Some(b'=')),
+            "--sysroot|/there|",
+            "--sysroot||",
+        ),
     ] {
         let argument = path(alloc, "--sysroot", read)?;
-        let mut asked = 0;
-        let mut text = String::new(alloc);
-        for part in argument.iter_strings(alloc, |path: &[u8]| {
-            asked += 1;
-            if path == b"/s".as_slice() { String::from_str(alloc, "/there").ok() } else { None }
-        }) {
-            let Ok(part) = part else {
-                return Err("no text".into());
-            };
-            text.push_str(part.as_str())?;
-            text.push('|')?;
-        }
-        assert_eq!(rt; text.as_str(), want);
-        assert_eq!(rt; asked, 1);
+        let moved = texts_of(
+            alloc,
+            &argument,
+            |_path: &[u8]| String::from_str(alloc, "/there").ok(),
+        )?;
+        assert_eq!(rt; moved.as_str(), there);
+        let gone = texts_of(alloc, &argument, |_path: &[u8]| Some(String::new(alloc)))?;
+        assert_eq!(rt; gone.as_str(), none);
     }
     Ok(())
+}
+
+fn refuse(_path: &[u8]) -> Option<String> {
+    None
 }
 
 #[test]
 fn a_refused_path_is_the_end(rt: HostRuntime) -> Result<(), Fail> {
     let alloc = rt.alloc();
-    for read in [ArgDisposition::Concatenated(None), ArgDisposition::Separated] {
+    for (read, want) in [
+        (
+            ArgDisposition::Concatenated(None),
+            r#"a path cannot be transformed: "/s""#,
+        ),
+        (
+            ArgDisposition::Separated,
+            r#"-I|a path cannot be transformed: "/s""#,
+        ),
+    ] {
         let argument = path(alloc, "-I", read)?;
-        let mut texts = argument.iter_strings(alloc, |_: &[u8]| None);
-        if read == ArgDisposition::Separated {
-            assert!(rt; matches!(texts.next(), Some(Ok(flag)) if flag.as_str() == "-I"));
-        }
-        let refused = texts.next();
-        assert!(rt; matches!(refused, Some(Err(ArgToStringError::FailedPathTransform(path))) if path.as_bytes() == b"/s".as_slice()));
-        assert!(rt; texts.next().is_none());
-        assert!(rt; texts.next().is_none());
+        assert_eq!(rt; texts_of(alloc, &argument, refuse)?.as_str(), want);
     }
-    Ok(())
-}
-
-#[test]
-fn an_empty_text_drops_the_delimiter(rt: HostRuntime) -> Result<(), Fail> {
-    let alloc = rt.alloc();
-    let argument = path(alloc, "--sysroot", ArgDisposition::Concatenated(Some(b'=')))?;
-    let mut texts = argument.iter_strings(alloc, |_: &[u8]| Some(String::new(alloc)));
-    assert!(rt; matches!(texts.next(), Some(Ok(text)) if text.as_str() == "--sysroot"));
-    assert!(rt; texts.next().is_none());
     Ok(())
 }
 
@@ -111,14 +139,16 @@ fn an_empty_text_drops_the_delimiter(rt: HostRuntime) -> Result<(), Fail> {
 fn what_is_no_text_is_refused(rt: HostRuntime) -> Result<(), Fail> {
     let alloc = rt.alloc();
     let word = OsBytes::from_slice(alloc, b"\xff.c")?;
-    let raw = Argument::<Value>::Raw(word.clone()?);
-    let mut texts = raw.iter_strings(alloc, |_: &[u8]| None);
-    assert!(rt; matches!(texts.next(), Some(Err(ArgToStringError::InvalidUnicode(back))) if back == word));
-    assert!(rt; texts.next().is_none());
+    let raw = Argument::<Value>::Raw(word);
+    let refused = texts_of(alloc, &raw, refuse)?;
+    assert_eq!(rt; refused.as_str(), r#"an argument is not UTF-8: "\xff.c""#);
     // No table has such a delimiter, but an argument may.
     let joined = path(alloc, "-I", ArgDisposition::Concatenated(Some(200)))?;
-    let mut texts = joined.iter_strings(alloc, |_: &[u8]| String::from_str(alloc, "s").ok());
-    assert!(rt; matches!(texts.next(), Some(Err(ArgToStringError::InvalidUnicode(back))) if back.as_bytes() == b"-I\xc8s".as_slice()));
-    assert!(rt; texts.next().is_none());
+    let refused = texts_of(
+        alloc,
+        &joined,
+        |_path: &[u8]| String::from_str(alloc, "s").ok(),
+    )?;
+    assert_eq!(rt; refused.as_str(), r#"an argument is not UTF-8: "-I\xc8s""#);
     Ok(())
 }
