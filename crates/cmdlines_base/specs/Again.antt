@@ -1,10 +1,10 @@
 -- How written words are read again.
-use Rattle.std.specs.Prelude.{◌≡◌, Bool, true, false, not, ◌&&◌, ◌==◌, List, [], ◌∷◌, ◌++◌, length, map, Option, None, Some, Contains}
+use Rattle.std.specs.Prelude.{◌≡◌, Bool, true, false, not, ◌&&◌, ◌||◌, ◌==◌, List, [], ◌∷◌, ◌++◌, length, map, Option, None, Some, is_some, codes, Contains}
 use Rattle.std.specs.List.{list_all, AllByRecursion}
 use Rattle.os_files.specs.Bytes.{Bytes}
-use Rattle.cmdlines_base.specs.Table.{Entry, behind}
+use Rattle.cmdlines_base.specs.Table.{Entry, behind, longest_fit}
 use Rattle.cmdlines_base.specs.Printing.{is_j, is_empty_j, printed, normal, words_of}
-use Rattle.cmdlines_base.specs.Reading.{Item, reading, before, all_before}
+use Rattle.cmdlines_base.specs.Reading.{Item, is_behind, reading, before, all_before}
 
 -- Flags are of one entry each, and no flag goes on behind one of two bytes whose value may stand either way.
 pub record IsClear {K : Type 0} (table : List (Entry K)) : Type 0 where
@@ -12,24 +12,24 @@ pub record IsClear {K : Type 0} (table : List (Entry K)) : Type 0 where
   pub alone : (d e : Entry K) (more : Bytes) → Contains table d → Contains table e → is_j e ≡ true → length e.flag ≡ 2 → d.flag ≡ e.flag ++ more → more ≡ []
 
 -- Whatever follows, the item's words are read as an item that is normally written alike.
-pub record ReadsAgain {K : Type 0} (table : List (Entry K)) (a : Item K) : Type 0 where
+pub record ReadsAgain {K : Type 0} (dashes : Bool) (table : List (Entry K)) (a : Item K) : Type 0 where
   pub item : Item K
-  pub reads : (rest : List (Bytes)) → reading false table (printed (normal a) ++ rest) ≡ before item (reading false table rest)
+  pub reads : (rest : List (Bytes)) → reading dashes table (printed (normal a) ++ rest) ≡ before item (reading dashes table rest)
   pub alike : normal item ≡ normal a
 
 -- Written one after another, whatever follows, the items are read as items that are normally written alike.
-pub record ReadsTogether {K : Type 0} (table : List (Entry K)) (items : List (Item K)) (rest : List Bytes) : Type 0 where
+pub record ReadsTogether {K : Type 0} (dashes : Bool) (table : List (Entry K)) (items : List (Item K)) (rest : List Bytes) : Type 0 where
   pub found : List (Item K)
-  pub reads : reading false table (words_of items ++ rest) ≡ all_before found (reading false table rest)
+  pub reads : reading dashes table (words_of items ++ rest) ≡ all_before found (reading dashes table rest)
   pub alike : map normal found ≡ map normal items
 
 -- each of the items reads again
-abbrev pub AllReadAgain : {K : Type 0} → List (Entry K) → List (Item K) → Type 0
-AllReadAgain table items = AllByRecursion (ReadsAgain table) items
+abbrev pub AllReadAgain : {K : Type 0} → Bool → List (Entry K) → List (Item K) → Type 0
+AllReadAgain dashes table items = AllByRecursion (ReadsAgain dashes table) items
 
--- each that isn't an empty value which may stand either way does
-abbrev pub AllReadAgainUnlessEmpty : {K : Type 0} → List (Entry K) → List (Item K) → Type 0
-AllReadAgainUnlessEmpty table items = AllByRecursion (λ a. is_empty_j table a ≡ false → ReadsAgain table a) items
+-- each does that stands before double dashes and isn't an empty value which may stand either way
+abbrev pub AllReadAgainUnlessEmpty : {K : Type 0} → Bool → List (Entry K) → List (Item K) → Type 0
+AllReadAgainUnlessEmpty dashes table items = AllByRecursion (λ a. (is_behind a || is_empty_j table a) ≡ false → ReadsAgain dashes table a) items
 
 -- no entry has the other's flag, and none goes on behind one of two bytes whose value may stand either way
 abbrev pub free_by : Bool → Option (Bytes) → Bool
@@ -39,6 +39,10 @@ free_by j (Some (b ∷ bs)) = not j
 
 abbrev pub is_free : {K : Type 0} → Entry K → Entry K → Bool
 is_free e d = free_by (is_j e && (length e.flag == 2)) (behind e.flag d.flag)
+
+-- nothing fits double dashes, where these end the options
+abbrev pub lets_dashes : {K : Type 0} → Bool → List (Entry K) → Bool
+lets_dashes dashes table = not (dashes && is_some (longest_fit table (codes "--")))
 
 abbrev pub is_clear : {K : Type 0} → List (Entry K) → Bool
 is_clear [] = true

@@ -8,7 +8,7 @@ use Rattle.std.specs.List.{flat_map}
 use Rattle.std.specs.Option.{option_map_or}
 use Rattle.os_files.specs.Bytes.{Bytes}
 use Rattle.cmdlines_base.specs.Table.{Entry, longest_fit}
-use Rattle.cmdlines_base.specs.Reading.{Item, raw, unknown, flag, valued}
+use Rattle.cmdlines_base.specs.Reading.{Item, raw, unknown, flag, valued, behind_dashes}
 
 -- a value behind its flag in one word; an empty one drops the delimiter
 abbrev pub joined : Bytes → Option ℕ → Bytes → Bytes
@@ -27,6 +27,7 @@ printed (raw w) = w ∷ []
 printed (unknown w) = w ∷ []
 printed (flag f k) = f ∷ []
 printed (valued f k v d) = printed_as f v d
+printed (behind_dashes w) = w ∷ []
 
 -- A value that may stand either way stands as is wanted; any other stays.
 abbrev pub normalized_disposition : NormalizedDisposition → ArgDisposition → ArgDisposition
@@ -49,6 +50,7 @@ normal (raw w) = raw w
 normal (unknown w) = unknown w
 normal (flag f k) = flag f k
 normal (valued f k v d) = valued f k v (normal_disposition f d)
+normal (behind_dashes w) = behind_dashes w
 
 -- the words of items, as they are written again
 abbrev pub words_of : {K : Type 0} → List (Item K) → List Bytes
@@ -71,3 +73,4 @@ is_empty_j table (unknown w) = false
 is_empty_j table (flag f k) = false
 is_empty_j table (valued f k [] d) = option_map_or is_j (longest_fit table f) false
 is_empty_j table (valued f k (b ∷ bs) d) = false
+is_empty_j table (behind_dashes w) = false

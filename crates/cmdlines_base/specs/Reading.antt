@@ -6,12 +6,13 @@ use Rattle.cmdlines_base.specs.declared.argument.ArgDisposition.{ArgDisposition}
 use Rattle.cmdlines_base.specs.declared.argument.ArgDisposition.TheVariants.{Separated, CanBeConcatenated, CanBeSeparated, Concatenated}
 use Rattle.cmdlines_base.specs.Table.{Entry, behind, longest_fit}
 
--- an argument as it stands in the words: a loose word, a word that looks like a flag and is in no table, a flag, or a flag with its value
+-- an argument as it stands in the words: a loose word, a word that looks like a flag and is in no table, a flag, a flag with its value, or a word behind the double dashes that end the options
 pub data Item (K : Type 0) : Type 0 where
   raw : Bytes → Item K
   unknown : Bytes → Item K
   flag : Bytes → K → Item K
   valued : Bytes → K → Bytes → ArgDisposition → Item K
+  behind_dashes : Bytes → Item K
 
 -- What a word makes by itself: an item, or a flag whose value is the next word, or the end of the options.
 pub data Start (K : Type 0) : Type 0 where
@@ -73,17 +74,24 @@ unfinished f k Separated = record { items = []; cut_short = true }
 unfinished f k (CanBeSeparated d) = record { items = []; cut_short = true }
 unfinished f k (Concatenated d) = record { items = []; cut_short = true }
 
--- words that are all loose
-abbrev pub all_loose : {K : Type 0} → List Bytes → Reading K
-all_loose words = record { items = map raw words; cut_short = false }
+-- words that all stand behind double dashes
+abbrev pub all_behind : {K : Type 0} → List Bytes → Reading K
+all_behind words = record { items = map behind_dashes words; cut_short = false }
 
--- The reading of words, rule by rule: each word is an item by itself, or a flag that takes the next word for its value, or a flag at the end that lacks one, or the double dashes that end the options, behind which all words are loose.
+abbrev pub is_behind : {K : Type 0} → Item K → Bool
+is_behind (raw w) = false
+is_behind (unknown w) = false
+is_behind (flag f k) = false
+is_behind (valued f k w d) = false
+is_behind (behind_dashes w) = true
+
+-- The reading of words, rule by rule: each word is an item by itself, or a flag that takes the next word for its value, or a flag at the end that lacks one, or the double dashes that end the options, and all words behind them.
 pub data Reads {K : Type 0} (dashes : Bool) (table : List (Entry K)) : List Bytes → Reading K → Type 0 where
   at_end : Reads dashes table [] nothing
   alone : {word : Bytes} {words : List Bytes} {item : Item K} {r : Reading K} → first_word dashes table word ≡ whole item → Reads dashes table words r → Reads dashes table (word ∷ words) (before item r)
   with_value : {word value : Bytes} {words : List Bytes} {f : Bytes} {k : K} {d : ArgDisposition} {r : Reading K} → first_word dashes table word ≡ awaits f k d → Reads dashes table words r → Reads dashes table (word ∷ value ∷ words) (before (valued f k value d) r)
   lacking : {word : Bytes} {f : Bytes} {k : K} {d : ArgDisposition} → first_word dashes table word ≡ awaits f k d → Reads dashes table (word ∷ []) (unfinished f k d)
-  options_end : {word : Bytes} {words : List Bytes} → first_word dashes table word ≡ ends → Reads dashes table (word ∷ words) (all_loose words)
+  options_end : {word : Bytes} {words : List Bytes} → first_word dashes table word ≡ ends → Reads dashes table (word ∷ words) (all_behind words)
 
 -- The same as a function: the reading from a first word on, given those from the word behind it and from the one after that.
 abbrev pub from_last : {K : Type 0} → Start K → Reading K
@@ -94,7 +102,7 @@ from_last ends = nothing
 abbrev pub from_first : {K : Type 0} → Start K → Bytes → List Bytes → Reading K → Reading K → Reading K
 from_first (whole a) next words behind_one behind_two = before a behind_one
 from_first (awaits f k d) next words behind_one behind_two = before (valued f k next d) behind_two
-from_first ends next words behind_one behind_two = all_loose (next ∷ words)
+from_first ends next words behind_one behind_two = all_behind (next ∷ words)
 
 abbrev pub reading : {K : Type 0} → Bool → List (Entry K) → List Bytes → Reading K
 reading dashes table [] = nothing

@@ -2,8 +2,8 @@
 use Rattle.std.specs.Prelude.{◌≡◌, Bool, true, false, List, [], ◌++◌, Option, None, Some, Result, Ok, Err}
 use Rattle.os_files.specs.Bytes.{Bytes}
 use Rattle.cmdlines_base.specs.Table.{Entry}
-use Rattle.cmdlines_base.specs.Reading.{Item, raw, unknown, flag, valued, Start, whole, awaits, ends, Reading, nothing, before}
-use Rattle.cmdlines_base.specs.Cutting.{Place, taken, reading_at, past_dashes, IsWrittenAs}
+use Rattle.cmdlines_base.specs.Reading.{Item, raw, unknown, flag, valued, behind_dashes, is_behind, Start, whole, awaits, ends, Reading, nothing, before}
+use Rattle.cmdlines_base.specs.Cutting.{Place, is_seen, taken, reading_at, past_dashes, IsWrittenAs}
 use Rattle.cmdlines_base.specs.declared.argument.Argument.{Argument}
 use Rattle.cmdlines_base.specs.declared.argument.Argument.TheVariants as arguments
 use Rattle.cmdlines_base.specs.declared.argument_error.ArgParseError.{ArgParseError}
@@ -31,6 +31,7 @@ module _ {T K : Type 0} (values : Values T K) where
   IsOf (raw w) (arguments.Raw v) = v ≡ w
   IsOf (unknown w) (arguments.UnknownFlag v) = v ≡ w
   IsOf (flag f k) (arguments.Flag g t) = (g.now ≡ f) × values.flag_value k t
+  IsOf (behind_dashes w) (arguments.Raw v) = v ≡ w
   IsOf (valued f k w d) (arguments.WithValue g t e) = (g.now ≡ f) × values.word_value k w t × (e ≡ d)
   IsOf _ _ = ⊥
 
@@ -40,6 +41,7 @@ module _ {T K : Type 0} (values : Values T K) where
   is_refused (unknown w) = false
   is_refused (flag f k) = false
   is_refused (valued f k w d) = values.refuses k w
+  is_refused (behind_dashes w) = false
 
   -- what a first word makes, with its value
   abbrev pub IsFirst : Start K → First T K → Type 0
@@ -82,6 +84,7 @@ module _ {T K : Type 0} (values : Values T K) where
     pub words : (past_dashes old).words ≡ consumed ++ new.words
     pub dashes : new.dashes ≡ (past_dashes old).dashes
     pub written : IsWrittenAs item consumed
+    pub behind : is_behind item ≡ is_seen new.dashes
     pub is : IsOf item argument
     pub accepted : is_refused item ≡ false
 

@@ -1,20 +1,21 @@
 //! Laws of words that are written and cut again. No code calls them: whoever writes a command cites them.
 
-ghost use Rattle.std.specs.Prelude.{◌≡◌, List, true, false};
+ghost use Rattle.std.specs.Prelude.{◌≡◌, List, Bool, true};
 ghost use Rattle.os_files.specs.Bytes.{Bytes};
 ghost use Rattle.cmdlines_base.specs.Table.{Entry};
 ghost use Rattle.cmdlines_base.specs.Reading.{Item, reading};
-ghost use Rattle.cmdlines_base.specs.Again.{is_clear, AllReadAgain, AllReadAgainUnlessEmpty, ReadsTogether};
+ghost use Rattle.cmdlines_base.specs.Again.{is_clear, lets_dashes, AllReadAgain, AllReadAgainUnlessEmpty, ReadsTogether};
 
 use crate::value::ArgumentValue;
 
 /// In a clear table each item of a reading, written normally, is read again as an item that is normally written
-/// alike, unless it is an empty value of an option whose value may stand either way.
+/// alike, unless it stands behind double dashes or is an empty value of an option whose value may stand either way.
+/// Where double dashes end the options, no entry of the table may fit them.
 pub fn items_read_again<T: ArgumentValue>()
-    ensures { (table : List (Entry T.Kind)) → is_clear table ≡ true → (words : List Bytes) → AllReadAgainUnlessEmpty table (reading false table words).items }
+    ensures { (dashes : Bool) (table : List (Entry T.Kind)) → is_clear table ≡ true → lets_dashes dashes table ≡ true → (words : List Bytes) → AllReadAgainUnlessEmpty dashes table (reading dashes table words).items }
 {}
 
 /// Items that are read again one by one are read again together, whatever words follow.
 pub fn items_read_together<T: ArgumentValue>()
-    ensures { (table : List (Entry T.Kind)) (items : List (Item T.Kind)) → AllReadAgain table items → (rest : List Bytes) → ReadsTogether table items rest }
+    ensures { (dashes : Bool) (table : List (Entry T.Kind)) (items : List (Item T.Kind)) → AllReadAgain dashes table items → (rest : List Bytes) → ReadsTogether dashes table items rest }
 {}
