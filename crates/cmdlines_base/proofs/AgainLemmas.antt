@@ -5,6 +5,7 @@ use Rattle.std.proofs.lemmas.List.Elements.{All-contains}
 use Rattle.std.proofs.lemmas.Bool.Decides.{Decides-eqb}
 use Rattle.std.proofs.lemmas.Slice.Eq.{bytes_eq-Decides}
 use Rattle.std.specs.Option.{option_map_or}
+use Rattle.std.specs.Cmp.{first_so}
 use Rattle.std.specs.List.{AllByRecursion}
 use Rattle.cmdlines_base.specs.declared.argument.ArgDisposition.{ArgDisposition}
 use Rattle.cmdlines_base.specs.declared.argument.ArgDisposition.TheVariants.{Separated, CanBeConcatenated, CanBeSeparated, Concatenated}
@@ -79,8 +80,8 @@ module _ {K : Type 0} (table : List (Entry K)) (clear : IsClear table) (dashes :
 
   -- what a first word makes reads again, unless it is an empty value that may stand either way
   abbrev ReadsStart : Start K → Type 0
-  ReadsStart (whole a) = (is_behind a || is_empty_j table a) ≡ false → ReadsAgain dashes table a
-  ReadsStart ends = Unit {0}
+  ReadsStart (whole a) = ((is_behind a && dashes) || is_empty_j table a) ≡ false → ReadsAgain dashes table a
+  ReadsStart ends = dashes ≡ true
   ReadsStart (awaits f k d) = ((v : List ℕ) → is_empty_j table (valued f k v d) ≡ false → ReadsAgain dashes table (valued f k v d)) × (option_map_or is_j (longest_fit table f) false ≡ either_way d)
 
   loose_again : (w : List ℕ) → first_word dashes table w ≡ whole (loose w) → ReadsAgain dashes table (loose w)
@@ -193,7 +194,7 @@ module _ {K : Type 0} (table : List (Entry K)) (clear : IsClear table) (dashes :
       by None q h = at (dashes && is_double_dash word) refl
         where
           at : (s : Bool) → (dashes && is_double_dash word) ≡ s → ReadsStart (first_word dashes table word)
-          at true e = subst ReadsStart (ap (λ s. cond s ends (first_by (longest_fit table word) word)) (sym e)) tt
+          at true e = subst ReadsStart (ap (λ s. cond s ends (first_by (longest_fit table word) word)) (sym e)) (first_so dashes (is_double_dash word) e)
           at false e =
               let first : first_word dashes table word ≡ whole (loose word) = ap (λ s. cond s ends (first_by (longest_fit table word) word)) e ∙ ap (λ o. first_by o word) q in
               subst ReadsStart (sym first) (λ full. loose_again word first)
@@ -210,12 +211,12 @@ module _ {K : Type 0} (table : List (Entry K)) (clear : IsClear table) (dashes :
           (ap (λ o. option_map_or is_j o false) found) h.fits.2)
 
   abbrev Again : Item K → Type 0
-  Again a = (is_behind a || is_empty_j table a) ≡ false → ReadsAgain dashes table a
+  Again a = ((is_behind a && dashes) || is_empty_j table a) ≡ false → ReadsAgain dashes table a
 
   -- what stands behind double dashes needn't
-  none_again : (words : List (List ℕ)) → AllByRecursion Again (map behind_dashes words)
-  none_again [] = tt
-  none_again (w ∷ ws) = ((λ full. cc), none_again ws)
+  none_again : dashes ≡ true → (words : List (List ℕ)) → AllByRecursion Again (map behind_dashes words)
+  none_again ended [] = tt
+  none_again ended (w ∷ ws) = ((λ full. let bad : true ≡ false = sym (ap (λ d. d || false) ended) ∙ full in absurd (cc)), none_again ended ws)
 
   -- each item of a reading
   pub reads_all : (words : List (List ℕ)) → AllByRecursion Again (reading dashes table words).items
@@ -235,7 +236,7 @@ module _ {K : Type 0} (table : List (Entry K)) (clear : IsClear table) (dashes :
       by : (s : Start K) → ReadsStart s → AllByRecursion Again (reading dashes table (v ∷ ws)).items → AllByRecursion Again (reading dashes table ws).items → AllByRecursion Again (from_first s v ws (reading dashes table (v ∷ ws)) (reading dashes table ws)).items
       by (whole a) h one two = (h, one)
       by (awaits f k d) h one two = (h.0 v, two)
-      by ends h one two = none_again (v ∷ ws)
+      by ends h one two = none_again h (v ∷ ws)
 
 module _ {K : Type 0} (dashes : Bool) (table : List (Entry K)) where
   -- items written one after another

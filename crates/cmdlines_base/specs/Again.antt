@@ -27,9 +27,9 @@ pub record ReadsTogether {K : Type 0} (dashes : Bool) (table : List (Entry K)) (
 abbrev pub AllReadAgain : {K : Type 0} → Bool → List (Entry K) → List (Item K) → Type 0
 AllReadAgain dashes table items = AllByRecursion (ReadsAgain dashes table) items
 
--- each does that stands before double dashes and isn't an empty value which may stand either way
+-- each does that stands before double dashes which end the options, and isn't an empty value which may stand either way
 abbrev pub AllReadAgainUnlessEmpty : {K : Type 0} → Bool → List (Entry K) → List (Item K) → Type 0
-AllReadAgainUnlessEmpty dashes table items = AllByRecursion (λ a. (is_behind a || is_empty_j table a) ≡ false → ReadsAgain dashes table a) items
+AllReadAgainUnlessEmpty dashes table items = AllByRecursion (λ a. ((is_behind a && dashes) || is_empty_j table a) ≡ false → ReadsAgain dashes table a) items
 
 -- no entry has the other's flag, and none goes on behind one of two bytes whose value may stand either way
 abbrev pub free_by : Bool → Option (Bytes) → Bool

@@ -6,7 +6,7 @@ use Rattle.std.proofs.lemmas.List.Elements.{filter-append}
 use Rattle.std.specs.List.{flat_map, filter, list_any}
 use Rattle.os_files.specs.Bytes.{Bytes}
 use Rattle.cmdlines_base.specs.Table.{Entry}
-use Rattle.cmdlines_base.specs.Reading.{Item, Reading, reading, raw, unknown, flag, valued, before, nothing}
+use Rattle.cmdlines_base.specs.Reading.{Item, Reading, reading, raw, unknown, flag, valued, behind_dashes, is_behind, before, nothing}
 use Rattle.cmdlines_base.specs.Printing.{is_empty_j, words_of}
 use Rattle.cmdlines_base.specs.Cutting.{Place, reading_at}
 use Rattle.cmdlines_base.specs.Values.{IsOf, Steps, is_refused, values_by}
@@ -30,29 +30,31 @@ abbrev pub IsValue : ArgKind → Bytes → ArgData → Type 0
 IsValue k w v = v ≡ values.Value k w
 
 -- an argument of an item is that item
-pub item_is : (item : Item ArgKind) (argument : Argument ArgData) → IsOf (values_by IsFlag IsValue (λ k w. false)) item argument → item_of argument ≡ item
-item_is (raw w) (Raw v) h = ap raw h
-item_is (raw w) (UnknownFlag v) h = absurd h
-item_is (raw w) (Flag g v) h = absurd h
-item_is (raw w) (WithValue g v d) h = absurd h
-item_is (unknown w) (Raw v) h = absurd h
-item_is (unknown w) (UnknownFlag v) h = ap unknown h
-item_is (unknown w) (Flag g v) h = absurd h
-item_is (unknown w) (WithValue g v d) h = absurd h
-item_is (flag f k) (Raw v) h = absurd h
-item_is (flag f k) (UnknownFlag v) h = absurd h
-item_is (flag f k) (Flag g v) h = rw (h.0, h.1) refl
-item_is (flag f k) (WithValue g v d) h = absurd h
-item_is (valued f k w d) (Raw v) h = absurd h
-item_is (valued f k w d) (UnknownFlag v) h = absurd h
-item_is (valued f k w d) (Flag g v) h = absurd h
-item_is (valued f k w d) (WithValue g v e) h = rw (h.0, h.1, h.2) refl
+pub item_is : (item : Item ArgKind) (argument : Argument ArgData) → IsOf (values_by IsFlag IsValue (λ k w. false)) item argument → is_behind item ≡ false → item_of argument ≡ item
+item_is (raw w) (Raw v) h before = ap raw h
+item_is (raw w) (UnknownFlag v) h before = absurd h
+item_is (raw w) (Flag g v) h before = absurd h
+item_is (raw w) (WithValue g v d) h before = absurd h
+item_is (unknown w) (Raw v) h before = absurd h
+item_is (unknown w) (UnknownFlag v) h before = ap unknown h
+item_is (unknown w) (Flag g v) h before = absurd h
+item_is (unknown w) (WithValue g v d) h before = absurd h
+item_is (flag f k) (Raw v) h before = absurd h
+item_is (flag f k) (UnknownFlag v) h before = absurd h
+item_is (flag f k) (Flag g v) h before = rw (h.0, h.1) refl
+item_is (flag f k) (WithValue g v d) h before = absurd h
+item_is (valued f k w d) (Raw v) h before = absurd h
+item_is (valued f k w d) (UnknownFlag v) h before = absurd h
+item_is (valued f k w d) (Flag g v) h before = absurd h
+item_is (valued f k w d) (WithValue g v e) h before = rw (h.0, h.1, h.2) refl
+item_is (behind_dashes w) a h before = cc
 
 never_refused : (item : Item ArgKind) → is_refused (values_by IsFlag IsValue (λ k w. false)) item ≡ true → ⊥
 never_refused (raw w) h = cc
 never_refused (unknown w) h = cc
 never_refused (flag f k) h = cc
 never_refused (valued f k w d) h = cc
+never_refused (behind_dashes w) h = cc
 
 -- words that can't be cut, and no value is refused: they end where a value should come
 pub cut_short : (table : List (Entry ArgKind)) (old new : Place) (error : ArgParseError) → Steps (values_by IsFlag IsValue (λ k w. false)) table old (Some (Err error)) new → (error ≡ Memory → ⊥) → reading_at table old ≡ record { items = []; cut_short = true }

@@ -1,5 +1,5 @@
 -- The commands are read again as what was wanted.
-use Rattle.std.proofs.Common.{◌≡◌, List, [], ◌∷◌, ◌++◌, Option, None, Some, Result, Ok, Err, IfOk, Bool, true, false, cond, refl, ap, sym, subst, ◌∙◌, arith, map}
+use Rattle.std.proofs.Common.{◌≡◌, List, [], ◌∷◌, ◌++◌, Option, None, Some, Result, Ok, Err, IfOk, Bool, true, false, cond, ◌&&◌, ◌||◌, refl, ap, sym, subst, ◌∙◌, arith, map}
 use Rattle.std.proofs.lemmas.List.{append-nil, map-append}
 use Rattle.std.proofs.lemmas.List.Concat.{flat_map-append}
 use Rattle.std.specs.List.{list_any, filter, flat_map, AllByRecursion}
@@ -11,9 +11,9 @@ use Rattle.cmdlines_base.specs.declared.command.CCompilerKind.{CCompilerKind}
 use Rattle.cmdlines_base.specs.declared.command.CCompilerKind.TheVariants.{Gcc}
 use Rattle.cmdlines_base.specs.declared.command.SingleCompileCommand.{SingleCompileCommand}
 use Rattle.cmdlines_base.specs.Table.{Entry}
-use Rattle.cmdlines_base.specs.Reading.{Item, raw, unknown, flag, valued, Reading, reading, before, all_before, nothing, first_word, whole, awaits, Reads, alone, with_value}
+use Rattle.cmdlines_base.specs.Reading.{Item, raw, unknown, flag, valued, behind_dashes, is_behind, Reading, reading, before, all_before, nothing, first_word, whole, awaits, Reads, alone, with_value}
 use Rattle.cmdlines_base.specs.Printing.{is_empty_j, normal, words_of}
-use Rattle.cmdlines_base.specs.Again.{is_clear, ReadsAgain, AllReadAgain, AllReadAgainUnlessEmpty, ReadsTogether}
+use Rattle.cmdlines_base.specs.Again.{lets_dashes, is_clear, ReadsAgain, AllReadAgain, AllReadAgainUnlessEmpty, ReadsTogether}
 use Rattle.wrap_base.specs.declared.kind.ArgKind.{ArgKind}
 use Rattle.wrap_base.specs.declared.kind.ArgKind.TheVariants.{Compile, Output, Language}
 use Rattle.wrap_base.specs.declared.parsed.ParsedArguments.{ParsedArguments}
@@ -78,10 +78,10 @@ abbrev pub HasReading : Type 0
 HasReading = (table : List (Entry ArgKind)) (words : List Bytes) → Reads false table words (reading false table words)
 
 abbrev pub ItemsAgain : Type 0
-ItemsAgain = (table : List (Entry ArgKind)) → is_clear table ≡ true → (words : List Bytes) → AllReadAgainUnlessEmpty table (reading false table words).items
+ItemsAgain = (table : List (Entry ArgKind)) → is_clear table ≡ true → lets_dashes false table ≡ true → (words : List Bytes) → AllReadAgainUnlessEmpty false table (reading false table words).items
 
 abbrev pub ItemsTogether : Type 0
-ItemsTogether = (table : List (Entry ArgKind)) (items : List (Item ArgKind)) → AllReadAgain table items → (rest : List Bytes) → ReadsTogether table items rest
+ItemsTogether = (table : List (Entry ArgKind)) (items : List (Item ArgKind)) → AllReadAgain false table items → (rest : List Bytes) → ReadsTogether false table items rest
 
 -- how a table reads the words that commands have of their own
 pub record OwnWords (table : List (Entry ArgKind)) : Type 0 where
@@ -108,45 +108,50 @@ module _ (has : HasReading) (only : OneReading) (again : ItemsAgain) (together :
   reading-with_value : (word value f : Bytes) (k : ArgKind) (d : ArgDisposition) → first_word false t word ≡ awaits f k d → (rest : List Bytes) → reading false t (word ∷ value ∷ rest) ≡ before (valued f k value d) (reading false t rest)
   reading-with_value word value f k d h rest = sym (only t (word ∷ value ∷ rest) (before (valued f k value d) (reading false t rest)) (with_value h (has t rest)))
 
-  all_again : (items : List (Item ArgKind)) → AllReadAgainUnlessEmpty t items → list_any (is_empty_j t) items ≡ false → AllReadAgain t items
+  all_again : (items : List (Item ArgKind)) → AllReadAgainUnlessEmpty false t items → list_any (is_empty_j t) items ≡ false → AllReadAgain false t items
   all_again [] h none = tt
   all_again (a ∷ items) h none =
       let here : is_empty_j t a ≡ false = grind arith in
       let rest : list_any (is_empty_j t) items ≡ false = grind arith in
-      (h.0 here, all_again items h.1 rest)
+      (h.0 (by (is_behind a) here), all_again items h.1 rest)
+    where
+      by : (s : Bool) → is_empty_j t a ≡ false → ((s && false) || is_empty_j t a) ≡ false
+      by true e = e
+      by false e = e
 
-  some_again : (test : Item ArgKind → Bool) (items : List (Item ArgKind)) → AllReadAgain t items → AllReadAgain t (filter test items)
+  some_again : (test : Item ArgKind → Bool) (items : List (Item ArgKind)) → AllReadAgain false t items → AllReadAgain false t (filter test items)
   some_again test [] h = tt
   some_again test (a ∷ items) h = by (test a) (some_again test items h.1)
     where
-      by : (s : Bool) → AllReadAgain t (filter test items) → AllReadAgain t (cond s (a ∷ filter test items) (filter test items))
+      by : (s : Bool) → AllReadAgain false t (filter test items) → AllReadAgain false t (cond s (a ∷ filter test items) (filter test items))
       by true rest = (h.0, rest)
       by false rest = rest
 
-  both_again : (xs ys : List (Item ArgKind)) → AllReadAgain t xs → AllReadAgain t ys → AllReadAgain t (xs ++ ys)
+  both_again : (xs ys : List (Item ArgKind)) → AllReadAgain false t xs → AllReadAgain false t ys → AllReadAgain false t (xs ++ ys)
   both_again [] ys h g = g
   both_again (a ∷ xs) ys h g = (h.0, both_again xs ys h.1 g)
 
-  inputs_again : (items : List (Item ArgKind)) → AllReadAgain t items → AllByRecursion (λ w. ReadsAgain t (raw w)) (flat_map input_in items)
+  inputs_again : (items : List (Item ArgKind)) → AllReadAgain false t items → AllByRecursion (λ w. ReadsAgain false t (raw w)) (flat_map input_in items)
   inputs_again [] h = tt
   inputs_again (raw w ∷ items) h = (h.0, inputs_again items h.1)
   inputs_again (unknown w ∷ items) h = inputs_again items h.1
   inputs_again (flag f k ∷ items) h = inputs_again items h.1
   inputs_again (valued f k v d ∷ items) h = inputs_again items h.1
+  inputs_again (behind_dashes w ∷ items) h = inputs_again items h.1
 
   -- the options behind a command's own words, and its input
   record Again (words : List Bytes) (p : ParsedArguments) : Type 0 where
     found : List (Item ArgKind)
     reads : reading false t (p.preprocessor_args ++ p.common_args) ≡ all_before found nothing
     alike : map normal found ≡ map normal (preprocessor_options (reading false t words).items ++ hashed_options (reading false t words).items)
-    input : ReadsAgain t (raw p.input)
+    input : ReadsAgain false t (raw p.input)
 
   again_of : (words : List Bytes) (p : ParsedArguments) → with_hazards (parse_of t (reading false t words)) ≡ asks p → Again words p
   again_of words p asked =
       let items = (reading false t words).items in
       let asked' = hazards_ask (parse_of t (reading false t words)) p asked in
       let a : Accepts (collection_of t items) p = decided_accepts (find (has_kind is_too_hard) items) (reading false t words).cut_short (collection_of t items) p asked'.0 in
-      let every : AllReadAgain t items = all_again items (again t own.clear words) (a.full ∙ asked'.1) in
+      let every : AllReadAgain false t items = all_again items (again t own.clear refl words) (a.full ∙ asked'.1) in
       let one : List (Item ArgKind) = preprocessor_options items in
       let two : List (Item ArgKind) = hashed_options items in
       let written : words_of (one ++ two) ≡ p.preprocessor_args ++ p.common_args = flat_map-append _ one two ∙ ap (λ w. w ++ words_of two) a.preprocessor ∙ ap (λ w. p.preprocessor_args ++ w) a.hashed in
@@ -155,7 +160,7 @@ module _ (has : HasReading) (only : OneReading) (again : ItemsAgain) (together :
         found = options.found;
         reads = ap (reading false t) (sym written ∙ sym (append-nil (words_of (one ++ two)))) ∙ options.reads;
         alike = options.alike;
-        input = (subst (AllByRecursion (λ w. ReadsAgain t (raw w))) a.input (inputs_again items every)).0;
+        input = (subst (AllByRecursion (λ w. ReadsAgain false t (raw w))) a.input (inputs_again items every)).0;
       }
 
   -- options behind a command's own items

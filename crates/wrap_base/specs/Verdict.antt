@@ -5,7 +5,7 @@ use Rattle.std.specs.Str.{bytes_eq}
 use Rattle.os_files.specs.Bytes.{Bytes}
 use Rattle.os_files.specs.Path.{file_name, extension, with_extension}
 use Rattle.cmdlines_base.specs.Table.{Entry}
-use Rattle.cmdlines_base.specs.Reading.{Item, raw, unknown, flag, valued, Reading, reading}
+use Rattle.cmdlines_base.specs.Reading.{Item, raw, unknown, flag, valued, behind_dashes, Reading, reading}
 use Rattle.cmdlines_base.specs.declared.command.CCompilerKind.{CCompilerKind}
 use Rattle.wrap_base.specs.SmallTable.{table_of}
 use Rattle.wrap_base.specs.Wanted.{Collection, collection_of, has_kind, is_too_hard}
@@ -80,6 +80,7 @@ flag_of (raw w) = w
 flag_of (unknown w) = w
 flag_of (flag f k) = f
 flag_of (valued f k v d) = f
+flag_of (behind_dashes w) = w
 
 abbrev pub without_too_hard : Bool → Collection → Decision
 without_too_hard cut_short c = if cut_short then refused (codes "argument parse") else closing c

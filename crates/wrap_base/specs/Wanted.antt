@@ -3,7 +3,7 @@ use Rattle.std.specs.Prelude.{Bool, true, false, List, [], ◌∷◌, Option, No
 use Rattle.std.specs.List.{flat_map, list_any}
 use Rattle.os_files.specs.Bytes.{Bytes}
 use Rattle.cmdlines_base.specs.Table.{Entry}
-use Rattle.cmdlines_base.specs.Reading.{Item, raw, unknown, flag, valued}
+use Rattle.cmdlines_base.specs.Reading.{Item, raw, unknown, flag, valued, behind_dashes}
 use Rattle.cmdlines_base.specs.Printing.{is_empty_j, words_of}
 use Rattle.wrap_base.specs.declared.kind.ArgKind.{ArgKind}
 use Rattle.wrap_base.specs.declared.kind.ArgKind.TheVariants.{TooHard, Compile, Output, Language, Preprocessor}
@@ -49,6 +49,7 @@ has_kind test (raw w) = false
 has_kind test (unknown w) = false
 has_kind test (flag f k) = test k
 has_kind test (valued f k v d) = test k
+has_kind test (behind_dashes w) = false
 
 -- a word that looks like a flag, and is in no table
 abbrev pub is_unknown : Item ArgKind → Bool
@@ -56,6 +57,7 @@ is_unknown (raw w) = false
 is_unknown (unknown w) = true
 is_unknown (flag f k) = false
 is_unknown (valued f k v d) = false
+is_unknown (behind_dashes w) = false
 
 -- the input that an item names
 abbrev pub input_in : Item ArgKind → List Bytes
@@ -63,6 +65,7 @@ input_in (raw w) = w ∷ []
 input_in (unknown w) = []
 input_in (flag f k) = []
 input_in (valued f k v d) = []
+input_in (behind_dashes w) = []
 
 -- the value of an option of a kind that passes the test
 abbrev pub value_in : (ArgKind → Bool) → Item ArgKind → Option Bytes
@@ -70,6 +73,7 @@ value_in test (raw w) = None
 value_in test (unknown w) = None
 value_in test (flag f k) = None
 value_in test (valued f k v d) = if test k then Some v else None
+value_in test (behind_dashes w) = None
 
 abbrev pub later : Option Bytes → Option Bytes → Option Bytes
 later earlier None = earlier

@@ -13,4 +13,4 @@ returns-clause-again c =
     again_in c.command_of.result c.args.request.now
     (λ command. (words : List Bytes) → verdict_of kind words ≡ asks parsed → ReadsAsWanted (table_of kind) words (own_compile_items parsed) command)
     c.in_ok-words.words (compile_words parsed) c.in_ok-words.ensures c.command_of.ensures
-    (λ words. compile_again (c.words_have_one_reading.ensures.is false) (c.words_have_one_reading.ensures.only false) c.items_read_again.ensures c.items_read_together.ensures (table_of kind) (own_words kind) words parsed)
+    (λ words. compile_again (c.words_have_one_reading.ensures.is false) (c.words_have_one_reading.ensures.only false) (c.items_read_again.ensures false) (c.items_read_together.ensures false) (table_of kind) (own_words kind) words parsed)
