@@ -1,5 +1,5 @@
 -- The first place of a separator.
-use Rattle.std.proofs.Common.{◌≡◌, ℕ, ◌≤◌, ◌<◌, List, ◌++◌, length, drop, None, Some, arith, ◌⊎◌, inl, inr, refl, ap, sym, subst, ◌∙◌, string_bytes}
+use Rattle.std.proofs.Common.{◌≡◌, ℕ, ◌≤◌, ◌<◌, ◌++◌, length, drop, None, Some, arith, ◌⊎◌, inl, inr, refl, ap, sym, subst, ◌∙◌, string_bytes}
 use Rattle.std.specs.Borrow.{Bor}
 use Rattle.std.specs.Str.Pattern.{FindsText, SplitsAroundMatch}
 use Rattle.std.proofs.lemmas.List.{drop_at}

@@ -1,5 +1,5 @@
 -- What a first word and the words behind it make.
-use Rattle.std.proofs.Common.{◌≡◌, length, List, [], ◌∷◌, Option, None, Some, Result, Ok, Err, Bool, true, false, IfErr, IsErrAnd, refl, ap, sym, subst, ◌∙◌, arith}
+use Rattle.std.proofs.Common.{◌≡◌, length, List, [], ◌∷◌, None, Some, Result, Ok, Err, true, false, IfErr, IsErrAnd, refl, ap, sym, subst, ◌∙◌, arith}
 use Rattle.std.specs.Borrow.{Bor}
 use Rattle.os_files.specs.Bytes.{Bytes}
 use Rattle.cmdlines_base.specs.Refusal.{OnRefusal}

@@ -2,9 +2,8 @@
 use Rattle.std.specs.Prelude.{◌≡◌, Bool, true, false, List, [], ◌∷◌, ◌++◌, Option, None, Some, if◌then◌else◌, ◌⊎◌}
 use Rattle.os_files.specs.Bytes.{Bytes}
 use Rattle.cmdlines_base.specs.Table.{Entry}
-use Rattle.cmdlines_base.specs.Reading.{Item, raw, unknown, flag, valued, Start, whole, awaits, ends, Reading, is_double_dash, all_behind, reading}
+use Rattle.cmdlines_base.specs.Reading.{Item, valued, Start, whole, awaits, ends, Reading, is_double_dash, all_behind, reading}
 use Rattle.cmdlines_base.specs.Printing.{printed}
-use Rattle.cmdlines_base.specs.declared.argument.ArgDisposition.{ArgDisposition}
 use Rattle.cmdlines_base.specs.declared.argument.ArgDisposition.TheVariants.{Separated, CanBeConcatenated, CanBeSeparated, Concatenated}
 use Rattle.cmdlines_base.specs.declared.cutting.ArgsIter.{ArgsIter}
 use Rattle.cmdlines_base.specs.declared.cutting.DoubleDashes.{DoubleDashes}

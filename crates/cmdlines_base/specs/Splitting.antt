@@ -1,5 +1,5 @@
 -- A word cut in two at a separator.
-use Rattle.std.specs.Prelude.{◌≡◌, ◌≢◌, ◌≤◌, false, List, ◌++◌, length, Option, None, Some, string_bytes}
+use Rattle.std.specs.Prelude.{◌≡◌, ◌≢◌, ◌≤◌, false, ◌++◌, length, Option, None, Some, string_bytes}
 use Rattle.std.specs.Str.{is_utf8}
 use Rattle.os_files.specs.Bytes.{Bytes}
 use Rattle.cmdlines_base.specs.Texts.{Text}

@@ -1,4 +1,4 @@
-use Rattle.std.proofs.Common.{rules, ◌≡◌, []}
+use Rattle.std.proofs.Common.{rules}
 use Rattle.cmdlines_base.specs.Table.{entry_at}
 use Rattle.cmdlines_base.specs.Reading.{first_by}
 use Rattle.cmdlines_base.specs.Values.{values_by, FailsToTake}

@@ -1,4 +1,4 @@
-use Rattle.std.proofs.Common.{rules, arith, ◌≡◌, true, ap, sym, ◌∙◌, string_bytes}
+use Rattle.std.proofs.Common.{rules, arith, ◌≡◌, ap, sym, ◌∙◌, string_bytes}
 use Rattle.std.specs.Str.{is_utf8}
 use Rattle.std.proofs.lemmas.Str.{is_utf8-from_IsUtf8, IsUtf8-from_is_utf8, IsUtf8-string_bytes}
 use Rattle.cmdlines_base.proofs.value.into_text.Goals as goal

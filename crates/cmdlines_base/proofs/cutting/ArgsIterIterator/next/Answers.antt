@@ -1,5 +1,4 @@
 use Rattle.std.proofs.Common.{rules, arith, length, ◌≡◌, ◌∷◌, true, false, refl, ap, sym, ◌∙◌}
-use Rattle.os_files.specs.Bytes.{Bytes}
 use Rattle.cmdlines_base.specs.Table.{entry_at, all_entries}
 use Rattle.cmdlines_base.specs.Cutting.{Place, place_of, past_dashes, is_seen}
 use Rattle.cmdlines_base.specs.Values.{values_by}
