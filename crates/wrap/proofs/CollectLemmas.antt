@@ -6,7 +6,7 @@ use Rattle.std.proofs.lemmas.List.Elements.{filter-append}
 use Rattle.std.specs.List.{flat_map, filter, list_any}
 use Rattle.os_files.specs.Bytes.{Bytes}
 use Rattle.cmdlines_base.specs.Table.{Entry}
-use Rattle.cmdlines_base.specs.Reading.{Item, Reading, reading, raw, unknown, flag, valued, behind_dashes, is_behind, before, nothing}
+use Rattle.cmdlines_base.specs.Reading.{Item, Reading, raw, unknown, flag, valued, behind_dashes, is_behind, before, nothing}
 use Rattle.cmdlines_base.specs.Printing.{is_empty_j, words_of}
 use Rattle.cmdlines_base.specs.Cutting.{Place, reading_at}
 use Rattle.cmdlines_base.specs.Values.{IsOf, Steps, is_refused, values_by}

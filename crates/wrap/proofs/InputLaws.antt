@@ -2,10 +2,9 @@
 use Rattle.std.proofs.Common.{◌≡◌, ◌∙◌, false, List, ◌++◌, Option, None, Some, Ok, if◌then◌else◌, refl, ap, append_assoc}
 use Rattle.std.specs.List.{flat_map}
 use Rattle.os_files.specs.Bytes.{Bytes}
-use Rattle.cmdlines_base.specs.Reading.{Item, raw, unknown, flag, valued, behind_dashes, is_behind, Reading, reading}
+use Rattle.cmdlines_base.specs.Reading.{Item, raw, unknown, flag, valued, behind_dashes, is_behind, Reading}
 use Rattle.cmdlines_base.specs.Cutting.{Place, is_seen, past, past_dashes, reading_at}
-use Rattle.cmdlines_base.specs.declared.cutting.DoubleDashes.{DoubleDashes}
-use Rattle.cmdlines_base.specs.declared.cutting.DoubleDashes.TheVariants.{Ordinary, Awaited, Seen}
+use Rattle.cmdlines_base.specs.declared.cutting.DoubleDashes.TheVariants.{Ordinary}
 use Rattle.cmdlines_base.specs.Table.{Entry}
 use Rattle.cmdlines_base.specs.Values.{Values, values_by, IsOf, Steps}
 use Rattle.cmdlines_base.specs.declared.argument.Argument.{Argument}

@@ -1,7 +1,7 @@
 use Rattle.std.proofs.Common.{◌≡◌, ◌∙◌, ap, sym}
 use Rattle.cmdlines_base.specs.Table.{all_entries}
 use Rattle.cmdlines_base.specs.Cutting.{place_of, is_seen, reading_at}
-use Rattle.cmdlines_base.specs.Reading.{reading, before}
+use Rattle.cmdlines_base.specs.Reading.{before}
 use Rattle.wrap_base.specs.Verdict.{refused}
 use Rattle.wrap.specs.Arguments.{item_of}
 use Rattle.wrap.specs.Collecting.{decide}
