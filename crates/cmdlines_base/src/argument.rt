@@ -114,6 +114,3 @@ impl<T> Argument<T> {
         }
     }
 }
-
-#[cfg(test)]
-mod tests;

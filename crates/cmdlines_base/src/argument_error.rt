@@ -72,6 +72,3 @@ impl From<AllocError> for ArgToStringError {
         ArgToStringError::Memory
     }
 }
-
-#[cfg(test)]
-mod tests;

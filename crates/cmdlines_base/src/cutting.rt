@@ -242,6 +242,3 @@ pub fn words_have_one_reading<T: ArgumentValue>()
     ensures is { (dashes : Bool) (table : List (Entry T.Kind)) (words : List Bytes) → Reads dashes table words (reading dashes table words) }
     ensures only { (dashes : Bool) (table : List (Entry T.Kind)) (words : List Bytes) (r : Reading T.Kind) → Reads dashes table words r → r ≡ reading dashes table words }
 {}
-
-#[cfg(test)]
-mod tests;

@@ -5,8 +5,6 @@ pub mod argument;
 pub mod argument_error;
 pub mod command;
 pub mod cutting;
-#[cfg(test)]
-mod examples;
 pub mod printing;
 pub mod reading_back;
 pub mod splitting;

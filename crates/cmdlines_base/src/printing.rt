@@ -228,6 +228,3 @@ pub fn arguments_print_one_or_two_words<T: IntoArg>()
 pub fn arguments_print_what_was_read<T: ArgumentValue>()
     ensures { (item : Item T.Kind) (argument : Argument T) → IsOf (values_by T.flag_value T.word_value T.refuses) item argument → is_given_back T.gives_back item ≡ true → argument_words T.word argument ≡ printed item }
 {}
-
-#[cfg(test)]
-mod tests;

@@ -31,6 +31,3 @@ pub fn split_os_string_arg(
         }
     }
 }
-
-#[cfg(test)]
-mod tests;

@@ -296,6 +296,3 @@ impl ArgumentValue for () {
         Ok(())
     }
 }
-
-#[cfg(test)]
-mod tests;

@@ -1,7 +1,7 @@
 //! Words cut in two, by example.
 
-use super::split_os_string_arg;
-use crate::argument_error::ArgParseError;
+use cmdlines_base::argument_error::ArgParseError;
+use cmdlines_base::splitting::split_os_string_arg;
 use os_files::os_bytes::OsBytes;
 use std::test::Fail;
 

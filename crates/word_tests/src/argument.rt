@@ -1,6 +1,6 @@
 //! Each function once.
 
-use super::{ArgDisposition, Argument, NormalizedDisposition};
+use cmdlines_base::argument::{ArgDisposition, Argument, NormalizedDisposition};
 use os_files::os_bytes::OsBytes;
 use std::alloc::{AllocError, Global};
 use std::test::Fail;

@@ -1,7 +1,7 @@
 //! Each call through its bound, at the types of the crate.
 
-use super::{ArgumentValue, FromArg, IntoArg};
-use crate::argument_error::{ArgParseError, ArgToStringError};
+use cmdlines_base::argument_error::{ArgParseError, ArgToStringError};
+use cmdlines_base::value::{ArgumentValue, FromArg, IntoArg};
 use os_files::os_bytes::OsBytes;
 use std::alloc::Global;
 use std::test::Fail;

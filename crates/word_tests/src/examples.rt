@@ -4,10 +4,10 @@ ghost use Rattle.std.specs.Prelude.{◌≡◌, ◌&&◌, ◌||◌, ◌==◌, not
 ghost use Rattle.std.proofs.Common.{ap};
 ghost use Rattle.std.specs.Str.{is_utf8};
 
-use crate::argument::ArgDisposition;
-use crate::argument_error::{ArgParseError, ArgParseResult, ArgToStringResult};
-use crate::table::{ArgInfo, Table};
-use crate::value::{ArgumentValue, IntoArg, path_to_string, word_to_string};
+use cmdlines_base::argument::ArgDisposition;
+use cmdlines_base::argument_error::{ArgParseError, ArgParseResult, ArgToStringResult};
+use cmdlines_base::table::{ArgInfo, Table};
+use cmdlines_base::value::{ArgumentValue, IntoArg, path_to_string, word_to_string};
 use os_files::os_bytes::OsBytes;
 use std::alloc::{AllocError, Global};
 use std::test::Fail;

@@ -1,8 +1,8 @@
 //! Words cut and printed again, and texts by closures.
 
-use crate::argument::{ArgDisposition, Argument};
-use crate::cutting::ArgsIter;
 use crate::examples::{Value, table, words};
+use cmdlines_base::argument::{ArgDisposition, Argument};
+use cmdlines_base::cutting::ArgsIter;
 use os_files::os_bytes::OsBytes;
 use std::alloc::{AllocError, Global};
 use std::fmt::Write;

@@ -1,10 +1,10 @@
 //! Whether the clauses say what is meant, by words that are cut by hand.
 
-use super::ArgsIter;
-use crate::argument::{ArgDisposition, Argument};
-use crate::argument_error::ArgParseError;
 use crate::examples::{ALL, TEXT, Value, table, words};
-use crate::table::{ArgInfo, SearchableArgInfo, Table};
+use cmdlines_base::argument::{ArgDisposition, Argument};
+use cmdlines_base::argument_error::ArgParseError;
+use cmdlines_base::cutting::ArgsIter;
+use cmdlines_base::table::{ArgInfo, SearchableArgInfo, Table};
 use os_files::os_bytes::OsBytes;
 use std::alloc::{AllocError, Global};
 use std::fmt::Write;

@@ -1,6 +1,6 @@
 //! Printed errors.
 
-use super::{ArgParseError, ArgToStringError};
+use cmdlines_base::argument_error::{ArgParseError, ArgToStringError};
 use os_files::os_bytes::OsBytes;
 use std::test::Fail;
 
