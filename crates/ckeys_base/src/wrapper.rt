@@ -28,11 +28,11 @@ pub fn resolve_compiler_avoiding_wrapper<F: Files>(
     ensures steady { (IsErrOf result FileFail.Device → ⊥) → F.failed files.new ≡ F.failed files.old }
 {
     if !is_wrapper(alloc, files, executable)? {
-        return Ok(executable.clone(alloc)?);
+        return Ok(executable.clone()?);
     }
     match first_compiler(alloc, files, executable.as_bytes(), env)? {
         Some(compiler) => Ok(compiler),
-        None => Ok(executable.clone(alloc)?),
+        None => Ok(executable.clone()?),
     }
 }
 

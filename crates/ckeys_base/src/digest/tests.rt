@@ -153,7 +153,7 @@ fn files(alloc: Global, abc: &OsBytes, empty: &OsBytes) -> Result<MemoryFiles, A
             contents: OsBytes::from_slice(alloc, contents)?,
             mtime: FileTime::from_seconds(0),
         };
-        files.insert(name.clone(alloc)?, file)?;
+        files.insert(name.clone()?, file)?;
     }
     Ok(files)
 }
