@@ -1,0 +1,11 @@
+pub mod HexLemmas
+pub mod Feeding
+pub mod ShelfLemmas
+pub mod Longest
+pub mod Cuts
+pub mod OneStripping
+pub mod NormalNames
+pub mod ThreeDigits
+pub mod EscapeReadings
+pub mod SearchPath
+pub mod Slashes

@@ -1,0 +1,14 @@
+pub mod Hex
+pub mod ShaBytes
+pub mod Feeding
+pub mod FileDigests
+pub mod Shelf
+pub mod FolderPlaces
+pub mod Stripping
+pub mod FromTheLeft
+pub mod KeptParts
+pub mod Seconds
+pub mod NormalPath
+pub mod Escapes
+pub mod EscapeSteps
+pub mod Wrapper

@@ -1,0 +1,178 @@
+//! Digests that FIPS 180 prints, however the bytes come, and readers that fail.
+
+ghost use Rattle.std.specs.Prelude.{◌<◌};
+
+use super::{Digest, Error, HASH_BUFFER_SIZE, texts_tell_digests};
+use crate::hash_state::HashState;
+use os_files::file_time::FileTime;
+use os_files::files::FileFail;
+use os_files::memory_files::{MemoryFile, MemoryFiles};
+use os_files::os_bytes::OsBytes;
+use sha2::Sha256;
+use std::alloc::{AllocError, Global};
+use std::io;
+use std::io::Read;
+use std::test::Fail;
+
+/// The digest of nothing, the low half of each byte first.
+const OF_NOTHING: &str = "3e0b4c2489cfc141a9bf4f8c99f69b4272ea144e46b939c44a5999b187258b55";
+
+/// The digest of `abc`, which the standard prints as `ba7816bf..`.
+const OF_ABC: &str = "ab8761fbf810fcae141404edd5ea22320b30163a6971a7c94b01ff162f0051da";
+
+/// A message of 448 bits.
+const TWO_BLOCKS: &[u8] = b"abcdbcdecdefdefgefghfghighijhijkijkljklmklmnlmnomnopnopq";
+
+/// Its digest, which the standard prints as `248d6a61..`.
+const OF_TWO_BLOCKS: &str = "42d8a6162d60838b5e0c6239c0e306933ac34e9546ff12766fcede4d91bd601c";
+
+/// The digest of a million times `a`, which the standard prints as `cdc76e5c..`.
+const OF_A_MILLION: &str = "dc7ce6c59941bf29181a7c2e487de3761f08a9844a7902e040d693cc7c11c20d";
+
+/// Gives a few bytes a read, and then ends or fails.
+#[derive(Drop)]
+struct Sips<'a> {
+    rest: &'a [u8],
+    most: usize,
+    fails: bool,
+}
+
+impl<'a> Read for Sips<'a> {
+    fn read(&mut self, buf: &mut [u8]) -> io::Result<usize> {
+        let count = self.most.min(buf.len()).min(self.rest.len());
+        if count == 0 && self.fails {
+            return Err(io::Error::from(io::ErrorKind::Other));
+        }
+        buf[..count].copy_from_slice(&self.rest[..count]);
+        self.rest = &self.rest[count..];
+        Ok(count)
+    }
+}
+
+/// The digest of these bytes, fed in pieces of so many bytes.
+fn in_pieces(alloc: Global, bytes: &[u8], size: usize) -> Result<String, AllocError>
+    requires { 0 < size }
+{
+    let mut digest: Digest<Sha256> = Digest::new();
+    for piece in bytes.chunks(size) {
+        digest.update(piece);
+    }
+    digest.finish(alloc)
+}
+
+#[test]
+fn prints_the_digests_of_the_standard(rt: HostRuntime) -> Result<(), Fail> {
+    let alloc = rt.alloc();
+    for (bytes, text) in [
+        (b"".as_slice(), OF_NOTHING),
+        (b"abc".as_slice(), OF_ABC),
+        (TWO_BLOCKS, OF_TWO_BLOCKS),
+    ] {
+        assert_eq!(rt; in_pieces(alloc, bytes, 5)?.as_str(), text);
+        assert_eq!(rt; Digest::<Sha256>::reader_sync(alloc, bytes)?.as_str(), text);
+        let sips = Sips {
+            rest: bytes,
+            most: 1,
+            fails: false,
+        };
+        assert_eq!(rt; Digest::<Sha256>::reader_sync(alloc, sips)?.as_str(), text);
+    }
+    assert_eq!(rt; <Sha256 as HashState>::LEN, 32);
+    texts_tell_digests::<Sha256>();
+    Ok(())
+}
+
+#[test]
+fn reads_past_its_buffer(rt: HostRuntime) -> Result<(), Fail> {
+    let alloc = rt.alloc();
+    assert_eq!(rt; HASH_BUFFER_SIZE, 131_072);
+    let long = vec![in alloc; b'a'; 1_000_000]?;
+    assert_eq!(rt; in_pieces(alloc, &long, 999)?.as_str(), OF_A_MILLION);
+    let read = Digest::<Sha256>::reader_sync(alloc, long.as_slice())?;
+    assert_eq!(rt; read.as_str(), OF_A_MILLION);
+    Ok(())
+}
+
+#[test]
+fn shows_each_piece_in_order(rt: HostRuntime) -> Result<(), Fail> {
+    let sips = Sips {
+        rest: b"abc",
+        most: 1,
+        fails: false,
+    };
+    let mut shown = 0u64;
+    let text = Digest::<Sha256>::reader_sync_with(rt.alloc(), sips, |piece: &[u8]| {
+        let first = piece.first().copied().unwrap_or(0);
+        shown = shown.wrapping_mul(256).wrapping_add(u64::from(first));
+    })?;
+    assert_eq!(rt; text.as_str(), OF_ABC);
+    assert_eq!(rt; shown, 0x61_62_63);
+    Ok(())
+}
+
+#[test]
+fn a_failed_read_is_told(rt: HostRuntime) -> Result<(), Fail> {
+    let alloc = rt.alloc();
+    let sips = Sips {
+        rest: b"abc",
+        most: 2,
+        fails: true,
+    };
+    assert_eq!(rt;
+        Digest::<Sha256>::reader_sync(alloc, sips).err(),
+        Some(Error::Io)
+    );
+    assert_eq!(rt;
+        format!(in alloc; "{}", Error::Io)?.as_str(),
+        "the bytes cannot be read"
+    );
+    assert_eq!(rt;
+        format!(in alloc; "{}", Error::Memory)?.as_str(),
+        "out of memory"
+    );
+    Ok(())
+}
+
+#[test]
+fn a_delimiter_is_its_bytes(rt: HostRuntime) -> Result<(), Fail> {
+    let alloc = rt.alloc();
+    let mut digest: Digest<Sha256> = Digest::new();
+    digest.update(b"a");
+    digest.delimiter(b"env");
+    let text = digest.finish(alloc)?;
+    let whole = in_pieces(alloc, b"a\0SCCACHE\0env\0", 100)?;
+    assert_eq!(rt; text.as_str(), whole.as_str());
+    Ok(())
+}
+
+/// A file of `abc` and an empty one.
+fn files(alloc: Global, abc: &OsBytes, empty: &OsBytes) -> Result<MemoryFiles, AllocError> {
+    let mut files = MemoryFiles::new(alloc);
+    for (name, contents) in [(abc, b"abc".as_slice()), (empty, b"".as_slice())] {
+        let file = MemoryFile {
+            contents: OsBytes::from_slice(alloc, contents)?,
+            mtime: FileTime::from_seconds(0),
+        };
+        files.insert(name.clone()?, file)?;
+    }
+    Ok(files)
+}
+
+#[test]
+fn files_are_digested_in_order(rt: HostRuntime) -> Result<(), Fail> {
+    let alloc = rt.alloc();
+    let abc = OsBytes::from_slice(alloc, b"/w/abc")?;
+    let empty = OsBytes::from_slice(alloc, b"/w/empty")?;
+    let missing = OsBytes::from_slice(alloc, b"/w/missing")?;
+    let mut files = files(alloc, &abc, &empty)?;
+    let text = Digest::<Sha256>::file(alloc, &abc, &mut files)?.ok_or("not there")?;
+    assert_eq!(rt; text.as_str(), OF_ABC);
+    assert!(rt; Digest::<Sha256>::file(alloc, &missing, &mut files)?.is_none());
+    let names = [abc, empty, missing];
+    let all = Digest::<Sha256>::hash_all(alloc, &names[..2], &mut files)?.ok_or("not there")?;
+    assert_eq!(rt; all.len(), 2);
+    assert_eq!(rt; all.first().map(|text| text.as_str()), Some(OF_ABC));
+    assert_eq!(rt; all.last().map(|text| text.as_str()), Some(OF_NOTHING));
+    assert!(rt; Digest::<Sha256>::hash_all(alloc, &names, &mut files)?.is_none());
+    Ok(())
+}

@@ -1,0 +1,28 @@
+//! Whether the definitions say what is meant, by examples.
+
+use super::*;
+use std::test::Fail;
+
+#[test]
+fn normal_paths_by_example(rt: HostRuntime) -> Result<(), Fail> {
+    let alloc = rt.alloc();
+    for (path, want) in [
+        ("a/./b/../c", "a/c"),
+        ("/../a", "/a"),
+        ("../a", "a"),
+        ("./a//b/", "a/b"),
+        ("/a/..", "/"),
+        ("a/../..", ""),
+    ] {
+        let normal = normalize_path(alloc, path.as_bytes())?;
+        assert_eq!(rt; normal.as_bytes(), want.as_bytes(), "{path:?}");
+    }
+    Ok(())
+}
+
+#[test]
+fn windows_paths_by_example(rt: HostRuntime) -> Result<(), Fail> {
+    let normal = normalize_win_path(rt.alloc(), b"C:\\Foo")?;
+    assert_eq!(rt; normal.as_slice(), b"c:/foo".as_slice());
+    Ok(())
+}

@@ -1,0 +1,14 @@
+//! Each call once.
+
+use super::*;
+use std::test::Fail;
+
+#[test]
+fn a_word_behind_its_prefix(rt: HostRuntime) -> Result<(), Fail> {
+    let word = OsBytes::from_slice(rt.alloc(), b"@args\xff")?;
+    assert!(rt; OsStrExt::starts_with(&word, "@"));
+    assert!(rt; !OsStrExt::starts_with(&word, "args"));
+    assert_eq!(rt; word.split_prefix("@"), Some(b"args\xff".as_slice()));
+    assert_eq!(rt; word.split_prefix("-"), None);
+    Ok(())
+}

@@ -1,0 +1,106 @@
+//! Texts and arguments without the folders that are no part of a key.
+
+ghost use Rattle.std.specs.Prelude.{◌≡◌, ◌↔◌, ◌<◌, ◌≤◌, ℕ, List, [], IfOk, length};
+ghost use Rattle.std.specs.Cow.{cow_slice_items, IsBorrowedSlice};
+ghost use Rattle.ckeys_base.specs.FolderPlaces.{text_places, argument_places, longest};
+ghost use Rattle.ckeys_base.specs.FromTheLeft.{places_of, stripped_of};
+ghost use Rattle.ckeys_base.specs.Stripping.{IsStripping, HasExactlyOne, left_by};
+
+mod kept_slices;
+mod places;
+
+use kept_slices::{KeptSlices, next_place, next_start};
+use os_files::os_bytes::OsBytes;
+use places::Kind;
+use std::alloc::{AllocError, Global};
+use std::borrow::CowSlice;
+
+/// A text without the folders that count in it: an occurrence of a folder counts where the byte
+/// before it is the start, ASCII white space, `"`, `'` or `<`, and the byte after it is `/`, ASCII
+/// white space, `"`, `'`, `>` or the end. From the left, at each such place outside of what went
+/// before, the longest folder goes. It is the text itself, and no memory is taken, where nothing goes.
+pub fn strip_basedirs<'a>(
+    alloc: Global,
+    text: &'a [u8],
+    folders: &[OsBytes],
+) -> Result<CowSlice<'a, u8>, AllocError>
+    ensures one { HasExactlyOne (IsStripping (longest text_places folders.now text.now) 0 (length text.now)) }
+    ensures left { (starts : List ℕ) → IsStripping (longest text_places folders.now text.now) 0 (length text.now) starts
+        → IfOk result (λ cut. cow_slice_items cut ≡ left_by (longest text_places folders.now text.now) text.now starts) }
+    ensures borrowed { (starts : List ℕ) → IsStripping (longest text_places folders.now text.now) 0 (length text.now) starts
+        → IfOk result (λ cut. IsBorrowedSlice cut ↔ (starts ≡ [])) }
+    ensures value { IfOk result (λ cut. cow_slice_items cut ≡ stripped_of text_places folders.now text.now) }
+{
+    strip(alloc, Kind::Text, text, folders)
+}
+
+/// An argument without the folders that count in it: the places are the start, the byte after each
+/// `=`, and byte 2 of a word that begins with `-` and another byte than `-`, and an occurrence ends
+/// at the end, `/` or `=`. A word that begins with `-D` has no such place. From the left, at each
+/// place outside of what went before, the longest folder goes. It is the argument itself, and no
+/// memory is taken, where nothing goes.
+pub fn strip_basedirs_from_arg<'a>(
+    alloc: Global,
+    argument: &'a [u8],
+    folders: &[OsBytes],
+) -> Result<CowSlice<'a, u8>, AllocError>
+    ensures one { HasExactlyOne (IsStripping (longest argument_places folders.now argument.now) 0 (length argument.now)) }
+    ensures left { (starts : List ℕ) → IsStripping (longest argument_places folders.now argument.now) 0 (length argument.now) starts
+        → IfOk result (λ cut. cow_slice_items cut ≡ left_by (longest argument_places folders.now argument.now) argument.now starts) }
+    ensures borrowed { (starts : List ℕ) → IsStripping (longest argument_places folders.now argument.now) 0 (length argument.now) starts
+        → IfOk result (λ cut. IsBorrowedSlice cut ↔ (starts ≡ [])) }
+    ensures value { IfOk result (λ cut. cow_slice_items cut ≡ stripped_of argument_places folders.now argument.now) }
+{
+    strip(alloc, Kind::Argument, argument, folders)
+}
+
+/// What is left, borrowed where all of it is.
+fn strip<'a>(
+    alloc: Global,
+    kind: Kind,
+    text: &'a [u8],
+    folders: &[OsBytes],
+) -> Result<CowSlice<'a, u8>, AllocError>
+    ensures one { HasExactlyOne (IsStripping (longest (places_of kind) folders.now text.now) 0 (length text.now)) }
+    ensures left { (starts : List ℕ) → IsStripping (longest (places_of kind) folders.now text.now) 0 (length text.now) starts
+        → IfOk result (λ cut. cow_slice_items cut ≡ left_by (longest (places_of kind) folders.now text.now) text.now starts) }
+    ensures borrowed { (starts : List ℕ) → IsStripping (longest (places_of kind) folders.now text.now) 0 (length text.now) starts
+        → IfOk result (λ cut. IsBorrowedSlice cut ↔ (starts ≡ [])) }
+    ensures value { IfOk result (λ cut. cow_slice_items cut ≡ stripped_of (places_of kind) folders.now text.now) }
+{
+    let first = next_place(kind, folders, text, 0);
+    if first == text.len() {
+        return Ok(CowSlice::Borrowed(text));
+    }
+    Ok(CowSlice::Owned(joined(alloc, kind, text, folders, first)?))
+}
+
+/// The parts that stay, in one, where the first folder goes at that place.
+fn joined(
+    alloc: Global,
+    kind: Kind,
+    text: &[u8],
+    folders: &[OsBytes],
+    first: usize,
+) -> Result<Vec<u8>, AllocError>
+    requires within { first ≤ length text.now }
+    requires none_before { (k : ℕ) → k < first → longest (places_of kind) folders.now text.now k ≡ 0 }
+    requires found { first < length text.now → 0 < longest (places_of kind) folders.now text.now first }
+    ensures { IfOk result (λ kept. kept.items ≡ stripped_of (places_of kind) folders.now text.now) }
+{
+    let mut kept = Vec::with_capacity(alloc, text.len())?;
+    kept.extend_from_slice(&text[..first])?;
+    let behind = KeptSlices {
+        kind,
+        folders,
+        text,
+        next: next_start(kind, folders, text, first),
+    };
+    for part in behind {
+        kept.extend_from_slice(part)?;
+    }
+    Ok(kept)
+}
+
+#[cfg(test)]
+mod tests;

@@ -1,0 +1,61 @@
+//! Whether the definitions say what is meant, by examples.
+
+use super::*;
+use std::test::Fail;
+
+/// A list of these folders.
+fn folders(alloc: Global, names: &[&str]) -> Result<Vec<OsBytes>, AllocError> {
+    let mut list = Vec::new(alloc);
+    for name in names {
+        list.push(OsBytes::from_slice(alloc, name.as_bytes())?)?;
+    }
+    Ok(list)
+}
+
+#[test]
+fn arguments_lose_a_folder(rt: HostRuntime) -> Result<(), Fail> {
+    let alloc = rt.alloc();
+    let project = folders(alloc, &["/home/user/project"])?;
+    for (argument, want) in [
+        (
+            "-ffile-prefix-map=/home/user/project=.",
+            "-ffile-prefix-map==.",
+        ),
+        ("-I/home/user/project/inc", "-I/inc"),
+        ("/home/user/project", ""),
+        ("/home/user/project-docs", "/home/user/project-docs"),
+        (
+            "-DROOT=\"/home/user/project\"",
+            "-DROOT=\"/home/user/project\"",
+        ),
+        ("-DROOT=/home/user/project", "-DROOT=/home/user/project"),
+        ("--/home/user/project", "--/home/user/project"),
+        ("x/home/user/project", "x/home/user/project"),
+    ] {
+        let left = strip_basedirs_from_arg(alloc, argument.as_bytes(), &project)?;
+        assert_eq!(rt; left.as_slice(), want.as_bytes(), "{argument:?}");
+    }
+    Ok(())
+}
+
+#[test]
+fn the_longest_folder_goes(rt: HostRuntime) -> Result<(), Fail> {
+    let alloc = rt.alloc();
+    let nested = folders(alloc, &["/home/user", "/home/user/project"])?;
+    let text = b"# 1 \"/home/user/project/a.c\"\n# 2 \"/home/user/b.h\" </home/user>\n";
+    let left = strip_basedirs(alloc, text, &nested)?;
+    let want = b"# 1 \"/a.c\"\n# 2 \"/b.h\" <>\n";
+    assert_eq!(rt; left.as_slice(), want.as_slice());
+    Ok(())
+}
+
+#[test]
+fn a_text_without_folders_is_lent(rt: HostRuntime) -> Result<(), Fail> {
+    let alloc = rt.alloc();
+    let project = folders(alloc, &["/home/user/project"])?;
+    let text = b"/home/user/project-docs x/home/user/project\n";
+    let left = strip_basedirs(alloc, text, &project)?;
+    assert!(rt; matches!(left, CowSlice::Borrowed(_)));
+    assert_eq!(rt; left.as_slice(), text.as_slice());
+    Ok(())
+}
