@@ -1,0 +1,5 @@
+pub mod Kinds
+pub mod Values
+pub mod Languages
+pub mod Tables
+pub mod OwnWords

@@ -1,0 +1,9 @@
+//! The options of the C compilers: what each is for, the tables of each compiler, and the languages.
+#![tactic(auto)]
+
+pub mod compiler;
+pub mod kind;
+pub mod language;
+pub mod laws;
+pub mod tables;
+pub mod value;
