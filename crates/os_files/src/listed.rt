@@ -1,7 +1,8 @@
 //! A list that owns its items and that contracts see as a list, so that whatever holds one is compared as a plain value.
 
-ghost use Rattle.std.specs.Prelude.{◌≡◌, ◌==◌, length};
+ghost use Rattle.std.specs.Prelude.{◌≡◌, ◌==◌, [], ◌∷◌, ◌++◌, length, OnOk, OnErr};
 
+use std::alloc::{AllocError, Global};
 use std::marker::Model;
 
 /// Items in order.
@@ -19,6 +20,15 @@ impl<T> Model for Listed<T> {
 }
 
 impl<T> Listed<T> {
+    /// The empty list. It takes no memory.
+    pub fn new(alloc: Global) -> Listed<T>
+        ensures { result ≡ [] }
+    {
+        Listed {
+            items: Vec::new(alloc),
+        }
+    }
+
     /// The list of these items. It takes no memory.
     pub fn from_vec(items: Vec<T>) -> Listed<T>
         ensures { result ≡ items.items }
@@ -50,6 +60,17 @@ impl<T> Listed<T> {
         ensures { result ≡ (length self.now == 0) }
     {
         self.items.is_empty()
+    }
+}
+
+impl<T: Drop> Listed<T> {
+    /// Adds an item at the end; where no memory was left the list stays as it is.
+    pub fn push(&mut self, item: T) -> Result<(), AllocError>
+        ensures added { OnOk result (self.new ≡ self.old ++ item ∷ []) }
+        ensures unchanged { OnErr result (self.new ≡ self.old) }
+    {
+        self.items.push(item)?;
+        Ok(())
     }
 }
 

@@ -13,3 +13,13 @@ fn keeps_its_items(rt: HostRuntime) -> Result<(), Fail> {
     assert!(rt; Listed::<u8>::from_vec(Vec::new(alloc)).is_empty());
     Ok(())
 }
+
+#[test]
+fn grows_at_its_end(rt: HostRuntime) -> Result<(), Fail> {
+    let mut list = Listed::new(rt.alloc());
+    assert!(rt; list.is_empty());
+    list.push("-c")?;
+    list.push("a.c")?;
+    assert_eq!(rt; list.as_slice(), ["-c", "a.c"].as_slice());
+    Ok(())
+}

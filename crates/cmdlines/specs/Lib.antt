@@ -1,0 +1,5 @@
+pub mod Wanted
+pub mod Parsing
+pub mod Collecting
+pub mod Noting
+pub mod Filling
