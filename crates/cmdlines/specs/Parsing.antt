@@ -89,9 +89,12 @@ parsed_from f l input language path = record {
 }
 
 -- two of the values differ
+abbrev pub holds_other : Bytes → List Bytes → Bool
+holds_other value values = list_any (λ other. not (bytes_eq other value)) values
+
 abbrev pub differ : List Bytes → Bool
 differ [] = false
-differ (value ∷ values) = list_any (λ other. not (bytes_eq other value)) values
+differ (value ∷ values) = holds_other value values
 
 -- The closing table, from its end: an output, one architecture, a known language, one input, a compile.
 abbrev pub with_output : Facts → Lists → Input → Language → Option Bytes → Decision
