@@ -1,0 +1,2 @@
+pub mod CollectLemmas
+pub mod InputLemmas

@@ -3,6 +3,7 @@
 
 mod closing;
 pub mod compiler_arguments;
+mod engine;
 pub mod facts;
 pub mod lists;
 pub mod parsed;
