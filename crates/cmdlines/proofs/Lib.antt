@@ -1,2 +1,3 @@
 pub mod CollectLemmas
 pub mod InputLemmas
+pub mod CommandLemmas

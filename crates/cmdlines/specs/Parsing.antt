@@ -135,3 +135,6 @@ IsSafeBy dashes table behind input = ((behind ≡ true) × (dashes ≡ true)) �
 
 abbrev pub HasSafeInput : CCompilerKind → ParsedArguments → Type 0
 HasSafeInput kind p = IsSafeBy (ends_options kind) (entries_of kind) p.double_dash_input p.input
+
+abbrev pub HasSafeInputIn : CCompilerKind → Decision → Type 0
+HasSafeInputIn kind decision = (p : ParsedArguments) → decision ≡ asks p → HasSafeInput kind p

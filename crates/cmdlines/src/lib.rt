@@ -3,7 +3,10 @@
 
 mod closing;
 pub mod compiler_arguments;
+pub mod clang;
+pub mod command;
 mod engine;
 pub mod facts;
+pub mod gcc;
 pub mod lists;
 pub mod parsed;

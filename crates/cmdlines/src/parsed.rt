@@ -1,6 +1,9 @@
 //! What a request asks for, by its words.
 
 ghost use Rattle.std.specs.Prelude.{◌≡◌};
+ghost use Rattle.std.specs.Option.{option_copied};
+ghost use Rattle.cmdlines.specs.Parsing.{object_name};
+ghost use Rattle.cmdlines.specs.Small.{output_named};
 
 use crate::facts::DependencyOptions;
 use cmdlines_base::command::ArtifactDescriptor;
@@ -41,4 +44,18 @@ pub struct ParsedArguments {
     pub has_color_option: bool,
     /// Which options tell of dependency files.
     pub dependencies: DependencyOptions,
+}
+
+impl ParsedArguments {
+    /// The output named `obj`. It takes no memory.
+    pub fn object(&self) -> Option<&ArtifactDescriptor>
+        ensures { option_copied result ≡ output_named object_name self.now.outputs }
+    {
+        let named = self
+            .outputs
+            .as_slice()
+            .iter()
+            .find(|output| output.0.as_bytes() == b"obj".as_slice())?;
+        Some(&named.1)
+    }
 }

@@ -1,0 +1,14 @@
+use Rattle.std.proofs.Common.{◌≡◌, ◌∙◌, sym, false, [], ◌∷◌}
+use Rattle.cmdlines_base.specs.Table.{all_entries}
+use Rattle.cmdlines_tables.specs.Tables.{entries_of, ends_options}
+use Rattle.cmdlines_tables.specs.declared.compiler.CCompilerKind.TheVariants.{Gcc}
+use Rattle.cmdlines.specs.Parsing.{parse_of, decision_of}
+use Rattle.cmdlines.proofs.gcc.Gcc.parse_arguments.Goals as goal
+
+pub returns-clause-decision : goal.returns-clause-decision
+returns-clause-decision g c = rw c.self.invariant at c.in_ok-parse.ensures
+
+pub returns-clause-input : goal.returns-clause-input
+returns-clause-input g c = λ p asks_this.
+    let is : decision_of c.in_ok-parse.field-0 ≡ parse_of Gcc c.args.words.now = rw c.self.invariant at c.in_ok-parse.ensures in
+    c.inputs_are_safe.ensures (ends_options Gcc) (entries_of Gcc) c.args.words.now p (sym is ∙ asks_this)

@@ -1,0 +1,158 @@
+-- The commands that are run for a request, and what the compiler's tables read of them.
+use Rattle.std.specs.Prelude.{◌≡◌, Bool, true, false, not, ◌&&◌, List, [], ◌∷◌, ◌++◌, map, Option, None, Some, unwrap_or, if◌then◌else◌, codes}
+use Rattle.std.specs.Option.{option_map}
+use Rattle.os_files.specs.Bytes.{Bytes}
+use Rattle.os_files.specs.Path.{with_extension}
+use Rattle.cmdlines_base.specs.Printing.{normal}
+use Rattle.cmdlines_base.specs.Reading.{Item, raw, flag, valued, behind_dashes}
+use Rattle.cmdlines_base.specs.declared.argument.ArgDisposition.TheVariants.{CanBeConcatenated}
+use Rattle.cmdlines_base.specs.declared.command.ArtifactDescriptor.{ArtifactDescriptor}
+use Rattle.cmdlines_base.specs.declared.command.SingleCompileCommand.{SingleCompileCommand}
+use Rattle.cmdlines_tables.specs.Languages.{language_option}
+use Rattle.cmdlines_tables.specs.OwnWords.{color_word, color_item}
+use Rattle.cmdlines_tables.specs.Tables.{reading_of}
+use Rattle.cmdlines_tables.specs.declared.compiler.CCompilerKind.{CCompilerKind}
+use Rattle.cmdlines_tables.specs.declared.kind.ArgKind.{ArgKind}
+use Rattle.cmdlines_tables.specs.declared.kind.ArgKind.TheVariants.{TooHard, DoCompilation, Output, Language, DepArgumentPath, DepTarget}
+use Rattle.cmdlines_tables.specs.declared.kind.OptionList.TheVariants as lists
+use Rattle.cmdlines.specs.Parsing.{object_name}
+use Rattle.cmdlines.specs.Small.{output_named}
+use Rattle.cmdlines.specs.Wanted.{wanted}
+use Rattle.cmdlines.specs.declared.facts.DependencyOptions.{DependencyOptions}
+use Rattle.cmdlines.specs.declared.parsed.ParsedArguments.{ParsedArguments}
+
+-- where the object goes
+abbrev pub object_path : ParsedArguments → Option Bytes
+object_path p = option_map (λ (output : ArtifactDescriptor). output.path) (output_named object_name p.outputs)
+
+abbrev pub output_path : ParsedArguments → Bytes
+output_path p = unwrap_or (object_path p) []
+
+-- An option apart from its value: two words, or one item.
+abbrev pub option_words : Bytes → Bytes → List Bytes
+option_words name value = name ∷ value ∷ []
+
+abbrev pub option_item : Bytes → ArgKind → Bytes → Item ArgKind
+option_item name kind value = valued name kind value (CanBeConcatenated None)
+
+-- the language, where an option can name it
+abbrev pub language_words : Option Bytes → List Bytes
+language_words None = []
+language_words (Some name) = option_words (codes "-x") name
+
+abbrev pub language_items : Option Bytes → List (Item ArgKind)
+language_items None = []
+language_items (Some name) = option_item (codes "-x") Language name ∷ []
+
+-- The input: among the options, or behind double dashes at the end.
+abbrev pub front_words : Bool → Bytes → List Bytes
+front_words false input = input ∷ []
+front_words true input = []
+
+abbrev pub front_items : Bool → Bytes → List (Item ArgKind)
+front_items false input = raw input ∷ []
+front_items true input = []
+
+abbrev pub behind_words : Bool → Bytes → List Bytes
+behind_words false input = []
+behind_words true input = codes "--" ∷ input ∷ []
+
+abbrev pub behind_items : Bool → Bytes → List (Item ArgKind)
+behind_items false input = []
+behind_items true input = behind_dashes input ∷ []
+
+-- messages are to be coloured, where no option says whether
+abbrev pub color_words : CCompilerKind → Bool → List Bytes
+color_words kind true = []
+color_words kind false = color_word kind ∷ []
+
+abbrev pub color_items : CCompilerKind → Bool → List (Item ArgKind)
+color_items kind true = []
+color_items kind false = color_item kind ∷ []
+
+-- Where a dependency file is asked for, but not where it goes, it goes beside the object; and its target is the object, where none is named.
+abbrev pub lacks_path : DependencyOptions → Bool
+lacks_path d = d.asked && not d.path
+
+abbrev pub lacks_target : DependencyOptions → Bool
+lacks_target d = d.asked && not d.target
+
+abbrev pub beside : Bytes → Bytes
+beside path = with_extension path (codes "d")
+
+abbrev pub when_words : Bool → Bytes → Bytes → List Bytes
+when_words false name value = []
+when_words true name value = option_words name value
+
+abbrev pub when_items : Bool → Bytes → ArgKind → Bytes → List (Item ArgKind)
+when_items false name kind value = []
+when_items true name kind value = option_item name kind value ∷ []
+
+abbrev pub added_words : DependencyOptions → Option Bytes → List Bytes
+added_words d None = []
+added_words d (Some path) = when_words (lacks_path d) (codes "-MF") (beside path) ++ when_words (lacks_target d) (codes "-MT") path
+
+abbrev pub added_items : DependencyOptions → Option Bytes → List (Item ArgKind)
+added_items d None = []
+added_items d (Some path) = when_items (lacks_path d) (codes "-MF") DepArgumentPath (beside path) ++ when_items (lacks_target d) (codes "-MT") DepTarget path
+
+-- The compile command: the language, the compile flag, the input, the output and the colours, and then the wanted options.
+abbrev pub compile_words : CCompilerKind → ParsedArguments → Bytes → List Bytes
+compile_words kind p path =
+    language_words (language_option p.language)
+    ++ (codes "-c" ∷ [])
+    ++ front_words p.double_dash_input p.input
+    ++ option_words (codes "-o") path
+    ++ color_words kind p.has_color_option
+    ++ p.preprocessor_args
+    ++ p.unhashed_args
+    ++ p.common_args
+    ++ p.arch_args
+    ++ behind_words p.double_dash_input p.input
+
+abbrev pub compile_items : CCompilerKind → ParsedArguments → Bytes → List (Item ArgKind) → List (Item ArgKind)
+compile_items kind p path items =
+    language_items (language_option p.language)
+    ++ (flag (codes "-c") DoCompilation ∷ [])
+    ++ front_items p.double_dash_input p.input
+    ++ (option_item (codes "-o") Output path ∷ [])
+    ++ color_items kind p.has_color_option
+    ++ wanted lists.Preprocessor items
+    ++ wanted lists.Unhashed items
+    ++ wanted lists.Common items
+    ++ wanted lists.Arch items
+    ++ behind_items p.double_dash_input p.input
+
+-- The preprocess command: the language, the preprocessing flag and the input, and then the wanted options, with what dependency options lack.
+abbrev pub preprocess_words : ParsedArguments → List Bytes
+preprocess_words p =
+    language_words (language_option p.language)
+    ++ (codes "-E" ∷ [])
+    ++ front_words p.double_dash_input p.input
+    ++ p.preprocessor_args
+    ++ p.dependency_args
+    ++ added_words p.dependencies (object_path p)
+    ++ p.common_args
+    ++ p.arch_args
+    ++ behind_words p.double_dash_input p.input
+
+abbrev pub preprocess_items : ParsedArguments → List (Item ArgKind) → List (Item ArgKind)
+preprocess_items p items =
+    language_items (language_option p.language)
+    ++ (flag (codes "-E") TooHard ∷ [])
+    ++ front_items p.double_dash_input p.input
+    ++ wanted lists.Preprocessor items
+    ++ wanted lists.Dependency items
+    ++ added_items p.dependencies (object_path p)
+    ++ wanted lists.Common items
+    ++ wanted lists.Arch items
+    ++ behind_items p.double_dash_input p.input
+
+-- A command's words are read as these items, and nothing is cut short. Where a value may stand either way it may stand otherwise.
+pub record ReadsAs (kind : CCompilerKind) (command : List Bytes) (expected : List (Item ArgKind)) : Type 0 where
+  pub items : map normal (reading_of kind command).items ≡ map normal expected
+  pub whole : (reading_of kind command).cut_short ≡ false
+
+-- these words, run by this executable, in this directory, under these variables
+abbrev pub command_at : Bytes → List Bytes → List (Bytes × Bytes) → Bytes → SingleCompileCommand
+command_at executable words env dir = record { executable = executable; arguments = words; env_vars = env; cwd = dir }

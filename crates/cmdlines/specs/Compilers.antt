@@ -1,0 +1,19 @@
+-- What is known of a compiler beside its kind.
+use Rattle.std.specs.Prelude.{Bool, ℕ, List, Option, String, string_bytes}
+use Rattle.std.specs.Borrow.{Bor}
+use Rattle.std.specs.Option.{option_map}
+use Rattle.std.specs.declared.alloc.Global.{Global}
+use Rattle.os_files.specs.Bytes.{Bytes}
+
+-- whether it compiles C++ by itself, its version, and the digest of its assembler
+pub record Traits : Type 0 where
+  pub plusplus : Bool
+  pub version : Option Bytes
+  pub assembler_digest : Option Bytes
+
+abbrev pub traits_of : Bool → Option (String Global) → Option (String Global) → Traits
+traits_of plusplus version assembler_digest = record { plusplus = plusplus; version = option_map string_bytes version; assembler_digest = option_map string_bytes assembler_digest }
+
+-- a text that is lent
+abbrev pub text_in : Bor (List ℕ) → Bytes
+text_in text = text.now
