@@ -1,15 +1,19 @@
 -- The input of words that ask for something can stand where it's written.
 use Rattle.std.proofs.Common.{◌≡◌, Bool, true, false, cond, ◌&&◌, ◌==◌, List, [], ◌∷◌, ◌++◌, Option, Some, None, map, refl, ap, sym, subst, ◌∙◌, inl, inr}
-use Rattle.std.specs.Prelude.{codes, find, unwrap_or}
+use Rattle.std.specs.Prelude.{codes, find, unwrap_or, is_some}
 use Rattle.std.specs.List.{AllByRecursion, flat_map}
+use Rattle.std.specs.Option.{option_map}
 use Rattle.os_files.specs.Bytes.{Bytes}
 use Rattle.cmdlines_base.specs.Reading.{Item, raw, unknown, flag, valued, behind_dashes, Start, whole, awaits, ends, Reading, loose, start_as, start_either, first_by, first_word, is_double_dash, from_last, from_first, unfinished, all_behind, reading}
 use Rattle.cmdlines_base.specs.Table.{Entry, behind, longest_fit}
 use Rattle.cmdlines_base.specs.declared.argument.ArgDisposition.{ArgDisposition}
 use Rattle.cmdlines_base.specs.declared.argument.ArgDisposition.TheVariants.{Separated, CanBeConcatenated, CanBeSeparated, Concatenated}
+use Rattle.cmdlines_base.specs.declared.command.ArtifactDescriptor.{ArtifactDescriptor}
 use Rattle.cmdlines_tables.specs.declared.kind.ArgKind.{ArgKind}
 use Rattle.cmdlines_tables.specs.declared.language.Language.{Language}
-use Rattle.cmdlines.specs.Parsing.{Decision, asks, refused, not_compilation, differ, language_for, output_for, with_output, with_language, with_inputs, closing, decided, decision_on, decision_by, parsed_from, IsSafeBy}
+use Rattle.cmdlines.specs.Commands.{object_path}
+use Rattle.cmdlines.specs.Small.{output_named}
+use Rattle.cmdlines.specs.Parsing.{object_name, outputs_at, Decision, asks, refused, not_compilation, differ, language_for, output_for, with_output, with_language, with_inputs, closing, decided, decision_on, decision_by, parsed_from, IsSafeBy}
 use Rattle.cmdlines.specs.Wanted.{facts_of, lists_of, input_in, is_hard}
 use Rattle.cmdlines.specs.declared.facts.Facts.{Facts}
 use Rattle.cmdlines.specs.declared.lists.Input.{Input}
@@ -52,6 +56,21 @@ decided_asked None false f l p h = closing_asked f l p f.compiles h
 
 pub asked : (table : List (Entry ArgKind)) (r : Reading ArgKind) (p : ParsedArguments) → decision_on table r ≡ asks p → Asked (facts_of table r.items) (lists_of r.items) p
 asked table r p h = decided_asked (find is_hard r.items) r.cut_short (facts_of table r.items) (lists_of r.items) p h
+
+-- the object is among the outputs, beside the messages for tools or alone
+object_among : (messages : Option Bytes) (path : Bytes) → is_some (output_named object_name (outputs_at messages path)) ≡ true
+object_among None path = refl
+object_among (Some messages) path = refl
+
+is_some-map : {X Y : Type 0} (f : X → Y) (o : Option X) → is_some o ≡ true → is_some (option_map f o) ≡ true
+is_some-map f None h = h
+is_some-map f (Some x) h = refl
+
+pub object_there : (d : Bool) (t : List (Entry ArgKind)) (words : List Bytes) (p : ParsedArguments) → decision_by d t words ≡ asks p → is_some (object_path p) ≡ true
+object_there d t words p h =
+    let a : Asked (facts_of t (reading d t words).items) (lists_of (reading d t words).items) p = asked t (reading d t words) p h in
+    is_some-map (λ (o : ArtifactDescriptor). o.path) (output_named object_name p.outputs)
+        (subst (λ (q : ParsedArguments). is_some (output_named object_name q.outputs) ≡ true) a.is (object_among (facts_of t (reading d t words).items).diagnostics a.path))
 
 module _ (d : Bool) (t : List (Entry ArgKind)) where
   -- a loose word is one that the table makes nothing else of, and none stands behind double dashes unless these end the options

@@ -1,5 +1,5 @@
 -- The commands that are run for a request, and what the compiler's tables read of them.
-use Rattle.std.specs.Prelude.{◌≡◌, Bool, true, false, not, ◌&&◌, List, [], ◌∷◌, ◌++◌, map, Option, None, Some, unwrap_or, if◌then◌else◌, codes}
+use Rattle.std.specs.Prelude.{◌≡◌, Bool, true, false, not, ◌&&◌, List, [], ◌∷◌, ◌++◌, map, Option, None, Some, unwrap_or, is_some, if◌then◌else◌, codes}
 use Rattle.std.specs.Option.{option_map}
 use Rattle.os_files.specs.Bytes.{Bytes}
 use Rattle.os_files.specs.Path.{with_extension}
@@ -15,7 +15,7 @@ use Rattle.cmdlines_tables.specs.declared.compiler.CCompilerKind.{CCompilerKind}
 use Rattle.cmdlines_tables.specs.declared.kind.ArgKind.{ArgKind}
 use Rattle.cmdlines_tables.specs.declared.kind.ArgKind.TheVariants.{TooHard, DoCompilation, Output, Language, DepArgumentPath, DepTarget}
 use Rattle.cmdlines_tables.specs.declared.kind.OptionList.TheVariants as lists
-use Rattle.cmdlines.specs.Parsing.{object_name}
+use Rattle.cmdlines.specs.Parsing.{Decision, asks, object_name}
 use Rattle.cmdlines.specs.Small.{output_named}
 use Rattle.cmdlines.specs.Wanted.{wanted}
 use Rattle.cmdlines.specs.declared.facts.DependencyOptions.{DependencyOptions}
@@ -27,6 +27,10 @@ object_path p = option_map (λ (output : ArtifactDescriptor). output.path) (outp
 
 abbrev pub output_path : ParsedArguments → Bytes
 output_path p = unwrap_or (object_path p) []
+
+-- what words ask for has an object
+abbrev pub HasObjectIn : Decision → Type 0
+HasObjectIn decision = (p : ParsedArguments) → decision ≡ asks p → is_some (object_path p) ≡ true
 
 -- An option apart from its value: two words, or one item.
 abbrev pub option_words : Bytes → Bytes → List Bytes

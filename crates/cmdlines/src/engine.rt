@@ -1,12 +1,11 @@
 //! The one parse of the C compilers: words are cut by a compiler's tables, and what they say is gathered and closed.
 
-ghost use Rattle.std.specs.Prelude.{◌≡◌, ◌↔◌, Bool, List, [], ◌∷◌, false, true, alloc_error, codes, IfOk, IsErrOf, MatchOption};
+ghost use Rattle.std.specs.Prelude.{◌≡◌, ◌↔◌, Bool, List, [], ◌∷◌, false, true, alloc_error, codes, is_some, IfOk, IsErrOf, MatchOption};
 ghost use Rattle.os_files.specs.Bytes.{Bytes};
-ghost use Rattle.cmdlines_base.specs.Cutting.{place_of, table_in, reading_at};
-ghost use Rattle.cmdlines_base.specs.Reading.{reading};
 ghost use Rattle.cmdlines_base.specs.Table.{Entry, all_entries};
 ghost use Rattle.cmdlines_tables.specs.Tables.{ends_options};
 ghost use Rattle.cmdlines_tables.specs.Values.{placed};
+ghost use Rattle.cmdlines.specs.Commands.{object_path};
 ghost use Rattle.cmdlines.specs.Parsing.{decision_of, decision_by, refused, asks, IsSafeBy};
 ghost use Rattle.cmdlines.specs.Wanted.{is_hard, is_hard_word, flag_of};
 ghost use Rattle.cmdlines_tables.specs.declared.kind.ArgKind.{ArgKind};
@@ -19,9 +18,9 @@ use crate::lists::Lists;
 use crate::parsed::ParsedArguments;
 use cmdlines_base::argument::Argument;
 use cmdlines_base::argument_error::ArgParseError;
-use cmdlines_base::cutting::ArgsIter;
 use cmdlines_base::table::SearchableArgInfo;
 use cmdlines_tables::compiler::CCompilerKind;
+use cmdlines_tables::cutting::arguments_of;
 use cmdlines_tables::kind::ArgKind;
 use cmdlines_tables::value::ArgData;
 use os_files::os_bytes::OsBytes;
@@ -67,24 +66,6 @@ fn not_cut(error: ArgParseError) -> Result<CompilerArguments<ParsedArguments>, A
     }
 }
 
-/// The arguments of words, as that compiler cuts them by a table.
-fn arguments_of<'a, S: SearchableArgInfo<ArgData>>(
-    alloc: Global,
-    kind: CCompilerKind,
-    table: &'a S,
-    words: &'a [OsBytes],
-) -> ArgsIter<'a, ArgData, S>
-    ensures reading { (entries : List (Entry ArgKind)) → reading_at entries (place_of result) ≡ reading (ends_options kind) entries words.now }
-    ensures table { table_in result ≡ table.now }
-{
-    let arguments = ArgsIter::new(alloc, words, table);
-    if kind.ends_options() {
-        arguments.with_double_dashes()
-    } else {
-        arguments
-    }
-}
-
 /// What words come to by a table, cut as that compiler cuts.
 pub(crate) fn parse<S: SearchableArgInfo<ArgData>>(
     alloc: Global,
@@ -116,4 +97,9 @@ pub(crate) fn parse<S: SearchableArgInfo<ArgData>>(
 /// the options.
 pub fn inputs_are_safe()
     ensures { (dashes : Bool) (table : List (Entry ArgKind)) (words : List Bytes) (parsed : ParsedArguments) → decision_by dashes table words ≡ asks parsed → IsSafeBy dashes table parsed.double_dash_input parsed.input }
+{}
+
+/// Whatever words ask for, an object is among its outputs.
+pub fn requests_have_an_object()
+    ensures { (dashes : Bool) (table : List (Entry ArgKind)) (words : List Bytes) (parsed : ParsedArguments) → decision_by dashes table words ≡ asks parsed → is_some (object_path parsed) ≡ true }
 {}

@@ -1,15 +1,15 @@
 //! Gcc: its words and the commands for it.
 
-ghost use Rattle.std.specs.Prelude.{◌≡◌, ◌↔◌, None, IfOk, IsErrOf, string_bytes};
+ghost use Rattle.std.specs.Prelude.{◌≡◌, ◌↔◌, None, IfOk, IfErr, IsErrOf};
 ghost use Rattle.std.specs.Option.{option_map};
-ghost use Rattle.cmdlines.specs.Commands.{object_path, preprocess_words, output_path, compile_words, command_at};
+ghost use Rattle.cmdlines.specs.Commands.{object_path, HasObjectIn, preprocess_words, output_path, compile_words, command_at};
 ghost use Rattle.cmdlines.specs.Compilers.{traits_of, text_in};
 ghost use Rattle.cmdlines.specs.Parsing.{decision_of, parse_of, HasSafeInputIn};
 ghost use Rattle.cmdlines.specs.ReadBack.{ReadsAsCompile, ReadsAsPreprocess};
 
 use crate::command::{Cacheable, CommandError, compile_command, preprocess_words_again};
 use crate::compiler_arguments::{CompilerArguments, ParseFault};
-use crate::engine::{inputs_are_safe, parse};
+use crate::engine::{inputs_are_safe, parse, requests_have_an_object};
 use crate::parsed::ParsedArguments;
 use cmdlines_base::command::SingleCompileCommand;
 use cmdlines_base::table::Table;
@@ -88,11 +88,14 @@ impl Gcc {
         _files: &mut F,
     ) -> Result<CompilerArguments<ParsedArguments>, ParseFault>
         ensures decision { IfOk result (λ answer. decision_of answer ≡ parse_of CCompilerKind.Gcc words.now) }
+        ensures memory { IfErr result (λ fault. fault ≡ ParseFault.Memory) }
         ensures input { IfOk result (λ answer. HasSafeInputIn CCompilerKind.Gcc (decision_of answer)) }
+        ensures object { IfOk result (λ answer. HasObjectIn (decision_of answer)) }
         ensures files { _files.new ≡ _files.old }
     {
-        // A law, which costs nothing: what follows from it is said above.
+        // Laws, which cost nothing: what follows from them is said above.
         inputs_are_safe();
+        requests_have_an_object();
         Ok(parse(alloc, CCompilerKind::Gcc, &self.table, words)?)
     }
 

@@ -2,6 +2,7 @@
 #![tactic(auto)]
 
 pub mod compiler;
+pub mod cutting;
 pub mod kind;
 pub mod language;
 pub mod laws;

@@ -1,5 +1,5 @@
 use Rattle.std.proofs.Common.{◌≡◌, ◌∙◌, ap, sym, refl}
-use Rattle.cmdlines.proofs.engine.arguments_of.Goals as goal
+use Rattle.cmdlines_tables.proofs.cutting.arguments_of.Goals as goal
 
 pub returns-then-ends_options-clause-reading : goal.returns-then-ends_options-clause-reading
 returns-then-ends_options-clause-reading g c = λ entries.
