@@ -9,50 +9,22 @@ use Rattle.std.specs.Option.{option_to_list}
 use Rattle.os_files.specs.Bytes.{Bytes}
 use Rattle.cmdlines_base.specs.Cutting.{Place, reading_at}
 use Rattle.cmdlines_base.specs.Printing.{is_empty_j, words_of}
-use Rattle.cmdlines_base.specs.Reading.{Item, Reading, raw, unknown, flag, valued, behind_dashes, is_behind, before, nothing}
+use Rattle.cmdlines_base.specs.Reading.{Item, Reading, raw, unknown, flag, valued, behind_dashes, before, nothing}
 use Rattle.cmdlines_base.specs.Table.{Entry}
-use Rattle.cmdlines_base.specs.Values.{IsOf, Steps, is_refused, values_by}
-use Rattle.cmdlines_base.specs.declared.argument.Argument.{Argument}
-use Rattle.cmdlines_base.specs.declared.argument.Argument.TheVariants.{Raw, UnknownFlag, Flag, WithValue}
+use Rattle.cmdlines_base.specs.Values.{Steps, is_refused, values_by}
 use Rattle.cmdlines_base.specs.declared.argument_error.ArgParseError.{ArgParseError}
 use Rattle.cmdlines_base.specs.declared.argument_error.ArgParseError.TheVariants.{UnexpectedEndOfArgs, InvalidUnicode, Other, Memory}
 use Rattle.cmdlines_tables.specs.Kinds.{is_compile, is_output, is_language, is_arch, is_diagnostics, is_extra_file, asks_dependencies, is_dependency_path, is_dependency_target}
-use Rattle.cmdlines_tables.specs.Values.{IsFlag, IsValue, never, placed}
+use Rattle.cmdlines_tables.specs.Values.{IsFlag, IsValue, never}
 use Rattle.cmdlines_tables.specs.declared.compiler.ColorMode.{ColorMode}
 use Rattle.cmdlines_tables.specs.declared.kind.ArgKind.{ArgKind}
 use Rattle.cmdlines_tables.specs.declared.kind.OptionList.{OptionList}
 use Rattle.cmdlines_tables.specs.declared.kind.OptionList.TheVariants as lists
-use Rattle.cmdlines_tables.specs.declared.value.ArgData.{ArgData}
 use Rattle.cmdlines.specs.Collecting.{no_facts, no_lists, facts_with, lists_with, decide}
 use Rattle.cmdlines.specs.Parsing.{decision_on, decided, refused, closing}
 use Rattle.cmdlines.specs.Wanted.{has_kind, word_in, words_in, color_in, blocker_in, input_in, later, sooner, last_of, first_of, is_wanted, wanted, wanted_words, is_hard, flag_of, facts_of, lists_of}
 use Rattle.cmdlines.specs.declared.facts.Facts.{Facts}
 use Rattle.cmdlines.specs.declared.lists.Lists.{Lists}
-
--- an argument of an item is that item, in its place
-pub item_is : (item : Item ArgKind) (argument : Argument ArgData) (seen : Bool) → IsOf (values_by IsFlag IsValue never) item argument → is_behind item ≡ seen → placed seen argument ≡ item
-item_is (raw w) (Raw v) false h at = ap raw h
-item_is (raw w) (Raw v) true h at = cc
-item_is (raw w) (UnknownFlag v) seen h at = absurd h
-item_is (raw w) (Flag g v) seen h at = absurd h
-item_is (raw w) (WithValue g v d) seen h at = absurd h
-item_is (unknown w) (Raw v) seen h at = absurd h
-item_is (unknown w) (UnknownFlag v) seen h at = ap unknown h
-item_is (unknown w) (Flag g v) seen h at = absurd h
-item_is (unknown w) (WithValue g v d) seen h at = absurd h
-item_is (flag f k) (Raw v) seen h at = absurd h
-item_is (flag f k) (UnknownFlag v) seen h at = absurd h
-item_is (flag f k) (Flag g v) seen h at = rw (h.0, h.1) refl
-item_is (flag f k) (WithValue g v d) seen h at = absurd h
-item_is (valued f k w d) (Raw v) seen h at = absurd h
-item_is (valued f k w d) (UnknownFlag v) seen h at = absurd h
-item_is (valued f k w d) (Flag g v) seen h at = absurd h
-item_is (valued f k w d) (WithValue g v e) seen h at = rw (h.0, h.1, h.2) refl
-item_is (behind_dashes w) (Raw v) true h at = ap behind_dashes h
-item_is (behind_dashes w) (Raw v) false h at = cc
-item_is (behind_dashes w) (UnknownFlag v) seen h at = absurd h
-item_is (behind_dashes w) (Flag g v) seen h at = absurd h
-item_is (behind_dashes w) (WithValue g v d) seen h at = absurd h
 
 never_refused : (item : Item ArgKind) → is_refused (values_by IsFlag IsValue never) item ≡ true → ⊥
 never_refused (raw w) h = cc

@@ -1,3 +1,4 @@
 pub mod CollectLemmas
 pub mod InputLemmas
 pub mod CommandLemmas
+pub mod ArchLemmas

@@ -7,3 +7,4 @@ pub mod Small
 pub mod Commands
 pub mod ReadBack
 pub mod Compilers
+pub mod Hazards

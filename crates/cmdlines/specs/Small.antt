@@ -20,10 +20,11 @@ object_file_name outputs = option_and_then (λ o. file_name o.path) (output_name
 abbrev pub pretty_name : Artifacts → Bytes
 pretty_name outputs = option_map_or (λ name. encode_utf8_all (lossy_chars name)) (object_file_name outputs) (codes "Unknown filename")
 
--- the words that differ from that word
+-- another word than that one
 abbrev pub differs_from : Bytes → Bytes → Bool
 differs_from word other = not (bytes_eq other word)
 
+-- all words but that one
 abbrev pub without : Bytes → List Bytes → List Bytes
 without word words = filter (differs_from word) words
 

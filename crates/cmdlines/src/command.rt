@@ -212,6 +212,24 @@ fn copied_env(
     Ok(copy)
 }
 
+/// These words, run by this executable, in that directory, under these variables.
+pub fn command_at(
+    alloc: Global,
+    executable: &OsBytes,
+    words: Listed<OsBytes>,
+    env: &[(OsBytes, OsBytes)],
+    dir: &OsBytes,
+) -> Result<SingleCompileCommand, AllocError>
+    ensures { IfOk result (λ command. command ≡ command_at executable.now words env.now dir.now) }
+{
+    Ok(SingleCompileCommand {
+        executable: executable.clone()?,
+        arguments: words,
+        env_vars: copied_env(alloc, env)?,
+        cwd: dir.clone()?,
+    })
+}
+
 /// The compile command of a request: this executable with the request's words, in that directory, under these
 /// variables.
 pub(crate) fn compile_command(
@@ -235,12 +253,8 @@ pub(crate) fn compile_command(
     let Some(path) = object_path(parsed) else {
         return Err(CommandError::NoObjOutput);
     };
-    let command = SingleCompileCommand {
-        executable: executable.clone()?,
-        arguments: compile_words(alloc, kind, parsed, path.as_bytes())?,
-        env_vars: copied_env(alloc, env)?,
-        cwd: dir.clone()?,
-    };
+    let words = compile_words(alloc, kind, parsed, path.as_bytes())?;
+    let command = command_at(alloc, executable, words, env, dir)?;
     Ok((command, Cacheable::Yes))
 }
 

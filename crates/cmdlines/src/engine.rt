@@ -22,6 +22,7 @@ use cmdlines_base::table::SearchableArgInfo;
 use cmdlines_tables::compiler::CCompilerKind;
 use cmdlines_tables::cutting::arguments_of;
 use cmdlines_tables::kind::ArgKind;
+use cmdlines_tables::laws::arguments_are_their_items;
 use cmdlines_tables::value::ArgData;
 use os_files::os_bytes::OsBytes;
 use std::alloc::{AllocError, Global};
@@ -75,6 +76,8 @@ pub(crate) fn parse<S: SearchableArgInfo<ArgData>>(
 ) -> Result<CompilerArguments<ParsedArguments>, AllocError>
     ensures { IfOk result (λ answer. decision_of answer ≡ decision_by (ends_options kind) (all_entries (S.tables table.now)) words.now) }
 {
+    // A law, which costs nothing: what follows from it is said above.
+    arguments_are_their_items();
     let mut facts = Facts::new();
     let mut lists = Lists::new(alloc);
     let mut arguments = arguments_of(alloc, kind, table, words);

@@ -8,5 +8,6 @@ pub mod command;
 mod engine;
 pub mod facts;
 pub mod gcc;
+pub mod hazards;
 pub mod lists;
 pub mod parsed;

@@ -1,16 +1,21 @@
 //! What a request asks for, by its words.
 
-ghost use Rattle.std.specs.Prelude.{◌≡◌};
+ghost use Rattle.std.specs.Prelude.{◌≡◌, ◌&&◌, length, map, nat_lt, string_bytes, IfOk, find};
+ghost use Rattle.std.specs.List.{list_any};
 ghost use Rattle.std.specs.Option.{option_copied};
 ghost use Rattle.cmdlines.specs.Parsing.{object_name};
-ghost use Rattle.cmdlines.specs.Small.{output_named};
+ghost use Rattle.cmdlines.specs.Small.{output_named, object_file_name, pretty_name, archs_of, arch_flag, differs_from};
 
 use crate::facts::DependencyOptions;
+use bstr::ByteSlice;
 use cmdlines_base::command::ArtifactDescriptor;
 use cmdlines_tables::compiler::ColorMode;
 use cmdlines_tables::language::Language;
 use os_files::listed::Listed;
 use os_files::os_bytes::OsBytes;
+use os_files::path::file_name;
+use std::alloc::{AllocError, Global};
+use std::collections::BTreeSet;
 
 /// The options of a request that can be cached.
 #[derive(Drop)]
@@ -46,6 +51,13 @@ pub struct ParsedArguments {
     pub dependencies: DependencyOptions,
 }
 
+/// Whether a word among those on architectures is a name, and not the flag before it.
+fn names_arch(word: &[u8]) -> bool
+    ensures { result ≡ differs_from arch_flag word.now }
+{
+    word != b"-arch".as_slice()
+}
+
 impl ParsedArguments {
     /// The output named `obj`. It takes no memory.
     pub fn object(&self) -> Option<&ArtifactDescriptor>
@@ -57,5 +69,70 @@ impl ParsedArguments {
             .iter()
             .find(|output| output.0.as_bytes() == b"obj".as_slice())?;
         Some(&named.1)
+    }
+
+    /// The file name of the object as text, where U+FFFD stands for what is no UTF-8: `Unknown filename` where there
+    /// is no such output, or where its path has no file name.
+    pub fn output_pretty(&self, alloc: Global) -> Result<String, AllocError>
+        ensures { IfOk result (λ text. string_bytes text ≡ pretty_name self.now.outputs) }
+    {
+        match self.object_file_name() {
+            None => String::from_str(alloc, "Unknown filename"),
+            Some(name) => name.to_str_lossy(alloc)?.into_owned(alloc),
+        }
+    }
+
+    /// The file name of the object.
+    fn object_file_name(&self) -> Option<&[u8]>
+        ensures { option_copied result ≡ object_file_name self.now.outputs }
+    {
+        file_name(self.object()?.path.as_bytes())
+    }
+
+    /// The architectures that the options name: each once, in the order in which they appear first.
+    pub fn archs(&self, alloc: Global) -> Result<Vec<&[u8]>, AllocError>
+        ensures { IfOk result (λ archs. map (λ arch. arch.now) archs.items ≡ archs_of self.now.arch_args) }
+    {
+        let mut seen = BTreeSet::new(alloc);
+        let mut archs = Vec::new(alloc);
+        let mut rest = self.arch_args.as_slice();
+        while let Some((word, more)) = rest.split_first() {
+            let word = word.as_bytes();
+            if names_arch(word) && seen.insert(word)? {
+                archs.push(word)?;
+            }
+            rest = more;
+        }
+        Ok(archs)
+    }
+
+    /// The first word that names an architecture.
+    fn first_arch(&self) -> Option<&OsBytes>
+        ensures { option_copied result ≡ find (differs_from arch_flag) self.now.arch_args }
+    {
+        self.arch_args
+            .as_slice()
+            .iter()
+            .find(|word| names_arch(word.as_bytes()))
+    }
+
+    /// Whether a word names another architecture than that one.
+    fn names_other(&self, first: &OsBytes) -> bool
+        ensures { result ≡ list_any (λ word. differs_from arch_flag word && differs_from first.now word) self.now.arch_args }
+    {
+        self.arch_args
+            .as_slice()
+            .iter()
+            .any(|word| names_arch(word.as_bytes()) && word != first)
+    }
+
+    /// Whether the options name at least two architectures. It takes no memory.
+    pub fn is_multiarch(&self) -> bool
+        ensures { result ≡ nat_lt 1 (length (archs_of self.now.arch_args)) }
+    {
+        match self.first_arch() {
+            None => false,
+            Some(first) => self.names_other(first),
+        }
     }
 }

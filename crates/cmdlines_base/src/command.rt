@@ -1,13 +1,7 @@
-//! Compilers, commands and the outputs that are asked for.
+//! Commands, and the outputs that are asked for.
 
 use os_files::listed::Listed;
 use os_files::os_bytes::OsBytes;
-
-/// The compilers whose command lines are read.
-#[derive(Clone, Copy, Debug, PartialEq, Eq)]
-pub enum CCompilerKind {
-    Gcc,
-}
 
 /// What is run: an executable with its words, in a directory, under an environment.
 #[derive(Drop)]

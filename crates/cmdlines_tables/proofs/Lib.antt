@@ -1,1 +1,2 @@
 pub mod TableTests
+pub mod PlaceLemmas

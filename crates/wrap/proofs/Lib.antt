@@ -1,5 +1,3 @@
-pub mod CollectLemmas
-pub mod CommandLemmas
 pub mod StepLemmas
 pub mod GatherLemmas
 pub mod TurnLemmas

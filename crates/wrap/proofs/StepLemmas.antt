@@ -3,29 +3,28 @@ use Rattle.std.proofs.Common.{◌≡◌, ℤ, pos, List, Bool, true, false, Opti
 use Rattle.std.specs.Ordering.{int_eq}
 use Rattle.os_files.specs.Bytes.{Bytes}
 use Rattle.os_files.specs.Tree.{Tree}
-use Rattle.cmdlines_base.specs.Reading.{reading}
 use Rattle.cmdlines_base.specs.declared.command.SingleCompileCommand.{SingleCompileCommand}
-use Rattle.cmdlines_base.specs.declared.command.CCompilerKind.{CCompilerKind}
-use Rattle.wrap_base.specs.SmallTable.{table_of}
+use Rattle.cmdlines.specs.declared.parsed.ParsedArguments.{ParsedArguments}
+use Rattle.cmdlines_tables.specs.Tables.{reading_of}
+use Rattle.cmdlines_tables.specs.declared.compiler.CCompilerKind.{CCompilerKind}
 use Rattle.wrap_base.specs.Meaning.{Meaning, Made, made_of, names_of, scene_of}
-use Rattle.wrap_base.specs.Commands.{command_of, compile_words, kind_of}
+use Rattle.wrap_base.specs.Commands.{compile_command_of, kind_of}
 use Rattle.wrap_base.specs.Account.{Work, scene_at, work_at, missing, all, collected, IsFresh, compile_fault_of}
 use Rattle.wrap_base.specs.declared.answer.Output.{Output}
 use Rattle.wrap_base.specs.declared.fault.Fault.{Fault}
 use Rattle.wrap_base.specs.declared.fault.Fault.TheVariants.{Memory, Tool, PreprocessFailed, CompileFailed, MissingOutput}
-use Rattle.wrap_base.specs.declared.parsed.ParsedArguments.{ParsedArguments}
 use Rattle.wrap_base.specs.declared.request.Request.{Request}
 use Rattle.wrap_base.specs.declared.step.Step.{Step}
 use Rattle.wrap_base.specs.declared.step.Step.TheVariants.{Compile}
 use Rattle.wrap.specs.Steps.{CollectCause, CompileCause}
 
 -- what the compile command is answered is the fresh outcome
-pub fresh_is : (meaning : Meaning) (tree : Tree) (request : Request) (p : ParsedArguments) (kind : CCompilerKind) (command : SingleCompileCommand) (status : ℤ) (files : List (Option Bytes)) → kind ≡ kind_of request.compiler → command ≡ command_of request (compile_words p)
-    → made_of status files ≡ meaning Compile (reading false (table_of kind) command.arguments) (names_of p.outputs) (scene_of command tree request.moment)
+pub fresh_is : (meaning : Meaning) (tree : Tree) (request : Request) (p : ParsedArguments) (kind : CCompilerKind) (command : SingleCompileCommand) (status : ℤ) (files : List (Option Bytes)) → kind ≡ kind_of request.compiler → command ≡ compile_command_of request p
+    → made_of status files ≡ meaning Compile (reading_of kind command.arguments) (names_of p.outputs) (scene_of command tree request.moment)
     → made_of status files ≡ (work_at meaning (kind_of request.compiler) (scene_at request tree) p).fresh
 fresh_is meaning tree request p kind command status files k e answer =
-    answer ∙ ap (λ x. meaning Compile (reading false (table_of x) command.arguments) (names_of p.outputs) (scene_of command tree request.moment)) k
-    ∙ ap (λ (c : SingleCompileCommand). meaning Compile (reading false (table_of (kind_of request.compiler)) c.arguments) (names_of p.outputs) (scene_of c tree request.moment)) e
+    answer ∙ ap (λ x. meaning Compile (reading_of x command.arguments) (names_of p.outputs) (scene_of command tree request.moment)) k
+    ∙ ap (λ (c : SingleCompileCommand). meaning Compile (reading_of (kind_of request.compiler) c.arguments) (names_of p.outputs) (scene_of c tree request.moment)) e
 
 module _ (w : Work) (status : ℤ) (files : List (Option Bytes)) (made : made_of status files ≡ w.fresh) where
   status_is : status ≡ w.fresh.status

@@ -1,7 +1,5 @@
-pub mod Arguments
-pub mod Collecting
-pub mod Decisions
+pub mod Plans
 pub mod Gathering
-pub mod Steps
 pub mod Lines
+pub mod Steps
 pub mod Scripted

@@ -4,11 +4,10 @@ use Rattle.std.specs.List.{flat_map, starts_with}
 use Rattle.std.specs.Option.{option_map, option_map_or}
 use Rattle.os_files.specs.Bytes.{Bytes}
 use Rattle.os_files.specs.Path.{join}
-use Rattle.cmdlines_base.specs.Reading.{Reading}
+use Rattle.cmdlines_base.specs.Reading.{Item, raw, behind_dashes, Reading}
 use Rattle.os_files.specs.Tree.{Tree, contents_at}
 use Rattle.wrap_base.specs.Meaning.{Scene, OutputName, Made, Meaning, made_of}
-use Rattle.wrap_base.specs.Wanted.{input_in}
-use Rattle.wrap_base.specs.declared.kind.ArgKind.{ArgKind}
+use Rattle.cmdlines_tables.specs.declared.kind.ArgKind.{ArgKind}
 use Rattle.wrap_base.specs.declared.step.Step.TheVariants.{Preprocess, Compile}
 use Rattle.wrap.specs.Lines.{lines, with_end, included}
 
@@ -17,6 +16,12 @@ abbrev pub only : List Bytes → Option Bytes
 only [] = None
 only (input ∷ []) = Some input
 only (input ∷ other ∷ others) = None
+
+-- a loose item, also behind double dashes
+abbrev pub input_in : Item ArgKind → List Bytes
+input_in (raw w) = w ∷ []
+input_in (behind_dashes w) = w ∷ []
+input_in _ = []
 
 -- the input of a command: its one loose item, unless it is cut short
 abbrev pub input_of : Reading ArgKind → Option Bytes

@@ -1,10 +1,7 @@
 //! The session that answers requests, and the program over it.
 #![tactic(auto)]
 
-mod arguments;
 mod byte_text;
-mod collected;
-pub mod commands;
 mod lines;
 mod outputs;
 pub mod program;

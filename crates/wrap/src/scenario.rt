@@ -2,7 +2,7 @@
 //!
 //! A scenario is an object whose member `requests` lists the requests. A request is an object with these members, of which `compiler` and `words` are required:
 //!
-//! - `compiler`: the text `gcc`;
+//! - `compiler`: the text `gcc` or `clang`;
 //! - `words`: the byte texts behind the compiler's name;
 //! - `dir`: a byte text, else `/w`;
 //! - `env`: a list of pairs of byte texts, else none;
@@ -14,13 +14,16 @@
 ghost use Rattle.std.specs.Prelude.{◌≡◌};
 
 use crate::byte_text::{read_byte_text, read_hex};
+use cmdlines::clang::Clang;
+use cmdlines::gcc::Gcc;
 use os_files::file_time::FileTime;
 use os_files::listed::Listed;
 use os_files::memory_files::{MemoryFile, MemoryFiles};
 use os_files::os_bytes::OsBytes;
 use serde_json::{Map, Value};
 use std::alloc::{AllocError, AllocFailed, Global};
-use wrap_base::request::{Compiler, Request};
+use wrap_base::compiler::Compiler;
+use wrap_base::request::Request;
 
 /// The directory of a request that names none.
 const DEFAULT_DIR: &[u8; 2] = b"/w";
@@ -105,7 +108,12 @@ fn read_call(alloc: Global, value: Value) -> Result<ScenarioCall, ScenarioFault>
 fn read_compiler(alloc: Global, value: &Value) -> Result<Compiler, ScenarioFault> {
     match value.as_str() {
         Some("gcc") => Ok(Compiler::Gcc {
+            gcc: Gcc::new(alloc, false, None, None)?,
             executable: OsBytes::from_slice(alloc, b"gcc")?,
+        }),
+        Some("clang") => Ok(Compiler::Clang {
+            clang: Clang::new(alloc, false, None, None)?,
+            executable: OsBytes::from_slice(alloc, b"clang")?,
         }),
         _ => Err(ScenarioFault::Unreadable),
     }

@@ -1,14 +1,14 @@
 //! A tool with the behaviour of a short script, whose compiler and preprocessor print the same text.
 
-ghost use Rattle.std.specs.Prelude.{false, ◌≡◌, ℤ, IfOk, IsErrOf, option_and_then};
+ghost use Rattle.std.specs.Prelude.{◌≡◌, ℤ, IfOk, IsErrOf, option_and_then};
 ghost use Rattle.os_files.specs.Bytes.{ticked};
-ghost use Rattle.cmdlines_base.specs.Reading.{reading};
+ghost use Rattle.cmdlines_tables.specs.Tables.{reading_of};
 ghost use Rattle.wrap_base.specs.Meaning.{StepTicks, scene_of};
-ghost use Rattle.wrap_base.specs.SmallTable.{table_of};
 ghost use Rattle.wrap.specs.Scripted.{scripted, text_of, input_of};
 
 use crate::scripting::{compiled, printed, text_of};
-use cmdlines_base::command::{ArtifactDescriptor, CCompilerKind, SingleCompileCommand};
+use cmdlines_base::command::{ArtifactDescriptor, SingleCompileCommand};
+use cmdlines_tables::compiler::CCompilerKind;
 use os_files::files::{FileFail, Files};
 use os_files::os_bytes::OsBytes;
 use std::alloc::Global;
@@ -43,7 +43,7 @@ impl ScriptTool {
         command: &SingleCompileCommand,
         files: &mut F,
     ) -> Result<Option<OsBytes>, ToolFail>
-        ensures text { (moment : ℤ) → IfOk result (λ text. text ≡ option_and_then (text_of (scene_of command.now (F.tree files.old) moment)) (input_of (reading false (table_of kind) command.now.arguments))) }
+        ensures text { (moment : ℤ) → IfOk result (λ text. text ≡ option_and_then (text_of (scene_of command.now (F.tree files.old) moment)) (input_of (reading_of kind command.now.arguments))) }
         ensures tree { F.tree files.new ≡ F.tree files.old }
         ensures device { IsErrOf result ToolFail.Device → (self.new.failed ≡ ticked self.old.failed) × (F.failed files.new ≡ ticked (F.failed files.old)) }
         ensures steady { (IsErrOf result ToolFail.Device → ⊥) → (self.new.failed ≡ self.old.failed) × (F.failed files.new ≡ F.failed files.old) }

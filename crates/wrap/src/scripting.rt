@@ -1,24 +1,26 @@
 //! The texts of the scripted tool, and what it makes of them.
 
-ghost use Rattle.std.specs.Prelude.{false, ◌≡◌, ℤ, [], ◌∷◌, ◌++◌, IfOk, OnOk, IsErrOf, Some, None, if◌then◌else◌, map, option_and_then, codes};
+ghost use Rattle.std.specs.Prelude.{Bool, ◌≡◌, ℤ, [], ◌∷◌, ◌++◌, IfOk, OnOk, IsErrOf, Some, None, if◌then◌else◌, map, option_and_then, codes};
 ghost use Rattle.std.specs.Option.{option_map};
 ghost use Rattle.os_files.specs.Bytes.{ticked};
 ghost use Rattle.cmdlines_base.specs.Table.{all_entries};
 ghost use Rattle.cmdlines_base.specs.Reading.{reading};
+ghost use Rattle.cmdlines_tables.specs.Tables.{ends_options, reading_of};
+ghost use Rattle.cmdlines_tables.specs.Values.{placed};
 ghost use Rattle.wrap_base.specs.Meaning.{names_of, made_of, scene_of};
-ghost use Rattle.wrap_base.specs.SmallTable.{table_of};
-ghost use Rattle.wrap_base.specs.Wanted.{input_in};
-ghost use Rattle.wrap.specs.Arguments.{item_of};
 ghost use Rattle.wrap.specs.Lines.{lines};
-ghost use Rattle.wrap.specs.Scripted.{only, input_of, marker, inclusion, replaced, whole, text_at, text_of, holds, printed, compiled};
+ghost use Rattle.wrap.specs.Scripted.{only, input_in, input_of, marker, inclusion, replaced, whole, text_at, text_of, holds, printed, compiled};
 
-use crate::arguments::{ArgData, table_for};
 use crate::lines::{included, push_with_end, split_line};
 use cmdlines_base::argument::Argument;
 use cmdlines_base::argument_error::ArgParseError;
-use cmdlines_base::command::{ArtifactDescriptor, CCompilerKind, SingleCompileCommand};
-use cmdlines_base::cutting::ArgsIter;
+use cmdlines_base::command::{ArtifactDescriptor, SingleCompileCommand};
 use cmdlines_base::table::SearchableArgInfo;
+use cmdlines_tables::compiler::CCompilerKind;
+use cmdlines_tables::cutting::arguments_of;
+use cmdlines_tables::laws::arguments_are_their_items;
+use cmdlines_tables::tables::{ClangTables, gnu_table};
+use cmdlines_tables::value::ArgData;
 use memchr::memmem;
 use os_files::files::{FileFail, Files};
 use os_files::listed::Listed;
@@ -39,7 +41,7 @@ fn only(words: Vec<OsBytes>) -> Option<OsBytes>
 
 /// Adds the input that an argument names.
 fn push_input(argument: Argument<ArgData>, inputs: &mut Vec<OsBytes>) -> Result<(), AllocError>
-    ensures { OnOk result (inputs.new.items ≡ inputs.old.items ++ input_in (item_of argument)) }
+    ensures { OnOk result ((behind : Bool) → inputs.new.items ≡ inputs.old.items ++ input_in (placed behind argument)) }
 {
     if let Argument::Raw(word) = argument {
         inputs.push(word)?;
@@ -47,16 +49,19 @@ fn push_input(argument: Argument<ArgData>, inputs: &mut Vec<OsBytes>) -> Result<
     Ok(())
 }
 
-/// The input that words name, by a table.
+/// The input that the words of a command to that compiler name, by a table.
 fn input_by<S: SearchableArgInfo<ArgData>>(
     alloc: Global,
+    kind: CCompilerKind,
     words: &[OsBytes],
     table: &S,
 ) -> Result<Option<OsBytes>, AllocError>
-    ensures { IfOk result (λ input. input ≡ input_of (reading false (all_entries (S.tables table.now)) words.now)) }
+    ensures { IfOk result (λ input. input ≡ input_of (reading (ends_options kind) (all_entries (S.tables table.now)) words.now)) }
 {
+    // A law, which costs nothing: what follows from it is said above.
+    arguments_are_their_items();
     let mut inputs = Vec::new(alloc);
-    let mut arguments = ArgsIter::new(alloc, words, table);
+    let mut arguments = arguments_of(alloc, kind, table, words);
     while let Some(next) = arguments.next() {
         match next {
             Ok(argument) => push_input(argument, &mut inputs)?,
@@ -73,10 +78,12 @@ fn input(
     kind: CCompilerKind,
     words: &[OsBytes],
 ) -> Result<Option<OsBytes>, AllocError>
-    ensures { IfOk result (λ input. input ≡ input_of (reading false (table_of kind) words.now)) }
+    ensures { IfOk result (λ input. input ≡ input_of (reading_of kind words.now)) }
 {
-    let table = table_for(alloc, kind)?;
-    input_by(alloc, words, &table)
+    match kind {
+        CCompilerKind::Gcc => input_by(alloc, kind, words, &gnu_table(alloc)?),
+        CCompilerKind::Clang => input_by(alloc, kind, words, &ClangTables::new(alloc)?),
+    }
 }
 
 /// Adds the line that says which file the lines behind it are from.
@@ -192,7 +199,7 @@ pub fn text_of<F: Files>(
     command: &SingleCompileCommand,
     files: &mut F,
 ) -> Result<Option<OsBytes>, FileFail>
-    ensures text { (moment : ℤ) → IfOk result (λ text. text ≡ option_and_then (text_of (scene_of command.now (F.tree files.old) moment)) (input_of (reading false (table_of kind) command.now.arguments))) }
+    ensures text { (moment : ℤ) → IfOk result (λ text. text ≡ option_and_then (text_of (scene_of command.now (F.tree files.old) moment)) (input_of (reading_of kind command.now.arguments))) }
     ensures tree { F.tree files.new ≡ F.tree files.old }
     ensures device { IsErrOf result FileFail.Device → F.failed files.new ≡ ticked (F.failed files.old) }
     ensures steady { (IsErrOf result FileFail.Device → ⊥) → F.failed files.new ≡ F.failed files.old }

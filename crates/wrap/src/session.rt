@@ -5,15 +5,15 @@ ghost use Rattle.wrap_base.specs.Meaning.{FailsIn};
 ghost use Rattle.wrap_base.specs.Verdict.{Why};
 ghost use Rattle.wrap_base.specs.Commands.{kind_of};
 ghost use Rattle.wrap_base.specs.Account.{worked, scene_at, work_at, account_at, why_passed};
+ghost use Rattle.wrap.specs.Plans.{IsPlanOf};
 ghost use Rattle.wrap_base.specs.Answers.{Says, IsPassed, OnPass, Compiles, outcome_by, outcome_of};
 
 use crate::steps::{compiled_outputs, preprocessed_text};
-use crate::verdict::{Verdict, judge};
+use crate::verdict::{Plan, Verdict, judge};
 use os_files::files::Files;
 use std::alloc::Global;
 use wrap_base::answer::{Answer, How};
 use wrap_base::fault::Fault;
-use wrap_base::parsed::ParsedArguments;
 use wrap_base::request::Request;
 use wrap_base::tool::Tool;
 
@@ -81,13 +81,9 @@ impl Session {
         ensures meaning { T.meaning tool.new ≡ T.meaning tool.old }
         ensures tree { F.tree files.new ≡ F.tree files.old }
     {
-        match judge(
-            self.alloc,
-            request.compiler.kind(),
-            request.words.as_slice(),
-        )? {
+        match judge(self.alloc, request, files)? {
             Verdict::Passes(reason) => Ok(Answer::Pass(reason)),
-            Verdict::Asks(parsed) => fresh_answer(self.alloc, request, &parsed, files, tool),
+            Verdict::Asks(plan) => fresh_answer(self.alloc, request, &plan, files, tool),
         }
     }
 }
@@ -96,18 +92,19 @@ impl Session {
 fn fresh_answer<F: Files, T: Tool>(
     alloc: Global,
     request: &Request,
-    parsed: &ParsedArguments,
+    plan: &Plan,
     files: &mut F,
     tool: &mut T,
 ) -> Result<Answer, Fault>
-    ensures says { let w = work_at (T.meaning tool.old) (kind_of request.now.compiler) (scene_at request.now (F.tree files.old)) parsed.now in Says (worked w) (FailsIn T.meaning T.failed T.fails_in tool.old tool.new) result }
+    requires plan { IsPlanOf request.now plan.now }
+    ensures says { let w = work_at (T.meaning tool.old) (kind_of request.now.compiler) (scene_at request.now (F.tree files.old)) plan.now.parsed in Says (worked w) (FailsIn T.meaning T.failed T.fails_in tool.old tool.new) result }
     ensures compiles { Compiles result (T.compiled tool.old) (T.compiled tool.new) }
     ensures unpassed { OnPass result ⊥ }
     ensures meaning { T.meaning tool.new ≡ T.meaning tool.old }
     ensures tree { F.tree files.new ≡ F.tree files.old }
 {
-    let _text = preprocessed_text(alloc, request, parsed, files, tool)?;
-    let map = compiled_outputs(alloc, request, parsed, files, tool)?;
+    let _text = preprocessed_text(alloc, request, plan, files, tool)?;
+    let map = compiled_outputs(alloc, request, plan, files, tool)?;
     Ok(Answer::Outputs {
         map,
         how: How::Fresh,

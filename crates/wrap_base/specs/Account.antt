@@ -1,19 +1,20 @@
 -- A call as plain values, and what it is to give.
-use Rattle.std.specs.Prelude.{false, ◌≡◌, pos, List, [], ◌∷◌, Option, Some, None, if◌then◌else◌}
+use Rattle.std.specs.Prelude.{◌≡◌, pos, List, [], ◌∷◌, Option, Some, None, if◌then◌else◌}
 use Rattle.std.specs.Ordering.{int_eq}
 use Rattle.os_files.specs.Bytes.{Bytes}
 use Rattle.os_files.specs.Tree.{Tree}
-use Rattle.cmdlines_base.specs.Reading.{reading}
 use Rattle.cmdlines_base.specs.declared.command.ArtifactDescriptor.{ArtifactDescriptor}
-use Rattle.cmdlines_base.specs.declared.command.CCompilerKind.{CCompilerKind}
-use Rattle.wrap_base.specs.SmallTable.{table_of}
-use Rattle.wrap_base.specs.Meaning.{Scene, Made, Meaning, Artifacts, names_of}
-use Rattle.wrap_base.specs.Commands.{compile_words, preprocess_words, kind_of, executable_of}
+use Rattle.cmdlines.specs.Commands.{compile_words, preprocess_words, output_path}
+use Rattle.cmdlines.specs.Parsing.{Artifacts}
+use Rattle.cmdlines.specs.declared.parsed.ParsedArguments.{ParsedArguments}
+use Rattle.cmdlines_tables.specs.Tables.{reading_of}
+use Rattle.cmdlines_tables.specs.declared.compiler.CCompilerKind.{CCompilerKind}
+use Rattle.wrap_base.specs.Meaning.{Scene, Made, Meaning, names_of}
+use Rattle.wrap_base.specs.Commands.{kind_of, executable_of}
 use Rattle.wrap_base.specs.Verdict.{Why, Decision, passes, asks, verdict_of}
 use Rattle.wrap_base.specs.declared.answer.Output.{Output}
 use Rattle.wrap_base.specs.declared.fault.Fault.{Fault}
 use Rattle.wrap_base.specs.declared.fault.Fault.TheVariants.{PreprocessFailed, CompileFailed, MissingOutput}
-use Rattle.wrap_base.specs.declared.parsed.ParsedArguments.{ParsedArguments}
 use Rattle.wrap_base.specs.declared.request.Request.{Request}
 use Rattle.wrap_base.specs.declared.step.Step.TheVariants.{Preprocess, Compile}
 
@@ -35,8 +36,8 @@ scene_at request tree = record { executable = executable_of request.compiler; di
 abbrev pub work_at : Meaning → CCompilerKind → Scene → ParsedArguments → Work
 work_at meaning kind scene p = record {
   outputs = p.outputs;
-  printed = meaning Preprocess (reading false (table_of kind) (preprocess_words p)) [] scene;
-  fresh = meaning Compile (reading false (table_of kind) (compile_words p)) (names_of p.outputs) scene;
+  printed = meaning Preprocess (reading_of kind (preprocess_words p)) [] scene;
+  fresh = meaning Compile (reading_of kind (compile_words kind p (output_path p))) (names_of p.outputs) scene;
 }
 
 abbrev pub account_by : Meaning → CCompilerKind → Scene → Decision → Account

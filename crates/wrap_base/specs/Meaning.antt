@@ -5,7 +5,8 @@ use Rattle.os_files.specs.Tree.{Tree}
 use Rattle.cmdlines_base.specs.Reading.{Reading}
 use Rattle.cmdlines_base.specs.declared.command.SingleCompileCommand.{SingleCompileCommand}
 use Rattle.cmdlines_base.specs.declared.command.ArtifactDescriptor.{ArtifactDescriptor}
-use Rattle.wrap_base.specs.declared.kind.ArgKind.{ArgKind}
+use Rattle.cmdlines.specs.Parsing.{Artifacts}
+use Rattle.cmdlines_tables.specs.declared.kind.ArgKind.{ArgKind}
 use Rattle.wrap_base.specs.declared.step.Step.{Step}
 use Rattle.wrap_base.specs.declared.step.Step.TheVariants.{Preprocess, Compile}
 
@@ -38,10 +39,7 @@ Meaning = Step → Reading ArgKind → List OutputName → Scene → Made
 abbrev pub scene_of : SingleCompileCommand → Tree → ℤ → Scene
 scene_of command files moment = record { executable = command.executable; dir = command.cwd; env = command.env_vars; files = files; moment = moment }
 
--- outputs with where they go, by name alone
-abbrev pub Artifacts : Type 0
-Artifacts = List (Bytes × ArtifactDescriptor)
-
+-- outputs by name alone
 abbrev pub names_of : Artifacts → List OutputName
 names_of outputs = map (λ output. record { name = output.0; optional = output.1.optional }) outputs
 

@@ -2,11 +2,10 @@
 #![tactic(auto)]
 
 pub mod answer;
+pub mod compiler;
 pub mod fail_files;
 pub mod fail_tool;
 pub mod fault;
-pub mod kind;
-pub mod parsed;
 pub mod preprocessor;
 pub mod reason;
 pub mod request;

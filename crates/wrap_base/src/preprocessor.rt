@@ -1,14 +1,14 @@
 //! Preprocessors.
 
-ghost use Rattle.std.specs.Prelude.{false, ◌≡◌, ◌⊎◌, ℕ, [], ◌∷◌, Some, IfOk, IsErrOf};
+ghost use Rattle.std.specs.Prelude.{◌≡◌, ◌⊎◌, ℕ, [], ◌∷◌, Some, IfOk, IsErrOf};
 ghost use Rattle.os_files.specs.Bytes.{ticked};
-ghost use Rattle.cmdlines_base.specs.Reading.{reading};
-ghost use Rattle.wrap_base.specs.SmallTable.{table_of};
+ghost use Rattle.cmdlines_tables.specs.Tables.{reading_of};
 ghost use Rattle.wrap_base.specs.Meaning.{Meaning, scene_of, made_of};
 ghost use Rattle.wrap_base.specs.declared.step.Step.{Step};
 
 use crate::step::Step;
-use cmdlines_base::command::{CCompilerKind, SingleCompileCommand};
+use cmdlines_base::command::SingleCompileCommand;
+use cmdlines_tables::compiler::CCompilerKind;
 use os_files::files::Files;
 use os_files::os_bytes::OsBytes;
 use std::alloc::{AllocError, Global};
@@ -71,7 +71,7 @@ pub trait Preprocessor {
         files: &mut F,
         moment: i64,
     ) -> Result<Printed, ToolFail>
-        ensures answer { IfOk result (λ p. made_of p.status (Some p.text ∷ []) ≡ meaning self.old Step.Preprocess (reading false (table_of kind) command.now.arguments) [] (scene_of command.now (F.tree files.old) moment)) }
+        ensures answer { IfOk result (λ p. made_of p.status (Some p.text ∷ []) ≡ meaning self.old Step.Preprocess (reading_of kind command.now.arguments) [] (scene_of command.now (F.tree files.old) moment)) }
         ensures meaning { meaning self.new ≡ meaning self.old }
         ensures tree { F.tree files.new ≡ F.tree files.old }
         ensures device { IsErrOf result ToolFail.Device → (failed self.new ≡ ticked (failed self.old)) × fails_in self.old Step.Preprocess self.new }

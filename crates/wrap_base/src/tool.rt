@@ -1,14 +1,14 @@
 //! Tools: a compiler beside its preprocessor.
 
-ghost use Rattle.std.specs.Prelude.{false, ◌≡◌, ◌⊎◌, IfOk, IsErrOf};
+ghost use Rattle.std.specs.Prelude.{◌≡◌, ◌⊎◌, IfOk, IsErrOf};
 ghost use Rattle.os_files.specs.Bytes.{ticked};
-ghost use Rattle.cmdlines_base.specs.Reading.{reading};
-ghost use Rattle.wrap_base.specs.SmallTable.{table_of};
+ghost use Rattle.cmdlines_tables.specs.Tables.{reading_of};
 ghost use Rattle.wrap_base.specs.Meaning.{scene_of, made_of, names_of};
 
 use crate::preprocessor::{Preprocessor, ToolFail};
 use crate::step::Step;
-use cmdlines_base::command::{ArtifactDescriptor, CCompilerKind, SingleCompileCommand};
+use cmdlines_base::command::{ArtifactDescriptor, SingleCompileCommand};
+use cmdlines_tables::compiler::CCompilerKind;
 use os_files::files::Files;
 use os_files::listed::Listed;
 use os_files::os_bytes::OsBytes;
@@ -34,7 +34,7 @@ pub trait Tool: Preprocessor {
         files: &mut F,
         moment: i64,
     ) -> Result<Compiled, ToolFail>
-        ensures answer { IfOk result (λ made. made_of made.status made.files ≡ Self.meaning self.old Step.Compile (reading false (table_of kind) command.now.arguments) (names_of outputs.now) (scene_of command.now (F.tree files.old) moment)) }
+        ensures answer { IfOk result (λ made. made_of made.status made.files ≡ Self.meaning self.old Step.Compile (reading_of kind command.now.arguments) (names_of outputs.now) (scene_of command.now (F.tree files.old) moment)) }
         ensures meaning { Self.meaning self.new ≡ Self.meaning self.old }
         ensures tree { F.tree files.new ≡ F.tree files.old }
         ensures device { IsErrOf result ToolFail.Device → (Self.failed self.new ≡ ticked (Self.failed self.old)) × Self.fails_in self.old Step.Compile self.new }

@@ -6,7 +6,7 @@ use Rattle.cmdlines_tables.specs.Tables.{ends_options}
 use Rattle.cmdlines_tables.specs.Values.{placed}
 use Rattle.cmdlines.specs.Collecting.{no_facts, no_lists, facts_with, lists_with, decide}
 use Rattle.cmdlines.specs.Parsing.{refused}
-use Rattle.cmdlines.proofs.CollectLemmas.{item_is, decide-start, decide-more, decide-hard}
+use Rattle.cmdlines.proofs.CollectLemmas.{decide-start, decide-more, decide-hard}
 use Rattle.cmdlines.proofs.engine.parse.Goals as goal
 
 pub loop-next-init : goal.loop-next-init
@@ -26,7 +26,7 @@ returns-in-Some-too_hard_flag g c =
     let seen = is_seen (place_of c.next.new.self).dashes in
     let rest = reading_at entries (place_of c.next.new.self) in
     let argument = placed seen c.in-Ok.argument in
-    let item : argument ≡ step.item = item_is step.item c.in-Ok.argument seen step.is step.behind in
+    let item : argument ≡ step.item = c.arguments_are_their_items.ensures step.item c.in-Ok.argument seen step.is step.behind in
     let before_is = step.reads ∙ ap (λ i. before i rest) (sym item) in
     let flag = c.in-Some-too_hard_flag.ensures seen in
     c.refused.ensures ∙ ap refused flag.1 ∙ sym (decide-hard entries c.loop-next.facts c.loop-next.lists argument rest flag.0)
@@ -40,7 +40,7 @@ loop-next-preserved g c =
     let seen = is_seen (place_of c.next.new.self).dashes in
     let rest = reading_at entries (place_of c.next.new.self) in
     let argument = placed seen c.in-Ok.argument in
-    let item : argument ≡ step.item = item_is step.item c.in-Ok.argument seen step.is step.behind in
+    let item : argument ≡ step.item = c.arguments_are_their_items.ensures step.item c.in-Ok.argument seen step.is step.behind in
     let before_is = step.reads ∙ ap (λ i. before i rest) (sym item) in
     record {
       same = steps.1 ∙ c.loop-next.invariant.same;

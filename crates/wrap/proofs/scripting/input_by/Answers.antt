@@ -1,22 +1,25 @@
-use Rattle.std.proofs.Common.{◌∙◌, refl}
+use Rattle.std.proofs.Common.{◌≡◌, ◌∙◌, ap, refl}
+use Rattle.cmdlines_base.specs.Cutting.{place_of, is_seen}
 use Rattle.cmdlines_base.specs.Table.{all_entries}
-use Rattle.cmdlines_base.specs.Cutting.{table_in}
-use Rattle.wrap.proofs.InputLaws.{input-step, ordinary-past}
+use Rattle.wrap.specs.Scripted.{input_of}
+use Rattle.wrap.proofs.InputLaws.{input-step}
 use Rattle.wrap.proofs.scripting.input_by.Goals as goal
 
 pub loop-next-init : goal.loop-next-init
-loop-next-init g c = record {
-  told = rw (c.new-inputs.ensures.items, c.new-arguments.ensures.table, c.new-arguments.ensures.words, c.new-arguments.ensures.dashes) refl;
-  same = c.new-arguments.ensures.table;
-  ordinary = c.new-arguments.ensures.dashes;
-}
+loop-next-init g c =
+    let entries = all_entries (g.S.SearchableArgInfo.tables c.args.table.now) in
+    record {
+      told = rw c.new-inputs.ensures.items (ap input_of (c.arguments_of-arguments.ensures.reading entries));
+      same = c.arguments_of-arguments.ensures.table;
+    }
 
 pub loop-next-preserved : goal.loop-next-preserved
 loop-next-preserved g c =
-    let entries = λ (s : _). all_entries (g.S.SearchableArgInfo.tables s) in
     let steps = rw c.in-Ok.is at c.in-Some.ensures.steps in
+    let entries = all_entries (g.S.SearchableArgInfo.tables c.args.table.now) in
+    let step = rw c.loop-next.invariant.same at steps.0 in
+    let seen = is_seen (place_of c.next.new.self).dashes in
     record {
-      told = rw (c.in_ok-push_input-in-Ok.ensures, steps.1) (input-step (entries (table_in c.loop-next.arguments)) _ _ c.loop-next.inputs.items c.in-Ok.argument c.loop-next.invariant.ordinary steps.0 ∙ c.loop-next.invariant.told);
+      told = rw (c.in_ok-push_input-in-Ok.ensures seen) (input-step c.arguments_are_their_items.ensures entries (place_of c.loop-next.arguments) (place_of c.next.new.self) c.loop-next.inputs.items c.in-Ok.argument step ∙ c.loop-next.invariant.told);
       same = steps.1 ∙ c.loop-next.invariant.same;
-      ordinary = steps.0.dashes ∙ ordinary-past _ c.loop-next.invariant.ordinary;
     }

@@ -1,0 +1,32 @@
+//! What may not be cached although its words can be read: words that make a compiler read more than its command, and a
+//! value that compilers don't read alike.
+
+ghost use Rattle.std.specs.Prelude.{◌≡◌};
+ghost use Rattle.cmdlines.specs.Hazards.{names_file, opens_file};
+
+use crate::parsed::ParsedArguments;
+use cmdlines_tables::compiler::CCompilerKind;
+use os_files::os_bytes::OsBytes;
+
+/// Whether an option whose value may stand either way was read with an empty value. It takes no memory.
+pub fn empty_value(parsed: &ParsedArguments) -> bool
+    ensures { result ≡ parsed.now.empty_value }
+{
+    parsed.empty_value
+}
+
+/// Whether to that compiler the word names a file of words.
+fn names_file(kind: CCompilerKind, word: &[u8]) -> bool
+    ensures { result ≡ names_file kind word.now }
+{
+    match kind {
+        CCompilerKind::Gcc | CCompilerKind::Clang => word.first().copied() == Some(b'@'),
+    }
+}
+
+/// Whether one of the words of a command to that compiler would make it open a file of words. It takes no memory.
+pub fn opens_file(words: &[OsBytes], kind: CCompilerKind) -> bool
+    ensures { result ≡ opens_file kind words.now }
+{
+    words.iter().any(|word| names_file(kind, word.as_bytes()))
+}
