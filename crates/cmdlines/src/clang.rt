@@ -9,7 +9,8 @@ ghost use Rattle.cmdlines.specs.ReadBack.{ReadsAsCompile, ReadsAsPreprocess};
 
 use crate::command::{Cacheable, CommandError, compile_command, preprocess_words_again};
 use crate::compiler_arguments::{CompilerArguments, ParseFault};
-use crate::engine::{inputs_are_safe, parse, requests_have_an_object};
+use crate::engine::parse;
+use crate::laws::{inputs_are_safe, requests_have_an_object};
 use crate::parsed::ParsedArguments;
 use cmdlines_base::command::SingleCompileCommand;
 use cmdlines_tables::compiler::CCompilerKind;

@@ -1,15 +1,11 @@
 //! The one parse of the C compilers: words are cut by a compiler's tables, and what they say is gathered and closed.
 
-ghost use Rattle.std.specs.Prelude.{◌≡◌, ◌↔◌, Bool, List, [], ◌∷◌, false, true, alloc_error, codes, is_some, IfOk, IsErrOf, MatchOption};
-ghost use Rattle.os_files.specs.Bytes.{Bytes};
-ghost use Rattle.cmdlines_base.specs.Table.{Entry, all_entries};
+ghost use Rattle.std.specs.Prelude.{◌≡◌, ◌↔◌, Bool, false, true, alloc_error, codes, IfOk, IsErrOf, MatchOption};
+ghost use Rattle.cmdlines_base.specs.Table.{all_entries};
 ghost use Rattle.cmdlines_tables.specs.Tables.{ends_options};
 ghost use Rattle.cmdlines_tables.specs.Values.{placed};
-ghost use Rattle.cmdlines.specs.Commands.{object_path};
-ghost use Rattle.cmdlines.specs.Parsing.{decision_of, decision_by, refused, asks, IsSafeBy};
+ghost use Rattle.cmdlines.specs.Parsing.{decision_of, decision_by, refused};
 ghost use Rattle.cmdlines.specs.Wanted.{is_hard, is_hard_word, flag_of};
-ghost use Rattle.cmdlines_tables.specs.declared.kind.ArgKind.{ArgKind};
-ghost use Rattle.cmdlines.specs.declared.parsed.ParsedArguments.{ParsedArguments};
 
 use crate::closing::{close, refused};
 use crate::compiler_arguments::CompilerArguments;
@@ -95,14 +91,3 @@ pub(crate) fn parse<S: SearchableArgInfo<ArgData>>(
     }
     close(alloc, facts, lists)
 }
-
-/// Whatever words ask for, its input can stand where it's written: it is loose, or stands behind double dashes that end
-/// the options.
-pub fn inputs_are_safe()
-    ensures { (dashes : Bool) (table : List (Entry ArgKind)) (words : List Bytes) (parsed : ParsedArguments) → decision_by dashes table words ≡ asks parsed → IsSafeBy dashes table parsed.double_dash_input parsed.input }
-{}
-
-/// Whatever words ask for, an object is among its outputs.
-pub fn requests_have_an_object()
-    ensures { (dashes : Bool) (table : List (Entry ArgKind)) (words : List Bytes) (parsed : ParsedArguments) → decision_by dashes table words ≡ asks parsed → is_some (object_path parsed) ≡ true }
-{}

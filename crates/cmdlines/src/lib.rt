@@ -9,5 +9,6 @@ mod engine;
 pub mod facts;
 pub mod gcc;
 pub mod hazards;
+pub mod laws;
 pub mod lists;
 pub mod parsed;

@@ -1,4 +1,5 @@
 pub mod StepLemmas
+pub mod PlanLemmas
 pub mod GatherLemmas
 pub mod TurnLemmas
 mod LineLaws

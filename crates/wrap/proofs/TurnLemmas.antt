@@ -1,11 +1,11 @@
 -- What an answer says of its account.
-use Rattle.std.proofs.Common.{◌≡◌, ℕ, List, Some, None, Result, Ok, Err, IsErrOf, refl, sym, ap, ◌∙◌, arith}
+use Rattle.std.proofs.Common.{◌≡◌, ℕ, List, Some, None, Result, Ok, Err, IsErrOf, IsErrAnd, refl, sym, ap, subst, ◌∙◌, arith}
 use Rattle.os_files.specs.Bytes.{ticked}
 use Rattle.os_files.specs.Tree.{Tree}
 use Rattle.wrap_base.specs.Meaning.{Meaning, FailsIn}
 use Rattle.wrap_base.specs.Commands.{kind_of}
 use Rattle.wrap_base.specs.Verdict.{Why, Decision, verdict_of}
-use Rattle.wrap_base.specs.Account.{Account, passed, worked, Work, scene_at, account_by, account_at, why_passed, outputs_in, first_fault_of, fresh_outputs_of}
+use Rattle.wrap_base.specs.Account.{Account, passed, worked, Work, scene_at, account_by, account_at, why_passed, outputs_in, preprocess_fault_of, compile_fault_of, or_else, first_fault_of, fresh_outputs_of}
 use Rattle.wrap_base.specs.Answers.{AreFresh, Says, IsPassed, outcome_by, outcome_of, has_fault}
 use Rattle.wrap_base.specs.declared.answer.Answer.{Answer}
 use Rattle.wrap_base.specs.declared.answer.Answer.TheVariants.{Pass, Outputs}
@@ -14,6 +14,8 @@ use Rattle.wrap_base.specs.declared.fault.Fault.{Fault}
 use Rattle.wrap_base.specs.declared.fault.Fault.TheVariants.{Memory, Tool, PreprocessFailed, CompileFailed, MissingOutput}
 use Rattle.wrap_base.specs.declared.request.Request.{Request}
 use Rattle.wrap_base.specs.declared.step.Step.{Step}
+use Rattle.wrap_base.specs.declared.step.Step.TheVariants.{Preprocess, Compile}
+use Rattle.wrap.specs.Steps.{CompileCause}
 
 -- the account of a request goes by its verdict
 pub account_is : (meaning : Meaning) (tree : Tree) (request : Request) (d : Decision) → d ≡ verdict_of (kind_of request.compiler) request.words → account_at meaning tree request ≡ account_by meaning (kind_of request.compiler) (scene_at request tree) d
@@ -60,3 +62,21 @@ exactly meaning failed fails_in old new a (Err (Tool step)) says memory steady =
 exactly meaning failed fails_in old new a (Err (PreprocessFailed status)) says memory steady = fault_outcome a (PreprocessFailed status) says
 exactly meaning failed fails_in old new a (Err (CompileFailed status)) says memory steady = fault_outcome a (CompileFailed status) says
 exactly meaning failed fails_in old new a (Err (MissingOutput name)) says memory steady = fault_outcome a (MissingOutput name) says
+
+-- a device that failed in a later step failed in the call
+pub since : {T : Type 0} (meaning : T → Meaning) (failed : T → ℕ) (fails_in : T → Step → T → Type 0) (old mid new : T) → meaning mid ≡ meaning old → failed mid ≡ failed old → (step : Step) → FailsIn meaning failed fails_in mid new step → FailsIn meaning failed fails_in old new step
+since meaning failed fails_in old mid new same steady step f = record { from = f.from; same = f.same ∙ same; steady = f.steady ∙ steady; ticks = f.ticks; leads = f.leads }
+
+-- the cause of a compile's fault is the call's, where the preprocessor had none
+pub compile_says : (w : Work) (device_in later : Step → Type 0) (fault : Fault) → preprocess_fault_of w.printed ≡ None → ((step : Step) → later step → device_in step) → CompileCause w later fault → Says (worked w) device_in (Err fault)
+compile_says w device_in later Memory fine lift h = tt
+compile_says w device_in later (Tool Preprocess) fine lift h = absurd h
+compile_says w device_in later (Tool Compile) fine lift h = lift Compile h
+compile_says w device_in later (PreprocessFailed status) fine lift h = absurd h
+compile_says w device_in later (CompileFailed status) fine lift h = ap (λ o. or_else o (compile_fault_of w)) fine ∙ h
+compile_says w device_in later (MissingOutput name) fine lift h = ap (λ o. or_else o (compile_fault_of w)) fine ∙ h
+
+-- what a fault says is what the answer says that it became
+pub on_exit : (a : Account) (device_in : Step → Type 0) (result : Result Answer Fault) (fault : Fault) → IsErrAnd result (λ f. f ≡ fault) → Says a device_in (Err fault) → Says a device_in result
+on_exit a device_in (Ok answer) fault h says = absurd h
+on_exit a device_in (Err f) fault h says = subst (λ x. Says a device_in (Err x)) (sym h) says

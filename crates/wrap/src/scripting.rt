@@ -81,8 +81,14 @@ fn input(
     ensures { IfOk result (λ input. input ≡ input_of (reading_of kind words.now)) }
 {
     match kind {
-        CCompilerKind::Gcc => input_by(alloc, kind, words, &gnu_table(alloc)?),
-        CCompilerKind::Clang => input_by(alloc, kind, words, &ClangTables::new(alloc)?),
+        CCompilerKind::Gcc => {
+            let table = gnu_table(alloc)?;
+            input_by(alloc, kind, words, &table)
+        }
+        CCompilerKind::Clang => {
+            let tables = ClangTables::new(alloc)?;
+            input_by(alloc, kind, words, &tables)
+        }
     }
 }
 

@@ -36,16 +36,3 @@ returns-then-made-eq0-clause-cause g c =
     let zero : c.in-Ok.made.status ≡ pos 0 = search rules in
     collect_cause work _ _ fresh zero (FailsIn g.T.Preprocessor.meaning g.T.Preprocessor.failed g.T.Preprocessor.fails_in c.args.tool.now c.compile.new.self) c.collected.result cause
 
-pub returns-in-Ok-clause-cause : goal.returns-in-Ok-clause-cause
-returns-in-Ok-clause-cause g c =
-    let meaning = g.T.Preprocessor.meaning c.args.tool.now in
-    let tree = g.F.Files.tree c.args.files.now in
-    let request = c.args.request.now in
-    let parsed = c.args.plan.now.parsed in
-    let work = work_at meaning (kind_of request.compiler) (scene_at request tree) parsed in
-    let told = rw c.as_slice-outputs.ensures at c.in-Ok.ensures.answer in
-    let answer : made_of c.in-Ok.made.status c.in-Ok.made.files ≡ meaning Compile (reading_of c.kind-kind.result c.args.plan.now.compile.arguments) (names_of parsed.outputs) (scene_of c.args.plan.now.compile tree request.moment) = search rules in
-    let fresh = fresh_is meaning tree request parsed c.kind-kind.result c.args.plan.now.compile _ _ c.kind-kind.ensures c.requires.plan.compile answer in
-    let other : int_eq c.in-Ok.made.status (pos 0) ≡ false = search rules in
-    let fits : SFits w32 c.in-Ok.made.status = search rules in
-    simp to_z-of_z (failed_cause work _ _ fresh other)

@@ -1,5 +1,5 @@
 use Rattle.cmdlines.proofs.InputLemmas.{input_safe}
-use Rattle.cmdlines.proofs.engine.inputs_are_safe.Goals as goal
+use Rattle.cmdlines.proofs.laws.inputs_are_safe.Goals as goal
 
 pub returns : goal.returns
 returns c = input_safe
