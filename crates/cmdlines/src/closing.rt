@@ -135,24 +135,14 @@ pub(crate) fn close(
     if !facts.compiles {
         return Ok(CompilerArguments::NotCompilation);
     }
-    let Lists {
-        inputs,
-        preprocessor,
-        dependency,
-        unhashed,
-        common,
-        arch,
-        architectures,
-        extra_files,
-    } = lists;
-    let input = match only(inputs) {
+    let input = match only(lists.inputs) {
         Ok(input) => input,
         Err(reason) => return Ok(refused(reason)),
     };
     let Some(language) = language_for(facts.language.as_ref(), input.word.as_bytes()) else {
         return Ok(refused("unknown source language"));
     };
-    if differ(architectures.as_slice()) {
+    if differ(lists.architectures.as_slice()) {
         return Ok(refused("multiple different -arch"));
     }
     let Some(path) = output_for(alloc, facts.output, input.word.as_bytes())? else {
@@ -163,12 +153,12 @@ pub(crate) fn close(
         double_dash_input: input.behind_dashes,
         language,
         outputs: outputs_at(alloc, facts.diagnostics, path)?,
-        preprocessor_args: preprocessor,
-        dependency_args: dependency,
-        unhashed_args: unhashed,
-        common_args: common,
-        arch_args: arch,
-        extra_hash_files: extra_files,
+        preprocessor_args: lists.preprocessor,
+        dependency_args: lists.dependency,
+        unhashed_args: lists.unhashed,
+        common_args: lists.common,
+        arch_args: lists.arch,
+        extra_hash_files: lists.extra_files,
         color_mode: facts.color.unwrap_or(ColorMode::Auto),
         too_hard_for_preprocessor_cache_mode: facts.blocker,
         empty_value: facts.empty_value,

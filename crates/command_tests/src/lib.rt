@@ -16,6 +16,8 @@ mod lists;
 #[cfg(test)]
 mod reasons;
 #[cfg(test)]
+mod small;
+#[cfg(test)]
 mod tables;
 #[cfg(test)]
 mod written;

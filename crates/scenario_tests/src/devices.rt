@@ -2,7 +2,9 @@
 
 ghost use Rattle.scenario_tests.specs.Idle.{idle};
 
-use cmdlines_base::command::{ArtifactDescriptor, CCompilerKind, SingleCompileCommand};
+use cmdlines::gcc::Gcc;
+use cmdlines_base::command::{ArtifactDescriptor, SingleCompileCommand};
+use cmdlines_tables::compiler::CCompilerKind;
 use os_files::files::Files;
 use os_files::listed::Listed;
 use os_files::memory_files::MemoryFiles;
@@ -10,10 +12,11 @@ use os_files::os_bytes::OsBytes;
 use std::alloc::{AllocError, Global};
 use std::test::Fail;
 use wrap::session::{Config, Session};
+use wrap_base::compiler::Compiler;
 use wrap_base::fail_tool::FailTool;
 use wrap_base::fault::Fault;
 use wrap_base::preprocessor::{Preprocessor, Printed, Ticks, ToolFail};
-use wrap_base::request::{Compiler, Request};
+use wrap_base::request::Request;
 use wrap_base::step::Step;
 use wrap_base::tool::{Compiled, Tool};
 
@@ -91,9 +94,10 @@ fn request(alloc: Global) -> Result<Request, Fail> {
     let mut words = Vec::new(alloc);
     words.push(OsBytes::from_slice(alloc, b"-c")?)?;
     words.push(OsBytes::from_slice(alloc, b"foo.c")?)?;
+    let gcc = Gcc::new(alloc, false, None, None)?;
     let executable = OsBytes::from_slice(alloc, b"gcc")?;
     Ok(Request {
-        compiler: Compiler::Gcc { executable },
+        compiler: Compiler::Gcc { gcc, executable },
         words: Listed::from_vec(words),
         dir: OsBytes::from_slice(alloc, b"/w")?,
         env: Listed::from_vec(Vec::new(alloc)),

@@ -13,20 +13,25 @@ fn printed(alloc: Global, scenario: &str) -> Result<Vec<u8>, Fail> {
     Ok(writer)
 }
 
-/// The scenario of one Gcc request in `/w`, whose words and files are these JSON texts.
-fn one_request(alloc: Global, words: &str, files: &str) -> Result<String, Fail> {
+/// The scenario of one request to that compiler in `/w`, whose words and files are these JSON texts.
+fn one_request(alloc: Global, compiler: &str, words: &str, files: &str) -> Result<String, Fail> {
     Ok(format!(in alloc;
-        r#"{{"requests":[{{"compiler":"gcc","words":{words},"files":{files}}}]}}"#
+        r#"{{"requests":[{{"compiler":"{compiler}","words":{words},"files":{files}}}]}}"#
     )?)
 }
 
 /// The file that most rows compile.
 const INT_X: &str = r#"{"/w/foo.c":"int x;\n"}"#;
 
-/// Each row: the words of one request, its files, and what the run prints.
-fn each_prints(rt: &impl Abort, alloc: Global, rows: &[(&str, &str, &str)]) -> Result<(), Fail> {
+/// Each row: the words of one request to that compiler, its files, and what the run prints.
+fn each_prints(
+    rt: &impl Abort,
+    alloc: Global,
+    compiler: &str,
+    rows: &[(&str, &str, &str)],
+) -> Result<(), Fail> {
     for (words, files, expected) in rows.iter() {
-        let scenario = one_request(alloc, words, files)?;
+        let scenario = one_request(alloc, compiler, words, files)?;
         let lines = printed(alloc, scenario.as_str())?;
         assert_eq!(rt; lines.as_slice(), expected.as_bytes(), "{words}");
     }
@@ -62,7 +67,21 @@ fn compiled(rt: HostRuntime) -> Result<(), Fail> {
             "1 fault compile 1\ncompiles 1\n",
         ),
     ];
-    each_prints(&rt, rt.alloc(), &rows)
+    each_prints(&rt, rt.alloc(), "gcc", &rows)
+}
+
+/// Each row: the words of one request to that compiler, and why it is passed through.
+fn each_passes(
+    rt: &impl Abort,
+    alloc: Global,
+    compiler: &str,
+    rows: &[(&str, &str)],
+) -> Result<(), Fail> {
+    for (words, reason) in rows.iter() {
+        let expected = format!(in alloc; "1 pass {reason}\ncompiles 0\n")?;
+        each_prints(rt, alloc, compiler, &[(words, INT_X, expected.as_str())])?;
+    }
+    Ok(())
 }
 
 #[test]
@@ -80,12 +99,62 @@ fn passed(rt: HostRuntime) -> Result<(), Fail> {
         (r#"["-x","c","-c",".."]"#, "no output file"),
         (r#"["-c","@args","foo.c"]"#, "@"),
     ];
-    let alloc = rt.alloc();
-    for (words, reason) in rows {
-        let expected = format!(in alloc; "1 pass {reason}\ncompiles 0\n")?;
-        each_prints(&rt, alloc, &[(words, INT_X, expected.as_str())])?;
-    }
-    Ok(())
+    each_passes(&rt, rt.alloc(), "gcc", &rows)
+}
+
+#[test]
+fn passed_by_the_tables(rt: HostRuntime) -> Result<(), Fail> {
+    let gcc = [
+        (r#"["-c","--","-odd.c"]"#, "no input file"),
+        (r#"["-c","foo.c","-include@x"]"#, "opens file"),
+        (r#"["-c","foo.c","--sysroot"]"#, "argument parse"),
+        (r#"["-c","foo.c","--sysroot="]"#, "empty value"),
+        (
+            r#"["-c","foo.c","-arch","a","-arch","b"]"#,
+            "multiple different -arch",
+        ),
+        (r#"["-c","-E","foo.c"]"#, "-E"),
+    ];
+    each_passes(&rt, rt.alloc(), "gcc", &gcc)?;
+    let clang = [
+        (r#"["-c","foo.c","-Xclang","@x"]"#, "opens file"),
+        (r#"["-c","foo.c","-Xclang","-fmodules"]"#, "-Xclang"),
+        (
+            r#"["-c","foo.c","-fprofile-instr-use=p"]"#,
+            "-fprofile-instr-use",
+        ),
+        (r#"["-c","--","@args"]"#, "unknown source language"),
+        (r#"["-c","--","@foo.c"]"#, "opens file"),
+        (r#"["-c","--"]"#, "no input file"),
+    ];
+    each_passes(&rt, rt.alloc(), "clang", &clang)
+}
+
+#[test]
+fn clang_is_served(rt: HostRuntime) -> Result<(), Fail> {
+    let rows = [
+        (
+            r#"["-c","foo.c"]"#,
+            INT_X,
+            "1 fresh obj:22\ncompiles 1\n",
+        ),
+        (
+            r#"["-c","--","-odd.c"]"#,
+            r#"{"/w/-odd.c":"int x;\n"}"#,
+            "1 fresh obj:23\ncompiles 1\n",
+        ),
+        (
+            r#"["-c","foo.c","--serialize-diagnostics","foo.dia"]"#,
+            INT_X,
+            "1 fresh dia:22 obj:22\ncompiles 1\n",
+        ),
+        (
+            r#"["-c","foo.c","-MD","-Xclang","-O2"]"#,
+            INT_X,
+            "1 fresh obj:22\ncompiles 1\n",
+        ),
+    ];
+    each_prints(&rt, rt.alloc(), "clang", &rows)
 }
 
 #[test]

@@ -61,7 +61,8 @@ fn readable_members(rt: HostRuntime) -> Result<(), Fail> {
         r#","words":["-c",{"hex":"00ff","text":1},{"hex":""}]"#,
         r#","dir":{"hex":"2f"}"#,
         r#","dir":1,"dir":"/x""#,
-        r#","compiler":"clang","compiler":"gcc""#,
+        r#","compiler":"tcc","compiler":"gcc""#,
+        r#","compiler":"clang""#,
         r#","env":[["A","1"],["A",{"hex":"00"}]]"#,
         r#","moment":-9223372036854775808"#,
         r#","moment":9223372036854775807"#,
@@ -78,7 +79,7 @@ fn readable_members(rt: HostRuntime) -> Result<(), Fail> {
 fn unreadable_members(rt: HostRuntime) -> Result<(), Fail> {
     let alloc = rt.alloc();
     for members in [
-        r#","compiler":"clang""#,
+        r#","compiler":"tcc""#,
         r#","compiler":{"hex":"676363"}"#,
         r#","words":"a""#,
         r#","words":[1]"#,
