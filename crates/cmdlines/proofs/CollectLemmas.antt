@@ -4,7 +4,7 @@ use Rattle.std.proofs.lemmas.List.{append-nil}
 use Rattle.std.proofs.lemmas.List.Concat.{flat_map-append}
 use Rattle.std.proofs.lemmas.List.Elements.{filter-append}
 use Rattle.std.specs.Prelude.{find}
-use Rattle.std.specs.List.{flat_map, filter, list_any}
+use Rattle.std.specs.List.{flat_map, list_any}
 use Rattle.std.specs.Option.{option_to_list}
 use Rattle.os_files.specs.Bytes.{Bytes}
 use Rattle.cmdlines_base.specs.Cutting.{Place, reading_at}
@@ -16,13 +16,12 @@ use Rattle.cmdlines_base.specs.declared.argument_error.ArgParseError.{ArgParseEr
 use Rattle.cmdlines_base.specs.declared.argument_error.ArgParseError.TheVariants.{UnexpectedEndOfArgs, InvalidUnicode, Other, Memory}
 use Rattle.cmdlines_tables.specs.Kinds.{is_compile, is_output, is_language, is_arch, is_diagnostics, is_extra_file, asks_dependencies, is_dependency_path, is_dependency_target}
 use Rattle.cmdlines_tables.specs.Values.{IsFlag, IsValue, never}
-use Rattle.cmdlines_tables.specs.declared.compiler.ColorMode.{ColorMode}
 use Rattle.cmdlines_tables.specs.declared.kind.ArgKind.{ArgKind}
 use Rattle.cmdlines_tables.specs.declared.kind.OptionList.{OptionList}
 use Rattle.cmdlines_tables.specs.declared.kind.OptionList.TheVariants as lists
 use Rattle.cmdlines.specs.Collecting.{no_facts, no_lists, facts_with, lists_with, decide}
 use Rattle.cmdlines.specs.Parsing.{decision_on, decided, refused, closing}
-use Rattle.cmdlines.specs.Wanted.{has_kind, word_in, words_in, color_in, blocker_in, input_in, later, sooner, last_of, first_of, is_wanted, wanted, wanted_words, is_hard, flag_of, facts_of, lists_of}
+use Rattle.cmdlines.specs.Wanted.{has_kind, word_in, color_in, blocker_in, input_in, later, sooner, last_of, first_of, is_wanted, wanted, wanted_words, is_hard, flag_of, facts_of, lists_of}
 use Rattle.cmdlines.specs.declared.facts.Facts.{Facts}
 use Rattle.cmdlines.specs.declared.lists.Lists.{Lists}
 

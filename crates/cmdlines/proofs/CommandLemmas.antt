@@ -1,12 +1,12 @@
 -- The commands are read again as what was wanted.
 use Rattle.std.proofs.Common.{◌≡◌, List, [], ◌∷◌, ◌++◌, Option, None, Some, Bool, true, false, cond, ◌&&◌, ◌||◌, refl, ap, sym, subst, ◌∙◌, arith, map, inl, inr, append_assoc}
-use Rattle.std.proofs.lemmas.List.{append-nil, map-append}
-use Rattle.std.specs.List.{list_any, filter, AllByRecursion}
+use Rattle.std.proofs.lemmas.List.{map-append}
+use Rattle.std.specs.List.{list_any}
 use Rattle.std.specs.Prelude.{codes}
 use Rattle.os_files.specs.Bytes.{Bytes}
 use Rattle.cmdlines_base.specs.Again.{lets_dashes, is_clear, ReadsAgain, AllReadAgain, AllReadAgainUnlessEmpty, ReadsTogether}
 use Rattle.cmdlines_base.specs.Printing.{is_empty_j, normal, words_of}
-use Rattle.cmdlines_base.specs.Reading.{Item, raw, unknown, flag, valued, behind_dashes, is_behind, Reading, reading, before, all_before, all_behind, nothing, first_word, whole, awaits, ends, Reads, alone, with_value, options_end}
+use Rattle.cmdlines_base.specs.Reading.{Item, raw, unknown, flag, valued, behind_dashes, is_behind, Reading, reading, before, all_before, all_behind, first_word, whole, awaits, ends, Reads, alone, with_value, options_end}
 use Rattle.cmdlines_base.specs.Table.{Entry}
 use Rattle.cmdlines_base.specs.declared.argument.ArgDisposition.{ArgDisposition}
 use Rattle.cmdlines_base.specs.declared.argument.ArgDisposition.TheVariants.{CanBeConcatenated}
@@ -19,7 +19,7 @@ use Rattle.cmdlines_tables.specs.declared.kind.ArgKind.{ArgKind}
 use Rattle.cmdlines_tables.specs.declared.kind.ArgKind.TheVariants.{TooHard, DoCompilation, Output, Language, DepArgumentPath, DepTarget}
 use Rattle.cmdlines_tables.specs.declared.kind.OptionList.{OptionList}
 use Rattle.cmdlines_tables.specs.declared.kind.OptionList.TheVariants as lists
-use Rattle.cmdlines.specs.Commands.{object_path, option_words, option_item, language_words, language_items, front_words, front_items, behind_words, behind_items, color_words, color_items, lacks_path, lacks_target, beside, when_words, when_items, added_words, added_items, compile_words, compile_items, preprocess_words, preprocess_items, ReadsAs}
+use Rattle.cmdlines.specs.Commands.{object_path, language_words, language_items, front_words, front_items, behind_words, behind_items, color_words, color_items, lacks_path, lacks_target, beside, when_words, when_items, added_words, added_items, compile_words, compile_items, preprocess_words, preprocess_items, ReadsAs}
 use Rattle.cmdlines.specs.Parsing.{parse_of, asks, HasSafeInput, IsSafeBy}
 use Rattle.cmdlines.specs.Wanted.{is_wanted, wanted, facts_of, lists_of}
 use Rattle.cmdlines.specs.declared.facts.DependencyOptions.{DependencyOptions}

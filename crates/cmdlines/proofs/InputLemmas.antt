@@ -1,10 +1,10 @@
 -- The input of words that ask for something can stand where it's written.
-use Rattle.std.proofs.Common.{◌≡◌, Bool, true, false, cond, ◌&&◌, ◌==◌, List, [], ◌∷◌, ◌++◌, Option, Some, None, map, refl, ap, sym, subst, ◌∙◌, inl, inr}
+use Rattle.std.proofs.Common.{◌≡◌, Bool, true, false, cond, ◌&&◌, ◌==◌, List, [], ◌∷◌, Option, Some, None, map, refl, ap, subst, ◌∙◌, inl, inr}
 use Rattle.std.specs.Prelude.{codes, find, unwrap_or, is_some}
 use Rattle.std.specs.List.{AllByRecursion, flat_map}
 use Rattle.std.specs.Option.{option_map}
 use Rattle.os_files.specs.Bytes.{Bytes}
-use Rattle.cmdlines_base.specs.Reading.{Item, raw, unknown, flag, valued, behind_dashes, Start, whole, awaits, ends, Reading, loose, start_as, start_either, first_by, first_word, is_double_dash, from_last, from_first, unfinished, all_behind, reading}
+use Rattle.cmdlines_base.specs.Reading.{Item, raw, unknown, flag, valued, behind_dashes, Start, whole, awaits, ends, Reading, loose, start_as, start_either, first_by, first_word, is_double_dash, from_last, from_first, unfinished, reading}
 use Rattle.cmdlines_base.specs.Table.{Entry, behind, longest_fit}
 use Rattle.cmdlines_base.specs.declared.argument.ArgDisposition.{ArgDisposition}
 use Rattle.cmdlines_base.specs.declared.argument.ArgDisposition.TheVariants.{Separated, CanBeConcatenated, CanBeSeparated, Concatenated}
@@ -13,7 +13,7 @@ use Rattle.cmdlines_tables.specs.declared.kind.ArgKind.{ArgKind}
 use Rattle.cmdlines_tables.specs.declared.language.Language.{Language}
 use Rattle.cmdlines.specs.Commands.{object_path}
 use Rattle.cmdlines.specs.Small.{output_named}
-use Rattle.cmdlines.specs.Parsing.{object_name, outputs_at, Decision, asks, refused, not_compilation, differ, language_for, output_for, with_output, with_language, with_inputs, closing, decided, decision_on, decision_by, parsed_from, IsSafeBy}
+use Rattle.cmdlines.specs.Parsing.{object_name, outputs_at, asks, refused, not_compilation, differ, language_for, output_for, with_output, with_language, with_inputs, decided, decision_on, decision_by, parsed_from, IsSafeBy}
 use Rattle.cmdlines.specs.Wanted.{facts_of, lists_of, input_in, is_hard}
 use Rattle.cmdlines.specs.declared.facts.Facts.{Facts}
 use Rattle.cmdlines.specs.declared.lists.Input.{Input}
@@ -70,7 +70,7 @@ pub object_there : (d : Bool) (t : List (Entry ArgKind)) (words : List Bytes) (p
 object_there d t words p h =
     let a : Asked (facts_of t (reading d t words).items) (lists_of (reading d t words).items) p = asked t (reading d t words) p h in
     is_some-map (λ (o : ArtifactDescriptor). o.path) (output_named object_name p.outputs)
-        (subst (λ (q : ParsedArguments). is_some (output_named object_name q.outputs) ≡ true) a.is (object_among (facts_of t (reading d t words).items).diagnostics a.path))
+    (subst (λ (q : ParsedArguments). is_some (output_named object_name q.outputs) ≡ true) a.is (object_among (facts_of t (reading d t words).items).diagnostics a.path))
 
 module _ (d : Bool) (t : List (Entry ArgKind)) where
   -- a loose word is one that the table makes nothing else of, and none stands behind double dashes unless these end the options

@@ -1,7 +1,6 @@
 -- What was collected of the items so far, and then of more.
-use Rattle.std.specs.Prelude.{Bool, true, false, ◌||◌, ◌&&◌, List, [], ◌∷◌, ◌++◌, Option, None, Some, find}
+use Rattle.std.specs.Prelude.{false, ◌||◌, List, [], ◌++◌, None, find}
 use Rattle.std.specs.List.{flat_map, list_any}
-use Rattle.os_files.specs.Bytes.{Bytes}
 use Rattle.cmdlines_base.specs.Printing.{is_empty_j}
 use Rattle.cmdlines_base.specs.Reading.{Item, Reading}
 use Rattle.cmdlines_base.specs.Table.{Entry}

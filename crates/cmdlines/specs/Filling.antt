@@ -1,5 +1,5 @@
 -- What one option adds to the lists: its words to its list, and its word alone where it is an architecture or names a file.
-use Rattle.std.specs.Prelude.{List, [], ◌++◌}
+use Rattle.std.specs.Prelude.{List, ◌++◌}
 use Rattle.std.specs.Option.{option_to_list}
 use Rattle.os_files.specs.Bytes.{Bytes}
 use Rattle.cmdlines_tables.specs.Kinds.{is_arch, is_extra_file}

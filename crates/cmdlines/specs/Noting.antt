@@ -1,5 +1,5 @@
 -- What one option adds to the facts: a flag, what it is for, and its word.
-use Rattle.std.specs.Prelude.{Bool, ◌||◌, Option}
+use Rattle.std.specs.Prelude.{◌||◌}
 use Rattle.os_files.specs.Bytes.{Bytes}
 use Rattle.cmdlines_tables.specs.Kinds.{is_compile, is_output, is_language, is_diagnostics, blocks_preprocessor_cache, asks_dependencies, is_dependency_path, is_dependency_target}
 use Rattle.cmdlines_tables.specs.declared.kind.ArgKind.{ArgKind}

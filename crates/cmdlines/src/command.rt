@@ -82,10 +82,7 @@ fn push_language(
 }
 
 /// Adds the input, where it stands among the options.
-fn push_front(
-    words: &mut Listed<OsBytes>,
-    parsed: &ParsedArguments,
-) -> Result<(), AllocError>
+fn push_front(words: &mut Listed<OsBytes>, parsed: &ParsedArguments) -> Result<(), AllocError>
     ensures { OnOk result (words.new ≡ words.old ++ front_words parsed.now.double_dash_input parsed.now.input) }
 {
     if !parsed.double_dash_input {

@@ -1,10 +1,10 @@
 //! Command lines of C compilers: what their words come to, and the commands that are run for them.
 #![tactic(auto)]
 
-mod closing;
-pub mod compiler_arguments;
 pub mod clang;
+mod closing;
 pub mod command;
+pub mod compiler_arguments;
 mod engine;
 pub mod facts;
 pub mod gcc;

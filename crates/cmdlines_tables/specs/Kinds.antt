@@ -1,5 +1,5 @@
 -- Which list of a request the options of each kind go to.
-use Rattle.std.specs.Prelude.{Bool, true, false, ◌||◌}
+use Rattle.std.specs.Prelude.{Bool, true, false}
 use Rattle.cmdlines_tables.specs.declared.kind.ArgKind.{ArgKind}
 use Rattle.cmdlines_tables.specs.declared.kind.ArgKind.TheVariants.{TooHard, DoCompilation, Output, Language, Arch, PreprocessorArgument, PreprocessorTooHard, NeedDepTarget, DepFlag, DepArgumentPath, DepTarget, PassThrough, ExtraHashFile, SerializeDiagnostics, DiagnosticsColor, DiagnosticsColorFlag, NoDiagnosticsColorFlag, XClang}
 use Rattle.cmdlines_tables.specs.declared.kind.OptionList.{OptionList}

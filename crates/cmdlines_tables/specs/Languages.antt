@@ -1,5 +1,5 @@
 -- The languages of inputs.
-use Rattle.std.specs.Prelude.{Bool, List, [], ◌∷◌, Option, None, Some, codes, find}
+use Rattle.std.specs.Prelude.{List, [], ◌∷◌, Option, None, Some, codes, find}
 use Rattle.std.specs.Option.{option_map}
 use Rattle.std.specs.Str.{bytes_eq}
 use Rattle.os_files.specs.Bytes.{Bytes}

@@ -1,7 +1,6 @@
 -- The options of the C compilers, each with what it is for and how it takes a value.
-use Rattle.std.specs.Prelude.{Bool, true, false, List, [], ◌∷◌, ◌++◌, Option, None, Some, codes}
+use Rattle.std.specs.Prelude.{Bool, true, false, List, [], ◌∷◌, None, Some, codes}
 use Rattle.os_files.specs.Bytes.{Bytes}
-use Rattle.cmdlines_base.specs.declared.argument.ArgDisposition.{ArgDisposition}
 use Rattle.cmdlines_base.specs.declared.argument.ArgDisposition.TheVariants.{Separated, CanBeSeparated, Concatenated}
 use Rattle.cmdlines_base.specs.Reading.{Reading, reading}
 use Rattle.cmdlines_base.specs.Table.{Entry, all_entries}

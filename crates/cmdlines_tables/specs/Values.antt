@@ -1,5 +1,5 @@
 -- The arguments of a C compiler, as items.
-use Rattle.std.specs.Prelude.{◌≡◌, Bool, true, false, [], cond}
+use Rattle.std.specs.Prelude.{◌≡◌, Bool, true, false, []}
 use Rattle.os_files.specs.Bytes.{Bytes}
 use Rattle.cmdlines_base.specs.Reading.{Item, raw, unknown, flag, valued, behind_dashes}
 use Rattle.cmdlines_base.specs.declared.argument.Argument.{Argument}

@@ -1,4 +1,4 @@
-use Rattle.std.proofs.Common.{◌≡◌, ◌∙◌, ap, sym, refl}
+use Rattle.std.proofs.Common.{sym, refl}
 use Rattle.cmdlines_tables.proofs.cutting.arguments_of.Goals as goal
 
 pub returns-then-ends_options-clause-reading : goal.returns-then-ends_options-clause-reading

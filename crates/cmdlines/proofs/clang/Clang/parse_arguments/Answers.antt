@@ -1,5 +1,4 @@
-use Rattle.std.proofs.Common.{◌≡◌, ◌∙◌, sym, false, [], ◌∷◌}
-use Rattle.cmdlines_base.specs.Table.{all_entries}
+use Rattle.std.proofs.Common.{◌≡◌, ◌∙◌, sym}
 use Rattle.cmdlines_tables.specs.Tables.{entries_of, ends_options}
 use Rattle.cmdlines_tables.specs.declared.compiler.CCompilerKind.TheVariants.{Clang}
 use Rattle.cmdlines.specs.Parsing.{parse_of, decision_of}
