@@ -35,11 +35,7 @@ pub enum Verdict {
 }
 
 /// The plan of a request that asks for this.
-fn plan_of(
-    alloc: Global,
-    request: &Request,
-    parsed: ParsedArguments,
-) -> Result<Plan, AllocError>
+fn plan_of(alloc: Global, request: &Request, parsed: ParsedArguments) -> Result<Plan, AllocError>
     requires object { is_some (object_path parsed) ≡ true }
     ensures parsed { IfOk result (λ plan. plan.parsed ≡ parsed) }
     ensures plan { IfOk result (IsPlanOf request.now) }
@@ -87,11 +83,7 @@ fn after_hazards(
 }
 
 /// The verdict on a request.
-pub fn judge<F: Files>(
-    alloc: Global,
-    request: &Request,
-    files: &mut F,
-) -> Result<Verdict, Fault>
+pub fn judge<F: Files>(alloc: Global, request: &Request, files: &mut F) -> Result<Verdict, Fault>
     ensures verdict { IfOk result (λ verdict. decision_of verdict ≡ verdict_of (kind_of request.now.compiler) request.now.words) }
     // The commands are those of the request, and its compiler reads them again as what was wanted.
     ensures plan { IfOk result (λ verdict. OnAsks verdict (IsPlanOf request.now)) }

@@ -4,7 +4,6 @@ use Rattle.os_files.specs.Bytes.{Bytes, ticked}
 use Rattle.os_files.specs.Tree.{Tree}
 use Rattle.cmdlines_base.specs.Reading.{Reading}
 use Rattle.cmdlines_base.specs.declared.command.SingleCompileCommand.{SingleCompileCommand}
-use Rattle.cmdlines_base.specs.declared.command.ArtifactDescriptor.{ArtifactDescriptor}
 use Rattle.cmdlines.specs.Parsing.{Artifacts}
 use Rattle.cmdlines_tables.specs.declared.kind.ArgKind.{ArgKind}
 use Rattle.wrap_base.specs.declared.step.Step.{Step}

@@ -1,4 +1,4 @@
-use Rattle.std.proofs.Common.{◌≡◌, ◌∙◌, ap, refl}
+use Rattle.std.proofs.Common.{◌∙◌, ap}
 use Rattle.cmdlines_base.specs.Cutting.{place_of, is_seen}
 use Rattle.cmdlines_base.specs.Table.{all_entries}
 use Rattle.wrap.specs.Scripted.{input_of}

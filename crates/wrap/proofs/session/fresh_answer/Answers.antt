@@ -1,4 +1,3 @@
-use Rattle.std.proofs.Common.{◌≡◌, subst}
 use Rattle.wrap_base.specs.Account.{worked, scene_at, work_at}
 use Rattle.wrap_base.specs.Commands.{kind_of}
 use Rattle.wrap_base.specs.Meaning.{FailsIn}
@@ -17,4 +16,4 @@ returns-in_err-map-clause-says g c =
     let w = work_at (meaning old) (kind_of request.compiler) (scene_at request (g.F.Files.tree c.args.files.now)) c.args.plan.now.parsed in
     let cause = rw (c.in_ok-_text.ensures.meaning, c.in_ok-_text.ensures.tree) at c.in_err-map.ensures.cause in
     on_exit (worked w) (FailsIn meaning failed fails_in old new) c.from_residual-in_err-map.result c.in_err-map.field-0.0 c.from_residual-in_err-map.ensures.1
-        (compile_says w (FailsIn meaning failed fails_in old new) (FailsIn meaning failed fails_in mid new) c.in_err-map.field-0.0 c.in_ok-_text.ensures.fine (since meaning failed fails_in old mid new c.in_ok-_text.ensures.meaning c.in_ok-_text.ensures.steady) cause)
+    (compile_says w (FailsIn meaning failed fails_in old new) (FailsIn meaning failed fails_in mid new) c.in_err-map.field-0.0 c.in_ok-_text.ensures.fine (since meaning failed fails_in old mid new c.in_ok-_text.ensures.meaning c.in_ok-_text.ensures.steady) cause)

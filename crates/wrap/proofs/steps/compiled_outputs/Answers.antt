@@ -1,11 +1,10 @@
-use Rattle.std.proofs.Common.{◌≡◌, rules, pos, false, SFits, w32, to_z-of_z}
-use Rattle.std.specs.Ordering.{int_eq}
+use Rattle.std.proofs.Common.{◌≡◌, rules, pos}
 use Rattle.cmdlines_tables.specs.Tables.{reading_of}
 use Rattle.wrap_base.specs.declared.step.Step.TheVariants.{Compile}
 use Rattle.wrap_base.specs.Account.{scene_at, work_at}
 use Rattle.wrap_base.specs.Commands.{kind_of}
 use Rattle.wrap_base.specs.Meaning.{FailsIn, made_of, names_of, scene_of}
-use Rattle.wrap.proofs.StepLemmas.{fresh_is, made_fresh, collect_cause, failed_cause}
+use Rattle.wrap.proofs.StepLemmas.{fresh_is, made_fresh, collect_cause}
 use Rattle.wrap.proofs.steps.compiled_outputs.Goals as goal
 
 pub returns-then-made-eq0-clause-made : goal.returns-then-made-eq0-clause-made
@@ -35,4 +34,3 @@ returns-then-made-eq0-clause-cause g c =
     let fresh = fresh_is meaning tree request parsed c.kind-kind.result c.args.plan.now.compile _ _ c.kind-kind.ensures c.requires.plan.compile answer in
     let zero : c.in-Ok.made.status ≡ pos 0 = search rules in
     collect_cause work _ _ fresh zero (FailsIn g.T.Preprocessor.meaning g.T.Preprocessor.failed g.T.Preprocessor.fails_in c.args.tool.now c.compile.new.self) c.collected.result cause
-
