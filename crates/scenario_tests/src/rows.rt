@@ -133,11 +133,7 @@ fn passed_by_the_tables(rt: HostRuntime) -> Result<(), Fail> {
 #[test]
 fn clang_is_served(rt: HostRuntime) -> Result<(), Fail> {
     let rows = [
-        (
-            r#"["-c","foo.c"]"#,
-            INT_X,
-            "1 fresh obj:22\ncompiles 1\n",
-        ),
+        (r#"["-c","foo.c"]"#, INT_X, "1 fresh obj:22\ncompiles 1\n"),
         (
             r#"["-c","--","-odd.c"]"#,
             r#"{"/w/-odd.c":"int x;\n"}"#,
