@@ -1,0 +1,2 @@
+pub mod MaterialLemmas
+pub mod FeedLemmas
