@@ -1,2 +1,0 @@
-pub mod MaterialLemmas
-pub mod FeedLemmas

@@ -1,5 +1,0 @@
-//! Tests of keys of C requests, by example.
-#![tactic(auto)]
-
-#[cfg(test)]
-mod keys;
