@@ -222,6 +222,3 @@ pub fn texts_tell_digests<H: HashState>()
     ensures tells { (one other : Bytes) → hex_of (H.digest_of one) ≡ hex_of (H.digest_of other)
         → H.digest_of one ≡ H.digest_of other }
 {}
-
-#[cfg(test)]
-mod tests;

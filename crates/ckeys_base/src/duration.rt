@@ -17,6 +17,3 @@ pub fn fmt_duration_as_secs(alloc: Global, duration: &Duration) -> Result<String
     let milliseconds = duration.subsec_millis();
     format!(in alloc; "{seconds}.{milliseconds:03} s")
 }
-
-#[cfg(test)]
-mod tests;

@@ -35,6 +35,3 @@ pub fn hex_tells_its_bytes()
     ensures length { (bytes : Bytes) → length (hex_of bytes) ≡ 2 * length bytes }
     ensures tells { (one other : Bytes) → AreBytes one → AreBytes other → hex_of one ≡ hex_of other → one ≡ other }
 {}
-
-#[cfg(test)]
-mod tests;

@@ -84,6 +84,3 @@ fn normal_win_byte(byte: u8) -> u8
         byte.to_ascii_lowercase()
     }
 }
-
-#[cfg(test)]
-mod tests;

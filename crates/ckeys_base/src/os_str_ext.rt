@@ -32,6 +32,3 @@ impl OsStrExt for OsBytes {
         self.as_bytes().strip_prefix(prefix.as_bytes())
     }
 }
-
-#[cfg(test)]
-mod tests;

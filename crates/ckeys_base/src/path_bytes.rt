@@ -20,6 +20,3 @@ pub fn decode_path(alloc: Global, bytes: &[u8]) -> Result<OsBytes, AllocError>
 {
     OsBytes::from_slice(alloc, bytes)
 }
-
-#[cfg(test)]
-mod tests;

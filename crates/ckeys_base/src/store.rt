@@ -47,6 +47,3 @@ pub fn kept_look_up_changes_nothing<K, V>()
     ensures forgot { (old new : Shelf K V) (key : K) (answer : Option V) → Asks old new key answer → new.kept ≡ true
         → new.forgets ≡ old.forgets }
 {}
-
-#[cfg(test)]
-mod tests;

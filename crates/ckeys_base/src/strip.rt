@@ -101,6 +101,3 @@ fn joined(
     }
     Ok(kept)
 }
-
-#[cfg(test)]
-mod tests;

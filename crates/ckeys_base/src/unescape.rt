@@ -114,6 +114,3 @@ fn letter_meaning(letter: u8) -> Option<u8>
         _ => None,
     }
 }
-
-#[cfg(test)]
-mod tests;

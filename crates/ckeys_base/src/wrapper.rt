@@ -113,6 +113,3 @@ fn folders_in(alloc: Global, path: &[u8]) -> Result<Vec<&[u8]>, AllocError>
 {
     path.split(|byte| *byte == b':').collect(alloc)
 }
-
-#[cfg(test)]
-mod tests;

@@ -73,6 +73,3 @@ impl<T: Drop> Listed<T> {
         Ok(())
     }
 }
-
-#[cfg(test)]
-mod tests;

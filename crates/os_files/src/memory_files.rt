@@ -14,9 +14,6 @@ use std::alloc::{AllocError, Global};
 use std::collections::BTreeMap;
 use std::marker::Model;
 
-#[cfg(test)]
-mod tests;
-
 /// A regular file, which is its own canonical name.
 #[derive(Drop)]
 pub struct MemoryFile {

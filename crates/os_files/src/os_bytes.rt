@@ -137,6 +137,3 @@ impl fmt::Display for OsBytes {
         Ok(())
     }
 }
-
-#[cfg(test)]
-mod tests;

@@ -187,6 +187,3 @@ pub fn with_extension(alloc: Global, path: &[u8], extension: &[u8]) -> Result<Os
         }
     }
 }
-
-#[cfg(test)]
-mod tests;

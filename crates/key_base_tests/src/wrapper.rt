@@ -3,9 +3,11 @@
 ghost use Rattle.std.specs.Prelude.{◌≡◌, ◌&&◌, codes};
 ghost use Rattle.std.specs.Str.{bytes_eq};
 
-use super::*;
+use ckeys_base::wrapper::resolve_compiler_avoiding_wrapper;
 use os_files::file_time::FileTime;
-use os_files::files::Metadata;
+use os_files::files::{FileFail, Files, Metadata};
+use os_files::os_bytes::OsBytes;
+use std::alloc::Global;
 use std::test::Fail;
 
 /// Files of which `/a/gcc` has the canonical name `/x/sccache`. `/b/gcc`, which is there or not, is

@@ -1,6 +1,7 @@
-//! Each call once.
+//! Words and text before them: each call once.
 
-use super::*;
+use ckeys_base::os_str_ext::OsStrExt;
+use os_files::os_bytes::OsBytes;
 use std::test::Fail;
 
 #[test]

@@ -6,7 +6,7 @@ ghost use Rattle.std.specs.BTreeMap.{get};
 ghost use Rattle.std.proofs.Common.{rules};
 ghost use Rattle.ckeys_base.specs.Shelf.{Asks, KeepsKeys};
 
-use super::{Store, kept_look_up_changes_nothing};
+use ckeys_base::store::{Store, kept_look_up_changes_nothing};
 use std::alloc::Global;
 use std::collections::BTreeMap;
 use std::test::Fail;

@@ -1,6 +1,6 @@
 //! A path goes to a writer and comes back.
 
-use super::*;
+use ckeys_base::path_bytes::{decode_path, encode_path};
 use std::test::Fail;
 
 #[test]

@@ -1,6 +1,6 @@
-//! Whether the clauses say what is meant, by examples worked out by hand.
+//! Whether the clauses of paths say what is meant, by examples worked out by hand.
 
-use super::*;
+use os_files::path::{components, extension, file_name, join, with_extension};
 use std::test::Fail;
 
 #[test]

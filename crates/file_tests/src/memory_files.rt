@@ -1,9 +1,9 @@
-//! A run over a few files.
+//! A run over a few files in memory.
 
-use super::{MemoryFile, MemoryFiles};
-use crate::file_time::FileTime;
-use crate::files::{FileFail, Files, Metadata};
-use crate::os_bytes::OsBytes;
+use os_files::file_time::FileTime;
+use os_files::files::{FileFail, Files, Metadata};
+use os_files::memory_files::{MemoryFile, MemoryFiles};
+use os_files::os_bytes::OsBytes;
 use std::alloc::{AllocError, Global};
 use std::test::Fail;
 

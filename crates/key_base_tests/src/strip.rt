@@ -1,6 +1,9 @@
-//! Whether the definitions say what is meant, by examples.
+//! Whether the definitions of stripping say what is meant, by examples.
 
-use super::*;
+use ckeys_base::strip::{strip_basedirs, strip_basedirs_from_arg};
+use os_files::os_bytes::OsBytes;
+use std::alloc::{AllocError, Global};
+use std::borrow::CowSlice;
 use std::test::Fail;
 
 /// A list of these folders.

@@ -1,6 +1,6 @@
-//! Printed text, and each function once.
+//! Byte strings: printed text, and each function once.
 
-use super::OsBytes;
+use os_files::os_bytes::OsBytes;
 use std::cmp::Ordering;
 use std::test::Fail;
 

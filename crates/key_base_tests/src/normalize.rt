@@ -1,6 +1,6 @@
-//! Whether the definitions say what is meant, by examples.
+//! Whether the definitions of normal paths say what is meant, by examples.
 
-use super::*;
+use ckeys_base::normalize::{normalize_path, normalize_win_path};
 use std::test::Fail;
 
 #[test]

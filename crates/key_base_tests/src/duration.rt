@@ -1,7 +1,8 @@
-//! The printed text.
+//! The printed text of a span of time.
 
-use super::*;
+use ckeys_base::duration::fmt_duration_as_secs;
 use std::test::Fail;
+use std::time::Duration;
 
 #[test]
 fn a_second_and_five_milliseconds(rt: HostRuntime) -> Result<(), Fail> {

@@ -1,6 +1,6 @@
-//! Whether the definitions say what is meant, by examples.
+//! Whether the definitions of escapes say what is meant, by examples.
 
-use super::*;
+use ckeys_base::unescape::{UnescapeError, ascii_unescape_default};
 use std::test::Fail;
 
 #[test]

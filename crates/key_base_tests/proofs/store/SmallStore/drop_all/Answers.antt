@@ -2,9 +2,9 @@ use Rattle.std.proofs.Common.{◌≡◌, ◌↔◌, ℕ, true, length, refl, sym
 use Rattle.std.specs.Ordering.{nat_cmp, is_eq}
 use Rattle.std.specs.declared.cmp.Ordering.TheVariants.{Equal}
 use Rattle.std.specs.Cmp.{nat_cmp_is}
-use Rattle.ckeys_base.proofs.ShelfLemmas.{keeps_none}
-use Rattle.ckeys_base.proofs.store.tests.SmallStore.drop_all.Goals as goal
-use Rattle.ckeys_base.proofs.store.tests.SmallStore.drop_all.Goals.{then-self, else-self}
+use Rattle.key_base_tests.proofs.EmptiedShelf.{keeps_none}
+use Rattle.key_base_tests.proofs.store.SmallStore.drop_all.Goals as goal
+use Rattle.key_base_tests.proofs.store.SmallStore.drop_all.Goals.{then-self, else-self}
 
 same : (k : ℕ) → is_eq (nat_cmp k k) ≡ true
 same k = ap is_eq (sym (nat_cmp_is k k Equal refl))

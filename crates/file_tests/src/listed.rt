@@ -1,6 +1,6 @@
-//! Each function once.
+//! Lists: each function once.
 
-use super::Listed;
+use os_files::listed::Listed;
 use std::test::Fail;
 
 #[test]

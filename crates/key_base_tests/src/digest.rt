@@ -2,10 +2,9 @@
 
 ghost use Rattle.std.specs.Prelude.{◌<◌};
 
-use super::{Digest, Error, HASH_BUFFER_SIZE, texts_tell_digests};
-use crate::hash_state::HashState;
+use ckeys_base::digest::{Digest, Error, HASH_BUFFER_SIZE, texts_tell_digests};
+use ckeys_base::hash_state::HashState;
 use os_files::file_time::FileTime;
-use os_files::files::FileFail;
 use os_files::memory_files::{MemoryFile, MemoryFiles};
 use os_files::os_bytes::OsBytes;
 use sha2::Sha256;

@@ -1,0 +1,23 @@
+//! Tests of what keys stand on, by example: digests, stripping, stores, and the small calls.
+#![tactic(auto)]
+
+#[cfg(test)]
+mod digest;
+#[cfg(test)]
+mod duration;
+#[cfg(test)]
+mod hexadecimal;
+#[cfg(test)]
+mod normalize;
+#[cfg(test)]
+mod os_str_ext;
+#[cfg(test)]
+mod path_bytes;
+#[cfg(test)]
+mod store;
+#[cfg(test)]
+mod strip;
+#[cfg(test)]
+mod unescape;
+#[cfg(test)]
+mod wrapper;
