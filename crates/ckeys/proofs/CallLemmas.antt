@@ -1,0 +1,36 @@
+-- Why a call has no key.
+use Rattle.std.proofs.Common.{◌≡◌, inl, inr, ℕ, Option, None, Result, Ok, Err, IfErr, IsErrAnd, ap, sym, subst, ◌∙◌}
+use Rattle.std.specs.Option.{option_map}
+use Rattle.os_files.specs.Bytes.{Bytes}
+use Rattle.os_files.specs.Fails.{FailsOn}
+use Rattle.os_files.specs.Tree.{Tree}
+use Rattle.ckeys.specs.Meaning.{Meaning}
+use Rattle.ckeys.specs.Calls.{KeyCall, KeyCause, extra_paths, first_missing, key_fault_of, or_else, text_fault_of}
+use Rattle.ckeys.specs.declared.fault.Fault.{Fault}
+use Rattle.ckeys.specs.declared.fault.Fault.TheVariants.{Memory, Read, Tool, PreprocessFailed, CompileFailed, MissingOutput}
+use Rattle.ckeys.specs.declared.step.Step.{Step}
+use Rattle.ckeys.specs.declared.step.Step.TheVariants.{Preprocess, Compile}
+
+-- where all extra files are there the first fault is the text's
+pub text_first : (meaning : Meaning) (call : KeyCall) → first_missing call.scene.files (extra_paths call) ≡ None → key_fault_of meaning call ≡ text_fault_of meaning call
+text_first meaning call h = ap (λ missing. or_else (option_map Read missing) (text_fault_of meaning call)) h
+
+-- a device that failed later failed in the call
+pub since : {F : Type 0} (tree : F → Tree) (failed : F → ℕ) (fails_on : F → Bytes → F → Type 0) (old mid new : F) → tree mid ≡ tree old → failed mid ≡ failed old → (name : Bytes) → FailsOn tree failed fails_on mid new name → FailsOn tree failed fails_on old new name
+since tree failed fails_on old mid new same steady name f = record { from = f.from; same = f.same ∙ same; steady = f.steady ∙ steady; ticks = f.ticks; leads = f.leads }
+
+-- the text's cause is the call's
+pub cause_is : (first text_first : Option Fault) (on_file later : Bytes → Type 0) (device_in : Step → Type 0) (fault : Fault) → first ≡ text_first → ((name : Bytes) → later name → on_file name) → KeyCause text_first later device_in fault → KeyCause first on_file device_in fault
+cause_is first text_first on_file later device_in Memory e lift h = tt
+cause_is first text_first on_file later device_in (Read path) e lift (inl h) = inl (lift path h)
+cause_is first text_first on_file later device_in (Read path) e lift (inr h) = inr (e ∙ h)
+cause_is first text_first on_file later device_in (Tool Preprocess) e lift h = h
+cause_is first text_first on_file later device_in (Tool Compile) e lift h = h
+cause_is first text_first on_file later device_in (PreprocessFailed status) e lift h = e ∙ h
+cause_is first text_first on_file later device_in (CompileFailed status) e lift h = h
+cause_is first text_first on_file later device_in (MissingOutput name) e lift h = h
+
+-- what holds of a fault holds of what it became
+pub on_exit : {A : Type 0} (P : Fault → Type 0) (result : Result A Fault) (fault : Fault) → IsErrAnd result (λ f. f ≡ fault) → P fault → IfErr result P
+on_exit P (Ok x) fault h p = absurd h
+on_exit P (Err f) fault h p = subst P (sym h) p

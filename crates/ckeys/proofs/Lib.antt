@@ -1,0 +1,5 @@
+pub mod MaterialLemmas
+pub mod FeedLemmas
+pub mod KeyLemmas
+pub mod FolderLemmas
+pub mod CallLemmas

@@ -1,0 +1,122 @@
+-- A call of which a key is made: its record, and its first fault.
+use Rattle.std.specs.Prelude.{◌≡◌, ◌⊎◌, pos, Bool, true, false, if◌then◌else◌, List, [], ◌∷◌, ◌++◌, map, filter, find, Option, None, Some, is_none, unwrap_or}
+use Rattle.std.specs.Option.{option_map}
+use Rattle.std.specs.Ordering.{int_eq}
+use Rattle.os_files.specs.Bytes.{Bytes}
+use Rattle.os_files.specs.Path.{join}
+use Rattle.os_files.specs.Tree.{Tree, contents_at}
+use Rattle.cmdlines.specs.Commands.{preprocess_words}
+use Rattle.cmdlines.specs.Compilers.{Traits}
+use Rattle.cmdlines.specs.declared.parsed.ParsedArguments.{ParsedArguments}
+use Rattle.cmdlines_tables.specs.Tables.{reading_of}
+use Rattle.cmdlines_tables.specs.declared.compiler.CCompilerKind.{CCompilerKind}
+use Rattle.cmdlines_tables.specs.declared.language.Language.{Language}
+use Rattle.cmdlines_tables.specs.declared.language.Language.TheVariants as languages
+use Rattle.ckeys_base.specs.FolderPlaces.{text_places}
+use Rattle.ckeys_base.specs.FromTheLeft.{stripped_of}
+use Rattle.ckeys.specs.Meaning.{Scene, Made, Meaning}
+use Rattle.ckeys.specs.Records.{CRecord}
+use Rattle.ckeys.specs.Params.{is_cached, stripped_words}
+use Rattle.ckeys.specs.declared.fault.Fault.{Fault}
+use Rattle.ckeys.specs.declared.fault.Fault.TheVariants.{Memory, Read, Tool, PreprocessFailed, CompileFailed, MissingOutput}
+use Rattle.ckeys.specs.declared.step.Step.{Step}
+use Rattle.ckeys.specs.declared.step.Step.TheVariants.{Preprocess, Compile}
+
+-- the compiler's kind, what is known of it and its digest, what its words ask for, where and when its commands run, and the folders that don't count
+pub record KeyCall : Type 0 where
+  pub kind : CCompilerKind
+  pub traits : Traits
+  pub compiler_digest : Bytes
+  pub parsed : ParsedArguments
+  pub scene : Scene
+  pub folders : List Bytes
+
+-- whether an input in this language goes through the preprocessor
+abbrev pub needs_preprocessing : Language → Bool
+needs_preprocessing languages.C = true
+needs_preprocessing languages.Cxx = true
+needs_preprocessing languages.AssemblerToPreprocess = true
+needs_preprocessing languages.CPreprocessed = false
+needs_preprocessing languages.CxxPreprocessed = false
+needs_preprocessing languages.Assembler = false
+needs_preprocessing languages.Rust = false
+
+-- Names in a request are read from its directory.
+abbrev pub input_path : KeyCall → Bytes
+input_path c = join c.scene.dir c.parsed.input
+
+abbrev pub extra_paths : KeyCall → List Bytes
+extra_paths c = map (join c.scene.dir) c.parsed.extra_hash_files
+
+-- the contents of a regular file, and nothing for what isn't one
+abbrev pub contents_in : Tree → Bytes → Bytes
+contents_in tree path = unwrap_or (contents_at tree path) []
+
+-- the first of these that isn't a regular file
+abbrev pub first_missing : Tree → List Bytes → Option Bytes
+first_missing tree paths = find (λ path. is_none (contents_at tree path)) paths
+
+-- what the preprocessor gives for what the compiler's tables read of its command
+abbrev pub printed_of : Meaning → KeyCall → Made
+printed_of meaning c = meaning Preprocess (reading_of c.kind (preprocess_words c.parsed)) [] c.scene
+
+-- what it printed
+abbrev pub text_in : List (Option Bytes) → Bytes
+text_in [] = []
+text_in (None ∷ others) = []
+text_in (Some text ∷ others) = text
+
+-- The text of a call: what the preprocessor prints, or the input's bytes where its language isn't preprocessed.
+abbrev pub text_of : Meaning → KeyCall → Bytes
+text_of meaning c = if needs_preprocessing c.parsed.language then text_in (printed_of meaning c).files else contents_in c.scene.files (input_path c)
+
+-- the record of a call
+abbrev pub record_of : Meaning → KeyCall → CRecord
+record_of meaning c = record {
+  compiler_digest = c.compiler_digest;
+  plusplus = c.traits.plusplus;
+  language = c.parsed.language;
+  words = stripped_words c.folders (c.parsed.common_args ++ c.parsed.arch_args);
+  variables = filter is_cached c.scene.env;
+  extra_contents = map (contents_in c.scene.files) (extra_paths c);
+  assembler_digest = c.traits.assembler_digest;
+  text = stripped_of text_places c.folders (text_of meaning c);
+}
+
+-- the fault of the preprocessor
+abbrev pub preprocess_fault_of : Made → Option Fault
+preprocess_fault_of made = if int_eq made.status (pos 0) then None else Some (PreprocessFailed made.status)
+
+-- the fault where one of these files isn't there
+abbrev pub read_fault_of : Tree → List Bytes → Option Fault
+read_fault_of tree paths = option_map Read (first_missing tree paths)
+
+abbrev pub text_fault_of : Meaning → KeyCall → Option Fault
+text_fault_of meaning c = if needs_preprocessing c.parsed.language then preprocess_fault_of (printed_of meaning c) else read_fault_of c.scene.files (input_path c ∷ [])
+
+abbrev pub or_else : Option Fault → Option Fault → Option Fault
+or_else None second = second
+or_else (Some fault) second = Some fault
+
+-- The first fault in the order of the steps, where no growth is refused and no device fails: an extra file that isn't there, and then the text's.
+abbrev pub key_fault_of : Meaning → KeyCall → Option Fault
+key_fault_of meaning c = or_else (read_fault_of c.scene.files (extra_paths c)) (text_fault_of meaning c)
+
+-- Why a file that is needed can't be had: memory; or its device failed; or it is the first one that isn't there.
+abbrev pub FileCause : Option Bytes → (Bytes → Type 0) → Fault → Type 0
+FileCause missing on_file Memory = Unit {0}
+FileCause missing on_file (Read path) = on_file path ⊎ (missing ≡ Some path)
+FileCause missing on_file (Tool step) = ⊥
+FileCause missing on_file (PreprocessFailed status) = ⊥
+FileCause missing on_file (CompileFailed status) = ⊥
+FileCause missing on_file (MissingOutput name) = ⊥
+
+-- Why there is no key: memory; a file's device, or the tool's in preprocessing; or the first fault.
+abbrev pub KeyCause : Option Fault → (Bytes → Type 0) → (Step → Type 0) → Fault → Type 0
+KeyCause first on_file device_in Memory = Unit {0}
+KeyCause first on_file device_in (Read path) = on_file path ⊎ (first ≡ Some (Read path))
+KeyCause first on_file device_in (Tool Preprocess) = device_in Preprocess
+KeyCause first on_file device_in (Tool Compile) = ⊥
+KeyCause first on_file device_in (PreprocessFailed status) = first ≡ Some (PreprocessFailed status)
+KeyCause first on_file device_in (CompileFailed status) = ⊥
+KeyCause first on_file device_in (MissingOutput name) = ⊥

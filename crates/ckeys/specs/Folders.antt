@@ -1,0 +1,33 @@
+-- The folders that a configuration holds.
+use Rattle.std.specs.Prelude.{◌≡◌, Bool, true, not, ◌||◌, if◌then◌else◌, List, [], ◌∷◌, Option, Some}
+use Rattle.std.specs.List.{list_all}
+use Rattle.os_files.specs.Bytes.{Bytes}
+use Rattle.os_files.specs.Path.{is_absolute, is_slash}
+use Rattle.ckeys.specs.declared.config.ConfigError.{ConfigError}
+use Rattle.ckeys.specs.declared.config.ConfigError.TheVariants.{Memory, BadFolder}
+
+-- a folder without the slashes at its end: nothing is left where only slashes are
+abbrev pub without_slashes : Bytes → Bytes
+without_slashes [] = []
+without_slashes (b ∷ folder) = if list_all is_slash (b ∷ folder) then [] else b ∷ without_slashes folder
+
+-- it isn't absolute, or is only slashes
+abbrev pub is_bad : Bytes → Bool
+is_bad folder = not (is_absolute folder) || list_all is_slash folder
+
+-- what a configuration fixes
+pub record Settings : Type 0 where
+  pub basedirs : List Bytes
+
+abbrev pub settings_of : List Bytes → Settings
+settings_of basedirs = record { basedirs = basedirs }
+
+-- memory, or the first bad folder
+abbrev pub ConfigCause : Option Bytes → ConfigError → Type 0
+ConfigCause first Memory = Unit {0}
+ConfigCause first (BadFolder folder) = first ≡ Some folder
+
+-- memory, or this one is bad
+abbrev pub FolderCause : Bytes → ConfigError → Type 0
+FolderCause folder Memory = Unit {0}
+FolderCause folder (BadFolder other) = (other ≡ folder) × (is_bad folder ≡ true)

@@ -1,0 +1,9 @@
+pub mod Records
+pub mod Material
+pub mod Params
+pub mod Meaning
+pub mod Keys
+pub mod Calls
+pub mod Folders
+pub mod Compilers
+pub mod Hashers

@@ -1,0 +1,212 @@
+//! What a C compiler has to offer so that its requests have keys.
+
+ghost use Rattle.std.specs.Prelude.{◌≡◌, ◌↔◌, ◌⊎◌, [], ◌∷◌, Some, None, IfOk, IfErr, IsErrOf};
+ghost use Rattle.std.specs.Option.{option_map};
+ghost use Rattle.os_files.specs.Bytes.{ticked};
+ghost use Rattle.cmdlines.specs.Commands.{object_path, HasObjectIn, preprocess_words, output_path, compile_words, command_at};
+ghost use Rattle.cmdlines.specs.Compilers.{Traits, text_in};
+ghost use Rattle.cmdlines.specs.Parsing.{decision_of, parse_of, HasSafeInputIn};
+ghost use Rattle.cmdlines.specs.ReadBack.{ReadsAsCompile, ReadsAsPreprocess};
+ghost use Rattle.cmdlines_tables.specs.Tables.{reading_of};
+ghost use Rattle.cmdlines_tables.specs.declared.compiler.CCompilerKind.{CCompilerKind};
+ghost use Rattle.ckeys.specs.Meaning.{scene_with, made_of};
+
+use crate::preprocessor::{Preprocessor, Printed, ToolFail};
+use crate::step::Step;
+use cmdlines::clang::Clang;
+use cmdlines::command::{Cacheable, CommandError, command_at};
+use cmdlines::compiler_arguments::{CompilerArguments, ParseFault};
+use cmdlines::gcc::Gcc;
+use cmdlines::parsed::ParsedArguments;
+use cmdlines_base::command::SingleCompileCommand;
+use cmdlines_tables::compiler::CCompilerKind;
+use os_files::files::Files;
+use os_files::listed::Listed;
+use os_files::os_bytes::OsBytes;
+use std::alloc::{AllocError, Global};
+
+/// A C compiler: what is known of it, how it reads words, and the commands for it.
+pub trait CCompilerImpl {
+    /// The kind, by whose tables its words are read.
+    ghost kind_of: { Self → CCompilerKind };
+
+    /// What is known of it beside its kind.
+    ghost traits: { Self → Traits };
+
+    fn kind(&self) -> CCompilerKind
+        ensures { result ≡ kind_of self.now };
+
+    /// Whether it compiles C++ by itself.
+    fn plusplus(&self) -> bool
+        ensures { result ≡ (traits self.now).plusplus };
+
+    fn version(&self) -> Option<&str>
+        ensures { option_map text_in result ≡ (traits self.now).version };
+
+    fn assembler_digest(&self) -> Option<&str>
+        ensures { option_map text_in result ≡ (traits self.now).assembler_digest };
+
+    /// What these words come to, in that directory.
+    fn parse_arguments<F: Files>(
+        &self,
+        alloc: Global,
+        words: &[OsBytes],
+        dir: &OsBytes,
+        files: &mut F,
+    ) -> Result<CompilerArguments<ParsedArguments>, ParseFault>
+        ensures decision { IfOk result (λ answer. decision_of answer ≡ parse_of (kind_of self.now) words.now) }
+        ensures memory { IfErr result (λ fault. fault ≡ ParseFault.Memory) }
+        ensures input { IfOk result (λ answer. HasSafeInputIn (kind_of self.now) (decision_of answer)) }
+        ensures object { IfOk result (λ answer. HasObjectIn (decision_of answer)) }
+        ensures files { files.new ≡ files.old };
+
+    /// The words of the preprocess command.
+    fn preprocess_words(
+        &self,
+        alloc: Global,
+        parsed: &ParsedArguments,
+    ) -> Result<Listed<OsBytes>, AllocError>
+        ensures words { IfOk result (λ words. words ≡ preprocess_words parsed.now) }
+        ensures again { IfOk result (λ words. ReadsAsPreprocess (kind_of self.now) parsed.now words) };
+
+    /// The compile command: this executable with the request's words, in that directory, under these variables.
+    fn generate_compile_commands(
+        &self,
+        alloc: Global,
+        executable: &OsBytes,
+        parsed: &ParsedArguments,
+        dir: &OsBytes,
+        env: &[(OsBytes, OsBytes)],
+    ) -> Result<(SingleCompileCommand, Cacheable), CommandError>
+        ensures command { IfOk result (λ made. made.0 ≡ command_at executable.now (compile_words (kind_of self.now) parsed.now (output_path parsed.now)) env.now dir.now) }
+        ensures cacheable { IfOk result (λ made. made.1 ≡ Cacheable.Yes) }
+        ensures missing { IsErrOf result CommandError.NoObjOutput ↔ (object_path parsed.now ≡ None) }
+        ensures again { IfOk result (λ made. ReadsAsCompile (kind_of self.now) parsed.now made.0.arguments) };
+
+    /// Runs the preprocess command: what it prints is what the tool means by what the compiler's tables read of it.
+    fn preprocess<F: Files, T: Preprocessor>(
+        &self,
+        alloc: Global,
+        executable: &OsBytes,
+        parsed: &ParsedArguments,
+        dir: &OsBytes,
+        env: &[(OsBytes, OsBytes)],
+        moment: i64,
+        files: &mut F,
+        tool: &mut T,
+    ) -> Result<Printed, ToolFail>
+        ensures answer { IfOk result (λ p. made_of p.status (Some p.text ∷ []) ≡ T.meaning tool.old Step.Preprocess (reading_of (kind_of self.now) (preprocess_words parsed.now)) [] (scene_with executable.now dir.now env.now (F.tree files.old) moment)) }
+        ensures meaning { T.meaning tool.new ≡ T.meaning tool.old }
+        ensures tree { F.tree files.new ≡ F.tree files.old }
+        ensures device { IsErrOf result ToolFail.Device → (T.failed tool.new ≡ ticked (T.failed tool.old)) × T.fails_in tool.old Step.Preprocess tool.new }
+        ensures steady { (IsErrOf result ToolFail.Device → ⊥) → (T.failed tool.new ≡ T.failed tool.old) × (F.failed files.new ≡ F.failed files.old) }
+        ensures runs { (IsErrOf result ToolFail.Memory → ⊥) → T.preprocessed tool.new ≡ ticked (T.preprocessed tool.old) }
+        ensures compiles { T.compiled tool.new ≡ T.compiled tool.old }
+    {
+        let words = self.preprocess_words(alloc, parsed)?;
+        let command = command_at(alloc, executable, words, env, dir)?;
+        tool.preprocess(alloc, self.kind(), &command, files, moment)
+    }
+}
+
+impl CCompilerImpl for Gcc {
+    ghost kind_of = { λ _. CCompilerKind.Gcc };
+
+    ghost traits = { λ gcc. gcc };
+
+    fn kind(&self) -> CCompilerKind {
+        CCompilerKind::Gcc
+    }
+
+    fn plusplus(&self) -> bool {
+        Gcc::plusplus(self)
+    }
+
+    fn version(&self) -> Option<&str> {
+        Gcc::version(self)
+    }
+
+    fn assembler_digest(&self) -> Option<&str> {
+        Gcc::assembler_digest(self)
+    }
+
+    fn parse_arguments<F: Files>(
+        &self,
+        alloc: Global,
+        words: &[OsBytes],
+        dir: &OsBytes,
+        files: &mut F,
+    ) -> Result<CompilerArguments<ParsedArguments>, ParseFault> {
+        Gcc::parse_arguments(self, alloc, words, dir, files)
+    }
+
+    fn preprocess_words(
+        &self,
+        alloc: Global,
+        parsed: &ParsedArguments,
+    ) -> Result<Listed<OsBytes>, AllocError> {
+        Gcc::preprocess_words(self, alloc, parsed)
+    }
+
+    fn generate_compile_commands(
+        &self,
+        alloc: Global,
+        executable: &OsBytes,
+        parsed: &ParsedArguments,
+        dir: &OsBytes,
+        env: &[(OsBytes, OsBytes)],
+    ) -> Result<(SingleCompileCommand, Cacheable), CommandError> {
+        Gcc::generate_compile_commands(self, alloc, executable, parsed, dir, env)
+    }
+}
+
+impl CCompilerImpl for Clang {
+    ghost kind_of = { λ _. CCompilerKind.Clang };
+
+    ghost traits = { λ clang. clang };
+
+    fn kind(&self) -> CCompilerKind {
+        CCompilerKind::Clang
+    }
+
+    fn plusplus(&self) -> bool {
+        Clang::plusplus(self)
+    }
+
+    fn version(&self) -> Option<&str> {
+        Clang::version(self)
+    }
+
+    fn assembler_digest(&self) -> Option<&str> {
+        Clang::assembler_digest(self)
+    }
+
+    fn parse_arguments<F: Files>(
+        &self,
+        alloc: Global,
+        words: &[OsBytes],
+        dir: &OsBytes,
+        files: &mut F,
+    ) -> Result<CompilerArguments<ParsedArguments>, ParseFault> {
+        Clang::parse_arguments(self, alloc, words, dir, files)
+    }
+
+    fn preprocess_words(
+        &self,
+        alloc: Global,
+        parsed: &ParsedArguments,
+    ) -> Result<Listed<OsBytes>, AllocError> {
+        Clang::preprocess_words(self, alloc, parsed)
+    }
+
+    fn generate_compile_commands(
+        &self,
+        alloc: Global,
+        executable: &OsBytes,
+        parsed: &ParsedArguments,
+        dir: &OsBytes,
+        env: &[(OsBytes, OsBytes)],
+    ) -> Result<(SingleCompileCommand, Cacheable), CommandError> {
+        Clang::generate_compile_commands(self, alloc, executable, parsed, dir, env)
+    }
+}

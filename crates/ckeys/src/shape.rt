@@ -1,0 +1,16 @@
+//! What the hashed bytes of a request don't tell.
+
+use cmdlines_tables::language::Language;
+use os_files::listed::Listed;
+
+/// The language, how long the digests are, and how many words and variables there are. The text's length is no part of
+/// it, so equal texts that came of different ones have equal shapes.
+#[derive(Drop)]
+pub struct CShape {
+    pub language: Language,
+    pub compiler_digest: usize,
+    pub words: usize,
+    pub extra_hashes: Listed<usize>,
+    pub assembler_digest: Option<usize>,
+    pub variables: usize,
+}
