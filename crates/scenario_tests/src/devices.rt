@@ -2,6 +2,9 @@
 
 ghost use Rattle.scenario_tests.specs.Idle.{idle};
 
+use ckeys::fault::Fault;
+use ckeys::preprocessor::{Preprocessor, Printed, Ticks, ToolFail};
+use ckeys::step::Step;
 use cmdlines::gcc::Gcc;
 use cmdlines_base::command::{ArtifactDescriptor, SingleCompileCommand};
 use cmdlines_tables::compiler::CCompilerKind;
@@ -14,10 +17,7 @@ use std::test::Fail;
 use wrap::session::{Config, Session};
 use wrap_base::compiler::Compiler;
 use wrap_base::fail_tool::FailTool;
-use wrap_base::fault::Fault;
-use wrap_base::preprocessor::{Preprocessor, Printed, Ticks, ToolFail};
 use wrap_base::request::Request;
-use wrap_base::step::Step;
 use wrap_base::tool::{Compiled, Tool};
 
 /// A tool that prints nothing, makes nothing, and ends with status 0.

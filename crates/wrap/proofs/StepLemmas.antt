@@ -7,15 +7,15 @@ use Rattle.cmdlines_base.specs.declared.command.SingleCompileCommand.{SingleComp
 use Rattle.cmdlines.specs.declared.parsed.ParsedArguments.{ParsedArguments}
 use Rattle.cmdlines_tables.specs.Tables.{reading_of}
 use Rattle.cmdlines_tables.specs.declared.compiler.CCompilerKind.{CCompilerKind}
-use Rattle.wrap_base.specs.Meaning.{Meaning, Made, made_of, names_of, scene_of}
+use Rattle.ckeys.specs.Meaning.{Meaning, Made, made_of, names_of, scene_of}
 use Rattle.wrap_base.specs.Commands.{compile_command_of, kind_of}
 use Rattle.wrap_base.specs.Account.{Work, scene_at, work_at, missing, all, collected, IsFresh, compile_fault_of}
 use Rattle.wrap_base.specs.declared.answer.Output.{Output}
-use Rattle.wrap_base.specs.declared.fault.Fault.{Fault}
-use Rattle.wrap_base.specs.declared.fault.Fault.TheVariants.{Memory, Tool, PreprocessFailed, CompileFailed, MissingOutput}
+use Rattle.ckeys.specs.declared.fault.Fault.{Fault}
+use Rattle.ckeys.specs.declared.fault.Fault.TheVariants.{Memory, Read, Tool, PreprocessFailed, CompileFailed, MissingOutput}
 use Rattle.wrap_base.specs.declared.request.Request.{Request}
-use Rattle.wrap_base.specs.declared.step.Step.{Step}
-use Rattle.wrap_base.specs.declared.step.Step.TheVariants.{Compile}
+use Rattle.ckeys.specs.declared.step.Step.{Step}
+use Rattle.ckeys.specs.declared.step.Step.TheVariants.{Compile}
 use Rattle.wrap.specs.Steps.{CollectCause, CompileCause}
 
 -- what the compile command is answered is the fresh outcome
@@ -51,6 +51,7 @@ module _ (w : Work) (status : ℤ) (files : List (Option Bytes)) (made : made_of
   pub collect_cause : status ≡ pos 0 → (device_in : Step → Type 0) (result : Result (List Output) Fault) → IfErr result (CollectCause (collected w.outputs files)) → IfErr result (CompileCause w device_in)
   collect_cause zero device_in (Ok map) h = tt
   collect_cause zero device_in (Err Memory) h = tt
+  collect_cause zero device_in (Err (Read path)) h = absurd h
   collect_cause zero device_in (Err (Tool step)) h = absurd h
   collect_cause zero device_in (Err (PreprocessFailed s)) h = absurd h
   collect_cause zero device_in (Err (CompileFailed s)) h = absurd h

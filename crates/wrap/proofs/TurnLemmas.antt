@@ -2,7 +2,7 @@
 use Rattle.std.proofs.Common.{◌≡◌, ℕ, List, Some, None, Result, Ok, Err, IsErrOf, IsErrAnd, refl, sym, ap, subst, ◌∙◌, arith}
 use Rattle.os_files.specs.Bytes.{ticked}
 use Rattle.os_files.specs.Tree.{Tree}
-use Rattle.wrap_base.specs.Meaning.{Meaning, FailsIn}
+use Rattle.ckeys.specs.Meaning.{Meaning, FailsIn}
 use Rattle.wrap_base.specs.Commands.{kind_of}
 use Rattle.wrap_base.specs.Verdict.{Why, Decision, verdict_of}
 use Rattle.wrap_base.specs.Account.{Account, passed, worked, Work, scene_at, account_by, account_at, why_passed, outputs_in, preprocess_fault_of, compile_fault_of, or_else, first_fault_of, fresh_outputs_of}
@@ -10,11 +10,11 @@ use Rattle.wrap_base.specs.Answers.{AreFresh, Says, IsPassed, outcome_by, outcom
 use Rattle.wrap_base.specs.declared.answer.Answer.{Answer}
 use Rattle.wrap_base.specs.declared.answer.Answer.TheVariants.{Pass, Outputs}
 use Rattle.wrap_base.specs.declared.answer.Output.{Output}
-use Rattle.wrap_base.specs.declared.fault.Fault.{Fault}
-use Rattle.wrap_base.specs.declared.fault.Fault.TheVariants.{Memory, Tool, PreprocessFailed, CompileFailed, MissingOutput}
+use Rattle.ckeys.specs.declared.fault.Fault.{Fault}
+use Rattle.ckeys.specs.declared.fault.Fault.TheVariants.{Memory, Read, Tool, PreprocessFailed, CompileFailed, MissingOutput}
 use Rattle.wrap_base.specs.declared.request.Request.{Request}
-use Rattle.wrap_base.specs.declared.step.Step.{Step}
-use Rattle.wrap_base.specs.declared.step.Step.TheVariants.{Preprocess, Compile}
+use Rattle.ckeys.specs.declared.step.Step.{Step}
+use Rattle.ckeys.specs.declared.step.Step.TheVariants.{Preprocess, Compile}
 use Rattle.wrap.specs.Steps.{CompileCause}
 
 -- the account of a request goes by its verdict
@@ -58,6 +58,7 @@ exactly meaning failed fails_in old new a (Ok (Outputs map how dep_info)) says m
     let o = fresh_outputs a map says.2 in
     rw (n, says.3, o) refl
 exactly meaning failed fails_in old new a (Err Memory) says memory steady = absurd (memory refl)
+exactly meaning failed fails_in old new a (Err (Read path)) says memory steady = absurd says
 exactly meaning failed fails_in old new a (Err (Tool step)) says memory steady = absurd (never_same (failed old) (failed says.from) (failed new) says.steady says.ticks steady)
 exactly meaning failed fails_in old new a (Err (PreprocessFailed status)) says memory steady = fault_outcome a (PreprocessFailed status) says
 exactly meaning failed fails_in old new a (Err (CompileFailed status)) says memory steady = fault_outcome a (CompileFailed status) says
@@ -70,6 +71,7 @@ since meaning failed fails_in old mid new same steady step f = record { from = f
 -- the cause of a compile's fault is the call's, where the preprocessor had none
 pub compile_says : (w : Work) (device_in later : Step → Type 0) (fault : Fault) → preprocess_fault_of w.printed ≡ None → ((step : Step) → later step → device_in step) → CompileCause w later fault → Says (worked w) device_in (Err fault)
 compile_says w device_in later Memory fine lift h = tt
+compile_says w device_in later (Read path) fine lift h = absurd h
 compile_says w device_in later (Tool Preprocess) fine lift h = absurd h
 compile_says w device_in later (Tool Compile) fine lift h = lift Compile h
 compile_says w device_in later (PreprocessFailed status) fine lift h = absurd h

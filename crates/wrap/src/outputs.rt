@@ -5,13 +5,13 @@ ghost use Rattle.std.specs.Vec.Iter.{into_iter_items};
 ghost use Rattle.wrap_base.specs.Account.{collected, all, first_file, files_behind};
 ghost use Rattle.wrap.specs.Steps.{CollectCause};
 
+use ckeys::fault::Fault;
 use cmdlines_base::command::ArtifactDescriptor;
 use os_files::listed::Listed;
 use os_files::os_bytes::OsBytes;
 use std::alloc::Global;
 use std::vec::IntoIter;
 use wrap_base::answer::Output;
-use wrap_base::fault::Fault;
 
 /// Takes the next file, where there is one and it was made.
 fn next_file(rest: &mut IntoIter<Option<OsBytes>>) -> Option<OsBytes>

@@ -6,14 +6,14 @@ ghost use Rattle.std.specs.Io.KnownBytes.{IsAtEnd};
 use crate::scenario::{ScenarioCall, ScenarioFault, read_scenario};
 use crate::script::ScriptTool;
 use crate::session::{Config, Session};
+use ckeys::fault::Fault;
+use ckeys::preprocessor::Preprocessor;
 use os_files::listed::Listed;
 use std::alloc::{AllocError, AllocFailed, Global};
 use std::io;
 use std::io::{ErrorKind, Read, Write};
 use thiserror::Error;
 use wrap_base::answer::{Answer, How, Output};
-use wrap_base::fault::Fault;
-use wrap_base::preprocessor::Preprocessor;
 
 /// Why a run stopped.
 #[derive(Debug, Drop, Error)]

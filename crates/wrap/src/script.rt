@@ -3,16 +3,16 @@
 ghost use Rattle.std.specs.Prelude.{◌≡◌, ℤ, IfOk, IsErrOf, option_and_then};
 ghost use Rattle.os_files.specs.Bytes.{ticked};
 ghost use Rattle.cmdlines_tables.specs.Tables.{reading_of};
-ghost use Rattle.wrap_base.specs.Meaning.{StepTicks, scene_of};
+ghost use Rattle.ckeys.specs.Meaning.{StepTicks, scene_of};
 ghost use Rattle.wrap.specs.Scripted.{scripted, text_of, input_of};
 
 use crate::scripting::{compiled, printed, text_of};
+use ckeys::preprocessor::{Preprocessor, Printed, Ticks, ToolFail};
 use cmdlines_base::command::{ArtifactDescriptor, SingleCompileCommand};
 use cmdlines_tables::compiler::CCompilerKind;
 use os_files::files::{FileFail, Files};
 use os_files::os_bytes::OsBytes;
 use std::alloc::Global;
-use wrap_base::preprocessor::{Preprocessor, Printed, Ticks, ToolFail};
 use wrap_base::tool::{Compiled, Tool};
 
 /// A tool that counts how often its steps ran and a device failed in them.

@@ -7,11 +7,12 @@ ghost use Rattle.cmdlines_base.specs.Table.{all_entries};
 ghost use Rattle.cmdlines_base.specs.Reading.{reading};
 ghost use Rattle.cmdlines_tables.specs.Tables.{ends_options, reading_of};
 ghost use Rattle.cmdlines_tables.specs.Values.{placed};
-ghost use Rattle.wrap_base.specs.Meaning.{names_of, made_of, scene_of};
+ghost use Rattle.ckeys.specs.Meaning.{names_of, made_of, scene_of};
 ghost use Rattle.wrap.specs.Lines.{lines};
 ghost use Rattle.wrap.specs.Scripted.{only, input_in, input_of, marker, inclusion, replaced, whole, text_at, text_of, holds, printed, compiled};
 
 use crate::lines::{included, push_with_end, split_line};
+use ckeys::preprocessor::Printed;
 use cmdlines_base::argument::Argument;
 use cmdlines_base::argument_error::ArgParseError;
 use cmdlines_base::command::{ArtifactDescriptor, SingleCompileCommand};
@@ -27,7 +28,6 @@ use os_files::listed::Listed;
 use os_files::os_bytes::OsBytes;
 use os_files::path::join;
 use std::alloc::{AllocError, Global};
-use wrap_base::preprocessor::Printed;
 use wrap_base::tool::Compiled;
 
 /// The one of the words, where there is one.

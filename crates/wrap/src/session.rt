@@ -1,7 +1,7 @@
 //! The session that answers requests.
 
 ghost use Rattle.std.specs.Prelude.{◌≡◌, IfOk, IsErrOf};
-ghost use Rattle.wrap_base.specs.Meaning.{FailsIn};
+ghost use Rattle.ckeys.specs.Meaning.{FailsIn};
 ghost use Rattle.wrap_base.specs.Verdict.{Why};
 ghost use Rattle.wrap_base.specs.Commands.{kind_of};
 ghost use Rattle.wrap_base.specs.Account.{worked, scene_at, work_at, account_at, why_passed};
@@ -10,10 +10,10 @@ ghost use Rattle.wrap_base.specs.Answers.{Says, IsPassed, OnPass, Compiles, outc
 
 use crate::steps::{compiled_outputs, preprocessed_text};
 use crate::verdict::{Plan, Verdict, judge};
+use ckeys::fault::Fault;
 use os_files::files::Files;
 use std::alloc::Global;
 use wrap_base::answer::{Answer, How};
-use wrap_base::fault::Fault;
 use wrap_base::request::Request;
 use wrap_base::tool::Tool;
 

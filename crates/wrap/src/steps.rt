@@ -1,7 +1,7 @@
 //! The calls of a tool that a session makes.
 
 ghost use Rattle.std.specs.Prelude.{◌≡◌, Some, None, IfOk, IfErr, OnOk};
-ghost use Rattle.wrap_base.specs.Meaning.{FailsIn};
+ghost use Rattle.ckeys.specs.Meaning.{FailsIn};
 ghost use Rattle.wrap_base.specs.Commands.{kind_of};
 ghost use Rattle.wrap_base.specs.Account.{scene_at, work_at, preprocess_fault_of, IsFresh};
 ghost use Rattle.wrap.specs.Plans.{IsPlanOf};
@@ -9,15 +9,15 @@ ghost use Rattle.wrap.specs.Steps.{PreprocessCause, CompileCause, RanOnce};
 
 use crate::outputs::collected;
 use crate::verdict::Plan;
+use ckeys::fault::Fault;
+use ckeys::preprocessor::ToolFail;
+use ckeys::step::Step;
 use os_files::files::Files;
 use os_files::listed::Listed;
 use os_files::os_bytes::OsBytes;
 use std::alloc::Global;
 use wrap_base::answer::Output;
-use wrap_base::fault::Fault;
-use wrap_base::preprocessor::ToolFail;
 use wrap_base::request::Request;
-use wrap_base::step::Step;
 use wrap_base::tool::Tool;
 
 /// The text that the preprocessor prints.

@@ -8,6 +8,7 @@ ghost use Rattle.wrap_base.specs.Commands.{kind_of};
 ghost use Rattle.wrap_base.specs.Verdict.{with_hazards, verdict_of};
 ghost use Rattle.wrap.specs.Plans.{decision_of, IsPlanOf, IsReadAgain, OnAsks};
 
+use ckeys::fault::Fault;
 use cmdlines::command::{CommandError, command_at};
 use cmdlines::compiler_arguments::{CompilerArguments, ParseFault};
 use cmdlines::hazards::{empty_value, opens_file};
@@ -15,7 +16,6 @@ use cmdlines::parsed::ParsedArguments;
 use cmdlines_base::command::SingleCompileCommand;
 use os_files::files::Files;
 use std::alloc::{AllocError, Global};
-use wrap_base::fault::Fault;
 use wrap_base::reason::Reason;
 use wrap_base::request::Request;
 

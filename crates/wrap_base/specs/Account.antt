@@ -9,14 +9,14 @@ use Rattle.cmdlines.specs.Parsing.{Artifacts}
 use Rattle.cmdlines.specs.declared.parsed.ParsedArguments.{ParsedArguments}
 use Rattle.cmdlines_tables.specs.Tables.{reading_of}
 use Rattle.cmdlines_tables.specs.declared.compiler.CCompilerKind.{CCompilerKind}
-use Rattle.wrap_base.specs.Meaning.{Scene, Made, Meaning, names_of}
+use Rattle.ckeys.specs.Meaning.{Scene, Made, Meaning, names_of}
 use Rattle.wrap_base.specs.Commands.{kind_of, executable_of}
 use Rattle.wrap_base.specs.Verdict.{Why, Decision, passes, asks, verdict_of}
 use Rattle.wrap_base.specs.declared.answer.Output.{Output}
-use Rattle.wrap_base.specs.declared.fault.Fault.{Fault}
-use Rattle.wrap_base.specs.declared.fault.Fault.TheVariants.{PreprocessFailed, CompileFailed, MissingOutput}
+use Rattle.ckeys.specs.declared.fault.Fault.{Fault}
+use Rattle.ckeys.specs.declared.fault.Fault.TheVariants.{PreprocessFailed, CompileFailed, MissingOutput}
 use Rattle.wrap_base.specs.declared.request.Request.{Request}
-use Rattle.wrap_base.specs.declared.step.Step.TheVariants.{Preprocess, Compile}
+use Rattle.ckeys.specs.declared.step.Step.TheVariants.{Preprocess, Compile}
 
 -- a call that isn't passed through: its outputs, what the tool's meaning gives for its preprocess command, and its fresh outcome, which is what the meaning gives for its compile command
 pub record Work : Type 0 where

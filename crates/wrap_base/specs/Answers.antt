@@ -7,21 +7,22 @@ use Rattle.wrap_base.specs.declared.answer.Answer.{Answer}
 use Rattle.wrap_base.specs.declared.answer.Answer.TheVariants.{Pass, Outputs}
 use Rattle.wrap_base.specs.declared.answer.How.TheVariants.{Fresh}
 use Rattle.wrap_base.specs.declared.answer.Output.{Output}
-use Rattle.wrap_base.specs.declared.fault.Fault.{Fault}
-use Rattle.wrap_base.specs.declared.fault.Fault.TheVariants.{Memory, Tool, PreprocessFailed, CompileFailed, MissingOutput}
-use Rattle.wrap_base.specs.declared.step.Step.{Step}
-use Rattle.wrap_base.specs.declared.step.Step.TheVariants.{Preprocess, Compile}
+use Rattle.ckeys.specs.declared.fault.Fault.{Fault}
+use Rattle.ckeys.specs.declared.fault.Fault.TheVariants.{Memory, Read, Tool, PreprocessFailed, CompileFailed, MissingOutput}
+use Rattle.ckeys.specs.declared.step.Step.{Step}
+use Rattle.ckeys.specs.declared.step.Step.TheVariants.{Preprocess, Compile}
 
 -- the outputs are the call's fresh ones
 abbrev pub AreFresh : Account → List Output → Type 0
 AreFresh (passed why) outputs = ⊥
 AreFresh (worked w) outputs = IsFresh w outputs
 
--- What an answer says: a request is passed through for the verdict's reason; outputs are the fresh ones, and then the call has no fault; a fault is that of a device in that step, or exactly the first one in the order of the steps.
+-- What an answer says: a request is passed through for the verdict's reason; outputs are the fresh ones, and then the call has no fault; a fault is that of a device in that step, or exactly the first one in the order of the steps, and never `Read`.
 abbrev pub Says : Account → (Step → Type 0) → Result Answer Fault → Type 0
 Says a device_in (Ok (Pass reason)) = why_passed a ≡ Some (why_of reason)
 Says a device_in (Ok (Outputs map how dep_info)) = (how ≡ Fresh) × (dep_info ≡ None) × AreFresh a map × (first_fault_of a ≡ None)
 Says a device_in (Err Memory) = Unit {0}
+Says a device_in (Err (Read path)) = ⊥
 Says a device_in (Err (Tool step)) = device_in step
 Says a device_in (Err (PreprocessFailed status)) = first_fault_of a ≡ Some (PreprocessFailed status)
 Says a device_in (Err (CompileFailed status)) = first_fault_of a ≡ Some (CompileFailed status)
@@ -42,6 +43,7 @@ abbrev pub Compiles : Result Answer Fault → ℕ → ℕ → Type 0
 Compiles (Ok (Pass reason)) before after = after ≡ before
 Compiles (Ok (Outputs map how dep_info)) before after = Once before after
 Compiles (Err Memory) before after = (after ≡ before) ⊎ Once before after
+Compiles (Err (Read path)) before after = after ≡ before
 Compiles (Err (Tool Preprocess)) before after = after ≡ before
 Compiles (Err (Tool Compile)) before after = Once before after
 Compiles (Err (PreprocessFailed status)) before after = after ≡ before

@@ -1,4 +1,3 @@
-pub mod Meaning
 pub mod Commands
 pub mod Verdict
 pub mod Account

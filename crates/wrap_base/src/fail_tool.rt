@@ -2,11 +2,11 @@
 
 ghost use Rattle.std.specs.Prelude.{◌≡◌, ◌⊎◌, ◌+◌, ◌%◌, ◌^◌, None, Some, OnOk, OnErr, IfErr};
 ghost use Rattle.os_files.specs.Bytes.{ticked};
-ghost use Rattle.wrap_base.specs.Meaning.{StepTicks};
+ghost use Rattle.ckeys.specs.Meaning.{StepTicks};
 
-use crate::preprocessor::{Preprocessor, Printed, Ticks, ToolFail};
-use crate::step::Step;
 use crate::tool::{Compiled, Tool};
+use ckeys::preprocessor::{Preprocessor, Printed, Ticks, ToolFail};
+use ckeys::step::Step;
 use cmdlines_base::command::{ArtifactDescriptor, SingleCompileCommand};
 use cmdlines_tables::compiler::CCompilerKind;
 use os_files::files::Files;

@@ -3,10 +3,10 @@
 ghost use Rattle.std.specs.Prelude.{◌≡◌, ◌⊎◌, IfOk, IsErrOf};
 ghost use Rattle.os_files.specs.Bytes.{ticked};
 ghost use Rattle.cmdlines_tables.specs.Tables.{reading_of};
-ghost use Rattle.wrap_base.specs.Meaning.{scene_of, made_of, names_of};
+ghost use Rattle.ckeys.specs.Meaning.{scene_of, made_of, names_of};
 
-use crate::preprocessor::{Preprocessor, ToolFail};
-use crate::step::Step;
+use ckeys::preprocessor::{Preprocessor, ToolFail};
+use ckeys::step::Step;
 use cmdlines_base::command::{ArtifactDescriptor, SingleCompileCommand};
 use cmdlines_tables::compiler::CCompilerKind;
 use os_files::files::Files;

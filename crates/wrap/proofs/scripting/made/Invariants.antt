@@ -1,5 +1,5 @@
 use Rattle.std.proofs.Common.{◌≡◌, take, map, Some}
-use Rattle.wrap_base.specs.Meaning.{names_of}
+use Rattle.ckeys.specs.Meaning.{names_of}
 use Rattle.wrap.proofs.scripting.made.Given as goal
 
 abbrev pub invariant-loop-output : goal.invariant-loop-output

@@ -1,6 +1,6 @@
 use Rattle.wrap_base.specs.Account.{worked, scene_at, work_at}
 use Rattle.wrap_base.specs.Commands.{kind_of}
-use Rattle.wrap_base.specs.Meaning.{FailsIn}
+use Rattle.ckeys.specs.Meaning.{FailsIn}
 use Rattle.wrap.proofs.TurnLemmas.{since, compile_says, on_exit}
 use Rattle.wrap.proofs.session.fresh_answer.Goals as goal
 

@@ -1,9 +1,9 @@
 use Rattle.std.proofs.Common.{◌≡◌, rules, pos}
 use Rattle.cmdlines_tables.specs.Tables.{reading_of}
-use Rattle.wrap_base.specs.declared.step.Step.TheVariants.{Compile}
+use Rattle.ckeys.specs.declared.step.Step.TheVariants.{Compile}
 use Rattle.wrap_base.specs.Account.{scene_at, work_at}
 use Rattle.wrap_base.specs.Commands.{kind_of}
-use Rattle.wrap_base.specs.Meaning.{FailsIn, made_of, names_of, scene_of}
+use Rattle.ckeys.specs.Meaning.{FailsIn, made_of, names_of, scene_of}
 use Rattle.wrap.proofs.StepLemmas.{fresh_is, made_fresh, collect_cause}
 use Rattle.wrap.proofs.steps.compiled_outputs.Goals as goal
 

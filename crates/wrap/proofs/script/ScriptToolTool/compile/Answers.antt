@@ -1,5 +1,5 @@
 use Rattle.std.proofs.Common.{◌∙◌, ap}
-use Rattle.wrap_base.specs.Meaning.{names_of}
+use Rattle.ckeys.specs.Meaning.{names_of}
 use Rattle.wrap.specs.Scripted.{compiled}
 use Rattle.wrap.proofs.script.ScriptToolTool.compile.Goals as goal
 

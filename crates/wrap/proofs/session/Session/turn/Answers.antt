@@ -1,6 +1,6 @@
 use Rattle.std.proofs.Common.{◌≡◌, ap, sym, subst}
 use Rattle.wrap_base.specs.Commands.{kind_of}
-use Rattle.wrap_base.specs.Meaning.{FailsIn}
+use Rattle.ckeys.specs.Meaning.{FailsIn}
 use Rattle.wrap_base.specs.Verdict.{passes, asks, why_of, verdict_of}
 use Rattle.wrap_base.specs.Account.{Account, why_passed}
 use Rattle.wrap_base.specs.Answers.{Says}
