@@ -3,4 +3,3 @@ pub mod FeedLemmas
 pub mod KeyLemmas
 pub mod FolderLemmas
 pub mod CallLemmas
-pub mod WordEnds

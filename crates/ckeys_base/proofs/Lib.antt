@@ -9,4 +9,3 @@ pub mod ThreeDigits
 pub mod EscapeReadings
 pub mod SearchPath
 pub mod Slashes
-pub mod KeptBytes

@@ -1,10 +1,7 @@
 pub mod StepLemmas
 pub mod PlanLemmas
-pub mod KeyLemmas
-pub mod TurnLemmas
-pub mod CallSteps
-pub mod RunSteps
 pub mod GatherLemmas
+pub mod TurnLemmas
 mod LineLaws
 mod HoldLaws
 mod TextLaws

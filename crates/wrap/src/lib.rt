@@ -2,8 +2,6 @@
 #![tactic(auto)]
 
 mod byte_text;
-mod keys;
-pub mod laws;
 mod lines;
 mod outputs;
 pub mod program;

@@ -1,2 +1,0 @@
-pub mod KeyEquality
-pub mod EmptiedShelf
