@@ -3,3 +3,4 @@ pub mod FeedLemmas
 pub mod KeyLemmas
 pub mod FolderLemmas
 pub mod CallLemmas
+pub mod WordEnds

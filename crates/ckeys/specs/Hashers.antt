@@ -1,5 +1,5 @@
 -- The call that a key is made of.
-use Rattle.std.specs.Prelude.{ℤ, List, string_bytes}
+use Rattle.std.specs.Prelude.{ℤ, List}
 use Rattle.os_files.specs.Bytes.{Bytes}
 use Rattle.os_files.specs.Tree.{Tree}
 use Rattle.cmdlines.specs.Compilers.{Traits}
@@ -12,25 +12,25 @@ use Rattle.ckeys.specs.declared.hasher.CCompilerHasher.{CCompilerHasher}
 -- what the hasher's compiler is and its request asks for, in that directory, under these variables, at that moment, without these folders, on these files
 abbrev pub call_of : {I : Type 0} → (I → CCompilerKind) → (I → Traits) → CCompilerHasher I → Bytes → Variables → ℤ → List Bytes → Tree → KeyCall
 call_of kind_of traits hasher dir env moment folders files = record {
-  kind = kind_of hasher.compiler.now.compiler;
-  traits = traits hasher.compiler.now.compiler;
-  compiler_digest = string_bytes hasher.compiler.now.executable_digest;
+  kind = kind_of hasher.compiler.now;
+  traits = traits hasher.compiler.now;
+  compiler_digest = hasher.executable_digest.now;
   parsed = hasher.parsed.now;
-  scene = scene_with hasher.compiler.now.executable dir env files moment;
+  scene = scene_with hasher.executable.now dir env files moment;
   folders = folders;
 }
 
 -- what is handed in for its key: these variables, the folders that don't count, these digests of extra files, and this text
 abbrev pub handed_by : {I : Type 0} → (I → Traits) → CCompilerHasher I → Variables → List Bytes → List Bytes → Bytes → Handed
 handed_by traits hasher env folders extra text = record {
-  compiler_digest = string_bytes hasher.compiler.now.executable_digest;
+  compiler_digest = hasher.executable_digest.now;
   language = hasher.parsed.now.language;
   arguments = hasher.parsed.now.common_args;
   arch_args = hasher.parsed.now.arch_args;
   preprocessor_output = text;
   extra_hashes = extra;
   env_vars = env;
-  plusplus = (traits hasher.compiler.now.compiler).plusplus;
+  plusplus = (traits hasher.compiler.now).plusplus;
   basedirs = folders;
-  assembler_digest = (traits hasher.compiler.now.compiler).assembler_digest;
+  assembler_digest = (traits hasher.compiler.now).assembler_digest;
 }

@@ -6,6 +6,7 @@ use Rattle.cmdlines_base.specs.Reading.{Reading}
 use Rattle.cmdlines_base.specs.declared.command.SingleCompileCommand.{SingleCompileCommand}
 use Rattle.cmdlines.specs.Parsing.{Artifacts}
 use Rattle.cmdlines_tables.specs.declared.kind.ArgKind.{ArgKind}
+use Rattle.ckeys.specs.declared.output_name.OutputName.{OutputName}
 use Rattle.ckeys.specs.declared.step.Step.{Step}
 use Rattle.ckeys.specs.declared.step.Step.TheVariants.{Preprocess, Compile}
 
@@ -20,11 +21,6 @@ pub record Scene : Type 0 where
   pub env : Variables
   pub files : Tree
   pub moment : ℤ
-
--- an output that is asked for: its name, and whether a compile may leave it out
-pub record OutputName : Type 0 where
-  pub name : Bytes
-  pub optional : Bool
 
 -- how a step ended, and for each output that was asked for its contents, or that it wasn't made
 pub record Made : Type 0 where

@@ -44,9 +44,16 @@ parts_of digest_of r = record {
   text = r.text;
 }
 
--- the byte 255, which ends a word, isn't in it
+-- the byte 255, which ends a word, is in it
+abbrev pub holds_end : Bytes → Bool
+holds_end word = list_any (λ b. b == 255) word
+
+-- it is in one of these words
+abbrev pub hold_end : List Bytes → Bool
+hold_end words = list_any holds_end words
+
 abbrev pub LacksEnd : Bytes → Type 0
-LacksEnd word = list_any (λ b. b == 255) word ≡ false
+LacksEnd word = holds_end word ≡ false
 
 -- lengths that are told fit 64 bits
 abbrev pub FitsLength : Variable → Type 0

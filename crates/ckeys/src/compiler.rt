@@ -10,8 +10,10 @@ ghost use Rattle.ckeys.specs.Compilers.{compiler_digest_of, ExecutableCause, wit
 
 use crate::compiler_impl::CCompilerImpl;
 use crate::fault::Fault;
+use crate::hasher::CCompilerHasher;
 use ckeys_base::digest::Digest;
 use ckeys_base::hash_state::HashState;
+use cmdlines::parsed::ParsedArguments;
 use os_files::files::{FileFail, Files};
 use os_files::os_bytes::OsBytes;
 use std::alloc::{AllocError, Global};
@@ -35,6 +37,21 @@ impl<I> CCompiler<I> {
             compiler,
             executable,
             executable_digest: digest,
+        }
+    }
+
+    /// What makes the keys of requests to it that ask for this. It takes no memory.
+    pub fn hasher<'a>(&'a self, parsed: &'a ParsedArguments) -> CCompilerHasher<'a, I>
+        ensures compiler { result.compiler.now ≡ self.now.compiler }
+        ensures executable { result.executable.now ≡ self.now.executable }
+        ensures digest { result.executable_digest.now ≡ string_bytes self.now.executable_digest }
+        ensures parsed { result.parsed.now ≡ parsed.now }
+    {
+        CCompilerHasher {
+            compiler: &self.compiler,
+            executable: &self.executable,
+            executable_digest: self.executable_digest.as_str(),
+            parsed,
         }
     }
 }

@@ -13,7 +13,6 @@ ghost use Rattle.ckeys.specs.Params.{is_cached, parts_handed};
 ghost use Rattle.ckeys.specs.Records.{FitsLength};
 ghost use Rattle.ckeys_base.specs.Hex.{hex_of};
 
-use crate::compiler::CCompiler;
 use crate::compiler_impl::CCompilerImpl;
 use crate::config::KeyConfig;
 use crate::fault::Fault;
@@ -32,7 +31,10 @@ use std::alloc::{AllocError, Global};
 /// What a request asks for, and of which compiler.
 #[derive(Drop)]
 pub struct CCompilerHasher<'a, I> {
-    pub compiler: &'a CCompiler<I>,
+    pub compiler: &'a I,
+    pub executable: &'a OsBytes,
+    /// The digest that stands for the compiler.
+    pub executable_digest: &'a str,
     pub parsed: &'a ParsedArguments,
 }
 
@@ -73,11 +75,9 @@ impl<'a, I: CCompilerImpl + Drop> CCompilerHasher<'a, I> {
         if !needs_c_preprocessing(self.parsed.language) {
             return needed_contents(alloc, dir, &self.parsed.input, files);
         }
-        let compiler = &self.compiler.compiler;
-        let executable = &self.compiler.executable;
-        match compiler.preprocess(
+        match self.compiler.preprocess(
             alloc,
-            executable,
+            self.executable,
             self.parsed,
             dir,
             env,
@@ -106,15 +106,15 @@ impl<'a, I: CCompilerImpl + Drop> CCompilerHasher<'a, I> {
         ensures shape { let handed = handed_by I.traits self.now env.now folders.now (map string_bytes extra.now) text.now in IfOk result (λ made. made.1 ≡ shape_of (parts_handed handed)) }
         ensures fit { OnOk result (AllByRecursion FitsLength (filter is_cached env.now)) }
     {
-        let digest = self.compiler.executable_digest.as_str();
+        let digest = self.executable_digest;
         let words = self.parsed.common_args.as_slice();
         HashKeyParams::new(digest, self.parsed.language, words, text)
             .with_arch_args(self.parsed.arch_args.as_slice())
             .with_extra_hashes(extra)
             .with_env_vars(env)
-            .with_plusplus(self.compiler.compiler.plusplus())
+            .with_plusplus(self.compiler.plusplus())
             .with_basedirs(folders)
-            .with_assembler_digest(self.compiler.compiler.assembler_digest())
+            .with_assembler_digest(self.compiler.assembler_digest())
             .compute::<H>(alloc)
     }
 

@@ -8,10 +8,12 @@ pub mod fault;
 pub mod hasher;
 pub mod laws;
 mod needed;
+pub mod output_name;
 pub mod params;
 pub mod preprocessor;
 pub mod shape;
 pub mod step;
+pub mod word_end;
 
 pub use ckeys_base::digest::{Digest, Error, HASH_BUFFER_SIZE};
 pub use ckeys_base::duration::fmt_duration_as_secs;

@@ -9,3 +9,4 @@ pub mod ThreeDigits
 pub mod EscapeReadings
 pub mod SearchPath
 pub mod Slashes
+pub mod KeptBytes

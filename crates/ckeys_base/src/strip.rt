@@ -1,8 +1,10 @@
 //! Texts and arguments without the folders that are no part of a key.
 
-ghost use Rattle.std.specs.Prelude.{◌≡◌, ◌↔◌, ◌<◌, ◌≤◌, ℕ, List, [], IfOk, length};
+ghost use Rattle.std.specs.Prelude.{◌≡◌, ◌↔◌, ◌<◌, ◌≤◌, ℕ, Bool, false, List, [], IfOk, length};
+ghost use Rattle.std.specs.List.{list_any};
 ghost use Rattle.std.specs.Cow.{cow_slice_items, IsBorrowedSlice};
-ghost use Rattle.ckeys_base.specs.FolderPlaces.{text_places, argument_places, longest};
+ghost use Rattle.os_files.specs.Bytes.{Bytes};
+ghost use Rattle.ckeys_base.specs.FolderPlaces.{Places, text_places, argument_places, longest};
 ghost use Rattle.ckeys_base.specs.FromTheLeft.{places_of, stripped_of};
 ghost use Rattle.ckeys_base.specs.Stripping.{IsStripping, HasExactlyOne, left_by};
 
@@ -101,3 +103,8 @@ fn joined(
     }
     Ok(kept)
 }
+
+/// Stripping adds no byte: what no byte of a text is, none of what is left is. Calls of it do nothing.
+pub fn stripping_adds_no_byte()
+    ensures { (places : Places) (folders : List Bytes) (text : Bytes) (test : ℕ → Bool) → list_any test text ≡ false → list_any test (stripped_of places folders text) ≡ false }
+{}

@@ -8,7 +8,7 @@ use ckeys::compiler::CCompiler;
 use ckeys::compiler_impl::CCompilerImpl;
 use ckeys::config::KeyConfig;
 use ckeys::fault::Fault;
-use ckeys::hasher::{CCompilerHasher, needs_c_preprocessing};
+use ckeys::hasher::needs_c_preprocessing;
 use ckeys::preprocessor::Preprocessor;
 use ckeys::shape::CShape;
 use ckeys::step::Step;
@@ -57,10 +57,7 @@ fn call<I: CCompilerImpl + Drop, F: Files>(
     let parsed = parsed(alloc, &compiler.compiler, line)?;
     let dir = OsBytes::from_slice(alloc, place.dir.as_bytes())?;
     let config = KeyConfig::new(alloc, place.folders)?;
-    let hasher = CCompilerHasher {
-        compiler,
-        parsed: &parsed,
-    };
+    let hasher = compiler.hasher(&parsed);
     Ok(hasher.generate_hash_key::<Sha256, F, PrintTool>(
         alloc, &dir, place.env, 0, &config, files, tool,
     ))

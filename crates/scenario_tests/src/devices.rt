@@ -2,6 +2,8 @@
 
 ghost use Rattle.scenario_tests.specs.Idle.{idle};
 
+use ckeys::compiler::CCompiler;
+use ckeys::config::KeyConfig;
 use ckeys::fault::Fault;
 use ckeys::preprocessor::{Preprocessor, Printed, Ticks, ToolFail};
 use ckeys::step::Step;
@@ -12,12 +14,15 @@ use os_files::files::Files;
 use os_files::listed::Listed;
 use os_files::memory_files::MemoryFiles;
 use os_files::os_bytes::OsBytes;
+use sha2::Sha256;
 use std::alloc::{AllocError, Global};
 use std::test::Fail;
-use wrap::session::{Config, Session};
+use wrap::session::Session;
 use wrap_base::compiler::Compiler;
 use wrap_base::fail_tool::FailTool;
+use wrap_base::map_store::MapStore;
 use wrap_base::request::Request;
+use wrap_base::store_key::StoreKey;
 use wrap_base::tool::{Compiled, Tool};
 
 /// A tool that prints nothing, makes nothing, and ends with status 0.
@@ -94,15 +99,27 @@ fn request(alloc: Global) -> Result<Request, Fail> {
     let mut words = Vec::new(alloc);
     words.push(OsBytes::from_slice(alloc, b"-c")?)?;
     words.push(OsBytes::from_slice(alloc, b"foo.c")?)?;
-    let gcc = Gcc::new(alloc, false, None, None)?;
-    let executable = OsBytes::from_slice(alloc, b"gcc")?;
+    let gcc = CCompiler::with_digest(
+        Gcc::new(alloc, false, None, None)?,
+        OsBytes::from_slice(alloc, b"gcc")?,
+        String::from_str(alloc, "d")?,
+    );
     Ok(Request {
-        compiler: Compiler::Gcc { gcc, executable },
+        compiler: Compiler::Gcc(gcc),
         words: Listed::from_vec(words),
         dir: OsBytes::from_slice(alloc, b"/w")?,
         env: Listed::from_vec(Vec::new(alloc)),
         moment: 0,
     })
+}
+
+/// What is kept of each request.
+type Kept = MapStore<StoreKey, Listed<(OsBytes, OsBytes)>>;
+
+/// A session without folders over an empty store.
+fn session(alloc: Global) -> Result<Session<Sha256, Kept>, Fail> {
+    let config = KeyConfig::new(alloc, &[])?;
+    Ok(Session::new(alloc, config, MapStore::new(alloc)))
 }
 
 #[test]
@@ -111,7 +128,7 @@ fn a_device_is_named_by_its_step(rt: HostRuntime) -> Result<(), Fail> {
     let request = request(alloc)?;
     let mut files = MemoryFiles::new(alloc);
     for (calls_left, step, compiles) in [(0, Step::Preprocess, 1), (1, Step::Compile, 2)] {
-        let mut session = Session::new(alloc, Config::new());
+        let mut session = session(alloc)?;
         let mut tool = FailTool::new(IdleTool::new(), calls_left);
         let first = session.serve(&request, &mut files, &mut tool);
         assert!(rt; matches!(first, Err(Fault::Tool(failed)) if failed == step));
@@ -131,7 +148,7 @@ fn an_output_that_is_not_made_is_named(rt: HostRuntime) -> Result<(), Fail> {
     let request = request(alloc)?;
     let mut files = MemoryFiles::new(alloc);
     let mut tool = IdleTool::new();
-    let mut session = Session::new(alloc, Config::new());
+    let mut session = session(alloc)?;
     let answer = session.serve(&request, &mut files, &mut tool);
     let Err(Fault::MissingOutput(name)) = answer else {
         assert!(rt; false);

@@ -1,7 +1,10 @@
 pub mod StepLemmas
 pub mod PlanLemmas
-pub mod GatherLemmas
+pub mod KeyLemmas
 pub mod TurnLemmas
+pub mod CallSteps
+pub mod RunSteps
+pub mod GatherLemmas
 mod LineLaws
 mod HoldLaws
 mod TextLaws

@@ -9,8 +9,7 @@ use Rattle.cmdlines_tables.specs.Tables.{reading_of}
 use Rattle.cmdlines_tables.specs.declared.compiler.CCompilerKind.{CCompilerKind}
 use Rattle.ckeys.specs.Meaning.{Meaning, Made, made_of, names_of, scene_of}
 use Rattle.wrap_base.specs.Commands.{compile_command_of, kind_of}
-use Rattle.wrap_base.specs.Account.{Work, scene_at, work_at, missing, all, collected, IsFresh, compile_fault_of}
-use Rattle.wrap_base.specs.declared.answer.Output.{Output}
+use Rattle.wrap_base.specs.Account.{Work, call_at, work_at, missing, all, collected, Pairs, IsSuccess, compile_fault_of}
 use Rattle.ckeys.specs.declared.fault.Fault.{Fault}
 use Rattle.ckeys.specs.declared.fault.Fault.TheVariants.{Memory, Read, Tool, PreprocessFailed, CompileFailed, MissingOutput}
 use Rattle.wrap_base.specs.declared.request.Request.{Request}
@@ -21,8 +20,8 @@ use Rattle.wrap.specs.Steps.{CollectCause, CompileCause}
 -- what the compile command is answered is the fresh outcome
 pub fresh_is : (meaning : Meaning) (tree : Tree) (request : Request) (p : ParsedArguments) (kind : CCompilerKind) (command : SingleCompileCommand) (status : ℤ) (files : List (Option Bytes)) → kind ≡ kind_of request.compiler → command ≡ compile_command_of request p
     → made_of status files ≡ meaning Compile (reading_of kind command.arguments) (names_of p.outputs) (scene_of command tree request.moment)
-    → made_of status files ≡ (work_at meaning (kind_of request.compiler) (scene_at request tree) p).fresh
-fresh_is meaning tree request p kind command status files k e answer =
+    → (folders : List Bytes) → made_of status files ≡ (work_at meaning (call_at request tree folders p)).fresh
+fresh_is meaning tree request p kind command status files k e answer folders =
     answer ∙ ap (λ x. meaning Compile (reading_of x command.arguments) (names_of p.outputs) (scene_of command tree request.moment)) k
     ∙ ap (λ (c : SingleCompileCommand). meaning Compile (reading_of (kind_of request.compiler) c.arguments) (names_of p.outputs) (scene_of c tree request.moment)) e
 
@@ -30,26 +29,26 @@ module _ (w : Work) (status : ℤ) (files : List (Option Bytes)) (made : made_of
   status_is : status ≡ w.fresh.status
   status_is = ap (λ m. m.status) made
 
-  collected_is : collected w.outputs files ≡ collected w.outputs w.fresh.files
-  collected_is = ap (λ (m : Made). collected w.outputs m.files) made
+  collected_is : collected (names_of w.outputs) files ≡ collected (names_of w.outputs) w.fresh.files
+  collected_is = ap (λ (m : Made). collected (names_of w.outputs) m.files) made
 
   fault_at : (b : Bool) → int_eq status (pos 0) ≡ b → int_eq w.fresh.status (pos 0) ≡ b
   fault_at b h = sym (ap (λ s. int_eq s (pos 0)) status_is) ∙ h
 
   -- status 0 and all that was gathered
-  pub made_fresh : status ≡ pos 0 → (result : Result (List Output) Fault) → IfOk result (λ map. collected w.outputs files ≡ all map) → IfOk result (IsFresh w)
-  made_fresh zero (Ok map) h = record { succeeded = sym status_is ∙ zero; made = sym collected_is ∙ h }
+  pub made_fresh : status ≡ pos 0 → (result : Result Pairs Fault) → IfOk result (λ pairs. collected (names_of w.outputs) files ≡ all pairs) → IfOk result (IsSuccess w)
+  made_fresh zero (Ok pairs) h = record { succeeded = sym status_is ∙ zero; made = sym collected_is ∙ h }
   made_fresh zero (Err fault) h = tt
 
-  missing_at : (name : Bytes) → status ≡ pos 0 → collected w.outputs files ≡ missing name → compile_fault_of w ≡ Some (MissingOutput name)
+  missing_at : (name : Bytes) → status ≡ pos 0 → collected (names_of w.outputs) files ≡ missing name → compile_fault_of w ≡ Some (MissingOutput name)
   missing_at name zero h =
       let ok : int_eq w.fresh.status (pos 0) ≡ true = fault_at true (ap (λ s. int_eq s (pos 0)) zero) in
-      let c : collected w.outputs w.fresh.files ≡ missing name = sym collected_is ∙ h in
+      let c : collected (names_of w.outputs) w.fresh.files ≡ missing name = sym collected_is ∙ h in
       rw (ok, c) refl
 
   -- status 0 and an output that is missing
-  pub collect_cause : status ≡ pos 0 → (device_in : Step → Type 0) (result : Result (List Output) Fault) → IfErr result (CollectCause (collected w.outputs files)) → IfErr result (CompileCause w device_in)
-  collect_cause zero device_in (Ok map) h = tt
+  pub collect_cause : status ≡ pos 0 → (device_in : Step → Type 0) (result : Result Pairs Fault) → IfErr result (CollectCause (collected (names_of w.outputs) files)) → IfErr result (CompileCause w device_in)
+  collect_cause zero device_in (Ok pairs) h = tt
   collect_cause zero device_in (Err Memory) h = tt
   collect_cause zero device_in (Err (Read path)) h = absurd h
   collect_cause zero device_in (Err (Tool step)) h = absurd h

@@ -1,84 +1,190 @@
--- What an answer says of its account.
-use Rattle.std.proofs.Common.{◌≡◌, ℕ, List, Some, None, Result, Ok, Err, IsErrOf, IsErrAnd, refl, sym, ap, subst, ◌∙◌, arith}
-use Rattle.os_files.specs.Bytes.{ticked}
-use Rattle.os_files.specs.Tree.{Tree}
+-- How a call ends, by what the look-up and the put said.
+use Rattle.std.proofs.Common.{◌≡◌, ℕ, List, Bool, true, Option, Some, None, IsSome, IsNone, Result, Ok, Err, ◌⊎◌, inl, inr, refl, sym, ap, subst, ◌∙◌, IsErrAnd}
+use Rattle.std.specs.Option.{option_map}
+use Rattle.std.proofs.lemmas.Result.{err_from_is_err_and}
+use Rattle.os_files.specs.Bytes.{Bytes, ticked}
+use Rattle.ckeys_base.specs.Shelf.{Shelf, Asks, Puts, Forgotten}
 use Rattle.ckeys.specs.Meaning.{Meaning, FailsIn}
-use Rattle.wrap_base.specs.Commands.{kind_of}
-use Rattle.wrap_base.specs.Verdict.{Why, Decision, verdict_of}
-use Rattle.wrap_base.specs.Account.{Account, passed, worked, Work, scene_at, account_by, account_at, why_passed, outputs_in, preprocess_fault_of, compile_fault_of, or_else, first_fault_of, fresh_outputs_of}
-use Rattle.wrap_base.specs.Answers.{AreFresh, Says, IsPassed, outcome_by, outcome_of, has_fault}
-use Rattle.wrap_base.specs.declared.answer.Answer.{Answer}
-use Rattle.wrap_base.specs.declared.answer.Answer.TheVariants.{Pass, Outputs}
-use Rattle.wrap_base.specs.declared.answer.Output.{Output}
+use Rattle.ckeys.specs.Records.{AreTold}
 use Rattle.ckeys.specs.declared.fault.Fault.{Fault}
 use Rattle.ckeys.specs.declared.fault.Fault.TheVariants.{Memory, Read, Tool, PreprocessFailed, CompileFailed, MissingOutput}
-use Rattle.wrap_base.specs.declared.request.Request.{Request}
 use Rattle.ckeys.specs.declared.step.Step.{Step}
 use Rattle.ckeys.specs.declared.step.Step.TheVariants.{Preprocess, Compile}
-use Rattle.wrap.specs.Steps.{CompileCause}
+use Rattle.wrap_base.specs.Account.{Account, passed, worked, Work, Pairs, IsSuccess, placed}
+use Rattle.wrap_base.specs.Answers.{Says, SaysWorked}
+use Rattle.wrap_base.specs.Keys.{store_key_of}
+use Rattle.wrap_base.specs.Turn.{StoreTurn, StillKept, MissTurn, Told, ToldBy}
+use Rattle.wrap_base.specs.declared.answer.Answer.{Answer}
+use Rattle.wrap_base.specs.declared.answer.Answer.TheVariants.{Outputs}
+use Rattle.wrap_base.specs.declared.answer.How.TheVariants.{Stored, Fresh}
+use Rattle.wrap_base.specs.declared.answer.Output.{Output}
+use Rattle.wrap_base.specs.declared.store_key.StoreKey.{StoreKey}
+use Rattle.wrap.specs.Steps.{CompileCause, RanOnce}
 
--- the account of a request goes by its verdict
-pub account_is : (meaning : Meaning) (tree : Tree) (request : Request) (d : Decision) → d ≡ verdict_of (kind_of request.compiler) request.words → account_at meaning tree request ≡ account_by meaning (kind_of request.compiler) (scene_at request tree) d
-account_is meaning tree request d h = ap (account_by meaning (kind_of request.compiler) (scene_at request tree)) (sym h)
+some_or_none : {A : Type 0} (o : Option A) → IsSome o ⊎ (o ≡ None)
+some_or_none None = inr refl
+some_or_none (Some x) = inl refl
 
--- a request that is passed through
-pub why_is : (a : Account) (why other : Why) → a ≡ passed why → why_passed a ≡ Some other → why ≡ other
-why_is a why other e h = let s : Some why ≡ Some other = sym (ap why_passed e) ∙ h in cc
+-- what was found is held, on the paths of the request
+some_pairs : (place : Pairs → List Output) (found : List Output) (answer : Option Pairs) → Some found ≡ option_map place answer → (pairs : Pairs) × (answer ≡ Some pairs) × (found ≡ place pairs)
+some_pairs place found None e = cc
+some_pairs place found (Some pairs) e = (pairs, refl, cc)
 
--- a request that isn't is passed through for no reason
-pub not_passed : (a : Account) (w : Work) (why : Why) (result : Result Answer Fault) → a ≡ worked w → why_passed a ≡ Some why → IsPassed why result
-not_passed a w why result e h = let s : None ≡ Some why = sym (ap why_passed e) ∙ h in cc
+-- nothing was found, so nothing is held
+pub nothing : (place : Pairs → List Output) (found : Option (List Output)) (answer : Option Pairs) → found ≡ None → found ≡ option_map place answer → answer ≡ None
+nothing place found None none e = refl
+nothing place found (Some pairs) none e = let h : None ≡ Some (place pairs) = sym none ∙ e in cc
 
--- fresh outputs are those of the account
-fresh_outputs : (a : Account) (outputs : List Output) → AreFresh a outputs → fresh_outputs_of a ≡ outputs
-fresh_outputs (passed why) outputs h = absurd h
-fresh_outputs (worked w) outputs h = ap outputs_in h.made
+not_forgotten : (before answer : Option Pairs) (pairs : Pairs) → answer ≡ Some pairs → Forgotten before answer → ⊥
+not_forgotten before answer pairs e f = let h = rw e at f.1 in cc
 
-fresh_unpassed : (a : Account) (outputs : List Output) → AreFresh a outputs → why_passed a ≡ None
-fresh_unpassed (passed why) outputs h = absurd h
-fresh_unpassed (worked w) outputs h = refl
+some_is_not_none : (o p : Option Pairs) → o ≡ p → IsSome p → IsNone o → ⊥
+some_is_not_none o p e s n = let h = rw e at n in cc
 
--- a call with a fault isn't passed through
-fault_unpassed : (a : Account) (fault : Fault) → first_fault_of a ≡ Some fault → why_passed a ≡ None
-fault_unpassed (passed why) fault h = cc
-fault_unpassed (worked w) fault h = refl
+-- a look-up that dropped nothing forgot nothing
+asks_kept : (old asked : Shelf StoreKey Pairs) (key : StoreKey) (answer : Option Pairs) → Asks old asked key answer → asked.kept ≡ true → StillKept old asked
+asks_kept old asked key answer asks h = record { was = (asks.kept.0 h).0; keys = (asks.kept.0 h).1; steady = asks.steady (λ f. some_is_not_none _ _ asks.value ((asks.kept.0 h).1 key f.0) f.1) }
 
-fault_outcome : (a : Account) (fault : Fault) → first_fault_of a ≡ Some fault → has_fault fault ≡ outcome_of a
-fault_outcome a fault h = let n = fault_unpassed a fault h in rw (n, h) refl
+-- a put that lost nothing holds its pair
+put_holds : (eq : StoreKey → StoreKey → Bool) (new : Shelf StoreKey Pairs) (key : StoreKey) (value : Pairs) (asked : Shelf StoreKey Pairs) (put : Result (Unit {0}) (StoreKey × Pairs)) → Puts eq asked new key value put → new.kept ≡ true → new.held key ≡ Some value
+put_holds eq new key value asked (Ok u) puts kept = puts.outcome
+put_holds eq new key value asked (Err pair) puts kept = let refused = (puts.kept.0 kept).2 in cc
 
-never_same : (n m k : ℕ) → m ≡ n → k ≡ ticked m → k ≡ n → ⊥
-never_same n m k p q r = omega (arith, p, q, r)
+module _ (digest_of : Bytes → Bytes) (w : Work) (key : StoreKey) (is_key : key ≡ store_key_of digest_of w) (old asked : Shelf StoreKey Pairs) (answer : Option Pairs) (asks : Asks old asked key answer) where
+  -- the look-up failed for memory
+  pub turn_ask_failed : (before after : ℕ) → after ≡ before → (result : Result Answer Fault) → IsErrAnd result (λ f. f ≡ Memory) → StoreTurn digest_of (worked w) old asked before after result
+  turn_ask_failed before after same result err =
+      let p = err_from_is_err_and result err in
+      rw (p.1, p.2) (record {
+        gains = λ k v h. inl (asks.within k v h);
+        faulted = asks.within;
+        kept = asks_kept old asked key answer asks;
+        cleared = asks.cleared;
+        told = inl same;
+      })
 
--- where no growth is refused and no device fails, the answer is the account's alone
-pub exactly : {T : Type 0} (meaning : T → Meaning) (failed : T → ℕ) (fails_in : T → Step → T → Type 0) (old new : T) (a : Account) (result : Result Answer Fault)
-    → Says a (FailsIn meaning failed fails_in old new) result → (IsErrOf result Memory → ⊥) → failed new ≡ failed old → outcome_by result ≡ outcome_of a
-exactly meaning failed fails_in old new a (Ok (Pass reason)) says memory steady = rw says refl
-exactly meaning failed fails_in old new a (Ok (Outputs map how dep_info)) says memory steady =
-    let n = fresh_unpassed a map says.2 in
-    let o = fresh_outputs a map says.2 in
-    rw (n, says.3, o) refl
-exactly meaning failed fails_in old new a (Err Memory) says memory steady = absurd (memory refl)
-exactly meaning failed fails_in old new a (Err (Read path)) says memory steady = absurd says
-exactly meaning failed fails_in old new a (Err (Tool step)) says memory steady = absurd (never_same (failed old) (failed says.from) (failed new) says.steady says.ticks steady)
-exactly meaning failed fails_in old new a (Err (PreprocessFailed status)) says memory steady = fault_outcome a (PreprocessFailed status) says
-exactly meaning failed fails_in old new a (Err (CompileFailed status)) says memory steady = fault_outcome a (CompileFailed status) says
-exactly meaning failed fails_in old new a (Err (MissingOutput name)) says memory steady = fault_outcome a (MissingOutput name) says
+  -- what the look-up found is answered
+  pub turn_stored : (before after : ℕ) → after ≡ before → AreTold w.rec.words w.rec.variables → (found : List Output) → Some found ≡ option_map (placed w.outputs) answer → StoreTurn digest_of (worked w) old asked before after (Ok (Outputs found Stored None))
+  turn_stored before after same told found e =
+      let it = some_pairs (placed w.outputs) found answer e in
+      record {
+        gains = λ k v h. inl (asks.within k v h);
+        faulted = tt;
+        kept = asks_kept old asked key answer asks;
+        cleared = asks.cleared;
+        told = (
+          it.0,
+          it.2,
+          record {
+            held = ap old.held (sym is_key) ∙ asks.within key it.0 (sym asks.value ∙ it.1);
+            steady = asks.steady (not_forgotten (old.held key) answer it.0 it.1);
+            no_compile = same;
+            told = told;
+          },
+        );
+      }
 
--- a device that failed in a later step failed in the call
-pub since : {T : Type 0} (meaning : T → Meaning) (failed : T → ℕ) (fails_in : T → Step → T → Type 0) (old mid new : T) → meaning mid ≡ meaning old → failed mid ≡ failed old → (step : Step) → FailsIn meaning failed fails_in mid new step → FailsIn meaning failed fails_in old new step
-since meaning failed fails_in old mid new same steady step f = record { from = f.from; same = f.same ∙ same; steady = f.steady ∙ steady; ticks = f.ticks; leads = f.leads }
+  -- nothing was found
+  lacked : answer ≡ None → (new : Shelf StoreKey Pairs) → new.forgets ≡ asked.forgets → (old.held (store_key_of digest_of w) ≡ None) ⊎ (new.forgets ≡ ticked old.forgets)
+  lacked none new same = elim (some_or_none (old.held key)) [
+    | inl some ↦ inr (same ∙ asks.forgot (some, rw none refl))
+    | inr not ↦ inl (ap old.held (sym is_key) ∙ not)
+  ]
 
--- the cause of a compile's fault is the call's, where the preprocessor had none
-pub compile_says : (w : Work) (device_in later : Step → Type 0) (fault : Fault) → preprocess_fault_of w.printed ≡ None → ((step : Step) → later step → device_in step) → CompileCause w later fault → Says (worked w) device_in (Err fault)
-compile_says w device_in later Memory fine lift h = tt
-compile_says w device_in later (Read path) fine lift h = absurd h
-compile_says w device_in later (Tool Preprocess) fine lift h = absurd h
-compile_says w device_in later (Tool Compile) fine lift h = lift Compile h
-compile_says w device_in later (PreprocessFailed status) fine lift h = absurd h
-compile_says w device_in later (CompileFailed status) fine lift h = ap (λ o. or_else o (compile_fault_of w)) fine ∙ h
-compile_says w device_in later (MissingOutput name) fine lift h = ap (λ o. or_else o (compile_fault_of w)) fine ∙ h
+  module _ (none : answer ≡ None) (before mid after : ℕ) (steady : mid ≡ before) where
+    miss : (new : Shelf StoreKey Pairs) → new.forgets ≡ asked.forgets → after ≡ ticked mid → MissTurn digest_of w old new before after
+    miss new same ran = record { lacked = lacked none new same; compile = ran ∙ ap ticked steady }
 
--- what a fault says is what the answer says that it became
-pub on_exit : (a : Account) (device_in : Step → Type 0) (result : Result Answer Fault) (fault : Fault) → IsErrAnd result (λ f. f ≡ fault) → Says a device_in (Err fault) → Says a device_in result
-on_exit a device_in (Ok answer) fault h says = absurd h
-on_exit a device_in (Err f) fault h says = subst (λ x. Says a device_in (Err x)) (sym h) says
+    told_fault : (device_in : Step → Type 0) (fault : Fault) → CompileCause w device_in fault → RanOnce {A = Pairs} (Err fault) mid after → Told digest_of w old asked before after (Err fault)
+    told_fault device_in Memory h (inl same) = inl (same ∙ steady)
+    told_fault device_in Memory h (inr ran) = inr (miss asked refl ran)
+    told_fault device_in (Read name) h ran = absurd h
+    told_fault device_in (Tool Compile) h ran = miss asked refl ran
+    told_fault device_in (Tool Preprocess) h ran = absurd h
+    told_fault device_in (PreprocessFailed status) h ran = absurd h
+    told_fault device_in (CompileFailed status) h ran = miss asked refl ran
+    told_fault device_in (MissingOutput name) h ran = miss asked refl ran
+
+    -- the compile failed
+    pub turn_compile_failed : (device_in : Step → Type 0) (fault : Fault) → CompileCause w device_in fault → RanOnce {A = Pairs} (Err fault) mid after → (result : Result Answer Fault) → IsErrAnd result (λ f. f ≡ fault) → StoreTurn digest_of (worked w) old asked before after result
+    turn_compile_failed device_in fault cause ran result err =
+        let p = err_from_is_err_and result err in
+        rw (p.1, p.2) (record {
+          gains = λ k v h. inl (asks.within k v h);
+          faulted = asks.within;
+          kept = asks_kept old asked key answer asks;
+          cleared = asks.cleared;
+          told = told_fault device_in fault cause ran;
+        })
+
+    -- the copy failed for memory
+    pub turn_copy_failed : after ≡ ticked mid → (result : Result Answer Fault) → IsErrAnd result (λ f. f ≡ Memory) → StoreTurn digest_of (worked w) old asked before after result
+    turn_copy_failed ran result err =
+        let p = err_from_is_err_and result err in
+        rw (p.1, p.2) (record {
+          gains = λ k v h. inl (asks.within k v h);
+          faulted = asks.within;
+          kept = asks_kept old asked key answer asks;
+          cleared = asks.cleared;
+          told = inr (miss asked refl ran);
+        })
+
+    -- a fresh output is put, and answered
+    pub turn_fresh : after ≡ ticked mid → AreTold w.rec.words w.rec.variables → (eq : StoreKey → StoreKey → Bool) → ((a b : StoreKey) → eq a b ≡ true → a ≡ b)
+        → (new : Shelf StoreKey Pairs) (value : Pairs) (map : List Output) (put : Result (Unit {0}) (StoreKey × Pairs)) → Puts eq asked new key value put → IsSuccess w value → map ≡ placed w.outputs value → StoreTurn digest_of (worked w) old new before after (Ok (Outputs map Fresh None))
+    turn_fresh ran told eq equal new value map put puts made same = record {
+      gains = λ k v h. elim (puts.gains k v h) [
+        | inl was ↦ inl (asks.within k v was)
+        | inr own ↦ inr (record { is_key = equal k key own.0 ∙ is_key; made = subst (IsSuccess w) (sym own.1) made; told = told })
+      ];
+      faulted = tt;
+      kept = λ h. let p = puts.kept.0 h in let q = asks_kept old asked key answer asks p.0 in record { was = q.was; keys = λ k s. p.1 k (q.keys k s); steady = puts.steady ∙ q.steady };
+      cleared = puts.cleared ∙ asks.cleared;
+      told = (
+        value,
+        same,
+        record {
+          miss = miss new puts.steady ran;
+          made = made;
+          holds = λ h. ap new.held (sym is_key) ∙ put_holds eq new key value asked put puts h;
+        },
+      );
+    }
+
+-- a failure after calls that didn't fail
+pub fails_in_later : {T : Type 0} (meaning : T → Meaning) (failed : T → ℕ) (fails_in : T → Step → T → Type 0) (old mid new : T) → meaning mid ≡ meaning old → failed mid ≡ failed old → (step : Step) → FailsIn meaning failed fails_in mid new step → FailsIn meaning failed fails_in old new step
+fails_in_later meaning failed fails_in old mid new m f step h = record { from = h.from; same = h.same ∙ m; steady = h.steady ∙ f; ticks = h.ticks; leads = h.leads }
+
+-- the compile failed
+pub compile_says : (w : Work) (on_file : Bytes → Type 0) (device_in later_in : Step → Type 0) → ((step : Step) → later_in step → device_in step) → w.fault ≡ None → (fault : Fault) → CompileCause w later_in fault → (result : Result Answer Fault) → IsErrAnd result (λ f. f ≡ fault) → SaysWorked w on_file device_in result
+compile_says w on_file device_in later_in more none fault cause result err = let p = err_from_is_err_and result err in rw (p.1, p.2) (says fault cause)
+  where
+    says : (f : Fault) → CompileCause w later_in f → SaysWorked w on_file device_in (Err f)
+    says Memory h = tt
+    says (Read name) h = absurd h
+    says (Tool Preprocess) h = absurd h
+    says (Tool Compile) h = more Compile h
+    says (PreprocessFailed status) h = absurd h
+    says (CompileFailed status) h = (none, h)
+    says (MissingOutput name) h = (none, h)
+
+-- memory was refused before the request was looked at to its end
+pub memory_says : (a : Account) (on_file : Bytes → Type 0) (device_in : Step → Type 0) (fault : Fault) → fault ≡ Memory → (result : Result Answer Fault) → IsErrAnd result (λ f. f ≡ fault) → Says a on_file device_in result
+memory_says a on_file device_in fault memory result err = let p = err_from_is_err_and result err in rw (p.1, p.2, memory) (says a)
+  where
+    says : (b : Account) → Says b on_file device_in (Err Memory)
+    says (passed why) = refl
+    says (worked w) = tt
+
+pub memory_turn : (digest_of : Bytes → Bytes) (a : Account) (shelf : Shelf StoreKey Pairs) (count : ℕ) (fault : Fault) → fault ≡ Memory → (result : Result Answer Fault) → IsErrAnd result (λ f. f ≡ fault) → StoreTurn digest_of a shelf shelf count count result
+memory_turn digest_of a shelf count fault memory result err = let p = err_from_is_err_and result err in rw (p.1, p.2, memory) (record {
+  gains = λ key pairs h. inl h;
+  faulted = λ key pairs h. h;
+  kept = λ h. record { was = h; keys = λ key s. s; steady = refl };
+  cleared = refl;
+  told = told a;
+})
+  where
+    told : (b : Account) → ToldBy digest_of b shelf shelf count count (Err Memory)
+    told (passed why) = (refl, refl)
+    told (worked w) = inl refl

@@ -1,9 +1,8 @@
 -- Outputs that were gathered so far.
-use Rattle.std.specs.Prelude.{List, ◌++◌}
-use Rattle.wrap_base.specs.Account.{Collected, missing, all}
-use Rattle.wrap_base.specs.declared.answer.Output.{Output}
+use Rattle.std.specs.Prelude.{◌++◌}
+use Rattle.wrap_base.specs.Account.{Collected, missing, all, Pairs}
 
 -- what was gathered so far, and then the rest
-abbrev pub and_then : List Output → Collected → Collected
+abbrev pub and_then : Pairs → Collected → Collected
 and_then so_far (missing name) = missing name
-and_then so_far (all outputs) = all (so_far ++ outputs)
+and_then so_far (all pairs) = all (so_far ++ pairs)

@@ -1,4 +1,5 @@
 pub mod Plans
+pub mod Sessions
 pub mod Gathering
 pub mod Lines
 pub mod Steps

@@ -1,31 +1,32 @@
 -- The code's verdict, and the commands of a request that isn't passed through.
 use Rattle.std.specs.Prelude.{◌≡◌, false}
-use Rattle.cmdlines.specs.Commands.{ReadsAs, output_path, compile_items, preprocess_items}
+use Rattle.cmdlines.specs.Commands.{ReadsAs, output_path, compile_items, preprocess_items, preprocess_words}
 use Rattle.cmdlines.specs.Hazards.{opens_file}
 use Rattle.cmdlines_tables.specs.Tables.{reading_of}
-use Rattle.wrap_base.specs.Commands.{kind_of, compile_command_of, preprocess_command_of}
-use Rattle.wrap_base.specs.Verdict.{Decision, passes, asks, why_of}
+use Rattle.ckeys.specs.Records.{hold_end}
+use Rattle.wrap_base.specs.Commands.{kind_of, compile_command_of}
+use Rattle.wrap_base.specs.Verdict.{Decision, passes, asks, why_of, hashed_words}
 use Rattle.wrap_base.specs.declared.request.Request.{Request}
 use Rattle.wrap.specs.declared.verdict.Plan.{Plan}
 use Rattle.wrap.specs.declared.verdict.Verdict.{Verdict}
 use Rattle.wrap.specs.declared.verdict.Verdict.TheVariants.{Passes, Asks}
 
--- a verdict, without where its texts lie in memory and without its commands
+-- a verdict, without where its texts lie in memory and without its command
 abbrev pub decision_of : Verdict → Decision
 decision_of (Passes reason) = passes (why_of reason)
 decision_of (Asks plan) = asks plan.parsed
 
--- The plan's commands are those of the request.
+-- The plan's compile command is that of the request, and no hashed word holds the byte that ends one.
 pub record IsPlanOf (request : Request) (plan : Plan) : Type 0 where
   pub compile : plan.compile ≡ compile_command_of request plan.parsed
-  pub preprocess : plan.preprocess ≡ preprocess_command_of request plan.parsed
+  pub told : hold_end (hashed_words plan.parsed) ≡ false
 
--- The compiler reads them again as the wanted options of the request's words, beside its own words and the one input, and none of their words makes it open a file of words.
+-- The compiler reads its two commands again as the wanted options of the request's words, beside its own words and the one input, and none of their words makes it open a file of words.
 pub record IsReadAgain (request : Request) (plan : Plan) : Type 0 where
   pub compile : ReadsAs (kind_of request.compiler) plan.compile.arguments (compile_items (kind_of request.compiler) plan.parsed (output_path plan.parsed) (reading_of (kind_of request.compiler) request.words).items)
-  pub preprocess : ReadsAs (kind_of request.compiler) plan.preprocess.arguments (preprocess_items plan.parsed (reading_of (kind_of request.compiler) request.words).items)
+  pub preprocess : ReadsAs (kind_of request.compiler) (preprocess_words plan.parsed) (preprocess_items plan.parsed (reading_of (kind_of request.compiler) request.words).items)
   pub compile_opens_none : opens_file (kind_of request.compiler) plan.compile.arguments ≡ false
-  pub preprocess_opens_none : opens_file (kind_of request.compiler) plan.preprocess.arguments ≡ false
+  pub preprocess_opens_none : opens_file (kind_of request.compiler) (preprocess_words plan.parsed) ≡ false
 
 -- what holds of the plan of a request that isn't passed through
 abbrev pub OnAsks : Verdict → (Plan → Type 0) → Type 0

@@ -6,7 +6,8 @@ use Rattle.os_files.specs.Bytes.{Bytes}
 use Rattle.os_files.specs.Path.{join}
 use Rattle.cmdlines_base.specs.Reading.{Item, raw, behind_dashes, Reading}
 use Rattle.os_files.specs.Tree.{Tree, contents_at}
-use Rattle.ckeys.specs.Meaning.{Scene, OutputName, Made, Meaning, made_of}
+use Rattle.ckeys.specs.Meaning.{Scene, Made, Meaning, made_of}
+use Rattle.ckeys.specs.declared.output_name.OutputName.{OutputName}
 use Rattle.cmdlines_tables.specs.declared.kind.ArgKind.{ArgKind}
 use Rattle.ckeys.specs.declared.step.Step.TheVariants.{Preprocess, Compile}
 use Rattle.wrap.specs.Lines.{lines, with_end, included}

@@ -1,8 +1,7 @@
 -- Why the steps of a call fail.
 use Rattle.std.specs.Prelude.{◌≡◌, ◌⊎◌, ℕ, Some, Result, Ok, Err}
-use Rattle.ckeys.specs.Meaning.{Made}
-use Rattle.wrap_base.specs.Account.{Work, Collected, missing, preprocess_fault_of, compile_fault_of}
-use Rattle.wrap_base.specs.Answers.{Once}
+use Rattle.wrap_base.specs.Account.{Work, Collected, missing, compile_fault_of}
+use Rattle.os_files.specs.Bytes.{ticked}
 use Rattle.ckeys.specs.declared.fault.Fault.{Fault}
 use Rattle.ckeys.specs.declared.fault.Fault.TheVariants.{Memory, Read, Tool, PreprocessFailed, CompileFailed, MissingOutput}
 use Rattle.ckeys.specs.declared.step.Step.{Step}
@@ -17,15 +16,6 @@ CollectCause c (Tool step) = ⊥
 CollectCause c (PreprocessFailed status) = ⊥
 CollectCause c (CompileFailed status) = ⊥
 
-abbrev pub PreprocessCause : Made → (Step → Type 0) → Fault → Type 0
-PreprocessCause printed device_in Memory = Unit {0}
-PreprocessCause printed device_in (Read path) = ⊥
-PreprocessCause printed device_in (Tool Preprocess) = device_in Preprocess
-PreprocessCause printed device_in (Tool Compile) = ⊥
-PreprocessCause printed device_in (PreprocessFailed status) = preprocess_fault_of printed ≡ Some (PreprocessFailed status)
-PreprocessCause printed device_in (CompileFailed status) = ⊥
-PreprocessCause printed device_in (MissingOutput name) = ⊥
-
 abbrev pub CompileCause : Work → (Step → Type 0) → Fault → Type 0
 CompileCause w device_in Memory = Unit {0}
 CompileCause w device_in (Read path) = ⊥
@@ -34,6 +24,10 @@ CompileCause w device_in (Tool Compile) = device_in Compile
 CompileCause w device_in (PreprocessFailed status) = ⊥
 CompileCause w device_in (CompileFailed status) = compile_fault_of w ≡ Some (CompileFailed status)
 CompileCause w device_in (MissingOutput name) = compile_fault_of w ≡ Some (MissingOutput name)
+
+-- the compiler ran once
+abbrev pub Once : ℕ → ℕ → Type 0
+Once before after = after ≡ ticked before
 
 -- the compiler ran once, unless memory was refused before it, and its fault is never `Read`
 abbrev pub RanOnce : {A : Type 0} → Result A Fault → ℕ → ℕ → Type 0

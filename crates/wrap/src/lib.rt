@@ -2,6 +2,8 @@
 #![tactic(auto)]
 
 mod byte_text;
+mod keys;
+pub mod laws;
 mod lines;
 mod outputs;
 pub mod program;

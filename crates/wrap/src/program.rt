@@ -5,15 +5,20 @@ ghost use Rattle.std.specs.Io.KnownBytes.{IsAtEnd};
 
 use crate::scenario::{ScenarioCall, ScenarioFault, read_scenario};
 use crate::script::ScriptTool;
-use crate::session::{Config, Session};
+use crate::session::Session;
+use ckeys::config::KeyConfig;
 use ckeys::fault::Fault;
 use ckeys::preprocessor::Preprocessor;
 use os_files::listed::Listed;
+use os_files::os_bytes::OsBytes;
+use sha2::Sha256;
 use std::alloc::{AllocError, AllocFailed, Global};
 use std::io;
 use std::io::{ErrorKind, Read, Write};
 use thiserror::Error;
 use wrap_base::answer::{Answer, How, Output};
+use wrap_base::map_store::MapStore;
+use wrap_base::store_key::StoreKey;
 
 /// Why a run stopped.
 #[derive(Debug, Drop, Error)]
@@ -100,6 +105,13 @@ fn read_calls<R: Read>(alloc: Global, reader: &mut R) -> Result<Vec<ScenarioCall
     Ok(read_scenario(alloc, bytes.as_slice())?)
 }
 
+/// The configuration without folders.
+fn no_folders(alloc: Global) -> Result<KeyConfig, RunFault>
+    ensures fault { IfErr result (λ f. f ≡ RunFault.Memory) }
+{
+    KeyConfig::new(alloc, &[]).map_err(|_fault| RunFault::Memory)
+}
+
 /// Serves the calls in order, and writes a line for each and then how often a compiler ran.
 fn serve_calls<W: Write>(
     alloc: Global,
@@ -108,7 +120,8 @@ fn serve_calls<W: Write>(
 ) -> Result<(), RunFault>
     ensures fault { IfErr result (λ f. (f ≡ RunFault.Output) ⊎ (f ≡ RunFault.Memory)) }
 {
-    let mut session = Session::new(alloc, Config::new());
+    let objects = MapStore::<StoreKey, Listed<(OsBytes, OsBytes)>>::new(alloc);
+    let mut session = Session::<Sha256, _>::new(alloc, no_folders(alloc)?, objects);
     let mut compiles = 0u64;
     for (number, call) in (1u64..).zip(calls) {
         let ScenarioCall { request, mut files } = call;

@@ -14,6 +14,7 @@
 ghost use Rattle.std.specs.Prelude.{◌≡◌};
 
 use crate::byte_text::{read_byte_text, read_hex};
+use ckeys::compiler::CCompiler;
 use cmdlines::clang::Clang;
 use cmdlines::gcc::Gcc;
 use os_files::file_time::FileTime;
@@ -27,6 +28,9 @@ use wrap_base::request::Request;
 
 /// The directory of a request that names none.
 const DEFAULT_DIR: &[u8; 2] = b"/w";
+
+/// The digest of a compiler for which none is named.
+const DEFAULT_DIGEST: &str = "d";
 
 /// The moment of a request that names none.
 const DEFAULT_MOMENT: i64 = 1_700_000_000;
@@ -107,14 +111,16 @@ fn read_call(alloc: Global, value: Value) -> Result<ScenarioCall, ScenarioFault>
 /// The compiler of this name, whose executable is named like it.
 fn read_compiler(alloc: Global, value: &Value) -> Result<Compiler, ScenarioFault> {
     match value.as_str() {
-        Some("gcc") => Ok(Compiler::Gcc {
-            gcc: Gcc::new(alloc, false, None, None)?,
-            executable: OsBytes::from_slice(alloc, b"gcc")?,
-        }),
-        Some("clang") => Ok(Compiler::Clang {
-            clang: Clang::new(alloc, false, None, None)?,
-            executable: OsBytes::from_slice(alloc, b"clang")?,
-        }),
+        Some("gcc") => Ok(Compiler::Gcc(CCompiler::with_digest(
+            Gcc::new(alloc, false, None, None)?,
+            OsBytes::from_slice(alloc, b"gcc")?,
+            String::from_str(alloc, DEFAULT_DIGEST)?,
+        ))),
+        Some("clang") => Ok(Compiler::Clang(CCompiler::with_digest(
+            Clang::new(alloc, false, None, None)?,
+            OsBytes::from_slice(alloc, b"clang")?,
+            String::from_str(alloc, DEFAULT_DIGEST)?,
+        ))),
         _ => Err(ScenarioFault::Unreadable),
     }
 }

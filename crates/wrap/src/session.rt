@@ -1,71 +1,156 @@
 //! The session that answers requests.
 
-ghost use Rattle.std.specs.Prelude.{◌≡◌, IfOk, IsErrOf};
+ghost use Rattle.std.specs.Prelude.{◌≡◌, true, List, [], ◌∷◌, ◌++◌, length, IfOk, OnErr, IsErrOf};
+ghost use Rattle.os_files.specs.Fails.{FailsOn};
+ghost use Rattle.ckeys_base.specs.Shelf.{Clears};
 ghost use Rattle.ckeys.specs.Meaning.{FailsIn};
-ghost use Rattle.wrap_base.specs.Verdict.{Why};
-ghost use Rattle.wrap_base.specs.Commands.{kind_of};
-ghost use Rattle.wrap_base.specs.Account.{worked, scene_at, work_at, account_at, why_passed};
+ghost use Rattle.wrap_base.specs.Account.{Account, account_at, call_at, work_at, worked};
+ghost use Rattle.wrap_base.specs.Answers.{Answers, OnPass, Says, SaysWorked, settled, settled_by};
+ghost use Rattle.wrap_base.specs.Keys.{Invariant, Premises};
+ghost use Rattle.wrap_base.specs.Turn.{StoreTurn};
+ghost use Rattle.wrap_base.specs.Whole.{AllAnswer, IsEmpty, OneFresh, Run, accounts_at, files_view, served_at, tool_view};
 ghost use Rattle.wrap.specs.Plans.{IsPlanOf};
-ghost use Rattle.wrap_base.specs.Answers.{Says, IsPassed, OnPass, Compiles, outcome_by, outcome_of};
+ghost use Rattle.wrap.specs.Sessions.{held_by};
 
-use crate::steps::{compiled_outputs, preprocessed_text};
+use crate::keys::{ask, store_key};
+use crate::outputs::placed;
+use crate::steps::compiled_pairs;
 use crate::verdict::{Plan, Verdict, judge};
+use ckeys::config::KeyConfig;
 use ckeys::fault::Fault;
+use ckeys::laws::keys_tell_records;
+use ckeys::word_end::stripped_words_lack_the_end;
+use ckeys_base::hash_state::HashState;
+use ckeys_base::store::Store;
 use os_files::files::Files;
-use std::alloc::Global;
+use os_files::listed::Listed;
+use os_files::os_bytes::OsBytes;
+use std::alloc::{AllocError, Global};
+use std::marker::{Model, PhantomData};
 use wrap_base::answer::{Answer, How};
+use wrap_base::call::Call;
 use wrap_base::request::Request;
+use wrap_base::store_key::{StoreKey, keys_are_their_fields};
 use wrap_base::tool::Tool;
 
-/// What is fixed for all requests of a session.
+/// Answers requests under one configuration, from a store of what was compiled, by one hash function. Contracts see the
+/// folders that don't count, and the store.
 #[derive(Drop)]
-pub struct Config {}
-
-impl Config {
-    /// The configuration that sets nothing.
-    pub fn new() -> Config {
-        Config {}
-    }
-}
-
-/// Answers requests under one configuration.
-#[derive(Drop)]
-pub struct Session {
+pub struct Session<H, O> {
     alloc: Global,
-    config: Config,
+    config: KeyConfig,
+    objects: O,
+    hash: PhantomData<H>,
 }
 
-impl Session {
-    /// A session under that configuration, whose calls take their memory from the allocator.
-    pub fn new(alloc: Global, config: Config) -> Session {
-        Session { alloc, config }
+impl<H, O> Model for Session<H, O> {
+    ghost use Rattle.wrap.specs.Sessions.{Held, held_by};
+
+    ghost Value = { Held O };
+
+    ghost view = { λ a. held_by a.config.basedirs a.objects };
+}
+
+impl<H: HashState, O: Store<StoreKey, Listed<(OsBytes, OsBytes)>> + Drop> Session<H, O> {
+    /// A session under that configuration over this store, whose calls take their memory from the allocator.
+    pub fn new(alloc: Global, config: KeyConfig, objects: O) -> Session<H, O>
+        ensures { result ≡ held_by config.basedirs objects }
+    {
+        Session {
+            alloc,
+            config,
+            objects,
+            hash: PhantomData,
+        }
     }
 
-    /// Answers one request on these files by that tool: it is passed through, or it gets the outputs that the compiler
-    /// gives afresh, or there is a fault.
+    /// The store.
+    pub fn objects(&self) -> &O
+        ensures { result.now ≡ self.now.objects }
+    {
+        &self.objects
+    }
+
+    /// Drops all that the store holds.
+    pub fn forget_all(&mut self)
+        ensures objects { Clears (O.shelf self.old.objects) (O.shelf self.new.objects) }
+        ensures folders { self.new.folders ≡ self.old.folders }
+    {
+        self.objects.forget_all();
+    }
+
+    /// Answers one request on these files by that tool: it is passed through, or it gets the outputs that its compiler
+    /// gives afresh, from the store or by one compile, or there is a fault.
     pub fn serve<F: Files, T: Tool>(
         &mut self,
         request: &Request,
         files: &mut F,
         tool: &mut T,
     ) -> Result<Answer, Fault>
-        // It is passed through exactly where the verdict says, unless memory was refused first; and then no tick moves.
-        ensures passed { let a = account_at (T.meaning tool.old) (F.tree files.old) request.now in (why : Why) → why_passed a ≡ Some why → IsPassed why result }
+        // It is passed through exactly where the verdict says, unless memory was refused first; a fault has its cause.
+        ensures says { let a = account_at (T.meaning tool.old) (F.tree files.old) self.old.folders request.now in Says a (FailsOn F.tree F.failed F.fails_on files.old files.new) (FailsIn T.meaning T.failed T.fails_in tool.old tool.new) result }
+
+        // A pass moves no tick.
         ensures quiet { OnPass result ((T.preprocessed tool.new ≡ T.preprocessed tool.old) × (T.compiled tool.new ≡ T.compiled tool.old) × (T.failed tool.new ≡ T.failed tool.old)) }
 
-        // Outputs are the fresh ones; a fault has its cause.
-        ensures says { let a = account_at (T.meaning tool.old) (F.tree files.old) request.now in Says a (FailsIn T.meaning T.failed T.fails_in tool.old tool.new) result }
+        // Where no growth is refused and no device fails, what is said before the compile is the account's alone.
+        ensures exact { let a = account_at (T.meaning tool.old) (F.tree files.old) self.old.folders request.now in (IsErrOf result Fault.Memory → ⊥) → F.failed files.new ≡ F.failed files.old → T.failed tool.new ≡ T.failed tool.old → settled_by result ≡ settled a }
 
-        // Where no growth is refused and no device fails, the answer is the account's alone.
-        ensures exact { let a = account_at (T.meaning tool.old) (F.tree files.old) request.now in (IsErrOf result Fault.Memory → ⊥) → T.failed tool.new ≡ T.failed tool.old → outcome_by result ≡ outcome_of a }
+        // What it does to the store, and what the answer tells of the store and of the compiler's runs.
+        ensures store { let a = account_at (T.meaning tool.old) (F.tree files.old) self.old.folders request.now in StoreTurn H.digest_of a (O.shelf self.old.objects) (O.shelf self.new.objects) (T.compiled tool.old) (T.compiled tool.new) result }
 
-        // No call runs more than one compile.
-        ensures compiles { Compiles result (T.compiled tool.old) (T.compiled tool.new) }
+        // Whatever list of earlier calls meets the invariant, that list followed by this call meets it at the end.
+        ensures invariant { let a = account_at (T.meaning tool.old) (F.tree files.old) self.old.folders request.now in (earlier : List Account) → Invariant H.digest_of earlier (O.shelf self.old.objects).held → Invariant H.digest_of (earlier ++ a ∷ []) (O.shelf self.new.objects).held }
 
+        // Outputs are those that the compiler gives afresh.
+        ensures outputs { let a = account_at (T.meaning tool.old) (F.tree files.old) self.old.folders request.now in (earlier : List Account) → Invariant H.digest_of earlier (O.shelf self.old.objects).held → Premises H.digest_of (earlier ++ a ∷ []) → Answers a result }
+
+        ensures folders { self.new.folders ≡ self.old.folders }
         ensures meaning { T.meaning tool.new ≡ T.meaning tool.old }
         ensures tree { F.tree files.new ≡ F.tree files.old }
     {
+        keys_tell_records::<H>();
         self.turn(request, files, tool)
+    }
+
+    /// Answers calls in order, each on its own files by its own tool. Room for the answers is taken first.
+    pub fn serve_all<F: Files, T: Tool>(
+        &mut self,
+        calls: &mut [Call<F, T>],
+    ) -> Result<Vec<Result<Answer, Fault>>, AllocError>
+        ensures length { IfOk result (λ answers. length answers.items ≡ length calls.old) }
+
+        // Each answer is one call's, in order, as `serve` says.
+        ensures run { IfOk result (λ answers. Run H.digest_of (O.shelf self.old.objects) (served_at self.old.folders (files_view F.tree F.failed) (tool_view T.meaning T.preprocessed T.compiled T.failed) calls.old calls.new answers.items) (O.shelf self.new.objects)) }
+
+        // From an empty store all outputs are those that the compilers give afresh on each call's files.
+        ensures outputs { IsEmpty (O.shelf self.old.objects) → Premises H.digest_of (accounts_at self.old.folders (files_view F.tree F.failed) (tool_view T.meaning T.preprocessed T.compiled T.failed) calls.old)
+            → IfOk result (λ answers. AllAnswer (served_at self.old.folders (files_view F.tree F.failed) (tool_view T.meaning T.preprocessed T.compiled T.failed) calls.old calls.new answers.items)) }
+
+        // With nothing forgotten or refused, equal records get at most one fresh answer.
+        ensures once { (O.shelf self.new.objects).kept ≡ true
+            → IfOk result (λ answers. OneFresh (served_at self.old.folders (files_view F.tree F.failed) (tool_view T.meaning T.preprocessed T.compiled T.failed) calls.old calls.new answers.items)) }
+
+        ensures unchanged { OnErr result ((calls.new ≡ calls.old) × (O.shelf self.new.objects ≡ O.shelf self.old.objects)) }
+    {
+        keys_tell_records::<H>();
+        self.run_all(calls)
+    }
+
+    fn run_all<F: Files, T: Tool>(
+        &mut self,
+        calls: &mut [Call<F, T>],
+    ) -> Result<Vec<Result<Answer, Fault>>, AllocError>
+        ensures length { IfOk result (λ answers. length answers.items ≡ length calls.old) }
+        ensures run { IfOk result (λ answers. Run H.digest_of (O.shelf self.old.objects) (served_at self.old.folders (files_view F.tree F.failed) (tool_view T.meaning T.preprocessed T.compiled T.failed) calls.old calls.new answers.items) (O.shelf self.new.objects)) }
+        ensures unchanged { OnErr result ((calls.new ≡ calls.old) × (O.shelf self.new.objects ≡ O.shelf self.old.objects)) }
+    {
+        let mut answers = Vec::with_capacity(self.alloc, calls.len())?;
+        for call in calls.iter_mut() {
+            let answer = self.serve(&call.request, &mut call.files, &mut call.tool);
+            answers.push_reserved(answer);
+        }
+        Ok(answers)
     }
 
     fn turn<F: Files, T: Tool>(
@@ -74,37 +159,61 @@ impl Session {
         files: &mut F,
         tool: &mut T,
     ) -> Result<Answer, Fault>
-        ensures passed { let a = account_at (T.meaning tool.old) (F.tree files.old) request.now in (why : Why) → why_passed a ≡ Some why → IsPassed why result }
+        ensures says { let a = account_at (T.meaning tool.old) (F.tree files.old) self.old.folders request.now in Says a (FailsOn F.tree F.failed F.fails_on files.old files.new) (FailsIn T.meaning T.failed T.fails_in tool.old tool.new) result }
         ensures quiet { OnPass result ((T.preprocessed tool.new ≡ T.preprocessed tool.old) × (T.compiled tool.new ≡ T.compiled tool.old) × (T.failed tool.new ≡ T.failed tool.old)) }
-        ensures says { let a = account_at (T.meaning tool.old) (F.tree files.old) request.now in Says a (FailsIn T.meaning T.failed T.fails_in tool.old tool.new) result }
-        ensures compiles { Compiles result (T.compiled tool.old) (T.compiled tool.new) }
+        ensures store { let a = account_at (T.meaning tool.old) (F.tree files.old) self.old.folders request.now in StoreTurn H.digest_of a (O.shelf self.old.objects) (O.shelf self.new.objects) (T.compiled tool.old) (T.compiled tool.new) result }
+        ensures folders { self.new.folders ≡ self.old.folders }
         ensures meaning { T.meaning tool.new ≡ T.meaning tool.old }
         ensures tree { F.tree files.new ≡ F.tree files.old }
     {
         match judge(self.alloc, request, files)? {
             Verdict::Passes(reason) => Ok(Answer::Pass(reason)),
-            Verdict::Asks(plan) => fresh_answer(self.alloc, request, &plan, files, tool),
+            Verdict::Asks(plan) => answer::<H, O, F, T>(
+                self.alloc,
+                &self.config,
+                &mut self.objects,
+                request,
+                &plan,
+                files,
+                tool,
+            ),
         }
     }
 }
 
-/// Asks the preprocessor and then the compiler.
-fn fresh_answer<F: Files, T: Tool>(
+/// Answers a request that isn't passed through: what the store holds under its key, or what one compile makes, which
+/// is kept then.
+fn answer<H: HashState, O: Store<StoreKey, Listed<(OsBytes, OsBytes)>>, F: Files, T: Tool>(
     alloc: Global,
+    config: &KeyConfig,
+    objects: &mut O,
     request: &Request,
     plan: &Plan,
     files: &mut F,
     tool: &mut T,
 ) -> Result<Answer, Fault>
     requires plan { IsPlanOf request.now plan.now }
-    ensures says { let w = work_at (T.meaning tool.old) (kind_of request.now.compiler) (scene_at request.now (F.tree files.old)) plan.now.parsed in Says (worked w) (FailsIn T.meaning T.failed T.fails_in tool.old tool.new) result }
-    ensures compiles { Compiles result (T.compiled tool.old) (T.compiled tool.new) }
+    ensures says { let w = work_at (T.meaning tool.old) (call_at request.now (F.tree files.old) config.now.basedirs plan.now.parsed) in SaysWorked w (FailsOn F.tree F.failed F.fails_on files.old files.new) (FailsIn T.meaning T.failed T.fails_in tool.old tool.new) result }
+    ensures store { let w = work_at (T.meaning tool.old) (call_at request.now (F.tree files.old) config.now.basedirs plan.now.parsed) in StoreTurn H.digest_of (worked w) (O.shelf objects.old) (O.shelf objects.new) (T.compiled tool.old) (T.compiled tool.new) result }
     ensures unpassed { OnPass result ⊥ }
     ensures meaning { T.meaning tool.new ≡ T.meaning tool.old }
     ensures tree { F.tree files.new ≡ F.tree files.old }
 {
-    let _text = preprocessed_text(alloc, request, plan, files, tool)?;
-    let map = compiled_outputs(alloc, request, plan, files, tool)?;
+    // Laws, which cost nothing: what follows from them is said above.
+    keys_are_their_fields();
+    stripped_words_lack_the_end();
+    let key = store_key::<H, F, T>(alloc, request, plan, config, files, tool)?;
+    let outputs = plan.parsed.outputs.as_slice();
+    if let Some(map) = ask(alloc, objects, &key, outputs)? {
+        return Ok(Answer::Outputs {
+            map,
+            how: How::Stored,
+            dep_info: None,
+        });
+    }
+    let pairs = compiled_pairs(alloc, request, plan, files, tool)?;
+    let map = placed(alloc, outputs, pairs.as_slice())?;
+    let _ = objects.put(key, pairs);
     Ok(Answer::Outputs {
         map,
         how: How::Fresh,

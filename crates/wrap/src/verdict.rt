@@ -4,12 +4,14 @@ ghost use Rattle.std.specs.Prelude.{◌≡◌, is_some, true, IfOk, IfErr};
 ghost use Rattle.cmdlines.specs.Commands.{object_path};
 ghost use Rattle.cmdlines.specs.Parsing as parsing;
 ghost use Rattle.cmdlines.specs.ReadBack.{ReadsAsCompile, ReadsAsPreprocess};
-ghost use Rattle.wrap_base.specs.Commands.{kind_of};
+ghost use Rattle.wrap_base.specs.Commands.{compile_command_of, kind_of};
 ghost use Rattle.wrap_base.specs.Verdict.{with_hazards, verdict_of};
 ghost use Rattle.wrap.specs.Plans.{decision_of, IsPlanOf, IsReadAgain, OnAsks};
 
+use ckeys::compiler_impl::CCompilerImpl;
 use ckeys::fault::Fault;
-use cmdlines::command::{CommandError, command_at};
+use ckeys::word_end::hold_word_end;
+use cmdlines::command::CommandError;
 use cmdlines::compiler_arguments::{CompilerArguments, ParseFault};
 use cmdlines::hazards::{empty_value, opens_file};
 use cmdlines::parsed::ParsedArguments;
@@ -19,11 +21,10 @@ use std::alloc::{AllocError, Global};
 use wrap_base::reason::Reason;
 use wrap_base::request::Request;
 
-/// What is run for a request: what it asks for, and its two commands.
+/// What is run for a request: what it asks for, and its compile command.
 #[derive(Drop)]
 pub struct Plan {
     pub parsed: ParsedArguments,
-    pub preprocess: SingleCompileCommand,
     pub compile: SingleCompileCommand,
 }
 
@@ -38,27 +39,21 @@ pub enum Verdict {
 fn plan_of(alloc: Global, request: &Request, parsed: ParsedArguments) -> Result<Plan, AllocError>
     requires object { is_some (object_path parsed) ≡ true }
     ensures parsed { IfOk result (λ plan. plan.parsed ≡ parsed) }
-    ensures plan { IfOk result (IsPlanOf request.now) }
+    ensures command { IfOk result (λ plan. plan.compile ≡ compile_command_of request.now parsed) }
     ensures compile { IfOk result (λ plan. ReadsAsCompile (kind_of request.now.compiler) parsed plan.compile.arguments) }
-    ensures preprocess { IfOk result (λ plan. ReadsAsPreprocess (kind_of request.now.compiler) parsed plan.preprocess.arguments) }
 {
     let compiler = &request.compiler;
+    let executable = compiler.executable();
     let env = request.env.as_slice();
-    let words = compiler.preprocess_words(alloc, &parsed)?;
-    let preprocess = command_at(alloc, compiler.executable(), words, env, &request.dir)?;
-    match compiler.generate_compile_commands(alloc, &parsed, &request.dir, env) {
-        Ok((compile, _)) => Ok(Plan {
-            parsed,
-            preprocess,
-            compile,
-        }),
+    match compiler.generate_compile_commands(alloc, executable, &parsed, &request.dir, env) {
+        Ok((compile, _)) => Ok(Plan { parsed, compile }),
         Err(CommandError::Memory) => Err(AllocError),
         Err(CommandError::NoObjOutput) => unreachable!(),
     }
 }
 
 /// The verdict on a request that asks for this: an option whose value may stand either way has an empty one, or a word
-/// of a command would open a file of words.
+/// of a command would open a file of words, or a hashed word holds the byte that ends one.
 fn after_hazards(
     alloc: Global,
     request: &Request,
@@ -73,11 +68,17 @@ fn after_hazards(
         return Ok(Verdict::Passes(Reason::EmptyValue));
     }
     let kind = request.compiler.kind();
+    let preprocess = request.compiler.preprocess_words(alloc, &parsed)?;
     let plan = plan_of(alloc, request, parsed)?;
     if opens_file(plan.compile.arguments.as_slice(), kind)
-        || opens_file(plan.preprocess.arguments.as_slice(), kind)
+        || opens_file(preprocess.as_slice(), kind)
     {
         return Ok(Verdict::Passes(Reason::OpensFile));
+    }
+    if hold_word_end(plan.parsed.common_args.as_slice())
+        || hold_word_end(plan.parsed.arch_args.as_slice())
+    {
+        return Ok(Verdict::Passes(Reason::Byte255));
     }
     Ok(Verdict::Asks(plan))
 }

@@ -1,0 +1,2 @@
+pub mod KeyEquality
+pub mod EmptiedShelf

@@ -1,7 +1,8 @@
--- The commands of a request.
-use Rattle.std.specs.Prelude.{List}
+-- The compiler of a request, and its commands.
+use Rattle.std.specs.Prelude.{List, string_bytes}
 use Rattle.os_files.specs.Bytes.{Bytes}
 use Rattle.cmdlines.specs.Commands.{command_at, compile_words, preprocess_words, output_path}
+use Rattle.cmdlines.specs.Compilers.{Traits}
 use Rattle.cmdlines.specs.declared.parsed.ParsedArguments.{ParsedArguments}
 use Rattle.cmdlines_base.specs.declared.command.SingleCompileCommand.{SingleCompileCommand}
 use Rattle.cmdlines_tables.specs.declared.compiler.CCompilerKind.{CCompilerKind}
@@ -11,12 +12,22 @@ use Rattle.wrap_base.specs.declared.compiler.Compiler.TheVariants.{Gcc, Clang}
 use Rattle.wrap_base.specs.declared.request.Request.{Request}
 
 abbrev pub kind_of : Compiler → CCompilerKind
-kind_of (Gcc gcc executable) = kinds.Gcc
-kind_of (Clang clang executable) = kinds.Clang
+kind_of (Gcc found) = kinds.Gcc
+kind_of (Clang found) = kinds.Clang
+
+-- what is known of it
+abbrev pub traits_of : Compiler → Traits
+traits_of (Gcc found) = found.compiler
+traits_of (Clang found) = found.compiler
 
 abbrev pub executable_of : Compiler → Bytes
-executable_of (Gcc gcc executable) = executable
-executable_of (Clang clang executable) = executable
+executable_of (Gcc found) = found.executable
+executable_of (Clang found) = found.executable
+
+-- the digest that stands for it
+abbrev pub digest_of : Compiler → Bytes
+digest_of (Gcc found) = string_bytes found.executable_digest
+digest_of (Clang found) = string_bytes found.executable_digest
 
 -- these words, run as the request says
 abbrev pub command_of : Request → List Bytes → SingleCompileCommand
@@ -24,6 +35,3 @@ command_of request words = command_at (executable_of request.compiler) words req
 
 abbrev pub compile_command_of : Request → ParsedArguments → SingleCompileCommand
 compile_command_of request p = command_of request (compile_words (kind_of request.compiler) p (output_path p))
-
-abbrev pub preprocess_command_of : Request → ParsedArguments → SingleCompileCommand
-preprocess_command_of request p = command_of request (preprocess_words p)

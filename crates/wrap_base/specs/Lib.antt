@@ -1,4 +1,7 @@
 pub mod Commands
 pub mod Verdict
 pub mod Account
+pub mod Keys
 pub mod Answers
+pub mod Turn
+pub mod Whole

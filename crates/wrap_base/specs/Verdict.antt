@@ -1,5 +1,5 @@
 -- The verdict on a request's words: why it is passed through, or what it asks for.
-use Rattle.std.specs.Prelude.{Bool, ◌||◌, List, Option, if◌then◌else◌, string_bytes}
+use Rattle.std.specs.Prelude.{Bool, ◌||◌, List, ◌++◌, Option, if◌then◌else◌, string_bytes}
 use Rattle.std.specs.Option.{option_map}
 use Rattle.os_files.specs.Bytes.{Bytes}
 use Rattle.cmdlines.specs.Commands.{compile_words, preprocess_words, output_path}
@@ -8,8 +8,9 @@ use Rattle.cmdlines.specs.Parsing.{parse_of}
 use Rattle.cmdlines.specs.Parsing as parsing
 use Rattle.cmdlines.specs.declared.parsed.ParsedArguments.{ParsedArguments}
 use Rattle.cmdlines_tables.specs.declared.compiler.CCompilerKind.{CCompilerKind}
+use Rattle.ckeys.specs.Records.{hold_end}
 use Rattle.wrap_base.specs.declared.reason.Reason.{Reason}
-use Rattle.wrap_base.specs.declared.reason.Reason.TheVariants.{NotCompilation, CannotCache, EmptyValue, OpensFile}
+use Rattle.wrap_base.specs.declared.reason.Reason.TheVariants.{NotCompilation, CannotCache, EmptyValue, OpensFile, Byte255}
 
 -- why a request is passed through
 pub data Why : Type 0 where
@@ -17,6 +18,7 @@ pub data Why : Type 0 where
   cannot_cache : Bytes → Option Bytes → Why
   empty_value : Why
   opens_a_file : Why
+  byte_255 : Why
 
 -- a reason without where its text lies in memory
 abbrev pub why_of : Reason → Why
@@ -24,6 +26,7 @@ why_of NotCompilation = not_compilation
 why_of (CannotCache reason more) = cannot_cache reason.now (option_map string_bytes more)
 why_of EmptyValue = empty_value
 why_of OpensFile = opens_a_file
+why_of Byte255 = byte_255
 
 -- a request is passed through, or it asks for this
 pub data Decision : Type 0 where
@@ -34,11 +37,15 @@ pub data Decision : Type 0 where
 abbrev pub commands_open_file : CCompilerKind → ParsedArguments → Bool
 commands_open_file kind p = opens_file kind (compile_words kind p (output_path p)) || opens_file kind (preprocess_words p)
 
--- The hazards: an option whose value may stand either way has an empty one, or a word of a command would open a file.
+-- the hashed words, the architectures last
+abbrev pub hashed_words : ParsedArguments → List Bytes
+hashed_words p = p.common_args ++ p.arch_args
+
+-- The hazards: an option whose value may stand either way has an empty one, or a word of a command would open a file, or a hashed word holds the byte that ends one.
 abbrev pub with_hazards : CCompilerKind → parsing.Decision → Decision
 with_hazards kind parsing.not_compilation = passes not_compilation
 with_hazards kind (parsing.cannot_cache reason more) = passes (cannot_cache reason more)
-with_hazards kind (parsing.asks p) = if p.empty_value then passes empty_value else (if commands_open_file kind p then passes opens_a_file else asks p)
+with_hazards kind (parsing.asks p) = if p.empty_value then passes empty_value else (if commands_open_file kind p then passes opens_a_file else (if hold_end (hashed_words p) then passes byte_255 else asks p))
 
 -- the verdict on words of that compiler
 abbrev pub verdict_of : CCompilerKind → List Bytes → Decision

@@ -1,11 +1,11 @@
 //! The compiler of a request, whichever it is.
 
-ghost use Rattle.std.specs.Prelude.{◌≡◌, ◌↔◌, None, IfOk, IfErr, IsErrOf};
-ghost use Rattle.cmdlines.specs.Commands.{object_path, HasObjectIn, preprocess_words, compile_words, output_path, command_at};
-ghost use Rattle.cmdlines.specs.Parsing.{decision_of, parse_of, HasSafeInputIn};
-ghost use Rattle.cmdlines.specs.ReadBack.{ReadsAsCompile, ReadsAsPreprocess};
-ghost use Rattle.wrap_base.specs.Commands.{kind_of, executable_of};
+ghost use Rattle.std.specs.Prelude.{◌≡◌};
+ghost use Rattle.wrap_base.specs.Commands.{digest_of, executable_of, kind_of, traits_of};
 
+use ckeys::compiler::CCompiler;
+use ckeys::compiler_impl::CCompilerImpl;
+use ckeys::hasher::CCompilerHasher;
 use cmdlines::clang::Clang;
 use cmdlines::command::{Cacheable, CommandError};
 use cmdlines::compiler_arguments::{CompilerArguments, ParseFault};
@@ -18,86 +18,124 @@ use os_files::listed::Listed;
 use os_files::os_bytes::OsBytes;
 use std::alloc::{AllocError, Global};
 
-/// Which compiler is asked, and its executable.
+/// Which compiler is asked. It is a C compiler as each of them is.
 #[derive(Drop)]
 pub enum Compiler {
-    Gcc { gcc: Gcc, executable: OsBytes },
-    Clang { clang: Clang, executable: OsBytes },
+    Gcc(CCompiler<Gcc>),
+    Clang(CCompiler<Clang>),
 }
 
 impl Compiler {
-    /// The kind, by whose tables its words are read.
-    pub fn kind(&self) -> CCompilerKind
-        ensures { result ≡ kind_of self.now }
-    {
-        match self {
-            Compiler::Gcc { .. } => CCompilerKind::Gcc,
-            Compiler::Clang { .. } => CCompilerKind::Clang,
-        }
-    }
-
     pub fn executable(&self) -> &OsBytes
         ensures { result.now ≡ executable_of self.now }
     {
         match self {
-            Compiler::Gcc { executable, .. } | Compiler::Clang { executable, .. } => executable,
+            Compiler::Gcc(found) => &found.executable,
+            Compiler::Clang(found) => &found.executable,
         }
     }
 
-    /// What these words come to, in that directory.
-    pub fn parse_arguments<F: Files>(
+    /// The digest that stands for it in keys.
+    pub fn executable_digest(&self) -> &str
+        ensures { result.now ≡ digest_of self.now }
+    {
+        match self {
+            Compiler::Gcc(found) => found.executable_digest.as_str(),
+            Compiler::Clang(found) => found.executable_digest.as_str(),
+        }
+    }
+
+    /// What makes the keys of requests to it that ask for this. It takes no memory.
+    pub fn hasher<'a>(&'a self, parsed: &'a ParsedArguments) -> CCompilerHasher<'a, Compiler>
+        ensures compiler { result.compiler.now ≡ self.now }
+        ensures executable { result.executable.now ≡ executable_of self.now }
+        ensures digest { result.executable_digest.now ≡ digest_of self.now }
+        ensures parsed { result.parsed.now ≡ parsed.now }
+    {
+        CCompilerHasher {
+            compiler: self,
+            executable: self.executable(),
+            executable_digest: self.executable_digest(),
+            parsed,
+        }
+    }
+}
+
+impl CCompilerImpl for Compiler {
+    ghost kind_of = { kind_of };
+
+    ghost traits = { traits_of };
+
+    fn kind(&self) -> CCompilerKind {
+        match self {
+            Compiler::Gcc(found) => found.compiler.kind(),
+            Compiler::Clang(found) => found.compiler.kind(),
+        }
+    }
+
+    fn plusplus(&self) -> bool {
+        match self {
+            Compiler::Gcc(found) => found.compiler.plusplus(),
+            Compiler::Clang(found) => found.compiler.plusplus(),
+        }
+    }
+
+    fn version(&self) -> Option<&str> {
+        match self {
+            Compiler::Gcc(found) => found.compiler.version(),
+            Compiler::Clang(found) => found.compiler.version(),
+        }
+    }
+
+    fn assembler_digest(&self) -> Option<&str> {
+        match self {
+            Compiler::Gcc(found) => found.compiler.assembler_digest(),
+            Compiler::Clang(found) => found.compiler.assembler_digest(),
+        }
+    }
+
+    fn parse_arguments<F: Files>(
         &self,
         alloc: Global,
         words: &[OsBytes],
         dir: &OsBytes,
         files: &mut F,
-    ) -> Result<CompilerArguments<ParsedArguments>, ParseFault>
-        ensures decision { IfOk result (λ answer. decision_of answer ≡ parse_of (kind_of self.now) words.now) }
-        ensures memory { IfErr result (λ fault. fault ≡ ParseFault.Memory) }
-        ensures input { IfOk result (λ answer. HasSafeInputIn (kind_of self.now) (decision_of answer)) }
-        ensures object { IfOk result (λ answer. HasObjectIn (decision_of answer)) }
-        ensures files { files.new ≡ files.old }
-    {
+    ) -> Result<CompilerArguments<ParsedArguments>, ParseFault> {
         match self {
-            Compiler::Gcc { gcc, .. } => gcc.parse_arguments(alloc, words, dir, files),
-            Compiler::Clang { clang, .. } => clang.parse_arguments(alloc, words, dir, files),
+            Compiler::Gcc(found) => found.compiler.parse_arguments(alloc, words, dir, files),
+            Compiler::Clang(found) => found.compiler.parse_arguments(alloc, words, dir, files),
         }
     }
 
-    /// The words of the preprocess command.
-    pub fn preprocess_words(
+    fn preprocess_words(
         &self,
         alloc: Global,
         parsed: &ParsedArguments,
-    ) -> Result<Listed<OsBytes>, AllocError>
-        ensures words { IfOk result (λ words. words ≡ preprocess_words parsed.now) }
-        ensures again { IfOk result (λ words. ReadsAsPreprocess (kind_of self.now) parsed.now words) }
-    {
+    ) -> Result<Listed<OsBytes>, AllocError> {
         match self {
-            Compiler::Gcc { gcc, .. } => gcc.preprocess_words(alloc, parsed),
-            Compiler::Clang { clang, .. } => clang.preprocess_words(alloc, parsed),
+            Compiler::Gcc(found) => found.compiler.preprocess_words(alloc, parsed),
+            Compiler::Clang(found) => found.compiler.preprocess_words(alloc, parsed),
         }
     }
 
-    /// The compile command, in that directory, under these variables.
-    pub fn generate_compile_commands(
+    fn generate_compile_commands(
         &self,
         alloc: Global,
+        executable: &OsBytes,
         parsed: &ParsedArguments,
         dir: &OsBytes,
         env: &[(OsBytes, OsBytes)],
-    ) -> Result<(SingleCompileCommand, Cacheable), CommandError>
-        ensures command { IfOk result (λ made. made.0 ≡ command_at (executable_of self.now) (compile_words (kind_of self.now) parsed.now (output_path parsed.now)) env.now dir.now) }
-        ensures cacheable { IfOk result (λ made. made.1 ≡ Cacheable.Yes) }
-        ensures missing { IsErrOf result CommandError.NoObjOutput ↔ (object_path parsed.now ≡ None) }
-        ensures again { IfOk result (λ made. ReadsAsCompile (kind_of self.now) parsed.now made.0.arguments) }
-    {
+    ) -> Result<(SingleCompileCommand, Cacheable), CommandError> {
         match self {
-            Compiler::Gcc { gcc, executable } => {
-                gcc.generate_compile_commands(alloc, executable, parsed, dir, env)
+            Compiler::Gcc(found) => {
+                found
+                    .compiler
+                    .generate_compile_commands(alloc, executable, parsed, dir, env)
             }
-            Compiler::Clang { clang, executable } => {
-                clang.generate_compile_commands(alloc, executable, parsed, dir, env)
+            Compiler::Clang(found) => {
+                found
+                    .compiler
+                    .generate_compile_commands(alloc, executable, parsed, dir, env)
             }
         }
     }

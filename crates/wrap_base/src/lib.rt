@@ -2,9 +2,12 @@
 #![tactic(auto)]
 
 pub mod answer;
+pub mod call;
 pub mod compiler;
 pub mod fail_files;
 pub mod fail_tool;
+pub mod map_store;
 pub mod reason;
 pub mod request;
+pub mod store_key;
 pub mod tool;

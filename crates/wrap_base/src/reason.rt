@@ -16,6 +16,8 @@ pub enum Reason {
     EmptyValue,
     /// A word of a command would open a file of words.
     OpensFile,
+    /// A hashed word holds the byte 255, which ends a word where it is hashed.
+    Byte255,
 }
 
 impl fmt::Display for Reason {
@@ -26,6 +28,7 @@ impl fmt::Display for Reason {
             Reason::CannotCache(reason, Some(more)) => write!(f, "{reason}: {more}"),
             Reason::EmptyValue => write!(f, "empty value"),
             Reason::OpensFile => write!(f, "opens file"),
+            Reason::Byte255 => write!(f, "byte 255"),
         }
     }
 }

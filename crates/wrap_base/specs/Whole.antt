@@ -1,0 +1,141 @@
+-- Whole runs.
+use Rattle.std.specs.Prelude.{◌≡◌, ℕ, true, List, [], ◌∷◌, map, Option, Some, None, Result, Ok, Err, IsErrOf}
+use Rattle.std.specs.List.{AllByRecursion}
+use Rattle.os_files.specs.Bytes.{Bytes}
+use Rattle.os_files.specs.Tree.{Tree}
+use Rattle.ckeys_base.specs.Shelf.{Shelf, Within, KeepsKeys}
+use Rattle.ckeys.specs.Meaning.{Meaning}
+use Rattle.ckeys.specs.declared.fault.Fault.{Fault}
+use Rattle.ckeys.specs.declared.fault.Fault.TheVariants.{Memory}
+use Rattle.wrap_base.specs.Verdict.{Why}
+use Rattle.wrap_base.specs.Account.{Account, passed, worked, Pairs, account_at, why_passed}
+use Rattle.wrap_base.specs.Answers.{Answers, OnPass, SaysPassed, settled, settled_by}
+use Rattle.wrap_base.specs.Keys.{SameRecord}
+use Rattle.wrap_base.specs.Turn.{StoreTurn}
+use Rattle.wrap_base.specs.declared.answer.Answer.{Answer}
+use Rattle.wrap_base.specs.declared.answer.Answer.TheVariants.{Pass, Outputs}
+use Rattle.wrap_base.specs.declared.answer.How.TheVariants.{Direct, Stored, Fresh}
+use Rattle.wrap_base.specs.declared.answer.Output.{Output}
+use Rattle.wrap_base.specs.declared.call.Call.{Call}
+use Rattle.wrap_base.specs.declared.store_key.StoreKey.{StoreKey}
+
+-- the ticks of a call's tool and files
+pub record Ticks : Type 0 where
+  pub preprocessed : ℕ
+  pub compiled : ℕ
+  pub failed : ℕ  -- the failures of the tool
+  pub files_failed : ℕ  -- the failures of the files
+
+-- One call, by plain values: what it does to the store and what its answer tells; what the verdict passes through is passed through, and then no tick of the tool moves; and where no growth is refused and no device fails, what is said before the compile is the account's alone.
+pub record Turn (digest_of : Bytes → Bytes) (a : Account) (old new : Shelf StoreKey Pairs) (before after : Ticks) (result : Result Answer Fault) : Type 0 where
+  pub store : StoreTurn digest_of a old new before.compiled after.compiled result
+  pub passes : (why : Why) → why_passed a ≡ Some why → SaysPassed why result
+  pub quiet : OnPass result ((after.preprocessed ≡ before.preprocessed) × (after.compiled ≡ before.compiled) × (after.failed ≡ before.failed))
+  pub exact : (IsErrOf result Memory → ⊥) → after.files_failed ≡ before.files_failed → after.failed ≡ before.failed → settled_by result ≡ settled a
+
+-- a call that was answered: its account, the ticks before and after it, and its answer
+pub record Served : Type 0 where
+  pub account : Account
+  pub before : Ticks
+  pub after : Ticks
+  pub result : Result Answer Fault
+
+-- from the end of one call to the beginning of the next, pairs may be lost
+pub record Loses (old new : Shelf StoreKey Pairs) : Type 0 where
+  pub within : Within old.held new.held
+  pub kept : new.kept ≡ true → (old.kept ≡ true) × KeepsKeys old.held new.held
+
+-- calls one after another, from what the store holds before them to what it holds after them
+abbrev pub Run : (Bytes → Bytes) → Shelf StoreKey Pairs → List Served → Shelf StoreKey Pairs → Type 0
+Run digest_of old [] new = Loses old new
+Run digest_of old (s ∷ rest) new = (begin : Shelf StoreKey Pairs) × (mid : Shelf StoreKey Pairs) × Loses old begin × Turn digest_of s.account begin mid s.before s.after s.result × Run digest_of mid rest new
+
+-- nothing is held
+abbrev pub IsEmpty : Shelf StoreKey Pairs → Type 0
+IsEmpty shelf = (key : StoreKey) → shelf.held key ≡ None
+
+abbrev pub accounts_of : List Served → List Account
+accounts_of run = map (λ s. s.account) run
+
+-- all outputs that are answered are the fresh ones
+abbrev pub AllAnswer : List Served → Type 0
+AllAnswer run = AllByRecursion (λ s. Answers s.account s.result) run
+
+-- fresh outputs were answered
+abbrev pub IsFresh : Result Answer Fault → Type 0
+IsFresh (Ok (Pass reason)) = ⊥
+IsFresh (Ok (Outputs map Direct dep_info)) = ⊥
+IsFresh (Ok (Outputs map Stored dep_info)) = ⊥
+IsFresh (Ok (Outputs map Fresh dep_info)) = Unit {0}
+IsFresh (Err fault) = ⊥
+
+-- both calls have one record
+abbrev pub HaveOneRecord : Account → Account → Type 0
+HaveOneRecord (passed why) other = ⊥
+HaveOneRecord (worked w) (passed why) = ⊥
+HaveOneRecord (worked w) (worked v) = SameRecord w v
+
+-- of the answers whose records are equal at most one is fresh
+abbrev pub OneFresh : List Served → Type 0
+OneFresh [] = Unit {0}
+OneFresh (s ∷ rest) = (IsFresh s.result → AllByRecursion (λ t. IsFresh t.result → HaveOneRecord s.account t.account → ⊥) rest) × OneFresh rest
+
+-- the outputs of an answer
+abbrev pub outputs_in : Result Answer Fault → Option (List Output)
+outputs_in (Ok (Pass reason)) = None
+outputs_in (Ok (Outputs map how dep_info)) = Some map
+outputs_in (Err fault) = None
+
+-- where both runs answer a call with outputs, these are the same
+abbrev pub Agree : Option (List Output) → Option (List Output) → Type 0
+Agree None other = Unit {0}
+Agree (Some x) None = Unit {0}
+Agree (Some x) (Some y) = x ≡ y
+
+abbrev pub SameOutputs : List Served → List Served → Type 0
+SameOutputs [] two = Unit {0}
+SameOutputs (s ∷ one) [] = Unit {0}
+SameOutputs (s ∷ one) (t ∷ two) = Agree (outputs_in s.result) (outputs_in t.result) × SameOutputs one two
+
+-- calls as they begin, as they end, and what they answered
+abbrev pub served : List (Account × Ticks) → List Ticks → List (Result Answer Fault) → List Served
+served [] ends results = []
+served (b ∷ begins) [] results = []
+served (b ∷ begins) (e ∷ ends) [] = []
+served (b ∷ begins) (e ∷ ends) (r ∷ results) = record { account = b.0; before = b.1; after = e; result = r } ∷ served begins ends results
+
+-- what can be seen of files, and of a tool
+pub record FilesView (F : Type 0) : Type 0 where
+  pub tree : F → Tree
+  pub failed : F → ℕ
+
+pub record ToolView (T : Type 0) : Type 0 where
+  pub meaning : T → Meaning
+  pub preprocessed : T → ℕ
+  pub compiled : T → ℕ
+  pub failed : T → ℕ
+
+abbrev pub files_view : {F : Type 0} → (F → Tree) → (F → ℕ) → FilesView F
+files_view tree failed = record { tree = tree; failed = failed }
+
+abbrev pub tool_view : {T : Type 0} → (T → Meaning) → (T → ℕ) → (T → ℕ) → (T → ℕ) → ToolView T
+tool_view meaning preprocessed compiled failed = record { meaning = meaning; preprocessed = preprocessed; compiled = compiled; failed = failed }
+
+module _ {F T : Type 0} (folders : List Bytes) (files : FilesView F) (tool : ToolView T) where
+  abbrev pub ticks_of : F → T → Ticks
+  ticks_of f t = record { preprocessed = tool.preprocessed t; compiled = tool.compiled t; failed = tool.failed t; files_failed = files.failed f }
+
+  -- a call as it begins
+  abbrev pub begin_of : Call F T → Account × Ticks
+  begin_of c = (account_at (tool.meaning c.tool) (files.tree c.files) folders c.request, ticks_of c.files c.tool)
+
+  abbrev pub end_of : Call F T → Ticks
+  end_of c = ticks_of c.files c.tool
+
+  -- calls that own their files and tools, before and after they were answered
+  abbrev pub served_at : List (Call F T) → List (Call F T) → List (Result Answer Fault) → List Served
+  served_at old new results = served (map begin_of old) (map end_of new) results
+
+  -- their accounts
+  abbrev pub accounts_at : List (Call F T) → List Account
+  accounts_at calls = map (λ c. account_at (tool.meaning c.tool) (files.tree c.files) folders c.request) calls

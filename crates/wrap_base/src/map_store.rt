@@ -1,0 +1,93 @@
+//! A store that drops nothing by itself.
+
+ghost use Rattle.std.specs.Prelude.{◌≡◌, ◌↔◌, true, None};
+ghost use Rattle.std.specs.HashMap.{get};
+ghost use Rattle.std.proofs.Common.{rules};
+ghost use Rattle.ckeys_base.specs.Shelf.{KeepsKeys};
+
+use ckeys_base::store::Store;
+use std::alloc::Global;
+use std::collections::HashMap;
+use std::hash::Hash;
+
+/// Keeps what it is given under each key, unless memory runs out or all is dropped on demand. A look-up goes by the key's
+/// hash.
+#[derive(Drop)]
+pub struct MapStore<K: Eq + Hash, V> {
+    map: HashMap<K, V>,
+    kept: bool,
+    cleared: u64,
+}
+
+impl<K: Eq + Hash + Drop, V: Drop> MapStore<K, V> {
+    /// A store that holds nothing and has kept all. It takes no memory.
+    pub fn new(alloc: Global) -> MapStore<K, V>
+        ensures empty { let shelf = ⟦<MapStore<K, V> as Store<K, V>>⟧.shelf result in (key : K) → shelf.held key ≡ None }
+        ensures kept { let shelf = ⟦<MapStore<K, V> as Store<K, V>>⟧.shelf result in shelf.kept ≡ true }
+        ensures ticks { let shelf = ⟦<MapStore<K, V> as Store<K, V>>⟧.shelf result in (shelf.forgets ≡ 0) × (shelf.clears ≡ 0) }
+    {
+        MapStore {
+            map: HashMap::new(alloc),
+            kept: true,
+            cleared: 0,
+        }
+    }
+
+    /// Drops all pairs.
+    fn drop_all(&mut self)
+        ensures gone { (q : K) → get K.eq self.new.map q ≡ None }
+        ensures kept { (self.new.kept ≡ true) ↔ ((self.old.kept ≡ true) × KeepsKeys (λ q. get K.eq self.old.map q) (λ q. get K.eq self.new.map q)) }
+        ensures cleared { self.new.cleared ≡ self.old.cleared }
+    {
+        keys_are_themselves::<K>();
+        self.kept = self.kept && self.map.is_empty();
+        self.map.clear();
+    }
+
+    /// How many pairs are held. It takes no memory.
+    pub fn len(&self) -> usize {
+        self.map.len()
+    }
+}
+
+impl<K: Eq + Hash + Drop, V: Drop> Store<K, V> for MapStore<K, V> {
+    ghost shelf = { λ s. record { held = λ k. get K.eq s.map k; kept = s.kept; forgets = 0; clears = s.cleared } };
+
+    ghost respects = { λ s a b e. Prim.search rules };
+
+    fn get(&mut self, key: &K) -> Option<&V> {
+        self.map.get(key)
+    }
+
+    fn put(&mut self, key: K, value: V) -> Result<(), (K, V)> {
+        match self.map.insert(key, value) {
+            Ok(_) => Ok(()),
+            Err(failed) => {
+                self.kept = false;
+                Err(failed.value)
+            }
+        }
+    }
+
+    fn forget_all(&mut self) {
+        self.drop_all();
+        self.cleared = self.cleared.wrapping_add(1);
+    }
+
+    fn kept_all(&self) -> bool {
+        self.kept
+    }
+
+    fn forgot(&self) -> u64 {
+        0
+    }
+
+    fn cleared(&self) -> u64 {
+        self.cleared
+    }
+}
+
+/// Each key is equal to itself. Calls of it do nothing.
+fn keys_are_themselves<K: Eq>()
+    ensures { (key : K) → K.eq key key ≡ true }
+{}

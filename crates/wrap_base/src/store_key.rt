@@ -1,0 +1,40 @@
+//! Keys under which outputs are kept.
+
+ghost use Rattle.std.specs.Prelude.{◌≡◌, ◌↔◌, true};
+ghost use Rattle.std.specs.declared.cmp.Ordering.TheVariants.{Equal};
+ghost use Rattle.wrap_base.specs.declared.store_key.StoreKey.{StoreKey};
+
+use ckeys::output_name::OutputName;
+use ckeys::shape::CShape;
+use os_files::listed::Listed;
+use os_files::os_bytes::OsBytes;
+
+/// Whose requests a key is of.
+#[derive(Clone, Copy, Debug, PartialEq, Eq, PartialOrd, Ord, Hash)]
+pub enum Family {
+    C,
+    Rustc,
+}
+
+/// What a request's outputs are kept under: the family, the shape, the outputs' names with their marks, and the digest.
+/// Keys are compared and hashed by these fields, in this order.
+#[derive(Drop, PartialEq, Eq, PartialOrd, Ord, Hash)]
+pub struct StoreKey {
+    pub family: Family,
+    pub shape: CShape,
+    pub names: Listed<OutputName>,
+    pub digest: OsBytes,
+}
+
+/// Keys are equal exactly if their fields are, and so they are in order.
+pub fn keys_are_their_fields()
+    ensures equal { (one other : StoreKey) → (⟦<StoreKey as PartialEq>⟧.eq one other ≡ true) ↔ (one ≡ other) }
+    ensures ordered { (one other : StoreKey) → (⟦<StoreKey as Ord>⟧.cmp one other ≡ Equal) ↔ (one ≡ other) }
+{
+    ties_are_equal::<StoreKey>();
+}
+
+/// What an order doesn't tell apart is equal.
+fn ties_are_equal<K: Ord>()
+    ensures { (one other : K) → (K.cmp one other ≡ Equal) ↔ (K.eq one other ≡ true) }
+{}
