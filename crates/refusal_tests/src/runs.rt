@@ -2,7 +2,7 @@
 
 use std::alloc::Global;
 use std::test::Fail;
-use wrap::program::{RunFault, run};
+use scenarios::program::{RunFault, run};
 
 /// A request that is compiled, with an included file, and one that is passed through.
 const SCENARIO: &str = r##"{"requests":[

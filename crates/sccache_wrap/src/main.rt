@@ -5,7 +5,7 @@ use std::io::{BufWriter, ErrorKind};
 use std::process::ExitCode;
 use std::rt::Env;
 use std::{env, io};
-use wrap::program::{RunFault, run};
+use scenarios::program::{RunFault, run};
 
 /// The status of a program that couldn't run.
 const FAILED: u8 = 2;

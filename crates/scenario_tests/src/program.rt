@@ -4,7 +4,7 @@ use std::alloc::{AllocError, Global};
 use std::io;
 use std::io::{ErrorKind, Read, Write};
 use std::test::Fail;
-use wrap::program::{RunFault, run};
+use scenarios::program::{RunFault, run};
 
 const NO_REQUESTS: &[u8; 15] = b"{\"requests\":[]}";
 

@@ -3,7 +3,7 @@
 use std::alloc::Global;
 use std::process::Abort;
 use std::test::Fail;
-use wrap::program::run;
+use scenarios::program::run;
 
 /// What a run over this scenario prints.
 fn printed(alloc: Global, scenario: &str) -> Result<Vec<u8>, Fail> {

@@ -2,7 +2,7 @@
 
 use std::alloc::{AllocError, Global};
 use std::test::Fail;
-use wrap::program::{RunFault, run};
+use scenarios::program::{RunFault, run};
 
 /// How many requests a run of the scenario of this text answers, and None where it can't be read.
 fn count_of(alloc: Global, text: &[u8]) -> Result<Option<usize>, RunFault> {

@@ -1,7 +1,7 @@
 //! The texts of the scripted tool, by their lengths, which a run prints.
 
 use std::test::Fail;
-use wrap::program::run;
+use scenarios::program::run;
 
 #[test]
 fn texts_have_their_lengths(rt: HostRuntime) -> Result<(), Fail> {

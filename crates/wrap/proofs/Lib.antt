@@ -5,7 +5,3 @@ pub mod TurnLemmas
 pub mod CallSteps
 pub mod RunSteps
 pub mod GatherLemmas
-mod LineLaws
-mod HoldLaws
-mod TextLaws
-mod InputLaws

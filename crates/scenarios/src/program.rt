@@ -1,0 +1,196 @@
+//! The program: it reads a scenario, serves its requests in order and prints what each is answered.
+
+ghost use Rattle.std.specs.Prelude.{◌≡◌, ◌⊎◌, ◌<◌, ◌↔◌, length, OnOk, IfErr, IsErrOf};
+ghost use Rattle.std.specs.Io.KnownBytes.{IsAtEnd};
+
+use crate::scenario::{ScenarioCall, ScenarioFault, read_scenario};
+use script_tool::script::ScriptTool;
+use wrap::session::Session;
+use ckeys::config::KeyConfig;
+use ckeys::fault::Fault;
+use ckeys::preprocessor::Preprocessor;
+use os_files::listed::Listed;
+use os_files::os_bytes::OsBytes;
+use sha2::Sha256;
+use std::alloc::{AllocError, AllocFailed, Global};
+use std::io;
+use std::io::{ErrorKind, Read, Write};
+use thiserror::Error;
+use wrap_base::answer::{Answer, How, Output};
+use wrap_base::map_store::MapStore;
+use wrap_base::store_key::StoreKey;
+
+/// Why a run stopped.
+#[derive(Debug, Drop, Error)]
+pub enum RunFault {
+    /// There is an argument.
+    #[error("sccache-wrap: no arguments are taken")]
+    Arguments,
+    /// The scenario can't be read, or the reader failed.
+    #[error("sccache-wrap: scenario cannot be read")]
+    Scenario,
+    /// The writer failed.
+    #[error("sccache-wrap: output cannot be written")]
+    Output,
+    /// A growth was refused while no request was served.
+    #[error("sccache-wrap: memory")]
+    Memory,
+}
+
+impl From<AllocError> for RunFault {
+    ghost use Rattle.scenarios.specs.declared.program.RunFault.TheVariants.{Memory};
+
+    ghost from_gives = { λ _ f. f ≡ Memory };
+
+    fn from(_error: AllocError) -> RunFault {
+        RunFault::Memory
+    }
+}
+
+impl<T: Drop> From<AllocFailed<T>> for RunFault {
+    ghost use Rattle.scenarios.specs.declared.program.RunFault.TheVariants.{Memory};
+
+    ghost from_gives = { λ _ f. f ≡ Memory };
+
+    fn from(_error: AllocFailed<T>) -> RunFault {
+        RunFault::Memory
+    }
+}
+
+impl From<ScenarioFault> for RunFault {
+    ghost use Rattle.scenarios.specs.declared.program.RunFault.TheVariants.{Memory, Scenario};
+
+    ghost from_gives = { λ _ f. (f ≡ Scenario) ⊎ (f ≡ Memory) };
+
+    fn from(fault: ScenarioFault) -> RunFault {
+        match fault {
+            ScenarioFault::Unreadable => RunFault::Scenario,
+            ScenarioFault::Memory => RunFault::Memory,
+        }
+    }
+}
+
+/// Reads a scenario from the reader to its end, serves the requests in one session, and writes a line for each and then how often a compiler ran.
+///
+/// `args` are the words behind the program's name. Nothing is written before the whole scenario is read.
+pub fn run<R: Read, W: Write>(
+    alloc: Global,
+    args: &[String],
+    reader: &mut R,
+    writer: &mut W,
+) -> Result<(), RunFault>
+    ensures arguments { IsErrOf result RunFault.Arguments ↔ (0 < length args.now) }
+    ensures unread { 0 < length args.now → R.remaining reader.new ≡ R.remaining reader.old }
+    ensures silent { 0 < length args.now → W.contents writer.new ≡ W.contents writer.old }
+    ensures read { OnOk result (IsAtEnd (R.remaining reader.new)) }
+    ensures unwritten { IsErrOf result RunFault.Scenario
+        → W.contents writer.new ≡ W.contents writer.old }
+{
+    if !args.is_empty() {
+        return Err(RunFault::Arguments);
+    }
+    let calls = read_calls(alloc, reader)?;
+    serve_calls(alloc, calls, writer)
+}
+
+/// The calls of the scenario that the reader gives to its end.
+fn read_calls<R: Read>(alloc: Global, reader: &mut R) -> Result<Vec<ScenarioCall>, RunFault>
+    ensures fault { IfErr result (λ f. (f ≡ RunFault.Scenario) ⊎ (f ≡ RunFault.Memory)) }
+    ensures read { OnOk result (IsAtEnd (R.remaining reader.new)) }
+{
+    let mut bytes = Vec::new(alloc);
+    reader
+        .read_to_end(&mut bytes)
+        .map_err(|error| fault_of(&error, RunFault::Scenario))?;
+    Ok(read_scenario(alloc, bytes.as_slice())?)
+}
+
+/// The configuration without folders.
+fn no_folders(alloc: Global) -> Result<KeyConfig, RunFault>
+    ensures fault { IfErr result (λ f. f ≡ RunFault.Memory) }
+{
+    KeyConfig::new(alloc, &[]).map_err(|_fault| RunFault::Memory)
+}
+
+/// Serves the calls in order, and writes a line for each and then how often a compiler ran.
+fn serve_calls<W: Write>(
+    alloc: Global,
+    calls: Vec<ScenarioCall>,
+    writer: &mut W,
+) -> Result<(), RunFault>
+    ensures fault { IfErr result (λ f. (f ≡ RunFault.Output) ⊎ (f ≡ RunFault.Memory)) }
+{
+    let objects = MapStore::<StoreKey, Listed<(OsBytes, OsBytes)>>::new(alloc);
+    let mut session = Session::<Sha256, _>::new(alloc, no_folders(alloc)?, objects);
+    let mut compiles = 0u64;
+    for (number, call) in (1u64..).zip(calls) {
+        let ScenarioCall { request, mut files } = call;
+        let mut tool = ScriptTool::new();
+        let answer = session.serve(&request, &mut files, &mut tool);
+        compiles = compiles.saturating_add(tool.ticks().compile);
+        write_line(writer, &line_of(alloc, number, &answer)?)?;
+    }
+    write_line(writer, &format!(in alloc; "compiles {compiles}\n")?)?;
+    writer
+        .flush()
+        .map_err(|error| fault_of(&error, RunFault::Output))
+}
+
+fn write_line<W: Write>(writer: &mut W, line: &String) -> Result<(), RunFault>
+    ensures fault { IfErr result (λ f. (f ≡ RunFault.Output) ⊎ (f ≡ RunFault.Memory)) }
+{
+    writer
+        .write_all(line.as_bytes())
+        .map_err(|error| fault_of(&error, RunFault::Output))
+}
+
+/// `Memory` where that is what the device lacked, and the other fault where it is anything else.
+fn fault_of(error: &io::Error, other: RunFault) -> RunFault
+    ensures { (result ≡ other) ⊎ (result ≡ RunFault.Memory) }
+{
+    if error.kind() == ErrorKind::OutOfMemory {
+        RunFault::Memory
+    } else {
+        other
+    }
+}
+
+/// The line that says what the request of this number is answered.
+fn line_of(
+    alloc: Global,
+    number: u64,
+    answer: &Result<Answer, Fault>,
+) -> Result<String, AllocError> {
+    match answer {
+        Ok(Answer::Pass(reason)) => format!(in alloc; "{number} pass {reason}\n"),
+        Ok(Answer::Outputs { map, how, dep_info }) => {
+            let how = how_word(*how);
+            let mut line = format!(in alloc; "{number} {how}")?;
+            push_outputs(&mut line, map)?;
+            if let Some(text) = dep_info {
+                let length = text.as_bytes().len();
+                write!(line, " dep-info:{length}")?;
+            }
+            line.push('\n')?;
+            Ok(line)
+        }
+        Err(fault) => format!(in alloc; "{number} fault {fault}\n"),
+    }
+}
+
+fn push_outputs(line: &mut String, outputs: &Listed<Output>) -> Result<(), AllocError> {
+    for output in outputs.as_slice() {
+        let name = &output.name;
+        let length = output.contents.as_bytes().len();
+        write!(line, " {name}:{length}")?;
+    }
+    Ok(())
+}
+
+fn how_word(how: How) -> &'static str {
+    match how {
+        How::Direct => "direct",
+        How::Stored => "stored",
+        How::Fresh => "fresh",
+    }
+}

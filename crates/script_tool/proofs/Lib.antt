@@ -1,0 +1,4 @@
+mod LineLaws
+mod HoldLaws
+mod TextLaws
+mod InputLaws

@@ -1,0 +1,18 @@
+use Rattle.std.proofs.Common.{◌≡◌, ◌++◌, map, length}
+use Rattle.std.specs.Option.{option_map}
+use Rattle.script_tool.specs.Lines.{lines}
+use Rattle.script_tool.specs.Scripted.{replaced, whole}
+use Rattle.script_tool.proofs.scripting.push_lines.Given as goal
+
+-- the text so far, and what stands in the place of the lines that are left
+abbrev pub invariant-loop-line : goal.invariant-loop-line
+invariant-loop-line g l =
+    let line_by = replaced (g.F.Files.tree l.fn.files) l.fn.dir l.fn.path in
+    record {
+      told : option_map (λ part. l.text.items ++ part) (whole (map line_by (lines l.rest))) ≡ option_map (λ part. l.fn.text.items ++ part) (whole (map line_by (lines l.fn.contents)));
+      tree : g.F.Files.tree l.files ≡ g.F.Files.tree l.fn.files;
+      steady : g.F.Files.failed l.files ≡ g.F.Files.failed l.fn.files;
+    }
+
+abbrev pub decreases-loop-line : goal.decreases-loop-line
+decreases-loop-line g l = length l.rest

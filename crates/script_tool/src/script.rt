@@ -1,0 +1,112 @@
+//! A tool with the behaviour of a short script, whose compiler and preprocessor print the same text.
+
+ghost use Rattle.std.specs.Prelude.{◌≡◌, ℤ, IfOk, IsErrOf, option_and_then};
+ghost use Rattle.os_files.specs.Bytes.{ticked};
+ghost use Rattle.cmdlines_tables.specs.Tables.{reading_of};
+ghost use Rattle.ckeys.specs.Meaning.{StepTicks, scene_of};
+ghost use Rattle.script_tool.specs.Scripted.{scripted, text_of, input_of};
+
+use crate::scripting::{compiled, printed, text_of};
+use ckeys::preprocessor::{Preprocessor, Printed, Ticks, ToolFail};
+use cmdlines_base::command::{ArtifactDescriptor, SingleCompileCommand};
+use cmdlines_tables::compiler::CCompilerKind;
+use os_files::files::{FileFail, Files};
+use os_files::os_bytes::OsBytes;
+use std::alloc::Global;
+use wrap_base::tool::{Compiled, Tool};
+
+/// A tool that counts how often its steps ran and a device failed in them.
+#[derive(Drop)]
+pub struct ScriptTool {
+    pub preprocessed: u64,
+    pub compiled: u64,
+    pub failed: u64,
+}
+
+impl ScriptTool {
+    /// A tool that has not run yet.
+    pub fn new() -> ScriptTool
+        ensures { result ≡ record { preprocessed = 0; compiled = 0; failed = 0 } }
+    {
+        ScriptTool {
+            preprocessed: 0,
+            compiled: 0,
+            failed: 0,
+        }
+    }
+
+    /// The text of a command's input. A device that fails is counted.
+    fn text<F: Files>(
+        &mut self,
+        alloc: Global,
+        kind: CCompilerKind,
+        command: &SingleCompileCommand,
+        files: &mut F,
+    ) -> Result<Option<OsBytes>, ToolFail>
+        ensures text { (moment : ℤ) → IfOk result (λ text. text ≡ option_and_then (text_of (scene_of command.now (F.tree files.old) moment)) (input_of (reading_of kind command.now.arguments))) }
+        ensures tree { F.tree files.new ≡ F.tree files.old }
+        ensures device { IsErrOf result ToolFail.Device → (self.new.failed ≡ ticked self.old.failed) × (F.failed files.new ≡ ticked (F.failed files.old)) }
+        ensures steady { (IsErrOf result ToolFail.Device → ⊥) → (self.new.failed ≡ self.old.failed) × (F.failed files.new ≡ F.failed files.old) }
+        ensures preprocessed { self.new.preprocessed ≡ self.old.preprocessed }
+        ensures compiled { self.new.compiled ≡ self.old.compiled }
+    {
+        match text_of(alloc, kind, command, files) {
+            Ok(text) => Ok(text),
+            Err(FileFail::Memory) => Err(ToolFail::Memory),
+            Err(FileFail::Device) => {
+                self.failed = self.failed.wrapping_add(1);
+                Err(ToolFail::Device)
+            }
+        }
+    }
+}
+
+impl Preprocessor for ScriptTool {
+    ghost meaning = { λ _. scripted };
+
+    ghost preprocessed = { λ t. t.preprocessed };
+
+    ghost compiled = { λ t. t.compiled };
+
+    ghost failed = { λ t. t.failed };
+
+    /// The failure was counted, and so was the one step.
+    ghost fails_in = { λ t step u. (u.failed ≡ ticked t.failed) × StepTicks step t.preprocessed u.preprocessed t.compiled u.compiled };
+
+    fn preprocess<F: Files>(
+        &mut self,
+        alloc: Global,
+        kind: CCompilerKind,
+        command: &SingleCompileCommand,
+        files: &mut F,
+        _moment: i64,
+    ) -> Result<Printed, ToolFail> {
+        self.preprocessed = self.preprocessed.wrapping_add(1);
+        let text = self.text(alloc, kind, command, files)?;
+        Ok(printed(alloc, text))
+    }
+
+    fn ticks(&self) -> Ticks {
+        Ticks {
+            preprocess: self.preprocessed,
+            compile: self.compiled,
+            failure: self.failed,
+        }
+    }
+}
+
+impl Tool for ScriptTool {
+    fn compile<F: Files>(
+        &mut self,
+        alloc: Global,
+        kind: CCompilerKind,
+        command: &SingleCompileCommand,
+        outputs: &[(OsBytes, ArtifactDescriptor)],
+        files: &mut F,
+        _moment: i64,
+    ) -> Result<Compiled, ToolFail> {
+        self.compiled = self.compiled.wrapping_add(1);
+        let text = self.text(alloc, kind, command, files)?;
+        Ok(compiled(alloc, text, outputs)?)
+    }
+}
