@@ -1,22 +1,29 @@
 -- What the scripted tool means.
-use Rattle.std.specs.Prelude.{pos, Bool, ◌||◌, nat_eq, if◌then◌else◌, List, [], ◌∷◌, ◌++◌, map, Option, None, Some, option_and_then, codes}
+use Rattle.std.specs.Prelude.{pos, Bool, false, not, ◌||◌, nat_eq, if◌then◌else◌, List, [], ◌∷◌, ◌++◌, map, Option, None, Some, option_and_then, codes}
 use Rattle.std.specs.List.{flat_map, starts_with}
 use Rattle.std.specs.Option.{option_map, option_map_or}
 use Rattle.os_files.specs.Bytes.{Bytes}
 use Rattle.os_files.specs.Path.{join}
-use Rattle.cmdlines_base.specs.Reading.{Item, raw, behind_dashes, Reading}
 use Rattle.os_files.specs.Tree.{Tree, contents_at}
+use Rattle.cmdlines_base.specs.Reading.{Item, raw, valued, behind_dashes, Reading}
+use Rattle.cmdlines_tables.specs.Languages.{language_named}
+use Rattle.cmdlines_tables.specs.declared.kind.ArgKind.{ArgKind}
+use Rattle.cmdlines_tables.specs.declared.kind.ArgKind.TheVariants.{Language}
+use Rattle.ckeys_base.specs.FolderPlaces.{text_places}
+use Rattle.ckeys_base.specs.FromTheLeft.{stripped_of}
+use Rattle.ckeys.specs.Calls.{needs_preprocessing}
 use Rattle.ckeys.specs.Meaning.{Scene, Made, Meaning, made_of}
 use Rattle.ckeys.specs.declared.output_name.OutputName.{OutputName}
-use Rattle.cmdlines_tables.specs.declared.kind.ArgKind.{ArgKind}
+use Rattle.ckeys.specs.declared.step.Step.{Step}
 use Rattle.ckeys.specs.declared.step.Step.TheVariants.{Preprocess, Compile}
 use Rattle.script_tool.specs.Lines.{lines, with_end, included}
+use Rattle.script_tool.specs.declared.source.Source.{Source}
 
 -- the one of a list that has one
 abbrev pub only : List Bytes → Option Bytes
 only [] = None
-only (input ∷ []) = Some input
-only (input ∷ other ∷ others) = None
+only (word ∷ []) = Some word
+only (word ∷ other ∷ others) = None
 
 -- a loose item, also behind double dashes
 abbrev pub input_in : Item ArgKind → List Bytes
@@ -24,9 +31,28 @@ input_in (raw w) = w ∷ []
 input_in (behind_dashes w) = w ∷ []
 input_in _ = []
 
--- the input of a command: its one loose item, unless it is cut short
-abbrev pub input_of : Reading ArgKind → Option Bytes
-input_of reading = if reading.cut_short then None else only (flat_map input_in reading.items)
+-- the language that an item names
+abbrev pub language_in : Item ArgKind → List Bytes
+language_in (valued option Language name how) = name ∷ []
+language_in _ = []
+
+-- the one word of a command that its items give, unless it is cut short
+abbrev pub one_in : (Item ArgKind → List Bytes) → Reading ArgKind → Option Bytes
+one_in words_in reading = if reading.cut_short then None else only (flat_map words_in reading.items)
+
+-- what a command compiles: its one loose item, and the language that it names
+abbrev pub source_in : Reading ArgKind → Source
+source_in reading = record { input = one_in input_in reading; language = one_in language_in reading }
+
+-- the name of a language whose inputs aren't preprocessed
+abbrev pub is_preprocessed : Bytes → Bool
+is_preprocessed name = option_map_or (λ language. not (needs_preprocessing language)) (language_named name) false
+
+-- a compile takes an input of such a language as it stands
+abbrev pub takes_as_it_stands : Step → Option Bytes → Bool
+takes_as_it_stands Preprocess language = false
+takes_as_it_stands Compile None = false
+takes_as_it_stands Compile (Some name) = is_preprocessed name
 
 -- the line that says which file the lines behind it are from
 abbrev pub marker : Bytes → Bytes
@@ -51,9 +77,13 @@ abbrev pub text_at : Tree → Bytes → Bytes → Option Bytes
 text_at files dir path =
     option_and_then (λ contents. whole (Some (marker path) ∷ map (replaced files dir path) (lines contents))) (contents_at files path)
 
--- the text of an input
-abbrev pub text_of : Scene → Bytes → Option Bytes
-text_of scene input = text_at scene.files scene.dir (join scene.dir input)
+-- the text of an input: the preprocessed one, or its bytes as they stand
+abbrev pub text_by : Bool → Scene → Bytes → Option Bytes
+text_by as_it_stands scene input = if as_it_stands then contents_at scene.files (join scene.dir input) else text_at scene.files scene.dir (join scene.dir input)
+
+-- the text that a step goes over
+abbrev pub text_of : Step → Scene → Source → Option Bytes
+text_of step scene source = option_and_then (text_by (takes_as_it_stands step source.language) scene) source.input
 
 -- whether the word stands in the text, at its start or further on
 abbrev pub holds : Bytes → Bytes → Bool
@@ -71,7 +101,11 @@ compiled None outputs = made_of (pos 1) []
 compiled (Some text) outputs =
     if holds (codes "#error") text then made_of (pos 1) [] else made_of (pos 0) (map (λ output. Some text) outputs)
 
--- one function of the step, the reading, the outputs asked for and the scene
-abbrev pub scripted : Meaning
-scripted Preprocess reading outputs scene = printed (option_and_then (text_of scene) (input_of reading))
-scripted Compile reading outputs scene = compiled (option_and_then (text_of scene) (input_of reading)) outputs
+-- a text without the folders
+abbrev pub without : List Bytes → Option Bytes → Option Bytes
+without folders text = option_map (stripped_of text_places folders) text
+
+-- one function of the step, the reading, the outputs asked for and the scene: the preprocessor prints the text, and the compiler makes outputs of what is left of it without the folders
+abbrev pub scripted : List Bytes → Meaning
+scripted folders Preprocess reading outputs scene = printed (text_of Preprocess scene (source_in reading))
+scripted folders Compile reading outputs scene = compiled (without folders (text_of Compile scene (source_in reading))) outputs

@@ -4,3 +4,4 @@
 mod lines;
 pub mod script;
 mod scripting;
+mod source;

@@ -1,13 +1,16 @@
-//! A tool with the behaviour of a short script, whose compiler and preprocessor print the same text.
+//! A tool with the behaviour of a short script: its preprocessor prints a text, and its compiler makes outputs of that text without
+//! the configured folders.
 
-ghost use Rattle.std.specs.Prelude.{◌≡◌, ℤ, IfOk, IsErrOf, option_and_then};
+ghost use Rattle.std.specs.Prelude.{◌≡◌, ℤ, IfOk, IsErrOf};
 ghost use Rattle.os_files.specs.Bytes.{ticked};
 ghost use Rattle.cmdlines_tables.specs.Tables.{reading_of};
 ghost use Rattle.ckeys.specs.Meaning.{StepTicks, scene_of};
-ghost use Rattle.script_tool.specs.Scripted.{scripted, text_of, input_of};
+ghost use Rattle.script_tool.specs.Scripted.{scripted, source_in, text_of};
 
 use crate::scripting::{compiled, printed, text_of};
+use ckeys::config::KeyConfig;
 use ckeys::preprocessor::{Preprocessor, Printed, Ticks, ToolFail};
+use ckeys::step::Step;
 use cmdlines_base::command::{ArtifactDescriptor, SingleCompileCommand};
 use cmdlines_tables::compiler::CCompilerKind;
 use os_files::files::{FileFail, Files};
@@ -18,39 +21,44 @@ use wrap_base::tool::{Compiled, Tool};
 /// A tool that counts how often its steps ran and a device failed in them.
 #[derive(Drop)]
 pub struct ScriptTool {
+    /// Whose folders its outputs don't show.
+    pub config: KeyConfig,
     pub preprocessed: u64,
     pub compiled: u64,
     pub failed: u64,
 }
 
 impl ScriptTool {
-    /// A tool that has not run yet.
-    pub fn new() -> ScriptTool
-        ensures { result ≡ record { preprocessed = 0; compiled = 0; failed = 0 } }
+    /// A tool that has not run yet, whose compiler strips these folders.
+    pub fn new(config: KeyConfig) -> ScriptTool
+        ensures { result ≡ record { config = config; preprocessed = 0; compiled = 0; failed = 0 } }
     {
         ScriptTool {
+            config,
             preprocessed: 0,
             compiled: 0,
             failed: 0,
         }
     }
 
-    /// The text of a command's input. A device that fails is counted.
+    /// The text that a step goes over. A device that fails is counted.
     fn text<F: Files>(
         &mut self,
         alloc: Global,
+        step: Step,
         kind: CCompilerKind,
         command: &SingleCompileCommand,
         files: &mut F,
     ) -> Result<Option<OsBytes>, ToolFail>
-        ensures text { (moment : ℤ) → IfOk result (λ text. text ≡ option_and_then (text_of (scene_of command.now (F.tree files.old) moment)) (input_of (reading_of kind command.now.arguments))) }
+        ensures text { (moment : ℤ) → IfOk result (λ text. text ≡ text_of step (scene_of command.now (F.tree files.old) moment) (source_in (reading_of kind command.now.arguments))) }
         ensures tree { F.tree files.new ≡ F.tree files.old }
         ensures device { IsErrOf result ToolFail.Device → (self.new.failed ≡ ticked self.old.failed) × (F.failed files.new ≡ ticked (F.failed files.old)) }
         ensures steady { (IsErrOf result ToolFail.Device → ⊥) → (self.new.failed ≡ self.old.failed) × (F.failed files.new ≡ F.failed files.old) }
+        ensures config { self.new.config ≡ self.old.config }
         ensures preprocessed { self.new.preprocessed ≡ self.old.preprocessed }
         ensures compiled { self.new.compiled ≡ self.old.compiled }
     {
-        match text_of(alloc, kind, command, files) {
+        match text_of(alloc, step, kind, command, files) {
             Ok(text) => Ok(text),
             Err(FileFail::Memory) => Err(ToolFail::Memory),
             Err(FileFail::Device) => {
@@ -62,7 +70,7 @@ impl ScriptTool {
 }
 
 impl Preprocessor for ScriptTool {
-    ghost meaning = { λ _. scripted };
+    ghost meaning = { λ t. scripted t.config.basedirs };
 
     ghost preprocessed = { λ t. t.preprocessed };
 
@@ -82,7 +90,7 @@ impl Preprocessor for ScriptTool {
         _moment: i64,
     ) -> Result<Printed, ToolFail> {
         self.preprocessed = self.preprocessed.wrapping_add(1);
-        let text = self.text(alloc, kind, command, files)?;
+        let text = self.text(alloc, Step::Preprocess, kind, command, files)?;
         Ok(printed(alloc, text))
     }
 
@@ -106,7 +114,7 @@ impl Tool for ScriptTool {
         _moment: i64,
     ) -> Result<Compiled, ToolFail> {
         self.compiled = self.compiled.wrapping_add(1);
-        let text = self.text(alloc, kind, command, files)?;
-        Ok(compiled(alloc, text, outputs)?)
+        let text = self.text(alloc, Step::Compile, kind, command, files)?;
+        Ok(compiled(alloc, text, self.config.basedirs(), outputs)?)
     }
 }

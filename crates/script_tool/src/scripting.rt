@@ -1,27 +1,20 @@
 //! The texts of the scripted tool, and what it makes of them.
 
-ghost use Rattle.std.specs.Prelude.{Bool, ◌≡◌, ℤ, [], ◌∷◌, ◌++◌, IfOk, OnOk, IsErrOf, Some, None, if◌then◌else◌, map, option_and_then, codes};
+ghost use Rattle.std.specs.Prelude.{◌≡◌, ℤ, [], ◌∷◌, ◌++◌, IfOk, OnOk, IsErrOf, Some, None, if◌then◌else◌, map, codes, pos};
 ghost use Rattle.std.specs.Option.{option_map};
 ghost use Rattle.os_files.specs.Bytes.{ticked};
-ghost use Rattle.cmdlines_base.specs.Table.{all_entries};
-ghost use Rattle.cmdlines_base.specs.Reading.{reading};
-ghost use Rattle.cmdlines_tables.specs.Tables.{ends_options, reading_of};
-ghost use Rattle.cmdlines_tables.specs.Values.{placed};
+ghost use Rattle.cmdlines_tables.specs.Tables.{reading_of};
 ghost use Rattle.ckeys.specs.Meaning.{names_of, made_of, scene_of};
 ghost use Rattle.script_tool.specs.Lines.{lines};
-ghost use Rattle.script_tool.specs.Scripted.{only, input_in, input_of, marker, inclusion, replaced, whole, text_at, text_of, holds, printed, compiled};
+ghost use Rattle.script_tool.specs.Scripted.{source_in, marker, inclusion, replaced, whole, text_at, text_of, holds, printed, compiled, without};
 
 use crate::lines::{included, push_with_end, split_line};
+use crate::source::{source_of, takes_as_it_stands};
 use ckeys::preprocessor::Printed;
-use cmdlines_base::argument::Argument;
-use cmdlines_base::argument_error::ArgParseError;
+use ckeys::step::Step;
+use ckeys_base::strip::strip_basedirs;
 use cmdlines_base::command::{ArtifactDescriptor, SingleCompileCommand};
-use cmdlines_base::table::SearchableArgInfo;
 use cmdlines_tables::compiler::CCompilerKind;
-use cmdlines_tables::cutting::arguments_of;
-use cmdlines_tables::laws::arguments_are_their_items;
-use cmdlines_tables::tables::{ClangTables, gnu_table};
-use cmdlines_tables::value::ArgData;
 use memchr::memmem;
 use os_files::files::{FileFail, Files};
 use os_files::listed::Listed;
@@ -29,68 +22,6 @@ use os_files::os_bytes::OsBytes;
 use os_files::path::join;
 use std::alloc::{AllocError, Global};
 use wrap_base::tool::Compiled;
-
-/// The one of the words, where there is one.
-fn only(words: Vec<OsBytes>) -> Option<OsBytes>
-    ensures { result ≡ only words.items }
-{
-    let mut words = words;
-    let last = words.pop()?;
-    if words.is_empty() { Some(last) } else { None }
-}
-
-/// Adds the input that an argument names.
-fn push_input(argument: Argument<ArgData>, inputs: &mut Vec<OsBytes>) -> Result<(), AllocError>
-    ensures { OnOk result ((behind : Bool) → inputs.new.items ≡ inputs.old.items ++ input_in (placed behind argument)) }
-{
-    if let Argument::Raw(word) = argument {
-        inputs.push(word)?;
-    }
-    Ok(())
-}
-
-/// The input that the words of a command to that compiler name, by a table.
-fn input_by<S: SearchableArgInfo<ArgData>>(
-    alloc: Global,
-    kind: CCompilerKind,
-    words: &[OsBytes],
-    table: &S,
-) -> Result<Option<OsBytes>, AllocError>
-    ensures { IfOk result (λ input. input ≡ input_of (reading (ends_options kind) (all_entries (S.tables table.now)) words.now)) }
-{
-    // A law, which costs nothing: what follows from it is said above.
-    arguments_are_their_items();
-    let mut inputs = Vec::new(alloc);
-    let mut arguments = arguments_of(alloc, kind, table, words);
-    while let Some(next) = arguments.next() {
-        match next {
-            Ok(argument) => push_input(argument, &mut inputs)?,
-            Err(ArgParseError::Memory) => return Err(AllocError),
-            Err(_) => return Ok(None),
-        }
-    }
-    Ok(only(inputs))
-}
-
-/// The input that the words of a command to that compiler name.
-fn input(
-    alloc: Global,
-    kind: CCompilerKind,
-    words: &[OsBytes],
-) -> Result<Option<OsBytes>, AllocError>
-    ensures { IfOk result (λ input. input ≡ input_of (reading_of kind words.now)) }
-{
-    match kind {
-        CCompilerKind::Gcc => {
-            let table = gnu_table(alloc)?;
-            input_by(alloc, kind, words, &table)
-        }
-        CCompilerKind::Clang => {
-            let tables = ClangTables::new(alloc)?;
-            input_by(alloc, kind, words, &tables)
-        }
-    }
-}
 
 /// Adds the line that says which file the lines behind it are from.
 fn push_marker(path: &[u8], text: &mut Vec<u8>) -> Result<(), AllocError>
@@ -198,24 +129,30 @@ fn text_at<F: Files>(
     }
 }
 
-/// The text of a command's input.
+/// The text that a step goes over.
 pub fn text_of<F: Files>(
     alloc: Global,
+    step: Step,
     kind: CCompilerKind,
     command: &SingleCompileCommand,
     files: &mut F,
 ) -> Result<Option<OsBytes>, FileFail>
-    ensures text { (moment : ℤ) → IfOk result (λ text. text ≡ option_and_then (text_of (scene_of command.now (F.tree files.old) moment)) (input_of (reading_of kind command.now.arguments))) }
+    ensures text { (moment : ℤ) → IfOk result (λ text. text ≡ text_of step (scene_of command.now (F.tree files.old) moment) (source_in (reading_of kind command.now.arguments))) }
     ensures tree { F.tree files.new ≡ F.tree files.old }
     ensures device { IsErrOf result FileFail.Device → F.failed files.new ≡ ticked (F.failed files.old) }
     ensures steady { (IsErrOf result FileFail.Device → ⊥) → F.failed files.new ≡ F.failed files.old }
 {
-    let Some(input) = input(alloc, kind, command.arguments.as_slice())? else {
+    let source = source_of(alloc, kind, command.arguments.as_slice())?;
+    let Some(input) = &source.input else {
         return Ok(None);
     };
     let dir = command.cwd.as_bytes();
     let path = join(alloc, dir, input.as_bytes())?;
-    text_at(alloc, dir, &path, files)
+    if takes_as_it_stands(step, source.language.as_ref()) {
+        files.read(alloc, &path)
+    } else {
+        text_at(alloc, dir, &path, files)
+    }
 }
 
 /// What a preprocessor prints of a text.
@@ -253,22 +190,34 @@ fn made(
     Ok(Listed::from_vec(files))
 }
 
-/// What a compiler makes of a text.
+/// What a compiler makes of a text without the folders.
 pub fn compiled(
     alloc: Global,
     text: Option<OsBytes>,
+    folders: &[OsBytes],
     outputs: &[(OsBytes, ArtifactDescriptor)],
 ) -> Result<Compiled, AllocError>
-    ensures { IfOk result (λ result. made_of result.status result.files ≡ compiled text (names_of outputs.now)) }
+    ensures { IfOk result (λ result. made_of result.status result.files ≡ compiled (without folders.now text) (names_of outputs.now)) }
 {
-    match text {
-        Some(text) if !holds_error(text.as_bytes()) => Ok(Compiled {
-            status: 0,
-            files: made(alloc, text.as_bytes(), outputs)?,
-        }),
-        _ => Ok(Compiled {
-            status: 1,
-            files: Listed::from_vec(Vec::new(alloc)),
-        }),
+    let Some(text) = text else {
+        return Ok(failed(alloc));
+    };
+    let left = strip_basedirs(alloc, text.as_bytes(), folders)?;
+    if holds_error(&left) {
+        return Ok(failed(alloc));
+    }
+    Ok(Compiled {
+        status: 0,
+        files: made(alloc, &left, outputs)?,
+    })
+}
+
+/// A compile that makes nothing.
+fn failed(alloc: Global) -> Compiled
+    ensures { made_of result.status result.files ≡ made_of (pos 1) [] }
+{
+    Compiled {
+        status: 1,
+        files: Listed::from_vec(Vec::new(alloc)),
     }
 }
