@@ -15,7 +15,7 @@ use Rattle.wrap_base.specs.Account.{Account, passed, worked, Work, Pairs, IsSucc
 use Rattle.wrap_base.specs.Answers.{Answers, SaysPassed}
 use Rattle.wrap_base.specs.Keys.{store_key_of, SameRecord, Premises, Invariant}
 use Rattle.wrap_base.specs.Turn.{StoreTurn}
-use Rattle.wrap_base.specs.Whole.{Ticks, Turn, Served, Loses, Run, IsEmpty, accounts_of, AllAnswer, IsFresh, HaveOneRecord, OneFresh, outputs_in, Agree, SameOutputs, served, FilesView, ToolView, begin_of, end_of, served_at, accounts_at}
+use Rattle.wrap_base.specs.Whole.{Ticks, Turn, Served, Loses, Run, IsEmpty, accounts_of, AllAnswer, IsFresh, HaveOneRecord, OneFresh, outputs_in, Agree, SameOutputs, served, Each, FilesView, ToolView, begin_of, end_of, served_at, accounts_at}
 use Rattle.wrap_base.specs.declared.answer.Answer.{Answer}
 use Rattle.wrap_base.specs.declared.answer.Answer.TheVariants.{Pass, Outputs}
 use Rattle.wrap_base.specs.declared.answer.How.TheVariants.{Direct, Stored, Fresh}
@@ -166,6 +166,31 @@ one_more f h first now rs i d c r rest lt len =
     let level : length (take i (map f first)) ≡ length rs = length-take-le i (map f first) (omega (arith, length-map first f)) ∙ sym len in
     let level' : length (take i (map h now)) ≡ length rs = length-take-le i (map h now) (omega (arith, length-map now h)) ∙ sym len in
     rw (front_more f first now i d rest lt, set_more h now i c lt) (served_more (take i (map f first)) (take i (map h now)) rs (f (get_or now i d)) (h c) r level level')
+
+module _ {A B : Type 0} (P : A → A → B → Type 0) where
+  -- what holds of each holds of one more
+  each_more : (bs es : List A) (rs : List B) (b e : A) (r : B) → length bs ≡ length rs → length es ≡ length rs → Each P bs es rs → P b e r → Each P (bs ++ b ∷ []) (es ++ e ∷ []) (rs ++ r ∷ [])
+  each_more [] [] [] b e r h k held one = (one, tt)
+  each_more [] [] (q ∷ rs) b e r h k held one = absurd (omega arith)
+  each_more [] (f ∷ es) [] b e r h k held one = absurd (omega arith)
+  each_more [] (f ∷ es) (q ∷ rs) b e r h k held one = absurd (omega arith)
+  each_more (c ∷ bs) [] [] b e r h k held one = absurd (omega arith)
+  each_more (c ∷ bs) [] (q ∷ rs) b e r h k held one = absurd (omega arith)
+  each_more (c ∷ bs) (f ∷ es) [] b e r h k held one = absurd (omega arith)
+  each_more (c ∷ bs) (f ∷ es) (q ∷ rs) b e r h k held one = (held.0, each_more bs es rs b e r (omega arith) (omega arith) held.1 one)
+
+  -- likewise of a list whose items are replaced one by one
+  pub each_set : (first now : List A) (rs : List B) (i : ℕ) (d c : A) (r : B) → drop i now ≡ drop i first → i < length now → length rs ≡ i
+      → Each P (take i first) (take i now) rs → P (get_or now i d) c r → Each P (take (i + 1) first) (take (i + 1) (set now i c)) (rs ++ r ∷ [])
+  each_set first now rs i d c r rest lt len held one =
+      let long : length (drop i now) ≡ length (drop i first) = ap length rest in
+      let lt' : i < length first = omega (arith, length-drop i now, length-drop i first) in
+      let here = rw add-zero at (get_or-drop i now 0 d) in
+      let there = rw add-zero at (get_or-drop i first 0 d) in
+      let same : get_or now i d ≡ get_or first i d = sym here ∙ ap (λ l. get_or l 0 d) rest ∙ there in
+      let level : length (take i first) ≡ length rs = length-take-le i first (omega arith) ∙ sym len in
+      let level' : length (take i now) ≡ length rs = length-take-le i now (omega arith) ∙ sym len in
+      rw (take_more first i d lt', take_more_set now i c lt) (each_more (take i first) (take i now) rs (get_or first i d) c r level level' held (subst (λ x. P x c r) same one))
 
 -- what is left after one more
 pub rest_more : {C : Type 0} (first now : List C) (i : ℕ) (c : C) → drop i now ≡ drop i first → drop (i + 1) (set now i c) ≡ drop (i + 1) first

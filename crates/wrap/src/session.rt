@@ -8,7 +8,7 @@ ghost use Rattle.wrap_base.specs.Account.{Account, account_at, call_at, work_at,
 ghost use Rattle.wrap_base.specs.Answers.{Answers, OnPass, Says, SaysWorked, settled, settled_by};
 ghost use Rattle.wrap_base.specs.Keys.{Invariant, Premises};
 ghost use Rattle.wrap_base.specs.Turn.{StoreTurn};
-ghost use Rattle.wrap_base.specs.Whole.{AllAnswer, IsEmpty, OneFresh, Run, accounts_at, files_view, served_at, tool_view};
+ghost use Rattle.wrap_base.specs.Whole.{AllAnswer, Each, IsAnswered, IsEmpty, OneFresh, Run, accounts_at, files_view, served_at, tool_view};
 ghost use Rattle.wrap.specs.Plans.{IsPlanOf};
 ghost use Rattle.wrap.specs.Sessions.{held_by};
 
@@ -123,6 +123,9 @@ impl<H: HashState, O: Store<StoreKey, Listed<(OsBytes, OsBytes)>> + Drop> Sessio
         // Each answer is one call's, in order, as `serve` says.
         ensures run { IfOk result (λ answers. Run H.digest_of (O.shelf self.old.objects) (served_at self.old.folders (files_view F.tree F.failed) (tool_view T.meaning T.preprocessed T.compiled T.failed) calls.old calls.new answers.items) (O.shelf self.new.objects)) }
 
+        // Each is passed through exactly where the verdict says, and a fault has its cause, as `serve` says.
+        ensures says { IfOk result (λ answers. Each (IsAnswered self.old.folders F.tree F.failed F.fails_on T.meaning T.failed T.fails_in) calls.old calls.new answers.items) }
+
         // From an empty store all outputs are those that the compilers give afresh on each call's files.
         ensures outputs { IsEmpty (O.shelf self.old.objects) → Premises H.digest_of (accounts_at self.old.folders (files_view F.tree F.failed) (tool_view T.meaning T.preprocessed T.compiled T.failed) calls.old)
             → IfOk result (λ answers. AllAnswer (served_at self.old.folders (files_view F.tree F.failed) (tool_view T.meaning T.preprocessed T.compiled T.failed) calls.old calls.new answers.items)) }
@@ -131,6 +134,7 @@ impl<H: HashState, O: Store<StoreKey, Listed<(OsBytes, OsBytes)>> + Drop> Sessio
         ensures once { (O.shelf self.new.objects).kept ≡ true
             → IfOk result (λ answers. OneFresh (served_at self.old.folders (files_view F.tree F.failed) (tool_view T.meaning T.preprocessed T.compiled T.failed) calls.old calls.new answers.items)) }
 
+        ensures folders { self.new.folders ≡ self.old.folders }
         ensures unchanged { OnErr result ((calls.new ≡ calls.old) × (O.shelf self.new.objects ≡ O.shelf self.old.objects)) }
     {
         keys_tell_records::<H>();
@@ -143,6 +147,8 @@ impl<H: HashState, O: Store<StoreKey, Listed<(OsBytes, OsBytes)>> + Drop> Sessio
     ) -> Result<Vec<Result<Answer, Fault>>, AllocError>
         ensures length { IfOk result (λ answers. length answers.items ≡ length calls.old) }
         ensures run { IfOk result (λ answers. Run H.digest_of (O.shelf self.old.objects) (served_at self.old.folders (files_view F.tree F.failed) (tool_view T.meaning T.preprocessed T.compiled T.failed) calls.old calls.new answers.items) (O.shelf self.new.objects)) }
+        ensures says { IfOk result (λ answers. Each (IsAnswered self.old.folders F.tree F.failed F.fails_on T.meaning T.failed T.fails_in) calls.old calls.new answers.items) }
+        ensures folders { self.new.folders ≡ self.old.folders }
         ensures unchanged { OnErr result ((calls.new ≡ calls.old) × (O.shelf self.new.objects ≡ O.shelf self.old.objects)) }
     {
         let mut answers = Vec::with_capacity(self.alloc, calls.len())?;

@@ -2,14 +2,16 @@
 use Rattle.std.specs.Prelude.{◌≡◌, ℕ, true, List, [], ◌∷◌, map, Option, Some, None, Result, Ok, Err, IsErrOf}
 use Rattle.std.specs.List.{AllByRecursion}
 use Rattle.os_files.specs.Bytes.{Bytes}
+use Rattle.os_files.specs.Fails.{FailsOn}
 use Rattle.os_files.specs.Tree.{Tree}
 use Rattle.ckeys_base.specs.Shelf.{Shelf, Within, KeepsKeys}
-use Rattle.ckeys.specs.Meaning.{Meaning}
+use Rattle.ckeys.specs.Meaning.{FailsIn, Meaning}
 use Rattle.ckeys.specs.declared.fault.Fault.{Fault}
 use Rattle.ckeys.specs.declared.fault.Fault.TheVariants.{Memory}
+use Rattle.ckeys.specs.declared.step.Step.{Step}
 use Rattle.wrap_base.specs.Verdict.{Why}
 use Rattle.wrap_base.specs.Account.{Account, passed, worked, Pairs, account_at, why_passed}
-use Rattle.wrap_base.specs.Answers.{Answers, OnPass, SaysPassed, settled, settled_by}
+use Rattle.wrap_base.specs.Answers.{Answers, OnPass, Says, SaysPassed, settled, settled_by}
 use Rattle.wrap_base.specs.Keys.{SameRecord}
 use Rattle.wrap_base.specs.Turn.{StoreTurn}
 use Rattle.wrap_base.specs.declared.answer.Answer.{Answer}
@@ -139,3 +141,17 @@ module _ {F T : Type 0} (folders : List Bytes) (files : FilesView F) (tool : Too
   -- their accounts
   abbrev pub accounts_at : List (Call F T) → List Account
   accounts_at calls = map (λ c. account_at (tool.meaning c.tool) (files.tree c.files) folders c.request) calls
+
+-- what holds of each: as it began, as it ended, and its result
+abbrev pub Each : {A B : Type 0} → (A → A → B → Type 0) → List A → List A → List B → Type 0
+Each P [] ends results = Unit {0}
+Each P (b ∷ begins) [] results = Unit {0}
+Each P (b ∷ begins) (e ∷ ends) [] = Unit {0}
+Each P (b ∷ begins) (e ∷ ends) (r ∷ results) = P b e r × Each P begins ends results
+
+-- A call is answered: its answer says what it may, a fault only with its cause; and its request, the tree of its files and its tool's meaning are as they were.
+pub record IsAnswered {F T : Type 0} (folders : List Bytes) (tree : F → Tree) (files_failed : F → ℕ) (fails_on : F → Bytes → F → Type 0) (meaning : T → Meaning) (failed : T → ℕ) (fails_in : T → Step → T → Type 0) (begin end : Call F T) (result : Result Answer Fault) : Type 0 where
+  pub says : Says (account_at (meaning begin.tool) (tree begin.files) folders begin.request) (FailsOn tree files_failed fails_on begin.files end.files) (FailsIn meaning failed fails_in begin.tool end.tool) result
+  pub request : end.request ≡ begin.request
+  pub kept_tree : tree end.files ≡ tree begin.files
+  pub kept_meaning : meaning end.tool ≡ meaning begin.tool

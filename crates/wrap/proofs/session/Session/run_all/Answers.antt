@@ -1,12 +1,14 @@
-use Rattle.std.proofs.Common.{◌≡◌, ℕ, List, rules, arith, sym, ap, ◌∙◌, subst, ◌++◌, ◌∷◌, [], ◌+◌, ◌<◌, length, get_or}
+use Rattle.std.proofs.Common.{◌≡◌, ℕ, List, Result, refl, rules, arith, sym, ap, ◌∙◌, subst, ◌++◌, ◌∷◌, [], ◌+◌, ◌<◌, length, get_or}
 use Rattle.os_files.specs.Bytes.{Bytes}
 use Rattle.os_files.specs.Fails.{FailsOn}
 use Rattle.ckeys.specs.Meaning.{FailsIn}
+use Rattle.ckeys.specs.declared.fault.Fault.{Fault}
 use Rattle.wrap_base.specs.Account.{account_at}
-use Rattle.wrap_base.specs.Whole.{Turn, begin_of, end_of, ticks_of, files_view, tool_view}
+use Rattle.wrap_base.specs.Whole.{IsAnswered, Turn, begin_of, end_of, ticks_of, files_view, tool_view}
+use Rattle.wrap_base.specs.declared.answer.Answer.{Answer}
 use Rattle.wrap_base.specs.declared.call.Call.{Call}
 use Rattle.wrap.proofs.CallSteps.{says_passes}
-use Rattle.wrap.proofs.RunSteps.{run_more, one_more, rest_more}
+use Rattle.wrap.proofs.RunSteps.{run_more, one_more, rest_more, each_set}
 use Rattle.wrap.proofs.session.Session.run_all.Goals as goal
 
 pub loop-call-preserved : goal.loop-call-preserved
@@ -30,6 +32,8 @@ loop-call-preserved g c =
       quiet = e.quiet;
       exact = e.exact;
     } in
+    let answered_by : List Bytes → Call g.row.F.Denot g.row.T.Denot → Call g.row.F.Denot g.row.T.Denot → Result Answer Fault → Type 0 = λ by. IsAnswered by g.F.Files.tree g.F.Files.failed g.F.Files.fails_on g.T.Preprocessor.meaning g.T.Preprocessor.failed g.T.Preprocessor.fails_in in
+    let answered : answered_by c.loop-call.self.folders called ended c.serve-answer.result = record { says = e.says; request = refl; kept_tree = e.tree; kept_meaning = e.meaning } in
     let grown = one_more (begin_of folders files tool) (end_of folders files tool) first now rs i c.call-item.result ended c.serve-answer.result c.loop-call.invariant.rest lt c.loop-call.invariant.count in
     record {
       count = search rules;
@@ -37,4 +41,5 @@ loop-call-preserved g c =
       rest = rest_more first now i _ c.loop-call.invariant.rest;
       fixed = e.folders ∙ c.loop-call.invariant.fixed;
       run = rw (pushed, grown) (run_more g.H.HashState.digest_of _ _ _ _ _ c.loop-call.invariant.run (subst turn_by c.loop-call.invariant.fixed turn));
+      said = rw pushed (each_set (answered_by folders) first now rs i c.call-item.result ended c.serve-answer.result c.loop-call.invariant.rest lt c.loop-call.invariant.count c.loop-call.invariant.said (subst (λ by. answered_by by called ended c.serve-answer.result) c.loop-call.invariant.fixed answered));
     }

@@ -1,5 +1,5 @@
 use Rattle.std.proofs.Common.{◌≡◌, length, map, vec_capacity, take, drop}
-use Rattle.wrap_base.specs.Whole.{Run, served, begin_of, end_of, files_view, tool_view}
+use Rattle.wrap_base.specs.Whole.{Each, IsAnswered, Run, served, begin_of, end_of, files_view, tool_view}
 use Rattle.wrap.proofs.session.Session.run_all.Given as goal
 
 -- the calls so far are a run, and those to come are as they were
@@ -14,4 +14,5 @@ invariant-loop-call g l =
       rest : drop l.call-index l.calls ≡ drop l.call-index l.fn.calls;
       fixed : l.self.folders ≡ l.fn.self.folders;
       run : Run g.H.HashState.digest_of (g.O.Store.shelf l.fn.self.objects) (served (take l.call-index (map (begin_of folders files tool) l.fn.calls)) (take l.call-index (map (end_of folders files tool) l.calls)) l.answers.items) (g.O.Store.shelf l.self.objects);
+      said : Each (IsAnswered folders g.F.Files.tree g.F.Files.failed g.F.Files.fails_on g.T.Preprocessor.meaning g.T.Preprocessor.failed g.T.Preprocessor.fails_in) (take l.call-index l.fn.calls) (take l.call-index l.calls) l.answers.items;
     }
