@@ -21,6 +21,7 @@ use Rattle.wrap_base.specs.Turn.{StoreTurn, IsOwn}
 use Rattle.wrap_base.specs.declared.answer.Answer.{Answer}
 use Rattle.wrap_base.specs.declared.answer.Answer.TheVariants.{Pass, Outputs}
 use Rattle.wrap_base.specs.declared.answer.How.TheVariants.{Direct, Stored, Fresh}
+use Rattle.wrap_base.specs.declared.store_key.Family.TheVariants.{C}
 use Rattle.wrap_base.specs.declared.store_key.StoreKey.{StoreKey}
 
 own_pair : (digest_of : Bytes → Bytes) (a : Account) (earlier : List Account) (key : StoreKey) (pairs : Pairs) → IsOwn digest_of a key pairs → (w : Work) × Contains (earlier ++ a ∷ []) (worked w) × IsOf digest_of w key pairs
@@ -39,6 +40,20 @@ invariant_step digest_of a old new before after result turn earlier inv key pair
 abbrev pub Tells : (Bytes → Bytes) → Type 0
 Tells digest_of = (one other : CRecord) → AreTold one.words one.variables → AreTold other.words other.variables → AreDistinct digest_of one other → ((key_of digest_of one ≡ key_of digest_of other) × (record_shape digest_of one ≡ record_shape digest_of other)) ↔ (one ≡ other)
 
+-- calls of one record have one key
+pub one_key : (digest_of : Bytes → Bytes) (w v : Work) → SameRecord w v → store_key_of digest_of w ≡ store_key_of digest_of v
+one_key digest_of w v same = λ i. record { family = C; shape = record_shape digest_of (same.parts i); names = same.names i; digest = key_of digest_of (same.parts i) }
+
+-- store keys tell records
+pub keys_tell : (digest_of : Bytes → Bytes) → Tells digest_of → (w v : Work) → AreTold w.rec.words w.rec.variables → AreTold v.rec.words v.rec.variables → AreDistinct digest_of w.rec v.rec → (store_key_of digest_of w ≡ store_key_of digest_of v) ↔ SameRecord w v
+keys_tell digest_of tells w v told also distinct = (
+  λ same. record {
+    parts = (tells w.rec v.rec told also distinct).0 (ap (λ (k : StoreKey). k.digest) same, ap (λ (k : StoreKey). k.shape) same);
+    names = ap (λ (k : StoreKey). k.names) same;
+  },
+  one_key digest_of w v,
+)
+
 module _ (digest_of : Bytes → Bytes) (tells : Tells digest_of) (w v : Work) (run : List Account) (here : Contains run (worked w)) (there : Contains run (worked v)) (premises : Premises digest_of run) (told : AreTold w.rec.words w.rec.variables) (also : AreTold v.rec.words v.rec.variables) (is_key : store_key_of digest_of w ≡ store_key_of digest_of v) where
   hashed : (bytes : Bytes) → IsHashedFor digest_of w.rec bytes ⊎ IsHashedFor digest_of v.rec bytes → IsHashedIn digest_of run bytes
   hashed bytes (inl h) = record { call = w; among = here; is = h }
@@ -46,10 +61,7 @@ module _ (digest_of : Bytes → Bytes) (tells : Tells digest_of) (w v : Work) (r
 
   -- calls of one key have one record
   same_record : SameRecord w v
-  same_record = record {
-    parts = (tells w.rec v.rec told also (λ one other p q. premises.distinct one other (hashed one p) (hashed other q))).0 (ap (λ (k : StoreKey). k.digest) is_key, ap (λ (k : StoreKey). k.shape) is_key);
-    names = ap (λ (k : StoreKey). k.names) is_key;
-  }
+  same_record = (keys_tell digest_of tells w v told also (λ one other p q. premises.distinct one other (hashed one p) (hashed other q))).0 is_key
 
   -- and one outcome
   same_success : (pairs : Pairs) → IsSuccess v pairs → IsSuccess w pairs

@@ -5,3 +5,4 @@ pub mod TurnLemmas
 pub mod CallSteps
 pub mod RunSteps
 pub mod GatherLemmas
+pub mod ExampleLemmas

@@ -7,7 +7,6 @@ use Rattle.std.proofs.lemmas.List.Elements.{Contains-append_left}
 use Rattle.std.specs.List.{AllByRecursion}
 use Rattle.os_files.specs.Bytes.{Bytes, ticked}
 use Rattle.ckeys_base.specs.Shelf.{Shelf}
-use Rattle.ckeys.specs.Keys.{key_of, record_shape}
 use Rattle.ckeys.specs.Meaning.{names_of}
 use Rattle.ckeys.specs.declared.fault.Fault.{Fault}
 use Rattle.wrap_base.specs.Verdict.{Why}
@@ -21,9 +20,8 @@ use Rattle.wrap_base.specs.declared.answer.Answer.TheVariants.{Pass, Outputs}
 use Rattle.wrap_base.specs.declared.answer.How.TheVariants.{Direct, Stored, Fresh}
 use Rattle.wrap_base.specs.declared.answer.Output.{Output}
 use Rattle.wrap_base.specs.declared.call.Call.{Call}
-use Rattle.wrap_base.specs.declared.store_key.Family.TheVariants.{C}
 use Rattle.wrap_base.specs.declared.store_key.StoreKey.{StoreKey}
-use Rattle.wrap.proofs.CallSteps.{Tells, invariant_step, answers_step}
+use Rattle.wrap.proofs.CallSteps.{Tells, invariant_step, answers_step, one_key}
 
 loses_nothing : (s : Shelf StoreKey Pairs) → Loses s s
 loses_nothing s = record { within = λ q v h. h; kept = λ h. (h, λ q i. i) }
@@ -86,10 +84,6 @@ run_kept digest_of old new (s ∷ run) r h = (r.2.kept ((r.3.store.kept (run_kep
 
 never_ticks : (n : ℕ) → n ≡ ticked n → ⊥
 never_ticks n e = omega arith
-
--- calls of one record have one key
-one_key : (digest_of : Bytes → Bytes) (w v : Work) → SameRecord w v → store_key_of digest_of w ≡ store_key_of digest_of v
-one_key digest_of w v same = λ i. record { family = C; shape = record_shape digest_of (same.parts i); names = same.names i; digest = key_of digest_of (same.parts i) }
 
 -- a fresh answer comes only where the key was lacked
 lacked_before : (digest_of : Bytes → Bytes) (w : Work) (old new : Shelf StoreKey Pairs) (before after : ℕ) (result : Result Answer Fault) → StoreTurn digest_of (worked w) old new before after result → new.kept ≡ true → IsFresh result → IsSome (old.held (store_key_of digest_of w)) → ⊥

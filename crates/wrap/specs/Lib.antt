@@ -2,3 +2,4 @@ pub mod Plans
 pub mod Sessions
 pub mod Gathering
 pub mod Steps
+pub mod Example
