@@ -101,7 +101,11 @@ fn source_by<S: SearchableArgInfo<ArgData>>(
 }
 
 /// What the words of a command to that compiler name.
-pub fn source_of(alloc: Global, kind: CCompilerKind, words: &[OsBytes]) -> Result<Source, AllocError>
+pub fn source_of(
+    alloc: Global,
+    kind: CCompilerKind,
+    words: &[OsBytes],
+) -> Result<Source, AllocError>
     ensures { IfOk result (λ source. source ≡ source_in (reading_of kind words.now)) }
 {
     match kind {

@@ -1,5 +1,5 @@
 -- The invariant from call to call, what it says of a kept output, and what an answer comes to.
-use Rattle.std.proofs.Common.{◌≡◌, ℕ, List, [], ◌∷◌, ◌++◌, Option, Some, None, Result, Ok, Err, IsErrOf, ◌⊎◌, inl, inr, ◌↔◌, refl, sym, ap, subst, ◌∙◌, arith, pos}
+use Rattle.std.proofs.Common.{◌≡◌, ℕ, List, [], ◌∷◌, ◌++◌, Some, Result, Ok, Err, IsErrOf, ◌⊎◌, inl, inr, ◌↔◌, refl, ap, subst, ◌∙◌, arith}
 use Rattle.std.specs.List.{Contains}
 use Rattle.std.proofs.lemmas.List.Elements.{Contains-append_left, Contains-push}
 use Rattle.os_files.specs.Bytes.{Bytes, ticked}
@@ -11,10 +11,9 @@ use Rattle.ckeys.specs.Meaning.{Made, Meaning, FailsIn, names_of}
 use Rattle.ckeys.specs.Records.{AreTold, CRecord}
 use Rattle.ckeys.specs.declared.fault.Fault.{Fault}
 use Rattle.ckeys.specs.declared.fault.Fault.TheVariants.{Memory, Read, Tool, PreprocessFailed, CompileFailed, MissingOutput}
-use Rattle.ckeys.specs.declared.output_name.OutputName.{OutputName}
 use Rattle.ckeys.specs.declared.step.Step.{Step}
 use Rattle.wrap_base.specs.Verdict.{Why}
-use Rattle.wrap_base.specs.Account.{Account, passed, worked, Work, Pairs, IsSuccess, collected, all, why_passed}
+use Rattle.wrap_base.specs.Account.{Account, passed, worked, Work, Pairs, IsSuccess, collected, why_passed}
 use Rattle.wrap_base.specs.Answers.{Answers, Says, SaysPassed, settled, settled_by}
 use Rattle.wrap_base.specs.Keys.{store_key_of, SameRecord, IsHashedIn, Premises, IsOf, Invariant}
 use Rattle.wrap_base.specs.Turn.{StoreTurn, IsOwn}

@@ -1,13 +1,12 @@
 -- The premises can be met.
-use Rattle.std.proofs.Common.{◌≡◌, Bool, true, false, if◌then◌else◌, ℕ, zero, suc, List, [], ◌∷◌, ◌⊎◌, inl, inr, refl, sym, ap, subst, ◌∙◌, ◌<◌, arith, get_or, codes, length}
+use Rattle.std.proofs.Common.{◌≡◌, Bool, true, false, if◌then◌else◌, ℕ, zero, suc, [], ◌∷◌, ◌⊎◌, inl, inr, refl, sym, ap, subst, ◌∙◌, ◌<◌, arith, get_or, codes, length}
 use Rattle.std.specs.List.{Contains, repeat}
 use Rattle.std.specs.Str.{bytes_eq}
 use Rattle.os_files.specs.Bytes.{Bytes}
 use Rattle.ckeys.specs.Keys.{IsHashedFor, record_material}
-use Rattle.ckeys.specs.Meaning.{Made}
 use Rattle.ckeys.specs.Records.{CRecord}
-use Rattle.wrap_base.specs.Account.{Account, worked, Work}
-use Rattle.wrap_base.specs.Keys.{IsHashedIn, Premises, SameRecord}
+use Rattle.wrap_base.specs.Account.{worked, Work}
+use Rattle.wrap_base.specs.Keys.{IsHashedIn, Premises}
 use Rattle.wrap.specs.Example.{compile_of, first_material, two_compiles, telling_digest}
 
 abbrev pub one : Work

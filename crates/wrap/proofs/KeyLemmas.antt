@@ -3,7 +3,6 @@ use Rattle.std.proofs.Common.{◌≡◌, ℤ, List, Result, Ok, Err, IfErr, IsEr
 use Rattle.os_files.specs.Bytes.{Bytes}
 use Rattle.os_files.specs.Tree.{Tree}
 use Rattle.cmdlines.specs.declared.parsed.ParsedArguments.{ParsedArguments}
-use Rattle.ckeys.specs.Calls.{KeyCall}
 use Rattle.ckeys.specs.Hashers.{call_of}
 use Rattle.ckeys.specs.Meaning.{Variables, scene_with}
 use Rattle.ckeys.specs.declared.fault.Fault.{Fault}

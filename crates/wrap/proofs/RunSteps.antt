@@ -1,5 +1,5 @@
 -- Runs, call by call.
-use Rattle.std.proofs.Common.{◌≡◌, ℕ, List, [], ◌∷◌, ◌++◌, length, true, Option, Some, None, IsSome, Result, Ok, Err, IfOk, inl, inr, refl, sym, ap, subst, ◌∙◌, map, append_assoc, arith, take, drop, get_or, ◌<◌, ◌+◌, add-zero}
+use Rattle.std.proofs.Common.{◌≡◌, ℕ, List, [], ◌∷◌, ◌++◌, length, true, Some, IsSome, Result, Ok, Err, IfOk, inl, inr, refl, sym, ap, subst, ◌∙◌, map, append_assoc, arith, take, drop, get_or, ◌<◌, ◌+◌, add-zero}
 use Rattle.std.proofs.Math.ListN.{set}
 use Rattle.std.proofs.Math.Seq.{drop-drop}
 use Rattle.std.proofs.lemmas.List.{take_more, take_more_set, take-map, map-append, get_or-drop, get_or-map, drop-set-lt, length-drop, length-map, length-take-le}
@@ -10,15 +10,14 @@ use Rattle.ckeys_base.specs.Shelf.{Shelf}
 use Rattle.ckeys.specs.Meaning.{names_of}
 use Rattle.ckeys.specs.declared.fault.Fault.{Fault}
 use Rattle.wrap_base.specs.Verdict.{Why}
-use Rattle.wrap_base.specs.Account.{Account, passed, worked, Work, Pairs, IsSuccess, account_at, collected, all, placed, why_passed}
+use Rattle.wrap_base.specs.Account.{Account, passed, worked, Work, Pairs, account_at, collected, all, placed, why_passed}
 use Rattle.wrap_base.specs.Answers.{Answers, SaysPassed}
-use Rattle.wrap_base.specs.Keys.{store_key_of, SameRecord, Premises, Invariant}
+use Rattle.wrap_base.specs.Keys.{store_key_of, Premises, Invariant}
 use Rattle.wrap_base.specs.Turn.{StoreTurn}
 use Rattle.wrap_base.specs.Whole.{Ticks, Turn, Served, Loses, Run, IsEmpty, accounts_of, AllAnswer, IsFresh, HaveOneRecord, OneFresh, outputs_in, Agree, SameOutputs, served, Each, FilesView, ToolView, begin_of, end_of, served_at, accounts_at}
 use Rattle.wrap_base.specs.declared.answer.Answer.{Answer}
 use Rattle.wrap_base.specs.declared.answer.Answer.TheVariants.{Pass, Outputs}
 use Rattle.wrap_base.specs.declared.answer.How.TheVariants.{Direct, Stored, Fresh}
-use Rattle.wrap_base.specs.declared.answer.Output.{Output}
 use Rattle.wrap_base.specs.declared.call.Call.{Call}
 use Rattle.wrap_base.specs.declared.store_key.StoreKey.{StoreKey}
 use Rattle.wrap.proofs.CallSteps.{Tells, invariant_step, answers_step, one_key}

@@ -1,5 +1,5 @@
 -- A run that meets the premises: two calls that differ, and a digest of 32 bytes.
-use Rattle.std.specs.Prelude.{pos, ℕ, false, List, [], ◌∷◌, ◌++◌, None, Some, codes, if◌then◌else◌}
+use Rattle.std.specs.Prelude.{pos, false, List, [], ◌∷◌, ◌++◌, None, Some, codes, if◌then◌else◌}
 use Rattle.std.specs.List.{repeat}
 use Rattle.std.specs.Str.{bytes_eq}
 use Rattle.os_files.specs.Bytes.{Bytes}

@@ -1,15 +1,14 @@
 -- A call as plain values, and what it is to give.
-use Rattle.std.specs.Prelude.{◌≡◌, ℤ, pos, List, [], ◌∷◌, map, Option, Some, None, if◌then◌else◌}
+use Rattle.std.specs.Prelude.{◌≡◌, pos, List, [], ◌∷◌, map, Option, Some, None, if◌then◌else◌}
 use Rattle.std.specs.Ordering.{int_eq}
 use Rattle.std.specs.Str.{bytes_eq}
 use Rattle.os_files.specs.Bytes.{Bytes}
 use Rattle.os_files.specs.Tree.{Tree}
-use Rattle.cmdlines_base.specs.declared.command.ArtifactDescriptor.{ArtifactDescriptor}
 use Rattle.cmdlines.specs.Commands.{compile_words, output_path}
 use Rattle.cmdlines.specs.Parsing.{Artifacts}
 use Rattle.cmdlines.specs.declared.parsed.ParsedArguments.{ParsedArguments}
 use Rattle.cmdlines_tables.specs.Tables.{reading_of}
-use Rattle.ckeys.specs.Calls.{KeyCall, key_fault_of, or_else, record_of}
+use Rattle.ckeys.specs.Calls.{KeyCall, key_fault_of, record_of}
 use Rattle.ckeys.specs.Meaning.{Scene, Made, Meaning, names_of}
 use Rattle.ckeys.specs.Records.{CRecord}
 use Rattle.ckeys.specs.declared.fault.Fault.{Fault}

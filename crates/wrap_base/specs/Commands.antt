@@ -1,7 +1,7 @@
 -- The compiler of a request, and its commands.
 use Rattle.std.specs.Prelude.{List, string_bytes}
 use Rattle.os_files.specs.Bytes.{Bytes}
-use Rattle.cmdlines.specs.Commands.{command_at, compile_words, preprocess_words, output_path}
+use Rattle.cmdlines.specs.Commands.{command_at, compile_words, output_path}
 use Rattle.cmdlines.specs.Compilers.{Traits}
 use Rattle.cmdlines.specs.declared.parsed.ParsedArguments.{ParsedArguments}
 use Rattle.cmdlines_base.specs.declared.command.SingleCompileCommand.{SingleCompileCommand}

@@ -1,5 +1,5 @@
 -- What a call's outputs are kept under, and what is held.
-use Rattle.std.specs.Prelude.{◌≡◌, ◌⊎◌, List, Option, Some}
+use Rattle.std.specs.Prelude.{◌≡◌, List, Option, Some}
 use Rattle.std.specs.List.{Contains}
 use Rattle.os_files.specs.Bytes.{Bytes}
 use Rattle.ckeys.specs.Keys.{IsHashedFor, Distinct, key_of, record_shape}

@@ -1,6 +1,6 @@
 use Rattle.std.specs.declared.alloc.Global.{Global}
 use Rattle.std.specs.declared.vec.Vec.{Vec}
-use Rattle.std.proofs.Common.{◌≡◌, ℕ, None, rules, ap, sym, subst, ◌∙◌, to_z, of_z, w64}
+use Rattle.std.proofs.Common.{◌≡◌, ℕ, rules, ap, sym, subst, ◌∙◌, to_z, of_z, w64}
 use Rattle.os_files.specs.Fails.{FailsOn}
 use Rattle.ckeys.specs.Calls.{KeyCall, KeyCause, key_fault_of, record_of}
 use Rattle.ckeys.specs.Keys.{key_of, record_shape}

@@ -4,7 +4,6 @@ use Rattle.ckeys.specs.declared.fault.Fault.TheVariants.{CompileFailed}
 use Rattle.cmdlines_tables.specs.Tables.{reading_of}
 use Rattle.ckeys.specs.declared.step.Step.TheVariants.{Compile}
 use Rattle.wrap_base.specs.Account.{call_at, work_at, compile_fault_of}
-use Rattle.wrap_base.specs.Commands.{kind_of}
 use Rattle.ckeys.specs.Meaning.{FailsIn, made_of, names_of, scene_of}
 use Rattle.wrap.proofs.StepLemmas.{fresh_is, made_fresh, collect_cause, failed_cause}
 use Rattle.wrap.proofs.steps.compiled_pairs.Goals as goal

@@ -9,5 +9,5 @@ returns-clause-answer g c =
     let names = names_of c.args.outputs.now in
     let folders = c.basedirs.ensures ∙ ap (λ (s : Settings). s.basedirs) c.text.ensures.config in
     c.in_ok-compiled.ensures
-        ∙ ap (λ list. compiled (without list c.in_ok-text.text) names) folders
-        ∙ ap (λ text. compiled (without c.args.self.now.config.basedirs text) names) (c.in_ok-text.ensures.text c.args._moment)
+    ∙ ap (λ list. compiled (without list c.in_ok-text.text) names) folders
+    ∙ ap (λ text. compiled (without c.args.self.now.config.basedirs text) names) (c.in_ok-text.ensures.text c.args._moment)

@@ -1,10 +1,10 @@
-use Rattle.std.proofs.Common.{◌≡◌, ℕ, List, Result, refl, rules, arith, sym, ap, ◌∙◌, subst, ◌++◌, ◌∷◌, [], ◌+◌, ◌<◌, length, get_or}
+use Rattle.std.proofs.Common.{◌≡◌, List, Result, refl, rules, arith, ◌∙◌, subst, ◌++◌, ◌∷◌, [], ◌<◌, length, get_or}
 use Rattle.os_files.specs.Bytes.{Bytes}
 use Rattle.os_files.specs.Fails.{FailsOn}
 use Rattle.ckeys.specs.Meaning.{FailsIn}
 use Rattle.ckeys.specs.declared.fault.Fault.{Fault}
 use Rattle.wrap_base.specs.Account.{account_at}
-use Rattle.wrap_base.specs.Whole.{IsAnswered, Turn, begin_of, end_of, ticks_of, files_view, tool_view}
+use Rattle.wrap_base.specs.Whole.{IsAnswered, Turn, begin_of, end_of, files_view, tool_view}
 use Rattle.wrap_base.specs.declared.answer.Answer.{Answer}
 use Rattle.wrap_base.specs.declared.call.Call.{Call}
 use Rattle.wrap.proofs.CallSteps.{says_passes}
