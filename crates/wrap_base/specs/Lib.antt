@@ -5,3 +5,4 @@ pub mod Keys
 pub mod Answers
 pub mod Turn
 pub mod Whole
+pub mod MapStores

@@ -3,7 +3,8 @@
 ghost use Rattle.std.specs.Prelude.{◌≡◌, ◌↔◌, true, None};
 ghost use Rattle.std.specs.HashMap.{get};
 ghost use Rattle.std.proofs.Common.{rules};
-ghost use Rattle.ckeys_base.specs.Shelf.{KeepsKeys};
+ghost use Rattle.ckeys_base.specs.Shelf.{Clears, KeepsKeys, Puts};
+ghost use Rattle.wrap_base.specs.MapStores.{PutsAlone, count_of, shelf_of};
 
 use ckeys_base::store::Store;
 use std::alloc::Global;
@@ -22,9 +23,10 @@ pub struct MapStore<K: Eq + Hash, V> {
 impl<K: Eq + Hash + Drop, V: Drop> MapStore<K, V> {
     /// A store that holds nothing and has kept all. It takes no memory.
     pub fn new(alloc: Global) -> MapStore<K, V>
-        ensures empty { let shelf = ⟦<MapStore<K, V> as Store<K, V>>⟧.shelf result in (key : K) → shelf.held key ≡ None }
-        ensures kept { let shelf = ⟦<MapStore<K, V> as Store<K, V>>⟧.shelf result in shelf.kept ≡ true }
-        ensures ticks { let shelf = ⟦<MapStore<K, V> as Store<K, V>>⟧.shelf result in (shelf.forgets ≡ 0) × (shelf.clears ≡ 0) }
+        ensures empty { (key : K) → (shelf_of K.eq result).held key ≡ None }
+        ensures count { count_of result ≡ 0 }
+        ensures kept { (shelf_of K.eq result).kept ≡ true }
+        ensures ticks { ((shelf_of K.eq result).forgets ≡ 0) × ((shelf_of K.eq result).clears ≡ 0) }
     {
         MapStore {
             map: HashMap::new(alloc),
@@ -37,6 +39,7 @@ impl<K: Eq + Hash + Drop, V: Drop> MapStore<K, V> {
     fn drop_all(&mut self)
         ensures gone { (q : K) → get K.eq self.new.map q ≡ None }
         ensures kept { (self.new.kept ≡ true) ↔ ((self.old.kept ≡ true) × KeepsKeys (λ q. get K.eq self.old.map q) (λ q. get K.eq self.new.map q)) }
+        ensures count { count_of self.new ≡ 0 }
         ensures cleared { self.new.cleared ≡ self.old.cleared }
     {
         keys_are_themselves::<K>();
@@ -45,13 +48,15 @@ impl<K: Eq + Hash + Drop, V: Drop> MapStore<K, V> {
     }
 
     /// How many pairs are held. It takes no memory.
-    pub fn len(&self) -> usize {
+    pub fn len(&self) -> usize
+        ensures { result ≡ count_of self.now }
+    {
         self.map.len()
     }
 }
 
 impl<K: Eq + Hash + Drop, V: Drop> Store<K, V> for MapStore<K, V> {
-    ghost shelf = { λ s. record { held = λ k. get K.eq s.map k; kept = s.kept; forgets = 0; clears = s.cleared } };
+    ghost shelf = { shelf_of K.eq };
 
     ghost respects = { λ s a b e. Prim.search rules };
 
@@ -59,7 +64,10 @@ impl<K: Eq + Hash + Drop, V: Drop> Store<K, V> for MapStore<K, V> {
         self.map.get(key)
     }
 
-    fn put(&mut self, key: K, value: V) -> Result<(), (K, V)> {
+    fn put(&mut self, key: K, value: V) -> Result<(), (K, V)>
+        ensures stored { Puts K.eq (shelf_of K.eq self.old) (shelf_of K.eq self.new) key value result }
+        ensures alone { PutsAlone K.eq self.old self.new key value result }
+    {
         match self.map.insert(key, value) {
             Ok(_) => Ok(()),
             Err(failed) => {
@@ -69,7 +77,10 @@ impl<K: Eq + Hash + Drop, V: Drop> Store<K, V> for MapStore<K, V> {
         }
     }
 
-    fn forget_all(&mut self) {
+    fn forget_all(&mut self)
+        ensures dropped { Clears (shelf_of K.eq self.old) (shelf_of K.eq self.new) }
+        ensures count { count_of self.new ≡ 0 }
+    {
         self.drop_all();
         self.cleared = self.cleared.wrapping_add(1);
     }
