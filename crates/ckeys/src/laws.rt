@@ -13,12 +13,13 @@ use ckeys_base::digest::texts_tell_digests;
 use ckeys_base::hash_state::HashState;
 
 /// The hashed bytes tell the parts, together with the shape: equal bytes and shapes are of equal parts, whose words
-/// lack the byte 255.
+/// lack the byte 255 and whose variables have lengths below 2^64.
 pub fn materials_tell_parts()
     ensures { (one other : HashedParts) → AreTold one.words one.variables → AreTold other.words other.variables → material_of one ≡ material_of other → shape_of one ≡ shape_of other → one ≡ other }
 {}
 
-/// Under distinct digests keys with their shapes are equal exactly if the records are, whose words lack the byte 255.
+/// Under distinct digests keys with their shapes are equal exactly if the records are, whose words lack the byte 255 and whose
+/// variables have lengths below 2^64.
 pub fn keys_tell_records<H: HashState>()
     ensures { (one other : CRecord) → AreTold one.words one.variables → AreTold other.words other.variables → AreDistinct H.digest_of one other
         → ((key_of H.digest_of one ≡ key_of H.digest_of other) × (record_shape H.digest_of one ≡ record_shape H.digest_of other)) ↔ (one ≡ other) }
