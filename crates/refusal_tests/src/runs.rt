@@ -4,14 +4,16 @@ use std::alloc::Global;
 use std::test::Fail;
 use scenarios::program::{RunFault, run};
 
-/// A request that is compiled, with an included file, and one that is passed through.
+/// A request that is compiled, with an included file, the same request again, and one that is passed through.
 const SCENARIO: &str = r##"{"requests":[
+ {"compiler":"gcc","words":["-c","-I","inc","-DA=1","-O2","m.c","-o","out/m.o"],"env":[["PATH","/bin"]],
+  "files":{"/w/m.c":"#include \"h.h\"\nint x;\n","/w/h.h":{"text":"int y;","mtime":7}}},
  {"compiler":"gcc","words":["-c","-I","inc","-DA=1","-O2","m.c","-o","out/m.o"],"env":[["PATH","/bin"]],
   "files":{"/w/m.c":"#include \"h.h\"\nint x;\n","/w/h.h":{"text":"int y;","mtime":7}}},
  {"compiler":"gcc","words":["-c",{"hex":"666f6f2e63"},"-I"]}]}"##;
 
 /// The text is three markers of 13 bytes each, the included line and the other one, of 7 bytes each.
-const EXPECTED: &str = "1 fresh obj:53\n2 pass empty value\ncompiles 1\n";
+const EXPECTED: &str = "1 fresh obj:53\n2 stored obj:53\n3 pass empty value\ncompiles 1\n";
 
 /// How a run went.
 #[derive(Clone, Copy, PartialEq, Eq)]
@@ -37,9 +39,14 @@ fn of_lines(lines: &[u8]) -> Outcome {
         return Outcome::AsExpected;
     }
     let refused = [
-        "1 fault memory\n2 pass empty value\ncompiles 0\n",
-        "1 fault memory\n2 pass empty value\ncompiles 1\n",
-        "1 fresh obj:53\n2 fault memory\ncompiles 1\n",
+        // Before the first request's compile.
+        "1 fault memory\n2 fresh obj:53\n3 pass empty value\ncompiles 1\n",
+        // From its compile on, before the store.
+        "1 fault memory\n2 fresh obj:53\n3 pass empty value\ncompiles 2\n",
+        // In the store, which then doesn't have it.
+        "1 fresh obj:53\n2 fresh obj:53\n3 pass empty value\ncompiles 2\n",
+        "1 fresh obj:53\n2 fault memory\n3 pass empty value\ncompiles 1\n",
+        "1 fresh obj:53\n2 stored obj:53\n3 fault memory\ncompiles 1\n",
     ];
     for other in refused {
         if lines == other.as_bytes() {

@@ -10,4 +10,6 @@ mod rows;
 #[cfg(test)]
 mod scenario;
 #[cfg(test)]
+mod stored;
+#[cfg(test)]
 mod texts;

@@ -1,10 +1,10 @@
 //! Each fault of a run.
 
+use scenarios::program::{RunFault, run};
 use std::alloc::{AllocError, Global};
 use std::io;
 use std::io::{ErrorKind, Read, Write};
 use std::test::Fail;
-use scenarios::program::{RunFault, run};
 
 const NO_REQUESTS: &[u8; 15] = b"{\"requests\":[]}";
 

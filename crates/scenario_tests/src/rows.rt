@@ -1,9 +1,9 @@
-//! Scenarios, and what is printed of each.
+//! Scenarios of one request, and what is printed of each.
 
+use scenarios::program::run;
 use std::alloc::Global;
 use std::process::Abort;
 use std::test::Fail;
-use scenarios::program::run;
 
 /// What a run over this scenario prints.
 fn printed(alloc: Global, scenario: &str) -> Result<Vec<u8>, Fail> {
@@ -66,6 +66,22 @@ fn compiled(rt: HostRuntime) -> Result<(), Fail> {
             r##"{"/w/foo.c":"#error\n"}"##,
             "1 fault compile 1\ncompiles 1\n",
         ),
+        (
+            r#"["-c","foo.c","-fplugin=p.so"]"#,
+            INT_X,
+            "1 fault read /w/p.so\ncompiles 0\n",
+        ),
+        (
+            r#"["-c","none.i"]"#,
+            "{}",
+            "1 fault read /w/none.i\ncompiles 0\n",
+        ),
+        // Words of the preprocessor aren't hashed, so they may hold the byte that ends a hashed word.
+        (
+            r#"["-c","foo.c",{"hex":"2d44ff"}]"#,
+            INT_X,
+            "1 fresh obj:22\ncompiles 1\n",
+        ),
     ];
     each_prints(&rt, rt.alloc(), "gcc", &rows)
 }
@@ -98,6 +114,7 @@ fn passed(rt: HostRuntime) -> Result<(), Fail> {
         (r#"["-c","foo.c","-x"]"#, "unknown source language"),
         (r#"["-x","c","-c",".."]"#, "no output file"),
         (r#"["-c","@args","foo.c"]"#, "@"),
+        (r#"["-c","foo.c",{"hex":"2d4fff"}]"#, "byte 255"),
     ];
     each_passes(&rt, rt.alloc(), "gcc", &rows)
 }
@@ -151,24 +168,4 @@ fn clang_is_served(rt: HostRuntime) -> Result<(), Fail> {
         ),
     ];
     each_prints(&rt, rt.alloc(), "clang", &rows)
-}
-
-#[test]
-fn several_requests(rt: HostRuntime) -> Result<(), Fail> {
-    let alloc = rt.alloc();
-    let request =
-        r#"{"compiler":"gcc","words":["-o","foo.o","-c","foo.c"],"files":{"/w/foo.c":"int x;\n"}}"#;
-    let twice = format!(in alloc; r#"{{"requests":[{request},{request}]}}"#)?;
-    let rows = [
-        (
-            twice.as_str(),
-            "1 fresh obj:22\n2 fresh obj:22\ncompiles 2\n",
-        ),
-        (r#"{"requests":[]}"#, "compiles 0\n"),
-    ];
-    for (scenario, expected) in rows {
-        let lines = printed(alloc, scenario)?;
-        assert_eq!(rt; lines.as_slice(), expected.as_bytes(), "{scenario}");
-    }
-    Ok(())
 }

@@ -1,8 +1,8 @@
 //! Which texts are scenarios, and that a request's members are used.
 
+use scenarios::program::{RunFault, run};
 use std::alloc::{AllocError, Global};
 use std::test::Fail;
-use scenarios::program::{RunFault, run};
 
 /// How many requests a run of the scenario of this text answers, and None where it can't be read.
 fn count_of(alloc: Global, text: &[u8]) -> Result<Option<usize>, RunFault> {
@@ -29,6 +29,9 @@ fn scenarios(rt: HostRuntime) -> Result<(), Fail> {
         r#"{"requests":[]}"#,
         r#" { "requests" : [] , "later" : { "a" : [1e3, null] } } "#,
         r#"{"requests":1,"requests":[]}"#,
+        r#"{"requests":[],"basedirs":[]}"#,
+        r#"{"requests":[],"basedirs":["/w","/w/",{"hex":"2fff"},"//w"]}"#,
+        r#"{"basedirs":1,"basedirs":["/w"],"requests":[]}"#,
     ] {
         assert_eq!(rt; count_of(alloc, text.as_bytes())?, Some(0), "{text}");
     }
@@ -44,6 +47,16 @@ fn scenarios(rt: HostRuntime) -> Result<(), Fail> {
         r#"{"requests":[{"words":[]}]}"#,
         r#"{"requests":[]} {}"#,
         r#"{"requests":[],}"#,
+        r#"{"requests":[],"basedirs":null}"#,
+        r#"{"requests":[],"basedirs":"/w"}"#,
+        r#"{"requests":[],"basedirs":{"hex":"2f77"}}"#,
+        r#"{"requests":[],"basedirs":[1]}"#,
+        r#"{"requests":[],"basedirs":[null]}"#,
+        r#"{"requests":[],"basedirs":[{"hex":"2f7"}]}"#,
+        r#"{"requests":[],"basedirs":["w"]}"#,
+        r#"{"requests":[],"basedirs":["/"]}"#,
+        r#"{"requests":[],"basedirs":["//"]}"#,
+        r#"{"requests":[],"basedirs":["/w",""]}"#,
     ] {
         assert_eq!(rt; count_of(alloc, text.as_bytes())?, None, "{text}");
     }
@@ -63,6 +76,15 @@ fn readable_members(rt: HostRuntime) -> Result<(), Fail> {
         r#","dir":1,"dir":"/x""#,
         r#","compiler":"tcc","compiler":"gcc""#,
         r#","compiler":"clang""#,
+        r#","executable":"/usr/bin/gcc""#,
+        r#","executable":{"hex":"ff"}"#,
+        r#","digest":"""#,
+        r#","digest":1,"digest":"a""#,
+        r#","plusplus":true"#,
+        r#","plusplus":false"#,
+        r#","assembler":"a""#,
+        r#","forget":true"#,
+        r#","forget":false"#,
         r#","env":[["A","1"],["A",{"hex":"00"}]]"#,
         r#","moment":-9223372036854775808"#,
         r#","moment":9223372036854775807"#,
@@ -81,6 +103,23 @@ fn unreadable_members(rt: HostRuntime) -> Result<(), Fail> {
     for members in [
         r#","compiler":"tcc""#,
         r#","compiler":{"hex":"676363"}"#,
+        r#","executable":null"#,
+        r#","executable":1"#,
+        r#","executable":["gcc"]"#,
+        r#","executable":{"text":"gcc"}"#,
+        r#","executable":{"hex":"67636"}"#,
+        r#","digest":null"#,
+        r#","digest":1"#,
+        r#","digest":{"hex":"64"}"#,
+        r#","plusplus":null"#,
+        r#","plusplus":1"#,
+        r#","plusplus":"true""#,
+        r#","assembler":null"#,
+        r#","assembler":false"#,
+        r#","assembler":{"hex":"61"}"#,
+        r#","forget":null"#,
+        r#","forget":0"#,
+        r#","forget":"true""#,
         r#","words":"a""#,
         r#","words":[1]"#,
         r#","words":[{"text":"a"}]"#,

@@ -1,7 +1,7 @@
 //! The texts of the scripted tool, by their lengths, which a run prints.
 
-use std::test::Fail;
 use scenarios::program::run;
+use std::test::Fail;
 
 #[test]
 fn texts_have_their_lengths(rt: HostRuntime) -> Result<(), Fail> {

@@ -1,7 +1,9 @@
 //! Byte strings in JSON: a text stands for its UTF-8 bytes, and `{"hex": ".."}` for any bytes.
 
+use crate::members::into_list;
 use crate::scenario::ScenarioFault;
 use hex::FromHexError;
+use os_files::listed::Listed;
 use os_files::os_bytes::OsBytes;
 use serde_json::{Map, Value};
 use std::alloc::Global;
@@ -25,6 +27,18 @@ pub(crate) fn read_byte_text(alloc: Global, value: Value) -> Result<OsBytes, Sce
         },
         _ => Err(ScenarioFault::Unreadable),
     }
+}
+
+/// The byte strings of a list of byte texts.
+pub(crate) fn read_byte_texts(
+    alloc: Global,
+    value: Value,
+) -> Result<Listed<OsBytes>, ScenarioFault> {
+    let mut texts = Vec::new(alloc);
+    for text in into_list(value)? {
+        texts.push(read_byte_text(alloc, text)?)?;
+    }
+    Ok(Listed::from_vec(texts))
 }
 
 /// The bytes that a text of lowercase hexadecimal digits names, two digits each.

@@ -2,5 +2,7 @@
 #![tactic(auto)]
 
 mod byte_text;
+mod compilers;
+mod members;
 pub mod program;
 mod scenario;

@@ -3,22 +3,24 @@
 ghost use Rattle.std.specs.Prelude.{◌≡◌, ◌⊎◌, ◌<◌, ◌↔◌, length, OnOk, IfErr, IsErrOf};
 ghost use Rattle.std.specs.Io.KnownBytes.{IsAtEnd};
 
-use crate::scenario::{ScenarioCall, ScenarioFault, read_scenario};
-use script_tool::script::ScriptTool;
-use wrap::session::Session;
-use ckeys::config::KeyConfig;
+use crate::scenario::{Scenario, ScenarioCall, ScenarioFault, read_scenario};
 use ckeys::fault::Fault;
 use ckeys::preprocessor::Preprocessor;
 use os_files::listed::Listed;
 use os_files::os_bytes::OsBytes;
+use script_tool::script::ScriptTool;
 use sha2::Sha256;
 use std::alloc::{AllocError, AllocFailed, Global};
 use std::io;
 use std::io::{ErrorKind, Read, Write};
 use thiserror::Error;
+use wrap::session::Session;
 use wrap_base::answer::{Answer, How, Output};
 use wrap_base::map_store::MapStore;
 use wrap_base::store_key::StoreKey;
+
+/// What is kept of requests.
+type Kept = MapStore<StoreKey, Listed<(OsBytes, OsBytes)>>;
 
 /// Why a run stopped.
 #[derive(Debug, Drop, Error)]
@@ -70,7 +72,7 @@ impl From<ScenarioFault> for RunFault {
     }
 }
 
-/// Reads a scenario from the reader to its end, serves the requests in one session, and writes a line for each and then how often a compiler ran.
+/// Reads a scenario from the reader to its end, serves the requests in one session by one tool, and writes a line for each and then how often a compiler ran.
 ///
 /// `args` are the words behind the program's name. Nothing is written before the whole scenario is read.
 pub fn run<R: Read, W: Write>(
@@ -89,12 +91,12 @@ pub fn run<R: Read, W: Write>(
     if !args.is_empty() {
         return Err(RunFault::Arguments);
     }
-    let calls = read_calls(alloc, reader)?;
-    serve_calls(alloc, calls, writer)
+    let scenario = whole_scenario(alloc, reader)?;
+    serve_calls(alloc, scenario, writer)
 }
 
-/// The calls of the scenario that the reader gives to its end.
-fn read_calls<R: Read>(alloc: Global, reader: &mut R) -> Result<Vec<ScenarioCall>, RunFault>
+/// The scenario that the reader gives to its end.
+fn whole_scenario<R: Read>(alloc: Global, reader: &mut R) -> Result<Scenario, RunFault>
     ensures fault { IfErr result (λ f. (f ≡ RunFault.Scenario) ⊎ (f ≡ RunFault.Memory)) }
     ensures read { OnOk result (IsAtEnd (R.remaining reader.new)) }
 {
@@ -105,35 +107,43 @@ fn read_calls<R: Read>(alloc: Global, reader: &mut R) -> Result<Vec<ScenarioCall
     Ok(read_scenario(alloc, bytes.as_slice())?)
 }
 
-/// The configuration without folders.
-fn no_folders(alloc: Global) -> Result<KeyConfig, RunFault>
-    ensures fault { IfErr result (λ f. f ≡ RunFault.Memory) }
-{
-    KeyConfig::new(alloc, &[]).map_err(|_fault| RunFault::Memory)
-}
-
 /// Serves the calls in order, and writes a line for each and then how often a compiler ran.
-fn serve_calls<W: Write>(
-    alloc: Global,
-    calls: Vec<ScenarioCall>,
-    writer: &mut W,
-) -> Result<(), RunFault>
+fn serve_calls<W: Write>(alloc: Global, scenario: Scenario, writer: &mut W) -> Result<(), RunFault>
     ensures fault { IfErr result (λ f. (f ≡ RunFault.Output) ⊎ (f ≡ RunFault.Memory)) }
 {
-    let objects = MapStore::<StoreKey, Listed<(OsBytes, OsBytes)>>::new(alloc);
-    let mut session = Session::<Sha256, _>::new(alloc, no_folders(alloc)?, objects);
-    let mut compiles = 0u64;
+    let Scenario {
+        session_config,
+        tool_config,
+        calls,
+    } = scenario;
+    let mut session = Session::new(alloc, session_config, MapStore::new(alloc));
+    let mut tool = ScriptTool::new(tool_config);
     for (number, call) in (1u64..).zip(calls) {
-        let ScenarioCall { request, mut files } = call;
-        let mut tool = ScriptTool::new();
-        let answer = session.serve(&request, &mut files, &mut tool);
-        compiles = compiles.saturating_add(tool.ticks().compile);
+        let answer = answered(call, &mut session, &mut tool);
         write_line(writer, &line_of(alloc, number, &answer)?)?;
     }
+    let compiles = tool.ticks().compile;
     write_line(writer, &format!(in alloc; "compiles {compiles}\n")?)?;
     writer
         .flush()
         .map_err(|error| fault_of(&error, RunFault::Output))
+}
+
+/// What a call is answered, before which all that the store holds is dropped where the call says so.
+fn answered(
+    call: ScenarioCall,
+    session: &mut Session<Sha256, Kept>,
+    tool: &mut ScriptTool,
+) -> Result<Answer, Fault> {
+    let ScenarioCall {
+        request,
+        mut files,
+        forget,
+    } = call;
+    if forget {
+        session.forget_all();
+    }
+    session.serve(&request, &mut files, tool)
 }
 
 fn write_line<W: Write>(writer: &mut W, line: &String) -> Result<(), RunFault>

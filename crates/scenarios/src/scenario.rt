@@ -1,45 +1,60 @@
 //! Scenarios: JSON texts that say which requests are served, each with its own files.
 //!
-//! A scenario is an object whose member `requests` lists the requests. A request is an object with these members, of which `compiler` and `words` are required:
+//! A scenario is an object with the member `requests`, the list of the requests, and perhaps `basedirs`, a list of byte texts, else empty: the folders that don't count. Each folder is absolute and not only slashes.
+//!
+//! A request is an object with these members, of which `compiler` and `words` are required:
 //!
 //! - `compiler`: the text `gcc` or `clang`;
+//! - `executable`: a byte text, else the compiler's name;
+//! - `digest`: a text that stands for the executable in keys, else `d`;
+//! - `plusplus`: a truth value, whether the compiler compiles C++ by itself, else false;
+//! - `assembler`: a text that stands for the compiler's assembler in keys, else none;
 //! - `words`: the byte texts behind the compiler's name;
 //! - `dir`: a byte text, else `/w`;
 //! - `env`: a list of pairs of byte texts, else none;
 //! - `moment`: a whole number of 64 bits with a sign, else 1700000000;
-//! - `files`: an object that gives each path a file, else none.
+//! - `files`: an object that gives each path a file, else none;
+//! - `forget`: a truth value, whether all that the store holds is dropped before this request, else false.
 //!
 //! A file is a text, which is its contents, or an object with either `text`, a text, or `hex`, as in a byte text, and perhaps `mtime`, a whole number of seconds of 64 bits with a sign, else 0. All other members are passed over unread, and of a repeated member the last one counts.
 
 ghost use Rattle.std.specs.Prelude.{◌≡◌};
 
-use crate::byte_text::{read_byte_text, read_hex};
-use ckeys::compiler::CCompiler;
-use cmdlines::clang::Clang;
-use cmdlines::gcc::Gcc;
+use crate::byte_text::{read_byte_text, read_byte_texts, read_hex};
+use crate::compilers::read_compiler;
+use crate::members::{into_list, into_object, read_truth, read_whole, required};
+use ckeys::config::{ConfigError, KeyConfig};
 use os_files::file_time::FileTime;
 use os_files::listed::Listed;
 use os_files::memory_files::{MemoryFile, MemoryFiles};
 use os_files::os_bytes::OsBytes;
-use serde_json::{Map, Value};
+use serde_json::Value;
 use std::alloc::{AllocError, AllocFailed, Global};
-use wrap_base::compiler::Compiler;
 use wrap_base::request::Request;
 
 /// The directory of a request that names none.
 const DEFAULT_DIR: &[u8; 2] = b"/w";
 
-/// The digest of a compiler for which none is named.
-const DEFAULT_DIGEST: &str = "d";
-
 /// The moment of a request that names none.
 const DEFAULT_MOMENT: i64 = 1_700_000_000;
+
+/// What is fixed for all requests, and the calls in order.
+#[derive(Drop)]
+pub(crate) struct Scenario {
+    /// The folders that don't count in keys.
+    pub(crate) session_config: KeyConfig,
+    /// The same folders, which the tool's compiler strips.
+    pub(crate) tool_config: KeyConfig,
+    pub(crate) calls: Vec<ScenarioCall>,
+}
 
 /// A request and the files that it finds.
 #[derive(Drop)]
 pub(crate) struct ScenarioCall {
     pub(crate) request: Request,
     pub(crate) files: MemoryFiles,
+    /// Whether all that the store holds is dropped before the request.
+    pub(crate) forget: bool,
 }
 
 /// Why there is no scenario.
@@ -81,15 +96,36 @@ impl From<serde_json::Error> for ScenarioFault {
     }
 }
 
-/// The calls of the scenario that these bytes write, in order.
-pub(crate) fn read_scenario(
-    alloc: Global,
-    bytes: &[u8],
-) -> Result<Vec<ScenarioCall>, ScenarioFault> {
-    let mut scenario = into_object(Value::from_slice(alloc, bytes)?)?;
-    let requests = into_list(required(scenario.remove("requests"))?)?;
+impl From<ConfigError> for ScenarioFault {
+    fn from(error: ConfigError) -> ScenarioFault {
+        match error {
+            ConfigError::Memory => ScenarioFault::Memory,
+            ConfigError::BadFolder(_) => ScenarioFault::Unreadable,
+        }
+    }
+}
+
+/// The scenario that these bytes write.
+pub(crate) fn read_scenario(alloc: Global, bytes: &[u8]) -> Result<Scenario, ScenarioFault> {
+    let mut members = into_object(Value::from_slice(alloc, bytes)?)?;
+    let folders = read_folders(alloc, members.remove("basedirs"))?;
+    Ok(Scenario {
+        session_config: KeyConfig::new(alloc, folders.as_slice())?,
+        tool_config: KeyConfig::new(alloc, folders.as_slice())?,
+        calls: read_calls(alloc, required(members.remove("requests"))?)?,
+    })
+}
+
+fn read_folders(alloc: Global, member: Option<Value>) -> Result<Listed<OsBytes>, ScenarioFault> {
+    match member {
+        Some(folders) => read_byte_texts(alloc, folders),
+        None => Ok(Listed::new(alloc)),
+    }
+}
+
+fn read_calls(alloc: Global, requests: Value) -> Result<Vec<ScenarioCall>, ScenarioFault> {
     let mut calls = Vec::new(alloc);
-    for request in requests {
+    for request in into_list(requests)? {
         calls.push(read_call(alloc, request)?)?;
     }
     Ok(calls)
@@ -98,39 +134,19 @@ pub(crate) fn read_scenario(
 fn read_call(alloc: Global, value: Value) -> Result<ScenarioCall, ScenarioFault> {
     let mut members = into_object(value)?;
     let request = Request {
-        compiler: read_compiler(alloc, &required(members.remove("compiler"))?)?,
-        words: read_words(alloc, required(members.remove("words"))?)?,
+        compiler: read_compiler(alloc, &mut members)?,
+        words: read_byte_texts(alloc, required(members.remove("words"))?)?,
         dir: read_dir(alloc, members.remove("dir"))?,
         env: read_env(alloc, members.remove("env"))?,
         moment: read_whole(members.remove("moment"), DEFAULT_MOMENT)?,
     };
     let files = read_files(alloc, members.remove("files"))?;
-    Ok(ScenarioCall { request, files })
-}
-
-/// The compiler of this name, whose executable is named like it.
-fn read_compiler(alloc: Global, value: &Value) -> Result<Compiler, ScenarioFault> {
-    match value.as_str() {
-        Some("gcc") => Ok(Compiler::Gcc(CCompiler::with_digest(
-            Gcc::new(alloc, false, None, None)?,
-            OsBytes::from_slice(alloc, b"gcc")?,
-            String::from_str(alloc, DEFAULT_DIGEST)?,
-        ))),
-        Some("clang") => Ok(Compiler::Clang(CCompiler::with_digest(
-            Clang::new(alloc, false, None, None)?,
-            OsBytes::from_slice(alloc, b"clang")?,
-            String::from_str(alloc, DEFAULT_DIGEST)?,
-        ))),
-        _ => Err(ScenarioFault::Unreadable),
-    }
-}
-
-fn read_words(alloc: Global, value: Value) -> Result<Listed<OsBytes>, ScenarioFault> {
-    let mut words = Vec::new(alloc);
-    for word in into_list(value)? {
-        words.push(read_byte_text(alloc, word)?)?;
-    }
-    Ok(Listed::from_vec(words))
+    let forget = read_truth(members.remove("forget"))?;
+    Ok(ScenarioCall {
+        request,
+        files,
+        forget,
+    })
 }
 
 fn read_dir(alloc: Global, value: Option<Value>) -> Result<OsBytes, ScenarioFault> {
@@ -197,33 +213,6 @@ fn read_contents(
     match (text, digits) {
         (Some(Value::String(text)), None) => Ok(OsBytes::from_vec(text.into_bytes())),
         (None, Some(digits)) => read_hex(alloc, digits),
-        _ => Err(ScenarioFault::Unreadable),
-    }
-}
-
-/// A whole number of 64 bits with a sign, and the default where the member isn't there.
-fn read_whole(value: Option<Value>, default: i64) -> Result<i64, ScenarioFault> {
-    match value {
-        Some(number) => number.as_i64().ok_or(ScenarioFault::Unreadable),
-        None => Ok(default),
-    }
-}
-
-/// A member that has to be there.
-fn required(member: Option<Value>) -> Result<Value, ScenarioFault> {
-    member.ok_or(ScenarioFault::Unreadable)
-}
-
-fn into_list(value: Value) -> Result<Vec<Value>, ScenarioFault> {
-    match value {
-        Value::Array(items) => Ok(items),
-        _ => Err(ScenarioFault::Unreadable),
-    }
-}
-
-fn into_object(value: Value) -> Result<Map<String, Value>, ScenarioFault> {
-    match value {
-        Value::Object(members) => Ok(members),
         _ => Err(ScenarioFault::Unreadable),
     }
 }
