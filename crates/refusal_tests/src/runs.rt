@@ -1,8 +1,8 @@
 //! Two runs of one scenario: the run that meets the refused growth says so, and the other one is as if there had been none.
 
+use scenarios::program::{RunFault, run};
 use std::alloc::Global;
 use std::test::Fail;
-use scenarios::program::{RunFault, run};
 
 /// A request that is compiled, with an included file, the same request again, and one that is passed through.
 const SCENARIO: &str = r##"{"requests":[
