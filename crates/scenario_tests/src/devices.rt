@@ -1,143 +1,150 @@
 //! `serve` with a device that fails, and with a compiler that makes nothing.
 
-ghost use Rattle.scenario_tests.specs.Idle.{idle};
-
-use ckeys::compiler::CCompiler;
-use ckeys::config::KeyConfig;
-use ckeys::fault::Fault;
-use ckeys::preprocessor::{Preprocessor, Printed, Ticks, ToolFail};
+use crate::idle_tool::IdleTool;
+use crate::support::{Scene, files, script_tool};
+use ckeys::preprocessor::{Preprocessor, Ticks};
 use ckeys::step::Step;
-use cmdlines::gcc::Gcc;
-use cmdlines_base::command::{ArtifactDescriptor, SingleCompileCommand};
-use cmdlines_tables::compiler::CCompilerKind;
 use os_files::files::Files;
-use os_files::listed::Listed;
 use os_files::memory_files::MemoryFiles;
 use os_files::os_bytes::OsBytes;
-use sha2::Sha256;
 use std::alloc::{AllocError, Global};
+use std::process::Abort;
 use std::test::Fail;
-use wrap::session::Session;
-use wrap_base::compiler::Compiler;
+use wrap_base::fail_files::FailFiles;
 use wrap_base::fail_tool::FailTool;
-use wrap_base::map_store::MapStore;
-use wrap_base::request::Request;
-use wrap_base::store_key::StoreKey;
-use wrap_base::tool::{Compiled, Tool};
+use wrap_base::tool::Tool;
 
-/// A tool that prints nothing, makes nothing, and ends with status 0.
-#[derive(Drop)]
-struct IdleTool {
-    preprocessed: u64,
-    compiled: u64,
+/// The outputs for `/w/foo.c`: name, path and the contents of 22 bytes.
+const OF_FOO: &str = "obj foo.o # 1 \"/w/foo.c\"\nint x;\n";
+
+/// The outputs for `/w/y.i`.
+const OF_Y: &str = "obj y.o # 1 \"/w/y.i\"\nint y;\n";
+
+/// The files of each request here.
+fn all_files(alloc: Global) -> Result<MemoryFiles, AllocError> {
+    let rows = [
+        ("/w/foo.c", "int x;\n"),
+        ("/w/p.so", "plug"),
+        ("/w/y.i", "int y;\n"),
+    ];
+    files(alloc, &rows)
 }
 
-impl IdleTool {
-    fn new() -> IdleTool {
-        IdleTool {
-            preprocessed: 0,
-            compiled: 0,
-        }
+/// Asserts that the store holds nothing, and that the request is served twice now: with these outputs made afresh, and
+/// with the same ones from the store.
+fn serves_twice<F: Files + Drop, T: Tool + Drop>(
+    rt: &impl Abort,
+    alloc: Global,
+    scene: &mut Scene<F, T>,
+    outputs: &str,
+) -> Result<(), Fail> {
+    assert_eq!(rt; scene.held(), 0);
+    for how in ["Fresh", "Stored"] {
+        let text = scene.serve()?;
+        let expected = format!(in alloc; "{how} {outputs}")?;
+        assert_eq!(rt; text.as_str(), expected.as_str());
+    }
+    assert_eq!(rt; scene.held(), 1);
+    Ok(())
+}
+
+/// What is due where the files' device failed on that name: the tool's fault, where it was asked in one of its steps.
+fn due_text(
+    alloc: Global,
+    failed_name: Option<&OsBytes>,
+    ticks: Ticks,
+    outputs: &str,
+) -> Result<String, AllocError> {
+    match failed_name {
+        None => format!(in alloc; "Fresh {outputs}"),
+        Some(name) if ticks.failure == 0 => format!(in alloc; "fault read {name}"),
+        Some(_) if ticks.compile == 0 => format!(in alloc; "fault tool preprocess"),
+        Some(_) => format!(in alloc; "fault tool compile"),
     }
 }
 
-impl Preprocessor for IdleTool {
-    ghost meaning = { λ _. idle };
-
-    ghost preprocessed = { λ t. t.preprocessed };
-
-    ghost compiled = { λ t. t.compiled };
-
-    ghost failed = { λ _. 0 };
-
-    ghost fails_in = { λ _ _ _. ⊥ };
-
-    fn preprocess<F: Files>(
-        &mut self,
-        alloc: Global,
-        _kind: CCompilerKind,
-        _command: &SingleCompileCommand,
-        _files: &mut F,
-        _moment: i64,
-    ) -> Result<Printed, ToolFail> {
-        self.preprocessed = self.preprocessed.wrapping_add(1);
-        let status = 0;
-        let text = OsBytes::empty(alloc);
-        Ok(Printed { status, text })
+/// Serves the request of this line, while the files' device refuses the call behind that many, and then as it should be.
+/// Answers whether the refused call was one outside of the tool's steps, and `None` where no call was refused.
+fn without_a_file(
+    rt: &impl Abort,
+    alloc: Global,
+    line: &str,
+    outputs: &str,
+    calls_left: u64,
+) -> Result<Option<bool>, Fail> {
+    let files = FailFiles::new(all_files(alloc)?, calls_left);
+    let mut scene = Scene::new(alloc, line, files, script_tool(alloc)?)?;
+    let text = scene.serve()?;
+    let ticks = scene.tool.ticks();
+    let due = due_text(alloc, scene.files.failed_name.as_ref(), ticks, outputs)?;
+    assert_eq!(rt; text.as_str(), due.as_str(), "{line} at {calls_left}");
+    if scene.files.failed_name.is_none() {
+        return Ok(None);
     }
-
-    fn ticks(&self) -> Ticks {
-        Ticks {
-            preprocess: self.preprocessed,
-            compile: self.compiled,
-            failure: 0,
-        }
-    }
+    serves_twice(rt, alloc, &mut scene, outputs)?;
+    Ok(Some(ticks.failure == 0))
 }
 
-impl Tool for IdleTool {
-    fn compile<F: Files>(
-        &mut self,
-        alloc: Global,
-        _kind: CCompilerKind,
-        _command: &SingleCompileCommand,
-        _outputs: &[(OsBytes, ArtifactDescriptor)],
-        _files: &mut F,
-        _moment: i64,
-    ) -> Result<Compiled, ToolFail> {
-        self.compiled = self.compiled.wrapping_add(1);
-        let mut files = Vec::new(alloc);
-        files.push(None).map_err(AllocError::from)?;
-        let status = 0;
-        let files = Listed::from_vec(files);
-        Ok(Compiled { status, files })
+/// Refuses each call of the files in turn, up to the first run that meets no refusal. Answers whether one of the refused
+/// calls was outside of the tool's steps.
+fn reads_files(rt: &impl Abort, alloc: Global, line: &str, outputs: &str) -> Result<bool, Fail> {
+    let mut reads = false;
+    for calls_left in 0..u64::MAX {
+        let Some(is_outside) = without_a_file(rt, alloc, line, outputs, calls_left)? else {
+            break;
+        };
+        reads = reads || is_outside;
     }
-}
-
-/// `-c foo.c` in `/w`.
-fn request(alloc: Global) -> Result<Request, Fail> {
-    let mut words = Vec::new(alloc);
-    words.push(OsBytes::from_slice(alloc, b"-c")?)?;
-    words.push(OsBytes::from_slice(alloc, b"foo.c")?)?;
-    let gcc = CCompiler::with_digest(
-        Gcc::new(alloc, false, None, None)?,
-        OsBytes::from_slice(alloc, b"gcc")?,
-        String::from_str(alloc, "d")?,
-    );
-    Ok(Request {
-        compiler: Compiler::Gcc(gcc),
-        words: Listed::from_vec(words),
-        dir: OsBytes::from_slice(alloc, b"/w")?,
-        env: Listed::from_vec(Vec::new(alloc)),
-        moment: 0,
-    })
-}
-
-/// What is kept of each request.
-type Kept = MapStore<StoreKey, Listed<(OsBytes, OsBytes)>>;
-
-/// A session without folders over an empty store.
-fn session(alloc: Global) -> Result<Session<Sha256, Kept>, Fail> {
-    let config = KeyConfig::new(alloc, &[])?;
-    Ok(Session::new(alloc, config, MapStore::new(alloc)))
+    Ok(reads)
 }
 
 #[test]
-fn a_device_is_named_by_its_step(rt: HostRuntime) -> Result<(), Fail> {
+fn each_file_is_refused(rt: HostRuntime) -> Result<(), Fail> {
     let alloc = rt.alloc();
-    let request = request(alloc)?;
-    let mut files = MemoryFiles::new(alloc);
-    for (calls_left, step, compiles) in [(0, Step::Preprocess, 1), (1, Step::Compile, 2)] {
-        let mut session = session(alloc)?;
-        let mut tool = FailTool::new(IdleTool::new(), calls_left);
-        let first = session.serve(&request, &mut files, &mut tool);
-        assert!(rt; matches!(first, Err(Fault::Tool(failed)) if failed == step));
-        // The device fails once.
-        let second = session.serve(&request, &mut files, &mut tool);
-        assert!(rt; matches!(second, Err(Fault::MissingOutput(_))));
-        assert_eq!(rt; tool.ticks().failure, 1);
-        assert_eq!(rt; tool.ticks().preprocess, 2);
-        assert_eq!(rt; tool.ticks().compile, compiles);
+    for (line, outputs, reads) in [
+        ("-c foo.c", OF_FOO, false),
+        ("-c foo.c -fplugin=p.so", OF_FOO, true),
+        ("-c y.i", OF_Y, true),
+    ] {
+        assert_eq!(rt; reads_files(&rt, alloc, line, outputs)?, reads, "{line}");
+    }
+    Ok(())
+}
+
+/// Serves the request of this line, while the tool's device refuses the call behind that many, and then as it should be.
+/// Answers the step of the refused call.
+fn without_a_step(
+    rt: &impl Abort,
+    alloc: Global,
+    line: &str,
+    outputs: &str,
+    calls_left: u64,
+) -> Result<Option<Step>, Fail> {
+    let tool = FailTool::new(script_tool(alloc)?, calls_left);
+    let mut scene = Scene::new(alloc, line, all_files(alloc)?, tool)?;
+    let text = scene.serve()?;
+    let Some(step) = scene.tool.failed_step else {
+        return Ok(None);
+    };
+    let due = format!(in alloc; "fault tool {step}")?;
+    assert_eq!(rt; text.as_str(), due.as_str(), "{line} at {calls_left}");
+    assert_eq!(rt; scene.tool.ticks().failure, 1);
+    serves_twice(rt, alloc, &mut scene, outputs)?;
+    Ok(Some(step))
+}
+
+#[test]
+fn each_step_is_refused(rt: HostRuntime) -> Result<(), Fail> {
+    let alloc = rt.alloc();
+    for (line, outputs, calls_left, step) in [
+        ("-c foo.c", OF_FOO, 0, Some(Step::Preprocess)),
+        ("-c foo.c", OF_FOO, 1, Some(Step::Compile)),
+        ("-c foo.c", OF_FOO, 2, None),
+        ("-c y.i", OF_Y, 0, Some(Step::Compile)),
+        ("-c y.i", OF_Y, 1, None),
+    ] {
+        let refused = without_a_step(&rt, alloc, line, outputs, calls_left)?;
+        assert_eq!(rt; refused, step, "{line} at {calls_left}");
     }
     Ok(())
 }
@@ -145,16 +152,10 @@ fn a_device_is_named_by_its_step(rt: HostRuntime) -> Result<(), Fail> {
 #[test]
 fn an_output_that_is_not_made_is_named(rt: HostRuntime) -> Result<(), Fail> {
     let alloc = rt.alloc();
-    let request = request(alloc)?;
-    let mut files = MemoryFiles::new(alloc);
-    let mut tool = IdleTool::new();
-    let mut session = session(alloc)?;
-    let answer = session.serve(&request, &mut files, &mut tool);
-    let Err(Fault::MissingOutput(name)) = answer else {
-        assert!(rt; false);
-        return Ok(());
-    };
-    assert_eq!(rt; name.as_bytes(), b"obj".as_slice());
-    assert_eq!(rt; tool.ticks().compile, 1);
+    let mut scene = Scene::new(alloc, "-c foo.c", MemoryFiles::new(alloc), IdleTool::new())?;
+    let text = scene.serve()?;
+    assert_eq!(rt; text.as_str(), "fault missing obj");
+    assert_eq!(rt; scene.tool.ticks().compile, 1);
+    assert_eq!(rt; scene.held(), 0);
     Ok(())
 }

@@ -4,12 +4,22 @@
 #[cfg(test)]
 mod devices;
 #[cfg(test)]
+mod idle_tool;
+#[cfg(test)]
+mod map_store;
+#[cfg(test)]
 mod program;
 #[cfg(test)]
 mod rows;
 #[cfg(test)]
 mod scenario;
 #[cfg(test)]
+mod sessions;
+#[cfg(test)]
+mod store_keys;
+#[cfg(test)]
 mod stored;
+#[cfg(test)]
+mod support;
 #[cfg(test)]
 mod texts;

@@ -1,0 +1,32 @@
+"""Processor times of commands, and ratios of them."""
+
+import os
+import subprocess
+import sys
+import tempfile
+
+
+def stop(message):
+    sys.exit(f"bench/run: {message}")
+
+
+def run(words, variables=None, folder=None, source=os.devnull):
+    """Runs a command on that input, and gives the processor time that it took, in seconds, and what it printed."""
+    with open(source, "rb") as given, tempfile.TemporaryFile() as output:
+        environment = {**os.environ, **(variables or {})}
+        child = subprocess.Popen(words, stdin=given, stdout=output, env=environment, cwd=folder)
+        _, status, usage = os.wait4(child.pid, 0)
+        child.returncode = os.waitstatus_to_exitcode(status)
+        if child.returncode != 0:
+            stop(f"{' '.join(words[:4])} ended with status {child.returncode}")
+        output.seek(0)
+        return usage.ru_utime + usage.ru_stime, output.read().decode()
+
+
+def in_turn(timers, rounds, chosen):
+    """The time of each, by its name: all of them are timed in turn, some rounds, and one time is chosen of them."""
+    times = {name: [] for name in timers}
+    for _ in range(rounds):
+        for name, seconds in timers.items():
+            times[name].append(seconds())
+    return {name: chosen(found) for name, found in times.items()}
