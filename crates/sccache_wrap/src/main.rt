@@ -1,11 +1,11 @@
 //! The program `sccache-wrap`: reads a scenario from standard input and prints what its requests are answered.
 #![tactic(auto)]
 
+use scenarios::program::{RunFault, run};
 use std::io::{BufWriter, ErrorKind};
 use std::process::ExitCode;
 use std::rt::Env;
 use std::{env, io};
-use scenarios::program::{RunFault, run};
 
 /// The status of a program that couldn't run.
 const FAILED: u8 = 2;

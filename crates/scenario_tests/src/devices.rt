@@ -17,8 +17,8 @@ use wrap_base::tool::Tool;
 /// The outputs for `/w/foo.c`: name, path and the contents of 22 bytes.
 const OF_FOO: &str = "obj foo.o # 1 \"/w/foo.c\"\nint x;\n";
 
-/// The outputs for `/w/y.i`.
-const OF_Y: &str = "obj y.o # 1 \"/w/y.i\"\nint y;\n";
+/// The outputs for `/w/y.i`, which is preprocessed: its own 7 bytes.
+const OF_Y: &str = "obj y.o int y;\n";
 
 /// The files of each request here.
 fn all_files(alloc: Global) -> Result<MemoryFiles, AllocError> {

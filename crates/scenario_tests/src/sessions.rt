@@ -8,7 +8,7 @@ use script_tool::script::ScriptTool;
 use sha2::Sha256;
 use std::alloc::{AllocError, Global};
 use std::test::Fail;
-use wrap::laws::two_runs_agree;
+use wrap::laws::{premises_can_be_met, store_keys_tell_records, two_runs_agree};
 use wrap_base::answer::Answer;
 use wrap_base::call::Call;
 
@@ -43,8 +43,8 @@ fn one_request_twice(rt: HostRuntime) -> Result<(), Fail> {
     for (line, first, second, work) in [
         (
             "-c y.i",
-            "Fresh obj y.o # 1 \"/w/y.i\"\nint y;\n",
-            "Stored obj y.o # 1 \"/w/y.i\"\nint y;\n",
+            "Fresh obj y.o int y;\n",
+            "Stored obj y.o int y;\n",
             "preprocess 0, compile 1, held 1",
         ),
         (
@@ -68,8 +68,10 @@ fn one_request_twice(rt: HostRuntime) -> Result<(), Fail> {
 
 #[test]
 fn all_is_forgotten(rt: HostRuntime) -> Result<(), Fail> {
-    // A law, which costs nothing: the two answers agree.
+    // Laws, which cost nothing: the two answers agree, and so do their keys.
     two_runs_agree::<Sha256>();
+    store_keys_tell_records::<Sha256>();
+    premises_can_be_met();
     let alloc = rt.alloc();
     let mut scene = Scene::new(
         alloc,

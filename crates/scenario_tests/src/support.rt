@@ -34,9 +34,9 @@ pub(crate) fn session(alloc: Global) -> Result<Session<Sha256, Kept>, Fail> {
     Ok(Session::new(alloc, no_folders(alloc)?, MapStore::new(alloc)))
 }
 
-/// A scripted tool that has not run yet.
-pub(crate) fn script_tool(_alloc: Global) -> Result<ScriptTool, Fail> {
-    Ok(ScriptTool::new())
+/// A scripted tool without folders that has not run yet.
+pub(crate) fn script_tool(alloc: Global) -> Result<ScriptTool, Fail> {
+    Ok(ScriptTool::new(no_folders(alloc)?))
 }
 
 /// The words between spaces.

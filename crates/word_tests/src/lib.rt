@@ -1,4 +1,4 @@
-//! Tests of words: tables, cutting, values, printing, and splitting, by example.
+//! Tests of words: tables, cutting, values, printing, splitting, and response texts, by example.
 #![tactic(auto)]
 
 #[cfg(test)]
@@ -11,6 +11,8 @@ mod cutting;
 mod examples;
 #[cfg(test)]
 mod printing;
+#[cfg(test)]
+mod responses;
 #[cfg(test)]
 mod splitting;
 #[cfg(test)]

@@ -1,5 +1,4 @@
 pub mod StepLemmas
-pub mod PlanLemmas
 pub mod KeyLemmas
 pub mod TurnLemmas
 pub mod CallSteps

@@ -1,0 +1,3 @@
+pub mod DecodingLemmas
+pub mod GnuReadings
+pub mod MsvcReadings
