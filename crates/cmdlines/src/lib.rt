@@ -11,4 +11,5 @@ pub mod gcc;
 pub mod hazards;
 pub mod laws;
 pub mod lists;
+mod opening;
 pub mod parsed;
