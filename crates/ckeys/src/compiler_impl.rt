@@ -1,11 +1,8 @@
 //! What a C compiler has to offer so that its requests have keys.
 
-ghost use Rattle.std.specs.Prelude.{◌≡◌, ◌↔◌, ◌⊎◌, [], ◌∷◌, Some, None, IfOk, IfErr, IsErrOf, OnOk};
+ghost use Rattle.std.specs.Prelude.{◌≡◌, ◌↔◌, ◌⊎◌, [], ◌∷◌, Some, None, IfOk, IfErr, IsErrOf};
 ghost use Rattle.std.specs.Option.{option_map};
 ghost use Rattle.os_files.specs.Bytes.{ticked};
-ghost use Rattle.os_files.specs.Fails.{FailsOn};
-ghost use Rattle.response_files.specs.Causes.{CauseOf};
-ghost use Rattle.cmdlines.specs.Opening.{opened_words};
 ghost use Rattle.cmdlines.specs.Commands.{object_path, HasObjectIn, preprocess_words, output_path, compile_words, command_at};
 ghost use Rattle.cmdlines.specs.Compilers.{Traits, text_in};
 ghost use Rattle.cmdlines.specs.Parsing.{decision_of, parse_of, HasSafeInputIn};
@@ -49,8 +46,7 @@ pub trait CCompilerImpl {
     fn assembler_digest(&self) -> Option<&str>
         ensures { option_map text_in result ≡ (traits self.now).assembler_digest };
 
-    /// What these words come to, with the files of words that they name opened from that directory. `Read` names one on which the
-    /// device failed.
+    /// What these words come to, in that directory.
     fn parse_arguments<F: Files>(
         &self,
         alloc: Global,
@@ -58,12 +54,11 @@ pub trait CCompilerImpl {
         dir: &OsBytes,
         files: &mut F,
     ) -> Result<CompilerArguments<ParsedArguments>, ParseFault>
-        ensures decision { IfOk result (λ answer. decision_of answer ≡ parse_of (kind_of self.now) (opened_words (kind_of self.now) dir.now (F.tree files.old) words.now)) }
-        ensures cause { IfErr result (CauseOf (FailsOn F.tree F.failed F.fails_on files.old files.new)) }
+        ensures decision { IfOk result (λ answer. decision_of answer ≡ parse_of (kind_of self.now) words.now) }
+        ensures memory { IfErr result (λ fault. fault ≡ ParseFault.Memory) }
         ensures input { IfOk result (λ answer. HasSafeInputIn (kind_of self.now) (decision_of answer)) }
         ensures object { IfOk result (λ answer. HasObjectIn (decision_of answer)) }
-        ensures tree { F.tree files.new ≡ F.tree files.old }
-        ensures steady { OnOk result (F.failed files.new ≡ F.failed files.old) };
+        ensures files { files.new ≡ files.old };
 
     /// The words of the preprocess command.
     fn preprocess_words(

@@ -14,14 +14,14 @@ use Rattle.cmdlines_base.specs.Table.{Entry}
 use Rattle.cmdlines_base.specs.Values.{Steps, is_refused, values_by}
 use Rattle.cmdlines_base.specs.declared.argument_error.ArgParseError.{ArgParseError}
 use Rattle.cmdlines_base.specs.declared.argument_error.ArgParseError.TheVariants.{UnexpectedEndOfArgs, InvalidUnicode, Other, Memory}
-use Rattle.cmdlines_tables.specs.Kinds.{is_compile, is_output, is_arch, is_diagnostics, is_extra_file, asks_dependencies, is_dependency_path, is_dependency_target}
+use Rattle.cmdlines_tables.specs.Kinds.{is_compile, is_output, is_language, is_arch, is_diagnostics, is_extra_file, asks_dependencies, is_dependency_path, is_dependency_target}
 use Rattle.cmdlines_tables.specs.Values.{IsFlag, IsValue, never}
 use Rattle.cmdlines_tables.specs.declared.kind.ArgKind.{ArgKind}
 use Rattle.cmdlines_tables.specs.declared.kind.OptionList.{OptionList}
 use Rattle.cmdlines_tables.specs.declared.kind.OptionList.TheVariants as lists
 use Rattle.cmdlines.specs.Collecting.{no_facts, no_lists, facts_with, lists_with, decide}
 use Rattle.cmdlines.specs.Parsing.{decision_on, decided, refused, closing}
-use Rattle.cmdlines.specs.Wanted.{has_kind, word_in, color_in, language_in, blocker_in, input_in, later, sooner, last_of, first_of, is_wanted, wanted, wanted_words, is_hard, flag_of, facts_of, lists_of}
+use Rattle.cmdlines.specs.Wanted.{has_kind, word_in, color_in, blocker_in, input_in, later, sooner, last_of, first_of, is_wanted, wanted, wanted_words, is_hard, flag_of, facts_of, lists_of}
 use Rattle.cmdlines.specs.declared.facts.Facts.{Facts}
 use Rattle.cmdlines.specs.declared.lists.Lists.{Lists}
 
@@ -80,7 +80,7 @@ facts_with-more : (table : List (Entry ArgKind)) (f : Facts) (a : Item ArgKind) 
 facts_with-more table f a rest = λ i. record {
   compiles = any-more (has_kind is_compile) f.compiles a rest i;
   output = last_of-more (word_in is_output) f.output a rest i;
-  language = last_of-more language_in f.language a rest i;
+  language = last_of-more (word_in is_language) f.language a rest i;
   diagnostics = last_of-more (word_in is_diagnostics) f.diagnostics a rest i;
   color = last_of-more color_in f.color a rest i;
   blocker = first_of-more blocker_in f.blocker a rest i;
@@ -136,7 +136,7 @@ facts-start : (table : List (Entry ArgKind)) (items : List (Item ArgKind)) → f
 facts-start table items = λ i. record {
   compiles = list_any (has_kind is_compile) items;
   output = none-later (last_of (word_in is_output) items) i;
-  language = none-later (last_of language_in items) i;
+  language = none-later (last_of (word_in is_language) items) i;
   diagnostics = none-later (last_of (word_in is_diagnostics) items) i;
   color = none-later (last_of color_in items) i;
   blocker = first_of blocker_in items;

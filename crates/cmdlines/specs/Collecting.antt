@@ -4,10 +4,10 @@ use Rattle.std.specs.List.{flat_map, list_any}
 use Rattle.cmdlines_base.specs.Printing.{is_empty_j}
 use Rattle.cmdlines_base.specs.Reading.{Item, Reading}
 use Rattle.cmdlines_base.specs.Table.{Entry}
-use Rattle.cmdlines_tables.specs.Kinds.{is_compile, is_output, is_arch, is_diagnostics, is_extra_file, asks_dependencies, is_dependency_path, is_dependency_target}
+use Rattle.cmdlines_tables.specs.Kinds.{is_compile, is_output, is_language, is_arch, is_diagnostics, is_extra_file, asks_dependencies, is_dependency_path, is_dependency_target}
 use Rattle.cmdlines_tables.specs.declared.kind.ArgKind.{ArgKind}
 use Rattle.cmdlines_tables.specs.declared.kind.OptionList.TheVariants as lists
-use Rattle.cmdlines.specs.Wanted.{has_kind, word_in, words_in, color_in, language_in, blocker_in, input_in, later, sooner, last_of, first_of, wanted_words, is_hard}
+use Rattle.cmdlines.specs.Wanted.{has_kind, word_in, words_in, color_in, blocker_in, input_in, later, sooner, last_of, first_of, wanted_words, is_hard}
 use Rattle.cmdlines.specs.Parsing.{Decision, decided}
 use Rattle.cmdlines.specs.declared.facts.Facts.{Facts}
 use Rattle.cmdlines.specs.declared.lists.Lists.{Lists}
@@ -23,7 +23,7 @@ abbrev pub facts_with : List (Entry ArgKind) → Facts → List (Item ArgKind) �
 facts_with table f items = record {
   compiles = f.compiles || list_any (has_kind is_compile) items;
   output = later f.output (last_of (word_in is_output) items);
-  language = later f.language (last_of language_in items);
+  language = later f.language (last_of (word_in is_language) items);
   diagnostics = later f.diagnostics (last_of (word_in is_diagnostics) items);
   color = later f.color (last_of color_in items);
   blocker = sooner f.blocker (first_of blocker_in items);

@@ -8,4 +8,3 @@ pub mod Commands
 pub mod ReadBack
 pub mod Compilers
 pub mod Hazards
-pub mod Opening

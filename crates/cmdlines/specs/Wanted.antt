@@ -7,11 +7,11 @@ use Rattle.os_files.specs.Bytes.{Bytes}
 use Rattle.cmdlines_base.specs.Printing.{is_empty_j, words_of}
 use Rattle.cmdlines_base.specs.Reading.{Item, raw, unknown, flag, valued, behind_dashes}
 use Rattle.cmdlines_base.specs.Table.{Entry, behind}
-use Rattle.cmdlines_tables.specs.Kinds.{list_of, is_same_list, blocks_preprocessor_cache, is_too_hard, is_front_end, is_compile, is_output, is_arch, is_diagnostics, is_extra_file, asks_dependencies, is_dependency_path, is_dependency_target}
+use Rattle.cmdlines_tables.specs.Kinds.{list_of, is_same_list, blocks_preprocessor_cache, is_too_hard, is_front_end, is_compile, is_output, is_language, is_arch, is_diagnostics, is_extra_file, asks_dependencies, is_dependency_path, is_dependency_target}
 use Rattle.cmdlines_tables.specs.declared.compiler.ColorMode.{ColorMode}
 use Rattle.cmdlines_tables.specs.declared.compiler.ColorMode.TheVariants as modes
 use Rattle.cmdlines_tables.specs.declared.kind.ArgKind.{ArgKind}
-use Rattle.cmdlines_tables.specs.declared.kind.ArgKind.TheVariants.{Language, LanguageC, LanguageCxx, InputC, InputCxx, DiagnosticsColor, DiagnosticsColorFlag, NoDiagnosticsColorFlag}
+use Rattle.cmdlines_tables.specs.declared.kind.ArgKind.TheVariants.{DiagnosticsColor, DiagnosticsColorFlag, NoDiagnosticsColorFlag}
 use Rattle.cmdlines_tables.specs.declared.kind.OptionList.{OptionList}
 use Rattle.cmdlines_tables.specs.declared.kind.OptionList.TheVariants as lists
 use Rattle.cmdlines.specs.declared.facts.Facts.{Facts}
@@ -105,20 +105,6 @@ color_in (flag f k) = color_by k []
 color_in (valued f k v d) = color_by k v
 color_in _ = None
 
--- the name of the language that an option gives its input
-abbrev pub language_by : ArgKind → Bytes → Option Bytes
-language_by Language word = Some word
-language_by LanguageC word = Some (codes "c")
-language_by InputC word = Some (codes "c")
-language_by LanguageCxx word = Some (codes "c++")
-language_by InputCxx word = Some (codes "c++")
-language_by _ word = None
-
-abbrev pub language_in : Item ArgKind → Option Bytes
-language_in (flag f k) = language_by k []
-language_in (valued f k v d) = language_by k v
-language_in _ = None
-
 -- the flag of an option under which the preprocessor cache can't be asked
 abbrev pub blocker_in : Item ArgKind → Option Bytes
 blocker_in item = when (has_kind blocks_preprocessor_cache item) (flag_of item)
@@ -143,7 +129,7 @@ abbrev pub facts_of : List (Entry ArgKind) → List (Item ArgKind) → Facts
 facts_of table items = record {
   compiles = list_any (has_kind is_compile) items;
   output = last_of (word_in is_output) items;
-  language = last_of language_in items;
+  language = last_of (word_in is_language) items;
   diagnostics = last_of (word_in is_diagnostics) items;
   color = last_of color_in items;
   blocker = first_of blocker_in items;

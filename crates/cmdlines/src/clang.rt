@@ -1,10 +1,7 @@
 //! Clang: its words and the commands for it.
 
-ghost use Rattle.std.specs.Prelude.{◌≡◌, ◌↔◌, None, IfOk, IfErr, IsErrOf, OnOk};
+ghost use Rattle.std.specs.Prelude.{◌≡◌, ◌↔◌, None, IfOk, IfErr, IsErrOf};
 ghost use Rattle.std.specs.Option.{option_map};
-ghost use Rattle.os_files.specs.Fails.{FailsOn};
-ghost use Rattle.response_files.specs.Causes.{CauseOf};
-ghost use Rattle.cmdlines.specs.Opening.{opened_words};
 ghost use Rattle.cmdlines.specs.Commands.{object_path, HasObjectIn, preprocess_words, output_path, compile_words, command_at};
 ghost use Rattle.cmdlines.specs.Compilers.{traits_of, text_in};
 ghost use Rattle.cmdlines.specs.Parsing.{decision_of, parse_of, HasSafeInputIn};
@@ -12,8 +9,8 @@ ghost use Rattle.cmdlines.specs.ReadBack.{ReadsAsCompile, ReadsAsPreprocess};
 
 use crate::command::{Cacheable, CommandError, compile_command, preprocess_words_again};
 use crate::compiler_arguments::{CompilerArguments, ParseFault};
+use crate::engine::parse;
 use crate::laws::{inputs_are_safe, requests_have_an_object};
-use crate::opening::parse_opened;
 use crate::parsed::ParsedArguments;
 use cmdlines_base::command::SingleCompileCommand;
 use cmdlines_tables::compiler::CCompilerKind;
@@ -82,26 +79,24 @@ impl Clang {
         self.assembler_digest.as_deref()
     }
 
-    /// What these words come to, with the files of words that they name opened from that directory. `Read` names one on which the
-    /// device failed.
+    /// What these words come to. Files that hold words aren't opened: a word that names one can't be cached.
     pub fn parse_arguments<F: Files>(
         &self,
         alloc: Global,
         words: &[OsBytes],
-        dir: &OsBytes,
-        files: &mut F,
+        _dir: &OsBytes,
+        _files: &mut F,
     ) -> Result<CompilerArguments<ParsedArguments>, ParseFault>
-        ensures decision { IfOk result (λ answer. decision_of answer ≡ parse_of CCompilerKind.Clang (opened_words CCompilerKind.Clang dir.now (F.tree files.old) words.now)) }
-        ensures cause { IfErr result (CauseOf (FailsOn F.tree F.failed F.fails_on files.old files.new)) }
+        ensures decision { IfOk result (λ answer. decision_of answer ≡ parse_of CCompilerKind.Clang words.now) }
+        ensures memory { IfErr result (λ fault. fault ≡ ParseFault.Memory) }
         ensures input { IfOk result (λ answer. HasSafeInputIn CCompilerKind.Clang (decision_of answer)) }
         ensures object { IfOk result (λ answer. HasObjectIn (decision_of answer)) }
-        ensures tree { F.tree files.new ≡ F.tree files.old }
-        ensures steady { OnOk result (F.failed files.new ≡ F.failed files.old) }
+        ensures files { _files.new ≡ _files.old }
     {
         // Laws, which cost nothing: what follows from them is said above.
         inputs_are_safe();
         requests_have_an_object();
-        parse_opened(alloc, CCompilerKind::Clang, &self.tables, dir, words, files)
+        Ok(parse(alloc, CCompilerKind::Clang, &self.tables, words)?)
     }
 
     /// The words of the preprocess command.

@@ -11,5 +11,4 @@ pub mod gcc;
 pub mod hazards;
 pub mod laws;
 pub mod lists;
-mod opening;
 pub mod parsed;

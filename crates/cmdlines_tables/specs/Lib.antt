@@ -3,5 +3,3 @@ pub mod Values
 pub mod Languages
 pub mod Tables
 pub mod OwnWords
-pub mod MsvcTable
-pub mod EmbeddedTables

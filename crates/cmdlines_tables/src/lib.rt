@@ -3,10 +3,8 @@
 
 pub mod compiler;
 pub mod cutting;
-pub mod embedded_tables;
 pub mod kind;
 pub mod language;
 pub mod laws;
-pub mod msvc_table;
 pub mod tables;
 pub mod value;

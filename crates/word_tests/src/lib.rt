@@ -10,8 +10,6 @@ mod cutting;
 #[cfg(test)]
 mod examples;
 #[cfg(test)]
-mod expansion;
-#[cfg(test)]
 mod printing;
 #[cfg(test)]
 mod responses;

@@ -1,6 +1,5 @@
 -- The code's verdict, and the commands of a request that isn't passed through.
-use Rattle.std.specs.Prelude.{◌≡◌, false, List}
-use Rattle.os_files.specs.Bytes.{Bytes}
+use Rattle.std.specs.Prelude.{◌≡◌, false}
 use Rattle.cmdlines.specs.Commands.{ReadsAs, output_path, compile_items, preprocess_items, preprocess_words}
 use Rattle.cmdlines.specs.Hazards.{opens_file}
 use Rattle.cmdlines_tables.specs.Tables.{reading_of}
@@ -22,10 +21,10 @@ pub record IsPlanOf (request : Request) (plan : Plan) : Type 0 where
   pub compile : plan.compile ≡ compile_command_of request plan.parsed
   pub told : hold_end (hashed_words plan.parsed) ≡ false
 
--- The compiler reads its two commands again as the wanted options of the request's words, with their files opened, beside its own words and the one input, and none of their words makes it open a file of words.
-pub record IsReadAgain (request : Request) (words : List Bytes) (plan : Plan) : Type 0 where
-  pub compile : ReadsAs (kind_of request.compiler) plan.compile.arguments (compile_items (kind_of request.compiler) plan.parsed (output_path plan.parsed) (reading_of (kind_of request.compiler) words).items)
-  pub preprocess : ReadsAs (kind_of request.compiler) (preprocess_words plan.parsed) (preprocess_items plan.parsed (reading_of (kind_of request.compiler) words).items)
+-- The compiler reads its two commands again as the wanted options of the request's words, beside its own words and the one input, and none of their words makes it open a file of words.
+pub record IsReadAgain (request : Request) (plan : Plan) : Type 0 where
+  pub compile : ReadsAs (kind_of request.compiler) plan.compile.arguments (compile_items (kind_of request.compiler) plan.parsed (output_path plan.parsed) (reading_of (kind_of request.compiler) request.words).items)
+  pub preprocess : ReadsAs (kind_of request.compiler) (preprocess_words plan.parsed) (preprocess_items plan.parsed (reading_of (kind_of request.compiler) request.words).items)
   pub compile_opens_none : opens_file (kind_of request.compiler) plan.compile.arguments ≡ false
   pub preprocess_opens_none : opens_file (kind_of request.compiler) (preprocess_words plan.parsed) ≡ false
 

@@ -1,10 +1,8 @@
 -- The compiler of a request, and its commands.
 use Rattle.std.specs.Prelude.{List, string_bytes}
 use Rattle.os_files.specs.Bytes.{Bytes}
-use Rattle.os_files.specs.Tree.{Tree}
 use Rattle.cmdlines.specs.Commands.{command_at, compile_words, output_path}
 use Rattle.cmdlines.specs.Compilers.{Traits}
-use Rattle.cmdlines.specs.Opening.{opened_words}
 use Rattle.cmdlines.specs.declared.parsed.ParsedArguments.{ParsedArguments}
 use Rattle.cmdlines_base.specs.declared.command.SingleCompileCommand.{SingleCompileCommand}
 use Rattle.cmdlines_tables.specs.declared.compiler.CCompilerKind.{CCompilerKind}
@@ -30,10 +28,6 @@ executable_of (Clang found) = found.executable
 abbrev pub digest_of : Compiler → Bytes
 digest_of (Gcc found) = string_bytes found.executable_digest
 digest_of (Clang found) = string_bytes found.executable_digest
-
--- its words, in whose place those of the files stand that its compiler opens
-abbrev pub words_at : Request → Tree → List Bytes
-words_at request tree = opened_words (kind_of request.compiler) request.dir tree request.words
 
 -- these words, run as the request says
 abbrev pub command_of : Request → List Bytes → SingleCompileCommand

@@ -47,6 +47,6 @@ with_hazards kind parsing.not_compilation = passes not_compilation
 with_hazards kind (parsing.cannot_cache reason more) = passes (cannot_cache reason more)
 with_hazards kind (parsing.asks p) = if p.empty_value then passes empty_value else (if commands_open_file kind p then passes opens_a_file else (if hold_end (hashed_words p) then passes byte_255 else asks p))
 
--- the verdict on words of that compiler, whose files are opened
+-- the verdict on words of that compiler
 abbrev pub verdict_of : CCompilerKind → List Bytes → Decision
 verdict_of kind words = with_hazards kind (parse_of kind words)

@@ -1,22 +1,18 @@
-use Rattle.std.proofs.Common.{◌≡◌, ◌∙◌, IfOk, sym}
+use Rattle.std.proofs.Common.{◌≡◌, ◌∙◌, sym}
 use Rattle.cmdlines_tables.specs.Tables.{entries_of, ends_options}
 use Rattle.cmdlines_tables.specs.declared.compiler.CCompilerKind.TheVariants.{Gcc}
-use Rattle.cmdlines.specs.Opening.{opened_words}
 use Rattle.cmdlines.specs.Parsing.{parse_of, decision_of}
-use Rattle.std.proofs.lemmas.Result.{IfOk-weaker}
 use Rattle.cmdlines.proofs.gcc.Gcc.parse_arguments.Goals as goal
 
 pub returns-clause-decision : goal.returns-clause-decision
-returns-clause-decision g c = rw c.self.invariant at c.parse_opened.ensures.decision
+returns-clause-decision g c = rw c.self.invariant at c.in_ok-parse.ensures
 
 pub returns-clause-input : goal.returns-clause-input
-returns-clause-input g c =
-    let words = opened_words Gcc c.args.dir.now (g.F.Files.tree c.args.files.now) c.args.words.now in
-    let decided : IfOk c.parse_opened.result (λ answer. decision_of answer ≡ parse_of Gcc words) = rw c.self.invariant at c.parse_opened.ensures.decision in
-    IfOk-weaker c.parse_opened.result _ _ (λ answer is p asks_this. c.inputs_are_safe.ensures (ends_options Gcc) (entries_of Gcc) words p (sym is ∙ asks_this)) decided
+returns-clause-input g c = λ p asks_this.
+    let is : decision_of c.in_ok-parse.field-0 ≡ parse_of Gcc c.args.words.now = rw c.self.invariant at c.in_ok-parse.ensures in
+    c.inputs_are_safe.ensures (ends_options Gcc) (entries_of Gcc) c.args.words.now p (sym is ∙ asks_this)
 
 pub returns-clause-object : goal.returns-clause-object
-returns-clause-object g c =
-    let words = opened_words Gcc c.args.dir.now (g.F.Files.tree c.args.files.now) c.args.words.now in
-    let decided : IfOk c.parse_opened.result (λ answer. decision_of answer ≡ parse_of Gcc words) = rw c.self.invariant at c.parse_opened.ensures.decision in
-    IfOk-weaker c.parse_opened.result _ _ (λ answer is p asks_this. c.requests_have_an_object.ensures (ends_options Gcc) (entries_of Gcc) words p (sym is ∙ asks_this)) decided
+returns-clause-object g c = λ p asks_this.
+    let is : decision_of c.in_ok-parse.field-0 ≡ parse_of Gcc c.args.words.now = rw c.self.invariant at c.in_ok-parse.ensures in
+    c.requests_have_an_object.ensures (ends_options Gcc) (entries_of Gcc) c.args.words.now p (sym is ∙ asks_this)

@@ -1,3 +1,0 @@
-pub mod ClosedLaws
-pub mod DepthLaws
-pub mod OpeningLaws

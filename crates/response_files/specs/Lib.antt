@@ -1,6 +1,0 @@
-pub mod Styles
-pub mod Closed
-pub mod Expansion
-pub mod Chains
-pub mod Causes
-pub mod Words
