@@ -4,29 +4,15 @@ It proves and builds the program first where that isn't built yet or its sources
 """
 
 import os
-import statistics
-import subprocess
-import sys
 import tempfile
 from pathlib import Path
 
-from timing import in_turn, run, stop
-
-TOP = Path(__file__).resolve().parent.parent
-CRATE = TOP / "crates" / "bench_calls"
-PROGRAM = CRATE / "out" / "bench_calls"
+from program import FEW, NEW_MEMORY, SAME_MEMORY, build, expect, medians, timer, works
+from timing import run, stop
 
 SIZE = 64 * 1024 * 1024
 FOLDERS = ["/home/user1/project", "/home/user2/other"]
 LINES_BETWEEN_MARKERS = 300
-
-# A call is the difference of a run with many repeats and a run with few, so start and reading count in neither.
-FEW, MANY = 1, 11
-ROUNDS = 7
-
-# The C library's allocator gives back the same memory at the next call, so that no call pays for memory that is new.
-SAME_MEMORY = {"MALLOC_MMAP_MAX_": "0", "MALLOC_TRIM_THRESHOLD_": str(1 << 34)}
-NEW_MEMORY = {}
 
 CODE = [
     "extern int read_count (struct counts *counts, unsigned long number);\n",
@@ -40,32 +26,6 @@ CODE = [
     '  printf ("%s: %lu of %lu\\n", name, number, counts->last);\n',
     "struct counts { unsigned long first, last; const char *name; };\n",
 ]
-
-
-def is_built():
-    if not os.access(PROGRAM, os.X_OK):
-        return False
-    built = PROGRAM.stat().st_mtime
-    sources = [TOP / "crates.txt"]
-    for folder, inner, names in os.walk(TOP / "crates"):
-        if "out" in inner:
-            inner.remove("out")
-        sources += [Path(folder) / name for name in names if name.endswith((".rt", ".antt"))]
-    return all(source.stat().st_mtime <= built for source in sources)
-
-
-def build():
-    if is_built():
-        return
-    print("bench/run: proving and building, which takes some minutes the first time", file=sys.stderr)
-    (CRATE / "out").mkdir(exist_ok=True)
-    PROGRAM.unlink(missing_ok=True)
-    log = CRATE / "out" / "build.log"
-    with open(log, "wb") as output:
-        # It ends with status 2, since it is given no words here.
-        subprocess.run(["rt", "run"], cwd=CRATE, stdin=subprocess.DEVNULL, stdout=output, stderr=output)
-    if not os.access(PROGRAM, os.X_OK):
-        sys.exit(log.read_text())
 
 
 def preprocessed_text():
@@ -82,20 +42,9 @@ def preprocessed_text():
     return "".join(chapters).encode()[:SIZE]
 
 
-def seconds_of_a_call(command, memory):
-    """The processor time of one call, where `command` gives the words for a number of repeats."""
-    few, _ = run(command(FEW), memory)
-    many, _ = run(command(MANY), memory)
-    return (many - few) / (MANY - FEW)
-
-
 def ratio(command, peer, memory):
     """How many times the peer's time the command takes."""
-    timers = {
-        "command": lambda: seconds_of_a_call(command, memory),
-        "peer": lambda: seconds_of_a_call(peer, memory),
-    }
-    times = in_turn(timers, ROUNDS, statistics.median)
+    times = medians({"command": timer(command, memory), "peer": timer(peer, memory)})
     return times["command"] / times["peer"]
 
 
@@ -105,9 +54,7 @@ def check(text, commands):
     for folder in FOLDERS:
         left = left.replace(f'"{folder}/'.encode(), b'"/')
     for name, wanted in [("copy", text), ("strip", left)]:
-        _, line = run(commands[name](FEW))
-        if line != f"{len(wanted)} bytes, the middle one {wanted[len(wanted) // 2]}\n":
-            stop(f"{name} printed {line}")
+        expect(name, commands[name], f"{len(wanted)} bytes, the middle one {wanted[len(wanted) // 2]}\n")
     _, line = run(commands["digest"](FEW))
     _, peer = run(commands["sha256sum"](FEW))
     # A digest is printed with the low half of each byte first.
@@ -122,11 +69,10 @@ def measure():
         file = os.path.join(folder, "text.i")
         text = preprocessed_text()
         Path(file).write_bytes(text)
-        program = str(PROGRAM)
         commands = {
-            "copy": lambda repeats: [program, "copy", str(repeats), file],
-            "strip": lambda repeats: [program, "strip", str(repeats), file, *FOLDERS],
-            "digest": lambda repeats: [program, "digest", str(repeats), file],
+            "copy": works("copy", file),
+            "strip": works("strip", file, *FOLDERS),
+            "digest": works("digest", file),
             "sha256sum": lambda repeats: ["sha256sum"] + [file] * repeats,
         }
         check(text, commands)

@@ -1,15 +1,20 @@
-//! The program that `bench/run` times: it copies a file's bytes, strips folders from them, or digests the file, as
-//! often as it is told, and prints one line of what the last call gave.
+//! The program that `bench/run` times. On a file it copies the bytes, strips folders from them, splits them into words or
+//! digests them, and on a chain of files in memory, each of which names the next one, it opens the chain or copies it: as
+//! often as it is told. It prints one line of what the last call gave.
 #![tactic(auto)]
 
 ghost use Rattle.std.specs.Prelude.{◌≡◌, IfOk, length};
 ghost use Rattle.ckeys_base.specs.FolderPlaces.{text_places};
 ghost use Rattle.ckeys_base.specs.FromTheLeft.{stripped_of};
 
+mod words;
+
+use crate::words::{Tally, chain_copies, gnu_splittings, msvc_splittings, openings};
 use ckeys_base::digest;
 use ckeys_base::digest::Digest;
 use ckeys_base::strip::strip_basedirs;
 use os_files::os_bytes::OsBytes;
+use response_files::fault::ParseFault;
 use sha2::Sha256;
 use std::alloc::{AllocError, AllocFailed, Global};
 use std::process::ExitCode;
@@ -24,7 +29,7 @@ const FAILED: u8 = 2;
 #[derive(Debug, Drop, Error)]
 enum Fault {
     /// The words aren't those that are wanted.
-    #[error("bench_calls: wanted are copy, strip or digest, a number of repeats, a file, and folders")]
+    #[error("bench_calls: wanted are a work, a number of repeats, a file or a number of files, and folders")]
     Words,
     /// The file can't be read.
     #[error("bench_calls: the file cannot be read")]
@@ -58,6 +63,15 @@ impl From<digest::Error> for Fault {
     }
 }
 
+impl From<ParseFault> for Fault {
+    fn from(fault: ParseFault) -> Fault {
+        match fault {
+            ParseFault::Read(_) => Fault::File,
+            ParseFault::Memory => Fault::Memory,
+        }
+    }
+}
+
 /// What the line tells of a text: its length, and the byte in its middle, which the calls have to have written.
 #[derive(Clone, Copy, Debug, PartialEq, Eq)]
 struct Glance {
@@ -87,32 +101,57 @@ fn main(rt: HostRuntime) -> ExitCode {
     }
 }
 
-/// Does what the arguments say: `copy`, `strip` or `digest`, the number of repeats, the file, and for `strip` the folders.
+/// Prints the line that the arguments ask for: the work, the number of repeats, what the work is done on, and folders.
 fn run_on<R: Print + Files + Env + AllocGlobal>(rt: &R) -> Result<(), Fault> {
-    let alloc = rt.alloc();
     let words: Vec<String> = env::args(rt)
         .map_err(|_error: io::Error| Fault::Words)?
         .skip(1)
-        .collect(alloc)?;
-    let [work, repeats, file, folders @ ..] = words.as_slice() else {
+        .collect(rt.alloc())?;
+    let [work, repeats, given, folders @ ..] = words.as_slice() else {
         return Err(Fault::Words);
     };
-    let Ok(repeats) = repeats.parse::<u32>() else {
-        return Err(Fault::Words);
-    };
+    let line = line_for(rt, work, number_of(repeats)?, given, folders)?;
+    println!(rt; "{line}").map_err(|_error: io::Error| Fault::Output)
+}
+
+/// Does the work so often on the file of that name, or on a chain of that number of files, and gives its line.
+fn line_for<R: Files + AllocGlobal>(
+    rt: &R,
+    work: &String,
+    repeats: u32,
+    given: &String,
+    folders: &[String],
+) -> Result<String, Fault> {
+    let alloc = rt.alloc();
     let line = match work.as_str() {
-        "copy" => line_of(alloc, copies(alloc, &bytes_of(rt, file)?, repeats)?)?,
+        "copy" => line_of(alloc, copies(alloc, &bytes_of(rt, given)?, repeats)?)?,
         "strip" => {
             let folders = list_of(alloc, folders)?;
-            line_of(
-                alloc,
-                strippings(alloc, &bytes_of(rt, file)?, &folders, repeats)?,
-            )?
+            let text = bytes_of(rt, given)?;
+            line_of(alloc, strippings(alloc, &text, &folders, repeats)?)?
         }
-        "digest" => digests(rt, file, repeats)?,
+        "digest" => digests(rt, given, repeats)?,
+        "gnu" => tally_line(
+            alloc,
+            gnu_splittings(alloc, &bytes_of(rt, given)?, repeats)?,
+        )?,
+        "msvc" => tally_line(
+            alloc,
+            msvc_splittings(alloc, &bytes_of(rt, given)?, repeats)?,
+        )?,
+        "expand" => tally_line(alloc, openings(alloc, number_of(given)?, repeats)?)?,
+        "copy_chain" => tally_line(alloc, chain_copies(alloc, number_of(given)?, repeats)?)?,
         _ => return Err(Fault::Words),
     };
-    println!(rt; "{line}").map_err(|_error: io::Error| Fault::Output)
+    Ok(line)
+}
+
+/// The number that the word says.
+fn number_of(word: &String) -> Result<u32, Fault> {
+    match word.parse::<u32>() {
+        Ok(number) => Ok(number),
+        Err(_) => Err(Fault::Words),
+    }
 }
 
 /// The file's bytes.
@@ -134,6 +173,12 @@ fn list_of(alloc: Global, folders: &[String]) -> Result<Vec<OsBytes>, AllocError
 fn line_of(alloc: Global, glance: Glance) -> Result<String, AllocError> {
     let Glance { length, middle } = glance;
     format!(in alloc; "{length} bytes, the middle one {middle}")
+}
+
+/// The line of a tally.
+fn tally_line(alloc: Global, tally: Tally) -> Result<String, AllocError> {
+    let Tally { count, bytes } = tally;
+    format!(in alloc; "{count} strings of {bytes} bytes together")
 }
 
 /// A glance at a copy of the text.

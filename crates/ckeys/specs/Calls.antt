@@ -58,7 +58,7 @@ first_missing tree paths = find (λ path. is_none (contents_at tree path)) paths
 
 -- what the preprocessor gives for what the compiler's tables read of its command
 abbrev pub printed_of : Meaning → KeyCall → Made
-printed_of meaning c = meaning Preprocess (reading_of c.kind (preprocess_words c.parsed)) [] c.scene
+printed_of meaning c = meaning Preprocess (reading_of c.kind (preprocess_words c.kind c.parsed)) [] c.scene
 
 -- what it printed
 abbrev pub text_in : List (Option Bytes) → Bytes

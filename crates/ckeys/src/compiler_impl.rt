@@ -1,8 +1,11 @@
 //! What a C compiler has to offer so that its requests have keys.
 
-ghost use Rattle.std.specs.Prelude.{◌≡◌, ◌↔◌, ◌⊎◌, [], ◌∷◌, Some, None, IfOk, IfErr, IsErrOf};
+ghost use Rattle.std.specs.Prelude.{◌≡◌, ◌↔◌, ◌⊎◌, [], ◌∷◌, Some, None, IfOk, IfErr, IsErrOf, OnOk};
 ghost use Rattle.std.specs.Option.{option_map};
 ghost use Rattle.os_files.specs.Bytes.{ticked};
+ghost use Rattle.os_files.specs.Fails.{FailsOn};
+ghost use Rattle.response_files.specs.Causes.{CauseOf};
+ghost use Rattle.cmdlines.specs.Opening.{opened_words};
 ghost use Rattle.cmdlines.specs.Commands.{object_path, HasObjectIn, preprocess_words, output_path, compile_words, command_at};
 ghost use Rattle.cmdlines.specs.Compilers.{Traits, text_in};
 ghost use Rattle.cmdlines.specs.Parsing.{decision_of, parse_of, HasSafeInputIn};
@@ -13,10 +16,9 @@ ghost use Rattle.ckeys.specs.Meaning.{scene_with, made_of};
 
 use crate::preprocessor::{Preprocessor, Printed, ToolFail};
 use crate::step::Step;
-use cmdlines::clang::Clang;
 use cmdlines::command::{Cacheable, CommandError, command_at};
 use cmdlines::compiler_arguments::{CompilerArguments, ParseFault};
-use cmdlines::gcc::Gcc;
+use cmdlines::found::{FoundCompiler, HasKind};
 use cmdlines::parsed::ParsedArguments;
 use cmdlines_base::command::SingleCompileCommand;
 use cmdlines_tables::compiler::CCompilerKind;
@@ -46,7 +48,8 @@ pub trait CCompilerImpl {
     fn assembler_digest(&self) -> Option<&str>
         ensures { option_map text_in result ≡ (traits self.now).assembler_digest };
 
-    /// What these words come to, in that directory.
+    /// What these words come to, with the files of words that they name opened from that directory. `Read` names one on which the
+    /// device failed.
     fn parse_arguments<F: Files>(
         &self,
         alloc: Global,
@@ -54,11 +57,12 @@ pub trait CCompilerImpl {
         dir: &OsBytes,
         files: &mut F,
     ) -> Result<CompilerArguments<ParsedArguments>, ParseFault>
-        ensures decision { IfOk result (λ answer. decision_of answer ≡ parse_of (kind_of self.now) words.now) }
-        ensures memory { IfErr result (λ fault. fault ≡ ParseFault.Memory) }
-        ensures input { IfOk result (λ answer. HasSafeInputIn (kind_of self.now) (decision_of answer)) }
+        ensures decision { IfOk result (λ answer. decision_of answer ≡ parse_of (kind_of self.now) (opened_words (kind_of self.now) dir.now (F.tree files.old) words.now)) }
+        ensures cause { IfErr result (CauseOf (FailsOn F.tree F.failed F.fails_on files.old files.new)) }
+        ensures input { IfOk result (λ answer. HasSafeInputIn (kind_of self.now) (opened_words (kind_of self.now) dir.now (F.tree files.old) words.now) (decision_of answer)) }
         ensures object { IfOk result (λ answer. HasObjectIn (decision_of answer)) }
-        ensures files { files.new ≡ files.old };
+        ensures tree { F.tree files.new ≡ F.tree files.old }
+        ensures steady { OnOk result (F.failed files.new ≡ F.failed files.old) };
 
     /// The words of the preprocess command.
     fn preprocess_words(
@@ -66,7 +70,7 @@ pub trait CCompilerImpl {
         alloc: Global,
         parsed: &ParsedArguments,
     ) -> Result<Listed<OsBytes>, AllocError>
-        ensures words { IfOk result (λ words. words ≡ preprocess_words parsed.now) }
+        ensures words { IfOk result (λ words. words ≡ preprocess_words (kind_of self.now) parsed.now) }
         ensures again { IfOk result (λ words. ReadsAsPreprocess (kind_of self.now) parsed.now words) };
 
     /// The compile command: this executable with the request's words, in that directory, under these variables.
@@ -95,7 +99,7 @@ pub trait CCompilerImpl {
         files: &mut F,
         tool: &mut T,
     ) -> Result<Printed, ToolFail>
-        ensures answer { IfOk result (λ p. made_of p.status (Some p.text ∷ []) ≡ T.meaning tool.old Step.Preprocess (reading_of (kind_of self.now) (preprocess_words parsed.now)) [] (scene_with executable.now dir.now env.now (F.tree files.old) moment)) }
+        ensures answer { IfOk result (λ p. made_of p.status (Some p.text ∷ []) ≡ T.meaning tool.old Step.Preprocess (reading_of (kind_of self.now) (preprocess_words (kind_of self.now) parsed.now)) [] (scene_with executable.now dir.now env.now (F.tree files.old) moment)) }
         ensures meaning { T.meaning tool.new ≡ T.meaning tool.old }
         ensures tree { F.tree files.new ≡ F.tree files.old }
         ensures device { IsErrOf result ToolFail.Device → (T.failed tool.new ≡ ticked (T.failed tool.old)) × T.fails_in tool.old Step.Preprocess tool.new }
@@ -109,25 +113,25 @@ pub trait CCompilerImpl {
     }
 }
 
-impl CCompilerImpl for Gcc {
-    ghost kind_of = { λ _. CCompilerKind.Gcc };
+impl<K: HasKind> CCompilerImpl for FoundCompiler<K> {
+    ghost kind_of = { λ _. K.kind };
 
-    ghost traits = { λ gcc. gcc };
+    ghost traits = { λ compiler. compiler };
 
     fn kind(&self) -> CCompilerKind {
-        CCompilerKind::Gcc
+        K::kind()
     }
 
     fn plusplus(&self) -> bool {
-        Gcc::plusplus(self)
+        FoundCompiler::plusplus(self)
     }
 
     fn version(&self) -> Option<&str> {
-        Gcc::version(self)
+        FoundCompiler::version(self)
     }
 
     fn assembler_digest(&self) -> Option<&str> {
-        Gcc::assembler_digest(self)
+        FoundCompiler::assembler_digest(self)
     }
 
     fn parse_arguments<F: Files>(
@@ -137,7 +141,7 @@ impl CCompilerImpl for Gcc {
         dir: &OsBytes,
         files: &mut F,
     ) -> Result<CompilerArguments<ParsedArguments>, ParseFault> {
-        Gcc::parse_arguments(self, alloc, words, dir, files)
+        FoundCompiler::parse_arguments(self, alloc, words, dir, files)
     }
 
     fn preprocess_words(
@@ -145,7 +149,7 @@ impl CCompilerImpl for Gcc {
         alloc: Global,
         parsed: &ParsedArguments,
     ) -> Result<Listed<OsBytes>, AllocError> {
-        Gcc::preprocess_words(self, alloc, parsed)
+        FoundCompiler::preprocess_words(self, alloc, parsed)
     }
 
     fn generate_compile_commands(
@@ -156,57 +160,6 @@ impl CCompilerImpl for Gcc {
         dir: &OsBytes,
         env: &[(OsBytes, OsBytes)],
     ) -> Result<(SingleCompileCommand, Cacheable), CommandError> {
-        Gcc::generate_compile_commands(self, alloc, executable, parsed, dir, env)
-    }
-}
-
-impl CCompilerImpl for Clang {
-    ghost kind_of = { λ _. CCompilerKind.Clang };
-
-    ghost traits = { λ clang. clang };
-
-    fn kind(&self) -> CCompilerKind {
-        CCompilerKind::Clang
-    }
-
-    fn plusplus(&self) -> bool {
-        Clang::plusplus(self)
-    }
-
-    fn version(&self) -> Option<&str> {
-        Clang::version(self)
-    }
-
-    fn assembler_digest(&self) -> Option<&str> {
-        Clang::assembler_digest(self)
-    }
-
-    fn parse_arguments<F: Files>(
-        &self,
-        alloc: Global,
-        words: &[OsBytes],
-        dir: &OsBytes,
-        files: &mut F,
-    ) -> Result<CompilerArguments<ParsedArguments>, ParseFault> {
-        Clang::parse_arguments(self, alloc, words, dir, files)
-    }
-
-    fn preprocess_words(
-        &self,
-        alloc: Global,
-        parsed: &ParsedArguments,
-    ) -> Result<Listed<OsBytes>, AllocError> {
-        Clang::preprocess_words(self, alloc, parsed)
-    }
-
-    fn generate_compile_commands(
-        &self,
-        alloc: Global,
-        executable: &OsBytes,
-        parsed: &ParsedArguments,
-        dir: &OsBytes,
-        env: &[(OsBytes, OsBytes)],
-    ) -> Result<(SingleCompileCommand, Cacheable), CommandError> {
-        Clang::generate_compile_commands(self, alloc, executable, parsed, dir, env)
+        FoundCompiler::generate_compile_commands(self, alloc, executable, parsed, dir, env)
     }
 }

@@ -14,14 +14,15 @@ use Rattle.cmdlines_base.specs.Table.{Entry}
 use Rattle.cmdlines_base.specs.Values.{Steps, is_refused, values_by}
 use Rattle.cmdlines_base.specs.declared.argument_error.ArgParseError.{ArgParseError}
 use Rattle.cmdlines_base.specs.declared.argument_error.ArgParseError.TheVariants.{UnexpectedEndOfArgs, InvalidUnicode, Other, Memory}
-use Rattle.cmdlines_tables.specs.Kinds.{is_compile, is_output, is_language, is_arch, is_diagnostics, is_extra_file, asks_dependencies, is_dependency_path, is_dependency_target}
+use Rattle.cmdlines_tables.specs.Kinds.{is_compile, is_output, is_arch, is_diagnostics, is_extra_file, asks_dependencies, is_dependency_path, is_dependency_target}
 use Rattle.cmdlines_tables.specs.Values.{IsFlag, IsValue, never}
+use Rattle.cmdlines_tables.specs.declared.compiler.CCompilerKind.{CCompilerKind}
 use Rattle.cmdlines_tables.specs.declared.kind.ArgKind.{ArgKind}
 use Rattle.cmdlines_tables.specs.declared.kind.OptionList.{OptionList}
 use Rattle.cmdlines_tables.specs.declared.kind.OptionList.TheVariants as lists
 use Rattle.cmdlines.specs.Collecting.{no_facts, no_lists, facts_with, lists_with, decide}
 use Rattle.cmdlines.specs.Parsing.{decision_on, decided, refused, closing}
-use Rattle.cmdlines.specs.Wanted.{has_kind, word_in, color_in, blocker_in, input_in, later, sooner, last_of, first_of, is_wanted, wanted, wanted_words, is_hard, flag_of, facts_of, lists_of}
+use Rattle.cmdlines.specs.Wanted.{has_kind, word_in, color_in, language_in, blocker_in, input_in, later, sooner, last_of, first_of, is_wanted, wanted, wanted_words, is_hard, flag_of, facts_of, lists_of}
 use Rattle.cmdlines.specs.declared.facts.Facts.{Facts}
 use Rattle.cmdlines.specs.declared.lists.Lists.{Lists}
 
@@ -80,7 +81,7 @@ facts_with-more : (table : List (Entry ArgKind)) (f : Facts) (a : Item ArgKind) 
 facts_with-more table f a rest = λ i. record {
   compiles = any-more (has_kind is_compile) f.compiles a rest i;
   output = last_of-more (word_in is_output) f.output a rest i;
-  language = last_of-more (word_in is_language) f.language a rest i;
+  language = last_of-more language_in f.language a rest i;
   diagnostics = last_of-more (word_in is_diagnostics) f.diagnostics a rest i;
   color = last_of-more color_in f.color a rest i;
   blocker = first_of-more blocker_in f.blocker a rest i;
@@ -136,7 +137,7 @@ facts-start : (table : List (Entry ArgKind)) (items : List (Item ArgKind)) → f
 facts-start table items = λ i. record {
   compiles = list_any (has_kind is_compile) items;
   output = none-later (last_of (word_in is_output) items) i;
-  language = none-later (last_of (word_in is_language) items) i;
+  language = none-later (last_of language_in items) i;
   diagnostics = none-later (last_of (word_in is_diagnostics) items) i;
   color = none-later (last_of color_in items) i;
   blocker = first_of blocker_in items;
@@ -149,17 +150,17 @@ facts-start table items = λ i. record {
 }
 
 -- before anything is gathered all is left
-pub decide-start : (table : List (Entry ArgKind)) (r : Reading ArgKind) → decide table no_facts no_lists r ≡ decision_on table r
-decide-start table r = ap (λ f. decided (find is_hard r.items) r.cut_short f (lists_of r.items)) (facts-start table r.items)
+pub decide-start : (kind : CCompilerKind) (table : List (Entry ArgKind)) (r : Reading ArgKind) → decide kind table no_facts no_lists r ≡ decision_on kind table r
+decide-start kind table r = ap (λ f. decided kind (find (is_hard kind) r.items) r.cut_short f (lists_of r.items)) (facts-start table r.items)
 
 -- an item that isn't too hard is gathered
-pub decide-more : (table : List (Entry ArgKind)) (f : Facts) (l : Lists) (a : Item ArgKind) (r : Reading ArgKind) → is_hard a ≡ false → decide table (facts_with table f (a ∷ [])) (lists_with l (a ∷ [])) r ≡ decide table f l (before a r)
-decide-more table f l a r h = rw (facts_with-more table f a r.items, lists_with-more l a r.items, h) refl
+pub decide-more : (kind : CCompilerKind) (table : List (Entry ArgKind)) (f : Facts) (l : Lists) (a : Item ArgKind) (r : Reading ArgKind) → is_hard kind a ≡ false → decide kind table (facts_with table f (a ∷ [])) (lists_with l (a ∷ [])) r ≡ decide kind table f l (before a r)
+decide-more kind table f l a r h = rw (facts_with-more table f a r.items, lists_with-more l a r.items, h) refl
 
 -- one that is decides
-pub decide-hard : (table : List (Entry ArgKind)) (f : Facts) (l : Lists) (a : Item ArgKind) (r : Reading ArgKind) → is_hard a ≡ true → decide table f l (before a r) ≡ refused (flag_of a)
-decide-hard table f l a r h = rw h refl
+pub decide-hard : (kind : CCompilerKind) (table : List (Entry ArgKind)) (f : Facts) (l : Lists) (a : Item ArgKind) (r : Reading ArgKind) → is_hard kind a ≡ true → decide kind table f l (before a r) ≡ refused (flag_of a)
+decide-hard kind table f l a r h = rw h refl
 
 -- at the end the closing table does
-pub decide-end : (table : List (Entry ArgKind)) (f : Facts) (l : Lists) → decide table f l nothing ≡ closing f l
-decide-end table f l = ap (λ g. closing g (lists_with l [])) (facts_with-none table f) ∙ ap (λ m. closing f m) (lists_with-none l)
+pub decide-end : (kind : CCompilerKind) (table : List (Entry ArgKind)) (f : Facts) (l : Lists) → decide kind table f l nothing ≡ closing kind f l
+decide-end kind table f l = ap (λ g. closing kind g (lists_with l [])) (facts_with-none table f) ∙ ap (λ m. closing kind f m) (lists_with-none l)

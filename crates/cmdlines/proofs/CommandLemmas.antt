@@ -1,5 +1,5 @@
 -- The commands are read again as what was wanted.
-use Rattle.std.proofs.Common.{◌≡◌, List, [], ◌∷◌, ◌++◌, Option, None, Some, Bool, true, false, cond, ◌&&◌, ◌||◌, refl, ap, sym, subst, ◌∙◌, arith, map, inl, inr, append_assoc}
+use Rattle.std.proofs.Common.{◌≡◌, List, [], ◌∷◌, ◌++◌, Option, None, Some, Bool, true, false, cond, not, ◌&&◌, ◌||◌, refl, ap, sym, subst, ◌∙◌, arith, map, inl, inr, append_assoc}
 use Rattle.std.proofs.lemmas.List.{map-append}
 use Rattle.std.specs.List.{list_any}
 use Rattle.std.specs.Prelude.{codes}
@@ -11,15 +11,14 @@ use Rattle.cmdlines_base.specs.Table.{Entry}
 use Rattle.cmdlines_base.specs.declared.argument.ArgDisposition.{ArgDisposition}
 use Rattle.cmdlines_base.specs.declared.argument.ArgDisposition.TheVariants.{CanBeConcatenated}
 use Rattle.cmdlines_tables.specs.Kinds.{is_same_list}
-use Rattle.cmdlines_tables.specs.Languages.{language_option}
-use Rattle.cmdlines_tables.specs.OwnWords.{OwnWords, color_word, color_item}
+use Rattle.cmdlines_tables.specs.OwnWords.{OwnWords, AreReadAs, option_words, option_item, writes_dependencies}
 use Rattle.cmdlines_tables.specs.Tables.{entries_of, ends_options, reading_of}
 use Rattle.cmdlines_tables.specs.declared.compiler.CCompilerKind.{CCompilerKind}
 use Rattle.cmdlines_tables.specs.declared.kind.ArgKind.{ArgKind}
-use Rattle.cmdlines_tables.specs.declared.kind.ArgKind.TheVariants.{TooHard, DoCompilation, Output, Language, DepArgumentPath, DepTarget}
+use Rattle.cmdlines_tables.specs.declared.kind.ArgKind.TheVariants.{DepArgumentPath, DepTarget}
 use Rattle.cmdlines_tables.specs.declared.kind.OptionList.{OptionList}
 use Rattle.cmdlines_tables.specs.declared.kind.OptionList.TheVariants as lists
-use Rattle.cmdlines.specs.Commands.{object_path, language_words, language_items, front_words, front_items, behind_words, behind_items, color_words, color_items, lacks_path, lacks_target, beside, when_words, when_items, added_words, added_items, compile_words, compile_items, preprocess_words, preprocess_items, ReadsAs}
+use Rattle.cmdlines.specs.Commands.{object_path, front_words, front_items, behind_words, behind_items, color_words, color_items, lacks_path, lacks_target, beside, when_words, when_items, added_words, added_items, compile_words, compile_items, preprocess_words, preprocess_items, ReadsAs}
 use Rattle.cmdlines.specs.Parsing.{parse_of, asks, HasSafeInput, IsSafeBy}
 use Rattle.cmdlines.specs.Wanted.{is_wanted, wanted, facts_of, lists_of}
 use Rattle.cmdlines.specs.declared.facts.DependencyOptions.{DependencyOptions}
@@ -62,13 +61,6 @@ module _ (has : HasReading) (only : OneReading) (d : Bool) (t : List (Entry ArgK
   alone_on word item h rest = record {
     found = item ∷ [];
     reads = sym (only d t (word ∷ rest) (before item (reading d t rest)) (alone h (has d t rest)));
-    alike = refl;
-  }
-
-  pair_on : (word value f : Bytes) (k : ArgKind) (e : ArgDisposition) → first_word d t word ≡ awaits f k e → ReadsOn (word ∷ value ∷ []) (valued f k value e ∷ [])
-  pair_on word value f k e h rest = record {
-    found = valued f k value e ∷ [];
-    reads = sym (only d t (word ∷ value ∷ rest) (before (valued f k value e) (reading d t rest)) (with_value h (has d t rest)));
     alike = refl;
   }
 
@@ -156,23 +148,26 @@ module _ (has : HasReading) (only : OneReading) (again : ItemsAgain) (together :
   abbrev and_on : (words : List Bytes) (items : List (Item ArgKind)) (more : List Bytes) (others : List (Item ArgKind)) → Reads-on words items → Reads-on more others → Reads-on (words ++ more) (items ++ others)
   and_on words items more others on next = both_on has only d t words items more others on next
 
-  language_on : (name : Option Bytes) → Reads-on (language_words name) (language_items name)
-  language_on None = none_on has only d t
-  language_on (Some name) = pair_on has only d t (codes "-x") name (codes "-x") Language (CanBeConcatenated None) own.language
+  own_on : (words : List Bytes) (items : List (Item ArgKind)) → AreReadAs d t words items → Reads-on words items
+  own_on words items read rest = record { found = items; reads = read rest; alike = refl }
 
   color_on : (has_option : Bool) → Reads-on (color_words kind has_option) (color_items kind has_option)
   color_on true = none_on has only d t
-  color_on false = alone_on has only d t (color_word kind) (color_item kind) own.color
+  color_on false = own_on _ _ own.color
 
-  when_on : (holds : Bool) (name : Bytes) (k : ArgKind) (value : Bytes) → first_word d t name ≡ awaits name k (CanBeConcatenated None) → Reads-on (when_words holds name value) (when_items holds name k value)
+  when_on : (holds : Bool) (name : Bytes) (k : ArgKind) (value : Bytes) → (holds ≡ true → AreReadAs d t (option_words name value) (option_item name k value ∷ [])) → Reads-on (when_words holds name value) (when_items holds name k value)
   when_on false name k value h = none_on has only d t
-  when_on true name k value h = pair_on has only d t name value name k (CanBeConcatenated None) h
+  when_on true name k value h = own_on _ _ (h refl)
 
-  added_on : (o : DependencyOptions) (path : Option Bytes) → Reads-on (added_words o path) (added_items o path)
+  writes : (s asked lacks : Bool) → ((s && asked) && lacks) ≡ true → s ≡ true
+  writes true asked lacks h = refl
+  writes false asked lacks h = h
+
+  added_on : (o : DependencyOptions) (path : Option Bytes) → Reads-on (added_words kind o path) (added_items kind o path)
   added_on o None = none_on has only d t
-  added_on o (Some path) = both_on has only d t (when_words (lacks_path o) (codes "-MF") (beside path)) (when_items (lacks_path o) (codes "-MF") DepArgumentPath (beside path)) (when_words (lacks_target o) (codes "-MT") path) (when_items (lacks_target o) (codes "-MT") DepTarget path)
-      (when_on (lacks_path o) (codes "-MF") DepArgumentPath (beside path) own.dependency_path)
-      (when_on (lacks_target o) (codes "-MT") DepTarget path own.dependency_target)
+  added_on o (Some path) = both_on has only d t (when_words (lacks_path kind o) (codes "-MF") (beside path)) (when_items (lacks_path kind o) (codes "-MF") DepArgumentPath (beside path)) (when_words (lacks_target kind o) (codes "-MT") path) (when_items (lacks_target kind o) (codes "-MT") DepTarget path)
+      (when_on (lacks_path kind o) (codes "-MF") DepArgumentPath (beside path) (λ h. own.dependency_path (writes (writes_dependencies kind) o.asked (not o.path) h) (beside path)))
+      (when_on (lacks_target kind o) (codes "-MT") DepTarget path (λ h. own.dependency_target (writes (writes_dependencies kind) o.asked (not o.target) h) path))
 
   -- the input among the options, and behind them
   front_on : (behind : Bool) (input : Bytes) → IsSafeBy d t behind input → Reads-on (front_words behind input) (front_items behind input)
@@ -199,7 +194,7 @@ module _ (has : HasReading) (only : OneReading) (again : ItemsAgain) (together :
     items = (reading_of kind words).items
 
     of : Asked (facts_of t items) (lists_of items) p
-    of = asked t (reading_of kind words) p asks_this
+    of = asked kind t (reading_of kind words) p asks_this
 
     none_empty : list_any (is_empty_j t) items ≡ false
     none_empty = ap (λ (q : ParsedArguments). q.empty_value) of.is ∙ full
@@ -231,10 +226,10 @@ module _ (has : HasReading) (only : OneReading) (again : ItemsAgain) (together :
     pub compile_again : (path : Bytes) → ReadsAs kind (compile_words kind p path) (compile_items kind p path items)
     compile_again path = reads_as (compile_words kind p path) (compile_items kind p path items)
         (join _ _ _ _
-        (and_on _ _ _ _ (and_on _ _ _ _ (and_on _ _ _ _ (and_on _ _ _ _ (and_on _ _ _ _ (and_on _ _ _ _ (and_on _ _ _ _ (and_on _ _ _ _ (language_on (language_option p.language))
-        (alone_on has only d t (codes "-c") (flag (codes "-c") DoCompilation) own.compile))
+        (and_on _ _ _ _ (and_on _ _ _ _ (and_on _ _ _ _ (and_on _ _ _ _ (and_on _ _ _ _ (and_on _ _ _ _ (and_on _ _ _ _ (and_on _ _ _ _ (own_on _ _ (own.language p.language))
+        (own_on _ _ own.compile))
         (front_on p.double_dash_input p.input safe))
-        (pair_on has only d t (codes "-o") path (codes "-o") Output (CanBeConcatenated None) own.output))
+        (own_on _ _ (own.output path)))
         (color_on p.has_color_option))
         preprocessor_on)
         unhashed_on)
@@ -242,11 +237,11 @@ module _ (has : HasReading) (only : OneReading) (again : ItemsAgain) (together :
         arch_on)
         (behind_end p.double_dash_input p.input safe))
 
-    pub preprocess_again : ReadsAs kind (preprocess_words p) (preprocess_items p items)
-    preprocess_again = reads_as (preprocess_words p) (preprocess_items p items)
+    pub preprocess_again : ReadsAs kind (preprocess_words kind p) (preprocess_items kind p items)
+    preprocess_again = reads_as (preprocess_words kind p) (preprocess_items kind p items)
         (join _ _ _ _
-        (and_on _ _ _ _ (and_on _ _ _ _ (and_on _ _ _ _ (and_on _ _ _ _ (and_on _ _ _ _ (and_on _ _ _ _ (and_on _ _ _ _ (language_on (language_option p.language))
-        (alone_on has only d t (codes "-E") (flag (codes "-E") TooHard) own.preprocess))
+        (and_on _ _ _ _ (and_on _ _ _ _ (and_on _ _ _ _ (and_on _ _ _ _ (and_on _ _ _ _ (and_on _ _ _ _ (and_on _ _ _ _ (own_on _ _ (own.language p.language))
+        (own_on _ _ own.preprocess))
         (front_on p.double_dash_input p.input safe))
         preprocessor_on)
         dependency_on)

@@ -4,10 +4,11 @@ use Rattle.std.specs.List.{flat_map, list_any}
 use Rattle.cmdlines_base.specs.Printing.{is_empty_j}
 use Rattle.cmdlines_base.specs.Reading.{Item, Reading}
 use Rattle.cmdlines_base.specs.Table.{Entry}
-use Rattle.cmdlines_tables.specs.Kinds.{is_compile, is_output, is_language, is_arch, is_diagnostics, is_extra_file, asks_dependencies, is_dependency_path, is_dependency_target}
+use Rattle.cmdlines_tables.specs.Kinds.{is_compile, is_output, is_arch, is_diagnostics, is_extra_file, asks_dependencies, is_dependency_path, is_dependency_target}
+use Rattle.cmdlines_tables.specs.declared.compiler.CCompilerKind.{CCompilerKind}
 use Rattle.cmdlines_tables.specs.declared.kind.ArgKind.{ArgKind}
 use Rattle.cmdlines_tables.specs.declared.kind.OptionList.TheVariants as lists
-use Rattle.cmdlines.specs.Wanted.{has_kind, word_in, words_in, color_in, blocker_in, input_in, later, sooner, last_of, first_of, wanted_words, is_hard}
+use Rattle.cmdlines.specs.Wanted.{has_kind, word_in, words_in, color_in, language_in, blocker_in, input_in, later, sooner, last_of, first_of, wanted_words, is_hard}
 use Rattle.cmdlines.specs.Parsing.{Decision, decided}
 use Rattle.cmdlines.specs.declared.facts.Facts.{Facts}
 use Rattle.cmdlines.specs.declared.lists.Lists.{Lists}
@@ -23,7 +24,7 @@ abbrev pub facts_with : List (Entry ArgKind) → Facts → List (Item ArgKind) �
 facts_with table f items = record {
   compiles = f.compiles || list_any (has_kind is_compile) items;
   output = later f.output (last_of (word_in is_output) items);
-  language = later f.language (last_of (word_in is_language) items);
+  language = later f.language (last_of language_in items);
   diagnostics = later f.diagnostics (last_of (word_in is_diagnostics) items);
   color = later f.color (last_of color_in items);
   blocker = sooner f.blocker (first_of blocker_in items);
@@ -48,5 +49,5 @@ lists_with l items = record {
 }
 
 -- the decision over what was collected and the words that are left
-abbrev pub decide : List (Entry ArgKind) → Facts → Lists → Reading ArgKind → Decision
-decide table f l r = decided (find is_hard r.items) r.cut_short (facts_with table f r.items) (lists_with l r.items)
+abbrev pub decide : CCompilerKind → List (Entry ArgKind) → Facts → Lists → Reading ArgKind → Decision
+decide kind table f l r = decided kind (find (is_hard kind) r.items) r.cut_short (facts_with table f r.items) (lists_with l r.items)

@@ -1,19 +1,17 @@
 -- The commands that are run for a request, and what the compiler's tables read of them.
 use Rattle.std.specs.Prelude.{◌≡◌, Bool, true, false, not, ◌&&◌, List, [], ◌∷◌, ◌++◌, map, Option, None, Some, unwrap_or, is_some, codes}
-use Rattle.std.specs.Option.{option_map}
+use Rattle.std.specs.Option.{option_map, option_to_list}
 use Rattle.os_files.specs.Bytes.{Bytes}
 use Rattle.os_files.specs.Path.{with_extension}
 use Rattle.cmdlines_base.specs.Printing.{normal}
-use Rattle.cmdlines_base.specs.Reading.{Item, raw, flag, valued, behind_dashes}
-use Rattle.cmdlines_base.specs.declared.argument.ArgDisposition.TheVariants.{CanBeConcatenated}
+use Rattle.cmdlines_base.specs.Reading.{Item, raw, flag, behind_dashes}
 use Rattle.cmdlines_base.specs.declared.command.ArtifactDescriptor.{ArtifactDescriptor}
 use Rattle.cmdlines_base.specs.declared.command.SingleCompileCommand.{SingleCompileCommand}
-use Rattle.cmdlines_tables.specs.Languages.{language_option}
-use Rattle.cmdlines_tables.specs.OwnWords.{color_word, color_item}
+use Rattle.cmdlines_tables.specs.OwnWords.{option_words, option_item, language_words, language_items, output_words, output_item, color_word, color_item, writes_dependencies}
 use Rattle.cmdlines_tables.specs.Tables.{reading_of}
 use Rattle.cmdlines_tables.specs.declared.compiler.CCompilerKind.{CCompilerKind}
 use Rattle.cmdlines_tables.specs.declared.kind.ArgKind.{ArgKind}
-use Rattle.cmdlines_tables.specs.declared.kind.ArgKind.TheVariants.{TooHard, DoCompilation, Output, Language, DepArgumentPath, DepTarget}
+use Rattle.cmdlines_tables.specs.declared.kind.ArgKind.TheVariants.{TooHard, DoCompilation, DepArgumentPath, DepTarget}
 use Rattle.cmdlines_tables.specs.declared.kind.OptionList.TheVariants as lists
 use Rattle.cmdlines.specs.Parsing.{Decision, asks, object_name}
 use Rattle.cmdlines.specs.Small.{output_named}
@@ -31,22 +29,6 @@ output_path p = unwrap_or (object_path p) []
 -- what words ask for has an object
 abbrev pub HasObjectIn : Decision → Type 0
 HasObjectIn decision = (p : ParsedArguments) → decision ≡ asks p → is_some (object_path p) ≡ true
-
--- An option apart from its value: two words, or one item.
-abbrev pub option_words : Bytes → Bytes → List Bytes
-option_words name value = name ∷ value ∷ []
-
-abbrev pub option_item : Bytes → ArgKind → Bytes → Item ArgKind
-option_item name kind value = valued name kind value (CanBeConcatenated None)
-
--- the language, where an option can name it
-abbrev pub language_words : Option Bytes → List Bytes
-language_words None = []
-language_words (Some name) = option_words (codes "-x") name
-
-abbrev pub language_items : Option Bytes → List (Item ArgKind)
-language_items None = []
-language_items (Some name) = option_item (codes "-x") Language name ∷ []
 
 -- The input: among the options, or behind double dashes at the end.
 abbrev pub front_words : Bool → Bytes → List Bytes
@@ -68,18 +50,18 @@ behind_items true input = behind_dashes input ∷ []
 -- messages are to be coloured, where no option says whether
 abbrev pub color_words : CCompilerKind → Bool → List Bytes
 color_words kind true = []
-color_words kind false = color_word kind ∷ []
+color_words kind false = option_to_list (color_word kind)
 
 abbrev pub color_items : CCompilerKind → Bool → List (Item ArgKind)
 color_items kind true = []
-color_items kind false = color_item kind ∷ []
+color_items kind false = option_to_list (color_item kind)
 
--- Where a dependency file is asked for, but not where it goes, it goes beside the object; and its target is the object, where none is named.
-abbrev pub lacks_path : DependencyOptions → Bool
-lacks_path d = d.asked && not d.path
+-- Where a dependency file is asked for, but not where it goes, it goes beside the object; and its target is the object, where none is named. Only a compiler that has such options is told.
+abbrev pub lacks_path : CCompilerKind → DependencyOptions → Bool
+lacks_path kind d = writes_dependencies kind && d.asked && not d.path
 
-abbrev pub lacks_target : DependencyOptions → Bool
-lacks_target d = d.asked && not d.target
+abbrev pub lacks_target : CCompilerKind → DependencyOptions → Bool
+lacks_target kind d = writes_dependencies kind && d.asked && not d.target
 
 abbrev pub beside : Bytes → Bytes
 beside path = with_extension path (codes "d")
@@ -92,21 +74,21 @@ abbrev pub when_items : Bool → Bytes → ArgKind → Bytes → List (Item ArgK
 when_items false name kind value = []
 when_items true name kind value = option_item name kind value ∷ []
 
-abbrev pub added_words : DependencyOptions → Option Bytes → List Bytes
-added_words d None = []
-added_words d (Some path) = when_words (lacks_path d) (codes "-MF") (beside path) ++ when_words (lacks_target d) (codes "-MT") path
+abbrev pub added_words : CCompilerKind → DependencyOptions → Option Bytes → List Bytes
+added_words kind d None = []
+added_words kind d (Some path) = when_words (lacks_path kind d) (codes "-MF") (beside path) ++ when_words (lacks_target kind d) (codes "-MT") path
 
-abbrev pub added_items : DependencyOptions → Option Bytes → List (Item ArgKind)
-added_items d None = []
-added_items d (Some path) = when_items (lacks_path d) (codes "-MF") DepArgumentPath (beside path) ++ when_items (lacks_target d) (codes "-MT") DepTarget path
+abbrev pub added_items : CCompilerKind → DependencyOptions → Option Bytes → List (Item ArgKind)
+added_items kind d None = []
+added_items kind d (Some path) = when_items (lacks_path kind d) (codes "-MF") DepArgumentPath (beside path) ++ when_items (lacks_target kind d) (codes "-MT") DepTarget path
 
 -- The compile command: the language, the compile flag, the input, the output and the colours, and then the wanted options.
 abbrev pub compile_words : CCompilerKind → ParsedArguments → Bytes → List Bytes
 compile_words kind p path =
-    language_words (language_option p.language)
+    language_words kind p.language
     ++ (codes "-c" ∷ [])
     ++ front_words p.double_dash_input p.input
-    ++ option_words (codes "-o") path
+    ++ output_words kind path
     ++ color_words kind p.has_color_option
     ++ p.preprocessor_args
     ++ p.unhashed_args
@@ -116,10 +98,10 @@ compile_words kind p path =
 
 abbrev pub compile_items : CCompilerKind → ParsedArguments → Bytes → List (Item ArgKind) → List (Item ArgKind)
 compile_items kind p path items =
-    language_items (language_option p.language)
+    language_items kind p.language
     ++ (flag (codes "-c") DoCompilation ∷ [])
     ++ front_items p.double_dash_input p.input
-    ++ (option_item (codes "-o") Output path ∷ [])
+    ++ (output_item kind path ∷ [])
     ++ color_items kind p.has_color_option
     ++ wanted lists.Preprocessor items
     ++ wanted lists.Unhashed items
@@ -128,26 +110,26 @@ compile_items kind p path items =
     ++ behind_items p.double_dash_input p.input
 
 -- The preprocess command: the language, the preprocessing flag and the input, and then the wanted options, with what dependency options lack.
-abbrev pub preprocess_words : ParsedArguments → List Bytes
-preprocess_words p =
-    language_words (language_option p.language)
+abbrev pub preprocess_words : CCompilerKind → ParsedArguments → List Bytes
+preprocess_words kind p =
+    language_words kind p.language
     ++ (codes "-E" ∷ [])
     ++ front_words p.double_dash_input p.input
     ++ p.preprocessor_args
     ++ p.dependency_args
-    ++ added_words p.dependencies (object_path p)
+    ++ added_words kind p.dependencies (object_path p)
     ++ p.common_args
     ++ p.arch_args
     ++ behind_words p.double_dash_input p.input
 
-abbrev pub preprocess_items : ParsedArguments → List (Item ArgKind) → List (Item ArgKind)
-preprocess_items p items =
-    language_items (language_option p.language)
+abbrev pub preprocess_items : CCompilerKind → ParsedArguments → List (Item ArgKind) → List (Item ArgKind)
+preprocess_items kind p items =
+    language_items kind p.language
     ++ (flag (codes "-E") TooHard ∷ [])
     ++ front_items p.double_dash_input p.input
     ++ wanted lists.Preprocessor items
     ++ wanted lists.Dependency items
-    ++ added_items p.dependencies (object_path p)
+    ++ added_items kind p.dependencies (object_path p)
     ++ wanted lists.Common items
     ++ wanted lists.Arch items
     ++ behind_items p.double_dash_input p.input

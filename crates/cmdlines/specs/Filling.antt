@@ -1,4 +1,4 @@
--- What one option adds to the lists: its words to its list, and its word alone where it is an architecture or names a file.
+-- What one option adds to the lists: its words to its list, and its word alone where it is an input or an architecture or names a file.
 use Rattle.std.specs.Prelude.{List, ◌++◌}
 use Rattle.std.specs.Option.{option_to_list}
 use Rattle.os_files.specs.Bytes.{Bytes}
@@ -6,7 +6,7 @@ use Rattle.cmdlines_tables.specs.Kinds.{is_arch, is_extra_file}
 use Rattle.cmdlines_tables.specs.declared.kind.ArgKind.{ArgKind}
 use Rattle.cmdlines_tables.specs.declared.kind.OptionList.{OptionList}
 use Rattle.cmdlines_tables.specs.declared.kind.OptionList.TheVariants as lists
-use Rattle.cmdlines.specs.Wanted.{when}
+use Rattle.cmdlines.specs.Wanted.{when, input_given}
 use Rattle.cmdlines.specs.declared.lists.Lists.{Lists}
 
 abbrev pub with_words : Lists → OptionList → List Bytes → Lists
@@ -19,6 +19,7 @@ with_words l lists.Nowhere words = l
 
 abbrev pub with_option_word : Lists → ArgKind → Bytes → Lists
 with_option_word l kind word = record l {
+  inputs = l.inputs ++ input_given kind word;
   architectures = l.architectures ++ option_to_list (when (is_arch kind) word);
   extra_files = l.extra_files ++ option_to_list (when (is_extra_file kind) word);
 }

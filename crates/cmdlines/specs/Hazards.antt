@@ -1,19 +1,24 @@
 -- Words that make a compiler read more than its command.
-use Rattle.std.specs.Prelude.{Bool, false, ◌==◌, List, [], ◌∷◌}
+use Rattle.std.specs.Prelude.{Bool, false, ◌==◌, ◌&&◌, ◌||◌, List, [], ◌∷◌}
 use Rattle.std.specs.List.{list_any}
 use Rattle.os_files.specs.Bytes.{Bytes}
 use Rattle.cmdlines_tables.specs.declared.compiler.CCompilerKind.{CCompilerKind}
-use Rattle.cmdlines_tables.specs.declared.compiler.CCompilerKind.TheVariants.{Gcc, Clang}
+use Rattle.cmdlines_tables.specs.declared.compiler.CCompilerKind.TheVariants.{Diab}
 
 -- the word begins with `@` (64)
 abbrev pub begins_with_at : Bytes → Bool
 begins_with_at [] = false
 begins_with_at (b ∷ bs) = b == 64
 
+-- it begins with `-@`: 45 is '-'
+abbrev pub begins_with_dash_at : Bytes → Bool
+begins_with_dash_at [] = false
+begins_with_dash_at (b ∷ bs) = (b == 45) && begins_with_at bs
+
 -- to that compiler the word names a file of words
 abbrev pub names_file : CCompilerKind → Bytes → Bool
-names_file Gcc word = begins_with_at word
-names_file Clang word = begins_with_at word
+names_file Diab word = begins_with_at word || begins_with_dash_at word
+names_file kind word = begins_with_at word
 
 -- one of the words of a command to that compiler would make it open a file of words
 abbrev pub opens_file : CCompilerKind → List Bytes → Bool

@@ -8,3 +8,4 @@ pub mod Commands
 pub mod ReadBack
 pub mod Compilers
 pub mod Hazards
+pub mod Opening

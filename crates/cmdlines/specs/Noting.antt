@@ -1,9 +1,9 @@
 -- What one option adds to the facts: a flag, what it is for, and its word.
 use Rattle.std.specs.Prelude.{◌||◌}
 use Rattle.os_files.specs.Bytes.{Bytes}
-use Rattle.cmdlines_tables.specs.Kinds.{is_compile, is_output, is_language, is_diagnostics, blocks_preprocessor_cache, asks_dependencies, is_dependency_path, is_dependency_target}
+use Rattle.cmdlines_tables.specs.Kinds.{is_compile, is_output, is_diagnostics, blocks_preprocessor_cache, asks_dependencies, is_dependency_path, is_dependency_target}
 use Rattle.cmdlines_tables.specs.declared.kind.ArgKind.{ArgKind}
-use Rattle.cmdlines.specs.Wanted.{when, later, sooner, color_by}
+use Rattle.cmdlines.specs.Wanted.{when, later, sooner, color_by, language_by}
 use Rattle.cmdlines.specs.declared.facts.Facts.{Facts}
 use Rattle.cmdlines.specs.declared.facts.DependencyOptions.{DependencyOptions}
 
@@ -19,7 +19,7 @@ abbrev pub noted_word : Facts → ArgKind → Bytes → Facts
 noted_word f kind word = record f {
   compiles = f.compiles || is_compile kind;
   output = later f.output (when (is_output kind) word);
-  language = later f.language (when (is_language kind) word);
+  language = later f.language (language_by kind word);
   diagnostics = later f.diagnostics (when (is_diagnostics kind) word);
   color = later f.color (color_by kind word);
   dependencies = dependencies_with f.dependencies kind;

@@ -8,13 +8,15 @@ use Rattle.os_files.specs.Path.{file_name, extension, with_extension}
 use Rattle.cmdlines_base.specs.Reading.{Item, Reading, reading, raw, first_word, whole}
 use Rattle.cmdlines_base.specs.Table.{Entry}
 use Rattle.cmdlines_base.specs.declared.command.ArtifactDescriptor.{ArtifactDescriptor}
-use Rattle.cmdlines_tables.specs.Languages.{language_of_extension, language_named}
-use Rattle.cmdlines_tables.specs.Tables.{entries_of, ends_options}
+use Rattle.cmdlines_tables.specs.Languages.{language_of_extension, language_named, knows}
+use Rattle.cmdlines_tables.specs.Tables.{entries_of, ends_options, reading_of}
+use Rattle.cmdlines_tables.specs.Kinds.{gives_input}
 use Rattle.cmdlines_tables.specs.declared.compiler.CCompilerKind.{CCompilerKind}
+use Rattle.cmdlines_tables.specs.declared.compiler.CCompilerKind.TheVariants.{Msvc}
 use Rattle.cmdlines_tables.specs.declared.compiler.ColorMode.TheVariants.{Auto}
 use Rattle.cmdlines_tables.specs.declared.kind.ArgKind.{ArgKind}
 use Rattle.cmdlines_tables.specs.declared.language.Language.{Language}
-use Rattle.cmdlines.specs.Wanted.{facts_of, lists_of, is_hard, flag_of}
+use Rattle.cmdlines.specs.Wanted.{facts_of, lists_of, is_hard, flag_of, has_kind, when, sooner}
 use Rattle.cmdlines.specs.declared.compiler_arguments.CompilerArguments.{CompilerArguments}
 use Rattle.cmdlines.specs.declared.compiler_arguments.CompilerArguments.TheVariants as answers
 use Rattle.cmdlines.specs.declared.facts.Facts.{Facts}
@@ -46,10 +48,24 @@ abbrev pub language_for : Option Bytes → Bytes → Option Language
 language_for None input = language_by_extension input
 language_for (Some name) input = if bytes_eq name (codes "none") then language_by_extension input else language_named name
 
--- the last output option, or else the input's file name, its extension replaced by `o`
-abbrev pub output_for : Option Bytes → Bytes → Option Bytes
-output_for (Some path) input = Some path
-output_for None input = option_map (λ name. with_extension name (codes "o")) (file_name input)
+-- it counts where the compiler knows it
+abbrev pub known_language : CCompilerKind → Option Bytes → Bytes → Option Language
+known_language kind name input = option_and_then (λ language. when (knows kind language) language) (language_for name input)
+
+-- The last output option, or else the input's file name, its extension replaced by that of objects. An empty one of Msvc is as none.
+abbrev pub object_extension : CCompilerKind → Bytes
+object_extension Msvc = codes "obj"
+object_extension kind = codes "o"
+
+abbrev pub output_named_by : CCompilerKind → Bytes → Option Bytes
+output_named_by Msvc [] = None
+output_named_by kind path = Some path
+
+abbrev pub output_beside : CCompilerKind → Bytes → Option Bytes
+output_beside kind input = option_map (λ name. with_extension name (object_extension kind)) (file_name input)
+
+abbrev pub output_for : CCompilerKind → Option Bytes → Bytes → Option Bytes
+output_for kind option input = sooner (option_and_then (output_named_by kind) option) (output_beside kind input)
 
 -- outputs with where they go, in the order of their names; a compile may leave none of them out
 abbrev pub Artifacts : Type 0
@@ -101,33 +117,33 @@ abbrev pub with_output : Facts → Lists → Input → Language → Option Bytes
 with_output f l input language None = refused (codes "no output file")
 with_output f l input language (Some path) = asks (parsed_from f l input language path)
 
-abbrev pub with_language : Facts → Lists → Input → Option Language → Decision
-with_language f l input None = refused (codes "unknown source language")
-with_language f l input (Some language) = if differ l.architectures then refused (codes "multiple different -arch") else with_output f l input language (output_for f.output input.word)
+abbrev pub with_language : CCompilerKind → Facts → Lists → Input → Option Language → Decision
+with_language kind f l input None = refused (codes "unknown source language")
+with_language kind f l input (Some language) = if differ l.architectures then refused (codes "multiple different -arch") else with_output f l input language (output_for kind f.output input.word)
 
-abbrev pub with_inputs : Facts → Lists → List Input → Decision
-with_inputs f l [] = refused (codes "no input file")
-with_inputs f l (input ∷ other ∷ others) = refused (codes "multiple input files")
-with_inputs f l (input ∷ []) = with_language f l input (language_for f.language input.word)
+abbrev pub with_inputs : CCompilerKind → Facts → Lists → List Input → Decision
+with_inputs kind f l [] = refused (codes "no input file")
+with_inputs kind f l (input ∷ other ∷ others) = refused (codes "multiple input files")
+with_inputs kind f l (input ∷ []) = with_language kind f l input (known_language kind f.language input.word)
 
-abbrev pub closing : Facts → Lists → Decision
-closing f l = if f.compiles then with_inputs f l l.inputs else not_compilation
+abbrev pub closing : CCompilerKind → Facts → Lists → Decision
+closing kind f l = if f.compiles then with_inputs kind f l l.inputs else not_compilation
 
 -- The first option that is too hard decides, by its flag; else words that are cut short do; else the closing table.
-abbrev pub decided : Option (Item ArgKind) → Bool → Facts → Lists → Decision
-decided (Some item) cut_short f l = refused (flag_of item)
-decided None true f l = refused (codes "argument parse")
-decided None false f l = closing f l
+abbrev pub decided : CCompilerKind → Option (Item ArgKind) → Bool → Facts → Lists → Decision
+decided kind (Some item) cut_short f l = refused (flag_of item)
+decided kind None true f l = refused (codes "argument parse")
+decided kind None false f l = closing kind f l
 
-abbrev pub decision_on : List (Entry ArgKind) → Reading ArgKind → Decision
-decision_on table r = decided (find is_hard r.items) r.cut_short (facts_of table r.items) (lists_of r.items)
+abbrev pub decision_on : CCompilerKind → List (Entry ArgKind) → Reading ArgKind → Decision
+decision_on kind table r = decided kind (find (is_hard kind) r.items) r.cut_short (facts_of table r.items) (lists_of r.items)
 
-abbrev pub decision_by : Bool → List (Entry ArgKind) → List Bytes → Decision
-decision_by dashes table words = decision_on table (reading dashes table words)
+abbrev pub decision_by : CCompilerKind → List (Entry ArgKind) → List Bytes → Decision
+decision_by kind table words = decision_on kind table (reading (ends_options kind) table words)
 
 -- what words come to by the compiler's tables, before the hazards
 abbrev pub parse_of : CCompilerKind → List Bytes → Decision
-parse_of kind words = decision_by (ends_options kind) (entries_of kind) words
+parse_of kind words = decision_by kind (entries_of kind) words
 
 -- An input can stand where it's written: behind double dashes that end the options, or as a word that is loose.
 abbrev pub IsSafeBy : Bool → List (Entry ArgKind) → Bool → Bytes → Type 0
@@ -136,5 +152,10 @@ IsSafeBy dashes table behind input = ((behind ≡ true) × (dashes ≡ true)) �
 abbrev pub HasSafeInput : CCompilerKind → ParsedArguments → Type 0
 HasSafeInput kind p = IsSafeBy (ends_options kind) (entries_of kind) p.double_dash_input p.input
 
-abbrev pub HasSafeInputIn : CCompilerKind → Decision → Type 0
-HasSafeInputIn kind decision = (p : ParsedArguments) → decision ≡ asks p → HasSafeInput kind p
+-- An option of Msvc can give an input that its tables read otherwise where it stands alone.
+abbrev pub IsGivenByOption : CCompilerKind → List Bytes → Type 0
+IsGivenByOption kind words = (kind ≡ Msvc) × (list_any (has_kind gives_input) (reading_of kind words).items ≡ true)
+
+-- whatever these words ask for, its input can stand where it's written, or an option of Msvc gave it
+abbrev pub HasSafeInputIn : CCompilerKind → List Bytes → Decision → Type 0
+HasSafeInputIn kind words decision = (p : ParsedArguments) → decision ≡ asks p → HasSafeInput kind p ⊎ IsGivenByOption kind words

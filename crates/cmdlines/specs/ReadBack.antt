@@ -17,4 +17,4 @@ abbrev pub ReadsAsCompile : CCompilerKind → ParsedArguments → List Bytes →
 ReadsAsCompile kind p command = ReadsAsWanted kind p command (compile_items kind p (output_path p))
 
 abbrev pub ReadsAsPreprocess : CCompilerKind → ParsedArguments → List Bytes → Type 0
-ReadsAsPreprocess kind p command = ReadsAsWanted kind p command (preprocess_items p)
+ReadsAsPreprocess kind p command = ReadsAsWanted kind p command (preprocess_items kind p)

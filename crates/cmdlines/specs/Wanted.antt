@@ -1,17 +1,19 @@
 -- What the items of a reading want: list by list, and what they say beside.
-use Rattle.std.specs.Prelude.{Bool, true, false, ◌&&◌, ◌||◌, List, [], ◌∷◌, Option, None, Some, if◌then◌else◌, filter, codes, is_some}
-use Rattle.std.specs.List.{flat_map, list_any}
+use Rattle.std.specs.Prelude.{Bool, true, false, ◌&&◌, ◌||◌, List, [], ◌∷◌, Option, None, Some, if◌then◌else◌, filter, codes, is_some, nat_eq}
+use Rattle.std.specs.List.{flat_map, list_any, ends_with}
 use Rattle.std.specs.Option.{option_to_list}
 use Rattle.std.specs.Str.{bytes_eq}
 use Rattle.os_files.specs.Bytes.{Bytes}
 use Rattle.cmdlines_base.specs.Printing.{is_empty_j, words_of}
 use Rattle.cmdlines_base.specs.Reading.{Item, raw, unknown, flag, valued, behind_dashes}
 use Rattle.cmdlines_base.specs.Table.{Entry, behind}
-use Rattle.cmdlines_tables.specs.Kinds.{list_of, is_same_list, blocks_preprocessor_cache, is_too_hard, is_front_end, is_compile, is_output, is_language, is_arch, is_diagnostics, is_extra_file, asks_dependencies, is_dependency_path, is_dependency_target}
+use Rattle.cmdlines_tables.specs.Kinds.{list_of, is_same_list, blocks_preprocessor_cache, is_too_hard, is_front_end, is_compile, is_output, is_arch, is_diagnostics, is_extra_file, asks_dependencies, is_dependency_path, is_dependency_target, gives_input}
+use Rattle.cmdlines_tables.specs.declared.compiler.CCompilerKind.{CCompilerKind}
+use Rattle.cmdlines_tables.specs.declared.compiler.CCompilerKind.TheVariants.{Gcc, Clang, Diab, Msvc, TaskingVX}
 use Rattle.cmdlines_tables.specs.declared.compiler.ColorMode.{ColorMode}
 use Rattle.cmdlines_tables.specs.declared.compiler.ColorMode.TheVariants as modes
 use Rattle.cmdlines_tables.specs.declared.kind.ArgKind.{ArgKind}
-use Rattle.cmdlines_tables.specs.declared.kind.ArgKind.TheVariants.{DiagnosticsColor, DiagnosticsColorFlag, NoDiagnosticsColorFlag}
+use Rattle.cmdlines_tables.specs.declared.kind.ArgKind.TheVariants.{Language, LanguageC, LanguageCxx, InputC, InputCxx, DiagnosticsColor, DiagnosticsColorFlag, NoDiagnosticsColorFlag}
 use Rattle.cmdlines_tables.specs.declared.kind.OptionList.{OptionList}
 use Rattle.cmdlines_tables.specs.declared.kind.OptionList.TheVariants as lists
 use Rattle.cmdlines.specs.declared.facts.Facts.{Facts}
@@ -54,17 +56,23 @@ wanted list items = filter (is_wanted list) items
 abbrev pub wanted_words : OptionList → List (Item ArgKind) → List Bytes
 wanted_words list items = words_of (wanted list items)
 
+abbrev pub when : {X : Type 0} → Bool → X → Option X
+when holds x = if holds then Some x else None
+
 -- An input, and whether it stands behind double dashes that end the options.
 abbrev pub input_at : Bytes → Bool → Input
 input_at word seen = record { word = word; behind_dashes = seen }
 
+-- an option can give it
+abbrev pub input_given : ArgKind → Bytes → List Input
+input_given k v = option_to_list (when (gives_input k) (input_at v false))
+
 abbrev pub input_in : Item ArgKind → List Input
 input_in (raw w) = input_at w false ∷ []
+input_in (unknown w) = []
+input_in (flag f k) = input_given k []
+input_in (valued f k v d) = input_given k v
 input_in (behind_dashes w) = input_at w true ∷ []
-input_in _ = []
-
-abbrev pub when : {X : Type 0} → Bool → X → Option X
-when holds x = if holds then Some x else None
 
 -- the word of an option of a kind that passes the test
 abbrev pub word_in : (ArgKind → Bool) → Item ArgKind → Option Bytes
@@ -105,6 +113,20 @@ color_in (flag f k) = color_by k []
 color_in (valued f k v d) = color_by k v
 color_in _ = None
 
+-- the name of the language that an option gives its input
+abbrev pub language_by : ArgKind → Bytes → Option Bytes
+language_by Language word = Some word
+language_by LanguageC word = Some (codes "c")
+language_by InputC word = Some (codes "c")
+language_by LanguageCxx word = Some (codes "c++")
+language_by InputCxx word = Some (codes "c++")
+language_by _ word = None
+
+abbrev pub language_in : Item ArgKind → Option Bytes
+language_in (flag f k) = language_by k []
+language_in (valued f k v d) = language_by k v
+language_in _ = None
+
 -- the flag of an option under which the preprocessor cache can't be asked
 abbrev pub blocker_in : Item ArgKind → Option Bytes
 blocker_in item = when (has_kind blocks_preprocessor_cache item) (flag_of item)
@@ -113,8 +135,19 @@ blocker_in item = when (has_kind blocks_preprocessor_cache item) (flag_of item)
 abbrev pub is_hard_word : Bytes → Bool
 is_hard_word word = bytes_eq word (codes "-load") || bytes_eq word (codes "-include-pch") || bytes_eq word (codes "-emit-pch") || is_some (behind (codes "-fmodule") word)
 
-abbrev pub is_hard : Item ArgKind → Bool
-is_hard item = has_kind is_too_hard item || (has_kind is_front_end item && is_hard_word (word_of item))
+-- and, for Msvc, an output that is a folder: its name ends with a slash (47) or a backslash (92)
+abbrev pub names_folder : Bytes → Bool
+names_folder word = ends_with nat_eq word (47 ∷ []) || ends_with nat_eq word (92 ∷ [])
+
+abbrev pub may_name_folder : CCompilerKind → Bool
+may_name_folder Gcc = false
+may_name_folder Clang = false
+may_name_folder Diab = false
+may_name_folder Msvc = true
+may_name_folder TaskingVX = false
+
+abbrev pub is_hard : CCompilerKind → Item ArgKind → Bool
+is_hard kind item = has_kind is_too_hard item || (has_kind is_front_end item && is_hard_word (word_of item)) || (may_name_folder kind && has_kind is_output item && names_folder (word_of item))
 
 -- what items say of dependency files
 abbrev pub dependencies_of : List (Item ArgKind) → DependencyOptions
@@ -129,7 +162,7 @@ abbrev pub facts_of : List (Entry ArgKind) → List (Item ArgKind) → Facts
 facts_of table items = record {
   compiles = list_any (has_kind is_compile) items;
   output = last_of (word_in is_output) items;
-  language = last_of (word_in is_language) items;
+  language = last_of language_in items;
   diagnostics = last_of (word_in is_diagnostics) items;
   color = last_of color_in items;
   blocker = first_of blocker_in items;

@@ -2,14 +2,14 @@
 
 ghost use Rattle.std.specs.Prelude.{◌≡◌, ◌∷◌, [], IfOk, MatchResult};
 ghost use Rattle.std.specs.Option.{option_copied};
-ghost use Rattle.cmdlines.specs.Parsing.{decision_of, refused, closing, with_inputs, with_language, with_output, language_by_extension, language_for, output_for, outputs_at, artifact_at, differ};
+ghost use Rattle.cmdlines.specs.Parsing.{decision_of, refused, closing, with_inputs, with_language, with_output, language_by_extension, language_for, known_language, object_extension, output_named_by, output_for, outputs_at, artifact_at, differ};
 
 use crate::compiler_arguments::CompilerArguments;
 use crate::facts::Facts;
 use crate::lists::{Input, Lists};
 use crate::parsed::ParsedArguments;
 use cmdlines_base::command::ArtifactDescriptor;
-use cmdlines_tables::compiler::ColorMode;
+use cmdlines_tables::compiler::{CCompilerKind, ColorMode};
 use cmdlines_tables::language::Language;
 use os_files::listed::Listed;
 use os_files::os_bytes::OsBytes;
@@ -41,21 +41,63 @@ fn language_for(option: Option<&OsBytes>, input: &[u8]) -> Option<Language>
     }
 }
 
+/// That language, where the compiler knows it.
+fn known_language(kind: CCompilerKind, option: Option<&OsBytes>, input: &[u8]) -> Option<Language>
+    ensures { result ≡ known_language kind (option_copied option.entry) input.now }
+{
+    let language = language_for(option, input)?;
+    if kind.knows(language) {
+        Some(language)
+    } else {
+        None
+    }
+}
+
+/// The extension of objects.
+fn object_extension(kind: CCompilerKind) -> &'static str
+    ensures { result.now ≡ object_extension kind }
+{
+    match kind {
+        CCompilerKind::Msvc => "obj",
+        CCompilerKind::Gcc
+        | CCompilerKind::Clang
+        | CCompilerKind::Diab
+        | CCompilerKind::TaskingVX => "o",
+    }
+}
+
+/// The output that an option names: to Msvc an empty name is none.
+fn output_named_by(kind: CCompilerKind, path: OsBytes) -> Option<OsBytes>
+    ensures { result ≡ output_named_by kind path }
+{
+    if kind == CCompilerKind::Msvc && path.as_bytes().is_empty() {
+        None
+    } else {
+        Some(path)
+    }
+}
+
 /// Where the object goes: as the last output option says, or else to the input's file name, its extension replaced
-/// by `o`.
+/// by that of objects.
 fn output_for(
     alloc: Global,
+    kind: CCompilerKind,
     output: Option<OsBytes>,
     input: &[u8],
 ) -> Result<Option<OsBytes>, AllocError>
-    ensures { IfOk result (λ path. path ≡ output_for output input.now) }
+    ensures { IfOk result (λ path. path ≡ output_for kind output input.now) }
 {
-    if output.is_some() {
-        return Ok(output);
+    if let Some(path) = output {
+        if let Some(named) = output_named_by(kind, path) {
+            return Ok(Some(named));
+        }
     }
     match file_name(input) {
         None => Ok(None),
-        Some(name) => Ok(Some(with_extension(alloc, name, b"o")?)),
+        Some(name) => {
+            let extension = object_extension(kind);
+            Ok(Some(with_extension(alloc, name, extension.as_bytes())?))
+        }
     }
 }
 
@@ -108,7 +150,7 @@ fn differ(values: &[OsBytes]) -> bool
 /// The one input among words, or why there is none.
 fn only(inputs: Listed<Input>) -> Result<Input, &'static str>
     ensures { MatchResult result (λ input. inputs ≡ input ∷ [])
-        (λ reason. (f : Facts) (l : Lists) → with_inputs f l inputs ≡ refused reason.now) }
+        (λ reason. (kind : CCompilerKind) (f : Facts) (l : Lists) → with_inputs kind f l inputs ≡ refused reason.now) }
 {
     let mut inputs = inputs.into_vec();
     match inputs.pop() {
@@ -127,10 +169,11 @@ fn only(inputs: Listed<Input>) -> Result<Input, &'static str>
 /// one architecture at most, and an output.
 pub(crate) fn close(
     alloc: Global,
+    kind: CCompilerKind,
     facts: Facts,
     lists: Lists,
 ) -> Result<CompilerArguments<ParsedArguments>, AllocError>
-    ensures { IfOk result (λ answer. decision_of answer ≡ closing facts lists) }
+    ensures { IfOk result (λ answer. decision_of answer ≡ closing kind facts lists) }
 {
     if !facts.compiles {
         return Ok(CompilerArguments::NotCompilation);
@@ -139,13 +182,13 @@ pub(crate) fn close(
         Ok(input) => input,
         Err(reason) => return Ok(refused(reason)),
     };
-    let Some(language) = language_for(facts.language.as_ref(), input.word.as_bytes()) else {
+    let Some(language) = known_language(kind, facts.language.as_ref(), input.word.as_bytes()) else {
         return Ok(refused("unknown source language"));
     };
     if differ(lists.architectures.as_slice()) {
         return Ok(refused("multiple different -arch"));
     }
-    let Some(path) = output_for(alloc, facts.output, input.word.as_bytes())? else {
+    let Some(path) = output_for(alloc, kind, facts.output, input.word.as_bytes())? else {
         return Ok(refused("no output file"));
     };
     Ok(CompilerArguments::Ok(ParsedArguments {

@@ -3,7 +3,8 @@
 ghost use Rattle.std.specs.Prelude.{◌≡◌, ◌↔◌, ◌∷◌, ◌++◌, [], None, IfOk, OnOk, IsErrOf};
 ghost use Rattle.std.specs.Option.{option_copied};
 ghost use Rattle.cmdlines_tables.specs.Languages.{language_option};
-ghost use Rattle.cmdlines.specs.Commands.{object_path, language_words, front_words, behind_words, color_words, added_words, compile_words, preprocess_words, output_path, command_at};
+ghost use Rattle.cmdlines_tables.specs.OwnWords.{named_words, language_words, output_words};
+ghost use Rattle.cmdlines.specs.Commands.{object_path, front_words, behind_words, color_words, added_words, compile_words, preprocess_words, output_path, command_at};
 ghost use Rattle.cmdlines.specs.ReadBack.{ReadsAsCompile, ReadsAsPreprocess};
 
 use crate::parsed::ParsedArguments;
@@ -66,19 +67,57 @@ fn push_all(words: &mut Listed<OsBytes>, more: &Listed<OsBytes>) -> Result<(), A
     Ok(())
 }
 
-/// Adds the words that name the language, where an option can.
-fn push_language(
+/// Adds the words by which Gcc and Clang name the language, where they can.
+fn push_language_name(
     alloc: Global,
     words: &mut Listed<OsBytes>,
     language: Language,
 ) -> Result<(), AllocError>
-    ensures { OnOk result (words.new ≡ words.old ++ language_words (language_option language)) }
+    ensures { OnOk result (words.new ≡ words.old ++ named_words (language_option language)) }
 {
     if let Some(name) = language_to_gcc_arg(language) {
         push_word(alloc, words, b"-x")?;
         push_word(alloc, words, name.as_bytes())?;
     }
     Ok(())
+}
+
+/// Adds the words that name the language, where an option can.
+fn push_language(
+    alloc: Global,
+    words: &mut Listed<OsBytes>,
+    kind: CCompilerKind,
+    language: Language,
+) -> Result<(), AllocError>
+    ensures { OnOk result (words.new ≡ words.old ++ language_words kind language) }
+{
+    match (kind, language) {
+        (CCompilerKind::Gcc | CCompilerKind::Clang, _) => push_language_name(
+            alloc, words, language,
+        ),
+        (CCompilerKind::Msvc, Language::C) => push_word(alloc, words, b"-TC"),
+        (CCompilerKind::Msvc, Language::Cxx) => push_word(alloc, words, b"-TP"),
+        _ => Ok(()),
+    }
+}
+
+/// Adds the words that say where the object goes.
+fn push_output(
+    alloc: Global,
+    words: &mut Listed<OsBytes>,
+    kind: CCompilerKind,
+    path: &[u8],
+) -> Result<(), AllocError>
+    ensures { OnOk result (words.new ≡ words.old ++ output_words kind path.now) }
+{
+    if kind == CCompilerKind::Msvc {
+        let mut word = Vec::from_slice(alloc, b"-Fo")?;
+        word.extend_from_slice(path)?;
+        words.push(OsBytes::from_vec(word))
+    } else {
+        push_word(alloc, words, b"-o")?;
+        push_word(alloc, words, path)
+    }
 }
 
 /// Adds the input, where it stands among the options.
@@ -115,29 +154,31 @@ fn push_color(
 ) -> Result<(), AllocError>
     ensures { OnOk result (words.new ≡ words.old ++ color_words kind parsed.now.has_color_option) }
 {
-    if !parsed.has_color_option {
-        push_word(alloc, words, kind.color_word().as_bytes())?;
+    match kind.color_word() {
+        Some(word) if !parsed.has_color_option => push_word(alloc, words, word.as_bytes()),
+        _ => Ok(()),
     }
-    Ok(())
 }
 
 /// Adds what options on dependency files lack: where the file goes, and its target.
 fn push_added(
     alloc: Global,
     words: &mut Listed<OsBytes>,
+    kind: CCompilerKind,
     parsed: &ParsedArguments,
 ) -> Result<(), AllocError>
-    ensures { OnOk result (words.new ≡ words.old ++ added_words parsed.now.dependencies (object_path parsed.now)) }
+    ensures { OnOk result (words.new ≡ words.old ++ added_words kind parsed.now.dependencies (object_path parsed.now)) }
 {
     let Some(path) = object_path(parsed) else {
         return Ok(());
     };
     let options = parsed.dependencies;
-    if options.asked && !options.path {
+    let asked = kind.writes_dependencies() && options.asked;
+    if asked && !options.path {
         push_word(alloc, words, b"-MF")?;
         words.push(with_extension(alloc, path.as_bytes(), b"d")?)?;
     }
-    if options.asked && !options.target {
+    if asked && !options.target {
         push_word(alloc, words, b"-MT")?;
         words.push(path.clone()?)?;
     }
@@ -161,11 +202,10 @@ fn compile_words(
     ensures { IfOk result (λ words. words ≡ compile_words kind parsed.now path.now) }
 {
     let mut words = Listed::new(alloc);
-    push_language(alloc, &mut words, parsed.language)?;
+    push_language(alloc, &mut words, kind, parsed.language)?;
     push_word(alloc, &mut words, b"-c")?;
     push_front(&mut words, parsed)?;
-    push_word(alloc, &mut words, b"-o")?;
-    push_word(alloc, &mut words, path)?;
+    push_output(alloc, &mut words, kind, path)?;
     push_color(alloc, &mut words, kind, parsed)?;
     push_all(&mut words, &parsed.preprocessor_args)?;
     push_all(&mut words, &parsed.unhashed_args)?;
@@ -176,19 +216,20 @@ fn compile_words(
 }
 
 /// The words of the preprocess command of a request.
-pub(crate) fn preprocess_words(
+fn preprocess_words(
     alloc: Global,
+    kind: CCompilerKind,
     parsed: &ParsedArguments,
 ) -> Result<Listed<OsBytes>, AllocError>
-    ensures { IfOk result (λ words. words ≡ preprocess_words parsed.now) }
+    ensures { IfOk result (λ words. words ≡ preprocess_words kind parsed.now) }
 {
     let mut words = Listed::new(alloc);
-    push_language(alloc, &mut words, parsed.language)?;
+    push_language(alloc, &mut words, kind, parsed.language)?;
     push_word(alloc, &mut words, b"-E")?;
     push_front(&mut words, parsed)?;
     push_all(&mut words, &parsed.preprocessor_args)?;
     push_all(&mut words, &parsed.dependency_args)?;
-    push_added(alloc, &mut words, parsed)?;
+    push_added(alloc, &mut words, kind, parsed)?;
     push_all(&mut words, &parsed.common_args)?;
     push_all(&mut words, &parsed.arch_args)?;
     push_behind(alloc, &mut words, parsed)?;
@@ -261,7 +302,7 @@ pub(crate) fn preprocess_words_again(
     kind: CCompilerKind,
     parsed: &ParsedArguments,
 ) -> Result<Listed<OsBytes>, AllocError>
-    ensures words { IfOk result (λ words. words ≡ preprocess_words parsed.now) }
+    ensures words { IfOk result (λ words. words ≡ preprocess_words kind parsed.now) }
     ensures again { IfOk result (λ words. ReadsAsPreprocess kind parsed.now words) }
 {
     // Laws, which cost nothing: what follows from them is said above.
@@ -269,5 +310,5 @@ pub(crate) fn preprocess_words_again(
     items_read_again::<ArgData>();
     items_read_together::<ArgData>();
     own_words_are_read();
-    preprocess_words(alloc, parsed)
+    preprocess_words(alloc, kind, parsed)
 }

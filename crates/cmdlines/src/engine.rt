@@ -1,11 +1,10 @@
 //! The one parse of the C compilers: words are cut by a compiler's tables, and what they say is gathered and closed.
 
-ghost use Rattle.std.specs.Prelude.{◌≡◌, ◌↔◌, Bool, false, true, alloc_error, codes, IfOk, IsErrOf, MatchOption};
+ghost use Rattle.std.specs.Prelude.{◌≡◌, ◌↔◌, ◌&&◌, Bool, false, true, alloc_error, codes, IfOk, IsErrOf, MatchOption};
 ghost use Rattle.cmdlines_base.specs.Table.{all_entries};
-ghost use Rattle.cmdlines_tables.specs.Tables.{ends_options};
 ghost use Rattle.cmdlines_tables.specs.Values.{placed};
 ghost use Rattle.cmdlines.specs.Parsing.{decision_of, decision_by, refused};
-ghost use Rattle.cmdlines.specs.Wanted.{is_hard, is_hard_word, flag_of};
+ghost use Rattle.cmdlines.specs.Wanted.{is_hard, is_hard_word, may_name_folder, names_folder, flag_of};
 
 use crate::closing::{close, refused};
 use crate::compiler_arguments::CompilerArguments;
@@ -33,21 +32,30 @@ fn is_hard_word(word: &[u8]) -> bool
         || word.starts_with(b"-fmodule")
 }
 
-/// The flag of an option that is too hard.
-fn too_hard_flag(argument: &Argument<ArgData>) -> Option<&'static str>
-    ensures { (behind : Bool) → MatchOption result (is_hard (placed behind argument.now) ≡ false)
-        (λ flag. (is_hard (placed behind argument.now) ≡ true) × (flag.now ≡ flag_of (placed behind argument.now))) }
+/// Whether that compiler takes the word of an output for the name of a folder.
+fn names_folder(kind: CCompilerKind, word: &[u8]) -> bool
+    ensures { result ≡ may_name_folder kind && names_folder word.now }
 {
-    let (flag, kind, word) = match argument {
+    kind == CCompilerKind::Msvc && (word.ends_with(b"/") || word.ends_with(b"\\"))
+}
+
+/// The flag of an option that is too hard for that compiler.
+fn too_hard_flag(kind: CCompilerKind, argument: &Argument<ArgData>) -> Option<&'static str>
+    ensures { (behind : Bool) → MatchOption result (is_hard kind (placed behind argument.now) ≡ false)
+        (λ flag. (is_hard kind (placed behind argument.now) ≡ true) × (flag.now ≡ flag_of (placed behind argument.now))) }
+{
+    let (flag, option, word) = match argument {
         Argument::Raw(_) | Argument::UnknownFlag(_) => return None,
         Argument::Flag(flag, data) => (flag, data.kind(), [].as_slice()),
         Argument::WithValue(flag, data, _) => (flag, data.kind(), data.word()),
     };
-    if kind == ArgKind::TooHard || (kind == ArgKind::XClang && is_hard_word(word)) {
-        Some(flag)
-    } else {
-        None
-    }
+    let is_hard = match option {
+        ArgKind::TooHard => true,
+        ArgKind::XClang => is_hard_word(word),
+        ArgKind::Output => names_folder(kind, word),
+        _ => false,
+    };
+    if is_hard { Some(flag) } else { None }
 }
 
 /// What words come to that can't be cut.
@@ -70,7 +78,7 @@ pub(crate) fn parse<S: SearchableArgInfo<ArgData>>(
     table: &S,
     words: &[OsBytes],
 ) -> Result<CompilerArguments<ParsedArguments>, AllocError>
-    ensures { IfOk result (λ answer. decision_of answer ≡ decision_by (ends_options kind) (all_entries (S.tables table.now)) words.now) }
+    ensures { IfOk result (λ answer. decision_of answer ≡ decision_by kind (all_entries (S.tables table.now)) words.now) }
 {
     // A law, which costs nothing: what follows from it is said above.
     arguments_are_their_items();
@@ -81,7 +89,7 @@ pub(crate) fn parse<S: SearchableArgInfo<ArgData>>(
         match next {
             Err(error) => return not_cut(error),
             Ok(argument) => {
-                if let Some(flag) = too_hard_flag(&argument) {
+                if let Some(flag) = too_hard_flag(kind, &argument) {
                     return Ok(refused(flag));
                 }
                 facts.note(alloc, table, &argument)?;
@@ -89,5 +97,5 @@ pub(crate) fn parse<S: SearchableArgInfo<ArgData>>(
             }
         }
     }
-    close(alloc, facts, lists)
+    close(alloc, kind, facts, lists)
 }

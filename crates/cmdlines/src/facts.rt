@@ -126,6 +126,12 @@ impl Facts {
             ArgKind::DoCompilation => self.compiles = true,
             ArgKind::Output => self.output = Some(OsBytes::from_slice(alloc, word)?),
             ArgKind::Language => self.language = Some(OsBytes::from_slice(alloc, word)?),
+            ArgKind::LanguageC | ArgKind::InputC => {
+                self.language = Some(OsBytes::from_slice(alloc, b"c")?)
+            }
+            ArgKind::LanguageCxx | ArgKind::InputCxx => {
+                self.language = Some(OsBytes::from_slice(alloc, b"c++")?)
+            }
             ArgKind::SerializeDiagnostics => {
                 self.diagnostics = Some(OsBytes::from_slice(alloc, word)?)
             }

@@ -20,7 +20,11 @@ fn names_file(kind: CCompilerKind, word: &[u8]) -> bool
     ensures { result ≡ names_file kind word.now }
 {
     match kind {
-        CCompilerKind::Gcc | CCompilerKind::Clang => word.first().copied() == Some(b'@'),
+        CCompilerKind::Diab => word.starts_with(b"@") || word.starts_with(b"-@"),
+        CCompilerKind::Gcc
+        | CCompilerKind::Clang
+        | CCompilerKind::Msvc
+        | CCompilerKind::TaskingVX => word.starts_with(b"@"),
     }
 }
 

@@ -1,20 +1,23 @@
 //! Laws of what words ask for. Calls of them do nothing: whoever parses cites them.
 
-ghost use Rattle.std.specs.Prelude.{◌≡◌, Bool, List, true, is_some};
+ghost use Rattle.std.specs.Prelude.{List};
 ghost use Rattle.os_files.specs.Bytes.{Bytes};
-ghost use Rattle.cmdlines_base.specs.Table.{Entry};
-ghost use Rattle.cmdlines.specs.Commands.{object_path};
-ghost use Rattle.cmdlines.specs.Parsing.{decision_by, asks, IsSafeBy};
-ghost use Rattle.cmdlines.specs.declared.parsed.ParsedArguments.{ParsedArguments};
-ghost use Rattle.cmdlines_tables.specs.declared.kind.ArgKind.{ArgKind};
+ghost use Rattle.cmdlines.specs.Commands.{HasObjectIn};
+ghost use Rattle.cmdlines.specs.Parsing.{parse_of, HasSafeInputIn};
+ghost use Rattle.cmdlines_tables.specs.declared.compiler.CCompilerKind.{CCompilerKind};
 
-/// Whatever words ask for, its input can stand where it's written: it is loose, or stands behind double dashes that end
-/// the options.
+use cmdlines_tables::laws::only_msvc_gives_inputs_by_options;
+
+/// Whatever words ask for, its input can stand where it's written: it is loose, or stands behind double dashes that end the
+/// options. Only an input that an option of Msvc gave need not.
 pub fn inputs_are_safe()
-    ensures { (dashes : Bool) (table : List (Entry ArgKind)) (words : List Bytes) (parsed : ParsedArguments) → decision_by dashes table words ≡ asks parsed → IsSafeBy dashes table parsed.double_dash_input parsed.input }
-{}
+    ensures { (kind : CCompilerKind) (words : List Bytes) → HasSafeInputIn kind words (parse_of kind words) }
+{
+    // A law, which costs nothing: what follows from it is said above.
+    only_msvc_gives_inputs_by_options();
+}
 
 /// Whatever words ask for, an object is among its outputs.
 pub fn requests_have_an_object()
-    ensures { (dashes : Bool) (table : List (Entry ArgKind)) (words : List Bytes) (parsed : ParsedArguments) → decision_by dashes table words ≡ asks parsed → is_some (object_path parsed) ≡ true }
+    ensures { (kind : CCompilerKind) (words : List Bytes) → HasObjectIn (parse_of kind words) }
 {}

@@ -82,11 +82,15 @@ impl Lists {
         }
     }
 
-    /// Adds the word of an option where it is one of an architecture or names a file.
+    /// Adds the word of an option where it is the input or an architecture or names a file.
     fn take_word(&mut self, alloc: Global, kind: ArgKind, word: &[u8]) -> Result<(), AllocError>
         ensures { OnOk result (self.new ≡ with_option_word self.old kind word.now) }
     {
         match kind {
+            ArgKind::InputC | ArgKind::InputCxx => self.inputs.push(Input {
+                word: OsBytes::from_slice(alloc, word)?,
+                behind_dashes: false,
+            }),
             ArgKind::Arch => self.architectures.push(OsBytes::from_slice(alloc, word)?),
             ArgKind::ExtraHashFile => self.extra_files.push(OsBytes::from_slice(alloc, word)?),
             _ => Ok(()),

@@ -1,2 +1,3 @@
+pub mod OwnWordLemmas
 pub mod TableTests
 pub mod PlaceLemmas

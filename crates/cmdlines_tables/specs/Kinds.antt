@@ -1,7 +1,7 @@
 -- Which list of a request the options of each kind go to.
 use Rattle.std.specs.Prelude.{Bool, true, false}
 use Rattle.cmdlines_tables.specs.declared.kind.ArgKind.{ArgKind}
-use Rattle.cmdlines_tables.specs.declared.kind.ArgKind.TheVariants.{TooHard, DoCompilation, Output, Language, Arch, PreprocessorArgument, PreprocessorTooHard, NeedDepTarget, DepFlag, DepArgumentPath, DepTarget, PassThrough, ExtraHashFile, SerializeDiagnostics, DiagnosticsColor, DiagnosticsColorFlag, NoDiagnosticsColorFlag, XClang}
+use Rattle.cmdlines_tables.specs.declared.kind.ArgKind.TheVariants.{TooHard, DoCompilation, Output, Language, LanguageC, LanguageCxx, InputC, InputCxx, Arch, PreprocessorArgument, PreprocessorTooHard, NeedDepTarget, DepFlag, DepArgumentPath, DepTarget, PassThrough, ExtraHashFile, SerializeDiagnostics, DiagnosticsColor, DiagnosticsColorFlag, NoDiagnosticsColorFlag, XClang}
 use Rattle.cmdlines_tables.specs.declared.kind.OptionList.{OptionList}
 use Rattle.cmdlines_tables.specs.declared.kind.OptionList.TheVariants as lists
 
@@ -10,6 +10,10 @@ list_of TooHard = lists.Nowhere
 list_of DoCompilation = lists.Nowhere
 list_of Output = lists.Nowhere
 list_of Language = lists.Nowhere
+list_of LanguageC = lists.Nowhere
+list_of LanguageCxx = lists.Nowhere
+list_of InputC = lists.Nowhere
+list_of InputCxx = lists.Nowhere
 list_of Arch = lists.Arch
 list_of PreprocessorArgument = lists.Preprocessor
 list_of PreprocessorTooHard = lists.Preprocessor
@@ -55,10 +59,6 @@ abbrev pub is_output : ArgKind → Bool
 is_output Output = true
 is_output _ = false
 
-abbrev pub is_language : ArgKind → Bool
-is_language Language = true
-is_language _ = false
-
 abbrev pub is_arch : ArgKind → Bool
 is_arch Arch = true
 is_arch _ = false
@@ -83,3 +83,9 @@ is_dependency_path _ = false
 abbrev pub is_dependency_target : ArgKind → Bool
 is_dependency_target DepTarget = true
 is_dependency_target _ = false
+
+-- an option that gives the input
+abbrev pub gives_input : ArgKind → Bool
+gives_input InputC = true
+gives_input InputCxx = true
+gives_input _ = false

@@ -1,8 +1,10 @@
 -- The languages of inputs.
-use Rattle.std.specs.Prelude.{List, [], ◌∷◌, Option, None, Some, codes, find}
+use Rattle.std.specs.Prelude.{Bool, true, false, List, [], ◌∷◌, Option, None, Some, codes, find}
 use Rattle.std.specs.Option.{option_map}
 use Rattle.std.specs.Str.{bytes_eq}
 use Rattle.os_files.specs.Bytes.{Bytes}
+use Rattle.cmdlines_tables.specs.declared.compiler.CCompilerKind.{CCompilerKind}
+use Rattle.cmdlines_tables.specs.declared.compiler.CCompilerKind.TheVariants.{Gcc, Clang}
 use Rattle.cmdlines_tables.specs.declared.language.Language.{Language}
 use Rattle.cmdlines_tables.specs.declared.language.Language.TheVariants.{C, Cxx, CPreprocessed, CxxPreprocessed, Assembler, AssemblerToPreprocess, Rust}
 
@@ -49,3 +51,11 @@ language_named name = meant_by (named C ∷ named Cxx ∷ named CPreprocessed �
 abbrev pub language_option : Language → Option Bytes
 language_option Rust = None
 language_option language = Some (name_of language)
+
+-- Gcc and Clang know all languages, the others C and C++ alone.
+abbrev pub knows : CCompilerKind → Language → Bool
+knows Gcc language = true
+knows Clang language = true
+knows kind C = true
+knows kind Cxx = true
+knows kind language = false

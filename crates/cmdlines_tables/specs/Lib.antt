@@ -3,3 +3,6 @@ pub mod Values
 pub mod Languages
 pub mod Tables
 pub mod OwnWords
+pub mod MsvcTable
+pub mod EmbeddedTables
+pub mod Search

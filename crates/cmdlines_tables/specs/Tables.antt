@@ -5,7 +5,9 @@ use Rattle.cmdlines_base.specs.declared.argument.ArgDisposition.TheVariants.{Sep
 use Rattle.cmdlines_base.specs.Reading.{Reading, reading}
 use Rattle.cmdlines_base.specs.Table.{Entry, all_entries}
 use Rattle.cmdlines_tables.specs.declared.compiler.CCompilerKind.{CCompilerKind}
-use Rattle.cmdlines_tables.specs.declared.compiler.CCompilerKind.TheVariants.{Gcc, Clang}
+use Rattle.cmdlines_tables.specs.declared.compiler.CCompilerKind.TheVariants.{Gcc, Clang, Diab, Msvc, TaskingVX}
+use Rattle.cmdlines_tables.specs.EmbeddedTables.{diab_entries, tasking_vx_entries}
+use Rattle.cmdlines_tables.specs.MsvcTable.{msvc_dash_entries, msvc_slash_entries}
 use Rattle.cmdlines_tables.specs.declared.kind.ArgKind.{ArgKind}
 use Rattle.cmdlines_tables.specs.declared.kind.ArgKind.TheVariants.{TooHard, DoCompilation, Output, Language, Arch, PreprocessorArgument, PreprocessorTooHard, NeedDepTarget, DepFlag, DepArgumentPath, DepTarget, PassThrough, ExtraHashFile, SerializeDiagnostics, DiagnosticsColor, DiagnosticsColorFlag, NoDiagnosticsColorFlag, XClang}
 
@@ -105,6 +107,9 @@ clang_entries =
 abbrev pub tables_of : CCompilerKind → List (List (Entry ArgKind))
 tables_of Gcc = gnu_entries ∷ []
 tables_of Clang = gnu_entries ∷ clang_entries ∷ []
+tables_of Diab = diab_entries ∷ []
+tables_of Msvc = msvc_dash_entries ∷ msvc_slash_entries ∷ []
+tables_of TaskingVX = tasking_vx_entries ∷ []
 
 abbrev pub entries_of : CCompilerKind → List (Entry ArgKind)
 entries_of kind = all_entries (tables_of kind)
@@ -113,6 +118,9 @@ entries_of kind = all_entries (tables_of kind)
 abbrev pub ends_options : CCompilerKind → Bool
 ends_options Gcc = false
 ends_options Clang = true
+ends_options Diab = false
+ends_options Msvc = false
+ends_options TaskingVX = false
 
 -- how the compiler's tables cut words
 abbrev pub reading_of : CCompilerKind → List Bytes → Reading ArgKind

@@ -14,6 +14,14 @@ pub enum ArgKind {
     Output,
     /// The language of the input.
     Language,
+    /// The input is C.
+    LanguageC,
+    /// The input is C++.
+    LanguageCxx,
+    /// The input, which is C.
+    InputC,
+    /// The input, which is C++.
+    InputCxx,
     /// An architecture to compile for.
     Arch,
     /// An option of the preprocessor.
@@ -67,9 +75,14 @@ impl ArgKind {
         ensures { result ≡ list_of self }
     {
         match self {
-            ArgKind::TooHard | ArgKind::DoCompilation | ArgKind::Output | ArgKind::Language => {
-                OptionList::Nowhere
-            }
+            ArgKind::TooHard
+            | ArgKind::DoCompilation
+            | ArgKind::Output
+            | ArgKind::Language
+            | ArgKind::LanguageC
+            | ArgKind::LanguageCxx
+            | ArgKind::InputC
+            | ArgKind::InputCxx => OptionList::Nowhere,
             ArgKind::Arch => OptionList::Arch,
             ArgKind::PreprocessorArgument | ArgKind::PreprocessorTooHard => {
                 OptionList::Preprocessor

@@ -1,12 +1,16 @@
 //! Laws of the tables. No code calls them: whoever writes a command cites them.
 
-ghost use Rattle.std.specs.Prelude.{◌≡◌, Bool, Contains, length};
+ghost use Rattle.std.specs.Prelude.{◌≡◌, Bool, true, Contains, length};
+ghost use Rattle.std.specs.List.{list_any};
 ghost use Rattle.cmdlines_base.specs.Reading.{Item, is_behind};
 ghost use Rattle.cmdlines_base.specs.Table.{Entry};
 ghost use Rattle.cmdlines_base.specs.Values.{IsOf, values_by};
 ghost use Rattle.cmdlines_base.specs.declared.argument.Argument.{Argument};
+ghost use Rattle.cmdlines_tables.specs.EmbeddedTables.{diab_entries, tasking_vx_entries};
+ghost use Rattle.cmdlines_tables.specs.Kinds.{gives_input};
+ghost use Rattle.cmdlines_tables.specs.MsvcTable.{msvc_dash_entries, msvc_slash_entries};
 ghost use Rattle.cmdlines_tables.specs.OwnWords.{OwnWords};
-ghost use Rattle.cmdlines_tables.specs.Tables.{gnu_entries, clang_entries};
+ghost use Rattle.cmdlines_tables.specs.Tables.{gnu_entries, clang_entries, entries_of};
 ghost use Rattle.cmdlines_tables.specs.declared.compiler.CCompilerKind.{CCompilerKind};
 ghost use Rattle.cmdlines_tables.specs.Values.{IsFlag, IsValue, never, placed};
 ghost use Rattle.cmdlines_tables.specs.declared.kind.ArgKind.{ArgKind};
@@ -18,15 +22,25 @@ pub fn own_words_are_read()
     ensures { (kind : CCompilerKind) → OwnWords kind }
 {}
 
-/// No flag stands in both tables.
+/// No flag stands in both tables of Clang, nor in both of Msvc.
 pub fn tables_share_no_flag()
-    ensures { (d e : Entry ArgKind) → Contains gnu_entries d → Contains clang_entries e → d.flag ≡ e.flag → ⊥ }
+    ensures clang { (d e : Entry ArgKind) → Contains gnu_entries d → Contains clang_entries e → d.flag ≡ e.flag → ⊥ }
+    ensures msvc { (d e : Entry ArgKind) → Contains msvc_dash_entries d → Contains msvc_slash_entries e → d.flag ≡ e.flag → ⊥ }
 {}
 
 /// How many options the tables have.
 pub fn options_are_counted()
     ensures gnu { length gnu_entries ≡ 61 }
     ensures clang { length clang_entries ≡ 21 }
+    ensures diab { length diab_entries ≡ 20 }
+    ensures msvc_dash { length msvc_dash_entries ≡ 55 }
+    ensures msvc_slash { length msvc_slash_entries ≡ 55 }
+    ensures tasking_vx { length tasking_vx_entries ≡ 24 }
+{}
+
+/// Only Msvc has options that give the input.
+pub fn only_msvc_gives_inputs_by_options()
+    ensures { (kind : CCompilerKind) → list_any (λ (e : Entry ArgKind). gives_input e.kind) (entries_of kind) ≡ true → kind ≡ CCompilerKind.Msvc }
 {}
 
 /// An argument that was cut, in its place, is its item.

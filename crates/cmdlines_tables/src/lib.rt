@@ -2,9 +2,12 @@
 #![tactic(auto)]
 
 pub mod compiler;
+pub mod compiler_tables;
 pub mod cutting;
+pub mod embedded_tables;
 pub mod kind;
 pub mod language;
 pub mod laws;
+pub mod msvc_table;
 pub mod tables;
 pub mod value;

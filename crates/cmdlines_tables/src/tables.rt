@@ -1,16 +1,14 @@
-//! The tables of the C compilers: each option with what it is for and how it takes a value. docs/FORMATS.md has them by
-//! what they are for.
+//! The tables of Gcc and Clang: each option with what it is for and how it takes a value. docs/FORMATS.md has them by what
+//! they are for.
 
 ghost use Rattle.std.specs.Prelude.{◌≡◌, IfOk};
-ghost use Rattle.cmdlines_tables.specs.Tables.{gnu_entries, clang_entries, tables_of};
+ghost use Rattle.cmdlines_tables.specs.Tables.{gnu_entries, clang_entries};
 
-use crate::compiler::CCompilerKind;
 use crate::kind::ArgKind;
 use crate::value::ArgData;
 use cmdlines_base::argument::ArgDisposition;
-use cmdlines_base::table::{ArgInfo, SearchableArgInfo, Table};
+use cmdlines_base::table::{ArgInfo, Table};
 use std::alloc::{AllocError, Global};
-use std::marker::Model;
 
 /// The options of Gcc, which Clang has too.
 #[tactic(auto, unfolding(crate::specs::Tables::gnu_entries))]
@@ -125,42 +123,4 @@ pub fn clang_table(alloc: Global) -> Result<Table<ArgData>, AllocError>
         ArgInfo::TakeArg("-target", ArgKind::PassThrough, apart),
     ]?;
     Ok(Table::new(entries).unwrap())
-}
-
-/// The two tables of Clang, searched as one.
-#[derive(Drop)]
-pub struct ClangTables {
-    tables: (Table<ArgData>, Table<ArgData>),
-}
-
-impl Model for ClangTables {
-    ghost use Rattle.std.specs.Prelude.{List, [], ◌∷◌};
-    ghost use Rattle.cmdlines_base.specs.Table.{Entry};
-    ghost use Rattle.cmdlines_tables.specs.declared.kind.ArgKind.{ArgKind};
-
-    ghost Value = { List (List (Entry ArgKind)) };
-
-    ghost view = { λ a. a.tables.0 ∷ a.tables.1 ∷ [] };
-}
-
-impl ClangTables {
-    pub fn new(alloc: Global) -> Result<ClangTables, AllocError>
-        ensures { IfOk result (λ tables. tables ≡ tables_of CCompilerKind.Clang) }
-    {
-        Ok(ClangTables {
-            tables: (gnu_table(alloc)?, clang_table(alloc)?),
-        })
-    }
-}
-
-impl SearchableArgInfo<ArgData> for ClangTables {
-    ghost tables = { λ t. t };
-
-    fn search(&self, word: &[u8]) -> Option<&ArgInfo<ArgData>> {
-        self.tables.search(word)
-    }
-
-    fn check(&self) -> bool {
-        self.tables.check()
-    }
 }

@@ -1,7 +1,7 @@
 //! Lines as build systems write them.
 
-use crate::written::{each_comes_to, each_compiles_by, each_preprocesses_by};
 use cmdlines_tables::compiler::CCompilerKind;
+use command_texts::written::{each_comes_to, each_compiles_by, each_preprocesses_by};
 use std::test::Fail;
 
 /// By CMake, with a file of dependencies.
@@ -15,18 +15,18 @@ fn cmake(rt: HostRuntime) -> Result<(), Fail> {
         CMAKE,
         "input /src/app/main.cpp; language c++; obj app.dir/main.cpp.o; preprocessor -DNDEBUG -Dapp_EXPORTS -I/src/app/include -isystem /opt/dep/include; dependency -MD -MT app.dir/main.cpp.o -MF app.dir/main.cpp.o.d; hashed -O3 -std=gnu++17 -fPIC; blocker -MD",
     )];
-    each_comes_to(&rt, alloc, CCompilerKind::Gcc, &rows)?;
-    each_comes_to(&rt, alloc, CCompilerKind::Clang, &rows)?;
+    each_comes_to(alloc, CCompilerKind::Gcc, &rows)?;
+    each_comes_to(alloc, CCompilerKind::Clang, &rows)?;
     let rows = [(
         CMAKE,
         " -x c++ -c /src/app/main.cpp -o app.dir/main.cpp.o -fdiagnostics-color=always -DNDEBUG -Dapp_EXPORTS -I/src/app/include -isystem /opt/dep/include -O3 -std=gnu++17 -fPIC",
     )];
-    each_compiles_by(&rt, alloc, CCompilerKind::Gcc, &rows)?;
+    each_compiles_by(alloc, CCompilerKind::Gcc, &rows)?;
     let rows = [(
         CMAKE,
         " -x c++ -E /src/app/main.cpp -DNDEBUG -Dapp_EXPORTS -I/src/app/include -isystem /opt/dep/include -MD -MT app.dir/main.cpp.o -MF app.dir/main.cpp.o.d -O3 -std=gnu++17 -fPIC",
     )];
-    each_preprocesses_by(&rt, alloc, CCompilerKind::Gcc, &rows)
+    each_preprocesses_by(alloc, CCompilerKind::Gcc, &rows)
 }
 
 #[test]
@@ -42,7 +42,7 @@ fn libtool(rt: HostRuntime) -> Result<(), Fail> {
         ),
         ("-E -DHAVE_CONFIG_H -I. foo.c", "-E"),
     ];
-    each_comes_to(&rt, rt.alloc(), CCompilerKind::Gcc, &rows)
+    each_comes_to(rt.alloc(), CCompilerKind::Gcc, &rows)
 }
 
 #[test]
@@ -51,8 +51,8 @@ fn meson(rt: HostRuntime) -> Result<(), Fail> {
         "-Ilibfoo.so.p -I. -I.. -fdiagnostics-color=always -D_FILE_OFFSET_BITS=64 -Wall -Winvalid-pch -O0 -g -fPIC -pthread -MD -MQ libfoo.so.p/foo.c.o -MF libfoo.so.p/foo.c.o.d -o libfoo.so.p/foo.c.o -c ../foo.c",
         "input ../foo.c; language c; obj libfoo.so.p/foo.c.o; preprocessor -Ilibfoo.so.p -I. -I.. -D_FILE_OFFSET_BITS=64; dependency -MD -MQ libfoo.so.p/foo.c.o -MF libfoo.so.p/foo.c.o.d; hashed -fdiagnostics-color=always -Wall -Winvalid-pch -O0 -g -fPIC -pthread; color On; blocker -MD",
     )];
-    each_comes_to(&rt, rt.alloc(), CCompilerKind::Gcc, &rows)?;
-    each_comes_to(&rt, rt.alloc(), CCompilerKind::Clang, &rows)
+    each_comes_to(rt.alloc(), CCompilerKind::Gcc, &rows)?;
+    each_comes_to(rt.alloc(), CCompilerKind::Clang, &rows)
 }
 
 #[test]
@@ -61,7 +61,7 @@ fn a_kernel(rt: HostRuntime) -> Result<(), Fail> {
         r#"-Wp,-MMD,kernel/.fork.o.d -nostdinc -isystem /lib/gcc/include -I./include -include ./include/linux/kconfig.h -D__KERNEL__ -fmacro-prefix-map=./= -Wall -Wundef -std=gnu11 -mno-sse -falign-functions=16 --param=allow-store-data-races=0 -DKBUILD_MODFILE="kernel/fork" -DKBUILD_BASENAME="fork" -D__KBUILD_MODNAME=kmod_fork -c -o kernel/fork.o kernel/fork.c"#,
         r#"input kernel/fork.c; language c; obj kernel/fork.o; preprocessor -Wp,-MMD,kernel/.fork.o.d -isystem /lib/gcc/include -I./include -include ./include/linux/kconfig.h -D__KERNEL__ -DKBUILD_MODFILE="kernel/fork" -DKBUILD_BASENAME="fork" -D__KBUILD_MODNAME=kmod_fork; hashed -nostdinc -fmacro-prefix-map=./= -Wall -Wundef -std=gnu11 -mno-sse -falign-functions=16 --param=allow-store-data-races=0; blocker -Wp"#,
     )];
-    each_comes_to(&rt, rt.alloc(), CCompilerKind::Gcc, &rows)
+    each_comes_to(rt.alloc(), CCompilerKind::Gcc, &rows)
 }
 
 #[test]
@@ -80,7 +80,7 @@ fn hardened_packages(rt: HostRuntime) -> Result<(), Fail> {
             "-specs",
         ),
     ];
-    each_comes_to(&rt, rt.alloc(), CCompilerKind::Gcc, &rows)
+    each_comes_to(rt.alloc(), CCompilerKind::Gcc, &rows)
 }
 
 #[test]
@@ -95,7 +95,7 @@ fn for_another_machine(rt: HostRuntime) -> Result<(), Fail> {
             "input foo.c; language c; obj foo.o; hashed --target=aarch64-linux-gnu --sysroot /sysroot -fsanitize=address -fsanitize-ignorelist=ignore.txt -mllvm -inline-threshold=100; extra ignore.txt",
         ),
     ];
-    each_comes_to(&rt, rt.alloc(), CCompilerKind::Clang, &rows)
+    each_comes_to(rt.alloc(), CCompilerKind::Clang, &rows)
 }
 
 #[test]
@@ -107,11 +107,11 @@ fn lines_that_write_more_than_an_object(rt: HostRuntime) -> Result<(), Fail> {
         ("-std=c++20 -fmodules-ts -o foo.o -c foo.cc", "-fmodules-ts"),
         ("-MM -I. foo.c", "-MM"),
     ];
-    each_comes_to(&rt, alloc, CCompilerKind::Gcc, &rows)?;
+    each_comes_to(alloc, CCompilerKind::Gcc, &rows)?;
     // A precompiled header, as CMake names it.
     let rows = [(
         "-Xclang -include-pch -Xclang pch.hxx.pch -Xclang -include -Xclang pch.hxx -o foo.o -c foo.cc",
         "-Xclang",
     )];
-    each_comes_to(&rt, alloc, CCompilerKind::Clang, &rows)
+    each_comes_to(alloc, CCompilerKind::Clang, &rows)
 }

@@ -1,51 +1,66 @@
 //! Each other public call once, and printed texts.
 
-use crate::written::{parsed, written};
-use cmdlines::clang::Clang;
+use cmdlines::clang::{Clang, ClangKind};
 use cmdlines::command::CommandError;
 use cmdlines::compiler_arguments::{CompilerArguments, ParseFault};
+use cmdlines::diab::{Diab, DiabKind};
 use cmdlines::facts::Facts;
-use cmdlines::gcc::Gcc;
+use cmdlines::found::{FoundCompiler, HasKind};
+use cmdlines::gcc::{Gcc, GccKind};
 use cmdlines::lists::Lists;
+use cmdlines::msvc::{Msvc, MsvcKind};
+use cmdlines::tasking_vx::{TaskingVX, TaskingVXKind};
 use cmdlines_base::argument::Argument;
 use cmdlines_base::value::ArgumentValue;
 use cmdlines_tables::compiler::{CCompilerKind, ColorMode};
 use cmdlines_tables::kind::ArgKind;
 use cmdlines_tables::tables::gnu_table;
 use cmdlines_tables::value::ArgData;
+use command_texts::written::{bare, parsed, written};
 use os_files::os_bytes::OsBytes;
-use std::alloc::AllocError;
+use std::alloc::{AllocError, Global};
+use std::process::Abort;
 use std::test::Fail;
 
-#[test]
-fn traits_of_gcc(rt: HostRuntime) -> Result<(), Fail> {
-    let alloc = rt.alloc();
+/// A compiler of this kind tells what it was made with.
+fn traits_are_told<K: HasKind>(
+    rt: &impl Abort,
+    alloc: Global,
+    kind: CCompilerKind,
+) -> Result<(), Fail> {
     let version = String::from_str(alloc, "13.2.0")?;
     let digest = String::from_str(alloc, "0a1b")?;
-    let full = Gcc::new(alloc, true, Some(version), Some(digest))?;
+    let full = FoundCompiler::<K>::new(alloc, true, Some(version), Some(digest))?;
     assert!(rt; full.plusplus());
     assert_eq!(rt; full.version(), Some("13.2.0"));
     assert_eq!(rt; full.assembler_digest(), Some("0a1b"));
-    let bare = Gcc::new(alloc, false, None, None)?;
+    let bare = bare::<K>(alloc)?;
     assert!(rt; !bare.plusplus());
     assert_eq!(rt; bare.version(), None);
     assert_eq!(rt; bare.assembler_digest(), None);
+    assert_eq!(rt; K::kind(), kind);
     Ok(())
 }
 
 #[test]
-fn traits_of_clang(rt: HostRuntime) -> Result<(), Fail> {
+fn traits_of_all_compilers(rt: HostRuntime) -> Result<(), Fail> {
     let alloc = rt.alloc();
-    let version = String::from_str(alloc, "17.0.6")?;
-    let digest = String::from_str(alloc, "0a1b")?;
-    let full = Clang::new(alloc, true, Some(version), Some(digest))?;
-    assert!(rt; full.plusplus());
-    assert_eq!(rt; full.version(), Some("17.0.6"));
-    assert_eq!(rt; full.assembler_digest(), Some("0a1b"));
-    let bare = Clang::new(alloc, false, None, None)?;
-    assert!(rt; !bare.plusplus());
-    assert_eq!(rt; bare.version(), None);
-    assert_eq!(rt; bare.assembler_digest(), None);
+    traits_are_told::<GccKind>(&rt, alloc, CCompilerKind::Gcc)?;
+    traits_are_told::<ClangKind>(&rt, alloc, CCompilerKind::Clang)?;
+    traits_are_told::<DiabKind>(&rt, alloc, CCompilerKind::Diab)?;
+    traits_are_told::<MsvcKind>(&rt, alloc, CCompilerKind::Msvc)?;
+    traits_are_told::<TaskingVXKind>(&rt, alloc, CCompilerKind::TaskingVX)
+}
+
+/// By their own names.
+#[test]
+fn compilers_by_their_names(rt: HostRuntime) -> Result<(), Fail> {
+    let alloc = rt.alloc();
+    assert!(rt; Gcc::new(alloc, true, None, None)?.plusplus());
+    assert!(rt; Clang::new(alloc, true, None, None)?.plusplus());
+    assert!(rt; Diab::new(alloc, true, None, None)?.plusplus());
+    assert!(rt; Msvc::new(alloc, true, None, None)?.plusplus());
+    assert!(rt; TaskingVX::new(alloc, true, None, None)?.plusplus());
     Ok(())
 }
 

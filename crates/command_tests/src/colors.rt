@@ -1,7 +1,7 @@
 //! Whether messages are coloured.
 
-use crate::written::each_adds;
 use cmdlines_tables::compiler::CCompilerKind;
+use command_texts::written::each_adds;
 use std::test::Fail;
 
 #[test]
@@ -34,7 +34,7 @@ fn by_the_options_of_gcc(rt: HostRuntime) -> Result<(), Fail> {
             "; hashed -fcolor-diagnostics -fno-color-diagnostics",
         ),
     ];
-    each_adds(&rt, rt.alloc(), CCompilerKind::Gcc, &rows)
+    each_adds(rt.alloc(), CCompilerKind::Gcc, &rows)
 }
 
 #[test]
@@ -53,7 +53,7 @@ fn by_the_options_of_clang(rt: HostRuntime) -> Result<(), Fail> {
             "; hashed -fdiagnostics-color=always; color On",
         ),
     ];
-    each_adds(&rt, rt.alloc(), CCompilerKind::Clang, &rows)
+    each_adds(rt.alloc(), CCompilerKind::Clang, &rows)
 }
 
 #[test]
@@ -72,5 +72,5 @@ fn the_last_option_wins(rt: HostRuntime) -> Result<(), Fail> {
             "; hashed -fdiagnostics-color=never -fcolor-diagnostics; color On",
         ),
     ];
-    each_adds(&rt, rt.alloc(), CCompilerKind::Clang, &rows)
+    each_adds(rt.alloc(), CCompilerKind::Clang, &rows)
 }

@@ -1,10 +1,18 @@
 //! The commands of a request.
 
-use crate::written::{clang, each_compiles_by, each_preprocesses_by, gcc, parsed};
+use cmdlines::clang::ClangKind;
 use cmdlines::command::{Cacheable, CommandError};
+use cmdlines::diab::DiabKind;
+use cmdlines::found::HasKind;
+use cmdlines::gcc::GccKind;
+use cmdlines::msvc::MsvcKind;
+use cmdlines::parsed::ParsedArguments;
+use cmdlines::tasking_vx::TaskingVXKind;
 use cmdlines_tables::compiler::CCompilerKind;
+use command_texts::written::{bare, each_compiles_by, each_preprocesses_by, gcc, parsed};
 use os_files::listed::Listed;
 use os_files::os_bytes::OsBytes;
+use std::alloc::Global;
 use std::test::Fail;
 
 #[test]
@@ -35,7 +43,7 @@ fn gcc_compiles(rt: HostRuntime) -> Result<(), Fail> {
             " -x c++-cpp-output -c d/foo.ii -o foo.o -fdiagnostics-color=always",
         ),
     ];
-    each_compiles_by(&rt, rt.alloc(), CCompilerKind::Gcc, &rows)
+    each_compiles_by(rt.alloc(), CCompilerKind::Gcc, &rows)
 }
 
 #[test]
@@ -58,7 +66,7 @@ fn clang_compiles(rt: HostRuntime) -> Result<(), Fail> {
             " -x c -c foo.c -o foo.o -fno-color-diagnostics",
         ),
     ];
-    each_compiles_by(&rt, rt.alloc(), CCompilerKind::Clang, &rows)
+    each_compiles_by(rt.alloc(), CCompilerKind::Clang, &rows)
 }
 
 #[test]
@@ -87,7 +95,7 @@ fn gcc_preprocesses(rt: HostRuntime) -> Result<(), Fail> {
         ("-c foo.c -MP", " -x c -E foo.c -MP"),
         ("-c foo.c -MF x.d", " -x c -E foo.c -MF x.d"),
     ];
-    each_preprocesses_by(&rt, rt.alloc(), CCompilerKind::Gcc, &rows)
+    each_preprocesses_by(rt.alloc(), CCompilerKind::Gcc, &rows)
 }
 
 #[test]
@@ -103,7 +111,7 @@ fn clang_preprocesses(rt: HostRuntime) -> Result<(), Fail> {
             " -x c -E foo.c -O2",
         ),
     ];
-    each_preprocesses_by(&rt, rt.alloc(), CCompilerKind::Clang, &rows)
+    each_preprocesses_by(rt.alloc(), CCompilerKind::Clang, &rows)
 }
 
 #[test]
@@ -133,17 +141,26 @@ fn what_is_run(rt: HostRuntime) -> Result<(), Fail> {
     Ok(())
 }
 
+/// Whether a compiler of that kind has no command for the request, as it lacks an object.
+fn lacks_an_object<K: HasKind>(alloc: Global, request: &ParsedArguments) -> Result<bool, Fail> {
+    let program = OsBytes::from_slice(alloc, b"cc")?;
+    let dir = OsBytes::from_slice(alloc, b"/work")?;
+    let compiler = bare::<K>(alloc)?;
+    let answer = compiler.generate_compile_commands(alloc, &program, request, &dir, &[]);
+    Ok(matches!(&answer, Err(CommandError::NoObjOutput)))
+}
+
 #[test]
 fn without_an_object_there_is_no_command(rt: HostRuntime) -> Result<(), Fail> {
     let alloc = rt.alloc();
     let mut request = parsed(alloc, CCompilerKind::Clang, "-c foo.c -MD")?;
+    assert!(rt; !lacks_an_object::<ClangKind>(alloc, &request)?);
     request.outputs = Listed::new(alloc);
     assert!(rt; request.object().is_none());
-    let program = OsBytes::from_slice(alloc, b"cc")?;
-    let dir = OsBytes::from_slice(alloc, b"/work")?;
-    let by_gcc = gcc(alloc)?.generate_compile_commands(alloc, &program, &request, &dir, &[]);
-    assert!(rt; matches!(&by_gcc, Err(CommandError::NoObjOutput)));
-    let by_clang = clang(alloc)?.generate_compile_commands(alloc, &program, &request, &dir, &[]);
-    assert!(rt; matches!(&by_clang, Err(CommandError::NoObjOutput)));
+    assert!(rt; lacks_an_object::<GccKind>(alloc, &request)?);
+    assert!(rt; lacks_an_object::<ClangKind>(alloc, &request)?);
+    assert!(rt; lacks_an_object::<DiabKind>(alloc, &request)?);
+    assert!(rt; lacks_an_object::<MsvcKind>(alloc, &request)?);
+    assert!(rt; lacks_an_object::<TaskingVXKind>(alloc, &request)?);
     Ok(())
 }

@@ -1,8 +1,8 @@
 //! The language of an input, and where its object goes.
 
-use crate::written::each_comes_to;
 use cmdlines_tables::compiler::CCompilerKind;
 use cmdlines_tables::language::{Language, language_to_clang_arg, language_to_gcc_arg};
+use command_texts::written::each_comes_to;
 use std::test::Fail;
 
 #[test]
@@ -77,7 +77,7 @@ fn of_an_input(rt: HostRuntime) -> Result<(), Fail> {
         ("-c foo", "unknown source language"),
         ("-c foo.h", "unknown source language"),
     ];
-    each_comes_to(&rt, rt.alloc(), CCompilerKind::Gcc, &rows)
+    each_comes_to(rt.alloc(), CCompilerKind::Gcc, &rows)
 }
 
 #[test]
@@ -101,7 +101,7 @@ fn by_the_last_language_option(rt: HostRuntime) -> Result<(), Fail> {
         ("-x nope -c foo.c", "unknown source language"),
         ("-x rust -c foo.c", "unknown source language"),
     ];
-    each_comes_to(&rt, rt.alloc(), CCompilerKind::Gcc, &rows)
+    each_comes_to(rt.alloc(), CCompilerKind::Gcc, &rows)
 }
 
 #[test]
@@ -116,5 +116,5 @@ fn where_the_object_goes(rt: HostRuntime) -> Result<(), Fail> {
         ("-x c -c .. -o a.o", "input ..; language c; obj a.o"),
         ("-x c -c ..", "no output file"),
     ];
-    each_comes_to(&rt, rt.alloc(), CCompilerKind::Gcc, &rows)
+    each_comes_to(rt.alloc(), CCompilerKind::Gcc, &rows)
 }

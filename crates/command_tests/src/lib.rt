@@ -19,5 +19,3 @@ mod reasons;
 mod small;
 #[cfg(test)]
 mod tables;
-#[cfg(test)]
-mod written;

@@ -1,7 +1,7 @@
 //! In which list each option stands, and how it is printed there.
 
-use crate::written::{each_adds, each_comes_to, written};
 use cmdlines_tables::compiler::CCompilerKind;
+use command_texts::written::{each_adds, each_comes_to, written};
 use os_files::os_bytes::OsBytes;
 use std::test::Fail;
 
@@ -12,8 +12,8 @@ fn a_whole_line(rt: HostRuntime) -> Result<(), Fail> {
         "-o foo.o -c -D FOO=bar -includefoo -O2 foo.c",
         "input foo.c; language c; obj foo.o; preprocessor -DFOO=bar -include foo; hashed -O2",
     )];
-    each_comes_to(&rt, alloc, CCompilerKind::Gcc, &rows)?;
-    each_comes_to(&rt, alloc, CCompilerKind::Clang, &rows)
+    each_comes_to(alloc, CCompilerKind::Gcc, &rows)?;
+    each_comes_to(alloc, CCompilerKind::Clang, &rows)
 }
 
 #[test]
@@ -43,7 +43,7 @@ fn options_of_the_preprocessor(rt: HostRuntime) -> Result<(), Fail> {
             "; preprocessor -iwithprefix a -iwithprefix b -iwithprefixbefore c -iwithprefixbefore d",
         ),
     ];
-    each_adds(&rt, rt.alloc(), CCompilerKind::Gcc, &rows)
+    each_adds(rt.alloc(), CCompilerKind::Gcc, &rows)
 }
 
 #[test]
@@ -60,7 +60,7 @@ fn words_handed_to_the_preprocessor(rt: HostRuntime) -> Result<(), Fail> {
         ("-Wp,", "; preprocessor -Wp; blocker -Wp"),
         ("-Wpedantic", "; hashed -Wpedantic"),
     ];
-    each_adds(&rt, rt.alloc(), CCompilerKind::Gcc, &rows)
+    each_adds(rt.alloc(), CCompilerKind::Gcc, &rows)
 }
 
 #[test]
@@ -86,7 +86,7 @@ fn options_on_dependency_files(rt: HostRuntime) -> Result<(), Fail> {
             "; preprocessor -Wp,-DA; dependency -MP; blocker -Wp",
         ),
     ];
-    each_adds(&rt, rt.alloc(), CCompilerKind::Gcc, &rows)
+    each_adds(rt.alloc(), CCompilerKind::Gcc, &rows)
 }
 
 #[test]
@@ -115,7 +115,7 @@ fn hashed_options_with_values(rt: HostRuntime) -> Result<(), Fail> {
         ("-std", "; hashed -std"),
         ("-fplugin=p.so", "; hashed -fplugin=p.so; extra p.so"),
     ];
-    each_adds(&rt, rt.alloc(), CCompilerKind::Gcc, &rows)
+    each_adds(rt.alloc(), CCompilerKind::Gcc, &rows)
 }
 
 #[test]
@@ -127,7 +127,7 @@ fn options_that_no_table_has(rt: HostRuntime) -> Result<(), Fail> {
         ("--sysroots", "; hashed --sysroots"),
         ("-cc -Mx -archx", "; hashed -cc -Mx -archx"),
     ];
-    each_adds(&rt, rt.alloc(), CCompilerKind::Gcc, &rows)
+    each_adds(rt.alloc(), CCompilerKind::Gcc, &rows)
 }
 
 #[test]
@@ -136,7 +136,7 @@ fn architectures(rt: HostRuntime) -> Result<(), Fail> {
         ("-arch a", "; arch -arch a"),
         ("-arch a -O2 -arch a", "; hashed -O2; arch -arch a -arch a"),
     ];
-    each_adds(&rt, rt.alloc(), CCompilerKind::Gcc, &rows)
+    each_adds(rt.alloc(), CCompilerKind::Gcc, &rows)
 }
 
 #[test]
@@ -146,7 +146,7 @@ fn empty_values(rt: HostRuntime) -> Result<(), Fail> {
         ("-std=", "; hashed -std"),
         ("--sysroot=", "; hashed --sysroot ''; empty value"),
     ];
-    each_adds(&rt, alloc, CCompilerKind::Gcc, &rows)?;
+    each_adds(alloc, CCompilerKind::Gcc, &rows)?;
     let mut words = Vec::new(alloc);
     for word in ["-c", "foo.c", "-I", "", "-D", "A"] {
         words.push(OsBytes::from_slice(alloc, word.as_bytes())?)?;
@@ -177,7 +177,7 @@ fn options_of_clang_alone(rt: HostRuntime) -> Result<(), Fail> {
         ("-fsanitize=address", "; hashed -fsanitize=address"),
         ("-DA -MD", "; preprocessor -DA; dependency -MD; blocker -MD"),
     ];
-    each_adds(&rt, rt.alloc(), CCompilerKind::Clang, &rows)
+    each_adds(rt.alloc(), CCompilerKind::Clang, &rows)
 }
 
 #[test]
@@ -193,13 +193,13 @@ fn messages_for_tools_are_an_output(rt: HostRuntime) -> Result<(), Fail> {
             "input foo.c; language c; dia z.dia; obj z.o; unhashed --serialize-diagnostics z.dia; hashed -O2",
         ),
     ];
-    each_comes_to(&rt, alloc, CCompilerKind::Clang, &rows)?;
+    each_comes_to(alloc, CCompilerKind::Clang, &rows)?;
     // Gcc has no such option, so that its value is an input.
     let rows = [(
         "-c foo.c --serialize-diagnostics foo.dia",
         "multiple input files",
     )];
-    each_comes_to(&rt, alloc, CCompilerKind::Gcc, &rows)
+    each_comes_to(alloc, CCompilerKind::Gcc, &rows)
 }
 
 #[test]
@@ -214,5 +214,5 @@ fn options_of_clang_to_gcc(rt: HostRuntime) -> Result<(), Fail> {
         // It is an `-include` of `-pch`.
         ("-include-pch", "; preprocessor -include -pch"),
     ];
-    each_adds(&rt, rt.alloc(), CCompilerKind::Gcc, &rows)
+    each_adds(rt.alloc(), CCompilerKind::Gcc, &rows)
 }

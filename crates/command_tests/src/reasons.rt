@@ -1,8 +1,8 @@
 //! Lines that can't be cached, each with its reason.
 
-use crate::written::{answer, each_comes_to, each_is_refused, words};
 use cmdlines::compiler_arguments::CompilerArguments;
 use cmdlines_tables::compiler::CCompilerKind;
+use command_texts::written::{answer, each_comes_to, each_is_refused, words};
 use std::test::Fail;
 
 #[test]
@@ -25,8 +25,8 @@ fn flags_that_are_too_hard(rt: HostRuntime) -> Result<(), Fail> {
         "-fprofile-arcs",
         "-fmodules-ts",
     ] {
-        each_is_refused(&rt, alloc, CCompilerKind::Gcc, &[(flag, flag)])?;
-        each_is_refused(&rt, alloc, CCompilerKind::Clang, &[(flag, flag)])?;
+        each_is_refused(alloc, CCompilerKind::Gcc, &[(flag, flag)])?;
+        each_is_refused(alloc, CCompilerKind::Clang, &[(flag, flag)])?;
     }
     Ok(())
 }
@@ -45,8 +45,8 @@ fn options_with_values_that_are_too_hard(rt: HostRuntime) -> Result<(), Fail> {
         ("@args", "@"),
         ("@", "@"),
     ];
-    each_is_refused(&rt, rt.alloc(), CCompilerKind::Gcc, &rows)?;
-    each_is_refused(&rt, rt.alloc(), CCompilerKind::Clang, &rows)
+    each_is_refused(rt.alloc(), CCompilerKind::Gcc, &rows)?;
+    each_is_refused(rt.alloc(), CCompilerKind::Clang, &rows)
 }
 
 #[test]
@@ -66,7 +66,7 @@ fn what_is_too_hard_for_clang_alone(rt: HostRuntime) -> Result<(), Fail> {
         ("--config=a", "--config"),
         ("-include-pch a", "-include-pch"),
     ];
-    each_is_refused(&rt, rt.alloc(), CCompilerKind::Clang, &rows)
+    each_is_refused(rt.alloc(), CCompilerKind::Clang, &rows)
 }
 
 #[test]
@@ -79,7 +79,7 @@ fn words_for_the_front_end_of_clang(rt: HostRuntime) -> Result<(), Fail> {
         ("-Xclang -fmodule-file=a", "-Xclang"),
         ("-Xclang -O2 -Xclang -load", "-Xclang"),
     ];
-    each_is_refused(&rt, rt.alloc(), CCompilerKind::Clang, &rows)
+    each_is_refused(rt.alloc(), CCompilerKind::Clang, &rows)
 }
 
 #[test]
@@ -91,7 +91,7 @@ fn the_first_of_them_decides(rt: HostRuntime) -> Result<(), Fail> {
         ("-arch a -arch b -M", "-M"),
         ("-E --sysroot", "-E"),
     ];
-    each_is_refused(&rt, rt.alloc(), CCompilerKind::Gcc, &rows)
+    each_is_refused(rt.alloc(), CCompilerKind::Gcc, &rows)
 }
 
 #[test]
@@ -103,12 +103,12 @@ fn words_that_end_too_soon(rt: HostRuntime) -> Result<(), Fail> {
         ("-arch", "argument parse"),
         ("b.c --sysroot", "argument parse"),
     ];
-    each_is_refused(&rt, alloc, CCompilerKind::Gcc, &rows)?;
+    each_is_refused(alloc, CCompilerKind::Gcc, &rows)?;
     let rows = [
         ("-target", "argument parse"),
         ("--config", "argument parse"),
     ];
-    each_is_refused(&rt, alloc, CCompilerKind::Clang, &rows)?;
+    each_is_refused(alloc, CCompilerKind::Clang, &rows)?;
     let list = words(alloc, "-c foo.c --sysroot")?;
     match answer(alloc, CCompilerKind::Gcc, list.as_slice())? {
         CompilerArguments::CannotCache("argument parse", None) => Ok(()),
@@ -126,8 +126,8 @@ fn what_is_no_compilation(rt: HostRuntime) -> Result<(), Fail> {
         ("--version", "not a compilation"),
         ("foo.c -E", "-E"),
     ];
-    each_comes_to(&rt, rt.alloc(), CCompilerKind::Gcc, &rows)?;
-    each_comes_to(&rt, rt.alloc(), CCompilerKind::Clang, &rows)
+    each_comes_to(rt.alloc(), CCompilerKind::Gcc, &rows)?;
+    each_comes_to(rt.alloc(), CCompilerKind::Clang, &rows)
 }
 
 #[test]
@@ -146,7 +146,7 @@ fn of_two_reasons_the_earlier(rt: HostRuntime) -> Result<(), Fail> {
         ("-x c -c .. -arch a -arch b", "multiple different -arch"),
         ("-x c -c ..", "no output file"),
     ];
-    each_comes_to(&rt, rt.alloc(), CCompilerKind::Gcc, &rows)
+    each_comes_to(rt.alloc(), CCompilerKind::Gcc, &rows)
 }
 
 #[test]
@@ -163,7 +163,7 @@ fn double_dashes_to_clang(rt: HostRuntime) -> Result<(), Fail> {
         ("-c -- --", "unknown source language"),
         ("-- -c a.c", "not a compilation"),
     ];
-    each_comes_to(&rt, rt.alloc(), CCompilerKind::Clang, &rows)
+    each_comes_to(rt.alloc(), CCompilerKind::Clang, &rows)
 }
 
 #[test]
@@ -173,5 +173,5 @@ fn double_dashes_to_gcc(rt: HostRuntime) -> Result<(), Fail> {
         ("-c -- a.c", "input a.c; language c; obj a.o; hashed --"),
         ("-c -- a.c -E", "-E"),
     ];
-    each_comes_to(&rt, rt.alloc(), CCompilerKind::Gcc, &rows)
+    each_comes_to(rt.alloc(), CCompilerKind::Gcc, &rows)
 }

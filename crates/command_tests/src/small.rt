@@ -1,6 +1,5 @@
 //! The small calls on what a command line asks for, and the hazards.
 
-use crate::written::{clang, gcc, parsed, words};
 use cmdlines::command::command_at;
 use cmdlines::compiler_arguments::CompilerArguments;
 use cmdlines::hazards::{empty_value, opens_file};
@@ -10,6 +9,7 @@ use cmdlines_tables::compiler::CCompilerKind;
 use cmdlines_tables::cutting::arguments_of;
 use cmdlines_tables::laws::arguments_are_their_items;
 use cmdlines_tables::tables::gnu_table;
+use command_texts::written::{clang, gcc, parsed, words};
 use os_files::listed::Listed;
 use os_files::memory_files::MemoryFiles;
 use os_files::os_bytes::OsBytes;
@@ -87,10 +87,33 @@ fn hazards_are_told(rt: HostRuntime) -> Result<(), Fail> {
         let request = parsed(alloc, CCompilerKind::Gcc, line)?;
         assert_eq!(rt; empty_value(&request), empty, "{line}");
     }
-    for kind in [CCompilerKind::Gcc, CCompilerKind::Clang] {
-        for (line, opens) in [("", false), ("-c a@b", false), ("-c @b", true), ("@", true)] {
-            let list = words(alloc, line)?;
-            assert_eq!(rt; opens_file(list.as_slice(), kind), opens, "{line}");
+    for (line, empty) in [("-c foo.c /I", true), ("-c foo.c /W", false)] {
+        let request = parsed(alloc, CCompilerKind::Msvc, line)?;
+        assert_eq!(rt; empty_value(&request), empty, "{line}");
+    }
+    Ok(())
+}
+
+#[test]
+fn words_that_open_files_are_told(rt: HostRuntime) -> Result<(), Fail> {
+    for (kind, by_a_dash) in [
+        (CCompilerKind::Gcc, false),
+        (CCompilerKind::Clang, false),
+        (CCompilerKind::Diab, true),
+        (CCompilerKind::Msvc, false),
+        (CCompilerKind::TaskingVX, false),
+    ] {
+        for (line, opens) in [
+            ("", false),
+            ("-c a@b", false),
+            ("-c @b", true),
+            ("@", true),
+            ("-c -@x", by_a_dash),
+            ("-@", by_a_dash),
+            ("-c -a@ --@", false),
+        ] {
+            let list = words(rt.alloc(), line)?;
+            assert_eq!(rt; opens_file(list.as_slice(), kind), opens, "{kind:?} {line}");
         }
     }
     Ok(())

@@ -7,6 +7,7 @@ use ckeys::step::Step;
 use os_files::files::Files;
 use os_files::memory_files::MemoryFiles;
 use os_files::os_bytes::OsBytes;
+use script_tool::script::ScriptTool;
 use std::alloc::{AllocError, Global};
 use std::process::Abort;
 use std::test::Fail;
@@ -63,8 +64,26 @@ fn due_text(
     }
 }
 
-/// Serves the request of this line, while the files' device refuses the call behind that many, and then as it should be.
-/// Answers whether the refused call was one outside of the tool's steps, and `None` where no call was refused.
+/// Serves the request, one call of whose files is refused or none, and then as it should be. Answers whether the refused call
+/// was one outside of the tool's steps, and `None` where no call was refused.
+fn reads_itself(
+    rt: &impl Abort,
+    alloc: Global,
+    scene: &mut Scene<FailFiles<MemoryFiles>, ScriptTool>,
+    outputs: &str,
+) -> Result<Option<bool>, Fail> {
+    let text = scene.serve()?;
+    let ticks = scene.tool.ticks();
+    let due = due_text(alloc, scene.files.failed_name.as_ref(), ticks, outputs)?;
+    assert_eq!(rt; text.as_str(), due.as_str());
+    if scene.files.failed_name.is_none() {
+        return Ok(None);
+    }
+    serves_twice(rt, alloc, scene, outputs)?;
+    Ok(Some(ticks.failure == 0))
+}
+
+/// Likewise for the request of this line, while the files' device refuses the call behind that many.
 fn without_a_file(
     rt: &impl Abort,
     alloc: Global,
@@ -74,15 +93,7 @@ fn without_a_file(
 ) -> Result<Option<bool>, Fail> {
     let files = FailFiles::new(all_files(alloc)?, calls_left);
     let mut scene = Scene::new(alloc, line, files, script_tool(alloc)?)?;
-    let text = scene.serve()?;
-    let ticks = scene.tool.ticks();
-    let due = due_text(alloc, scene.files.failed_name.as_ref(), ticks, outputs)?;
-    assert_eq!(rt; text.as_str(), due.as_str(), "{line} at {calls_left}");
-    if scene.files.failed_name.is_none() {
-        return Ok(None);
-    }
-    serves_twice(rt, alloc, &mut scene, outputs)?;
-    Ok(Some(ticks.failure == 0))
+    reads_itself(rt, alloc, &mut scene, outputs)
 }
 
 /// Refuses each call of the files in turn, up to the first run that meets no refusal. Answers whether one of the refused
@@ -111,8 +122,26 @@ fn each_file_is_refused(rt: HostRuntime) -> Result<(), Fail> {
     Ok(())
 }
 
-/// Serves the request of this line, while the tool's device refuses the call behind that many, and then as it should be.
-/// Answers the step of the refused call.
+/// Serves the request, one call of whose tool is refused or none, and then as it should be. Answers the step of the refused
+/// call.
+fn refused_step(
+    rt: &impl Abort,
+    alloc: Global,
+    scene: &mut Scene<MemoryFiles, FailTool<ScriptTool>>,
+    outputs: &str,
+) -> Result<Option<Step>, Fail> {
+    let text = scene.serve()?;
+    let Some(step) = scene.tool.failed_step else {
+        return Ok(None);
+    };
+    let due = format!(in alloc; "fault tool {step}")?;
+    assert_eq!(rt; text.as_str(), due.as_str());
+    assert_eq!(rt; scene.tool.ticks().failure, 1);
+    serves_twice(rt, alloc, scene, outputs)?;
+    Ok(Some(step))
+}
+
+/// Likewise for the request of this line, while the tool's device refuses the call behind that many.
 fn without_a_step(
     rt: &impl Abort,
     alloc: Global,
@@ -122,15 +151,7 @@ fn without_a_step(
 ) -> Result<Option<Step>, Fail> {
     let tool = FailTool::new(script_tool(alloc)?, calls_left);
     let mut scene = Scene::new(alloc, line, all_files(alloc)?, tool)?;
-    let text = scene.serve()?;
-    let Some(step) = scene.tool.failed_step else {
-        return Ok(None);
-    };
-    let due = format!(in alloc; "fault tool {step}")?;
-    assert_eq!(rt; text.as_str(), due.as_str(), "{line} at {calls_left}");
-    assert_eq!(rt; scene.tool.ticks().failure, 1);
-    serves_twice(rt, alloc, &mut scene, outputs)?;
-    Ok(Some(step))
+    refused_step(rt, alloc, &mut scene, outputs)
 }
 
 #[test]

@@ -2,6 +2,8 @@
 #![tactic(auto)]
 
 #[cfg(test)]
+mod compilers;
+#[cfg(test)]
 mod devices;
 #[cfg(test)]
 mod idle_tool;

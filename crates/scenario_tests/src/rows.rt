@@ -21,10 +21,10 @@ fn one_request(alloc: Global, compiler: &str, words: &str, files: &str) -> Resul
 }
 
 /// The file that most rows compile.
-const INT_X: &str = r#"{"/w/foo.c":"int x;\n"}"#;
+pub(crate) const INT_X: &str = r#"{"/w/foo.c":"int x;\n"}"#;
 
 /// Each row: the words of one request to that compiler, its files, and what the run prints.
-fn each_prints(
+pub(crate) fn each_prints(
     rt: &impl Abort,
     alloc: Global,
     compiler: &str,
@@ -87,7 +87,7 @@ fn compiled(rt: HostRuntime) -> Result<(), Fail> {
 }
 
 /// Each row: the words of one request to that compiler, and why it is passed through.
-fn each_passes(
+pub(crate) fn each_passes(
     rt: &impl Abort,
     alloc: Global,
     compiler: &str,
@@ -141,7 +141,7 @@ fn passed_by_the_tables(rt: HostRuntime) -> Result<(), Fail> {
             "-fprofile-instr-use",
         ),
         (r#"["-c","--","@args"]"#, "unknown source language"),
-        (r#"["-c","--","@foo.c"]"#, "opens file"),
+        (r#"["-c","--","@none.c"]"#, "opens file"),
         (r#"["-c","--"]"#, "no input file"),
     ];
     each_passes(&rt, rt.alloc(), "clang", &clang)
@@ -168,4 +168,36 @@ fn clang_is_served(rt: HostRuntime) -> Result<(), Fail> {
         ),
     ];
     each_prints(&rt, rt.alloc(), "clang", &rows)
+}
+
+#[test]
+fn files_of_words_are_opened(rt: HostRuntime) -> Result<(), Fail> {
+    let rows = [
+        (
+            r#"["@a.rsp"]"#,
+            r#"{"/w/a.rsp":"-c @a.rsp foo.c","/w/foo.c":"int x;\n"}"#,
+            "1 pass @\ncompiles 0\n",
+        ),
+        (
+            r#"["@a.rsp"]"#,
+            r#"{"/w/a.rsp":"@b.rsp","/w/b.rsp":"-c @a.rsp foo.c","/w/foo.c":"int x;\n"}"#,
+            "1 pass @\ncompiles 0\n",
+        ),
+        (
+            r#"["-c","@c.rsp","@c.rsp","foo.c"]"#,
+            r#"{"/w/c.rsp":"-O2","/w/foo.c":"int x;\n"}"#,
+            "1 fresh obj:22\ncompiles 1\n",
+        ),
+        (
+            r#"["@d.rsp"]"#,
+            r#"{"/w/d.rsp":"-c 'foo.c' -o \"foo.o\"","/w/foo.c":"int x;\n"}"#,
+            "1 fresh obj:22\ncompiles 1\n",
+        ),
+        (
+            r#"["-c","foo.c",{"hex":"2d4400"}]"#,
+            INT_X,
+            "1 fresh obj:22\ncompiles 1\n",
+        ),
+    ];
+    each_prints(&rt, rt.alloc(), "gcc", &rows)
 }

@@ -25,16 +25,22 @@ const FILES: [(&str, &str); 3] = [
     ("/w/bad.c", "#error\n"),
 ];
 
-/// What the request of this line is answered, twice, which steps ran for that, and how many pairs are held then.
-fn served_twice(alloc: Global, line: &str) -> Result<String, Fail> {
-    let mut scene = Scene::new(alloc, line, files(alloc, &FILES)?, script_tool(alloc)?)?;
+/// What the request is answered, twice, which steps ran for that, and how many pairs are held then.
+fn told_twice(
+    alloc: Global,
+    scene: &mut Scene<MemoryFiles, ScriptTool>,
+) -> Result<String, AllocError> {
     let first = scene.serve()?;
     let second = scene.serve()?;
     let (preprocess, compile) = (scene.tool.ticks().preprocess, scene.tool.ticks().compile);
     let held = scene.held();
-    Ok(format!(in alloc;
-        "{first};{second};preprocess {preprocess}, compile {compile}, held {held}"
-    )?)
+    format!(in alloc; "{first};{second};preprocess {preprocess}, compile {compile}, held {held}")
+}
+
+/// Likewise for the request of this line.
+fn served_twice(alloc: Global, line: &str) -> Result<String, Fail> {
+    let mut scene = Scene::new(alloc, line, files(alloc, &FILES)?, script_tool(alloc)?)?;
+    Ok(told_twice(alloc, &mut scene)?)
 }
 
 #[test]

@@ -4,17 +4,33 @@ use crate::byte_text::read_byte_text;
 use crate::members::{into_text, read_truth, required};
 use crate::scenario::ScenarioFault;
 use ckeys::compiler::CCompiler;
-use cmdlines::clang::Clang;
-use cmdlines::gcc::Gcc;
+use cmdlines::found::{FoundCompiler, HasKind};
 use os_files::os_bytes::OsBytes;
 use serde_json::{Map, Value};
-use std::alloc::Global;
+use std::alloc::{AllocError, Global};
 use wrap_base::compiler::Compiler;
 
 /// The digest of a compiler for which none is named.
 const DEFAULT_DIGEST: &str = "d";
 
-/// The compiler that a request's members tell. Its version isn't known.
+/// What a request's members tell of its compiler beside the kind. Its version isn't known.
+#[derive(Drop)]
+struct Told {
+    plusplus: bool,
+    assembler: Option<String>,
+    executable: OsBytes,
+    digest: String,
+}
+
+impl Told {
+    /// The compiler of a kind of which this is told.
+    fn found<K: HasKind>(self, alloc: Global) -> Result<CCompiler<FoundCompiler<K>>, AllocError> {
+        let compiler = FoundCompiler::new(alloc, self.plusplus, None, self.assembler)?;
+        Ok(CCompiler::with_digest(compiler, self.executable, self.digest))
+    }
+}
+
+/// The compiler that a request's members tell.
 pub(crate) fn read_compiler(
     alloc: Global,
     members: &mut Map<String, Value>,
@@ -24,17 +40,18 @@ pub(crate) fn read_compiler(
     let digest = read_digest(alloc, members.remove("digest"))?;
     let plusplus = read_truth(members.remove("plusplus"))?;
     let assembler = read_assembler(members.remove("assembler"))?;
+    let told = Told {
+        plusplus,
+        assembler,
+        executable,
+        digest,
+    };
     match name.as_str() {
-        "gcc" => Ok(Compiler::Gcc(CCompiler::with_digest(
-            Gcc::new(alloc, plusplus, None, assembler)?,
-            executable,
-            digest,
-        ))),
-        "clang" => Ok(Compiler::Clang(CCompiler::with_digest(
-            Clang::new(alloc, plusplus, None, assembler)?,
-            executable,
-            digest,
-        ))),
+        "gcc" => Ok(Compiler::Gcc(told.found(alloc)?)),
+        "clang" => Ok(Compiler::Clang(told.found(alloc)?)),
+        "diab" => Ok(Compiler::Diab(told.found(alloc)?)),
+        "msvc" => Ok(Compiler::Msvc(told.found(alloc)?)),
+        "taskingvx" => Ok(Compiler::TaskingVX(told.found(alloc)?)),
         _ => Err(ScenarioFault::Unreadable),
     }
 }

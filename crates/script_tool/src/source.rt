@@ -14,11 +14,11 @@ use cmdlines_base::argument::Argument;
 use cmdlines_base::argument_error::ArgParseError;
 use cmdlines_base::table::SearchableArgInfo;
 use cmdlines_tables::compiler::CCompilerKind;
+use cmdlines_tables::compiler_tables::CCompilerTables;
 use cmdlines_tables::cutting::arguments_of;
 use cmdlines_tables::kind::ArgKind;
 use cmdlines_tables::language::Language;
 use cmdlines_tables::laws::arguments_are_their_items;
-use cmdlines_tables::tables::{ClangTables, gnu_table};
 use cmdlines_tables::value::ArgData;
 use os_files::os_bytes::OsBytes;
 use std::alloc::{AllocError, Global};
@@ -108,16 +108,8 @@ pub fn source_of(
 ) -> Result<Source, AllocError>
     ensures { IfOk result (λ source. source ≡ source_in (reading_of kind words.now)) }
 {
-    match kind {
-        CCompilerKind::Gcc => {
-            let table = gnu_table(alloc)?;
-            source_by(alloc, kind, words, &table)
-        }
-        CCompilerKind::Clang => {
-            let tables = ClangTables::new(alloc)?;
-            source_by(alloc, kind, words, &tables)
-        }
-    }
+    let tables = CCompilerTables::new(alloc, kind)?;
+    source_by(alloc, kind, words, &tables)
 }
 
 /// Whether inputs of the language of this name aren't preprocessed.

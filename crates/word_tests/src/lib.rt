@@ -10,6 +10,8 @@ mod cutting;
 #[cfg(test)]
 mod examples;
 #[cfg(test)]
+mod expansion;
+#[cfg(test)]
 mod printing;
 #[cfg(test)]
 mod responses;

@@ -14,7 +14,7 @@ use Rattle.ckeys.specs.declared.fault.Fault.TheVariants.{Memory, Read, Tool, Pre
 use Rattle.ckeys.specs.declared.step.Step.{Step}
 use Rattle.wrap_base.specs.Verdict.{Why}
 use Rattle.wrap_base.specs.Account.{Account, passed, worked, Work, Pairs, IsSuccess, collected, why_passed}
-use Rattle.wrap_base.specs.Answers.{Answers, Says, SaysPassed, settled, settled_by}
+use Rattle.wrap_base.specs.Answers.{Answers, EarlyCause, Says, SaysPassed, settled, settled_by}
 use Rattle.wrap_base.specs.Keys.{store_key_of, SameRecord, IsHashedIn, Premises, IsOf, Invariant}
 use Rattle.wrap_base.specs.Turn.{StoreTurn, IsOwn}
 use Rattle.wrap_base.specs.declared.answer.Answer.{Answer}
@@ -92,7 +92,12 @@ pub exactly : {F T : Type 0} (tree : F → Tree) (failed : F → ℕ) (fails_on 
     → Says a (FailsOn tree failed fails_on f g) (FailsIn meaning tool_failed fails_in t u) result → (IsErrOf result Memory → ⊥) → failed g ≡ failed f → tool_failed u ≡ tool_failed t → settled_by result ≡ settled a
 exactly tree failed fails_on f g meaning tool_failed fails_in t u (passed why) (Ok (Pass reason)) says m p q = rw says refl
 exactly tree failed fails_on f g meaning tool_failed fails_in t u (passed why) (Ok (Outputs map how dep_info)) says m p q = absurd says
-exactly tree failed fails_on f g meaning tool_failed fails_in t u (passed why) (Err fault) says m p q = absurd (m (ap Err says))
+exactly tree failed fails_on f g meaning tool_failed fails_in t u (passed why) (Err Memory) says m p q = absurd (m refl)
+exactly tree failed fails_on f g meaning tool_failed fails_in t u (passed why) (Err (Read name)) says m p q = absurd (never_same (failed f) (failed says.from) (failed g) says.steady says.ticks p)
+exactly tree failed fails_on f g meaning tool_failed fails_in t u (passed why) (Err (Tool step)) says m p q = absurd says
+exactly tree failed fails_on f g meaning tool_failed fails_in t u (passed why) (Err (PreprocessFailed status)) says m p q = absurd says
+exactly tree failed fails_on f g meaning tool_failed fails_in t u (passed why) (Err (CompileFailed status)) says m p q = absurd says
+exactly tree failed fails_on f g meaning tool_failed fails_in t u (passed why) (Err (MissingOutput name)) says m p q = absurd says
 exactly tree failed fails_on f g meaning tool_failed fails_in t u (worked w) (Ok (Pass reason)) says m p q = absurd says
 exactly tree failed fails_on f g meaning tool_failed fails_in t u (worked w) (Ok (Outputs map how dep_info)) says m p q = rw says.1 refl
 exactly tree failed fails_on f g meaning tool_failed fails_in t u (worked w) (Err Memory) says m p q = absurd (m refl)
@@ -105,7 +110,24 @@ exactly tree failed fails_on f g meaning tool_failed fails_in t u (worked w) (Er
 exactly tree failed fails_on f g meaning tool_failed fails_in t u (worked w) (Err (CompileFailed status)) says m p q = rw says.0 refl
 exactly tree failed fails_on f g meaning tool_failed fails_in t u (worked w) (Err (MissingOutput name)) says m p q = rw says.0 refl
 
+early_more : (one other : Bytes → Type 0) → ((name : Bytes) → one name → other name) → (fault : Fault) → EarlyCause one fault → EarlyCause other fault
+early_more one other more Memory h = tt
+early_more one other more (Read name) h = more name h
+early_more one other more (Tool step) h = h
+early_more one other more (PreprocessFailed status) h = h
+early_more one other more (CompileFailed status) h = h
+early_more one other more (MissingOutput name) h = h
+
+passed_more : (why : Why) (one other : Bytes → Type 0) → ((name : Bytes) → one name → other name) → (result : Result Answer Fault) → SaysPassed why one result → SaysPassed why other result
+passed_more why one other more (Ok (Pass reason)) h = h
+passed_more why one other more (Ok (Outputs map how dep_info)) h = h
+passed_more why one other more (Err fault) h = early_more one other more fault h
+
 -- what the verdict passes through is passed through
-pub says_passes : (a : Account) (on_file : Bytes → Type 0) (device_in : Step → Type 0) (result : Result Answer Fault) → Says a on_file device_in result → (why : Why) → why_passed a ≡ Some why → SaysPassed why result
-says_passes (passed own) on_file device_in result says why h = subst (λ x. SaysPassed x result) (cc) says
-says_passes (worked w) on_file device_in result says why h = cc
+pub says_passes : (a : Account) (on_file told : Bytes → Type 0) (device_in : Step → Type 0) → ((name : Bytes) → on_file name → told name) → (result : Result Answer Fault) → Says a on_file device_in result → (why : Why) → why_passed a ≡ Some why → SaysPassed why told result
+says_passes (passed own) on_file told device_in more result says why h = passed_more why on_file told more result (subst (λ x. SaysPassed x on_file result) (cc) says)
+says_passes (worked w) on_file told device_in more result says why h = cc
+
+-- a file's device failed, so the failure tick moved
+pub fails_tick : {F : Type 0} (tree : F → Tree) (failed : F → ℕ) (fails_on : F → Bytes → F → Type 0) (f g : F) (name : Bytes) → FailsOn tree failed fails_on f g name → failed g ≡ ticked (failed f)
+fails_tick tree failed fails_on f g name h = h.ticks ∙ ap ticked h.steady

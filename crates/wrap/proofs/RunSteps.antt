@@ -208,21 +208,21 @@ both_all : (p q : Pairs) → all p ≡ all q → p ≡ q
 both_all p q e = cc
 
 -- two right answers of one account agree
-agree : (a b : Account) (x y : Result Answer Fault) → a ≡ b → ((why : Why) → why_passed a ≡ Some why → SaysPassed why x) → Answers a x → Answers b y → Agree (outputs_in x) (outputs_in y)
-agree a b (Ok (Pass reason)) y e n h k = tt
-agree a b (Err fault) y e n h k = tt
-agree a b (Ok (Outputs x how dep)) (Ok (Pass reason)) e n h k = tt
-agree a b (Ok (Outputs x how dep)) (Err fault) e n h k = tt
-agree (passed why) b (Ok (Outputs x how dep)) (Ok (Outputs y way more)) e n h k = absurd (n why refl)
-agree (worked w) (passed why) (Ok (Outputs x how dep)) (Ok (Outputs y way more)) e n h k = cc
-agree (worked w) (worked v) (Ok (Outputs x how dep)) (Ok (Outputs y way more)) e n h k =
+agree : (a b : Account) (x y : Result Answer Fault) (on_file : Bytes → Type 0) → a ≡ b → ((why : Why) → why_passed a ≡ Some why → SaysPassed why on_file x) → Answers a x → Answers b y → Agree (outputs_in x) (outputs_in y)
+agree a b (Ok (Pass reason)) y on_file e n h k = tt
+agree a b (Err fault) y on_file e n h k = tt
+agree a b (Ok (Outputs x how dep)) (Ok (Pass reason)) on_file e n h k = tt
+agree a b (Ok (Outputs x how dep)) (Err fault) on_file e n h k = tt
+agree (passed why) b (Ok (Outputs x how dep)) (Ok (Outputs y way more)) on_file e n h k = absurd (n why refl)
+agree (worked w) (passed why) (Ok (Outputs x how dep)) (Ok (Outputs y way more)) on_file e n h k = cc
+agree (worked w) (worked v) (Ok (Outputs x how dep)) (Ok (Outputs y way more)) on_file e n h k =
     let same : w ≡ v = cc in
     let both = both_all h.0 k.0 (sym h.2.made ∙ ap (λ (u : Work). collected (names_of u.outputs) u.fresh.files) same ∙ k.2.made) in
     h.1 ∙ ap (λ (u : Work). placed u.outputs h.0) same ∙ ap (placed v.outputs) both ∙ sym k.1
 
 -- what the verdict passes through is passed through, in each call of a run
 abbrev AllPass : List Served → Type 0
-AllPass run = AllByRecursion (λ s. (why : Why) → why_passed s.account ≡ Some why → SaysPassed why s.result) run
+AllPass run = AllByRecursion (λ s. (why : Why) → why_passed s.account ≡ Some why → SaysPassed why (λ name. s.after.files_failed ≡ ticked s.before.files_failed) s.result) run
 
 run_passes : (digest_of : Bytes → Bytes) (old new : Shelf StoreKey Pairs) (run : List Served) → Run digest_of old run new → AllPass run
 run_passes digest_of old new [] r = tt
@@ -234,7 +234,7 @@ all_agree (s ∷ one) [] e n h k = tt
 all_agree (s ∷ one) (t ∷ two) e n h k =
     let head : s.account ≡ t.account = cc in
     let tail : accounts_of one ≡ accounts_of two = cc in
-    (agree s.account t.account s.result t.result head n.0 h.0 k.0, all_agree one two tail n.1 h.1 k.1)
+    (agree s.account t.account s.result t.result (λ name. s.after.files_failed ≡ ticked s.before.files_failed) head n.0 h.0 k.0, all_agree one two tail n.1 h.1 k.1)
 
 pub two_runs_agree : (digest_of : Bytes → Bytes) → Tells digest_of → (one two : List Served) (one_old one_new two_old two_new : Shelf StoreKey Pairs)
     → Run digest_of one_old one one_new → Run digest_of two_old two two_new → IsEmpty one_old → IsEmpty two_old

@@ -3,6 +3,8 @@ use Rattle.std.proofs.Common.{◌≡◌, ℕ, List, Bool, true, Option, Some, No
 use Rattle.std.specs.Option.{option_map}
 use Rattle.std.proofs.lemmas.Result.{err_from_is_err_and}
 use Rattle.os_files.specs.Bytes.{Bytes, ticked}
+use Rattle.os_files.specs.Fails.{FailsOn}
+use Rattle.os_files.specs.Tree.{Tree}
 use Rattle.ckeys_base.specs.Shelf.{Shelf, Asks, Puts, Forgotten}
 use Rattle.ckeys.specs.Meaning.{Meaning, FailsIn}
 use Rattle.ckeys.specs.Records.{AreTold}
@@ -11,11 +13,11 @@ use Rattle.ckeys.specs.declared.fault.Fault.TheVariants.{Memory, Read, Tool, Pre
 use Rattle.ckeys.specs.declared.step.Step.{Step}
 use Rattle.ckeys.specs.declared.step.Step.TheVariants.{Preprocess, Compile}
 use Rattle.wrap_base.specs.Account.{Account, passed, worked, Work, Pairs, IsSuccess, placed}
-use Rattle.wrap_base.specs.Answers.{Says, SaysWorked}
+use Rattle.wrap_base.specs.Answers.{EarlyCause, Says, SaysWorked}
 use Rattle.wrap_base.specs.Keys.{store_key_of}
 use Rattle.wrap_base.specs.Turn.{StoreTurn, StillKept, MissTurn, Told, ToldBy}
 use Rattle.wrap_base.specs.declared.answer.Answer.{Answer}
-use Rattle.wrap_base.specs.declared.answer.Answer.TheVariants.{Outputs}
+use Rattle.wrap_base.specs.declared.answer.Answer.TheVariants.{Outputs, Pass}
 use Rattle.wrap_base.specs.declared.answer.How.TheVariants.{Stored, Fresh}
 use Rattle.wrap_base.specs.declared.answer.Output.{Output}
 use Rattle.wrap_base.specs.declared.store_key.StoreKey.{StoreKey}
@@ -168,23 +170,49 @@ compile_says w on_file device_in later_in more none fault cause result err = let
     says (CompileFailed status) h = (none, h)
     says (MissingOutput name) h = (none, h)
 
--- memory was refused before the request was looked at to its end
-pub memory_says : (a : Account) (on_file : Bytes → Type 0) (device_in : Step → Type 0) (fault : Fault) → fault ≡ Memory → (result : Result Answer Fault) → IsErrAnd result (λ f. f ≡ fault) → Says a on_file device_in result
-memory_says a on_file device_in fault memory result err = let p = err_from_is_err_and result err in rw (p.1, p.2, memory) (says a)
+-- a fault that comes before there is a verdict
+pub early_says : (a : Account) (on_file : Bytes → Type 0) (device_in : Step → Type 0) (fault : Fault) → EarlyCause on_file fault → (result : Result Answer Fault) → IsErrAnd result (λ f. f ≡ fault) → Says a on_file device_in result
+early_says a on_file device_in fault cause result err = let p = err_from_is_err_and result err in rw (p.1, p.2) (says a fault cause)
   where
-    says : (b : Account) → Says b on_file device_in (Err Memory)
-    says (passed why) = refl
-    says (worked w) = tt
+    says : (b : Account) (f : Fault) → EarlyCause on_file f → Says b on_file device_in (Err f)
+    says (passed why) f h = h
+    says (worked w) Memory h = tt
+    says (worked w) (Read name) h = inl h
+    says (worked w) (Tool step) h = absurd h
+    says (worked w) (PreprocessFailed status) h = absurd h
+    says (worked w) (CompileFailed status) h = absurd h
+    says (worked w) (MissingOutput name) h = absurd h
 
-pub memory_turn : (digest_of : Bytes → Bytes) (a : Account) (shelf : Shelf StoreKey Pairs) (count : ℕ) (fault : Fault) → fault ≡ Memory → (result : Result Answer Fault) → IsErrAnd result (λ f. f ≡ fault) → StoreTurn digest_of a shelf shelf count count result
-memory_turn digest_of a shelf count fault memory result err = let p = err_from_is_err_and result err in rw (p.1, p.2, memory) (record {
+pub early_turn : (digest_of : Bytes → Bytes) (a : Account) (shelf : Shelf StoreKey Pairs) (count : ℕ) (on_file : Bytes → Type 0) (fault : Fault) → EarlyCause on_file fault → (result : Result Answer Fault) → IsErrAnd result (λ f. f ≡ fault) → StoreTurn digest_of a shelf shelf count count result
+early_turn digest_of a shelf count on_file fault cause result err = let p = err_from_is_err_and result err in rw (p.1, p.2) (record {
   gains = λ key pairs h. inl h;
   faulted = λ key pairs h. h;
   kept = λ h. record { was = h; keys = λ key s. s; steady = refl };
   cleared = refl;
-  told = told a;
+  told = told a fault cause;
 })
   where
-    told : (b : Account) → ToldBy digest_of b shelf shelf count count (Err Memory)
-    told (passed why) = (refl, refl)
-    told (worked w) = inl refl
+    told : (b : Account) (f : Fault) → EarlyCause on_file f → ToldBy digest_of b shelf shelf count count (Err f)
+    told (passed why) f h = (refl, refl)
+    told (worked w) Memory h = inl refl
+    told (worked w) (Read name) h = refl
+    told (worked w) (Tool step) h = absurd h
+    told (worked w) (PreprocessFailed status) h = absurd h
+    told (worked w) (CompileFailed status) h = absurd h
+    told (worked w) (MissingOutput name) h = absurd h
+
+-- a file's device failed after calls on which it didn't
+pub fails_on_later : {F : Type 0} (tree : F → Tree) (failed : F → ℕ) (fails_on : F → Bytes → F → Type 0) (old mid new : F) → tree mid ≡ tree old → failed mid ≡ failed old → (name : Bytes) → FailsOn tree failed fails_on mid new name → FailsOn tree failed fails_on old new name
+fails_on_later tree failed fails_on old mid new m f name h = record { from = h.from; same = h.same ∙ m; steady = h.steady ∙ f; ticks = h.ticks; leads = h.leads }
+
+-- what is said of files as they were before
+pub says_later : (w : Work) (one other : Bytes → Type 0) (device_in : Step → Type 0) → ((name : Bytes) → one name → other name) → (result : Result Answer Fault) → SaysWorked w one device_in result → SaysWorked w other device_in result
+says_later w one other device_in more (Ok (Pass reason)) h = h
+says_later w one other device_in more (Ok (Outputs map how dep_info)) h = h
+says_later w one other device_in more (Err Memory) h = h
+says_later w one other device_in more (Err (Read name)) (inl h) = inl (more name h)
+says_later w one other device_in more (Err (Read name)) (inr h) = inr h
+says_later w one other device_in more (Err (Tool step)) h = h
+says_later w one other device_in more (Err (PreprocessFailed status)) h = h
+says_later w one other device_in more (Err (CompileFailed status)) h = h
+says_later w one other device_in more (Err (MissingOutput name)) h = h

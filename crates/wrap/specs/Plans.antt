@@ -1,7 +1,9 @@
 -- The code's verdict, and the commands of a request that isn't passed through.
-use Rattle.std.specs.Prelude.{◌≡◌, false}
+use Rattle.std.specs.Prelude.{◌≡◌, ◌⊎◌, false, List}
+use Rattle.os_files.specs.Bytes.{Bytes}
 use Rattle.cmdlines.specs.Commands.{ReadsAs, output_path, compile_items, preprocess_items, preprocess_words}
 use Rattle.cmdlines.specs.Hazards.{opens_file}
+use Rattle.cmdlines.specs.Parsing.{IsGivenByOption}
 use Rattle.cmdlines_tables.specs.Tables.{reading_of}
 use Rattle.ckeys.specs.Records.{hold_end}
 use Rattle.wrap_base.specs.Commands.{kind_of, compile_command_of}
@@ -16,17 +18,21 @@ abbrev pub decision_of : Verdict → Decision
 decision_of (Passes reason) = passes (why_of reason)
 decision_of (Asks plan) = asks plan.parsed
 
--- The plan's compile command is that of the request, and no hashed word holds the byte that ends one.
+-- The plan's compile command is that of the request, no hashed word holds the byte that ends one, and no word of its two commands makes the compiler open a file of words.
 pub record IsPlanOf (request : Request) (plan : Plan) : Type 0 where
   pub compile : plan.compile ≡ compile_command_of request plan.parsed
   pub told : hold_end (hashed_words plan.parsed) ≡ false
-
--- The compiler reads its two commands again as the wanted options of the request's words, beside its own words and the one input, and none of their words makes it open a file of words.
-pub record IsReadAgain (request : Request) (plan : Plan) : Type 0 where
-  pub compile : ReadsAs (kind_of request.compiler) plan.compile.arguments (compile_items (kind_of request.compiler) plan.parsed (output_path plan.parsed) (reading_of (kind_of request.compiler) request.words).items)
-  pub preprocess : ReadsAs (kind_of request.compiler) (preprocess_words plan.parsed) (preprocess_items plan.parsed (reading_of (kind_of request.compiler) request.words).items)
   pub compile_opens_none : opens_file (kind_of request.compiler) plan.compile.arguments ≡ false
-  pub preprocess_opens_none : opens_file (kind_of request.compiler) (preprocess_words plan.parsed) ≡ false
+  pub preprocess_opens_none : opens_file (kind_of request.compiler) (preprocess_words (kind_of request.compiler) plan.parsed) ≡ false
+
+-- The compiler reads its two commands again as the wanted options of the request's words, with their files opened, beside its own words and the one input.
+pub record IsReadAgain (request : Request) (words : List Bytes) (plan : Plan) : Type 0 where
+  pub compile : ReadsAs (kind_of request.compiler) plan.compile.arguments (compile_items (kind_of request.compiler) plan.parsed (output_path plan.parsed) (reading_of (kind_of request.compiler) words).items)
+  pub preprocess : ReadsAs (kind_of request.compiler) (preprocess_words (kind_of request.compiler) plan.parsed) (preprocess_items (kind_of request.compiler) plan.parsed (reading_of (kind_of request.compiler) words).items)
+
+-- It does, unless an option of Msvc gave the input.
+abbrev pub IsReadAgainUnlessGiven : Request → List Bytes → Plan → Type 0
+IsReadAgainUnlessGiven request words plan = IsReadAgain request words plan ⊎ IsGivenByOption (kind_of request.compiler) words
 
 -- what holds of the plan of a request that isn't passed through
 abbrev pub OnAsks : Verdict → (Plan → Type 0) → Type 0

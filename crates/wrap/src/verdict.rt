@@ -1,12 +1,15 @@
 //! The verdict on a request's words: it is passed through, or there is a plan of what is run for it.
 
-ghost use Rattle.std.specs.Prelude.{◌≡◌, is_some, true, IfOk, IfErr};
+ghost use Rattle.std.specs.Prelude.{◌≡◌, is_some, true, List, IfOk, IfErr, OnOk};
+ghost use Rattle.os_files.specs.Bytes.{Bytes};
+ghost use Rattle.os_files.specs.Fails.{FailsOn};
 ghost use Rattle.cmdlines.specs.Commands.{object_path};
 ghost use Rattle.cmdlines.specs.Parsing as parsing;
 ghost use Rattle.cmdlines.specs.ReadBack.{ReadsAsCompile, ReadsAsPreprocess};
-ghost use Rattle.wrap_base.specs.Commands.{compile_command_of, kind_of};
+ghost use Rattle.wrap_base.specs.Commands.{compile_command_of, kind_of, words_at};
+ghost use Rattle.wrap_base.specs.Answers.{EarlyCause};
 ghost use Rattle.wrap_base.specs.Verdict.{with_hazards, verdict_of};
-ghost use Rattle.wrap.specs.Plans.{decision_of, IsPlanOf, IsReadAgain, OnAsks};
+ghost use Rattle.wrap.specs.Plans.{decision_of, IsPlanOf, IsReadAgain, IsReadAgainUnlessGiven, OnAsks};
 
 use ckeys::compiler_impl::CCompilerImpl;
 use ckeys::fault::Fault;
@@ -62,7 +65,7 @@ fn after_hazards(
     requires object { is_some (object_path parsed) ≡ true }
     ensures verdict { IfOk result (λ verdict. decision_of verdict ≡ with_hazards (kind_of request.now.compiler) (parsing.asks parsed)) }
     ensures plan { IfOk result (λ verdict. OnAsks verdict (IsPlanOf request.now)) }
-    ensures again { parsing.parse_of (kind_of request.now.compiler) request.now.words ≡ parsing.asks parsed → parsing.HasSafeInput (kind_of request.now.compiler) parsed → IfOk result (λ verdict. OnAsks verdict (IsReadAgain request.now)) }
+    ensures again { (words : List Bytes) → parsing.parse_of (kind_of request.now.compiler) words ≡ parsing.asks parsed → parsing.HasSafeInput (kind_of request.now.compiler) parsed → IfOk result (λ verdict. OnAsks verdict (IsReadAgain request.now words)) }
 {
     if empty_value(&parsed) {
         return Ok(Verdict::Passes(Reason::EmptyValue));
@@ -83,14 +86,16 @@ fn after_hazards(
     Ok(Verdict::Asks(plan))
 }
 
-/// The verdict on a request.
+/// The verdict on a request, with the files of words that it names opened.
 pub fn judge<F: Files>(alloc: Global, request: &Request, files: &mut F) -> Result<Verdict, Fault>
-    ensures verdict { IfOk result (λ verdict. decision_of verdict ≡ verdict_of (kind_of request.now.compiler) request.now.words) }
-    // The commands are those of the request, and its compiler reads them again as what was wanted.
+    ensures verdict { IfOk result (λ verdict. decision_of verdict ≡ verdict_of (kind_of request.now.compiler) (words_at request.now (F.tree files.old))) }
+    // The commands are those of the request, and its compiler reads them again as what was wanted, unless an option of Msvc gave the
+    // input.
     ensures plan { IfOk result (λ verdict. OnAsks verdict (IsPlanOf request.now)) }
-    ensures again { IfOk result (λ verdict. OnAsks verdict (IsReadAgain request.now)) }
-    ensures memory { IfErr result (λ fault. fault ≡ Fault.Memory) }
-    ensures files { files.new ≡ files.old }
+    ensures again { IfOk result (λ verdict. OnAsks verdict (IsReadAgainUnlessGiven request.now (words_at request.now (F.tree files.old)))) }
+    ensures cause { IfErr result (EarlyCause (FailsOn F.tree F.failed F.fails_on files.old files.new)) }
+    ensures tree { F.tree files.new ≡ F.tree files.old }
+    ensures steady { OnOk result (F.failed files.new ≡ F.failed files.old) }
 {
     let words = request.words.as_slice();
     match request
@@ -103,6 +108,6 @@ pub fn judge<F: Files>(alloc: Global, request: &Request, files: &mut F) -> Resul
             Ok(Verdict::Passes(Reason::CannotCache(reason, more)))
         }
         Err(ParseFault::Memory) => Err(Fault::Memory),
-        Err(ParseFault::Read(_)) => unreachable!(),
+        Err(ParseFault::Read(path)) => Err(Fault::Read(path)),
     }
 }

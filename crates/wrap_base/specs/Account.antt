@@ -15,7 +15,7 @@ use Rattle.ckeys.specs.declared.fault.Fault.{Fault}
 use Rattle.ckeys.specs.declared.fault.Fault.TheVariants.{CompileFailed, MissingOutput}
 use Rattle.ckeys.specs.declared.output_name.OutputName.{OutputName}
 use Rattle.ckeys.specs.declared.step.Step.TheVariants.{Compile}
-use Rattle.wrap_base.specs.Commands.{kind_of, traits_of, executable_of, digest_of}
+use Rattle.wrap_base.specs.Commands.{kind_of, traits_of, executable_of, digest_of, words_at}
 use Rattle.wrap_base.specs.Verdict.{Why, Decision, passes, asks, verdict_of}
 use Rattle.wrap_base.specs.declared.answer.Output.{Output}
 use Rattle.wrap_base.specs.declared.request.Request.{Request}
@@ -61,7 +61,7 @@ account_by meaning tree folders request (asks p) = worked (work_at meaning (call
 
 -- the account of a request, under these folders, on files of this tree and a tool of this meaning
 abbrev pub account_at : Meaning → Tree → List Bytes → Request → Account
-account_at meaning tree folders request = account_by meaning tree folders request (verdict_of (kind_of request.compiler) request.words)
+account_at meaning tree folders request = account_by meaning tree folders request (verdict_of (kind_of request.compiler) (words_at request tree))
 
 -- why the call is passed through, if it is
 abbrev pub why_passed : Account → Option Why

@@ -10,11 +10,20 @@ use Rattle.wrap_base.specs.declared.answer.Answer.{Answer}
 use Rattle.wrap_base.specs.declared.answer.Answer.TheVariants.{Pass, Outputs}
 use Rattle.wrap_base.specs.declared.answer.Output.{Output}
 
--- What an answer says of a request that is passed through: it is, for the verdict's reason, or memory was refused first.
-abbrev pub SaysPassed : Why → Result Answer Fault → Type 0
-SaysPassed why (Ok (Pass reason)) = why_of reason ≡ why
-SaysPassed why (Ok (Outputs map how dep_info)) = ⊥
-SaysPassed why (Err fault) = fault ≡ Memory
+-- Why there is no verdict: memory was refused, or the device failed at that name while files of words were opened.
+abbrev pub EarlyCause : (Bytes → Type 0) → Fault → Type 0
+EarlyCause on_file Memory = Unit {0}
+EarlyCause on_file (Read name) = on_file name
+EarlyCause on_file (Tool step) = ⊥
+EarlyCause on_file (PreprocessFailed status) = ⊥
+EarlyCause on_file (CompileFailed status) = ⊥
+EarlyCause on_file (MissingOutput name) = ⊥
+
+-- What an answer says of a request that is passed through: it is, for the verdict's reason, or there was no verdict.
+abbrev pub SaysPassed : Why → (Bytes → Type 0) → Result Answer Fault → Type 0
+SaysPassed why on_file (Ok (Pass reason)) = why_of reason ≡ why
+SaysPassed why on_file (Ok (Outputs map how dep_info)) = ⊥
+SaysPassed why on_file (Err fault) = EarlyCause on_file fault
 
 -- What an answer says of another call: outputs mean that the call has no fault before the store is asked; a fault is want of memory, that of a device at that name or in that step, or exactly the first one in the order of the steps.
 abbrev pub SaysWorked : Work → (Bytes → Type 0) → (Step → Type 0) → Result Answer Fault → Type 0
@@ -28,7 +37,7 @@ SaysWorked w on_file device_in (Err (CompileFailed status)) = (w.fault ≡ None)
 SaysWorked w on_file device_in (Err (MissingOutput name)) = (w.fault ≡ None) × (compile_fault_of w ≡ Some (MissingOutput name))
 
 abbrev pub Says : Account → (Bytes → Type 0) → (Step → Type 0) → Result Answer Fault → Type 0
-Says (passed why) on_file device_in result = SaysPassed why result
+Says (passed why) on_file device_in result = SaysPassed why on_file result
 Says (worked w) on_file device_in result = SaysWorked w on_file device_in result
 
 -- a fact where the request is passed through

@@ -35,7 +35,7 @@ pub data Decision : Type 0 where
 
 -- a word of one of its commands would make the compiler open a file of words
 abbrev pub commands_open_file : CCompilerKind → ParsedArguments → Bool
-commands_open_file kind p = opens_file kind (compile_words kind p (output_path p)) || opens_file kind (preprocess_words p)
+commands_open_file kind p = opens_file kind (compile_words kind p (output_path p)) || opens_file kind (preprocess_words kind p)
 
 -- the hashed words, the architectures last
 abbrev pub hashed_words : ParsedArguments → List Bytes
@@ -47,6 +47,6 @@ with_hazards kind parsing.not_compilation = passes not_compilation
 with_hazards kind (parsing.cannot_cache reason more) = passes (cannot_cache reason more)
 with_hazards kind (parsing.asks p) = if p.empty_value then passes empty_value else (if commands_open_file kind p then passes opens_a_file else (if hold_end (hashed_words p) then passes byte_255 else asks p))
 
--- the verdict on words of that compiler
+-- the verdict on words of that compiler, whose files are opened
 abbrev pub verdict_of : CCompilerKind → List Bytes → Decision
 verdict_of kind words = with_hazards kind (parse_of kind words)

@@ -1,7 +1,7 @@
 -- Whole runs.
 use Rattle.std.specs.Prelude.{◌≡◌, ℕ, true, List, [], ◌∷◌, map, Option, Some, None, Result, Ok, Err, IsErrOf}
 use Rattle.std.specs.List.{AllByRecursion}
-use Rattle.os_files.specs.Bytes.{Bytes}
+use Rattle.os_files.specs.Bytes.{Bytes, ticked}
 use Rattle.os_files.specs.Fails.{FailsOn}
 use Rattle.os_files.specs.Tree.{Tree}
 use Rattle.ckeys_base.specs.Shelf.{Shelf, Within, KeepsKeys}
@@ -28,10 +28,10 @@ pub record Ticks : Type 0 where
   pub failed : ℕ  -- the failures of the tool
   pub files_failed : ℕ  -- the failures of the files
 
--- One call, by plain values: what it does to the store and what its answer tells; what the verdict passes through is passed through, and then no tick of the tool moves; and where no growth is refused and no device fails, what is said before the compile is the account's alone.
+-- One call, by plain values: what it does to the store and what its answer tells; what the verdict passes through is passed through, unless memory was refused before or a file's device failed, and then no tick of the tool moves; and where no growth is refused and no device fails, what is said before the compile is the account's alone.
 pub record Turn (digest_of : Bytes → Bytes) (a : Account) (old new : Shelf StoreKey Pairs) (before after : Ticks) (result : Result Answer Fault) : Type 0 where
   pub store : StoreTurn digest_of a old new before.compiled after.compiled result
-  pub passes : (why : Why) → why_passed a ≡ Some why → SaysPassed why result
+  pub passes : (why : Why) → why_passed a ≡ Some why → SaysPassed why (λ name. after.files_failed ≡ ticked before.files_failed) result
   pub quiet : OnPass result ((after.preprocessed ≡ before.preprocessed) × (after.compiled ≡ before.compiled) × (after.failed ≡ before.failed))
   pub exact : (IsErrOf result Memory → ⊥) → after.files_failed ≡ before.files_failed → after.failed ≡ before.failed → settled_by result ≡ settled a
 

@@ -9,8 +9,11 @@ use ckeys::hasher::CCompilerHasher;
 use cmdlines::clang::Clang;
 use cmdlines::command::{Cacheable, CommandError};
 use cmdlines::compiler_arguments::{CompilerArguments, ParseFault};
+use cmdlines::diab::Diab;
 use cmdlines::gcc::Gcc;
+use cmdlines::msvc::Msvc;
 use cmdlines::parsed::ParsedArguments;
+use cmdlines::tasking_vx::TaskingVX;
 use cmdlines_base::command::SingleCompileCommand;
 use cmdlines_tables::compiler::CCompilerKind;
 use os_files::files::Files;
@@ -23,6 +26,9 @@ use std::alloc::{AllocError, Global};
 pub enum Compiler {
     Gcc(CCompiler<Gcc>),
     Clang(CCompiler<Clang>),
+    Diab(CCompiler<Diab>),
+    Msvc(CCompiler<Msvc>),
+    TaskingVX(CCompiler<TaskingVX>),
 }
 
 impl Compiler {
@@ -32,6 +38,9 @@ impl Compiler {
         match self {
             Compiler::Gcc(found) => &found.executable,
             Compiler::Clang(found) => &found.executable,
+            Compiler::Diab(found) => &found.executable,
+            Compiler::Msvc(found) => &found.executable,
+            Compiler::TaskingVX(found) => &found.executable,
         }
     }
 
@@ -42,6 +51,9 @@ impl Compiler {
         match self {
             Compiler::Gcc(found) => found.executable_digest.as_str(),
             Compiler::Clang(found) => found.executable_digest.as_str(),
+            Compiler::Diab(found) => found.executable_digest.as_str(),
+            Compiler::Msvc(found) => found.executable_digest.as_str(),
+            Compiler::TaskingVX(found) => found.executable_digest.as_str(),
         }
     }
 
@@ -70,6 +82,9 @@ impl CCompilerImpl for Compiler {
         match self {
             Compiler::Gcc(found) => found.compiler.kind(),
             Compiler::Clang(found) => found.compiler.kind(),
+            Compiler::Diab(found) => found.compiler.kind(),
+            Compiler::Msvc(found) => found.compiler.kind(),
+            Compiler::TaskingVX(found) => found.compiler.kind(),
         }
     }
 
@@ -77,6 +92,9 @@ impl CCompilerImpl for Compiler {
         match self {
             Compiler::Gcc(found) => found.compiler.plusplus(),
             Compiler::Clang(found) => found.compiler.plusplus(),
+            Compiler::Diab(found) => found.compiler.plusplus(),
+            Compiler::Msvc(found) => found.compiler.plusplus(),
+            Compiler::TaskingVX(found) => found.compiler.plusplus(),
         }
     }
 
@@ -84,6 +102,9 @@ impl CCompilerImpl for Compiler {
         match self {
             Compiler::Gcc(found) => found.compiler.version(),
             Compiler::Clang(found) => found.compiler.version(),
+            Compiler::Diab(found) => found.compiler.version(),
+            Compiler::Msvc(found) => found.compiler.version(),
+            Compiler::TaskingVX(found) => found.compiler.version(),
         }
     }
 
@@ -91,6 +112,9 @@ impl CCompilerImpl for Compiler {
         match self {
             Compiler::Gcc(found) => found.compiler.assembler_digest(),
             Compiler::Clang(found) => found.compiler.assembler_digest(),
+            Compiler::Diab(found) => found.compiler.assembler_digest(),
+            Compiler::Msvc(found) => found.compiler.assembler_digest(),
+            Compiler::TaskingVX(found) => found.compiler.assembler_digest(),
         }
     }
 
@@ -104,6 +128,9 @@ impl CCompilerImpl for Compiler {
         match self {
             Compiler::Gcc(found) => found.compiler.parse_arguments(alloc, words, dir, files),
             Compiler::Clang(found) => found.compiler.parse_arguments(alloc, words, dir, files),
+            Compiler::Diab(found) => found.compiler.parse_arguments(alloc, words, dir, files),
+            Compiler::Msvc(found) => found.compiler.parse_arguments(alloc, words, dir, files),
+            Compiler::TaskingVX(found) => found.compiler.parse_arguments(alloc, words, dir, files),
         }
     }
 
@@ -115,6 +142,9 @@ impl CCompilerImpl for Compiler {
         match self {
             Compiler::Gcc(found) => found.compiler.preprocess_words(alloc, parsed),
             Compiler::Clang(found) => found.compiler.preprocess_words(alloc, parsed),
+            Compiler::Diab(found) => found.compiler.preprocess_words(alloc, parsed),
+            Compiler::Msvc(found) => found.compiler.preprocess_words(alloc, parsed),
+            Compiler::TaskingVX(found) => found.compiler.preprocess_words(alloc, parsed),
         }
     }
 
@@ -133,6 +163,21 @@ impl CCompilerImpl for Compiler {
                     .generate_compile_commands(alloc, executable, parsed, dir, env)
             }
             Compiler::Clang(found) => {
+                found
+                    .compiler
+                    .generate_compile_commands(alloc, executable, parsed, dir, env)
+            }
+            Compiler::Diab(found) => {
+                found
+                    .compiler
+                    .generate_compile_commands(alloc, executable, parsed, dir, env)
+            }
+            Compiler::Msvc(found) => {
+                found
+                    .compiler
+                    .generate_compile_commands(alloc, executable, parsed, dir, env)
+            }
+            Compiler::TaskingVX(found) => {
                 found
                     .compiler
                     .generate_compile_commands(alloc, executable, parsed, dir, env)

@@ -13,5 +13,5 @@ again_in (Err error) P expected h p = tt
 pub returns-clause-again : goal.returns-clause-again
 returns-clause-again c =
     let p = c.args.parsed.now in
-    again_in c.preprocess_words.result (ReadsAsPreprocess c.args.kind p) (preprocess_words p) c.preprocess_words.ensures
+    again_in c.preprocess_words.result (ReadsAsPreprocess c.args.kind p) (preprocess_words c.args.kind p) c.preprocess_words.ensures
     (λ words asks_this full safe. preprocess_again c.words_have_one_reading.ensures.is c.words_have_one_reading.ensures.only c.items_read_again.ensures c.items_read_together.ensures c.args.kind (c.own_words_are_read.ensures c.args.kind) p words asks_this full safe)

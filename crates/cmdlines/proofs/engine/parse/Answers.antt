@@ -1,4 +1,5 @@
 use Rattle.std.proofs.Common.{◌≡◌, ◌∙◌, ap, sym, [], ◌∷◌}
+use Rattle.std.proofs.lemmas.Result.{IfOk-weaker}
 use Rattle.cmdlines_base.specs.Cutting.{place_of, is_seen, reading_at}
 use Rattle.cmdlines_base.specs.Reading.{before, reading}
 use Rattle.cmdlines_base.specs.Table.{all_entries}
@@ -6,7 +7,7 @@ use Rattle.cmdlines_tables.specs.Tables.{ends_options}
 use Rattle.cmdlines_tables.specs.Values.{placed}
 use Rattle.cmdlines.specs.Collecting.{no_facts, no_lists, facts_with, lists_with, decide}
 use Rattle.cmdlines.specs.Parsing.{refused}
-use Rattle.cmdlines.proofs.CollectLemmas.{decide-start, decide-more, decide-hard}
+use Rattle.cmdlines.proofs.CollectLemmas.{decide-start, decide-more, decide-hard, decide-end}
 use Rattle.cmdlines.proofs.engine.parse.Goals as goal
 
 pub loop-next-init : goal.loop-next-init
@@ -15,7 +16,7 @@ loop-next-init g c =
     let arguments = c.arguments_of-arguments in
     record {
       same = arguments.ensures.table;
-      told = rw (c.new-facts.ensures, c.new-lists.ensures) (ap (decide entries no_facts no_lists) (arguments.ensures.reading entries) ∙ decide-start entries (reading (ends_options c.args.kind) entries c.args.words.now));
+      told = rw (c.new-facts.ensures, c.new-lists.ensures) (ap (decide c.args.kind entries no_facts no_lists) (arguments.ensures.reading entries) ∙ decide-start c.args.kind entries (reading (ends_options c.args.kind) entries c.args.words.now));
     }
 
 pub returns-in-Some-too_hard_flag : goal.returns-in-Some-too_hard_flag
@@ -29,8 +30,8 @@ returns-in-Some-too_hard_flag g c =
     let item : argument ≡ step.item = c.arguments_are_their_items.ensures step.item c.in-Ok.argument seen step.is step.behind in
     let before_is = step.reads ∙ ap (λ i. before i rest) (sym item) in
     let flag = c.in-Some-too_hard_flag.ensures seen in
-    c.refused.ensures ∙ ap refused flag.1 ∙ sym (decide-hard entries c.loop-next.facts c.loop-next.lists argument rest flag.0)
-    ∙ ap (decide entries c.loop-next.facts c.loop-next.lists) (sym before_is) ∙ c.loop-next.invariant.told
+    c.refused.ensures ∙ ap refused flag.1 ∙ sym (decide-hard c.args.kind entries c.loop-next.facts c.loop-next.lists argument rest flag.0)
+    ∙ ap (decide c.args.kind entries c.loop-next.facts c.loop-next.lists) (sym before_is) ∙ c.loop-next.invariant.told
 
 pub loop-next-preserved : goal.loop-next-preserved
 loop-next-preserved g c =
@@ -44,8 +45,16 @@ loop-next-preserved g c =
     let before_is = step.reads ∙ ap (λ i. before i rest) (sym item) in
     record {
       same = steps.1 ∙ c.loop-next.invariant.same;
-      told = ap (λ f. decide entries f c.take.new.self rest) (c.in_ok-note-in-Ok.ensures seen)
-          ∙ ap (λ l. decide entries (facts_with entries c.loop-next.facts (argument ∷ [])) l rest) (c.in_ok-take-in-Ok.ensures ∙ ap (λ s. lists_with c.loop-next.lists (placed s c.in-Ok.argument ∷ [])) c.seen_double_dashes.ensures)
-          ∙ decide-more entries c.loop-next.facts c.loop-next.lists argument rest (c.in_default-too_hard_flag.ensures seen)
-          ∙ ap (decide entries c.loop-next.facts c.loop-next.lists) (sym before_is) ∙ c.loop-next.invariant.told;
+      told = ap (λ f. decide c.args.kind entries f c.take.new.self rest) (c.in_ok-note-in-Ok.ensures seen)
+          ∙ ap (λ l. decide c.args.kind entries (facts_with entries c.loop-next.facts (argument ∷ [])) l rest) (c.in_ok-take-in-Ok.ensures ∙ ap (λ s. lists_with c.loop-next.lists (placed s c.in-Ok.argument ∷ [])) c.seen_double_dashes.ensures)
+          ∙ decide-more c.args.kind entries c.loop-next.facts c.loop-next.lists argument rest (c.in_default-too_hard_flag.ensures seen)
+          ∙ ap (decide c.args.kind entries c.loop-next.facts c.loop-next.lists) (sym before_is) ∙ c.loop-next.invariant.told;
     }
+
+pub returns : goal.returns
+returns g c =
+    let kind = c.args.kind in
+    let entries = all_entries (g.S.SearchableArgInfo.tables c.args.table.now) in
+    let steps = rw c.loop-next.invariant.same at c.in_default.ensures.steps in
+    IfOk-weaker c.close.result _ _
+    (λ answer is. is ∙ sym (decide-end kind entries c.loop-next.facts c.loop-next.lists) ∙ ap (decide kind entries c.loop-next.facts c.loop-next.lists) (sym steps.0.0) ∙ c.loop-next.invariant.told) c.close.ensures

@@ -1,7 +1,6 @@
 use Rattle.std.proofs.Common.{◌≡◌, length}
 use Rattle.cmdlines_base.specs.Cutting.{place_of, reading_at, table_in}
 use Rattle.cmdlines_base.specs.Table.{all_entries}
-use Rattle.cmdlines_tables.specs.Tables.{ends_options}
 use Rattle.cmdlines.specs.Collecting.{decide}
 use Rattle.cmdlines.specs.Parsing.{decision_by}
 use Rattle.cmdlines.proofs.engine.parse.Given as goal
@@ -12,7 +11,7 @@ invariant-loop-next g l =
     let entries = all_entries (g.S.SearchableArgInfo.tables l.fn.table) in
     record {
       same : table_in l.arguments ≡ l.fn.table;
-      told : decide entries l.facts l.lists (reading_at entries (place_of l.arguments)) ≡ decision_by (ends_options l.fn.kind) entries l.fn.words;
+      told : decide l.fn.kind entries l.facts l.lists (reading_at entries (place_of l.arguments)) ≡ decision_by l.fn.kind entries l.fn.words;
     }
 
 abbrev pub decreases-loop-next : goal.decreases-loop-next

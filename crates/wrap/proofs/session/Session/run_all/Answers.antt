@@ -1,5 +1,5 @@
 use Rattle.std.proofs.Common.{◌≡◌, List, Result, refl, rules, arith, ◌∙◌, subst, ◌++◌, ◌∷◌, [], ◌<◌, length, get_or}
-use Rattle.os_files.specs.Bytes.{Bytes}
+use Rattle.os_files.specs.Bytes.{Bytes, ticked}
 use Rattle.os_files.specs.Fails.{FailsOn}
 use Rattle.ckeys.specs.Meaning.{FailsIn}
 use Rattle.ckeys.specs.declared.fault.Fault.{Fault}
@@ -7,7 +7,7 @@ use Rattle.wrap_base.specs.Account.{account_at}
 use Rattle.wrap_base.specs.Whole.{IsAnswered, Turn, begin_of, end_of, files_view, tool_view}
 use Rattle.wrap_base.specs.declared.answer.Answer.{Answer}
 use Rattle.wrap_base.specs.declared.call.Call.{Call}
-use Rattle.wrap.proofs.CallSteps.{says_passes}
+use Rattle.wrap.proofs.CallSteps.{fails_tick, says_passes}
 use Rattle.wrap.proofs.RunSteps.{run_more, one_more, rest_more, each_set}
 use Rattle.wrap.proofs.session.Session.run_all.Goals as goal
 
@@ -28,7 +28,7 @@ loop-call-preserved g c =
     let turn_by : List Bytes → Type 0 = λ by. Turn g.H.HashState.digest_of (account_at (tool.meaning called.tool) (files.tree called.files) by called.request) (g.O.Store.shelf c.loop-call.self.objects) (g.O.Store.shelf c.serve-answer.new.self.objects) (end_of folders files tool called) (end_of folders files tool ended) c.serve-answer.result in
     let turn : turn_by c.loop-call.self.folders = record {
       store = e.store;
-      passes = says_passes _ (FailsOn g.F.Files.tree g.F.Files.failed g.F.Files.fails_on called.files c.serve-answer.new.files) (FailsIn g.T.Preprocessor.meaning g.T.Preprocessor.failed g.T.Preprocessor.fails_in called.tool c.serve-answer.new.tool) c.serve-answer.result e.says;
+      passes = says_passes _ (FailsOn g.F.Files.tree g.F.Files.failed g.F.Files.fails_on called.files c.serve-answer.new.files) (λ name. g.F.Files.failed c.serve-answer.new.files ≡ ticked (g.F.Files.failed called.files)) (FailsIn g.T.Preprocessor.meaning g.T.Preprocessor.failed g.T.Preprocessor.fails_in called.tool c.serve-answer.new.tool) (fails_tick g.F.Files.tree g.F.Files.failed g.F.Files.fails_on called.files c.serve-answer.new.files) c.serve-answer.result e.says;
       quiet = e.quiet;
       exact = e.exact;
     } in

@@ -1,0 +1,25 @@
+-- The words of a request, in whose place those of the files stand that its compiler opens.
+use Rattle.std.specs.Prelude.{List, Option, None, Some}
+use Rattle.os_files.specs.Bytes.{Bytes}
+use Rattle.os_files.specs.Tree.{Tree}
+use Rattle.cmdlines_tables.specs.declared.compiler.CCompilerKind.{CCompilerKind}
+use Rattle.cmdlines_tables.specs.declared.compiler.CCompilerKind.TheVariants.{Gcc, Clang, Diab, Msvc, TaskingVX}
+use Rattle.response_files.specs.Expansion.{expanded}
+use Rattle.response_files.specs.declared.style.Style.{Style}
+use Rattle.response_files.specs.declared.style.Style.TheVariants as styles
+
+-- how a compiler opens words: TaskingVX opens none
+abbrev pub style_of : CCompilerKind → Option Style
+style_of Gcc = Some styles.Gnu
+style_of Clang = Some styles.Gnu
+style_of Diab = Some styles.Diab
+style_of Msvc = Some styles.Msvc
+style_of TaskingVX = None
+
+-- the words, where it opens none
+abbrev pub opened_by : Option Style → Bytes → Tree → List Bytes → List Bytes
+opened_by None dir files words = words
+opened_by (Some style) dir files words = expanded style dir files words
+
+abbrev pub opened_words : CCompilerKind → Bytes → Tree → List Bytes → List Bytes
+opened_words kind dir files words = opened_by (style_of kind) dir files words

@@ -1,0 +1,148 @@
+//! A C compiler as it is found: its words and the commands for it. All of them are read and written by one mechanism, over
+//! their tables and what differs between their kinds.
+
+ghost use Rattle.std.specs.Prelude.{◌≡◌, ◌↔◌, None, IfOk, IfErr, IsErrOf, OnOk};
+ghost use Rattle.std.specs.Option.{option_map};
+ghost use Rattle.os_files.specs.Fails.{FailsOn};
+ghost use Rattle.response_files.specs.Causes.{CauseOf};
+ghost use Rattle.cmdlines_tables.specs.declared.compiler.CCompilerKind.{CCompilerKind};
+ghost use Rattle.cmdlines.specs.Opening.{opened_words};
+ghost use Rattle.cmdlines.specs.Commands.{object_path, HasObjectIn, preprocess_words, output_path, compile_words, command_at};
+ghost use Rattle.cmdlines.specs.Compilers.{traits_of, text_in};
+ghost use Rattle.cmdlines.specs.Parsing.{decision_of, parse_of, HasSafeInputIn};
+ghost use Rattle.cmdlines.specs.ReadBack.{ReadsAsCompile, ReadsAsPreprocess};
+
+use crate::command::{Cacheable, CommandError, compile_command, preprocess_words_again};
+use crate::compiler_arguments::{CompilerArguments, ParseFault};
+use crate::laws::{inputs_are_safe, requests_have_an_object};
+use crate::opening::parse_opened;
+use crate::parsed::ParsedArguments;
+use cmdlines_base::command::SingleCompileCommand;
+use cmdlines_tables::compiler::CCompilerKind;
+use cmdlines_tables::compiler_tables::CCompilerTables;
+use os_files::files::Files;
+use os_files::listed::Listed;
+use os_files::os_bytes::OsBytes;
+use std::alloc::{AllocError, Global};
+use std::marker::{Model, PhantomData};
+
+/// A kind of compiler that is known where the program is built.
+pub trait HasKind {
+    ghost kind: { CCompilerKind };
+
+    fn kind() -> CCompilerKind
+        ensures { result ≡ kind };
+}
+
+/// A compiler of that kind as it is found: whether it compiles C++ by itself, its version, and the digest of its assembler,
+/// where these are known.
+#[derive(Drop)]
+pub struct FoundCompiler<K: HasKind> {
+    plusplus: bool,
+    version: Option<String>,
+    assembler_digest: Option<String>,
+    tables: CCompilerTables,
+    kind: PhantomData<K>,
+}
+
+impl<K: HasKind> Model for FoundCompiler<K> {
+    ghost use Rattle.std.specs.Prelude.{◌≡◌};
+    ghost use Rattle.cmdlines.specs.Compilers.{Traits, traits_of};
+    ghost use Rattle.cmdlines_tables.specs.Search.{tables_in};
+    ghost use Rattle.cmdlines_tables.specs.Tables.{tables_of};
+
+    ghost Value = { Traits };
+
+    ghost view = { λ a. traits_of a.plusplus a.version a.assembler_digest };
+
+    ghost invariant = { λ a. tables_in a.tables ≡ tables_of K.kind };
+}
+
+impl<K: HasKind> FoundCompiler<K> {
+    pub fn new(
+        alloc: Global,
+        plusplus: bool,
+        version: Option<String>,
+        assembler_digest: Option<String>,
+    ) -> Result<FoundCompiler<K>, AllocError>
+        ensures { IfOk result (λ compiler. compiler ≡ traits_of plusplus version assembler_digest) }
+    {
+        Ok(FoundCompiler {
+            plusplus,
+            version,
+            assembler_digest,
+            tables: CCompilerTables::new(alloc, K::kind())?,
+            kind: PhantomData,
+        })
+    }
+
+    /// Whether it compiles C++ by itself, as `g++` does.
+    pub fn plusplus(&self) -> bool
+        ensures { result ≡ self.now.plusplus }
+    {
+        self.plusplus
+    }
+
+    pub fn version(&self) -> Option<&str>
+        ensures { option_map text_in result ≡ self.now.version }
+    {
+        self.version.as_deref()
+    }
+
+    pub fn assembler_digest(&self) -> Option<&str>
+        ensures { option_map text_in result ≡ self.now.assembler_digest }
+    {
+        self.assembler_digest.as_deref()
+    }
+
+    /// What these words come to, with the files of words that they name opened from that directory. `Read` names one on which
+    /// the device failed.
+    pub fn parse_arguments<F: Files>(
+        &self,
+        alloc: Global,
+        words: &[OsBytes],
+        dir: &OsBytes,
+        files: &mut F,
+    ) -> Result<CompilerArguments<ParsedArguments>, ParseFault>
+        ensures decision { IfOk result (λ answer. decision_of answer ≡ parse_of K.kind (opened_words K.kind dir.now (F.tree files.old) words.now)) }
+        ensures cause { IfErr result (CauseOf (FailsOn F.tree F.failed F.fails_on files.old files.new)) }
+        ensures input { IfOk result (λ answer. HasSafeInputIn K.kind (opened_words K.kind dir.now (F.tree files.old) words.now) (decision_of answer)) }
+        ensures object { IfOk result (λ answer. HasObjectIn (decision_of answer)) }
+        ensures tree { F.tree files.new ≡ F.tree files.old }
+        ensures steady { OnOk result (F.failed files.new ≡ F.failed files.old) }
+    {
+        // Laws, which cost nothing: what follows from them is said above.
+        inputs_are_safe();
+        requests_have_an_object();
+        parse_opened(alloc, K::kind(), &self.tables, dir, words, files)
+    }
+
+    /// The words of the preprocess command.
+    pub fn preprocess_words(
+        &self,
+        alloc: Global,
+        parsed: &ParsedArguments,
+    ) -> Result<Listed<OsBytes>, AllocError>
+        ensures words { IfOk result (λ words. words ≡ preprocess_words K.kind parsed.now) }
+        ensures again { IfOk result (λ words. ReadsAsPreprocess K.kind parsed.now words) }
+    {
+        preprocess_words_again(alloc, K::kind(), parsed)
+    }
+
+    /// The compile command: this executable with the request's words, in that directory, under these variables.
+    pub fn generate_compile_commands(
+        &self,
+        alloc: Global,
+        executable: &OsBytes,
+        parsed: &ParsedArguments,
+        dir: &OsBytes,
+        env: &[(OsBytes, OsBytes)],
+    ) -> Result<(SingleCompileCommand, Cacheable), CommandError>
+        ensures command { IfOk result (λ made. made.0 ≡ command_at executable.now (compile_words K.kind parsed.now (output_path parsed.now)) env.now dir.now) }
+        ensures cacheable { IfOk result (λ made. made.1 ≡ Cacheable.Yes) }
+        ensures missing { IsErrOf result CommandError.NoObjOutput ↔ (object_path parsed.now ≡ None) }
+        ensures again { IfOk result (λ made. ReadsAsCompile K.kind parsed.now made.0.arguments) }
+    {
+        compile_command(alloc, K::kind(), executable, parsed, dir, env)
+    }
+}

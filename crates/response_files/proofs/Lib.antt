@@ -1,0 +1,3 @@
+pub mod ClosedLaws
+pub mod DepthLaws
+pub mod OpeningLaws

@@ -1,0 +1,6 @@
+pub mod Styles
+pub mod Closed
+pub mod Expansion
+pub mod Chains
+pub mod Causes
+pub mod Words

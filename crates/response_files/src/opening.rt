@@ -1,0 +1,54 @@
+//! What one word opens.
+
+ghost use Rattle.std.specs.Prelude.{◌≡◌, IfOk, IfErr, OnOk};
+ghost use Rattle.os_files.specs.Fails.{FailsOn};
+ghost use Rattle.response_files.specs.Causes.{CauseOf};
+ghost use Rattle.response_files.specs.Chains.{is_open};
+ghost use Rattle.response_files.specs.Closed.{closed_in};
+ghost use Rattle.response_files.specs.Expansion.{opened_by};
+
+use crate::chain::Chain;
+use crate::fault::ParseFault;
+use crate::style::Style;
+use os_files::files::{FileFail, Files};
+use os_files::listed::Listed;
+use os_files::os_bytes::OsBytes;
+use std::alloc::Global;
+
+/// A file of words: its name, and its words.
+#[derive(Drop)]
+pub(crate) struct Opened {
+    pub(crate) name: OsBytes,
+    pub(crate) words: Listed<OsBytes>,
+}
+
+/// What a word opens, while the files of the chain are open.
+pub(crate) fn opened_by<F: Files>(
+    alloc: Global,
+    style: Style,
+    dir: &OsBytes,
+    chain: &Chain,
+    files: &mut F,
+    word: &OsBytes,
+) -> Result<Option<Opened>, ParseFault>
+    ensures opened { IfOk result (λ found. found ≡ opened_by style dir.now (closed_in (is_open chain.now) (F.tree files.old)) word.now) }
+    ensures cause { IfErr result (CauseOf (FailsOn F.tree F.failed F.fails_on files.old files.new)) }
+    ensures tree { F.tree files.new ≡ F.tree files.old }
+    ensures steady { OnOk result (F.failed files.new ≡ F.failed files.old) }
+{
+    let Some(name) = style.path(alloc, dir, word.as_bytes())? else {
+        return Ok(None);
+    };
+    if chain.holds(&name) {
+        return Ok(None);
+    }
+    match files.read(alloc, &name) {
+        Ok(Some(text)) => match style.words(alloc, text.as_bytes())? {
+            Some(words) => Ok(Some(Opened { name, words })),
+            None => Ok(None),
+        },
+        Ok(None) => Ok(None),
+        Err(FileFail::Memory) => Err(ParseFault::Memory),
+        Err(FileFail::Device) => Err(ParseFault::Read(name)),
+    }
+}
