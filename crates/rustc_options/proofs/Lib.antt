@@ -1,0 +1,4 @@
+pub mod CutLemmas
+pub mod PrintedLemmas
+pub mod SetLemmas
+pub mod CrateTypeLemmas

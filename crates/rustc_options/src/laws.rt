@@ -1,0 +1,21 @@
+//! Laws of the values. No code calls them: whoever prints what was read cites them.
+
+ghost use Rattle.std.specs.Prelude.{◌≡◌, true, false, ◌++◌, None, Some, map, codes};
+ghost use Rattle.os_files.specs.Bytes.{Bytes};
+ghost use Rattle.rustc_options.specs.Splitting.{behind_equals};
+ghost use Rattle.rustc_options.specs.Data.{data_of, word_of, refuses, prints_its_word, printed_type};
+ghost use Rattle.rustc_options.specs.Sets.{between_commas, joined_by_commas, in_order};
+ghost use Rattle.rustc_options.specs.declared.kind.ArgKind.{ArgKind};
+ghost use Rattle.rustc_options.specs.declared.kind.ArgKind.TheVariants.{CrateType, LinkLibrary, LinkPath};
+
+/// A value that was read prints its word, where its kind says so. A library and a folder of libraries print it with the
+/// kind that is meant where the word names none, and crate types each once, in the order of their bytes, and `rlib` for
+/// `lib`.
+pub fn words_are_printed_again()
+    ensures word { (kind : ArgKind) (word : Bytes) → prints_its_word kind ≡ true → refuses kind word ≡ false → word_of (data_of kind word) ≡ word }
+    ensures library { (word back : Bytes) → behind_equals word ≡ Some back → word_of (data_of LinkLibrary word) ≡ word }
+    ensures bare_library { (word : Bytes) → behind_equals word ≡ None → word_of (data_of LinkLibrary word) ≡ codes "dylib=" ++ word }
+    ensures path { (word back : Bytes) → behind_equals word ≡ Some back → word_of (data_of LinkPath word) ≡ word }
+    ensures bare_path { (word : Bytes) → behind_equals word ≡ None → word_of (data_of LinkPath word) ≡ codes "all=" ++ word }
+    ensures crate_types { (word : Bytes) → word_of (data_of CrateType word) ≡ joined_by_commas (in_order (map printed_type (between_commas word))) }
+{}

@@ -1,0 +1,7 @@
+pub mod StayLaws
+pub mod TextLaws
+pub mod CauseLemmas
+pub mod FactLemmas
+pub mod ItemLemmas
+pub mod VerdictLemmas
+mod HeldWords

@@ -1,0 +1,69 @@
+-- Laws of the verdict, item by item.
+use Rattle.std.proofs.Common.{◌≡◌, true, false, List, [], ◌∷◌, Option, Some, None, refl, ap, sym, subst, ◌∙◌}
+use Rattle.std.specs.Prelude.{is_some, map}
+use Rattle.std.specs.List.{AllZip}
+use Rattle.os_files.specs.Bytes.{Bytes}
+use Rattle.os_files.specs.Tree.{Tree}
+use Rattle.cmdlines_base.specs.Cutting.{Place, reading_at}
+use Rattle.cmdlines_base.specs.Reading.{Item, Reading, before}
+use Rattle.cmdlines_base.specs.Values.{FailsToCut, values_by}
+use Rattle.cmdlines_base.specs.declared.argument.Argument.{Argument}
+use Rattle.cmdlines_base.specs.declared.argument_error.ArgParseError.{ArgParseError}
+use Rattle.cmdlines_base.specs.declared.argument_error.ArgParseError.TheVariants.{UnexpectedEndOfArgs, InvalidUnicode, Other, Memory}
+use Rattle.cmdlines.specs.declared.compiler_arguments.CompilerArguments.{CompilerArguments}
+use Rattle.cmdlines.specs.declared.compiler_arguments.CompilerArguments.TheVariants as answers
+use Rattle.rustc_options.specs.Data.{IsFlagValue, IsWordValue, refuses}
+use Rattle.rustc_options.specs.Table.{rustc_entries}
+use Rattle.rustc_options.specs.declared.data.ArgData.{ArgData}
+use Rattle.rustc_options.specs.declared.kind.ArgKind.{ArgKind}
+use Rattle.rustkeys_base.specs.Facts.{facts_of, facts_with}
+use Rattle.rustkeys_base.specs.Requests.{IsArgument, IsAsked, IsAskedBy, IsParsed, wanted}
+use Rattle.rustkeys_base.specs.Saying.{token_of}
+use Rattle.rustkeys_base.specs.Verdict.{AsksNothing, Verdict, decides, is_misread, not_parsed, verdict_from}
+use Rattle.rustkeys_base.specs.declared.facts.Facts.{Facts}
+use Rattle.rustkeys_base.specs.declared.parsed.ParsedArguments.{ParsedArguments}
+
+-- what is known, and the items that are left
+abbrev pub verdict_at : Bytes → Tree → Facts → Reading ArgKind → Verdict
+verdict_at dir files f r = verdict_from dir files f r.items r.cut_short
+
+module _ (dir : Bytes) (files : Tree) (f : Facts) (item : Item ArgKind) (left : Reading ArgKind) where
+  -- an item that decides nothing
+  pub verdict-more : is_misread item ≡ false → decides dir files f (token_of item) ≡ None → verdict_at dir files f (before item left) ≡ verdict_at dir files (facts_with f (token_of item ∷ [])) left
+  verdict-more accepted nothing = rw (accepted, nothing) refl
+
+  -- one that decides
+  pub verdict-decided : (v : Verdict) → is_misread item ≡ false → decides dir files f (token_of item) ≡ Some v → verdict_at dir files f (before item left) ≡ v
+  verdict-decided v accepted decided = rw (accepted, decided) refl
+
+  -- one whose value is refused
+  pub verdict-misread : is_misread item ≡ true → verdict_at dir files f (before item left) ≡ not_parsed
+  verdict-misread misread = rw misread refl
+
+-- words that can't be cut: they end where a value should come, or a value is refused
+pub verdict-uncut : (dir : Bytes) (files : Tree) (f : Facts) (old : Place) (error : ArgParseError) → FailsToCut (values_by IsFlagValue IsWordValue refuses) rustc_entries old error → (error ≡ Memory → ⊥) → verdict_at dir files f (reading_at rustc_entries old) ≡ not_parsed
+verdict-uncut dir files f old UnexpectedEndOfArgs h other = ap (verdict_at dir files f) h
+verdict-uncut dir files f old Memory h other = absurd (other refl)
+verdict-uncut dir files f old (InvalidUnicode w) h other = ap (verdict_at dir files f) h.reads ∙ verdict-misread dir files f h.item h.rest h.refused
+verdict-uncut dir files f old (Other t) h other = ap (verdict_at dir files f) h.reads ∙ verdict-misread dir files f h.item h.rest h.refused
+
+-- what nothing asks for
+pub asks-nothing : (dir : Bytes) (files : Tree) (items : List (Item ArgKind)) (answer : CompilerArguments ParsedArguments) → AsksNothing answer → IsAsked dir files items answer
+asks-nothing dir files items (answers.Ok p) h = absurd h
+asks-nothing dir files items answers.NotCompilation h = tt
+asks-nothing dir files items (answers.CannotCache reason more) h = tt
+
+-- what is asked for by what is known of all items, and by arguments that stand for those that are wanted
+pub asked : (dir : Bytes) (files same : Tree) (items : List (Item ArgKind)) (f : Facts) (kept : List (Argument ArgData)) → files ≡ same → f ≡ facts_of (map token_of items) → AllZip IsArgument (wanted items) kept
+    → (answer : CompilerArguments ParsedArguments) → IsAskedBy dir files f kept answer → IsAsked dir same items answer
+asked dir files same items f kept e known stand (answers.Ok p) h = (
+  subst (λ t. IsParsed dir t (facts_of (map token_of items)) p) e (subst (λ g. IsParsed dir files g p) known h.0),
+  subst (λ (l : List (Argument ArgData)). AllZip IsArgument (wanted items) l) (sym h.1) stand,
+)
+asked dir files same items f kept e known stand answers.NotCompilation h = tt
+asked dir files same items f kept e known stand (answers.CannotCache reason more) h = tt
+
+-- an option that has no value
+pub nothing_is : {X : Type 0} (o : Option X) → false ≡ is_some o → o ≡ None
+nothing_is None h = refl
+nothing_is (Some x) h = cc

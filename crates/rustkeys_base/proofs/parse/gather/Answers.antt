@@ -1,0 +1,60 @@
+use Rattle.std.proofs.Common.{◌≡◌, ◌∙◌, List, [], ◌∷◌, None, ap, sym, subst, append-nil, map, rules}
+use Rattle.std.specs.List.{AllZip}
+use Rattle.std.specs.Option.{option_map}
+use Rattle.cmdlines_base.specs.Cutting.{place_of, reading_at}
+use Rattle.cmdlines_base.specs.Reading.{Reading}
+use Rattle.cmdlines_base.specs.declared.argument.Argument.{Argument}
+use Rattle.rustc_options.specs.Table.{rustc_entries, rustc_reading}
+use Rattle.rustc_options.specs.declared.data.ArgData.{ArgData}
+use Rattle.rustc_options.specs.declared.kind.ArgKind.{ArgKind}
+use Rattle.rustkeys_base.specs.Facts.{facts_with}
+use Rattle.rustkeys_base.specs.Requests.{IsArgument, wanted}
+use Rattle.rustkeys_base.specs.Saying.{token_of}
+use Rattle.rustkeys_base.specs.Verdict.{decides, verdict_of}
+use Rattle.rustkeys_base.proofs.CauseLemmas.{cause-later}
+use Rattle.rustkeys_base.proofs.FactLemmas.{facts-more, facts-none}
+use Rattle.rustkeys_base.proofs.ItemLemmas.{Continues, continues-more, token_is}
+use Rattle.rustkeys_base.proofs.VerdictLemmas.{nothing_is, verdict_at, verdict-more}
+use Rattle.rustkeys_base.proofs.parse.gather.Goals as goal
+
+pub returns-in_err-why-in-Ok-clause-cause : goal.returns-in_err-why-in-Ok-clause-cause
+returns-in_err-why-in-Ok-clause-cause g c = search (rules, cause-later)
+
+pub loop-next-preserved : goal.loop-next-preserved
+loop-next-preserved g c =
+    let inv = c.loop-next.invariant in
+    let steps = rw c.in-Ok.is at c.in-Some.ensures.steps in
+    let step = rw inv.table at steps.0 in
+    let dir = c.args.dir.now in
+    let tree = g.F.Files.tree c.args.files.now in
+    let f = c.loop-next.facts in
+    let argument = c.in-Ok.argument in
+    let left = reading_at rustc_entries (place_of c.next.new.self) in
+    let all = rustc_reading c.args.words.now in
+    let none = nothing_is c.in_ok-why-in-Ok.why c.if-is_some.ensures in
+    let token = token_is step.item argument step.is in
+    let nothing : decides dir tree f (token_of step.item) ≡ None =
+    ap (λ t. decides dir t f (token_of step.item)) (sym inv.tree) ∙ ap (decides dir (g.F.Files.tree c.loop-next.files) f) (sym token) ∙ sym c.in_ok-why-in-Ok.ensures.decides ∙ ap (option_map verdict_of) none in
+    let noted : c.take.new.facts ≡ facts_with f (token_of step.item ∷ []) = (rw none at c.in_ok-why-in-Ok.ensures.noted) ∙ ap (λ t. facts_with f (t ∷ [])) token in
+    record {
+      table = steps.1 ∙ inv.table;
+      verdict = ap (λ h. verdict_at dir tree h left) noted ∙ sym (verdict-more dir tree f step.item left step.accepted nothing) ∙ ap (verdict_at dir tree f) (sym step.reads) ∙ inv.verdict;
+      facts = ap (λ h. facts_with h (map token_of left.items)) noted ∙ facts-more f (token_of step.item) (map token_of left.items) ∙ ap (λ (r : Reading ArgKind). facts_with f (map token_of r.items)) (sym step.reads) ∙ inv.facts;
+      kept = continues-more step.item left.items all.items argument c.loop-next.kept c.take.new.kept step.is (rw none at c.in_ok-why-in-Ok.ensures.kept) (subst (λ (r : Reading ArgKind). Continues r.items c.loop-next.kept all.items) step.reads inv.kept);
+      tree = c.in_ok-why-in-Ok.ensures.tree ∙ inv.tree;
+      steady = c.in_ok-why-in-Ok.ensures.steady ∙ inv.steady;
+    }
+
+pub returns-clause-gathered : goal.returns-clause-gathered
+returns-clause-gathered g c =
+    let inv = c.loop-next.invariant in
+    let steps = rw inv.table at c.in_default.ensures.steps in
+    let dir = c.args.dir.now in
+    let tree = g.F.Files.tree c.args.files.now in
+    let f = c.loop-next.facts in
+    let all = rustc_reading c.args.words.now in
+    let stands = subst (λ (r : Reading ArgKind). Continues r.items c.loop-next.kept all.items) steps.0.0 inv.kept [] tt in (
+      ap (verdict_at dir tree f) (sym steps.0.0) ∙ inv.verdict,
+      sym (facts-none f) ∙ ap (λ (r : Reading ArgKind). facts_with f (map token_of r.items)) (sym steps.0.0) ∙ inv.facts,
+      subst (λ (l : List (Argument ArgData)). AllZip IsArgument (wanted all.items) l) (append-nil c.loop-next.kept) stands,
+    )

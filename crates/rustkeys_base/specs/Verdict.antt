@@ -1,0 +1,149 @@
+-- What rustc's words come to: a request that can be cached, or why there is none.
+use Rattle.std.specs.Prelude.{Bool, true, false, not, ◌&&◌, ◌||◌, List, [], ◌∷◌, ◌++◌, Option, None, Some, is_some, codes, if◌then◌else◌, string_bytes}
+use Rattle.std.specs.List.{list_any}
+use Rattle.std.specs.Option.{option_map, option_map_or}
+use Rattle.std.specs.Str.{bytes_eq}
+use Rattle.std.specs.Str.Lossy.{utf8_lossy}
+use Rattle.os_files.specs.Bytes.{Bytes}
+use Rattle.os_files.specs.Path.{join}
+use Rattle.os_files.specs.Tree.{Tree, is_file_at}
+use Rattle.cmdlines_base.specs.Reading.{Item, Reading}
+use Rattle.cmdlines_base.specs.Values.{is_refused, values_by}
+use Rattle.cmdlines.specs.declared.compiler_arguments.CompilerArguments.{CompilerArguments}
+use Rattle.cmdlines.specs.declared.compiler_arguments.CompilerArguments.TheVariants as answers
+use Rattle.rustc_options.specs.Data.{IsFlagValue, IsWordValue, refuses}
+use Rattle.rustc_options.specs.Sets.{between_commas, joined_by_commas}
+use Rattle.rustc_options.specs.Table.{rustc_reading}
+use Rattle.rustc_options.specs.declared.data.ArgData.{ArgData}
+use Rattle.rustc_options.specs.declared.data.ArgData.TheVariants as values
+use Rattle.rustc_options.specs.declared.kind.ArgKind.{ArgKind}
+use Rattle.rustc_options.specs.declared.types.ArgTarget.{ArgTarget}
+use Rattle.rustc_options.specs.declared.types.ArgTarget.TheVariants as targets
+use Rattle.rustkeys_base.specs.Facts.{no_facts, facts_with}
+use Rattle.rustkeys_base.specs.Saying.{Token, loose, says, unread, token_of}
+use Rattle.rustkeys_base.specs.declared.deciding.Refusal.{Refusal}
+use Rattle.rustkeys_base.specs.declared.deciding.Refusal.TheVariants as refusals
+use Rattle.rustkeys_base.specs.declared.facts.Facts.{Facts}
+use Rattle.rustkeys_base.specs.declared.parsed.ParsedArguments.{ParsedArguments}
+
+-- the words ask for what can be cached, or don't compile, or can't be cached for a reason, with more text or none
+pub data Verdict : Type 0 where
+  asks : Verdict
+  not_compilation : Verdict
+  cannot_cache : Bytes → Option Bytes → Verdict
+
+-- an answer, without what is asked for and without where its texts lie in memory
+abbrev pub verdict_in : CompilerArguments ParsedArguments → Verdict
+verdict_in (answers.Ok parsed) = asks
+verdict_in answers.NotCompilation = not_compilation
+verdict_in (answers.CannotCache reason more) = cannot_cache reason.now (option_map string_bytes more)
+
+abbrev pub verdict_of : Refusal → Verdict
+verdict_of refusals.NotCompilation = not_compilation
+verdict_of (refusals.CannotCache reason more) = cannot_cache reason.now (option_map string_bytes more)
+
+-- the answer isn't one that asks for something
+abbrev pub AsksNothing : CompilerArguments ParsedArguments → Type 0
+AsksNothing (answers.Ok parsed) = ⊥
+AsksNothing answers.NotCompilation = Unit {0}
+AsksNothing (answers.CannotCache reason more) = Unit {0}
+
+-- refused for this reason, with no more text
+abbrev pub refused : Bytes → Verdict
+refused reason = cannot_cache reason None
+
+-- Each item by itself, after what is known of those before it.
+-- a second input: both are told, as text
+abbrev pub second_input : Bytes → Bytes → Verdict
+second_input previous next = cannot_cache (codes "multiple input files") (Some (codes "prev = " ++ (utf8_lossy previous ++ (codes ", next = " ++ utf8_lossy next))))
+
+-- crates of other types than `lib`, `rlib` and `staticlib`
+abbrev pub other_types : List Bytes → Option Verdict
+other_types [] = None
+other_types (name ∷ names) = Some (cannot_cache (codes "crate-type") (Some (utf8_lossy (joined_by_commas (name ∷ names)))))
+
+-- `incremental`, and `extra-filename` without a value
+abbrev pub codegen_decides : Bytes → Option Bytes → Option Verdict
+codegen_decides opt value =
+    if bytes_eq opt (codes "incremental") then Some (refused (codes "incremental"))
+    else if bytes_eq opt (codes "extra-filename") && not (is_some value) then Some (refused (codes "extra-filename"))
+    else None
+
+-- A target's name is unsure where a regular file of the directory has it, with `.json` behind it.
+abbrev pub is_unsure : Bytes → Tree → ArgTarget → Bool
+is_unsure dir files (targets.Name word) = is_file_at files (join dir (word ++ codes ".json"))
+is_unsure dir files (targets.Path path) = false
+is_unsure dir files (targets.Unsure word) = true
+
+-- an option with what it says
+abbrev pub option_decides : Bytes → Tree → Facts → Bytes → ArgData → Option Verdict
+option_decides dir files so_far flag values.TooHardFlag = Some (refused flag)
+option_decides dir files so_far flag (values.TooHardPath path) = Some (refused flag)
+option_decides dir files so_far flag values.NotCompilationFlag = Some not_compilation
+option_decides dir files so_far flag (values.NotCompilation word) = Some not_compilation
+option_decides dir files so_far flag (values.Emit kinds) = if is_some so_far.emit then Some (refused (codes "more than one --emit")) else None
+option_decides dir files so_far flag (values.CrateType types) = other_types types.others
+option_decides dir files so_far flag (values.CodeGen o) = codegen_decides o.opt o.value
+option_decides dir files so_far flag (values.Target target) = if is_unsure dir files target then Some (refused (codes "target unsure")) else None
+option_decides dir files so_far flag _ = None
+
+abbrev pub decides : Bytes → Tree → Facts → Token → Option Verdict
+decides dir files so_far (loose word) = option_map (λ previous. second_input previous word) so_far.input
+decides dir files so_far (says flag value) = option_decides dir files so_far flag value
+decides dir files so_far unread = None
+
+-- All items, once none of them decides.
+abbrev pub has_kind : Bytes → List Bytes → Bool
+has_kind name kinds = list_any (bytes_eq name) kinds
+
+-- what is emitted
+abbrev pub emitted : Facts → List Bytes
+emitted f = option_map_or between_commas f.emit []
+
+abbrev pub is_supported : Bytes → Bool
+is_supported kind = bytes_eq kind (codes "link") || (bytes_eq kind (codes "metadata") || bytes_eq kind (codes "dep-info"))
+
+abbrev pub is_unsupported : Bytes → Bool
+is_unsupported kind = not (is_supported kind)
+
+-- the words that a request needs, and then the rules on what is emitted and of which type
+abbrev pub closing : Facts → Verdict
+closing f =
+    if not (is_some f.input) then refused (codes "missing input")
+    else if not (is_some f.output_dir) then refused (codes "missing output_dir")
+    else if not (is_some f.emit) then refused (codes "missing emit")
+    else if not (is_some f.crate_name) then refused (codes "missing crate_name")
+    else if not (has_kind (codes "link") (emitted f) || has_kind (codes "metadata") (emitted f)) then not_compilation
+    else if not (f.rlib || f.staticlib) then cannot_cache (codes "crate-type") (Some (codes "No crate-type passed"))
+    else if list_any is_unsupported (emitted f) then refused (codes "unsupported --emit")
+    else asks
+
+abbrev pub not_parsed : Verdict
+not_parsed = refused (codes "argument parse")
+
+-- whether the item's value is refused
+abbrev pub is_misread : Item ArgKind → Bool
+is_misread item = is_refused (values_by IsFlagValue IsWordValue refuses) item
+
+abbrev pub unless_decided : Option Verdict → Verdict → Verdict
+unless_decided None later = later
+unless_decided (Some verdict) later = verdict
+
+-- The first item that decides does; else words that are cut short do; else the closing rules.
+abbrev pub verdict_from : Bytes → Tree → Facts → List (Item ArgKind) → Bool → Verdict
+verdict_from dir files so_far [] cut_short = if cut_short then not_parsed else closing so_far
+verdict_from dir files so_far (item ∷ items) cut_short =
+    if is_misread item then not_parsed
+    else unless_decided (decides dir files so_far (token_of item)) (verdict_from dir files (facts_with so_far (token_of item ∷ [])) items cut_short)
+
+-- A first word `rustc`, which a wrapper leaves there, is none of the request's.
+abbrev pub behind_rustc : List Bytes → List Bytes
+behind_rustc [] = []
+behind_rustc (word ∷ words) = if bytes_eq word (codes "rustc") then words else word ∷ words
+
+-- what the request's words are read as
+abbrev pub request_reading : List Bytes → Reading ArgKind
+request_reading words = rustc_reading (behind_rustc words)
+
+abbrev pub verdict_on : Bytes → Tree → Reading ArgKind → Verdict
+verdict_on dir files r = verdict_from dir files no_facts r.items r.cut_short

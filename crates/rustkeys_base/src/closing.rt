@@ -1,0 +1,251 @@
+//! What all arguments of a request come to, once none of them decides by itself.
+
+ghost use Rattle.std.specs.Prelude.{◌≡◌, Some, map, IfOk, IfErr, OnOk, MatchOption, IsPermutation};
+ghost use Rattle.std.specs.List.{list_any};
+ghost use Rattle.std.specs.List.Sorted.{IsSorted};
+ghost use Rattle.std.specs.Cmp.Lexicographic.{slice_cmp};
+ghost use Rattle.std.specs.Ordering.{nat_cmp};
+ghost use Rattle.os_files.specs.Fails.{FailsOn};
+ghost use Rattle.cmdlines.specs.Wanted.{when};
+ghost use Rattle.os_files.specs.Path.{join};
+ghost use Rattle.rustc_options.specs.Sets.{in_order};
+ghost use Rattle.response_files.specs.Causes.{CauseOf};
+ghost use Rattle.rustkeys_base.specs.Requests.{IsAskedBy, IsMadeOf, color_mode, named_by_crate, dep_info, gcno, static_libraries};
+ghost use Rattle.rustkeys_base.specs.Verdict.{asks, closing, emitted, has_kind, is_supported, is_unsupported, verdict_in, verdict_of};
+
+use crate::deciding::{Refusal, refused};
+use crate::facts::Facts;
+use crate::libraries::{joined, libraries_in};
+use crate::parsed::{CrateTypes, ParsedArguments};
+use cmdlines::compiler_arguments::{CompilerArguments, ParseFault};
+use cmdlines_base::argument::Argument;
+use cmdlines_tables::compiler::ColorMode;
+use os_files::files::Files;
+use os_files::listed::Listed;
+use os_files::os_bytes::OsBytes;
+use rustc_options::data::ArgData;
+use rustc_options::sets::{between_commas, in_order};
+use std::alloc::{AllocError, Global};
+
+/// Whether one of the kinds is of that name.
+fn has_kind(name: &[u8], kinds: &[OsBytes]) -> bool
+    ensures { result ≡ has_kind name.now kinds.now }
+{
+    kinds.iter().any(|kind| name == kind.as_bytes())
+}
+
+/// Whether what is emitted so can be cached.
+fn is_supported(kind: &[u8]) -> bool
+    ensures { result ≡ is_supported kind.now }
+{
+    kind == b"link".as_slice() || kind == b"metadata".as_slice() || kind == b"dep-info".as_slice()
+}
+
+/// Whether one of the kinds can't be cached.
+fn has_unsupported(kinds: &[OsBytes]) -> bool
+    ensures { result ≡ list_any is_unsupported kinds.now }
+{
+    kinds.iter().any(|kind| !is_supported(kind.as_bytes()))
+}
+
+/// What is emitted.
+fn emitted(alloc: Global, facts: &Facts) -> Result<Listed<OsBytes>, AllocError>
+    ensures { IfOk result (λ kinds. kinds ≡ emitted facts.now) }
+{
+    match &facts.emit {
+        None => Ok(Listed::new(alloc)),
+        Some(word) => between_commas(alloc, word.as_bytes()),
+    }
+}
+
+/// Why the arguments ask for nothing that can be cached, if they don't.
+fn refusal(alloc: Global, facts: &Facts, kinds: &[OsBytes]) -> Result<Option<Refusal>, AllocError>
+    requires { kinds.now ≡ emitted facts.now }
+    ensures { IfOk result (λ found. MatchOption found (closing facts.now ≡ asks) (λ why. verdict_of why ≡ closing facts.now)) }
+{
+    if facts.input.is_none() {
+        return Ok(Some(refused("missing input")));
+    }
+    if facts.output_dir.is_none() {
+        return Ok(Some(refused("missing output_dir")));
+    }
+    if facts.emit.is_none() {
+        return Ok(Some(refused("missing emit")));
+    }
+    if facts.crate_name.is_none() {
+        return Ok(Some(refused("missing crate_name")));
+    }
+    if !has_kind(b"link", kinds) && !has_kind(b"metadata", kinds) {
+        return Ok(Some(Refusal::NotCompilation));
+    }
+    if !facts.rlib && !facts.staticlib {
+        let more = String::from_str(alloc, "No crate-type passed")?;
+        return Ok(Some(Refusal::CannotCache("crate-type", Some(more))));
+    }
+    if has_unsupported(kinds) {
+        return Ok(Some(refused("unsupported --emit")));
+    }
+    Ok(None)
+}
+
+/// What the last word on colours says.
+fn color_mode(facts: &Facts) -> ColorMode
+    ensures { result ≡ color_mode facts.now }
+{
+    let Some(word) = &facts.color else {
+        return ColorMode::Auto;
+    };
+    if word.as_bytes() == b"always".as_slice() {
+        ColorMode::On
+    } else if word.as_bytes() == b"never".as_slice() {
+        ColorMode::Off
+    } else {
+        ColorMode::Auto
+    }
+}
+
+/// The name of a file that is named by the crate, with that ending.
+fn named_by_crate(alloc: Global, facts: &Facts, ending: &[u8]) -> Result<OsBytes, AllocError>
+    ensures { IfOk result (λ name. name ≡ named_by_crate facts.now ending.now) }
+{
+    let mut name = Vec::new(alloc);
+    if let Some(crate_name) = &facts.crate_name {
+        name.extend_from_slice(crate_name.as_bytes())?;
+    }
+    if let Some(extra) = &facts.extra_filename {
+        name.extend_from_slice(extra.as_bytes())?;
+    }
+    name.extend_from_slice(ending)?;
+    Ok(OsBytes::from_vec(name))
+}
+
+/// The same, where it is wanted.
+fn named_if(
+    alloc: Global,
+    wanted: bool,
+    facts: &Facts,
+    ending: &[u8],
+) -> Result<Option<OsBytes>, AllocError>
+    ensures { IfOk result (λ name. name ≡ when wanted (named_by_crate facts.now ending.now)) }
+{
+    if wanted {
+        Ok(Some(named_by_crate(alloc, facts, ending)?))
+    } else {
+        Ok(None)
+    }
+}
+
+/// The paths in the order of their bytes.
+fn sorted(paths: Listed<OsBytes>) -> Listed<OsBytes>
+    ensures same { IsPermutation paths result }
+    ensures sorted { IsSorted (slice_cmp nat_cmp) result }
+{
+    let mut paths = paths.into_vec();
+    paths.sort_unstable();
+    Listed::from_vec(paths)
+}
+
+/// What has to be made for a request.
+#[derive(Drop)]
+struct Made {
+    crate_link_paths: Listed<OsBytes>,
+    staticlibs: Listed<OsBytes>,
+    dep_info: Option<OsBytes>,
+    gcno: Option<OsBytes>,
+    emit: Listed<OsBytes>,
+}
+
+/// What has to be made for these arguments.
+fn made_for<F: Files>(
+    alloc: Global,
+    dir: &OsBytes,
+    facts: &Facts,
+    kinds: Listed<OsBytes>,
+    files: &mut F,
+) -> Result<Made, ParseFault>
+    requires { kinds ≡ emitted facts.now }
+    ensures paths { IfOk result (λ made. made.crate_link_paths ≡ map (join dir.now) facts.now.crate_paths) }
+    ensures libraries { IfOk result (λ made. made.staticlibs ≡ static_libraries dir.now (F.tree files.old) facts.now) }
+    ensures dep_info { IfOk result (λ made. made.dep_info ≡ dep_info facts.now) }
+    ensures gcno { IfOk result (λ made. made.gcno ≡ gcno facts.now) }
+    ensures emit { IfOk result (λ made. made.emit ≡ in_order (emitted facts.now)) }
+    ensures cause { IfErr result (CauseOf (FailsOn F.tree F.failed F.fails_on files.old files.new)) }
+    ensures tree { F.tree files.new ≡ F.tree files.old }
+    ensures steady { OnOk result (F.failed files.new ≡ F.failed files.old) }
+{
+    let links = has_kind(b"link", kinds.as_slice());
+    let depends = has_kind(b"dep-info", kinds.as_slice());
+    let dep_info = named_if(alloc, depends, facts, b".d")?;
+    let gcno = named_if(alloc, facts.asks_gcno && links, facts, b".gcno")?;
+    let crate_link_paths = joined(alloc, dir, facts.crate_paths.as_slice())?;
+    let folders = joined(alloc, dir, facts.static_paths.as_slice())?;
+    let names = facts.static_libraries.as_slice();
+    let staticlibs = libraries_in(alloc, folders.as_slice(), names, files)?;
+    Ok(Made {
+        crate_link_paths,
+        staticlibs,
+        dep_info,
+        gcno,
+        emit: in_order(alloc, kinds)?,
+    })
+}
+
+/// What these arguments ask for, where they ask for something.
+fn parsed(
+    facts: Facts,
+    made: Made,
+    links: bool,
+    arguments: Listed<Argument<ArgData>>,
+) -> ParsedArguments
+    requires asks { closing facts ≡ asks }
+    ensures output_dir { Some result.output_dir ≡ facts.output_dir }
+    ensures externs { IsPermutation facts.externs result.externs }
+    ensures sorted { IsSorted (slice_cmp nat_cmp) result.externs }
+    ensures crate_name { Some result.crate_name ≡ facts.crate_name }
+    ensures rest { IsMadeOf facts made links arguments result }
+{
+    let color_mode = color_mode(&facts);
+    let profile_use = facts.profile_use;
+    ParsedArguments {
+        arguments,
+        color_mode,
+        output_dir: facts.output_dir.unwrap(),
+        externs: sorted(facts.externs),
+        crate_link_paths: made.crate_link_paths,
+        staticlibs: made.staticlibs,
+        crate_name: facts.crate_name.unwrap(),
+        crate_types: CrateTypes {
+            rlib: facts.rlib,
+            staticlib: facts.staticlib,
+        },
+        dep_info: made.dep_info,
+        profile: if links { profile_use } else { None },
+        gcno: made.gcno,
+        emit: made.emit,
+        has_json: facts.has_json,
+        target_json: facts.target_json,
+    }
+}
+
+/// What all arguments come to.
+pub(crate) fn close<F: Files>(
+    alloc: Global,
+    dir: &OsBytes,
+    facts: Facts,
+    arguments: Listed<Argument<ArgData>>,
+    files: &mut F,
+) -> Result<CompilerArguments<ParsedArguments>, ParseFault>
+    ensures verdict { IfOk result (λ answer. verdict_in answer ≡ closing facts) }
+    ensures asked { IfOk result (IsAskedBy dir.now (F.tree files.old) facts arguments) }
+    ensures cause { IfErr result (CauseOf (FailsOn F.tree F.failed F.fails_on files.old files.new)) }
+    ensures tree { F.tree files.new ≡ F.tree files.old }
+    ensures steady { OnOk result (F.failed files.new ≡ F.failed files.old) }
+{
+    let kinds = emitted(alloc, &facts)?;
+    if let Some(why) = refusal(alloc, &facts, kinds.as_slice())? {
+        return Ok(why.into_answer());
+    }
+    let links = has_kind(b"link", kinds.as_slice());
+    let made = made_for(alloc, dir, &facts, kinds, files)?;
+    Ok(CompilerArguments::Ok(parsed(facts, made, links, arguments)))
+}

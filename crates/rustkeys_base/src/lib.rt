@@ -1,0 +1,12 @@
+//! rustc's requests: what follows from their words alone.
+#![tactic(auto)]
+
+pub mod closing;
+pub mod deciding;
+pub mod expansion;
+pub mod facts;
+pub mod libraries;
+pub mod notification;
+pub mod parse;
+pub mod parsed;
+pub mod response_text;

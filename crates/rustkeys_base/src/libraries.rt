@@ -1,0 +1,138 @@
+//! Static libraries, where they lie.
+
+ghost use Rattle.std.specs.Prelude.{◌≡◌, ◌++◌, IfOk, IfErr, OnOk, find, map, filter_map};
+ghost use Rattle.os_files.specs.Fails.{FailsOn};
+ghost use Rattle.os_files.specs.Path.{join};
+ghost use Rattle.os_files.specs.Tree.{exists_at};
+ghost use Rattle.response_files.specs.Causes.{CauseOf};
+ghost use Rattle.rustkeys_base.specs.Requests.{library_names, library_in};
+
+use cmdlines::compiler_arguments::ParseFault;
+use os_files::files::{FileFail, Files};
+use os_files::listed::Listed;
+use os_files::os_bytes::OsBytes;
+use os_files::path::join;
+use std::alloc::{AllocError, Global};
+
+/// Paths in that directory.
+pub(crate) fn joined(
+    alloc: Global,
+    dir: &OsBytes,
+    paths: &[OsBytes],
+) -> Result<Listed<OsBytes>, AllocError>
+    ensures { IfOk result (λ list. list ≡ map (join dir.now) paths.now) }
+{
+    let mut list = Vec::with_capacity(alloc, paths.len())?;
+    for path in paths {
+        list.push(join(alloc, dir.as_bytes(), path.as_bytes())?)?;
+    }
+    Ok(Listed::from_vec(list))
+}
+
+/// A file name of these three parts.
+fn file_name(
+    alloc: Global,
+    before: &[u8],
+    name: &OsBytes,
+    behind: &[u8],
+) -> Result<OsBytes, AllocError>
+    ensures { IfOk result (λ joined. joined ≡ before.now ++ (name.now ++ behind.now)) }
+{
+    let mut text = Vec::from_slice(alloc, before)?;
+    text.extend_from_slice(name.as_bytes())?;
+    text.extend_from_slice(behind)?;
+    Ok(OsBytes::from_vec(text))
+}
+
+/// The file names that a static library may have.
+fn library_names(alloc: Global, name: &OsBytes) -> Result<Listed<OsBytes>, AllocError>
+    ensures { IfOk result (λ names. names ≡ library_names name.now) }
+{
+    let mut names = Listed::new(alloc);
+    names.push(file_name(alloc, b"lib", name, b".a")?)?;
+    names.push(file_name(alloc, b"", name, b".lib")?)?;
+    names.push(file_name(alloc, b"", name, b".a")?)?;
+    Ok(names)
+}
+
+/// Whether anything is there.
+fn exists<F: Files>(alloc: Global, path: &OsBytes, files: &mut F) -> Result<bool, ParseFault>
+    ensures answer { IfOk result (λ is_there. is_there ≡ exists_at (F.tree files.old) path.now) }
+    ensures cause { IfErr result (CauseOf (FailsOn F.tree F.failed F.fails_on files.old files.new)) }
+    ensures tree { F.tree files.new ≡ F.tree files.old }
+    ensures steady { OnOk result (F.failed files.new ≡ F.failed files.old) }
+{
+    match files.exists(alloc, path) {
+        Ok(is_there) => Ok(is_there),
+        Err(FileFail::Memory) => Err(ParseFault::Memory),
+        Err(FileFail::Device) => Err(ParseFault::Read(path.clone()?)),
+    }
+}
+
+/// The first of these paths that is there.
+fn first_there<F: Files>(
+    alloc: Global,
+    paths: &[OsBytes],
+    files: &mut F,
+) -> Result<Option<OsBytes>, ParseFault>
+    ensures answer { IfOk result (λ found. found ≡ find (exists_at (F.tree files.old)) paths.now) }
+    ensures cause { IfErr result (CauseOf (FailsOn F.tree F.failed F.fails_on files.old files.new)) }
+    ensures tree { F.tree files.new ≡ F.tree files.old }
+    ensures steady { OnOk result (F.failed files.new ≡ F.failed files.old) }
+{
+    let mut rest = paths;
+    while let Some((path, more)) = rest.split_first() {
+        if exists(alloc, path, files)? {
+            return Ok(Some(path.clone()?));
+        }
+        rest = more;
+    }
+    Ok(None)
+}
+
+/// The static library of that name, in the first of the folders that has it.
+fn library_in<F: Files>(
+    alloc: Global,
+    folders: &[OsBytes],
+    name: &OsBytes,
+    files: &mut F,
+) -> Result<Option<OsBytes>, ParseFault>
+    ensures answer { IfOk result (λ found. found ≡ library_in (F.tree files.old) folders.now name.now) }
+    ensures cause { IfErr result (CauseOf (FailsOn F.tree F.failed F.fails_on files.old files.new)) }
+    ensures tree { F.tree files.new ≡ F.tree files.old }
+    ensures steady { OnOk result (F.failed files.new ≡ F.failed files.old) }
+{
+    let names = library_names(alloc, name)?;
+    let mut rest = folders;
+    while let Some((folder, more)) = rest.split_first() {
+        let paths = joined(alloc, folder, names.as_slice())?;
+        if let Some(path) = first_there(alloc, paths.as_slice(), files)? {
+            return Ok(Some(path));
+        }
+        rest = more;
+    }
+    Ok(None)
+}
+
+/// The static libraries of these names that are there, in the folders.
+pub(crate) fn libraries_in<F: Files>(
+    alloc: Global,
+    folders: &[OsBytes],
+    names: &[OsBytes],
+    files: &mut F,
+) -> Result<Listed<OsBytes>, ParseFault>
+    ensures answer { IfOk result (λ found. found ≡ filter_map (library_in (F.tree files.old) folders.now) names.now) }
+    ensures cause { IfErr result (CauseOf (FailsOn F.tree F.failed F.fails_on files.old files.new)) }
+    ensures tree { F.tree files.new ≡ F.tree files.old }
+    ensures steady { OnOk result (F.failed files.new ≡ F.failed files.old) }
+{
+    let mut found = Vec::new(alloc);
+    let mut rest = names;
+    while let Some((name, more)) = rest.split_first() {
+        if let Some(path) = library_in(alloc, folders, name, files)? {
+            found.push(path)?;
+        }
+        rest = more;
+    }
+    Ok(Listed::from_vec(found))
+}

@@ -1,0 +1,184 @@
+//! The parse of rustc's words: they are cut by its table, and what they say is gathered and closed.
+
+ghost use Rattle.std.specs.Prelude.{◌≡◌, ◌↔◌, [], ◌∷◌, alloc_error, IfOk, IfErr, IsErrOf, OnOk, MatchOption};
+ghost use Rattle.os_files.specs.Fails.{FailsOn};
+ghost use Rattle.response_files.specs.Causes.{CauseOf};
+ghost use Rattle.rustkeys_base.specs.Expansion.{expanded_by_rustc};
+ghost use Rattle.std.specs.Option.{option_map};
+ghost use Rattle.rustc_options.specs.Table.{rustc_entries, rustc_reading};
+ghost use Rattle.rustkeys_base.specs.Facts.{no_facts, facts_with};
+ghost use Rattle.rustkeys_base.specs.Requests.{Gathers, IsAsked, kept_with};
+ghost use Rattle.rustkeys_base.specs.Saying.{token_in};
+ghost use Rattle.rustkeys_base.specs.Verdict.{behind_rustc, decides, request_reading, verdict_in, verdict_of, verdict_on, not_parsed};
+
+use crate::closing::close;
+use crate::deciding::{Refusal, decides, refused};
+use crate::expansion::expand_rustc;
+use crate::facts::Facts;
+use crate::parsed::ParsedArguments;
+use cmdlines::compiler_arguments::{CompilerArguments, ParseFault};
+use cmdlines_base::argument::{Argument, NormalizedDisposition};
+use cmdlines_base::argument_error::ArgParseError;
+use cmdlines_base::cutting::ArgsIter;
+use cmdlines_base::table::Table;
+use os_files::files::Files;
+use os_files::listed::Listed;
+use os_files::os_bytes::OsBytes;
+use rustc_options::data::ArgData;
+use rustc_options::table::rustc_table;
+use std::alloc::{AllocError, Global};
+
+/// The words of the request: a first word `rustc`, which a wrapper leaves there, is none of them.
+fn behind_rustc(words: &[OsBytes]) -> &[OsBytes]
+    ensures { result.now ≡ behind_rustc words.now }
+{
+    match words.split_first() {
+        Some((word, rest)) if word.as_bytes() == b"rustc".as_slice() => rest,
+        _ => words,
+    }
+}
+
+/// What words come to that can't be cut.
+fn not_cut(error: ArgParseError) -> Result<Refusal, AllocError>
+    ensures answer { IfOk result (λ why. verdict_of why ≡ not_parsed) }
+    ensures error { IsErrOf result alloc_error ↔ (error ≡ ArgParseError.Memory) }
+{
+    match error {
+        ArgParseError::Memory => Err(AllocError),
+        ArgParseError::UnexpectedEndOfArgs
+        | ArgParseError::InvalidUnicode(_)
+        | ArgParseError::Other(_) => Ok(refused("argument parse")),
+    }
+}
+
+/// Adds an argument, apart from its value where it may stand either way; one on colours is left out.
+fn keep(
+    arguments: &mut Listed<Argument<ArgData>>,
+    argument: Argument<ArgData>,
+) -> Result<(), AllocError>
+    ensures { OnOk result (arguments.new ≡ kept_with arguments.old argument) }
+{
+    if let Some(ArgData::Color(_)) = argument.get_data() {
+        return Ok(());
+    }
+    arguments.push(argument.normalize(NormalizedDisposition::Separated))
+}
+
+/// Notes an argument, unless it decides by itself.
+fn note<F: Files>(
+    alloc: Global,
+    dir: &OsBytes,
+    facts: &mut Facts,
+    argument: &Argument<ArgData>,
+    files: &mut F,
+) -> Result<Option<Refusal>, ParseFault>
+    ensures decides { IfOk result (λ why. option_map verdict_of why ≡ decides dir.now (F.tree files.old) facts.old (token_in argument.now)) }
+    ensures noted { IfOk result (λ why. MatchOption why (facts.new ≡ facts_with facts.old (token_in argument.now ∷ [])) (λ decided. Unit {0})) }
+    ensures cause { IfErr result (CauseOf (FailsOn F.tree F.failed F.fails_on files.old files.new)) }
+    ensures tree { F.tree files.new ≡ F.tree files.old }
+    ensures steady { OnOk result (F.failed files.new ≡ F.failed files.old) }
+{
+    let why = decides(alloc, dir, facts, argument, files)?;
+    if why.is_none() {
+        facts.note(argument)?;
+    }
+    Ok(why)
+}
+
+/// Takes an argument to those that are kept, unless it decides by itself.
+fn take<F: Files>(
+    alloc: Global,
+    dir: &OsBytes,
+    facts: &mut Facts,
+    kept: &mut Listed<Argument<ArgData>>,
+    argument: Argument<ArgData>,
+    files: &mut F,
+) -> Result<Option<Refusal>, ParseFault>
+    ensures decides { IfOk result (λ why. option_map verdict_of why ≡ decides dir.now (F.tree files.old) facts.old (token_in argument)) }
+    ensures noted { IfOk result (λ why. MatchOption why (facts.new ≡ facts_with facts.old (token_in argument ∷ [])) (λ decided. Unit {0})) }
+    ensures kept { IfOk result (λ why. MatchOption why (kept.new ≡ kept_with kept.old argument) (λ decided. Unit {0})) }
+    ensures cause { IfErr result (CauseOf (FailsOn F.tree F.failed F.fails_on files.old files.new)) }
+    ensures tree { F.tree files.new ≡ F.tree files.old }
+    ensures steady { OnOk result (F.failed files.new ≡ F.failed files.old) }
+{
+    let why = note(alloc, dir, facts, &argument, files)?;
+    if why.is_some() {
+        return Ok(why);
+    }
+    keep(kept, argument)?;
+    Ok(None)
+}
+
+/// Gathers what the words say, as far as none decides by itself.
+fn gather<F: Files>(
+    alloc: Global,
+    table: &Table<ArgData>,
+    words: &[OsBytes],
+    dir: &OsBytes,
+    facts: &mut Facts,
+    kept: &mut Listed<Argument<ArgData>>,
+    files: &mut F,
+) -> Result<Option<Refusal>, ParseFault>
+    requires table { table.now ≡ rustc_entries }
+    requires facts { facts.old ≡ no_facts }
+    requires kept { kept.old ≡ [] }
+    ensures gathered { IfOk result (Gathers dir.now (F.tree files.old) (rustc_reading words.now) facts.new kept.new) }
+    ensures cause { IfErr result (CauseOf (FailsOn F.tree F.failed F.fails_on files.old files.new)) }
+    ensures tree { F.tree files.new ≡ F.tree files.old }
+    ensures steady { OnOk result (F.failed files.new ≡ F.failed files.old) }
+{
+    let mut arguments = ArgsIter::new(alloc, words, table);
+    while let Some(next) = arguments.next() {
+        match next {
+            Err(error) => return Ok(Some(not_cut(error)?)),
+            Ok(argument) => {
+                let why = take(alloc, dir, facts, kept, argument, files)?;
+                if why.is_some() {
+                    return Ok(why);
+                }
+            }
+        }
+    }
+    Ok(None)
+}
+
+/// What words come to, with no file of words opened.
+fn parse<F: Files>(
+    alloc: Global,
+    words: &[OsBytes],
+    dir: &OsBytes,
+    files: &mut F,
+) -> Result<CompilerArguments<ParsedArguments>, ParseFault>
+    ensures verdict { IfOk result (λ answer. verdict_in answer ≡ verdict_on dir.now (F.tree files.old) (request_reading words.now)) }
+    ensures asked { IfOk result (IsAsked dir.now (F.tree files.old) (request_reading words.now).items) }
+    ensures cause { IfErr result (CauseOf (FailsOn F.tree F.failed F.fails_on files.old files.new)) }
+    ensures tree { F.tree files.new ≡ F.tree files.old }
+    ensures steady { OnOk result (F.failed files.new ≡ F.failed files.old) }
+{
+    let table = rustc_table(alloc)?;
+    let words = behind_rustc(words);
+    let mut facts = Facts::new(alloc);
+    let mut kept = Listed::new(alloc);
+    match gather(alloc, &table, words, dir, &mut facts, &mut kept, files)? {
+        Some(why) => Ok(why.into_answer()),
+        None => close(alloc, dir, facts, kept, files),
+    }
+}
+
+/// What these words come to as a request to rustc, with the files of words that they name opened from that directory. `Read` names
+/// a file on which the device failed.
+pub fn parse_arguments<F: Files>(
+    alloc: Global,
+    words: &[OsBytes],
+    dir: &OsBytes,
+    files: &mut F,
+) -> Result<CompilerArguments<ParsedArguments>, ParseFault>
+    ensures verdict { IfOk result (λ answer. verdict_in answer ≡ verdict_on dir.now (F.tree files.old) (request_reading (expanded_by_rustc dir.now (F.tree files.old) words.now))) }
+    ensures asked { IfOk result (IsAsked dir.now (F.tree files.old) (request_reading (expanded_by_rustc dir.now (F.tree files.old) words.now)).items) }
+    ensures cause { IfErr result (CauseOf (FailsOn F.tree F.failed F.fails_on files.old files.new)) }
+    ensures tree { F.tree files.new ≡ F.tree files.old }
+    ensures steady { OnOk result (F.failed files.new ≡ F.failed files.old) }
+{
+    let expanded = expand_rustc(alloc, dir, words, files)?;
+    parse(alloc, expanded.as_slice(), dir, files)
+}

@@ -1,0 +1,26 @@
+//! The words of the text of one of rustc's files of words.
+
+ghost use Rattle.std.specs.Prelude.{◌≡◌, IfOk};
+ghost use Rattle.rustkeys_base.specs.Lines.{rustc_lines};
+
+use os_files::listed::Listed;
+use os_files::os_bytes::OsBytes;
+use std::alloc::{AllocError, Global};
+
+/// The lines of a text without the white space around each, but for those that are empty then: rustc takes each as one word.
+pub fn split_rust_response_file_args(
+    alloc: Global,
+    text: &str,
+) -> Result<Listed<OsBytes>, AllocError>
+    ensures words { IfOk result (λ words. words ≡ rustc_lines text.now) }
+{
+    let mut words = Vec::new(alloc);
+    for line in text
+        .split('\n')
+        .map(str::trim)
+        .filter(|line| !line.is_empty())
+    {
+        words.push(OsBytes::from_slice(alloc, line.as_bytes())?)?;
+    }
+    Ok(Listed::from_vec(words))
+}
