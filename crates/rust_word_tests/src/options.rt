@@ -54,12 +54,10 @@ fn elsewhere(alloc: Global) -> Option<String> {
 }
 
 /// Kinds with a word, and the text of their value where each path is `/there`.
-const TEXTS: [(ArgKind, &str, &str); 15] = [
+const TEXTS: [(ArgKind, &str, &str); 13] = [
     (ArgKind::TooHardPath, "/s", "/there"),
     (ArgKind::NotCompilation, "E1", "E1"),
     (ArgKind::LinkLibrary, "bar", "dylib=bar"),
-    (ArgKind::LinkPath, "p", "all=/there"),
-    (ArgKind::Extern, "a=b", "a=/there"),
     (ArgKind::Emit, "link,asm", "link,asm"),
     (ArgKind::Color, "always", "always"),
     (ArgKind::Json, "artifacts", "artifacts"),

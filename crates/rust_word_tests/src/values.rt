@@ -149,15 +149,6 @@ fn the_path_of_a_target_is_transformed(rt: HostRuntime) -> Result<(), Fail> {
     Ok(())
 }
 
-/// A path behind a name or a kind is moved, and what stands before it stays.
-#[test]
-fn paths_behind_names_are_transformed(rt: HostRuntime) -> Result<(), Fail> {
-    let alloc = rt.alloc();
-    let folders = [("native=o", "native=/there/o"), ("p", "all=/there/p")];
-    each_reads::<ArgLinkPath>(&rt, alloc, &folders)?;
-    each_reads::<ArgExtern>(&rt, alloc, &[("a=b=c", "a=/there/b=c")])
-}
-
 /// A path as it stands.
 fn in_place(alloc: Global, path: &[u8]) -> Option<String> {
     let path = OsBytes::from_slice(alloc, path).ok()?;

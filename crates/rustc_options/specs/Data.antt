@@ -75,9 +75,6 @@ link_path_of word = link_path_by (before_equals word) (behind_equals word)
 abbrev pub link_path_word : ArgLinkPath → Bytes
 link_path_word l = with_equals l.kind l.path
 
-abbrev pub link_path_in : ArgLinkPath → Option (Bytes × Bytes)
-link_path_in l = Some (with_equals l.kind [], l.path)
-
 abbrev pub option_of : Bytes → ArgOption
 option_of word = record { opt = before_equals word; value = behind_equals word }
 
@@ -91,9 +88,6 @@ extern_of word = record { name = before_equals word; path = unwrap_or (behind_eq
 abbrev pub extern_word : ArgExtern → Bytes
 extern_word e = with_equals e.name e.path
 
-abbrev pub extern_path_in : ArgExtern → Option (Bytes × Bytes)
-extern_path_in e = Some (with_equals e.name [], e.path)
-
 -- one with the extension `json` is a path
 abbrev pub names_json : Bytes → Bool
 names_json word = option_map_or (λ e. bytes_eq e (codes "json")) (extension word) false
@@ -106,9 +100,9 @@ target_word (targets.Name word) = word
 target_word (targets.Path word) = word
 target_word (targets.Unsure word) = word
 
-abbrev pub target_path_in : ArgTarget → Option (Bytes × Bytes)
-target_path_in (targets.Path word) = Some ([], word)
-target_path_in _ = None
+abbrev pub is_target_path : ArgTarget → Bool
+is_target_path (targets.Path word) = true
+is_target_path _ = false
 
 -- what an option of that kind says with that word
 abbrev pub data_of : ArgKind → Bytes → ArgData
@@ -168,14 +162,12 @@ word_of (values.PassThrough w) = w
 word_of (values.Target t) = target_word t
 word_of (values.Unstable o) = option_word o
 
--- where its word ends in a path: what stands before that, and the path
-abbrev pub path_in : ArgData → Option (Bytes × Bytes)
-path_in (values.TooHardPath w) = Some ([], w)
-path_in (values.OutDir w) = Some ([], w)
-path_in (values.LinkPath l) = link_path_in l
-path_in (values.Extern e) = extern_path_in e
-path_in (values.Target t) = target_path_in t
-path_in _ = None
+-- a path as a whole
+abbrev pub is_path : ArgData → Bool
+is_path (values.TooHardPath w) = true
+is_path (values.OutDir w) = true
+is_path (values.Target t) = is_target_path t
+is_path _ = false
 
 -- all print the word that they read, but a library, a link path and crate types
 abbrev pub prints_its_word : ArgKind → Bool

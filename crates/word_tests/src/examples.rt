@@ -1,6 +1,6 @@
 //! Values and a table for the tests.
 
-ghost use Rattle.std.specs.Prelude.{◌≡◌, ◌&&◌, ◌||◌, ◌==◌, not, length, [], None, Some, true, unwrap_or, if◌then◌else◌};
+ghost use Rattle.std.specs.Prelude.{◌≡◌, ◌&&◌, ◌||◌, ◌==◌, not, length, [], None, Some, true, unwrap_or};
 ghost use Rattle.std.proofs.Common.{ap};
 ghost use Rattle.std.specs.Str.{is_utf8};
 
@@ -55,7 +55,7 @@ impl Value {
 impl IntoArg for Value {
     ghost word = { λ value. unwrap_or value.word [] };
 
-    ghost path = { λ value. if value.is_path then Some ([], unwrap_or value.word []) else None };
+    ghost is_path = { λ value. value.is_path };
 
     fn into_arg_os_string(&self, alloc: Global) -> Result<OsBytes, AllocError> {
         OsBytes::from_slice(alloc, self.bytes())
@@ -67,7 +67,7 @@ impl IntoArg for Value {
         path_transformer: &mut F,
     ) -> ArgToStringResult {
         if self.is_path {
-            path_to_string(alloc, &[], self.bytes(), path_transformer)
+            path_to_string(alloc, self.bytes(), path_transformer)
         } else {
             word_to_string(alloc, self.bytes())
         }
