@@ -1,5 +1,5 @@
 -- Values and arguments as texts, by what a transformer of paths answers.
-use Rattle.std.specs.Prelude.{◌≡◌, ℕ, Bool, true, false, ◌⊎◌, List, [], ◌∷◌, Option, None, Some, Result, Ok, Err, String, string_bytes}
+use Rattle.std.specs.Prelude.{◌≡◌, ℕ, false, ◌⊎◌, List, [], ◌∷◌, ◌++◌, Option, None, Some, Result, Ok, Err, String, string_bytes}
 use Rattle.std.specs.Borrow.{Bor}
 use Rattle.std.specs.Fn.{Mut, CalledAt}
 use Rattle.std.specs.Str.{is_utf8}
@@ -21,21 +21,21 @@ WordText word (Err (FailedPathTransform path)) = ⊥
 WordText word (Err Memory) = Unit {0}
 
 module _ {F : Type 0} (g : Mut F (Bor Bytes × Unit {0}) (Option Text)) where
-  -- a path as text: the transformer was called once at it, and gave the text or none
-  abbrev pub PathText : Bytes → F → Result Text ArgToStringError → F → Type 0
-  PathText path f (Ok text) f' = CalledAt g f path (Some text) f'
-  PathText path f (Err (FailedPathTransform failed)) f' = (failed ≡ path) × CalledAt g f path None f'
-  PathText path f (Err (InvalidUnicode bytes)) f' = ⊥
-  PathText path f (Err Memory) f' = CalledAt g f path None f'
+  -- a path behind what stands before it, as text: the transformer was called once at the path, and gave a text for it or none; where memory is wanted it may not have been called
+  abbrev pub PathText : Bytes → Bytes → F → Result Text ArgToStringError → F → Type 0
+  PathText front path f (Ok text) f' = (given : Text) × CalledAt g f path (Some given) f' × (string_bytes text ≡ front ++ string_bytes given)
+  PathText front path f (Err (FailedPathTransform failed)) f' = (failed ≡ path) × CalledAt g f path None f'
+  PathText front path f (Err (InvalidUnicode bytes)) f' = (given : Text) × CalledAt g f path (Some given) f' × (bytes ≡ front ++ string_bytes given) × (is_utf8 bytes ≡ false)
+  PathText front path f (Err Memory) f' = (f' ≡ f) ⊎ ((given : Option Text) × CalledAt g f path given f')
 
-  -- a value as text, which only a path asks the transformer for
-  abbrev pub ValueText : Bool → Bytes → F → Result Text ArgToStringError → F → Type 0
-  ValueText false word f r f' = WordText word r × (f' ≡ f)
-  ValueText true path f r f' = PathText path f r f'
+  -- a value as text, which asks the transformer only for a path
+  abbrev pub ValueText : Option (Bytes × Bytes) → Bytes → F → Result Text ArgToStringError → F → Type 0
+  ValueText None word f r f' = WordText word r × (f' ≡ f)
+  ValueText (Some (front, path)) word f r f' = PathText front path f r f'
 
-module _ {F T : Type 0} (g : Mut F (Bor Bytes × Unit {0}) (Option Text)) (word : T → Bytes) (is_path : T → Bool) where
+module _ {F T : Type 0} (g : Mut F (Bor Bytes × Unit {0}) (Option Text)) (word : T → Bytes) (path : T → Option (Bytes × Bytes)) where
   abbrev TextOf : T → F → Result Text ArgToStringError → F → Type 0
-  TextOf value f r f' = ValueText g (is_path value) (word value) f r f'
+  TextOf value f r f' = ValueText g (path value) (word value) f r f'
 
   -- a flag with its value as text behind it; the delimiter is dropped where the text is empty
   abbrev pub JoinedText : Bytes → Option ℕ → T → F → Result Text ArgToStringError → F → Type 0

@@ -66,7 +66,7 @@ impl<'a, T: IntoArg> Piece<'a, T> {
         path_transformer: &mut F,
     ) -> ArgToStringResult
         requires { F.IsAlwaysCallable path_transformer.old }
-        ensures text { PartText F.FnMut T.word T.is_path (part_of self.now) path_transformer.old result path_transformer.new }
+        ensures text { PartText F.FnMut T.word T.path (part_of self.now) path_transformer.old result path_transformer.new }
         ensures callable { F.IsAlwaysCallable path_transformer.new }
     {
         match self {
@@ -174,7 +174,7 @@ impl<'a, T: IntoArg, F: FnMut(&[u8]) -> Option<String>> Iterator for IterStrings
 
     ghost can_next = { λ s. F.IsAlwaysCallable (transformer_in s) };
 
-    ghost next_gives = { λ s r t. GivesText F.FnMut T.word T.is_path (texts_left s) (transformer_in s) r (texts_left t) (transformer_in t) };
+    ghost next_gives = { λ s r t. GivesText F.FnMut T.word T.path (texts_left s) (transformer_in s) r (texts_left t) (transformer_in t) };
 
     ghost remaining = { λ s. at_most (length (texts_left s)) };
 

@@ -1,6 +1,6 @@
 //! Values of arguments: what is read from a word, and printed as a word or a text again.
 
-ghost use Rattle.std.specs.Prelude.{◌≡◌, Bool, true, false, IfOk, IfErr, OnOk, string_bytes};
+ghost use Rattle.std.specs.Prelude.{◌≡◌, Bool, true, false, Option, IfOk, IfErr, OnOk, string_bytes};
 ghost use Rattle.std.specs.Str.{is_utf8};
 ghost use Rattle.os_files.specs.Bytes.{Bytes};
 ghost use Rattle.cmdlines_base.specs.Refusal.{OnRefusal};
@@ -30,22 +30,22 @@ pub trait IntoArg: Drop {
     /// The word that prints it.
     ghost word: { Self → Bytes };
 
-    /// Whether it's a path, whose text a transformer gives.
-    ghost is_path: { Self → Bool };
+    /// Where its word ends in a path, what stands before that path, and the path, whose text a transformer gives.
+    ghost path: { Self → Option (Bytes × Bytes) };
 
     /// The word that prints the value.
     fn into_arg_os_string(&self, alloc: Global) -> Result<OsBytes, AllocError>
         ensures { IfOk result (λ printed. printed ≡ word self.now) };
 
-    /// The value as text: a path's is what the transformer answers for its bytes, and it is asked once; any other
-    /// value's is its word, and the transformer isn't asked.
+    /// The value as text: a path's is what the transformer answers for its bytes, and it is asked once, behind what stands before
+    /// the path; any other value's is its word, and the transformer isn't asked.
     fn into_arg_string<F: FnMut(&[u8]) -> Option<String>>(
         &self,
         alloc: Global,
         path_transformer: &mut F,
     ) -> ArgToStringResult
         requires { F.IsAlwaysCallable path_transformer.old }
-        ensures text { ValueText F.FnMut (is_path self.now) (word self.now) path_transformer.old result path_transformer.new }
+        ensures text { ValueText F.FnMut (path self.now) (word self.now) path_transformer.old result path_transformer.new }
         ensures callable { F.IsAlwaysCallable path_transformer.new };
 }
 
@@ -101,22 +101,26 @@ pub fn word_to_string(alloc: Global, word: &[u8]) -> ArgToStringResult
     }
 }
 
-/// A path as text: what the transformer answers.
+/// A path as text, behind what stands before it: what the transformer answers.
 pub fn path_to_string<F: FnMut(&[u8]) -> Option<String>>(
     alloc: Global,
+    front: &[u8],
     path: &[u8],
     path_transformer: &mut F,
 ) -> ArgToStringResult
     requires { F.IsAlwaysCallable path_transformer.old }
-    ensures text { PathText F.FnMut path.now path_transformer.old result path_transformer.new }
+    ensures text { PathText F.FnMut front.now path.now path_transformer.old result path_transformer.new }
     ensures callable { F.IsAlwaysCallable path_transformer.new }
 {
-    match path_transformer(path) {
-        Some(text) => Ok(text),
-        None => {
-            let failed = OsBytes::from_slice(alloc, path)?;
-            Err(ArgToStringError::FailedPathTransform(failed))
-        }
+    let Some(text) = path_transformer(path) else {
+        let failed = OsBytes::from_slice(alloc, path)?;
+        return Err(ArgToStringError::FailedPathTransform(failed));
+    };
+    let mut whole = Vec::from_slice(alloc, front)?;
+    whole.extend_from_slice(text.as_bytes())?;
+    match into_text(OsBytes::from_vec(whole)) {
+        Ok(whole) => Ok(whole),
+        Err(broken) => Err(ArgToStringError::InvalidUnicode(broken)),
     }
 }
 
@@ -134,11 +138,11 @@ impl FromArg for OsBytes {
 }
 
 impl IntoArg for OsBytes {
-    ghost use Rattle.std.specs.Prelude.{false};
+    ghost use Rattle.std.specs.Prelude.{None};
 
     ghost word = { λ bytes. bytes };
 
-    ghost is_path = { λ _. false };
+    ghost path = { λ _. None };
 
     fn into_arg_os_string(&self, _alloc: Global) -> Result<OsBytes, AllocError> {
         self.clone()
@@ -196,11 +200,11 @@ impl FromArg for String {
 }
 
 impl IntoArg for String {
-    ghost use Rattle.std.specs.Prelude.{string_bytes, false};
+    ghost use Rattle.std.specs.Prelude.{string_bytes, None};
 
     ghost word = { string_bytes };
 
-    ghost is_path = { λ _. false };
+    ghost path = { λ _. None };
 
     fn into_arg_os_string(&self, alloc: Global) -> Result<OsBytes, AllocError> {
         OsBytes::from_slice(alloc, self.as_bytes())
@@ -255,11 +259,11 @@ impl FromArg for () {
 }
 
 impl IntoArg for () {
-    ghost use Rattle.std.specs.Prelude.{[], false};
+    ghost use Rattle.std.specs.Prelude.{[], None};
 
     ghost word = { λ _. [] };
 
-    ghost is_path = { λ _. false };
+    ghost path = { λ _. None };
 
     fn into_arg_os_string(&self, alloc: Global) -> Result<OsBytes, AllocError> {
         Ok(OsBytes::empty(alloc))

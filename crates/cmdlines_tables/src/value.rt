@@ -17,12 +17,12 @@ pub enum ArgData {
 }
 
 impl IntoArg for ArgData {
-    ghost use Rattle.std.specs.Prelude.{false};
+    ghost use Rattle.std.specs.Prelude.{None};
     ghost use Rattle.cmdlines_tables.specs.Values.{word_in};
 
     ghost word = { word_in };
 
-    ghost is_path = { λ _. false };
+    ghost path = { λ _. None };
 
     fn into_arg_os_string(&self, alloc: Global) -> Result<OsBytes, AllocError> {
         OsBytes::from_slice(alloc, self.word())

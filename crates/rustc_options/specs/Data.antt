@@ -75,6 +75,9 @@ link_path_of word = link_path_by (before_equals word) (behind_equals word)
 abbrev pub link_path_word : ArgLinkPath → Bytes
 link_path_word l = with_equals l.kind l.path
 
+abbrev pub link_path_in : ArgLinkPath → Option (Bytes × Bytes)
+link_path_in l = Some (with_equals l.kind [], l.path)
+
 abbrev pub option_of : Bytes → ArgOption
 option_of word = record { opt = before_equals word; value = behind_equals word }
 
@@ -88,6 +91,9 @@ extern_of word = record { name = before_equals word; path = unwrap_or (behind_eq
 abbrev pub extern_word : ArgExtern → Bytes
 extern_word e = with_equals e.name e.path
 
+abbrev pub extern_path_in : ArgExtern → Option (Bytes × Bytes)
+extern_path_in e = Some (with_equals e.name [], e.path)
+
 -- one with the extension `json` is a path
 abbrev pub names_json : Bytes → Bool
 names_json word = option_map_or (λ e. bytes_eq e (codes "json")) (extension word) false
@@ -100,9 +106,9 @@ target_word (targets.Name word) = word
 target_word (targets.Path word) = word
 target_word (targets.Unsure word) = word
 
-abbrev pub is_target_path : ArgTarget → Bool
-is_target_path (targets.Path word) = true
-is_target_path _ = false
+abbrev pub target_path_in : ArgTarget → Option (Bytes × Bytes)
+target_path_in (targets.Path word) = Some ([], word)
+target_path_in _ = None
 
 -- what an option of that kind says with that word
 abbrev pub data_of : ArgKind → Bytes → ArgData
@@ -162,12 +168,14 @@ word_of (values.PassThrough w) = w
 word_of (values.Target t) = target_word t
 word_of (values.Unstable o) = option_word o
 
--- a path as a whole
-abbrev pub is_path : ArgData → Bool
-is_path (values.TooHardPath w) = true
-is_path (values.OutDir w) = true
-is_path (values.Target t) = is_target_path t
-is_path _ = false
+-- where its word ends in a path: what stands before that, and the path
+abbrev pub path_in : ArgData → Option (Bytes × Bytes)
+path_in (values.TooHardPath w) = Some ([], w)
+path_in (values.OutDir w) = Some ([], w)
+path_in (values.LinkPath l) = link_path_in l
+path_in (values.Extern e) = extern_path_in e
+path_in (values.Target t) = target_path_in t
+path_in _ = None
 
 -- all print the word that they read, but a library, a link path and crate types
 abbrev pub prints_its_word : ArgKind → Bool

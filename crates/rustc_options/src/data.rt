@@ -32,11 +32,11 @@ pub enum ArgData {
 }
 
 impl IntoArg for ArgData {
-    ghost use Rattle.rustc_options.specs.Data.{word_of, is_path};
+    ghost use Rattle.rustc_options.specs.Data.{word_of, path_in};
 
     ghost word = { word_of };
 
-    ghost is_path = { is_path };
+    ghost path = { path_in };
 
     fn into_arg_os_string(&self, alloc: Global) -> Result<OsBytes, AllocError> {
         match self {
@@ -67,9 +67,11 @@ impl IntoArg for ArgData {
     ) -> ArgToStringResult {
         match self {
             ArgData::TooHardPath(path) | ArgData::OutDir(path) => {
-                path_to_string(alloc, path.as_bytes(), path_transformer)
+                path_to_string(alloc, &[], path.as_bytes(), path_transformer)
             }
             ArgData::Target(target) => target.into_arg_string(alloc, path_transformer),
+            ArgData::LinkPath(folder) => folder.into_arg_string(alloc, path_transformer),
+            ArgData::Extern(named) => named.into_arg_string(alloc, path_transformer),
             other => {
                 let word = other.into_arg_os_string(alloc)?;
                 word_to_string(alloc, word.as_bytes())

@@ -1,6 +1,8 @@
 //! What the words of rustc's options say.
 
-ghost use Rattle.std.specs.Prelude.{◌≡◌, IfOk};
+ghost use Rattle.std.specs.Prelude.{◌≡◌, [], IfOk};
+ghost use Rattle.cmdlines_base.specs.Texts.{PathText};
+ghost use Rattle.rustc_options.specs.Splitting.{with_equals};
 ghost use Rattle.rustc_options.specs.Data.{is_rlib, is_staticlib, crate_types_of, crate_type_names, names_json};
 
 use crate::sets::{between_commas, in_order, joined_by_commas};
@@ -137,12 +139,12 @@ impl FromArg for ArgCrateTypes {
 
 /// Crate types are printed in the order of their bytes.
 impl IntoArg for ArgCrateTypes {
-    ghost use Rattle.std.specs.Prelude.{false};
+    ghost use Rattle.std.specs.Prelude.{None};
     ghost use Rattle.rustc_options.specs.Data.{crate_types_word};
 
     ghost word = { crate_types_word };
 
-    ghost is_path = { λ _. false };
+    ghost path = { λ _. None };
 
     fn into_arg_os_string(&self, alloc: Global) -> Result<OsBytes, AllocError> {
         let names = in_order(alloc, crate_type_names(alloc, self)?)?;
@@ -181,12 +183,12 @@ impl FromArg for ArgLinkLibrary {
 }
 
 impl IntoArg for ArgLinkLibrary {
-    ghost use Rattle.std.specs.Prelude.{false};
+    ghost use Rattle.std.specs.Prelude.{None};
     ghost use Rattle.rustc_options.specs.Data.{link_library_word};
 
     ghost word = { link_library_word };
 
-    ghost is_path = { λ _. false };
+    ghost path = { λ _. None };
 
     fn into_arg_os_string(&self, alloc: Global) -> Result<OsBytes, AllocError> {
         with_equals(alloc, self.kind.as_bytes(), self.name.as_bytes())
@@ -200,6 +202,21 @@ impl IntoArg for ArgLinkLibrary {
         let library = self.into_arg_os_string(alloc)?;
         word_to_string(alloc, library.as_bytes())
     }
+}
+
+/// A path behind a name and a `=`, as text.
+fn behind_equals_to_string<F: FnMut(&[u8]) -> Option<String>>(
+    alloc: Global,
+    name: &OsBytes,
+    path: &OsBytes,
+    path_transformer: &mut F,
+) -> ArgToStringResult
+    requires { F.IsAlwaysCallable path_transformer.old }
+    ensures text { PathText F.FnMut (with_equals name.now []) path.now path_transformer.old result path_transformer.new }
+    ensures callable { F.IsAlwaysCallable path_transformer.new }
+{
+    let front = with_equals(alloc, name.as_bytes(), &[])?;
+    path_to_string(alloc, front.as_bytes(), path.as_bytes(), path_transformer)
 }
 
 impl FromArg for ArgLinkPath {
@@ -224,12 +241,11 @@ impl FromArg for ArgLinkPath {
 }
 
 impl IntoArg for ArgLinkPath {
-    ghost use Rattle.std.specs.Prelude.{false};
-    ghost use Rattle.rustc_options.specs.Data.{link_path_word};
+    ghost use Rattle.rustc_options.specs.Data.{link_path_word, link_path_in};
 
     ghost word = { link_path_word };
 
-    ghost is_path = { λ _. false };
+    ghost path = { link_path_in };
 
     fn into_arg_os_string(&self, alloc: Global) -> Result<OsBytes, AllocError> {
         with_equals(alloc, self.kind.as_bytes(), self.path.as_bytes())
@@ -238,10 +254,9 @@ impl IntoArg for ArgLinkPath {
     fn into_arg_string<F: FnMut(&[u8]) -> Option<String>>(
         &self,
         alloc: Global,
-        _path_transformer: &mut F,
+        path_transformer: &mut F,
     ) -> ArgToStringResult {
-        let folder = self.into_arg_os_string(alloc)?;
-        word_to_string(alloc, folder.as_bytes())
+        behind_equals_to_string(alloc, &self.kind, &self.path, path_transformer)
     }
 }
 
@@ -260,12 +275,12 @@ impl FromArg for ArgOption {
 }
 
 impl IntoArg for ArgOption {
-    ghost use Rattle.std.specs.Prelude.{false};
+    ghost use Rattle.std.specs.Prelude.{None};
     ghost use Rattle.rustc_options.specs.Data.{option_word};
 
     ghost word = { option_word };
 
-    ghost is_path = { λ _. false };
+    ghost path = { λ _. None };
 
     fn into_arg_os_string(&self, alloc: Global) -> Result<OsBytes, AllocError> {
         maybe_with_equals(alloc, self.opt.as_bytes(), &self.value)
@@ -300,12 +315,11 @@ impl FromArg for ArgExtern {
 }
 
 impl IntoArg for ArgExtern {
-    ghost use Rattle.std.specs.Prelude.{false};
-    ghost use Rattle.rustc_options.specs.Data.{extern_word};
+    ghost use Rattle.rustc_options.specs.Data.{extern_word, extern_path_in};
 
     ghost word = { extern_word };
 
-    ghost is_path = { λ _. false };
+    ghost path = { extern_path_in };
 
     fn into_arg_os_string(&self, alloc: Global) -> Result<OsBytes, AllocError> {
         with_equals(alloc, self.name.as_bytes(), self.path.as_bytes())
@@ -314,10 +328,9 @@ impl IntoArg for ArgExtern {
     fn into_arg_string<F: FnMut(&[u8]) -> Option<String>>(
         &self,
         alloc: Global,
-        _path_transformer: &mut F,
+        path_transformer: &mut F,
     ) -> ArgToStringResult {
-        let named = self.into_arg_os_string(alloc)?;
-        word_to_string(alloc, named.as_bytes())
+        behind_equals_to_string(alloc, &self.name, &self.path, path_transformer)
     }
 }
 
@@ -350,11 +363,11 @@ impl FromArg for ArgTarget {
 }
 
 impl IntoArg for ArgTarget {
-    ghost use Rattle.rustc_options.specs.Data.{target_word, is_target_path};
+    ghost use Rattle.rustc_options.specs.Data.{target_word, target_path_in};
 
     ghost word = { target_word };
 
-    ghost is_path = { is_target_path };
+    ghost path = { target_path_in };
 
     fn into_arg_os_string(&self, _alloc: Global) -> Result<OsBytes, AllocError> {
         match self {
@@ -368,7 +381,7 @@ impl IntoArg for ArgTarget {
         path_transformer: &mut F,
     ) -> ArgToStringResult {
         match self {
-            ArgTarget::Path(path) => path_to_string(alloc, path.as_bytes(), path_transformer),
+            ArgTarget::Path(path) => path_to_string(alloc, &[], path.as_bytes(), path_transformer),
             ArgTarget::Name(word) | ArgTarget::Unsure(word) => {
                 word_to_string(alloc, word.as_bytes())
             }
