@@ -4,8 +4,6 @@
 pub mod answer;
 pub mod call;
 pub mod compiler;
-pub mod fail_files;
-pub mod fail_tool;
 pub mod map_store;
 pub mod reason;
 pub mod request;

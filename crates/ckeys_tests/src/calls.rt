@@ -1,0 +1,320 @@
+//! Keys of calls: what is hashed of each, and why there is none.
+
+use crate::compilers::{gcc, parsed};
+use crate::keys::{digest_of, digest_of_all};
+use crate::print_tool::PrintTool;
+use ckeys::compiler::CCompiler;
+use ckeys::compiler_impl::CCompilerImpl;
+use ckeys::config::KeyConfig;
+use ckeys::fault::Fault;
+use ckeys::hasher::needs_c_preprocessing;
+use ckeys::preprocessor::Preprocessor;
+use ckeys::shape::CShape;
+use ckeys::step::Step;
+use cmdlines::clang::Clang;
+use cmdlines::gcc::Gcc;
+use cmdlines_tables::language::Language;
+use os_files::files::Files;
+use os_files::memory_files::MemoryFiles;
+use os_files::os_bytes::OsBytes;
+use sha2::Sha256;
+use std::alloc::{AllocError, Global};
+use std::test::Fail;
+use test_kit::broken_files::BrokenFiles;
+use test_kit::rows::{files_of, words};
+
+/// Where a call is made, under which variables and without which folders.
+#[derive(Drop)]
+struct Place<'a> {
+    dir: &'a str,
+    env: &'a [(OsBytes, OsBytes)],
+    folders: &'a [OsBytes],
+}
+
+/// In `/w`, with no variables and no folders.
+fn in_w() -> Place<'static> {
+    Place {
+        dir: "/w",
+        env: &[],
+        folders: &[],
+    }
+}
+
+/// This compiler at `/usr/bin/gcc` with the digest `d`.
+fn known<I: Drop>(alloc: Global, compiler: I) -> Result<CCompiler<I>, AllocError> {
+    let executable = OsBytes::from_slice(alloc, b"/usr/bin/gcc")?;
+    Ok(CCompiler::with_digest(compiler, executable, String::from_str(alloc, "d")?))
+}
+
+/// What the call of this line gives.
+fn call<I: CCompilerImpl + Drop, F: Files>(
+    alloc: Global,
+    compiler: &CCompiler<I>,
+    line: &str,
+    place: &Place<'_>,
+    files: &mut F,
+    tool: &mut PrintTool,
+) -> Result<Result<(String, CShape, bool), Fault>, Fail> {
+    let parsed = parsed(alloc, &compiler.compiler, line)?;
+    let dir = OsBytes::from_slice(alloc, place.dir.as_bytes())?;
+    let config = KeyConfig::new(alloc, place.folders)?;
+    let hasher = compiler.hasher(&parsed);
+    Ok(hasher.generate_hash_key::<Sha256, F, PrintTool>(
+        alloc, &dir, place.env, 0, &config, files, tool,
+    ))
+}
+
+/// The key of this line of gcc in `/w`, or the fault as text.
+fn outcome<F: Files>(
+    alloc: Global,
+    line: &str,
+    files: &mut F,
+    tool: &mut PrintTool,
+) -> Result<String, Fail> {
+    let compiler = known(alloc, gcc(alloc, false, None)?)?;
+    match call(alloc, &compiler, line, &in_w(), files, tool)? {
+        Ok((key, _, _)) => Ok(key),
+        Err(fault) => Ok(format!(in alloc; "{fault}")?),
+    }
+}
+
+/// The key and the shape of this line of this compiler on no files, with this text.
+fn key_of<I: CCompilerImpl + Drop>(
+    alloc: Global,
+    compiler: I,
+    line: &str,
+    place: &Place<'_>,
+    text: &[u8],
+) -> Result<(String, CShape), Fail> {
+    let compiler = known(alloc, compiler)?;
+    let mut files = MemoryFiles::new(alloc);
+    let mut tool = PrintTool::new(alloc, 0, text)?;
+    match call(alloc, &compiler, line, place, &mut files, &mut tool)? {
+        Ok((key, shape, _)) => Ok((key, shape)),
+        Err(fault) => Err(Fail::new(fault)),
+    }
+}
+
+#[test]
+fn a_request_is_preprocessed(rt: HostRuntime) -> Result<(), Fail> {
+    let alloc = rt.alloc();
+    let compiler = known(alloc, gcc(alloc, false, None)?)?;
+    let mut files = MemoryFiles::new(alloc);
+    let mut tool = PrintTool::new(alloc, 0, b"int x;")?;
+    let answer = call(
+        alloc,
+        &compiler,
+        "-c foo.c -O2",
+        &in_w(),
+        &mut files,
+        &mut tool,
+    )?;
+    let Ok((key, shape, from_record)) = answer else {
+        return Err("no key".into());
+    };
+    let expected = digest_of(alloc, b"d\x0011c-O2\xffint x;")?;
+    assert_eq!(rt; key.as_str(), expected.as_str());
+    assert_eq!(rt; shape.language, Language::C);
+    assert_eq!(rt;
+        (shape.compiler_digest, shape.words, shape.variables),
+        (1, 1, 0)
+    );
+    assert!(rt; !from_record);
+    assert_eq!(rt; tool.ticks().preprocess, 1);
+    Ok(())
+}
+
+#[test]
+fn an_extra_file_is_hashed(rt: HostRuntime) -> Result<(), Fail> {
+    let alloc = rt.alloc();
+    let mut tool = PrintTool::new(alloc, 0, b"int x;")?;
+    let mut files = files_of(alloc, &[("/w/p.so", b"plug".as_slice())])?;
+    let key = outcome(alloc, "-c foo.c -fplugin=p.so", &mut files, &mut tool)?;
+    let plug = digest_of(alloc, b"plug")?;
+    let expected = digest_of_all(
+        alloc,
+        &[
+            b"d\x0011c-fplugin=p.so\xff".as_slice(),
+            plug.as_bytes(),
+            b"int x;".as_slice(),
+        ],
+    )?;
+    assert_eq!(rt; key.as_str(), expected.as_str());
+    assert_eq!(rt; tool.ticks().preprocess, 1);
+    Ok(())
+}
+
+#[test]
+fn an_extra_file_is_needed(rt: HostRuntime) -> Result<(), Fail> {
+    let alloc = rt.alloc();
+    let mut tool = PrintTool::new(alloc, 0, b"int x;")?;
+    let mut files = files_of(alloc, &[("/p.so", b"plug".as_slice())])?;
+    let missing = outcome(alloc, "-c foo.c -fplugin=p.so", &mut files, &mut tool)?;
+    assert_eq!(rt; missing.as_str(), "read /w/p.so");
+    let mut broken = BrokenFiles::new();
+    let failed = outcome(alloc, "-c foo.c -fplugin=p.so", &mut broken, &mut tool)?;
+    assert_eq!(rt; failed.as_str(), "read /w/p.so");
+    assert_eq!(rt; tool.ticks().preprocess, 0);
+    Ok(())
+}
+
+#[test]
+fn a_preprocessor_fails(rt: HostRuntime) -> Result<(), Fail> {
+    let alloc = rt.alloc();
+    let compiler = known(alloc, gcc(alloc, false, None)?)?;
+    let mut files = MemoryFiles::new(alloc);
+    let mut tool = PrintTool::new(alloc, 1, b"int x;")?;
+    let ended = call(alloc, &compiler, "-c foo.c", &in_w(), &mut files, &mut tool)?;
+    assert!(rt; matches!(&ended, Err(Fault::PreprocessFailed(1))));
+    assert_eq!(rt; tool.ticks().preprocess, 1);
+    let mut broken = PrintTool::broken(alloc);
+    let failed = call(
+        alloc,
+        &compiler,
+        "-c foo.c",
+        &in_w(),
+        &mut files,
+        &mut broken,
+    )?;
+    assert!(rt; matches!(&failed, Err(Fault::Tool(Step::Preprocess))));
+    assert_eq!(rt; broken.ticks().failure, 1);
+    Ok(())
+}
+
+#[test]
+fn a_preprocessed_input_is_read(rt: HostRuntime) -> Result<(), Fail> {
+    let alloc = rt.alloc();
+    let mut tool = PrintTool::broken(alloc);
+    let mut files = files_of(alloc, &[("/w/y.i", b"int y;\n".as_slice())])?;
+    let key = outcome(alloc, "-c y.i", &mut files, &mut tool)?;
+    let expected = digest_of(alloc, b"d\x0011cpp-outputint y;\n")?;
+    assert_eq!(rt; key.as_str(), expected.as_str());
+    let mut files = files_of(alloc, &[("/w/y.s", b"nop\n".as_slice())])?;
+    let key = outcome(alloc, "-c y.s", &mut files, &mut tool)?;
+    let expected = digest_of(alloc, b"d\x0011assemblernop\n")?;
+    assert_eq!(rt; key.as_str(), expected.as_str());
+    assert_eq!(rt; tool.ticks().preprocess, 0);
+    Ok(())
+}
+
+#[test]
+fn a_preprocessed_input_is_needed(rt: HostRuntime) -> Result<(), Fail> {
+    let alloc = rt.alloc();
+    let mut tool = PrintTool::new(alloc, 0, b"int x;")?;
+    let mut files = MemoryFiles::new(alloc);
+    let missing = outcome(alloc, "-c y.i", &mut files, &mut tool)?;
+    assert_eq!(rt; missing.as_str(), "read /w/y.i");
+    let mut broken = BrokenFiles::new();
+    let failed = outcome(alloc, "-c y.i", &mut broken, &mut tool)?;
+    assert_eq!(rt; failed.as_str(), "read /w/y.i");
+    assert_eq!(rt; broken.failures(), 1);
+    assert_eq!(rt; tool.ticks().preprocess, 0);
+    assert!(rt; !needs_c_preprocessing(Language::CPreprocessed));
+    assert!(rt; needs_c_preprocessing(Language::C));
+    Ok(())
+}
+
+/// The key of a build in this directory, whose preprocessor prints this, without these folders.
+fn build_in(alloc: Global, dir: &str, text: &[u8], folders: &[OsBytes]) -> Result<String, Fail> {
+    let place = Place {
+        dir,
+        env: &[],
+        folders,
+    };
+    let gcc = gcc(alloc, false, None)?;
+    let (key, _) = key_of(alloc, gcc, "-o main.o -c src/main.c", &place, text)?;
+    Ok(key)
+}
+
+#[test]
+fn folders_of_two_users(rt: HostRuntime) -> Result<(), Fail> {
+    let alloc = rt.alloc();
+    let (one, other) = ("/home/user1/project", "/home/user2/project");
+    let of_one = b"# 1 \"/home/user1/project/src/main.c\"\nint main() { return 0; }\n";
+    let of_other = b"# 1 \"/home/user2/project/src/main.c\"\nint main() { return 0; }\n";
+    let both = words(alloc, "/home/user1/project /home/user2/project")?;
+    let first = build_in(alloc, one, of_one, both.as_slice())?;
+    let second = build_in(alloc, other, of_other, both.as_slice())?;
+    assert_eq!(rt; first.as_str(), second.as_str());
+    let first = build_in(alloc, one, of_one, &[])?;
+    let second = build_in(alloc, other, of_other, &[])?;
+    assert!(rt; first.as_str() != second.as_str());
+    Ok(())
+}
+
+/// The key of `-c foo.c` under one variable of this name and value.
+fn under(alloc: Global, name: &str, value: &str) -> Result<String, Fail> {
+    let variable = (
+        OsBytes::from_slice(alloc, name.as_bytes())?,
+        OsBytes::from_slice(alloc, value.as_bytes())?,
+    );
+    let env = vec![in alloc; variable]?;
+    let place = Place {
+        dir: "/w",
+        env: env.as_slice(),
+        folders: &[],
+    };
+    let gcc = gcc(alloc, false, None)?;
+    let (key, _) = key_of(alloc, gcc, "-c foo.c", &place, b"int x;")?;
+    Ok(key)
+}
+
+#[test]
+fn a_variable_starts_over(rt: HostRuntime) -> Result<(), Fail> {
+    let alloc = rt.alloc();
+    let first = under(alloc, "SCCACHE_C_CUSTOM_CACHE_BUSTER", "1")?;
+    let second = under(alloc, "SCCACHE_C_CUSTOM_CACHE_BUSTER", "2")?;
+    let third = under(alloc, "SCCACHE_C_CUSTOM_CACHE_BUSTER", "1")?;
+    assert_eq!(rt; first.as_str(), third.as_str());
+    assert!(rt; first.as_str() != second.as_str());
+    let of_path = under(alloc, "PATH", "/bin")?;
+    let expected = digest_of(alloc, b"d\x0011cint x;")?;
+    assert_eq!(rt; of_path.as_str(), expected.as_str());
+    assert!(rt; first.as_str() != of_path.as_str());
+    Ok(())
+}
+
+#[test]
+fn a_compiler_of_cxx_has_other_keys(rt: HostRuntime) -> Result<(), Fail> {
+    let alloc = rt.alloc();
+    let gcc = gcc(alloc, true, None)?;
+    let (key, _) = key_of(alloc, gcc, "-c foo.c -O2", &in_w(), b"int x;")?;
+    let expected = digest_of(alloc, b"d\x0111c-O2\xffint x;")?;
+    assert_eq!(rt; key.as_str(), expected.as_str());
+    Ok(())
+}
+
+#[test]
+fn an_assembler_is_hashed(rt: HostRuntime) -> Result<(), Fail> {
+    let alloc = rt.alloc();
+    let gcc = gcc(alloc, false, Some("ab"))?;
+    let (key, shape) = key_of(alloc, gcc, "-c foo.c -O2", &in_w(), b"int x;")?;
+    let expected = digest_of(alloc, b"d\x0011c-O2\xffabint x;")?;
+    assert_eq!(rt; key.as_str(), expected.as_str());
+    assert_eq!(rt; shape.assembler_digest, Some(2));
+    Ok(())
+}
+
+#[test]
+fn architectures_are_hashed(rt: HostRuntime) -> Result<(), Fail> {
+    let alloc = rt.alloc();
+    let rows = [
+        (
+            "-c foo.c -arch x86_64",
+            b"d\x0011c-arch\xffx86_64\xffint x;".as_slice(),
+            2,
+        ),
+        (
+            "-c foo.c -arch x86_64 -O2",
+            b"d\x0011c-O2\xff-arch\xffx86_64\xffint x;".as_slice(),
+            3,
+        ),
+    ];
+    for (line, material, count) in rows {
+        let clang = Clang::new(alloc, false, None, None)?;
+        let (key, shape) = key_of(alloc, clang, line, &in_w(), b"int x;")?;
+        assert_eq!(rt; key.as_str(), digest_of(alloc, material)?.as_str());
+        assert_eq!(rt; shape.words, count);
+    }
+    Ok(())
+}

@@ -1,0 +1,70 @@
+//! Folders that don't count, and which can't be such.
+
+use ckeys::config::{ConfigError, KeyConfig};
+use os_files::os_bytes::OsBytes;
+use std::alloc::Global;
+use std::test::Fail;
+use test_kit::rows::words;
+
+#[test]
+fn folders_lose_slashes_at_their_ends(rt: HostRuntime) -> Result<(), Fail> {
+    let alloc = rt.alloc();
+    let given = words(alloc, "/home/a// /b")?;
+    let config = KeyConfig::new(alloc, given.as_slice())?;
+    let kept = words(alloc, "/home/a /b")?;
+    assert_eq!(rt; config.basedirs(), kept.as_slice());
+    let none = KeyConfig::new(alloc, &[])?;
+    assert!(rt; none.basedirs().is_empty());
+    Ok(())
+}
+
+/// Why there is no configuration of these folders, as text, or that there is one.
+fn refusal(alloc: Global, folders: &[OsBytes]) -> Result<String, Fail> {
+    match KeyConfig::new(alloc, folders) {
+        Ok(_) => Ok(String::from_str(alloc, "a configuration")?),
+        Err(error) => Ok(format!(in alloc; "{error:?}")?),
+    }
+}
+
+#[test]
+fn bad_folders_are_named(rt: HostRuntime) -> Result<(), Fail> {
+    let alloc = rt.alloc();
+    let rows = [
+        ("w", "BadFolder(\"w\")"),
+        ("//", "BadFolder(\"//\")"),
+        ("/", "BadFolder(\"/\")"),
+        ("/a w //", "BadFolder(\"w\")"),
+        ("/a /b", "a configuration"),
+    ];
+    for (line, text) in rows {
+        let folders = words(alloc, line)?;
+        assert_eq!(rt;
+            refusal(alloc, folders.as_slice())?.as_str(),
+            text,
+            "{line:?}"
+        );
+    }
+    let empty = refusal(alloc, &[OsBytes::empty(alloc)])?;
+    assert_eq!(rt; empty.as_str(), "BadFolder(\"\")");
+    Ok(())
+}
+
+#[test]
+fn errors_are_printed(rt: HostRuntime) -> Result<(), Fail> {
+    let alloc = rt.alloc();
+    let folder = ConfigError::BadFolder(OsBytes::from_slice(alloc, b"w")?);
+    assert_eq!(rt;
+        format!(in alloc; "{}", ConfigError::Memory)?.as_str(),
+        "no memory was left"
+    );
+    assert_eq!(rt;
+        format!(in alloc; "{folder}")?.as_str(),
+        "no absolute folder: w"
+    );
+    let folders = words(alloc, "/a w //")?;
+    assert_eq!(rt;
+        KeyConfig::new(alloc, folders.as_slice()).err(),
+        Some(folder)
+    );
+    Ok(())
+}

@@ -1,0 +1,156 @@
+//! Which requests have one key, and which have two.
+
+use ckeys::laws::{folders_in_texts_do_not_count, keys_tell_records, materials_tell_parts};
+use ckeys::params::{HashKeyParams, hash_arguments};
+use ckeys::shape::CShape;
+use ckeys_base::digest::Digest;
+use cmdlines_tables::language::Language;
+use os_files::os_bytes::OsBytes;
+use sha2::Sha256;
+use std::alloc::{AllocError, Global};
+use std::test::Fail;
+use test_kit::rows::words;
+
+/// The digest of these bytes.
+pub(crate) fn digest_of(alloc: Global, bytes: &[u8]) -> Result<String, AllocError> {
+    let mut digest: Digest<Sha256> = Digest::new();
+    digest.update(bytes);
+    digest.finish(alloc)
+}
+
+/// The digest of these parts, one behind the other.
+pub(crate) fn digest_of_all(alloc: Global, parts: &[&[u8]]) -> Result<String, AllocError> {
+    let mut digest: Digest<Sha256> = Digest::new();
+    for part in parts {
+        digest.update(part);
+    }
+    digest.finish(alloc)
+}
+
+fn key_of(alloc: Global, params: &HashKeyParams<'_>) -> Result<(String, CShape), AllocError> {
+    params.compute::<Sha256>(alloc)
+}
+
+#[test]
+fn shapes_tell_what_bytes_do_not(rt: HostRuntime) -> Result<(), Fail> {
+    let alloc = rt.alloc();
+    let extra = vec![in alloc; String::from_str(alloc, "ab")?]?;
+    let of_file = HashKeyParams::new("cc", Language::C, &[], b"t").with_extra_hashes(
+        extra.as_slice(),
+    );
+    let of_assembler = HashKeyParams::new("cc", Language::C, &[], b"t").with_assembler_digest(Some(
+        "ab",
+    ));
+    let (first, of_one) = key_of(alloc, &of_file)?;
+    let (second, of_other) = key_of(alloc, &of_assembler)?;
+    let material = digest_of(alloc, b"\x63\x63\x00\x31\x31\x63\x61\x62\x74")?;
+    assert_eq!(rt; first.as_str(), material.as_str());
+    assert_eq!(rt; second.as_str(), material.as_str());
+    assert_eq!(rt; of_one.extra_hashes.as_slice(), [2_usize].as_slice());
+    assert_eq!(rt; of_one.assembler_digest, None);
+    assert_eq!(rt; of_other.assembler_digest, Some(2));
+    assert!(rt; of_other.extra_hashes.is_empty());
+    Ok(())
+}
+
+#[test]
+fn each_part_is_hashed_in_order(rt: HostRuntime) -> Result<(), Fail> {
+    let alloc = rt.alloc();
+    let list = words(alloc, "-O2 -g")?;
+    let extra = vec![in alloc;
+        String::from_str(alloc, "e1")?,
+        String::from_str(alloc, "e2")?,
+    ]?;
+    let name = OsBytes::from_slice(alloc, b"MACOSX_DEPLOYMENT_TARGET")?;
+    let variables = vec![in alloc; (name, OsBytes::from_slice(alloc, b"11")?)]?;
+    let params = HashKeyParams::new("d", Language::Cxx, list.as_slice(), b"int x;")
+        .with_extra_hashes(extra.as_slice())
+        .with_env_vars(variables.as_slice())
+        .with_plusplus(true)
+        .with_assembler_digest(Some("as"));
+    let (key, shape) = key_of(alloc, &params)?;
+    let material =
+        b"d\x0111c++-O2\xff-g\xffe1e2as\x18\0\0\0\0\0\0\0MACOSX_DEPLOYMENT_TARGET=\x02\0\0\0\0\0\0\011int x;";
+    assert_eq!(rt;
+        key.as_str(),
+        digest_of(alloc, material.as_slice())?.as_str()
+    );
+    assert_eq!(rt;
+        (shape.compiler_digest, shape.words, shape.variables),
+        (1, 2, 1)
+    );
+    assert_eq!(rt; shape.language, Language::Cxx);
+    Ok(())
+}
+
+/// The key of a request with these words and this text, where these folders don't count.
+fn key_without(
+    alloc: Global,
+    line: &str,
+    text: &[u8],
+    folders: &[OsBytes],
+) -> Result<String, AllocError> {
+    let list = words(alloc, line)?;
+    let alone = HashKeyParams::new("d", Language::C, list.as_slice(), text);
+    let (key, _) = key_of(alloc, &alone.with_basedirs(folders))?;
+    Ok(key)
+}
+
+#[test]
+fn folders_do_not_count(rt: HostRuntime) -> Result<(), Fail> {
+    let alloc = rt.alloc();
+    let folders = words(alloc, "/home/user1/project /home/user2/project")?;
+    let one = b"# 1 \"/home/user1/project/a.c\"\n";
+    let other = b"# 1 \"/home/user2/project/a.c\"\n";
+    let first = key_without(alloc, "-I/home/user1/project/inc", one, &[])?;
+    let second = key_without(alloc, "-I/home/user2/project/inc", other, &[])?;
+    assert!(rt; first.as_str() != second.as_str());
+    let stripped = key_without(alloc, "-I/home/user1/project/inc", one, folders.as_slice())?;
+    let alike = key_without(
+        alloc,
+        "-I/home/user2/project/inc",
+        other,
+        folders.as_slice(),
+    )?;
+    assert_eq!(rt; stripped.as_str(), alike.as_str());
+    Ok(())
+}
+
+#[test]
+fn other_variables_do_not_count(rt: HostRuntime) -> Result<(), Fail> {
+    let alloc = rt.alloc();
+    let path = (
+        OsBytes::from_slice(alloc, b"PATH")?,
+        OsBytes::from_slice(alloc, b"/bin")?,
+    );
+    let variables = vec![in alloc; path]?;
+    let alone = HashKeyParams::new("d", Language::C, &[], b"t");
+    let (key, shape) = key_of(alloc, &alone)?;
+    let (same, same_shape) = key_of(alloc, &alone.with_env_vars(variables.as_slice()))?;
+    assert_eq!(rt; key.as_str(), same.as_str());
+    assert_eq!(rt; (shape.variables, same_shape.variables), (0, 0));
+    Ok(())
+}
+
+#[test]
+fn words_end_with_a_byte_of_their_own(rt: HostRuntime) -> Result<(), Fail> {
+    let alloc = rt.alloc();
+    let list = words(alloc, "-O2 -I/w/inc")?;
+    let folders = words(alloc, "/w")?;
+    let mut digest: Digest<Sha256> = Digest::new();
+    hash_arguments(alloc, &mut digest, list.as_slice(), folders.as_slice())?;
+    assert_eq!(rt;
+        digest.finish(alloc)?.as_str(),
+        digest_of(alloc, b"-O2\xff-I/inc\xff")?.as_str()
+    );
+    Ok(())
+}
+
+#[test]
+fn laws_are_called(rt: HostRuntime) -> Result<(), Fail> {
+    materials_tell_parts();
+    keys_tell_records::<Sha256>();
+    folders_in_texts_do_not_count();
+    assert_eq!(rt; ckeys::params::CACHE_VERSION.as_slice(), b"11".as_slice());
+    Ok(())
+}

@@ -1,0 +1,143 @@
+//! Each other public call once, and printed texts.
+
+use cmdlines::clang::{Clang, ClangKind};
+use cmdlines::command::CommandError;
+use cmdlines::compiler_arguments::{CompilerArguments, ParseFault};
+use cmdlines::diab::{Diab, DiabKind};
+use cmdlines::facts::Facts;
+use cmdlines::found::{FoundCompiler, HasKind};
+use cmdlines::gcc::{Gcc, GccKind};
+use cmdlines::lists::Lists;
+use cmdlines::msvc::{Msvc, MsvcKind};
+use cmdlines::tasking_vx::{TaskingVX, TaskingVXKind};
+use cmdlines_base::argument::Argument;
+use cmdlines_base::value::ArgumentValue;
+use cmdlines_tables::compiler::{CCompilerKind, ColorMode};
+use cmdlines_tables::kind::ArgKind;
+use cmdlines_tables::tables::gnu_table;
+use cmdlines_tables::value::ArgData;
+use cmdlines_texts::written::{bare, parsed, written};
+use os_files::os_bytes::OsBytes;
+use std::alloc::{AllocError, Global};
+use std::process::Abort;
+use std::test::Fail;
+
+/// A compiler of this kind tells what it was made with.
+fn traits_are_told<K: HasKind>(
+    rt: &impl Abort,
+    alloc: Global,
+    kind: CCompilerKind,
+) -> Result<(), Fail> {
+    let version = String::from_str(alloc, "13.2.0")?;
+    let digest = String::from_str(alloc, "0a1b")?;
+    let full = FoundCompiler::<K>::new(alloc, true, Some(version), Some(digest))?;
+    assert!(rt; full.plusplus());
+    assert_eq!(rt; full.version(), Some("13.2.0"));
+    assert_eq!(rt; full.assembler_digest(), Some("0a1b"));
+    let bare = bare::<K>(alloc)?;
+    assert!(rt; !bare.plusplus());
+    assert_eq!(rt; bare.version(), None);
+    assert_eq!(rt; bare.assembler_digest(), None);
+    assert_eq!(rt; K::kind(), kind);
+    Ok(())
+}
+
+#[test]
+fn traits_of_all_compilers(rt: HostRuntime) -> Result<(), Fail> {
+    let alloc = rt.alloc();
+    traits_are_told::<GccKind>(&rt, alloc, CCompilerKind::Gcc)?;
+    traits_are_told::<ClangKind>(&rt, alloc, CCompilerKind::Clang)?;
+    traits_are_told::<DiabKind>(&rt, alloc, CCompilerKind::Diab)?;
+    traits_are_told::<MsvcKind>(&rt, alloc, CCompilerKind::Msvc)?;
+    traits_are_told::<TaskingVXKind>(&rt, alloc, CCompilerKind::TaskingVX)
+}
+
+/// By their own names.
+#[test]
+fn compilers_by_their_names(rt: HostRuntime) -> Result<(), Fail> {
+    let alloc = rt.alloc();
+    assert!(rt; Gcc::new(alloc, true, None, None)?.plusplus());
+    assert!(rt; Clang::new(alloc, true, None, None)?.plusplus());
+    assert!(rt; Diab::new(alloc, true, None, None)?.plusplus());
+    assert!(rt; Msvc::new(alloc, true, None, None)?.plusplus());
+    assert!(rt; TaskingVX::new(alloc, true, None, None)?.plusplus());
+    Ok(())
+}
+
+#[test]
+fn faults_as_text(rt: HostRuntime) -> Result<(), Fail> {
+    let alloc = rt.alloc();
+    let memory = ParseFault::from(AllocError);
+    assert_eq!(rt;
+        format!(in alloc; "{memory}")?.as_str(),
+        "no memory was left"
+    );
+    let read = ParseFault::Read(OsBytes::from_slice(alloc, b"/w/args")?);
+    assert_eq!(rt;
+        format!(in alloc; "{read}")?.as_str(),
+        "cannot read /w/args"
+    );
+    let memory = CommandError::from(AllocError);
+    assert_eq!(rt;
+        format!(in alloc; "{memory}")?.as_str(),
+        "no memory was left"
+    );
+    let missing = CommandError::NoObjOutput;
+    assert_eq!(rt;
+        format!(in alloc; "{missing}")?.as_str(),
+        "no object is among the outputs"
+    );
+    Ok(())
+}
+
+#[test]
+fn answers_are_compared(rt: HostRuntime) {
+    let not = CompilerArguments::<u8>::NotCompilation;
+    assert_eq!(rt; CompilerArguments::Ok(1), CompilerArguments::Ok(1));
+    assert_ne!(rt; CompilerArguments::Ok(1), CompilerArguments::Ok(2));
+    assert_ne!(rt; CompilerArguments::Ok(1), not);
+}
+
+#[test]
+fn the_object_of_a_request(rt: HostRuntime) -> Result<(), Fail> {
+    let alloc = rt.alloc();
+    let line = "-c foo.c --serialize-diagnostics foo.dia";
+    let request = parsed(alloc, CCompilerKind::Clang, line)?;
+    let Some(object) = request.object() else {
+        return Err("no object".into());
+    };
+    assert_eq!(rt; object.path.as_bytes(), b"foo.o".as_slice());
+    assert!(rt; !object.optional);
+    Ok(())
+}
+
+#[test]
+fn facts_and_lists_take_an_argument(rt: HostRuntime) -> Result<(), Fail> {
+    let alloc = rt.alloc();
+    let table = gnu_table(alloc)?;
+    let (mut facts, mut lists) = (Facts::new(), Lists::new(alloc));
+    let colored = ArgData::of_flag(alloc, ArgKind::NoDiagnosticsColorFlag);
+    let argument = Argument::Flag("-fno-diagnostics-color", colored);
+    facts.note(alloc, &table, &argument)?;
+    lists.take(alloc, argument, false)?;
+    assert_eq!(rt; facts.color, Some(ColorMode::Off));
+    assert!(rt; !facts.compiles);
+    assert_eq!(rt; lists.common.len(), 1);
+    assert!(rt; lists.inputs.is_empty());
+    Ok(())
+}
+
+#[test]
+fn words_that_are_no_text(rt: HostRuntime) -> Result<(), Fail> {
+    let alloc = rt.alloc();
+    let mut words = Vec::new(alloc);
+    for word in [b"-c".as_slice(), b"\xff.c".as_slice(), b"-D\xff".as_slice()] {
+        words.push(OsBytes::from_slice(alloc, word)?)?;
+    }
+    let text = written(alloc, CCompilerKind::Gcc, words.as_slice())?;
+    assert_eq!(rt;
+        text.as_str(),
+        "input \u{fffd}.c; language c; obj \u{fffd}.o; preprocessor -D\u{fffd}"
+    );
+    Ok(())
+}

@@ -1,0 +1,162 @@
+//! The small calls on what a command line asks for, and the hazards.
+
+use cmdlines::command::command_at;
+use cmdlines::compiler_arguments::CompilerArguments;
+use cmdlines::hazards::{empty_value, opens_file};
+use cmdlines::laws::{inputs_are_safe, requests_have_an_object};
+use cmdlines_base::argument::Argument;
+use cmdlines_tables::compiler::CCompilerKind;
+use cmdlines_tables::cutting::arguments_of;
+use cmdlines_tables::laws::arguments_are_their_items;
+use cmdlines_tables::tables::gnu_table;
+use cmdlines_texts::written::{clang, gcc, parsed};
+use os_files::listed::Listed;
+use os_files::memory_files::MemoryFiles;
+use os_files::os_bytes::OsBytes;
+use std::test::Fail;
+use test_kit::rows::words;
+
+#[test]
+fn the_name_of_the_object_is_shown(rt: HostRuntime) -> Result<(), Fail> {
+    let alloc = rt.alloc();
+    for (line, name) in [
+        ("-c foo.c", "foo.o"),
+        ("-c src/foo.c -o out/bar.o", "bar.o"),
+        ("-c foo.c -o ..", "Unknown filename"),
+        ("-c foo.c -o /", "Unknown filename"),
+    ] {
+        let request = parsed(alloc, CCompilerKind::Gcc, line)?;
+        let shown = request.output_pretty(alloc)?;
+        assert_eq!(rt; shown.as_str(), name, "{line}");
+    }
+    Ok(())
+}
+
+#[test]
+fn a_name_that_is_no_text_is_shown_as_well_as_it_can(rt: HostRuntime) -> Result<(), Fail> {
+    let alloc = rt.alloc();
+    let mut list = words(alloc, "-c foo.c -o")?;
+    list.push(OsBytes::from_slice(alloc, b"a/\xff.o")?)?;
+    let dir = OsBytes::from_slice(alloc, b"/work")?;
+    let mut files = MemoryFiles::new(alloc);
+    let answer = gcc(alloc)?.parse_arguments(alloc, list.as_slice(), &dir, &mut files)?;
+    let CompilerArguments::Ok(request) = answer else {
+        return Err("no request".into());
+    };
+    assert_eq!(rt; request.output_pretty(alloc)?.as_str(), "\u{FFFD}.o");
+    Ok(())
+}
+
+#[test]
+fn without_an_object_there_is_no_name(rt: HostRuntime) -> Result<(), Fail> {
+    let alloc = rt.alloc();
+    let mut request = parsed(alloc, CCompilerKind::Clang, "-c foo.c")?;
+    assert!(rt; request.object().is_some());
+    request.outputs = Listed::new(alloc);
+    assert!(rt; request.object().is_none());
+    assert_eq!(rt; request.output_pretty(alloc)?.as_str(), "Unknown filename");
+    Ok(())
+}
+
+#[test]
+fn architectures_are_listed_once(rt: HostRuntime) -> Result<(), Fail> {
+    let alloc = rt.alloc();
+    let mut request = parsed(alloc, CCompilerKind::Gcc, "-c foo.c")?;
+    for (line, archs, several) in [
+        ("", "", false),
+        ("-arch a", "a", false),
+        ("-arch a -arch a", "a", false),
+        ("-arch b -arch a -arch b", "b a", true),
+        ("-arch -arch", "", false),
+    ] {
+        request.arch_args = Listed::from_vec(words(alloc, line)?);
+        let expected = words(alloc, archs)?;
+        let found = request.archs(alloc)?;
+        assert_eq!(rt; found.len(), expected.len(), "{line}");
+        for (arch, wanted) in found.iter().zip(expected.iter()) {
+            assert_eq!(rt; *arch, wanted.as_bytes(), "{line}");
+        }
+        assert_eq!(rt; request.is_multiarch(), several, "{line}");
+    }
+    Ok(())
+}
+
+#[test]
+fn hazards_are_told(rt: HostRuntime) -> Result<(), Fail> {
+    let alloc = rt.alloc();
+    for (line, empty) in [("-c foo.c -I", true), ("-c foo.c -std=", false)] {
+        let request = parsed(alloc, CCompilerKind::Gcc, line)?;
+        assert_eq!(rt; empty_value(&request), empty, "{line}");
+    }
+    for (line, empty) in [("-c foo.c /I", true), ("-c foo.c /W", false)] {
+        let request = parsed(alloc, CCompilerKind::Msvc, line)?;
+        assert_eq!(rt; empty_value(&request), empty, "{line}");
+    }
+    Ok(())
+}
+
+#[test]
+fn words_that_open_files_are_told(rt: HostRuntime) -> Result<(), Fail> {
+    for (kind, by_a_dash) in [
+        (CCompilerKind::Gcc, false),
+        (CCompilerKind::Clang, false),
+        (CCompilerKind::Diab, true),
+        (CCompilerKind::Msvc, false),
+        (CCompilerKind::TaskingVX, false),
+    ] {
+        for (line, opens) in [
+            ("", false),
+            ("-c a@b", false),
+            ("-c @b", true),
+            ("@", true),
+            ("-c -@x", by_a_dash),
+            ("-@", by_a_dash),
+            ("-c -a@ --@", false),
+        ] {
+            let list = words(rt.alloc(), line)?;
+            assert_eq!(rt; opens_file(list.as_slice(), kind), opens, "{kind:?} {line}");
+        }
+    }
+    Ok(())
+}
+
+#[test]
+fn double_dashes_end_the_options_of_clang(rt: HostRuntime) -> Result<(), Fail> {
+    let alloc = rt.alloc();
+    let table = gnu_table(alloc)?;
+    let list = words(alloc, "-- -c")?;
+    let mut of_clang = arguments_of(alloc, CCompilerKind::Clang, &table, list.as_slice());
+    let Some(Ok(Argument::Raw(word))) = of_clang.next() else {
+        return Err("no loose word".into());
+    };
+    assert_eq!(rt; word.as_bytes(), b"-c".as_slice());
+    assert!(rt; of_clang.next().is_none());
+    let mut of_gcc = arguments_of(alloc, CCompilerKind::Gcc, &table, list.as_slice());
+    assert!(rt; matches!(of_gcc.next(), Some(Ok(Argument::UnknownFlag(_)))));
+    assert!(rt; matches!(of_gcc.next(), Some(Ok(Argument::Flag("-c", _)))));
+    assert!(rt; of_gcc.next().is_none());
+    Ok(())
+}
+
+#[test]
+fn commands_are_what_was_given(rt: HostRuntime) -> Result<(), Fail> {
+    let alloc = rt.alloc();
+    let executable = OsBytes::from_slice(alloc, b"/bin/cc")?;
+    let dir = OsBytes::from_slice(alloc, b"/w")?;
+    let list = Listed::from_vec(words(alloc, "-c a.c")?);
+    let command = command_at(alloc, &executable, list, &[], &dir)?;
+    assert_eq!(rt; command.executable.as_bytes(), b"/bin/cc".as_slice());
+    assert_eq!(rt; command.cwd.as_bytes(), b"/w".as_slice());
+    assert_eq!(rt; (command.arguments.len(), command.env_vars.len()), (2, 0));
+    Ok(())
+}
+
+#[test]
+fn laws_are_called(rt: HostRuntime) -> Result<(), Fail> {
+    let alloc = rt.alloc();
+    inputs_are_safe();
+    requests_have_an_object();
+    arguments_are_their_items();
+    assert!(rt; !clang(alloc)?.plusplus());
+    Ok(())
+}

@@ -1,0 +1,300 @@
+//! What the words of options say, and what is printed of it again.
+
+use cmdlines_base::argument_error::{ArgParseError, ArgToStringError};
+use cmdlines_base::value::{FromArg, IntoArg};
+use os_files::listed::Listed;
+use os_files::os_bytes::OsBytes;
+use rustc_options::laws::words_are_printed_again;
+use rustc_options::types::{
+    ArgCodegen, ArgCrateTypes, ArgExtern, ArgLinkLibrary, ArgLinkPath, ArgOption, ArgTarget,
+    ArgUnstable,
+};
+use std::alloc::{AllocError, Global};
+use std::process::Abort;
+use std::test::Fail;
+
+fn word(alloc: Global, text: &str) -> Result<OsBytes, AllocError> {
+    OsBytes::from_slice(alloc, text.as_bytes())
+}
+
+/// The value in a word.
+fn value<T: FromArg>(alloc: Global, text: &str) -> Result<T, Fail> {
+    match T::process(word(alloc, text)?) {
+        Ok(value) => Ok(value),
+        Err(_) => Err("no value".into()),
+    }
+}
+
+/// Each row: a word, and the word that its value prints.
+fn each_prints<T: FromArg + IntoArg>(
+    rt: &impl Abort,
+    alloc: Global,
+    rows: &[(&str, &str)],
+) -> Result<(), Fail> {
+    for (text, want) in rows.iter() {
+        let value = value::<T>(alloc, text)?;
+        let printed = value.into_arg_os_string(alloc)?;
+        assert_eq!(rt; printed.as_bytes(), want.as_bytes(), "{text}");
+    }
+    Ok(())
+}
+
+/// Where a path lies after a move.
+fn moved(alloc: Global, path: &[u8]) -> Option<String> {
+    let path = OsBytes::from_slice(alloc, path).ok()?;
+    format!(in alloc; "/there/{path}").ok()
+}
+
+/// The text of a value, where each path is moved.
+fn text_of<T: IntoArg>(alloc: Global, value: &T) -> Result<String, Fail> {
+    match value.into_arg_string(alloc, &mut |path: &[u8]| moved(alloc, path)) {
+        Ok(text) => Ok(text),
+        Err(_) => Err("no text".into()),
+    }
+}
+
+/// Each row: a word, and the text of its value, where each path is moved.
+fn each_reads<T: FromArg + IntoArg>(
+    rt: &impl Abort,
+    alloc: Global,
+    rows: &[(&str, &str)],
+) -> Result<(), Fail> {
+    for (text, want) in rows.iter() {
+        let value = value::<T>(alloc, text)?;
+        let read = text_of(alloc, &value)?;
+        assert_eq!(rt; read.as_str(), *want, "{text}");
+    }
+    Ok(())
+}
+
+#[test]
+fn options_print_what_was_read(rt: HostRuntime) -> Result<(), Fail> {
+    words_are_printed_again();
+    let alloc = rt.alloc();
+    let codegen = [
+        ("opt-level=1", "opt-level=1"),
+        ("debug", "debug"),
+        ("incremental=a=b", "incremental=a=b"),
+        ("opt=", "opt="),
+        ("=v", "=v"),
+        ("", ""),
+    ];
+    each_prints::<ArgCodegen>(&rt, alloc, &codegen)?;
+    each_reads::<ArgCodegen>(&rt, alloc, &codegen)?;
+    let unstable = [("profile=y", "profile=y"), ("profile", "profile")];
+    each_prints::<ArgUnstable>(&rt, alloc, &unstable)?;
+    each_reads::<ArgUnstable>(&rt, alloc, &unstable)
+}
+
+#[test]
+fn libraries_print_the_kind_that_is_meant(rt: HostRuntime) -> Result<(), Fail> {
+    let rows = [
+        ("bar", "dylib=bar"),
+        ("static=x", "static=x"),
+        ("a=b=c", "a=b=c"),
+        ("=x", "=x"),
+        ("", "dylib="),
+    ];
+    each_prints::<ArgLinkLibrary>(&rt, rt.alloc(), &rows)?;
+    each_reads::<ArgLinkLibrary>(&rt, rt.alloc(), &rows)
+}
+
+#[test]
+fn folders_print_the_kind_that_is_meant(rt: HostRuntime) -> Result<(), Fail> {
+    let rows = [
+        ("p", "all=p"),
+        ("native=/o/p", "native=/o/p"),
+        ("a=b=c", "a=b=c"),
+        ("", "all="),
+    ];
+    each_prints::<ArgLinkPath>(&rt, rt.alloc(), &rows)
+}
+
+#[test]
+fn crate_types_are_printed_in_order(rt: HostRuntime) -> Result<(), Fail> {
+    let rows = [
+        ("lib", "rlib"),
+        ("lib,rlib", "rlib"),
+        ("lib,staticlib", "rlib,staticlib"),
+        ("lib,staticlib,cdylib", "cdylib,rlib,staticlib"),
+        ("staticlib,proc-macro,bin", "bin,proc-macro,staticlib"),
+        ("bin,bin", "bin"),
+        ("lib,", ",rlib"),
+        ("sharedlib,lib", "rlib,sharedlib"),
+    ];
+    each_prints::<ArgCrateTypes>(&rt, rt.alloc(), &rows)?;
+    each_reads::<ArgCrateTypes>(&rt, rt.alloc(), &rows)
+}
+
+#[test]
+fn externs_and_targets_print_what_was_read(rt: HostRuntime) -> Result<(), Fail> {
+    let externs = [("a=b=c", "a=b=c"), ("a=", "a="), ("priv:a=b", "priv:a=b")];
+    each_prints::<ArgExtern>(&rt, rt.alloc(), &externs)?;
+    let targets = [("x", "x"), ("t.json", "t.json"), ("a/b", "a/b"), ("", "")];
+    each_prints::<ArgTarget>(&rt, rt.alloc(), &targets)
+}
+
+/// A target's path is moved, its name isn't.
+#[test]
+fn the_path_of_a_target_is_transformed(rt: HostRuntime) -> Result<(), Fail> {
+    let alloc = rt.alloc();
+    let rows = [("x", "x"), ("t.json", "/there/t.json")];
+    each_reads::<ArgTarget>(&rt, alloc, &rows)?;
+    let unsure = ArgTarget::Unsure(word(alloc, "x")?);
+    assert_eq!(rt; text_of(alloc, &unsure)?.as_str(), "x");
+    assert_eq!(rt;
+        unsure.into_arg_os_string(alloc)?.as_bytes(),
+        b"x".as_slice()
+    );
+    Ok(())
+}
+
+/// A path behind a name or a kind is moved, and what stands before it stays.
+#[test]
+fn paths_behind_names_are_transformed(rt: HostRuntime) -> Result<(), Fail> {
+    let alloc = rt.alloc();
+    let folders = [("native=o", "native=/there/o"), ("p", "all=/there/p")];
+    each_reads::<ArgLinkPath>(&rt, alloc, &folders)?;
+    each_reads::<ArgExtern>(&rt, alloc, &[("a=b=c", "a=/there/b=c")])
+}
+
+/// A path as it stands.
+fn in_place(alloc: Global, path: &[u8]) -> Option<String> {
+    let path = OsBytes::from_slice(alloc, path).ok()?;
+    format!(in alloc; "{path}").ok()
+}
+
+/// The text of the value in a word, where each path stays.
+fn text_in_place<T: FromArg + IntoArg>(alloc: Global, word: &str) -> Result<String, Fail> {
+    let value = value::<T>(alloc, word)?;
+    match value.into_arg_string(alloc, &mut |path: &[u8]| in_place(alloc, path)) {
+        Ok(text) => Ok(text),
+        Err(_) => Err("no text".into()),
+    }
+}
+
+#[test]
+fn where_paths_stay_texts_are_words(rt: HostRuntime) -> Result<(), Fail> {
+    let alloc = rt.alloc();
+    for word in ["native=/o/p", "a=b=c"] {
+        assert_eq!(rt; text_in_place::<ArgLinkPath>(alloc, word)?.as_str(), word);
+        assert_eq!(rt; text_in_place::<ArgExtern>(alloc, word)?.as_str(), word);
+    }
+    assert_eq!(rt;
+        text_in_place::<ArgTarget>(alloc, "a.json")?.as_str(),
+        "a.json"
+    );
+    Ok(())
+}
+
+fn refuse(_path: &[u8]) -> Option<String> {
+    None
+}
+
+#[test]
+fn a_refused_path_has_no_text(rt: HostRuntime) -> Result<(), Fail> {
+    let alloc = rt.alloc();
+    let path = value::<ArgTarget>(alloc, "t.json")?;
+    let failed = ArgToStringError::FailedPathTransform(word(alloc, "t.json")?);
+    assert!(rt; path.into_arg_string(alloc, &mut refuse) == Err(failed));
+    let name = value::<ArgTarget>(alloc, "t")?;
+    let text = String::from_str(alloc, "t")?;
+    assert!(rt; name.into_arg_string(alloc, &mut refuse) == Ok(text));
+    Ok(())
+}
+
+#[test]
+fn an_extern_has_a_path(rt: HostRuntime) -> Result<(), Fail> {
+    let alloc = rt.alloc();
+    for text in ["a", "", "/w/liba.rlib"] {
+        let refused = ArgExtern::process(word(alloc, text)?);
+        assert!(rt; matches!(&refused, Err(ArgParseError::Other(_))), "{text}");
+    }
+    Ok(())
+}
+
+#[test]
+fn words_are_cut_at_the_first_equals(rt: HostRuntime) -> Result<(), Fail> {
+    let alloc = rt.alloc();
+    let option = ArgOption {
+        opt: word(alloc, "a")?,
+        value: Some(word(alloc, "b=c")?),
+    };
+    assert!(rt; value::<ArgOption>(alloc, "a=b=c")? == option);
+    assert!(rt; option.clone()? == option);
+    let library = ArgLinkLibrary {
+        kind: word(alloc, "a")?,
+        name: word(alloc, "b=c")?,
+    };
+    assert!(rt; value::<ArgLinkLibrary>(alloc, "a=b=c")? == library);
+    assert!(rt; library.clone()? == library);
+    let folder = ArgLinkPath {
+        kind: word(alloc, "a")?,
+        path: word(alloc, "b=c")?,
+    };
+    assert!(rt; value::<ArgLinkPath>(alloc, "a=b=c")? == folder);
+    assert!(rt; folder.clone()? == folder);
+    Ok(())
+}
+
+#[test]
+fn externs_are_a_name_and_a_path(rt: HostRuntime) -> Result<(), Fail> {
+    let alloc = rt.alloc();
+    let named = ArgExtern {
+        name: word(alloc, "a")?,
+        path: word(alloc, "b=c")?,
+    };
+    assert!(rt; value::<ArgExtern>(alloc, "a=b=c")? == named);
+    assert!(rt; named.clone()? == named);
+    let bare = value::<ArgOption>(alloc, "a")?;
+    assert!(rt; bare.value.is_none());
+    Ok(())
+}
+
+#[test]
+fn the_extension_makes_a_target_a_path(rt: HostRuntime) -> Result<(), Fail> {
+    let alloc = rt.alloc();
+    for text in ["t.json", "a/t.json", "/t.json", "a.b.json", "..json"] {
+        let path = ArgTarget::Path(word(alloc, text)?);
+        assert!(rt; value::<ArgTarget>(alloc, text)? == path, "{text}");
+        assert!(rt; path.clone()? == path);
+    }
+    for text in [
+        "x", "", "json", ".json", "a/.json", "t.JSON", "t.json5", "t.json.x",
+    ] {
+        let name = ArgTarget::Name(word(alloc, text)?);
+        assert!(rt; value::<ArgTarget>(alloc, text)? == name, "{text}");
+    }
+    Ok(())
+}
+
+#[test]
+fn crate_types_are_told_apart(rt: HostRuntime) -> Result<(), Fail> {
+    let alloc = rt.alloc();
+    let mut others = Listed::new(alloc);
+    others.push(word(alloc, "bin")?)?;
+    others.push(word(alloc, "dylib")?)?;
+    let types = ArgCrateTypes {
+        rlib: true,
+        staticlib: false,
+        others,
+    };
+    assert!(rt; value::<ArgCrateTypes>(alloc, "dylib,lib,bin,dylib")? == types);
+    assert!(rt; value::<ArgCrateTypes>(alloc, "dylib,bin")? != types);
+    assert!(rt; value::<ArgCrateTypes>(alloc, "dylib,lib")? != types);
+    Ok(())
+}
+
+/// Words that are no text have values that print them, but no text.
+#[test]
+fn words_that_are_no_text(rt: HostRuntime) -> Result<(), Fail> {
+    let alloc = rt.alloc();
+    let broken = OsBytes::from_slice(alloc, b"a=\xff")?;
+    let Ok(option) = ArgOption::process(broken.clone()?) else {
+        return Err("no value".into());
+    };
+    assert!(rt; option.into_arg_os_string(alloc)? == broken);
+    let failed = ArgToStringError::InvalidUnicode(broken);
+    assert!(rt; option.into_arg_string(alloc, &mut refuse) == Err(failed));
+    Ok(())
+}

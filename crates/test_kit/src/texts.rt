@@ -1,0 +1,35 @@
+//! Texts that tests write of lists, and compare.
+
+use os_files::os_bytes::OsBytes;
+use std::alloc::AllocError;
+use std::fmt::Write;
+use std::test::Fail;
+
+/// A text that isn't the wanted one fails the test, and the failure names the line.
+pub fn is_that(text: &str, want: &str, line: &str) -> Result<(), Fail> {
+    if text == want {
+        return Ok(());
+    }
+    Err(Fail::new(format_args!("{line:?}: {text:?}, and not {want:?}")))
+}
+
+/// Adds words, each behind a space, an empty one as two quotes.
+pub fn write_words(text: &mut String, words: &[OsBytes]) -> Result<(), AllocError> {
+    for word in words {
+        if word.as_bytes().is_empty() {
+            text.push_str(" ''")?;
+        } else {
+            write!(text, " {word}")?;
+        }
+    }
+    Ok(())
+}
+
+/// Adds a list with its name, where it isn't empty.
+pub fn write_list(text: &mut String, name: &str, list: &[OsBytes]) -> Result<(), AllocError> {
+    if list.is_empty() {
+        return Ok(());
+    }
+    write!(text, "; {name}")?;
+    write_words(text, list)
+}
