@@ -13,6 +13,7 @@ from scenarios import FILES, SOURCES, source_name, wanted, wanted_passes, words,
 from timing import in_turn, run, stop
 
 TOP = Path(__file__).resolve().parent.parent
+BUILD = TOP / "bin" / "build"
 WRAPPER = TOP / "bin" / "sccache-wrap"
 PROGRAM = TOP / "crates" / "sccache_wrap" / "out" / "sccache_wrap"
 
@@ -28,7 +29,8 @@ PREPROCESSED_HIT = "a ccache hit without direct mode"
 
 
 def build():
-    """Has the program built, where it isn't yet."""
+    """Has the program proved and built, where it isn't yet."""
+    subprocess.run([str(BUILD)], check=True, stdout=subprocess.DEVNULL)
     answer = subprocess.run([str(WRAPPER)], input=b'{"requests":[]}', stdout=subprocess.PIPE)
     if answer.stdout != b"compiles 0\n":
         stop(f"{WRAPPER} printed {answer.stdout}")

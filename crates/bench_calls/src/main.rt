@@ -1,14 +1,18 @@
-//! The program that `bench/run` times. On a file it copies the bytes, strips folders from them, splits them into words or
-//! digests them, and on a chain of files in memory, each of which names the next one, it opens the chain or copies it: as
-//! often as it is told. It prints one line of what the last call gave.
+//! The program that `bench/run` times. On a file it copies the bytes, strips folders from them, splits them into words,
+//! walks over their markers or digests them; on a chain of files in memory, each of which names the next one, it opens the
+//! chain or copies it; and it looks into include records: as often as it is told. It prints one line of what the last call gave.
 #![tactic(auto)]
 
 ghost use Rattle.std.specs.Prelude.{◌≡◌, IfOk, length};
 ghost use Rattle.ckeys_base.specs.FolderPlaces.{text_places};
 ghost use Rattle.ckeys_base.specs.FromTheLeft.{stripped_of};
 
+mod recorded;
+mod walking;
 mod words;
 
+use crate::recorded::{file_digests, look_ups};
+use crate::walking::{byte_searches, marker_tallies, walks};
 use crate::words::{Tally, chain_copies, gnu_splittings, msvc_splittings, openings};
 use ckeys_base::digest;
 use ckeys_base::digest::Digest;
@@ -21,6 +25,7 @@ use std::process::ExitCode;
 use std::rt::{Env, Files};
 use std::{env, fs, io};
 use thiserror::Error;
+use time_macros::reader_time_macros::reader_sync_time_macros;
 
 /// The status of a program that couldn't run.
 const FAILED: u8 = 2;
@@ -29,7 +34,7 @@ const FAILED: u8 = 2;
 #[derive(Debug, Drop, Error)]
 enum Fault {
     /// The words aren't those that are wanted.
-    #[error("bench_calls: wanted are a work, a number of repeats, a file or a number of files, and folders")]
+    #[error("bench_calls: wanted are a work, a number of repeats, a file or a number of files or results, and folders or a file of names")]
     Words,
     /// The file can't be read.
     #[error("bench_calls: the file cannot be read")]
@@ -101,16 +106,16 @@ fn main(rt: HostRuntime) -> ExitCode {
     }
 }
 
-/// Prints the line that the arguments ask for: the work, the number of repeats, what the work is done on, and folders.
+/// Prints the line that the arguments ask for: the work, the number of repeats, what the work is done on, and folders, or a file of names.
 fn run_on<R: Print + Files + Env + AllocGlobal>(rt: &R) -> Result<(), Fault> {
     let words: Vec<String> = env::args(rt)
         .map_err(|_error: io::Error| Fault::Words)?
         .skip(1)
         .collect(rt.alloc())?;
-    let [work, repeats, given, folders @ ..] = words.as_slice() else {
+    let [work, repeats, given, others @ ..] = words.as_slice() else {
         return Err(Fault::Words);
     };
-    let line = line_for(rt, work, number_of(repeats)?, given, folders)?;
+    let line = line_for(rt, work, number_of(repeats)?, given, others)?;
     println!(rt; "{line}").map_err(|_error: io::Error| Fault::Output)
 }
 
@@ -120,17 +125,18 @@ fn line_for<R: Files + AllocGlobal>(
     work: &String,
     repeats: u32,
     given: &String,
-    folders: &[String],
+    others: &[String],
 ) -> Result<String, Fault> {
     let alloc = rt.alloc();
     let line = match work.as_str() {
         "copy" => line_of(alloc, copies(alloc, &bytes_of(rt, given)?, repeats)?)?,
         "strip" => {
-            let folders = list_of(alloc, folders)?;
+            let folders = list_of(alloc, others)?;
             let text = bytes_of(rt, given)?;
             line_of(alloc, strippings(alloc, &text, &folders, repeats)?)?
         }
         "digest" => digests(rt, given, repeats)?,
+        "macros" => macro_digests(rt, given, repeats)?,
         "gnu" => tally_line(
             alloc,
             gnu_splittings(alloc, &bytes_of(rt, given)?, repeats)?,
@@ -139,7 +145,19 @@ fn line_for<R: Files + AllocGlobal>(
             alloc,
             msvc_splittings(alloc, &bytes_of(rt, given)?, repeats)?,
         )?,
+        "walk" => {
+            let [names] = others else {
+                return Err(Fault::Words);
+            };
+            let names = bytes_of(rt, names)?;
+            let text = bytes_of(rt, given)?;
+            tally_line(alloc, walks(alloc, &text, &names, repeats)?)?
+        }
+        "markers" => tally_line(alloc, marker_tallies(&bytes_of(rt, given)?, repeats))?,
+        "byte" => tally_line(alloc, byte_searches(&bytes_of(rt, given)?, repeats))?,
         "expand" => tally_line(alloc, openings(alloc, number_of(given)?, repeats)?)?,
+        "look_up" => tally_line(alloc, look_ups(alloc, number_of(given)?, repeats)?)?,
+        "file_digests" => tally_line(alloc, file_digests(alloc, repeats)?)?,
         "copy_chain" => tally_line(alloc, chain_copies(alloc, number_of(given)?, repeats)?)?,
         _ => return Err(Fault::Words),
     };
@@ -226,6 +244,22 @@ fn digests<R: Files + AllocGlobal>(rt: &R, file: &String, repeats: u32) -> Resul
     for _ in 0..repeats {
         let reader = fs::open(rt, file.as_str()).map_err(|_error: io::Error| Fault::File)?;
         last = Digest::<Sha256>::reader_sync(rt.alloc(), reader)?;
+    }
+    Ok(last)
+}
+
+/// Opens the file so often, digests it, and looks for the macros of date and time in it.
+fn macro_digests<R: Files + AllocGlobal>(
+    rt: &R,
+    file: &String,
+    repeats: u32,
+) -> Result<String, Fault> {
+    let mut last = String::new(rt.alloc());
+    for _ in 0..repeats {
+        let reader = fs::open(rt, file.as_str()).map_err(|_error: io::Error| Fault::File)?;
+        let (digest, finder) = reader_sync_time_macros::<Sha256, _>(rt.alloc(), reader)?;
+        let found = u8::from(finder.found_time_macros());
+        last = format!(in rt.alloc(); "{digest}, {found}")?;
     }
     Ok(last)
 }

@@ -27,12 +27,14 @@ pub(crate) struct Tally {
 
 impl Tally {
     /// The tally of nothing.
-    fn none() -> Tally {
+    pub(crate) fn none() -> Tally
+        ensures { result.count ≡ 0 }
+    {
         Tally { count: 0, bytes: 0 }
     }
 
     /// The tally of these words.
-    fn of(words: &[OsBytes]) -> Tally
+    pub(crate) fn of(words: &[OsBytes]) -> Tally
         ensures { result.count ≡ length words.now }
     {
         let mut bytes: usize = 0;

@@ -1,0 +1,3 @@
+pub mod RepeatedReads
+pub mod FramedParts
+pub mod Texts

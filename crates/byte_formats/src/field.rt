@@ -1,0 +1,183 @@
+//! What can stand as a field of a layout.
+
+ghost use Rattle.std.specs.Prelude.{◌≡◌, ◌++◌, OnOk, None};
+ghost use Rattle.std.specs.List.{flat_map, AllByRecursion};
+ghost use Rattle.os_files.specs.Bytes.{Bytes};
+ghost use Rattle.byte_formats.specs.Formats.{IsFormat};
+ghost use Rattle.byte_formats.specs.Reading.{Gives, Read, counted_at, framed_at, number_at, optional_at, signed_at, times_at};
+ghost use Rattle.byte_formats.specs.Spelling.{CountFits, FitsFrame, FitsNumber, FitsWord, IfFits, counted, framed, number, optional, signed};
+ghost use Rattle.byte_formats.specs.FieldFormats.{counted_format, framed_format, number_format, optional_format, signed_format};
+
+use crate::fault::ReadFault;
+use crate::fields::{put_framed, put_number, put_signed, read_framed, read_number, read_signed};
+use os_files::listed::Listed;
+use os_files::os_bytes::OsBytes;
+use std::alloc::{AllocError, Global};
+
+/// A value that bytes spell: how it is read from the left, how it is spelled, and which values fit.
+pub trait Field: Drop {
+    /// What is read from the left, and what stands behind it.
+    ghost reads: { Bytes → Read Self };
+
+    /// The bytes of a value.
+    ghost spells: { Self → Bytes };
+
+    /// The values that can be spelled.
+    ghost fits: { Self → Type 0 };
+
+    /// What is read is what was written, and nothing else is read.
+    ghost is_format: { IsFormat reads spells fits };
+
+    /// The value at the front of the bytes, and what stands behind it. `Unfit` where there is none.
+    fn read(alloc: Global, bytes: &[u8]) -> Result<(Self, &[u8]), ReadFault>
+        ensures { Gives (λ x. (x.0, x.1.now)) result (reads bytes.now) };
+
+    /// Adds the bytes of this value. Where no memory was left, a part of them may have been added.
+    fn put(&self, out: &mut Vec<u8>) -> Result<(), AllocError>
+        ensures added { OnOk result (out.new.items ≡ out.old.items ++ spells self.now) }
+        ensures fits { OnOk result (fits self.now) };
+}
+
+/// A number of eight bytes, low byte first.
+impl Field for u64 {
+    ghost reads = { number_at };
+
+    ghost spells = { number };
+
+    ghost fits = { FitsNumber };
+
+    ghost is_format = { number_format };
+
+    fn read(_alloc: Global, bytes: &[u8]) -> Result<(u64, &[u8]), ReadFault> {
+        read_number(bytes)
+    }
+
+    fn put(&self, out: &mut Vec<u8>) -> Result<(), AllocError> {
+        put_number(out, *self)
+    }
+}
+
+/// A signed number by its eight bytes, low byte first.
+impl Field for i64 {
+    ghost reads = { signed_at };
+
+    ghost spells = { signed };
+
+    ghost fits = { FitsWord };
+
+    ghost is_format = { signed_format };
+
+    fn read(_alloc: Global, bytes: &[u8]) -> Result<(i64, &[u8]), ReadFault> {
+        read_signed(bytes)
+    }
+
+    fn put(&self, out: &mut Vec<u8>) -> Result<(), AllocError> {
+        put_signed(out, *self)
+    }
+}
+
+/// Bytes behind their length.
+impl Field for OsBytes {
+    ghost reads = { framed_at };
+
+    ghost spells = { framed };
+
+    ghost fits = { FitsFrame };
+
+    ghost is_format = { framed_format };
+
+    fn read(alloc: Global, bytes: &[u8]) -> Result<(OsBytes, &[u8]), ReadFault> {
+        let (front, rest) = read_framed(bytes)?;
+        Ok((OsBytes::from_slice(alloc, front)?, rest))
+    }
+
+    fn put(&self, out: &mut Vec<u8>) -> Result<(), AllocError> {
+        put_framed(out, self.as_bytes())
+    }
+}
+
+/// The byte 0 for `None`, and the byte 1 and the value for `Some`.
+impl<T: Field> Field for Option<T> {
+    ghost reads = { optional_at T.reads };
+
+    ghost spells = { optional T.spells };
+
+    ghost fits = { IfFits T.fits };
+
+    ghost is_format = { optional_format T.reads T.spells T.fits T.is_format };
+
+    #[tactic(auto, unfolding(crate::specs::Reading::optional_at))]
+    fn read(alloc: Global, bytes: &[u8]) -> Result<(Option<T>, &[u8]), ReadFault> {
+        match bytes {
+            [] => Err(ReadFault::Unfit),
+            [0, rest @ ..] => Ok((None, rest)),
+            [1, rest @ ..] => {
+                let (value, rest) = T::read(alloc, rest)?;
+                Ok((Some(value), rest))
+            }
+            [_, ..] => Err(ReadFault::Unfit),
+        }
+    }
+
+    fn put(&self, out: &mut Vec<u8>) -> Result<(), AllocError> {
+        match self {
+            None => Ok(out.push(0)?),
+            Some(value) => {
+                out.push(1)?;
+                value.put(out)
+            }
+        }
+    }
+}
+
+/// So many values in a row, and what stands behind them.
+fn read_times<T: Field>(
+    alloc: Global,
+    count: u64,
+    bytes: &[u8],
+) -> Result<(Vec<T>, &[u8]), ReadFault>
+    ensures { Gives (λ x. (x.0.items, x.1.now)) result (times_at T.reads count bytes.now) }
+{
+    let mut all = Vec::new(alloc);
+    let mut rest = bytes;
+    'all: for _ in 0..count {
+        let (value, behind) = T::read(alloc, rest)?;
+        all.push(value)?;
+        rest = behind;
+    }
+    Ok((all, rest))
+}
+
+/// Adds the bytes of each value. Where no memory was left, a part of them may have been added.
+pub fn put_all<T: Field>(out: &mut Vec<u8>, values: &[T]) -> Result<(), AllocError>
+    ensures added { OnOk result (out.new.items ≡ out.old.items ++ flat_map T.spells values.now) }
+    ensures fits { OnOk result (AllByRecursion T.fits values.now) }
+{
+    for value in values {
+        value.put(out)?;
+    }
+    Ok(())
+}
+
+/// The values in a row behind their count.
+impl<T: Field> Field for Listed<T> {
+    ghost reads = { counted_at T.reads };
+
+    ghost spells = { counted T.spells };
+
+    ghost fits = { CountFits T.fits };
+
+    ghost is_format = { counted_format T.reads T.spells T.fits T.is_format };
+
+    #[tactic(auto, unfolding(crate::specs::Reading::counted_at))]
+    fn read(alloc: Global, bytes: &[u8]) -> Result<(Listed<T>, &[u8]), ReadFault> {
+        let (count, rest) = read_number(bytes)?;
+        let (values, rest) = read_times(alloc, count, rest)?;
+        Ok((Listed::from_vec(values), rest))
+    }
+
+    fn put(&self, out: &mut Vec<u8>) -> Result<(), AllocError> {
+        put_number(out, self.len() as u64)?;
+        put_all(out, self.as_slice())
+    }
+}

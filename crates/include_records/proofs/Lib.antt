@@ -1,0 +1,6 @@
+pub mod KeyOrder
+pub mod SmallRecords
+pub mod Insertion
+pub mod WholeRecords
+pub mod PartsInRow
+pub mod Looking

@@ -1,0 +1,70 @@
+//! Which text a call prints, told from what is recorded.
+
+ghost use Rattle.std.specs.Prelude.{◌≡◌, IfOk, IfErr, OnOk};
+ghost use Rattle.os_files.specs.Fails.{FailsOn};
+ghost use Rattle.response_files.specs.Causes.{CauseOf};
+ghost use Rattle.include_records.specs.LookUps.{LooksUp, last_there};
+ghost use Rattle.include_records.specs.Surroundings.{place_with};
+ghost use Rattle.time_macros.specs.Days.{local_day};
+
+use crate::day::day_of;
+use crate::key_text::KeyText;
+use crate::record::PreprocessorCacheEntry;
+use crate::sighting::Sightings;
+use ckeys_base::hash_state::HashState;
+use os_files::files::Files;
+use os_files::os_bytes::OsBytes;
+use response_files::fault::ParseFault;
+use std::alloc::Global;
+use time_macros::zone::Zone;
+
+impl PreprocessorCacheEntry {
+    /// The key of the last result whose files are as they were recorded, on these files from that directory, at a moment in seconds
+    /// since the start of 1970 in UTC, in a zone; `None` where no result's are. Each file is looked at once.
+    ///
+    /// `Read` names a file on which the device failed.
+    pub fn lookup_result_digest<H: HashState, F: Files>(
+        &self,
+        alloc: Global,
+        dir: &OsBytes,
+        moment: i64,
+        zone: &Zone,
+        files: &mut F,
+    ) -> Result<Option<KeyText>, ParseFault>
+        ensures last { let place = place_with dir.now (F.tree files.old) (local_day zone.now moment) in
+            IfOk result (λ key. key ≡ last_there H.digest_of place self.now.results) }
+        ensures found { let place = place_with dir.now (F.tree files.old) (local_day zone.now moment) in
+            IfOk result (LooksUp H.digest_of place self.now.results) }
+        ensures cause { IfErr result (CauseOf (FailsOn F.tree F.failed F.fails_on files.old files.new)) }
+        ensures tree { F.tree files.new ≡ F.tree files.old }
+        ensures steady { OnOk result (F.failed files.new ≡ F.failed files.old) }
+    {
+        self.last_there::<H, F>(alloc, dir, day_of(moment, zone), files)
+    }
+
+    /// The same on a day.
+    fn last_there<H: HashState, F: Files>(
+        &self,
+        alloc: Global,
+        dir: &OsBytes,
+        day: Option<i64>,
+        files: &mut F,
+    ) -> Result<Option<KeyText>, ParseFault>
+        ensures last { let place = place_with dir.now (F.tree files.old) day in
+            IfOk result (λ key. key ≡ last_there H.digest_of place self.now.results) }
+        ensures cause { IfErr result (CauseOf (FailsOn F.tree F.failed F.fails_on files.old files.new)) }
+        ensures tree { F.tree files.new ≡ F.tree files.old }
+        ensures steady { OnOk result (F.failed files.new ≡ F.failed files.old) }
+    {
+        let mut sightings = Sightings::new(alloc);
+        let mut left = self.results.len();
+        while left > 0 {
+            left -= 1;
+            let result = &self.results[left];
+            if sightings.are_there::<H, F>(alloc, dir, day, result.includes.as_slice(), files)? {
+                return Ok(Some(result.key.clone()?));
+            }
+        }
+        Ok(None)
+    }
+}

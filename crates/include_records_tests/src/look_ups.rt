@@ -1,0 +1,160 @@
+//! What records tell of files.
+
+use include_records::includes::includes_of;
+use include_records::key_text::KeyText;
+use include_records::record::PreprocessorCacheEntry;
+use os_files::file_time::FileTime;
+use os_files::files::Files;
+use os_files::listed::Listed;
+use os_files::memory_files::{MemoryFile, MemoryFiles};
+use os_files::os_bytes::OsBytes;
+use response_files::fault::ParseFault;
+use sha2::Sha256;
+use std::alloc::{AllocError, Global};
+use std::test::Fail;
+use test_kit::fail_files::FailFiles;
+use time_macros::zone::Zone;
+
+/// 2023-11-14 22:13:20 in UTC, of day 19675; the next day began at 1700006400.
+const MOMENT: i64 = 1_700_000_000;
+
+/// The digest of `abc`, which FIPS 180 prints as `ba7816bf..`, the low half of each byte first.
+const OF_ABC: &str = "ab8761fbf810fcae141404edd5ea22320b30163a6971a7c94b01ff162f0051da";
+
+/// A file that asks for the day and for the second of its last change.
+const DATED: &[u8] = b"__DATE__ __TIMESTAMP__";
+
+/// Files of these names in `/w`, each with its contents and the second of its last change.
+fn files_with(alloc: Global, rows: &[(&str, &[u8], i64)]) -> Result<MemoryFiles, AllocError> {
+    let mut files = MemoryFiles::new(alloc);
+    for (name, contents, second) in rows.iter() {
+        let path = format!(in alloc; "/w/{name}")?;
+        let file = MemoryFile {
+            contents: OsBytes::from_slice(alloc, contents)?,
+            mtime: FileTime::from_seconds(*second),
+        };
+        files.insert(OsBytes::from_slice(alloc, path.as_bytes())?, file)?;
+    }
+    Ok(files)
+}
+
+/// A record of one text, which named these files of `/w`.
+fn record_of<F: Files>(
+    alloc: Global,
+    entry: &mut PreprocessorCacheEntry,
+    key: &str,
+    names: &[&str],
+    files: &mut F,
+) -> Result<(), Fail> {
+    let mut list = Vec::new(alloc);
+    for name in names.iter() {
+        list.push(OsBytes::from_slice(alloc, name.as_bytes())?)?;
+    }
+    let dir = OsBytes::from_slice(alloc, b"/w")?;
+    let zone = Zone::new("UTC0")?;
+    let found = includes_of::<Sha256, F>(alloc, &dir, MOMENT, &zone, list.as_slice(), files)?;
+    let includes = found.unwrap_or(Listed::new(alloc));
+    entry.add_result(KeyText::new(String::from_str(alloc, key)?), includes)?;
+    Ok(())
+}
+
+/// The key that a look-up tells, and `none` where it tells none.
+fn told<F: Files>(
+    alloc: Global,
+    entry: &PreprocessorCacheEntry,
+    moment: i64,
+    files: &mut F,
+) -> Result<String, Fail> {
+    let dir = OsBytes::from_slice(alloc, b"/w")?;
+    let zone = Zone::new("UTC0")?;
+    match entry.lookup_result_digest::<Sha256, F>(alloc, &dir, moment, &zone, files)? {
+        Some(key) => Ok(format!(in alloc; "{key}")?),
+        None => Ok(String::from_str(alloc, "none")?),
+    }
+}
+
+#[test]
+fn what_is_recorded_of_a_file(rt: HostRuntime) -> Result<(), Fail> {
+    let alloc = rt.alloc();
+    let mut files = files_with(alloc, &[("a.h", b"abc", 7), ("d.h", DATED, -5)])?;
+    let mut list = Vec::new(alloc);
+    list.push(OsBytes::from_slice(alloc, b"a.h")?)?;
+    list.push(OsBytes::from_slice(alloc, b"d.h")?)?;
+    let dir = OsBytes::from_slice(alloc, b"/w")?;
+    let zone = Zone::new("UTC0")?;
+    let found = includes_of::<Sha256, _>(alloc, &dir, MOMENT, &zone, list.as_slice(), &mut files)?;
+    let includes = found.unwrap_or(Listed::new(alloc));
+    assert_eq!(rt; includes.len(), 2);
+    for (include, digest, size, day, second) in [
+        (includes.as_slice().first(), Some(OF_ABC), 3, None, None),
+        (includes.as_slice().last(), None, 22, Some(19675), Some(-5)),
+    ] {
+        let Some(include) = include else { continue };
+        assert_eq!(rt; include.size, size);
+        assert_eq!(rt; include.day, day);
+        assert_eq!(rt; include.second, second);
+        if let Some(digest) = digest {
+            assert_eq!(rt; include.digest.as_str(), digest);
+        }
+    }
+    let late = includes_of::<Sha256, _>(alloc, &dir, i64::MAX, &zone, list.as_slice(), &mut files)?;
+    assert!(rt; late.is_none());
+    Ok(())
+}
+
+#[test]
+fn files_are_found_again(rt: HostRuntime) -> Result<(), Fail> {
+    let alloc = rt.alloc();
+    let mut files = files_with(alloc, &[("a.h", b"abc", 7), ("d.h", DATED, 8)])?;
+    let mut entry = PreprocessorCacheEntry::new(alloc);
+    record_of(alloc, &mut entry, "both", &["a.h", "d.h"], &mut files)?;
+    for (contents, second, moment, key) in [
+        (b"abc".as_slice(), 8, MOMENT, "both"),
+        (b"abd".as_slice(), 8, MOMENT, "none"),
+        (b"abcd".as_slice(), 8, MOMENT, "none"),
+        (b"abc".as_slice(), 9, MOMENT, "none"),
+        (b"abc".as_slice(), 8, 1_700_006_399, "both"),
+        (b"abc".as_slice(), 8, 1_700_006_400, "none"),
+        (b"abc".as_slice(), 8, i64::MAX, "none"),
+    ] {
+        let mut now = files_with(alloc, &[("a.h", contents, 0), ("d.h", DATED, second)])?;
+        assert_eq!(rt; told(alloc, &entry, moment, &mut now)?.as_str(), key);
+    }
+    let mut gone = files_with(alloc, &[("d.h", DATED, 8)])?;
+    assert_eq!(rt; told(alloc, &entry, MOMENT, &mut gone)?.as_str(), "none");
+    Ok(())
+}
+
+#[test]
+fn the_greatest_key_is_told(rt: HostRuntime) -> Result<(), Fail> {
+    let alloc = rt.alloc();
+    let mut files = files_with(alloc, &[("a.h", b"abc", 7)])?;
+    let mut changed = files_with(alloc, &[("a.h", b"abd", 7)])?;
+    let mut entry = PreprocessorCacheEntry::new(alloc);
+    record_of(alloc, &mut entry, "q", &["a.h"], &mut changed)?;
+    record_of(alloc, &mut entry, "b", &["a.h"], &mut files)?;
+    record_of(alloc, &mut entry, "c", &["a.h"], &mut files)?;
+    record_of(alloc, &mut entry, "a", &[], &mut files)?;
+    let mut gone = MemoryFiles::new(alloc);
+    assert_eq!(rt; told(alloc, &entry, MOMENT, &mut files)?.as_str(), "c");
+    assert_eq!(rt; told(alloc, &entry, MOMENT, &mut changed)?.as_str(), "q");
+    assert_eq!(rt; told(alloc, &entry, MOMENT, &mut gone)?.as_str(), "a");
+    Ok(())
+}
+
+#[test]
+fn a_device_that_fails_is_told(rt: HostRuntime) -> Result<(), Fail> {
+    let alloc = rt.alloc();
+    let mut files = files_with(alloc, &[("a.h", b"abc", 7)])?;
+    let mut entry = PreprocessorCacheEntry::new(alloc);
+    record_of(alloc, &mut entry, "b", &["a.h"], &mut files)?;
+    record_of(alloc, &mut entry, "c", &["a.h"], &mut files)?;
+    let dir = OsBytes::from_slice(alloc, b"/w")?;
+    let zone = Zone::new("UTC0")?;
+    let mut failing = FailFiles::new(files, 1);
+    let found = entry.lookup_result_digest::<Sha256, _>(alloc, &dir, MOMENT, &zone, &mut failing);
+    let name = OsBytes::from_slice(alloc, b"/w/a.h")?;
+    assert_eq!(rt; found.err(), Some(ParseFault::Read(name)));
+    assert_eq!(rt; failing.failures(), 1);
+    Ok(())
+}

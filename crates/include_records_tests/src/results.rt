@@ -1,0 +1,76 @@
+//! The bounds of records.
+
+use include_records::entry::IncludeEntry;
+use include_records::key_text::KeyText;
+use include_records::record::PreprocessorCacheEntry;
+use os_files::listed::Listed;
+use os_files::os_bytes::OsBytes;
+use std::alloc::{AllocError, Global};
+use std::test::Fail;
+
+/// So many includes.
+fn includes(alloc: Global, count: usize) -> Result<Listed<IncludeEntry>, AllocError> {
+    let mut list = Listed::new(alloc);
+    for _ in 0..count {
+        list.push(IncludeEntry {
+            path: OsBytes::empty(alloc),
+            size: 0,
+            digest: KeyText::new(String::new(alloc)),
+            day: None,
+            second: None,
+        })?;
+    }
+    Ok(list)
+}
+
+/// Adds a result with so many includes, and tells how many the record has then.
+fn add(
+    alloc: Global,
+    entry: &mut PreprocessorCacheEntry,
+    key: &str,
+    count: usize,
+) -> Result<usize, Fail> {
+    entry.add_result(
+        KeyText::new(String::from_str(alloc, key)?),
+        includes(alloc, count)?,
+    )?;
+    Ok(entry.number_of_entries())
+}
+
+#[test]
+fn a_hundred_and_one_results_stand(rt: HostRuntime) -> Result<(), Fail> {
+    let alloc = rt.alloc();
+    let mut entry = PreprocessorCacheEntry::new(alloc);
+    for number in 1usize..102 {
+        let key = format!(in alloc; "key {number}")?;
+        assert_eq!(rt; add(alloc, &mut entry, key.as_str(), 1)?, number);
+    }
+    assert_eq!(rt; add(alloc, &mut entry, "key 1", 3)?, 3);
+    Ok(())
+}
+
+#[test]
+fn ten_thousand_includes_stand(rt: HostRuntime) -> Result<(), Fail> {
+    let alloc = rt.alloc();
+    let mut entry = PreprocessorCacheEntry::new(alloc);
+    for (key, count, number) in [
+        ("b", 6000, 6000),
+        ("a", 3990, 9990),
+        ("c", 10, 10000),
+        ("d", 1, 1),
+        ("a", 10000, 10000),
+        ("a", 20000, 20000),
+        ("b", 0, 0),
+        ("b", 5000, 5000),
+        ("a", 10, 5010),
+        ("b", 4990, 5000),
+        ("b", 4000, 4010),
+    ] {
+        assert_eq!(rt;
+            add(alloc, &mut entry, key, count)?,
+            number,
+            "{key} {count}"
+        );
+    }
+    Ok(())
+}

@@ -1,0 +1,12 @@
+pub mod Cutting
+pub mod Meaning
+pub mod Once
+pub mod Quoting
+pub mod Readings
+pub mod ReadingsBack
+pub mod Runs
+pub mod Since
+pub mod Skipping
+pub mod Spellings
+pub mod Telling
+pub mod Walking

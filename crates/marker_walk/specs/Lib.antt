@@ -1,0 +1,10 @@
+pub mod Left
+pub mod Lines
+pub mod Markers
+pub mod Named
+pub mod Scanning
+pub mod Seen
+pub mod Sights
+pub mod Spelling
+pub mod Steps
+pub mod Told

@@ -1,0 +1,13 @@
+//! What a walk answers.
+
+use os_files::listed::Listed;
+use os_files::os_bytes::OsBytes;
+
+/// What a text says of the files that it was made of.
+#[derive(Drop)]
+pub enum Walk {
+    /// It can't be told, or one of them holds a macro that gives another text each second.
+    Refused,
+    /// The names of those files, each once, in the order in which they appear first.
+    Names(Listed<OsBytes>),
+}

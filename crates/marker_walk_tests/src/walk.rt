@@ -1,0 +1,96 @@
+//! Lines that refuse a text, plain ones, markers, and devices that fail.
+
+use crate::told::{BROKEN, told};
+use crate::watched_files::WatchedFiles;
+use marker_walk::walk::walk;
+use os_files::memory_files::MemoryFiles;
+use os_files::os_bytes::OsBytes;
+use response_files::fault::ParseFault;
+use std::test::Fail;
+
+#[test]
+fn refuses_what_it_cannot_tell(rt: HostRuntime) -> Result<(), Fail> {
+    let refused = [
+        b"# 1 foo\n".as_slice(),
+        b"int x;\n# 1 \"a\\qb\"\n".as_slice(),
+        b"#line 1 \"a\\qb\"\n".as_slice(),
+        b"# 1 \"a".as_slice(),
+        b"# 1".as_slice(),
+        b"# 1\"a\"".as_slice(),
+        b"# 1 \"h\\303\\251.h\" 1\n".as_slice(),
+        b"__asm__(\".incbin \\\"x\\\"\");\n".as_slice(),
+        b"#pragma GCC pch_preprocess \"x.gch\"\n".as_slice(),
+        b"# 1 \"t.h\" 1\n".as_slice(),
+    ];
+    for text in refused {
+        let (lines, _) = told(rt.alloc(), text, b"a.c", b"")?;
+        assert_eq!(rt;
+            lines.as_slice(),
+            b"refused".as_slice(),
+            "{}",
+            text.escape_ascii()
+        );
+    }
+    Ok(())
+}
+
+#[test]
+fn passes_plain_lines_over(rt: HostRuntime) -> Result<(), Fail> {
+    let plain = [
+        b"".as_slice(),
+        b"#line 7\n".as_slice(),
+        b"#line 7 foo\n".as_slice(),
+        b"#1 \"x.h\"\n".as_slice(),
+        b" # 1 \"x.h\"\n".as_slice(),
+        b"#\t1 \"x.h\"\n".as_slice(),
+        b"# line 1 \"x.h\"\n".as_slice(),
+        b"#pragma GCC diagnostic push\n#ident \"x.h\"\n# foo\n".as_slice(),
+        b"# 1 \"<built-in>\"\n".as_slice(),
+        b"# 1 \"\"\n# 1 \"gone.h\"\n# 1 \"/w//\"\n# 1 \"a.c\" 2\n".as_slice(),
+    ];
+    for text in plain {
+        let (lines, _) = told(rt.alloc(), text, b"a.c", b"/w/x.h\n/w/a.c")?;
+        assert_eq!(rt; lines.as_slice(), b"".as_slice(), "{}", text.escape_ascii());
+    }
+    Ok(())
+}
+
+#[test]
+fn reads_markers_with_anything_behind(rt: HostRuntime) -> Result<(), Fail> {
+    let markers = [
+        b"# 1 \"x.h\"".as_slice(),
+        b"# 1 \"x.h\" 1 3 4\r\n".as_slice(),
+        b"#  007   \"x.h\"\"y.h\n".as_slice(),
+        b"#line 1 \"x.h\"\r\n".as_slice(),
+        b"#line 2 \"x.h\" foo\nint x;\n#line 3 \"x.h\"".as_slice(),
+    ];
+    for text in markers {
+        let (lines, calls) = told(rt.alloc(), text, b"a.c", b"/w/x.h")?;
+        assert_eq!(rt;
+            lines.as_slice(),
+            b"x.h\n".as_slice(),
+            "{}",
+            text.escape_ascii()
+        );
+        assert_eq!(rt; calls, 1);
+    }
+    Ok(())
+}
+
+/// The third of these names can't be read, and the last one isn't asked for any more.
+#[test]
+fn says_where_the_device_failed(rt: HostRuntime) -> Result<(), Fail> {
+    let alloc = rt.alloc();
+    let text = b"# 1 \"x.h\" 1\n# 1 \"gone.h\" 1\n# 1 \"broken.h\" 1\n# 1 \"y.h\" 1\n";
+    let mut files = WatchedFiles {
+        files: MemoryFiles::new(alloc),
+        calls: 0,
+        broken: BROKEN,
+        failed: 0,
+    };
+    let failed = walk(alloc, text, b"a.c", b"/w", &mut files).err();
+    let at_broken = ParseFault::Read(OsBytes::from_slice(alloc, BROKEN)?);
+    assert_eq!(rt; failed, Some(at_broken));
+    assert_eq!(rt; (files.calls, files.failed), (3, 1));
+    Ok(())
+}

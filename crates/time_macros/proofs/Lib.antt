@@ -1,0 +1,5 @@
+pub mod Holding
+pub mod Seams
+pub mod DayLemmas
+pub mod MomentOrder
+pub mod Showing

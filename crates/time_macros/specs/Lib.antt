@@ -1,0 +1,4 @@
+pub mod Macros
+pub mod Seen
+pub mod Moments
+pub mod Days
