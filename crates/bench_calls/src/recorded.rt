@@ -76,23 +76,23 @@ fn record_of(alloc: Global, results: u32) -> Result<PreprocessorCacheEntry, Allo
     Ok(record)
 }
 
-/// Tallies the includes of the record, and looks up which result's files are as they were.
+/// Tallies the includes of the entry, and looks up which result's files are as they were.
 fn look_up(
     alloc: Global,
-    record: &PreprocessorCacheEntry,
+    entry: &PreprocessorCacheEntry,
     zone: &Zone,
     files: &mut MemoryFiles,
 ) -> Result<Tally, ParseFault>
-    ensures includes { IfOk result (λ tally. tally.count ≡ includes_in record.now.results) }
+    ensures includes { IfOk result (λ tally. tally.count ≡ includes_in entry.now.results) }
 {
     let dir = OsBytes::from_slice(alloc, b"/w")?;
-    let found = record.lookup_result_digest::<Sha256, MemoryFiles>(alloc, &dir, 0, zone, files)?;
+    let found = entry.lookup_result_digest::<Sha256, MemoryFiles>(alloc, &dir, 0, zone, files)?;
     let bytes = match found {
         Some(key) => key.as_str().len(),
         None => 0,
     };
     Ok(Tally {
-        count: record.number_of_entries(),
+        count: entry.number_of_entries(),
         bytes,
     })
 }

@@ -1,0 +1,4 @@
+pub mod Framing
+pub mod Identity
+pub mod Sights
+pub mod Telling
