@@ -10,7 +10,7 @@ RESULTS = 100
 DIGEST = 64
 
 # How often a call is repeated in a run with many, so that each run takes long enough to be timed.
-REPEATS = 201
+REPEATS = 1001
 
 
 def tally(count, together):
@@ -31,6 +31,5 @@ def measure():
         "digests": timer(works("file_digests", "0"), SAME_MEMORY, REPEATS),
     })
     print(f"look-up in a record of one result: {times['one'] / times['digests']:.2f} times the digests of its {FILES} files")
+    print(f"look-up in a record of {RESULTS // 2}: {times['half'] / times['digests']:.2f} times these")
     print(f"look-up in a record of {RESULTS}: {times['all'] / times['digests']:.2f} times these")
-    ratio = (times["all"] - times["one"]) / (times["half"] - times["one"])
-    print(f"what its results past the first cost: {ratio:.1f} times those of a record of {RESULTS // 2}")
