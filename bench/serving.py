@@ -101,6 +101,13 @@ def seconds_of_a_hit(commands, folder, variables, hits):
     return seconds
 
 
+def hit_timer(folder, commands):
+    """What times a direct hit of `ccache` on each of these commands, which are run once before."""
+    variables = {"CCACHE_DIR": os.path.join(folder, "ccache")}
+    seconds_of_a_call(commands, folder, variables)
+    return lambda: seconds_of_a_hit(commands, folder, variables, "direct_cache_hit")
+
+
 def hit_timers(folder):
     """What times hits of `ccache`, of both kinds, and nothing where there is no `ccache`."""
     if shutil.which("ccache") is None:
@@ -109,9 +116,8 @@ def hit_timers(folder):
     commands = [["ccache", "gcc", *words(number)] for number in range(FILES)]
     variables = {"CCACHE_DIR": os.path.join(folder, "ccache")}
     by_text = {**variables, "CCACHE_NODIRECT": "1"}
-    seconds_of_a_call(commands, folder, variables)
     return {
-        HIT: lambda: seconds_of_a_hit(commands, folder, variables, "direct_cache_hit"),
+        HIT: hit_timer(folder, commands),
         PREPROCESSED_HIT: lambda: seconds_of_a_hit(commands, folder, by_text, "preprocessed_cache_hit"),
     }
 

@@ -1,19 +1,22 @@
 -- Why a call has no key.
-use Rattle.std.proofs.Common.{◌≡◌, inl, inr, ℕ, Option, None, Result, Ok, Err, IfErr, IsErrAnd, ap, sym, subst, ◌∙◌}
+use Rattle.std.proofs.Common.{◌≡◌, inl, inr, ℕ, Option, None, Result, Ok, Err, IfErr, IsErrAnd, sym, subst, ◌∙◌}
 use Rattle.std.specs.Option.{option_map}
 use Rattle.os_files.specs.Bytes.{Bytes}
 use Rattle.os_files.specs.Fails.{FailsOn}
 use Rattle.os_files.specs.Tree.{Tree}
+use Rattle.response_files.specs.Causes.{CauseOf}
+use Rattle.response_files.specs.declared.fault.ParseFault.{ParseFault}
+use Rattle.response_files.specs.declared.fault.ParseFault.TheVariants as files_faults
 use Rattle.ckeys.specs.Meaning.{Meaning}
-use Rattle.ckeys.specs.Calls.{KeyCall, KeyCause, extra_paths, first_missing, key_fault_of, or_else, text_fault_of}
+use Rattle.ckeys.specs.Calls.{FileCause, KeyCall, KeyCause, extra_paths, fault_by, first_missing, missing_input, key_fault_of, or_else, text_fault_of}
 use Rattle.ckeys.specs.declared.fault.Fault.{Fault}
 use Rattle.ckeys.specs.declared.fault.Fault.TheVariants.{Memory, Read, Tool, PreprocessFailed, CompileFailed, MissingOutput}
 use Rattle.ckeys.specs.declared.step.Step.{Step}
 use Rattle.ckeys.specs.declared.step.Step.TheVariants.{Preprocess, Compile}
 
--- where all extra files are there the first fault is the text's
-pub text_first : (meaning : Meaning) (call : KeyCall) → first_missing call.scene.files (extra_paths call) ≡ None → key_fault_of meaning call ≡ text_fault_of meaning call
-text_first meaning call h = ap (λ missing. or_else (option_map Read missing) (text_fault_of meaning call)) h
+-- where all extra files are there, and the input where it is needed, the first fault is the text's
+pub text_first : (meaning : Meaning) (call : KeyCall) → first_missing call.scene.files (extra_paths call) ≡ None → missing_input call ≡ None → key_fault_of meaning call ≡ text_fault_of meaning call
+text_first meaning call h k = λ i. or_else (option_map Read (h i)) (or_else (option_map Read (k i)) (text_fault_of meaning call))
 
 -- a device that failed later failed in the call
 pub since : {F : Type 0} (tree : F → Tree) (failed : F → ℕ) (fails_on : F → Bytes → F → Type 0) (old mid new : F) → tree mid ≡ tree old → failed mid ≡ failed old → (name : Bytes) → FailsOn tree failed fails_on mid new name → FailsOn tree failed fails_on old new name
@@ -34,3 +37,12 @@ cause_is first text_first on_file later device_in (MissingOutput name) e lift h 
 pub on_exit : {A : Type 0} (P : Fault → Type 0) (result : Result A Fault) (fault : Fault) → IsErrAnd result (λ f. f ≡ fault) → P fault → IfErr result P
 on_exit P (Ok x) fault h p = absurd h
 on_exit P (Err f) fault h p = subst P (sym h) p
+
+pub cause_later : {A : Type 0} (result : Result A Fault) (first text_first : Option Fault) (on_file later : Bytes → Type 0) (device_in : Step → Type 0) → first ≡ text_first → ((name : Bytes) → later name → on_file name) → IfErr result (KeyCause text_first later device_in) → IfErr result (KeyCause first on_file device_in)
+cause_later (Ok x) first text_first on_file later device_in e lift h = tt
+cause_later (Err fault) first text_first on_file later device_in e lift h = cause_is first text_first on_file later device_in fault e lift h
+
+-- why files can't be read is why a file can't be had
+pub files_cause : (missing : Option Bytes) (on_file later : Bytes → Type 0) → ((name : Bytes) → later name → on_file name) → (fault : ParseFault) → CauseOf later fault → FileCause missing on_file (fault_by fault)
+files_cause missing on_file later lift files_faults.Memory h = tt
+files_cause missing on_file later lift (files_faults.Read path) h = inl (lift path h)

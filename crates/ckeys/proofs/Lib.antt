@@ -4,3 +4,7 @@ pub mod KeyLemmas
 pub mod FolderLemmas
 pub mod CallLemmas
 pub mod WordEnds
+pub mod RecordLemmas
+pub mod AskLemmas
+pub mod EntryLemmas
+pub mod HashSteps

@@ -1,5 +1,5 @@
 -- A call of which a key is made: its record, and its first fault.
-use Rattle.std.specs.Prelude.{◌≡◌, ◌⊎◌, pos, Bool, true, false, if◌then◌else◌, List, [], ◌∷◌, ◌++◌, map, filter, find, Option, None, Some, is_none, unwrap_or}
+use Rattle.std.specs.Prelude.{◌≡◌, ◌⊎◌, pos, Bool, true, false, ◌&&◌, if◌then◌else◌, List, [], ◌∷◌, ◌++◌, map, filter, find, Option, None, Some, is_none}
 use Rattle.std.specs.Option.{option_map}
 use Rattle.std.specs.Ordering.{int_eq}
 use Rattle.os_files.specs.Bytes.{Bytes}
@@ -12,8 +12,12 @@ use Rattle.cmdlines_tables.specs.Tables.{reading_of}
 use Rattle.cmdlines_tables.specs.declared.compiler.CCompilerKind.{CCompilerKind}
 use Rattle.cmdlines_tables.specs.declared.language.Language.{Language}
 use Rattle.cmdlines_tables.specs.declared.language.Language.TheVariants as languages
+use Rattle.response_files.specs.declared.fault.ParseFault.{ParseFault}
+use Rattle.response_files.specs.declared.fault.ParseFault.TheVariants as files_faults
 use Rattle.ckeys_base.specs.FolderPlaces.{text_places}
 use Rattle.ckeys_base.specs.FromTheLeft.{stripped_of}
+use Rattle.include_records.specs.Surroundings.{contents_in}
+use Rattle.ckeys.specs.Folders.{Settings}
 use Rattle.ckeys.specs.Meaning.{Scene, Made, Meaning}
 use Rattle.ckeys.specs.Records.{CRecord}
 use Rattle.ckeys.specs.Params.{is_cached, stripped_words}
@@ -22,14 +26,14 @@ use Rattle.ckeys.specs.declared.fault.Fault.TheVariants.{Memory, Read, Tool, Pre
 use Rattle.ckeys.specs.declared.step.Step.{Step}
 use Rattle.ckeys.specs.declared.step.Step.TheVariants.{Preprocess, Compile}
 
--- the compiler's kind, what is known of it and its digest, what its words ask for, where and when its commands run, and the folders that don't count
+-- the compiler's kind, what is known of it and its digest, what its words ask for, where and when its commands run, and what the configuration fixes
 pub record KeyCall : Type 0 where
   pub kind : CCompilerKind
   pub traits : Traits
   pub compiler_digest : Bytes
   pub parsed : ParsedArguments
   pub scene : Scene
-  pub folders : List Bytes
+  pub settings : Settings
 
 -- whether an input in this language goes through the preprocessor
 abbrev pub needs_preprocessing : Language → Bool
@@ -48,10 +52,6 @@ input_path c = join c.scene.dir c.parsed.input
 abbrev pub extra_paths : KeyCall → List Bytes
 extra_paths c = map (join c.scene.dir) c.parsed.extra_hash_files
 
--- the contents of a regular file, and nothing for what isn't one
-abbrev pub contents_in : Tree → Bytes → Bytes
-contents_in tree path = unwrap_or (contents_at tree path) []
-
 -- the first of these that isn't a regular file
 abbrev pub first_missing : Tree → List Bytes → Option Bytes
 first_missing tree paths = find (λ path. is_none (contents_at tree path)) paths
@@ -66,22 +66,40 @@ text_in [] = []
 text_in (None ∷ others) = []
 text_in (Some text ∷ others) = text
 
--- The text of a call: what the preprocessor prints, or the input's bytes where its language isn't preprocessed.
-abbrev pub text_of : Meaning → KeyCall → Bytes
-text_of meaning c = if needs_preprocessing c.parsed.language then text_in (printed_of meaning c).files else contents_in c.scene.files (input_path c)
+-- a call with what its preprocessor prints: all that its key depends on, as plain values
+pub record PrintedCall : Type 0 where
+  pub call : KeyCall
+  pub printed : Made
 
--- the record of a call
-abbrev pub record_of : Meaning → KeyCall → CRecord
-record_of meaning c = record {
+abbrev pub printed_call : Meaning → KeyCall → PrintedCall
+printed_call meaning c = record { call = c; printed = printed_of meaning c }
+
+-- The text of a call: what the preprocessor prints, or the input's bytes where its language isn't preprocessed.
+abbrev pub text_by : PrintedCall → Bytes
+text_by p = if needs_preprocessing p.call.parsed.language then text_in p.printed.files else contents_in p.call.scene.files (input_path p.call)
+
+abbrev pub text_of : Meaning → KeyCall → Bytes
+text_of meaning c = text_by (printed_call meaning c)
+
+-- the record of a call whose text is this
+abbrev pub record_with : KeyCall → Bytes → CRecord
+record_with c text = record {
   compiler_digest = c.compiler_digest;
   plusplus = c.traits.plusplus;
   language = c.parsed.language;
-  words = stripped_words c.folders (c.parsed.common_args ++ c.parsed.arch_args);
+  words = stripped_words c.settings.basedirs (c.parsed.common_args ++ c.parsed.arch_args);
   variables = filter is_cached c.scene.env;
   extra_contents = map (contents_in c.scene.files) (extra_paths c);
   assembler_digest = c.traits.assembler_digest;
-  text = stripped_of text_places c.folders (text_of meaning c);
+  text = stripped_of text_places c.settings.basedirs text;
 }
+
+-- the record of a call
+abbrev pub record_by : PrintedCall → CRecord
+record_by p = record_with p.call (text_by p)
+
+abbrev pub record_of : Meaning → KeyCall → CRecord
+record_of meaning c = record_by (printed_call meaning c)
 
 -- the fault of the preprocessor
 abbrev pub preprocess_fault_of : Made → Option Fault
@@ -91,16 +109,35 @@ preprocess_fault_of made = if int_eq made.status (pos 0) then None else Some (Pr
 abbrev pub read_fault_of : Tree → List Bytes → Option Fault
 read_fault_of tree paths = option_map Read (first_missing tree paths)
 
+abbrev pub text_fault_by : PrintedCall → Option Fault
+text_fault_by p = if needs_preprocessing p.call.parsed.language then preprocess_fault_of p.printed else read_fault_of p.call.scene.files (input_path p.call ∷ [])
+
 abbrev pub text_fault_of : Meaning → KeyCall → Option Fault
-text_fault_of meaning c = if needs_preprocessing c.parsed.language then preprocess_fault_of (printed_of meaning c) else read_fault_of c.scene.files (input_path c ∷ [])
+text_fault_of meaning c = text_fault_by (printed_call meaning c)
 
 abbrev pub or_else : Option Fault → Option Fault → Option Fault
 or_else None second = second
 or_else (Some fault) second = Some fault
 
--- The first fault in the order of the steps, where no growth is refused and no device fails: an extra file that isn't there, and then the text's.
+-- whether include records are asked for: they are kept, the language is preprocessed, and no option stands against it
+abbrev pub asks_records : KeyCall → Bool
+asks_records c = c.settings.direct && (needs_preprocessing c.parsed.language && is_none c.parsed.too_hard_for_preprocessor_cache_mode)
+
+-- the input, where it is needed for an include record and isn't there
+abbrev pub missing_input : KeyCall → Option Bytes
+missing_input c = if asks_records c then first_missing c.scene.files (input_path c ∷ []) else None
+
+-- The first fault in the order of the steps, where no growth is refused and no device fails: an extra file that isn't there, then the input where an include record is asked for, and then the text's.
+abbrev pub key_fault_by : PrintedCall → Option Fault
+key_fault_by p = or_else (read_fault_of p.call.scene.files (extra_paths p.call)) (or_else (option_map Read (missing_input p.call)) (text_fault_by p))
+
 abbrev pub key_fault_of : Meaning → KeyCall → Option Fault
-key_fault_of meaning c = or_else (read_fault_of c.scene.files (extra_paths c)) (text_fault_of meaning c)
+key_fault_of meaning c = key_fault_by (printed_call meaning c)
+
+-- the fault of a call whose files can't be read
+abbrev pub fault_by : ParseFault → Fault
+fault_by files_faults.Memory = Memory
+fault_by (files_faults.Read path) = Read path
 
 -- Why a file that is needed can't be had: memory; or its device failed; or it is the first one that isn't there.
 abbrev pub FileCause : Option Bytes → (Bytes → Type 0) → Fault → Type 0

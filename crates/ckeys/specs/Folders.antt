@@ -3,6 +3,7 @@ use Rattle.std.specs.Prelude.{◌≡◌, Bool, true, not, ◌||◌, if◌then◌
 use Rattle.std.specs.List.{list_all}
 use Rattle.os_files.specs.Bytes.{Bytes}
 use Rattle.os_files.specs.Path.{is_absolute, is_slash}
+use Rattle.time_macros.specs.Days.{ZoneRule}
 use Rattle.ckeys.specs.declared.config.ConfigError.{ConfigError}
 use Rattle.ckeys.specs.declared.config.ConfigError.TheVariants.{Memory, BadFolder}
 
@@ -15,12 +16,14 @@ without_slashes (b ∷ folder) = if list_all is_slash (b ∷ folder) then [] els
 abbrev pub is_bad : Bytes → Bool
 is_bad folder = not (is_absolute folder) || list_all is_slash folder
 
--- what a configuration fixes
+-- what a configuration fixes: the folders that don't count, the zone in which days are told, and whether include records are kept
 pub record Settings : Type 0 where
   pub basedirs : List Bytes
+  pub zone : ZoneRule
+  pub direct : Bool
 
-abbrev pub settings_of : List Bytes → Settings
-settings_of basedirs = record { basedirs = basedirs }
+abbrev pub settings_with : List Bytes → ZoneRule → Bool → Settings
+settings_with basedirs zone direct = record { basedirs = basedirs; zone = zone; direct = direct }
 
 -- memory, or the first bad folder
 abbrev pub ConfigCause : Option Bytes → ConfigError → Type 0

@@ -7,3 +7,7 @@ pub mod Calls
 pub mod Folders
 pub mod Compilers
 pub mod Hashers
+pub mod Surroundings
+pub mod Entries
+pub mod EntryTurns
+pub mod HashCalls

@@ -1,13 +1,14 @@
 //! What is fixed for all keys of a session.
 
-ghost use Rattle.std.specs.Prelude.{◌≡◌, false, None, find, map, IfOk, IfErr, OnOk};
-ghost use Rattle.ckeys.specs.Folders.{is_bad, without_slashes, settings_of, ConfigCause, FolderCause};
+ghost use Rattle.std.specs.Prelude.{◌≡◌, false, true, None, find, map, IfOk, IfErr, OnOk};
+ghost use Rattle.ckeys.specs.Folders.{is_bad, without_slashes, settings_with, ConfigCause, FolderCause};
 
 use os_files::listed::Listed;
 use os_files::os_bytes::OsBytes;
 use std::alloc::{AllocError, Global};
 use std::fmt;
 use std::marker::Model;
+use time_macros::zone::Zone;
 
 /// Why there is no configuration.
 #[derive(Debug, Drop, PartialEq, Eq)]
@@ -37,26 +38,36 @@ impl fmt::Display for ConfigError {
     }
 }
 
-/// The folders that don't count. Contracts see them without the slashes at their ends.
+/// The folders that don't count, the zone in which days are told, and whether include records are kept. Contracts see the
+/// folders without the slashes at their ends.
 #[derive(Drop)]
 pub struct KeyConfig {
     basedirs: Listed<OsBytes>,
+    zone: Zone,
+    direct: bool,
 }
 
 impl Model for KeyConfig {
-    ghost use Rattle.ckeys.specs.Folders.{Settings, settings_of};
+    ghost use Rattle.ckeys.specs.Folders.{Settings, settings_with};
 
     ghost Value = { Settings };
 
-    ghost view = { λ a. settings_of a.basedirs };
+    ghost view = { λ a. settings_with a.basedirs a.zone a.direct };
 }
 
 impl KeyConfig {
-    /// These folders, each without the slashes at its end.
+    /// These folders, each without the slashes at its end; days are told in that zone; include records are kept where
+    /// `direct` says so.
     ///
-    /// `BadFolder` names the first one that isn't absolute or is only slashes.
-    pub fn new(alloc: Global, basedirs: &[OsBytes]) -> Result<KeyConfig, ConfigError>
-        ensures folders { IfOk result (λ config. config ≡ settings_of (map without_slashes basedirs.now)) }
+    /// `BadFolder` names the first folder that isn't absolute or is only slashes.
+    pub fn new(
+        alloc: Global,
+        basedirs: &[OsBytes],
+        zone: Zone,
+        direct: bool,
+    ) -> Result<KeyConfig, ConfigError>
+        ensures settings { let cut = map without_slashes basedirs.now in
+            IfOk result (λ config. config ≡ settings_with cut zone direct) }
         ensures good { OnOk result (find is_bad basedirs.now ≡ None) }
         ensures cause { IfErr result (ConfigCause (find is_bad basedirs.now)) }
     {
@@ -66,7 +77,25 @@ impl KeyConfig {
             folders.push(folder_without_slashes(alloc, folder)?)?;
             rest = others;
         }
-        Ok(KeyConfig { basedirs: folders })
+        Ok(KeyConfig {
+            basedirs: folders,
+            zone,
+            direct,
+        })
+    }
+
+    /// Whether include records are kept.
+    pub fn direct(&self) -> bool
+        ensures { result ≡ self.now.direct }
+    {
+        self.direct
+    }
+
+    /// The zone in which days are told.
+    pub fn zone(&self) -> &Zone
+        ensures { result.now ≡ self.now.zone }
+    {
+        &self.zone
     }
 
     /// The folders that don't count.

@@ -4,6 +4,7 @@ ghost use Rattle.std.specs.Prelude.{◌≡◌};
 
 use crate::step::Step;
 use os_files::os_bytes::OsBytes;
+use response_files::fault::ParseFault;
 use std::alloc::{AllocError, AllocFailed};
 use std::fmt;
 
@@ -41,6 +42,20 @@ impl<T: Drop> From<AllocFailed<T>> for Fault {
 
     fn from(_error: AllocFailed<T>) -> Fault {
         Fault::Memory
+    }
+}
+
+/// A fault of files is that of the call.
+impl From<ParseFault> for Fault {
+    ghost use Rattle.ckeys.specs.Calls.{fault_by};
+
+    ghost from_gives = { λ parse_fault f. f ≡ fault_by parse_fault };
+
+    fn from(fault: ParseFault) -> Fault {
+        match fault {
+            ParseFault::Memory => Fault::Memory,
+            ParseFault::Read(path) => Fault::Read(path),
+        }
     }
 }
 

@@ -1,10 +1,12 @@
 //! Files that a key needs: they are there, or there is no key.
 
-ghost use Rattle.std.specs.Prelude.{◌≡◌, None, [], ◌∷◌, map, string_bytes, IfOk, IfErr, OnOk};
+ghost use Rattle.std.specs.Prelude.{◌≡◌, None, Some, [], ◌∷◌, map, string_bytes, IfOk, IfErr, OnOk};
 ghost use Rattle.os_files.specs.Fails.{FailsOn};
 ghost use Rattle.os_files.specs.Path.{join};
 ghost use Rattle.ckeys_base.specs.Hex.{hex_of};
-ghost use Rattle.ckeys.specs.Calls.{FileCause, contents_in, first_missing};
+ghost use Rattle.os_files.specs.Tree.{contents_at};
+ghost use Rattle.include_records.specs.Surroundings.{contents_in};
+ghost use Rattle.ckeys.specs.Calls.{FileCause, first_missing};
 
 use crate::fault::Fault;
 use ckeys_base::digest::Digest;
@@ -36,6 +38,26 @@ fn needed_digest<H: HashState, F: Files>(
     }
 }
 
+/// The contents of a file that is needed.
+pub(crate) fn needed_at<F: Files>(
+    alloc: Global,
+    path: &OsBytes,
+    files: &mut F,
+) -> Result<OsBytes, Fault>
+    ensures contents { IfOk result (λ contents.
+        contents_at (F.tree files.old) path.now ≡ Some contents) }
+    ensures cause { let missing = first_missing (F.tree files.old) (path.now ∷ []) in
+        IfErr result (FileCause missing (FailsOn F.tree F.failed F.fails_on files.old files.new)) }
+    ensures tree { F.tree files.new ≡ F.tree files.old }
+    ensures steady { OnOk result (F.failed files.new ≡ F.failed files.old) }
+{
+    match files.read(alloc, path) {
+        Ok(Some(contents)) => Ok(contents),
+        Ok(None) | Err(FileFail::Device) => Err(Fault::Read(path.clone()?)),
+        Err(FileFail::Memory) => Err(Fault::Memory),
+    }
+}
+
 /// The contents of a file that is needed, which is read from that directory.
 pub(crate) fn needed_contents<F: Files>(
     alloc: Global,
@@ -43,18 +65,17 @@ pub(crate) fn needed_contents<F: Files>(
     name: &OsBytes,
     files: &mut F,
 ) -> Result<OsBytes, Fault>
-    ensures contents { IfOk result (λ contents. contents ≡ contents_in (F.tree files.old) (join dir.now name.now)) }
-    ensures there { OnOk result (first_missing (F.tree files.old) (join dir.now name.now ∷ []) ≡ None) }
-    ensures cause { IfErr result (FileCause (first_missing (F.tree files.old) (join dir.now name.now ∷ [])) (FailsOn F.tree F.failed F.fails_on files.old files.new)) }
+    ensures contents { IfOk result (λ contents.
+        contents ≡ contents_in (F.tree files.old) (join dir.now name.now)) }
+    ensures there { OnOk result
+        (first_missing (F.tree files.old) (join dir.now name.now ∷ []) ≡ None) }
+    ensures cause { let missing = first_missing (F.tree files.old) (join dir.now name.now ∷ []) in
+        IfErr result (FileCause missing (FailsOn F.tree F.failed F.fails_on files.old files.new)) }
     ensures tree { F.tree files.new ≡ F.tree files.old }
     ensures steady { OnOk result (F.failed files.new ≡ F.failed files.old) }
 {
     let path = join(alloc, dir.as_bytes(), name.as_bytes())?;
-    match files.read(alloc, &path) {
-        Ok(Some(contents)) => Ok(contents),
-        Ok(None) | Err(FileFail::Device) => Err(Fault::Read(path)),
-        Err(FileFail::Memory) => Err(Fault::Memory),
-    }
+    needed_at(alloc, &path, files)
 }
 
 /// The digests of the files whose contents count, in order.

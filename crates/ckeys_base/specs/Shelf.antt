@@ -9,6 +9,10 @@ pub record Shelf (K V : Type 0) : Type 0 where
   pub forgets : ℕ  -- how often a look-up answered nothing for a key held just before, modulo 2 ^ 64
   pub clears : ℕ  -- how often all was dropped on demand, modulo 2 ^ 64
 
+-- nothing is held
+abbrev pub IsEmpty : {K V : Type 0} → Shelf K V → Type 0
+IsEmpty {K} shelf = (key : K) → shelf.held key ≡ None
+
 -- the key was held before and is answered by nothing
 abbrev pub Forgotten : {V : Type 0} → Option V → Option V → Type 0
 Forgotten before answer = IsSome before × IsNone answer

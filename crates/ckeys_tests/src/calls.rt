@@ -8,9 +8,11 @@ use ckeys::compiler_impl::CCompilerImpl;
 use ckeys::config::KeyConfig;
 use ckeys::fault::Fault;
 use ckeys::hasher::needs_c_preprocessing;
+use ckeys::place::CallPlace;
 use ckeys::preprocessor::Preprocessor;
 use ckeys::shape::CShape;
 use ckeys::step::Step;
+use ckeys::{EntryKey, PreprocessorCacheEntry};
 use cmdlines::clang::Clang;
 use cmdlines::gcc::Gcc;
 use cmdlines_tables::language::Language;
@@ -22,31 +24,61 @@ use std::alloc::{AllocError, Global};
 use std::test::Fail;
 use test_kit::broken_files::BrokenFiles;
 use test_kit::rows::{files_of, words};
+use time_macros::zone::Zone;
+use wrap_base::map_store::MapStore;
 
-/// Where a call is made, under which variables and without which folders.
+/// The include records of earlier calls.
+pub(crate) type Records = MapStore<EntryKey, PreprocessorCacheEntry>;
+
+/// Where a call is made, under which variables and without which folders, and whether include records are kept.
 #[derive(Drop)]
-struct Place<'a> {
-    dir: &'a str,
-    env: &'a [(OsBytes, OsBytes)],
-    folders: &'a [OsBytes],
+pub(crate) struct Place<'a> {
+    pub(crate) dir: &'a str,
+    pub(crate) env: &'a [(OsBytes, OsBytes)],
+    pub(crate) folders: &'a [OsBytes],
+    pub(crate) direct: bool,
 }
 
-/// In `/w`, with no variables and no folders.
+/// In `/w`, with no variables, no folders and no include records.
 fn in_w() -> Place<'static> {
     Place {
         dir: "/w",
         env: &[],
         folders: &[],
+        direct: false,
     }
 }
 
 /// This compiler at `/usr/bin/gcc` with the digest `d`.
-fn known<I: Drop>(alloc: Global, compiler: I) -> Result<CCompiler<I>, AllocError> {
+pub(crate) fn known<I: Drop>(alloc: Global, compiler: I) -> Result<CCompiler<I>, AllocError> {
     let executable = OsBytes::from_slice(alloc, b"/usr/bin/gcc")?;
     Ok(CCompiler::with_digest(compiler, executable, String::from_str(alloc, "d")?))
 }
 
-/// What the call of this line gives.
+/// What the call of this line gives over these records.
+pub(crate) fn ask<I: CCompilerImpl + Drop, F: Files>(
+    alloc: Global,
+    compiler: &CCompiler<I>,
+    line: &str,
+    place: &Place<'_>,
+    records: &mut Records,
+    files: &mut F,
+    tool: &mut PrintTool,
+) -> Result<Result<(String, CShape, bool), Fault>, Fail> {
+    let parsed = parsed(alloc, &compiler.compiler, line)?;
+    let dir = OsBytes::from_slice(alloc, place.dir.as_bytes())?;
+    let config = KeyConfig::new(alloc, place.folders, Zone::utc(), place.direct)?;
+    let at = CallPlace {
+        dir: &dir,
+        env: place.env,
+        moment: 0,
+        config: &config,
+    };
+    let hasher = compiler.hasher(&parsed);
+    Ok(hasher.generate_hash_key::<Sha256, Records, F, PrintTool>(alloc, &at, records, files, tool))
+}
+
+/// What the call of this line gives, where no record is there.
 fn call<I: CCompilerImpl + Drop, F: Files>(
     alloc: Global,
     compiler: &CCompiler<I>,
@@ -55,13 +87,8 @@ fn call<I: CCompilerImpl + Drop, F: Files>(
     files: &mut F,
     tool: &mut PrintTool,
 ) -> Result<Result<(String, CShape, bool), Fault>, Fail> {
-    let parsed = parsed(alloc, &compiler.compiler, line)?;
-    let dir = OsBytes::from_slice(alloc, place.dir.as_bytes())?;
-    let config = KeyConfig::new(alloc, place.folders)?;
-    let hasher = compiler.hasher(&parsed);
-    Ok(hasher.generate_hash_key::<Sha256, F, PrintTool>(
-        alloc, &dir, place.env, 0, &config, files, tool,
-    ))
+    let mut records = MapStore::new(alloc);
+    ask(alloc, compiler, line, place, &mut records, files, tool)
 }
 
 /// The key of this line of gcc in `/w`, or the fault as text.
@@ -220,6 +247,7 @@ fn build_in(alloc: Global, dir: &str, text: &[u8], folders: &[OsBytes]) -> Resul
         dir,
         env: &[],
         folders,
+        direct: false,
     };
     let gcc = gcc(alloc, false, None)?;
     let (key, _) = key_of(alloc, gcc, "-o main.o -c src/main.c", &place, text)?;
@@ -253,6 +281,7 @@ fn under(alloc: Global, name: &str, value: &str) -> Result<String, Fail> {
         dir: "/w",
         env: env.as_slice(),
         folders: &[],
+        direct: false,
     };
     let gcc = gcc(alloc, false, None)?;
     let (key, _) = key_of(alloc, gcc, "-c foo.c", &place, b"int x;")?;

@@ -1,26 +1,28 @@
-//! Folders that don't count, and which can't be such.
+//! What is fixed for all keys: folders that don't count, and which can't be such; the zone; and whether include records are kept.
 
 use ckeys::config::{ConfigError, KeyConfig};
+use include_records::moments::day_of;
 use os_files::os_bytes::OsBytes;
 use std::alloc::Global;
 use std::test::Fail;
 use test_kit::rows::words;
+use time_macros::zone::Zone;
 
 #[test]
 fn folders_lose_slashes_at_their_ends(rt: HostRuntime) -> Result<(), Fail> {
     let alloc = rt.alloc();
     let given = words(alloc, "/home/a// /b")?;
-    let config = KeyConfig::new(alloc, given.as_slice())?;
+    let config = KeyConfig::new(alloc, given.as_slice(), Zone::utc(), false)?;
     let kept = words(alloc, "/home/a /b")?;
     assert_eq!(rt; config.basedirs(), kept.as_slice());
-    let none = KeyConfig::new(alloc, &[])?;
+    let none = KeyConfig::new(alloc, &[], Zone::utc(), false)?;
     assert!(rt; none.basedirs().is_empty());
     Ok(())
 }
 
 /// Why there is no configuration of these folders, as text, or that there is one.
 fn refusal(alloc: Global, folders: &[OsBytes]) -> Result<String, Fail> {
-    match KeyConfig::new(alloc, folders) {
+    match KeyConfig::new(alloc, folders, Zone::utc(), false) {
         Ok(_) => Ok(String::from_str(alloc, "a configuration")?),
         Err(error) => Ok(format!(in alloc; "{error:?}")?),
     }
@@ -63,8 +65,24 @@ fn errors_are_printed(rt: HostRuntime) -> Result<(), Fail> {
     );
     let folders = words(alloc, "/a w //")?;
     assert_eq!(rt;
-        KeyConfig::new(alloc, folders.as_slice()).err(),
+        KeyConfig::new(alloc, folders.as_slice(), Zone::utc(), false).err(),
         Some(folder)
     );
+    Ok(())
+}
+
+#[test]
+fn the_zone_and_the_records_are_kept(rt: HostRuntime) -> Result<(), Fail> {
+    let alloc = rt.alloc();
+    let Ok(one_hour_ahead) = Zone::new("CET-1") else {
+        return Err("no zone".into());
+    };
+    let kept = KeyConfig::new(alloc, &[], one_hour_ahead, true)?;
+    let off = KeyConfig::new(alloc, &[], Zone::utc(), false)?;
+    assert!(rt; kept.direct());
+    assert!(rt; !off.direct());
+    // Half an hour before the first day of 1970 ends in UTC.
+    assert_eq!(rt; day_of(84600, kept.zone()), Some(1));
+    assert_eq!(rt; day_of(84600, off.zone()), Some(0));
     Ok(())
 }

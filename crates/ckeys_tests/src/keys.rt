@@ -1,6 +1,9 @@
 //! Which requests have one key, and which have two.
 
-use ckeys::laws::{folders_in_texts_do_not_count, keys_tell_records, materials_tell_parts};
+use ckeys::laws::{
+    entry_premises_can_be_met, folders_in_texts_do_not_count, keys_tell_records,
+    materials_tell_parts, records_are_true,
+};
 use ckeys::params::{HashKeyParams, hash_arguments};
 use ckeys::shape::CShape;
 use ckeys_base::digest::Digest;
@@ -151,6 +154,8 @@ fn laws_are_called(rt: HostRuntime) -> Result<(), Fail> {
     materials_tell_parts();
     keys_tell_records::<Sha256>();
     folders_in_texts_do_not_count();
+    records_are_true::<Sha256>();
+    entry_premises_can_be_met();
     assert_eq!(rt; ckeys::params::CACHE_VERSION.as_slice(), b"11".as_slice());
     Ok(())
 }

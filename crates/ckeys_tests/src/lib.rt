@@ -13,3 +13,5 @@ mod fault;
 mod keys;
 #[cfg(test)]
 mod print_tool;
+#[cfg(test)]
+mod records;

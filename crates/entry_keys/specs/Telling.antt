@@ -1,9 +1,9 @@
 -- What an entry key tells, where digests are distinct.
-use Rattle.std.specs.Prelude.{◌≡◌}
+use Rattle.std.specs.Prelude.{◌≡◌, if◌then◌else◌, List, Option, None, Some}
 use Rattle.os_files.specs.Bytes.{Bytes}
 use Rattle.ckeys_base.specs.Hex.{hex_of}
 use Rattle.entry_keys.specs.Identity.{Identity, IdentityFits, identity_material}
-use Rattle.entry_keys.specs.Sights.{Sights, SightsFit, sight_material}
+use Rattle.entry_keys.specs.Sights.{Seen, Sights, SightsFit, can_be_told, sight_material, sights_of}
 use Rattle.entry_keys.specs.declared.entry_key.EntryKey.{EntryKey}
 
 -- these two strings are equal where their digests are
@@ -16,6 +16,11 @@ entry_key_with digest_of i s = record {
   identity = hex_of (digest_of (identity_material i));
   key = hex_of (digest_of (sight_material s));
 }
+
+-- the entry key of who asks, with these digests of extra files, over this input, if it has one
+abbrev pub entry_key_over : (Bytes → Bytes) → Identity → List Bytes → Seen → Option EntryKey
+entry_key_over digest_of i extra seen =
+    if can_be_told seen then Some (entry_key_with digest_of i (sights_of digest_of i extra seen)) else None
 
 -- who asks and what would be told, of two calls: their lengths fit, and what is hashed for them has no digest in common
 -- unless it is equal

@@ -7,9 +7,9 @@ ghost use Rattle.include_records.specs.Surroundings.{contents_in, include_with, 
 ghost use Rattle.time_macros.specs.Days.{local_day};
 ghost use Rattle.time_macros.specs.Macros as macros;
 
-use crate::day::day_of;
 use crate::entry::IncludeEntry;
-use crate::sighting::{contents_of, digest_of, second_at};
+use crate::moments::{day_of, second_at};
+use crate::sighting::{contents_of, digest_of};
 use ckeys_base::hash_state::HashState;
 use os_files::files::Files;
 use os_files::listed::Listed;

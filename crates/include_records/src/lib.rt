@@ -1,12 +1,12 @@
 //! Include records: which files a preprocessed text named, what they held, and the key of that text.
 #![tactic(auto)]
 
-mod day;
 pub mod entry;
 pub mod error;
 pub mod includes;
 pub mod key_text;
 mod layout;
 mod look_up;
+pub mod moments;
 pub mod record;
 mod sighting;

@@ -7,8 +7,8 @@ ghost use Rattle.include_records.specs.LookUps.{LooksUp, last_there};
 ghost use Rattle.include_records.specs.Surroundings.{place_with};
 ghost use Rattle.time_macros.specs.Days.{local_day};
 
-use crate::day::day_of;
 use crate::key_text::KeyText;
+use crate::moments::day_of;
 use crate::record::PreprocessorCacheEntry;
 use crate::sighting::Sightings;
 use ckeys_base::hash_state::HashState;

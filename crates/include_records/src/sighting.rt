@@ -13,6 +13,7 @@ ghost use Rattle.include_records.specs.Surroundings as spec;
 
 use crate::entry::IncludeEntry;
 use crate::key_text::KeyText;
+use crate::moments::second_at;
 use ckeys_base::digest::Digest;
 use ckeys_base::hash_state::HashState;
 use os_files::files::{FileFail, Files};
@@ -49,25 +50,6 @@ pub(crate) fn contents_of<F: Files>(
 {
     match files.read(alloc, path) {
         Ok(found) => Ok(found),
-        Err(FileFail::Memory) => Err(ParseFault::Memory),
-        Err(FileFail::Device) => Err(ParseFault::Read(path.clone()?)),
-    }
-}
-
-/// The second in which what is at a path was last changed; 0 where nothing is.
-pub(crate) fn second_at<F: Files>(
-    alloc: Global,
-    path: &OsBytes,
-    files: &mut F,
-) -> Result<i64, ParseFault>
-    ensures second { IfOk result (λ second. second ≡ spec.second_at (F.tree files.old) path.now) }
-    ensures cause { IfErr result (CauseOf (FailsOn F.tree F.failed F.fails_on files.old files.new)) }
-    ensures tree { F.tree files.new ≡ F.tree files.old }
-    ensures steady { OnOk result (F.failed files.new ≡ F.failed files.old) }
-{
-    match files.metadata(alloc, path) {
-        Ok(Some(metadata)) => Ok(metadata.mtime.seconds),
-        Ok(None) => Ok(0),
         Err(FileFail::Memory) => Err(ParseFault::Memory),
         Err(FileFail::Device) => Err(ParseFault::Read(path.clone()?)),
     }

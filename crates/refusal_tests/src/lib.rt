@@ -2,4 +2,8 @@
 #![tactic(auto)]
 
 #[cfg(test)]
+mod records;
+#[cfg(test)]
 mod runs;
+#[cfg(test)]
+mod texts;

@@ -6,6 +6,7 @@ ghost use Rattle.std.specs.Io.KnownBytes.{IsAtEnd};
 use crate::scenario::{Scenario, ScenarioCall, ScenarioFault, read_scenario};
 use ckeys::fault::Fault;
 use ckeys::preprocessor::Preprocessor;
+use ckeys::{EntryKey, PreprocessorCacheEntry};
 use os_files::listed::Listed;
 use os_files::os_bytes::OsBytes;
 use script_tool::script::ScriptTool;
@@ -18,6 +19,9 @@ use wrap::session::Session;
 use wrap_base::answer::{Answer, How, Output};
 use wrap_base::map_store::MapStore;
 use wrap_base::store_key::StoreKey;
+
+/// The include records.
+type Entries = MapStore<EntryKey, PreprocessorCacheEntry>;
 
 /// What is kept of requests.
 type Kept = MapStore<StoreKey, Listed<(OsBytes, OsBytes)>>;
@@ -116,7 +120,12 @@ fn serve_calls<W: Write>(alloc: Global, scenario: Scenario, writer: &mut W) -> R
         tool_config,
         calls,
     } = scenario;
-    let mut session = Session::new(alloc, session_config, MapStore::new(alloc));
+    let mut session = Session::new(
+        alloc,
+        session_config,
+        MapStore::new(alloc),
+        MapStore::new(alloc),
+    );
     let mut tool = ScriptTool::new(tool_config);
     for (number, call) in (1u64..).zip(calls) {
         let answer = answered(call, &mut session, &mut tool);
@@ -129,10 +138,10 @@ fn serve_calls<W: Write>(alloc: Global, scenario: Scenario, writer: &mut W) -> R
         .map_err(|error| fault_of(&error, RunFault::Output))
 }
 
-/// What a call is answered, before which all that the store holds is dropped where the call says so.
+/// What a call is answered, before which all that both stores hold is dropped where the call says so.
 fn answered(
     call: ScenarioCall,
-    session: &mut Session<Sha256, Kept>,
+    session: &mut Session<Sha256, Entries, Kept>,
     tool: &mut ScriptTool,
 ) -> Result<Answer, Fault> {
     let ScenarioCall {

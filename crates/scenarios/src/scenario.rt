@@ -1,10 +1,14 @@
 //! Scenarios: JSON texts that say which requests are served, each with its own files.
 //!
-//! A scenario is an object with the member `requests`, the list of the requests, and perhaps `basedirs`, a list of byte texts, else empty: the folders that don't count. Each folder is absolute and not only slashes.
+//! A scenario is an object with the member `requests`, the list of the requests, and perhaps these:
+//!
+//! - `basedirs`: a list of byte texts, else empty: the folders that don't count. Each is absolute and not only slashes;
+//! - `zone`: a text, the rule of POSIX for the zone in which days are told, else `UTC0`;
+//! - `direct`: a truth value, whether include records are kept, else false.
 //!
 //! A request is an object with these members, of which `compiler` and `words` are required:
 //!
-//! - `compiler`: the text `gcc` or `clang`;
+//! - `compiler`: the text `gcc`, `clang`, `diab`, `msvc` or `taskingvx`;
 //! - `executable`: a byte text, else the compiler's name;
 //! - `digest`: a text that stands for the executable in keys, else `d`;
 //! - `plusplus`: a truth value, whether the compiler compiles C++ by itself, else false;
@@ -14,7 +18,7 @@
 //! - `env`: a list of pairs of byte texts, else none;
 //! - `moment`: a whole number of 64 bits with a sign, else 1700000000;
 //! - `files`: an object that gives each path a file, else none;
-//! - `forget`: a truth value, whether all that the store holds is dropped before this request, else false.
+//! - `forget`: a truth value, whether all that both stores hold is dropped before this request, else false.
 //!
 //! A file is a text, which is its contents, or an object with either `text`, a text, or `hex`, as in a byte text, and perhaps `mtime`, a whole number of seconds of 64 bits with a sign, else 0. All other members are passed over unread, and of a repeated member the last one counts.
 
@@ -22,7 +26,7 @@ ghost use Rattle.std.specs.Prelude.{◌≡◌};
 
 use crate::byte_text::{read_byte_text, read_byte_texts, read_hex};
 use crate::compilers::read_compiler;
-use crate::members::{into_list, into_object, read_truth, read_whole, required};
+use crate::members::{into_list, into_object, into_text, read_truth, read_whole, required};
 use ckeys::config::{ConfigError, KeyConfig};
 use os_files::file_time::FileTime;
 use os_files::listed::Listed;
@@ -30,6 +34,7 @@ use os_files::memory_files::{MemoryFile, MemoryFiles};
 use os_files::os_bytes::OsBytes;
 use serde_json::Value;
 use std::alloc::{AllocError, AllocFailed, Global};
+use time_macros::zone::{Zone, ZoneError};
 use wrap_base::request::Request;
 
 /// The directory of a request that names none.
@@ -41,9 +46,9 @@ const DEFAULT_MOMENT: i64 = 1_700_000_000;
 /// What is fixed for all requests, and the calls in order.
 #[derive(Drop)]
 pub(crate) struct Scenario {
-    /// The folders that don't count in keys.
+    /// What is fixed for keys.
     pub(crate) session_config: KeyConfig,
-    /// The same folders, which the tool's compiler strips.
+    /// The same, of whose folders the tool's compiler strips texts.
     pub(crate) tool_config: KeyConfig,
     pub(crate) calls: Vec<ScenarioCall>,
 }
@@ -53,7 +58,7 @@ pub(crate) struct Scenario {
 pub(crate) struct ScenarioCall {
     pub(crate) request: Request,
     pub(crate) files: MemoryFiles,
-    /// Whether all that the store holds is dropped before the request.
+    /// Whether all that both stores hold is dropped before the request.
     pub(crate) forget: bool,
 }
 
@@ -105,13 +110,22 @@ impl From<ConfigError> for ScenarioFault {
     }
 }
 
+impl From<ZoneError> for ScenarioFault {
+    fn from(_error: ZoneError) -> ScenarioFault {
+        ScenarioFault::Unreadable
+    }
+}
+
 /// The scenario that these bytes write.
 pub(crate) fn read_scenario(alloc: Global, bytes: &[u8]) -> Result<Scenario, ScenarioFault> {
     let mut members = into_object(Value::from_slice(alloc, bytes)?)?;
     let folders = read_folders(alloc, members.remove("basedirs"))?;
+    let folders = folders.as_slice();
+    let zone = read_zone(members.remove("zone"))?;
+    let direct = read_truth(members.remove("direct"))?;
     Ok(Scenario {
-        session_config: KeyConfig::new(alloc, folders.as_slice())?,
-        tool_config: KeyConfig::new(alloc, folders.as_slice())?,
+        session_config: KeyConfig::new(alloc, folders, zone, direct)?,
+        tool_config: KeyConfig::new(alloc, folders, zone, direct)?,
         calls: read_calls(alloc, required(members.remove("requests"))?)?,
     })
 }
@@ -120,6 +134,13 @@ fn read_folders(alloc: Global, member: Option<Value>) -> Result<Listed<OsBytes>,
     match member {
         Some(folders) => read_byte_texts(alloc, folders),
         None => Ok(Listed::new(alloc)),
+    }
+}
+
+fn read_zone(member: Option<Value>) -> Result<Zone, ScenarioFault> {
+    match member {
+        Some(rule) => Ok(Zone::new(into_text(rule)?.as_str())?),
+        None => Ok(Zone::utc()),
     }
 }
 

@@ -1,10 +1,12 @@
 //! Zones, by the rules that POSIX gives for them.
 
-ghost use Rattle.std.specs.Prelude.{◌≡◌, ◌↔◌, IsOk, IfOk, IsSome, Some};
+ghost use Rattle.std.specs.Prelude.{◌≡◌, ◌↔◌, ℤ, IsOk, IfOk, IsSome, Some};
 ghost use Rattle.jiff_tz.specs.PosixReader.{read_whole};
 ghost use Rattle.jiff_tz.specs.PosixText.{tz_view};
-ghost use Rattle.time_macros.specs.Days.{ZoneRule};
+ghost use Rattle.time_macros.specs.Days.{ZoneRule, shown};
 
+use jiff_core::Offset;
+use jiff_tz::Abbreviation;
 use jiff_tz::posix::TimeZone;
 use std::marker::Model;
 use thiserror::Error;
@@ -42,6 +44,18 @@ impl Zone {
             Ok(rule) => Ok(Zone { rule }),
             Err(_) => Err(ZoneError::NoRule),
         }
+    }
+
+    /// UTC, whose clocks show each moment as it is.
+    pub fn utc() -> Zone
+        ensures { (moment : ℤ) → shown result moment ≡ moment }
+    {
+        let rule = TimeZone {
+            std_abbrev: Abbreviation::utc(),
+            std_offset: Offset::UTC,
+            dst: None,
+        };
+        Zone { rule }
     }
 
     /// The rule.

@@ -5,3 +5,4 @@ pub mod CallSteps
 pub mod RunSteps
 pub mod GatherLemmas
 pub mod ExampleLemmas
+pub mod DirectExampleLemmas

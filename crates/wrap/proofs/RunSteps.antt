@@ -1,20 +1,36 @@
 -- Runs, call by call.
-use Rattle.std.proofs.Common.{◌≡◌, ℕ, List, [], ◌∷◌, ◌++◌, length, true, Some, IsSome, Result, Ok, Err, IfOk, inl, inr, refl, sym, ap, subst, ◌∙◌, map, append_assoc, arith, take, drop, get_or, ◌<◌, ◌+◌, add-zero}
+use Rattle.std.proofs.Common.{◌≡◌, ℕ, zero, suc, ℤ, pos, Bool, true, false, ◌&&◌, if◌then◌else◌, ◌⊎◌, List, [], ◌∷◌, ◌++◌, length, Option, None, Some, IsSome, Result, Ok, Err, IfOk, inl, inr, refl, sym, ap, subst, ◌∙◌, map, append_assoc, append-nil, arith, take, drop, get_or, ◌<◌, ◌+◌, add-zero}
 use Rattle.std.proofs.Math.ListN.{set}
 use Rattle.std.proofs.Math.Seq.{drop-drop}
 use Rattle.std.proofs.lemmas.List.{take_more, take_more_set, take-map, map-append, get_or-drop, get_or-map, drop-set-lt, length-drop, length-map, length-take-le}
 use Rattle.std.proofs.lemmas.List.Elements.{Contains-append_left}
-use Rattle.std.specs.List.{AllByRecursion}
+use Rattle.os_files.specs.Tree.{Tree, contents_at}
+use Rattle.std.specs.Prelude.{is_none}
+use Rattle.std.specs.List.{AllByRecursion, Contains}
+use Rattle.std.specs.Option.{option_map}
+use Rattle.std.specs.Ordering.{int_eq}
 use Rattle.os_files.specs.Bytes.{Bytes, ticked}
-use Rattle.ckeys_base.specs.Shelf.{Shelf}
-use Rattle.ckeys.specs.Meaning.{names_of}
+use Rattle.ckeys_base.specs.Shelf.{IsEmpty, Shelf}
+use Rattle.ckeys.specs.Calls.{KeyCall, PrintedCall, printed_call, extra_paths, first_missing, input_path, key_fault_by, missing_input, needs_preprocessing, or_else, preprocess_fault_of, read_fault_of, text_fault_by}
+use Rattle.ckeys.specs.Entries.{AreTrue, EntryInvariant, EntryPremises, Held, IsHashedAmong, asking, has_entry_key, is_told}
+use Rattle.ckeys.specs.EntryTurns.{EntryTurn}
+use Rattle.ckeys.specs.Folders.{Settings}
+use Rattle.ckeys.specs.Keys.{key_of}
+use Rattle.ckeys.specs.Meaning.{Meaning, names_of}
+use Rattle.ckeys.specs.Surroundings.{place_of}
+use Rattle.entry_keys.specs.declared.entry_key.EntryKey.{EntryKey}
+use Rattle.include_records.specs.Records.{Record}
+use Rattle.ckeys.specs.declared.fault.Fault.TheVariants.{PreprocessFailed, Read}
 use Rattle.ckeys.specs.declared.fault.Fault.{Fault}
-use Rattle.wrap_base.specs.Verdict.{Why}
-use Rattle.wrap_base.specs.Account.{Account, passed, worked, Work, Pairs, account_at, collected, all, placed, why_passed}
+use Rattle.wrap_base.specs.Commands.{kind_of, words_at}
+use Rattle.wrap_base.specs.Verdict.{Decision, Why, asks, passes, verdict_of}
+use Rattle.wrap_base.specs.declared.request.Request.{Request}
+use Rattle.wrap_base.specs.Account.{Account, passed, worked, Work, Pairs, account_at, account_by, asked_by, call_at, work_at, collected, all, direct_calls, direct_of, placed, why_passed}
 use Rattle.wrap_base.specs.Answers.{Answers, SaysPassed}
-use Rattle.wrap_base.specs.Keys.{store_key_of, Premises, Invariant}
+use Rattle.wrap_base.specs.Asking.{EntriesBy, EntriesTurn, IsOfCall, IsOfOneCall, RecordsAreTrue, Shelves}
+use Rattle.wrap_base.specs.Keys.{store_key_of, IsHashedDirect, IsHashedIn, Premises, Invariant}
 use Rattle.wrap_base.specs.Turn.{StoreTurn}
-use Rattle.wrap_base.specs.Whole.{Ticks, Turn, Served, Loses, Run, IsEmpty, accounts_of, AllAnswer, IsFresh, HaveOneRecord, OneFresh, outputs_in, Agree, SameOutputs, served, Each, FilesView, ToolView, begin_of, end_of, served_at, accounts_at}
+use Rattle.wrap_base.specs.Whole.{Ticks, CallTurn, BothRun, Served, Loses, Run, accounts_of, AllAnswer, IsFresh, HaveOneRecord, OneFresh, outputs_in, Agree, SameOutputs, served, Each, FilesView, ToolView, begin_of, end_of, served_at, accounts_at}
 use Rattle.wrap_base.specs.declared.answer.Answer.{Answer}
 use Rattle.wrap_base.specs.declared.answer.Answer.TheVariants.{Pass, Outputs}
 use Rattle.wrap_base.specs.declared.answer.How.TheVariants.{Direct, Stored, Fresh}
@@ -22,13 +38,13 @@ use Rattle.wrap_base.specs.declared.call.Call.{Call}
 use Rattle.wrap_base.specs.declared.store_key.StoreKey.{StoreKey}
 use Rattle.wrap.proofs.CallSteps.{Tells, invariant_step, answers_step, one_key}
 
-loses_nothing : (s : Shelf StoreKey Pairs) → Loses s s
+loses_nothing : {K V : Type 0} (s : Shelf K V) → Loses s s
 loses_nothing s = record { within = λ q v h. h; kept = λ h. (h, λ q i. i) }
 
 -- a run goes on by one call
-pub run_more : (digest_of : Bytes → Bytes) (old mid new : Shelf StoreKey Pairs) (run : List Served) (s : Served) → Run digest_of old run mid → Turn digest_of s.account mid new s.before s.after s.result → Run digest_of old (run ++ s ∷ []) new
-run_more digest_of old mid new [] s r turn = (mid, new, r, turn, loses_nothing new)
-run_more digest_of old mid new (x ∷ run) s r turn = (r.0, r.1, r.2, r.3, run_more digest_of r.1 mid new run s r.4 turn)
+pub run_more : (digest_of : Bytes → Bytes) (settings : Settings) (old mid new : Shelves) (run : List Served) (s : Served) → BothRun digest_of settings old run mid → CallTurn digest_of settings s.account mid new s.before s.after s.result → BothRun digest_of settings old (run ++ s ∷ []) new
+run_more digest_of settings old mid new [] s r turn = (mid, new, r.0, r.1, turn, (loses_nothing new.entries, loses_nothing new.objects))
+run_more digest_of settings old mid new (x ∷ run) s r turn = (r.0, r.1, r.2, r.3, r.4, run_more digest_of settings r.1 mid new run s r.5 turn)
 
 -- three lists that grow together
 served_more : (bs : List (Account × Ticks)) (es : List Ticks) (rs : List (Result Answer Fault)) (b : Account × Ticks) (e : Ticks) (r : Result Answer Fault) → length bs ≡ length rs → length es ≡ length rs
@@ -49,9 +65,37 @@ accounts_of-served (b ∷ bs) [] rs h k = absurd (omega arith)
 accounts_of-served (b ∷ bs) (e ∷ es) [] h k = absurd (omega arith)
 accounts_of-served (b ∷ bs) (e ∷ es) (r ∷ rs) h k = ap (λ l. b.0 ∷ l) (accounts_of-served bs es rs (omega arith) (omega arith))
 
+cons_cases : {X : Type 0} (y : X) (xs : List X) (x : X) → Contains (y ∷ xs) x → (y ≡ x) ⊎ Contains xs x
+cons_cases y xs x c = at c.0 c.1 c.2
+  where
+    at : (k : ℕ) → k < length (y ∷ xs) → get_or (y ∷ xs) k x ≡ x → (y ≡ x) ⊎ Contains xs x
+    at zero p e = inl e
+    at (suc k) p e = inr (k, omega arith, e)
+
+behind : {X : Type 0} (y : X) (xs : List X) (x : X) → Contains xs x → Contains (y ∷ xs) x
+behind y xs x c = (suc c.0, omega (arith, c.1), c.2)
+
+append_cases : {X : Type 0} (xs ys : List X) (x : X) → Contains (xs ++ ys) x → Contains xs x ⊎ Contains ys x
+append_cases [] ys x c = inr c
+append_cases (y ∷ xs) ys x c = elim (cons_cases y (xs ++ ys) x c) [
+  | inl same ↦ inl (0, omega arith, same)
+  | inr later ↦ elim (append_cases xs ys x later) [
+    | inl mine ↦ inl (behind y xs x mine)
+    | inr other ↦ inr other
+  ]
+]
+
 -- from nothing
 empty_invariant : (digest_of : Bytes → Bytes) (s : Shelf StoreKey Pairs) → IsEmpty s → Invariant digest_of [] s.held
 empty_invariant digest_of s empty k v h = let e = empty k in cc
+
+-- the calls of a run that have entry keys
+direct_append : (xs ys : List Account) → direct_calls (xs ++ ys) ≡ direct_calls xs ++ direct_calls ys
+direct_append [] ys = refl
+direct_append (x ∷ xs) ys = ap (λ l. asked_by (direct_of x) ++ l) (direct_append xs ys) ∙ sym (append_assoc (asked_by (direct_of x)) (direct_calls xs) (direct_calls ys))
+
+direct_front : (xs ys : List Account) (p : PrintedCall) → Contains (direct_calls xs) p → Contains (direct_calls (xs ++ ys)) p
+direct_front xs ys p h = subst (λ (l : List PrintedCall). Contains l p) (sym (direct_append xs ys)) (Contains-append_left (direct_calls xs) (direct_calls ys) p h)
 
 -- a front of a run is assumed no more of
 premises_front : (digest_of : Bytes → Bytes) (run more : List Account) → Premises digest_of (run ++ more) → Premises digest_of run
@@ -60,7 +104,47 @@ premises_front digest_of run more p = record {
       (record { call = hx.call; among = Contains-append_left run more (worked hx.call) hx.among; is = hx.is })
       (record { call = hy.call; among = Contains-append_left run more (worked hy.call) hy.among; is = hy.is }) e;
   settled = λ a b ca cb same. p.settled a b (Contains-append_left run more (worked a) ca) (Contains-append_left run more (worked b) cb) same;
+  reprinted = λ earlier now text names in_b in_p. p.reprinted earlier now text names (direct_front run more earlier in_b) (direct_front run more now in_p);
 }
+
+entry_front : (digest_of : Bytes → Bytes) (run more : List Account) → EntryPremises digest_of (direct_calls (run ++ more)) → EntryPremises digest_of (direct_calls run)
+entry_front digest_of run more p = record {
+  distinct = λ x y hx hy e. p.distinct x y
+      (record { by = hx.by; among = direct_front run more hx.by hx.among; is = hx.is })
+      (record { by = hy.by; among = direct_front run more hy.by hy.among; is = hy.is }) e;
+  reprinted = λ earlier now text names in_b in_p. p.reprinted earlier now text names (direct_front run more earlier in_b) (direct_front run more now in_p);
+}
+
+-- what is assumed of a run is assumed of its calls that have entry keys
+asked_in : (o : Option PrintedCall) (p : PrintedCall) → Contains (asked_by o) p → o ≡ Some p
+asked_in None p h = absurd (omega (arith, h.1))
+asked_in (Some q) p h = by (has_entry_key q.call) h
+  where
+    by : (b : Bool) → Contains (if b then q ∷ [] else []) p → Some q ≡ Some p
+    by true h = elim (one_of h) [
+      | inl same ↦ ap Some same
+      | inr none ↦ absurd (omega (arith, none.1))
+    ]
+      where
+        one_of : Contains (q ∷ []) p → (q ≡ p) ⊎ Contains [] p
+        one_of c = cons_cases q [] p c
+    by false h = absurd (omega (arith, h.1))
+
+direct_in : (run : List Account) (p : PrintedCall) → Contains (direct_calls run) p → (w : Work) × Contains run (worked w) × (w.direct ≡ Some p)
+direct_in [] p h = absurd (omega (arith, h.1))
+direct_in (passed why ∷ run) p h = let it = direct_in run p h in (it.0, behind (passed why) run (worked it.0) it.1, it.2)
+direct_in (worked w ∷ run) p h = elim (append_cases (asked_by w.direct) (direct_calls run) p h) [
+  | inl mine ↦ (w, (0, omega (arith), refl), asked_in w.direct p mine)
+  | inr later ↦ let it = direct_in run p later in (it.0, behind (worked w) run (worked it.0) it.1, it.2)
+]
+
+pub entry_premises : (digest_of : Bytes → Bytes) (run : List Account) → Premises digest_of run → EntryPremises digest_of (direct_calls run)
+entry_premises digest_of run p = record { distinct = λ x y hx hy e. p.distinct x y (hashed x hx) (hashed y hy) e; reprinted = p.reprinted }
+  where
+    hashed : (bytes : Bytes) → IsHashedAmong digest_of (direct_calls run) bytes → IsHashedIn digest_of run bytes
+    hashed bytes h =
+        let it = direct_in run h.by h.among in
+        record { call = it.0; among = it.1; is = inr (subst (λ (o : Option PrintedCall). IsHashedDirect digest_of o bytes) (sym it.2) h.is) }
 
 loses_invariant : (digest_of : Bytes → Bytes) (earlier : List Account) (old new : Shelf StoreKey Pairs) → Loses old new → Invariant digest_of earlier old.held → Invariant digest_of earlier new.held
 loses_invariant digest_of earlier old new l inv k v h = inv k v (l.within k v h)
@@ -193,16 +277,110 @@ pub ok_both : {A E : Type 0} (r : Result A E) (P Q R : A → Type 0) → ((x : A
 ok_both (Ok x) P Q R f p q = f x p q
 ok_both (Err e) P Q R f p q = tt
 
-accounts_begin : {F T : Type 0} (folders : List Bytes) (files : FilesView F) (tool : ToolView T) (calls : List (Call F T)) → map (λ b. b.0) (map (begin_of folders files tool) calls) ≡ accounts_at folders files tool calls
-accounts_begin folders files tool [] = refl
-accounts_begin folders files tool (c ∷ calls) = ap (λ l. account_at (tool.meaning c.tool) (files.tree c.files) folders c.request ∷ l) (accounts_begin folders files tool calls)
+accounts_begin : {F T : Type 0} (settings : Settings) (files : FilesView F) (tool : ToolView T) (calls : List (Call F T)) → map (λ b. b.0) (map (begin_of settings files tool) calls) ≡ accounts_at settings files tool calls
+accounts_begin settings files tool [] = refl
+accounts_begin settings files tool (c ∷ calls) = ap (λ l. account_at (tool.meaning c.tool) (files.tree c.files) settings c.request ∷ l) (accounts_begin settings files tool calls)
+
+-- the accounts of calls that were served
+served_accounts : {F T : Type 0} (settings : Settings) (files : FilesView F) (tool : ToolView T) (old new : List (Call F T)) (results : List (Result Answer Fault)) → length results ≡ length old → length new ≡ length old → accounts_of (served_at settings files tool old new results) ≡ accounts_at settings files tool old
+served_accounts settings files tool old new results len same = accounts_of-served (map (begin_of settings files tool) old) (map (end_of settings files tool) new) results (omega (arith, length-map old (begin_of settings files tool), length-map new (end_of settings files tool))) (omega (arith, length-map old (begin_of settings files tool))) ∙ accounts_begin settings files tool old
 
 -- from an empty store all outputs that are answered in a run are the fresh ones
-pub served_outputs : (digest_of : Bytes → Bytes) → Tells digest_of → {F T : Type 0} (folders : List Bytes) (files : FilesView F) (tool : ToolView T) (shelf_old shelf_new : Shelf StoreKey Pairs) (old new : List (Call F T)) (results : List (Result Answer Fault)) → length results ≡ length old → length new ≡ length old
-    → Run digest_of shelf_old (served_at folders files tool old new results) shelf_new → IsEmpty shelf_old → Premises digest_of (accounts_at folders files tool old) → AllAnswer (served_at folders files tool old new results)
-served_outputs digest_of tells folders files tool shelf_old shelf_new old new results len same run empty premises =
-    let accounts : accounts_of (served_at folders files tool old new results) ≡ accounts_at folders files tool old = accounts_of-served (map (begin_of folders files tool) old) (map (end_of folders files tool) new) results (omega (arith, length-map old (begin_of folders files tool), length-map new (end_of folders files tool))) (omega (arith, length-map old (begin_of folders files tool))) ∙ accounts_begin folders files tool old in
-    run_answers digest_of tells [] shelf_old shelf_new (served_at folders files tool old new results) run (empty_invariant digest_of shelf_old empty) (subst (Premises digest_of) (sym accounts) premises)
+pub served_outputs : (digest_of : Bytes → Bytes) → Tells digest_of → {F T : Type 0} (settings : Settings) (files : FilesView F) (tool : ToolView T) (shelf_old shelf_new : Shelf StoreKey Pairs) (old new : List (Call F T)) (results : List (Result Answer Fault)) → length results ≡ length old → length new ≡ length old
+    → Run digest_of shelf_old (served_at settings files tool old new results) shelf_new → IsEmpty shelf_old → Premises digest_of (accounts_at settings files tool old) → AllAnswer (served_at settings files tool old new results)
+served_outputs digest_of tells settings files tool shelf_old shelf_new old new results len same run empty premises =
+    let accounts = served_accounts settings files tool old new results len same in
+    run_answers digest_of tells [] shelf_old shelf_new (served_at settings files tool old new results) run (empty_invariant digest_of shelf_old empty) (subst (Premises digest_of) (sym accounts) premises)
+
+-- what the records of earlier calls say
+abbrev pub Agree_on : (Bytes → Bytes) → Type 0
+Agree_on digest_of = (settings : Settings) (earlier : List PrintedCall) (p : PrintedCall) (held : Held) → p.call.settings ≡ settings → EntryInvariant digest_of settings earlier held → EntryPremises digest_of (earlier ++ asking p) → AreTrue digest_of p held
+
+abbrev pub Stay_on : (Bytes → Bytes) → Type 0
+Stay_on digest_of = (settings : Settings) (earlier : List PrintedCall) (p : PrintedCall) (old new : Shelf EntryKey Record) (before after : ℕ) → p.call.settings ≡ settings → EntryTurn digest_of p old new before after → EntryInvariant digest_of settings earlier old.held → EntryInvariant digest_of settings (earlier ++ asking p) new.held
+
+direct_last : (earlier : List Account) (a : Account) → direct_calls (earlier ++ a ∷ []) ≡ direct_calls earlier ++ asked_by (direct_of a)
+direct_last earlier a = direct_append earlier (a ∷ []) ∙ ap (λ l. direct_calls earlier ++ l) (append-nil (asked_by (direct_of a)))
+
+configured : {settings : Settings} (a : Account) → IsOfOneCall settings a → (p : PrintedCall) → direct_of a ≡ Some p → p.call.settings ≡ settings
+configured (passed why) own p h = cc
+configured (worked w) own p h = (own p h).settled
+
+-- the invariant of the records after a call
+pub records_step : (digest_of : Bytes → Bytes) → Stay_on digest_of → (settings : Settings) (earlier : List Account) (a : Account) (old new : Shelf EntryKey Record) (before after : ℕ) → IsOfOneCall settings a → EntriesTurn digest_of a old new before after
+    → EntryInvariant digest_of settings (direct_calls earlier) old.held → EntryInvariant digest_of settings (direct_calls (earlier ++ a ∷ [])) new.held
+records_step digest_of stay settings earlier a old new before after own turn inv = subst (λ (l : List PrintedCall). EntryInvariant digest_of settings l new.held) (sym (direct_last earlier a)) (by (direct_of a) (configured a own) turn)
+  where
+    by : (o : Option PrintedCall) → ((p : PrintedCall) → o ≡ Some p → p.call.settings ≡ settings) → EntriesBy digest_of o old new before after → EntryInvariant digest_of settings (direct_calls earlier ++ asked_by o) new.held
+    by None configured same = subst (λ (l : List PrintedCall). EntryInvariant digest_of settings l new.held) (sym (append-nil (direct_calls earlier))) (subst (λ (s : Shelf EntryKey Record). EntryInvariant digest_of settings (direct_calls earlier) s.held) (sym same) inv)
+    by (Some p) configured turn = stay settings (direct_calls earlier) p old new before after (configured p refl) turn inv
+
+or_else_none : (first second : Option Fault) (f : Fault) → ((g : Fault) → first ≡ Some g → g ≡ f → ⊥) → ((g : Fault) → second ≡ Some g → g ≡ f → ⊥) → or_else first second ≡ Some f → ⊥
+or_else_none None second f one two h = two f h refl
+or_else_none (Some g) second f one two h = one g refl (let same : g ≡ f = cc in same)
+
+read_never : (o : Option Bytes) (status : ℤ) (g : Fault) → option_map Read o ≡ Some g → g ≡ PreprocessFailed status → ⊥
+read_never None status g h k = cc
+read_never (Some path) status g h k = let same : Read path ≡ PreprocessFailed status = let is : Read path ≡ g = cc in is ∙ k in cc
+
+text_never : (p : PrintedCall) → p.printed.status ≡ pos 0 → (status : ℤ) (g : Fault) → text_fault_by p ≡ Some g → g ≡ PreprocessFailed status → ⊥
+text_never p ok status g h k = by (needs_preprocessing p.call.parsed.language) h
+  where
+    good : (b : Bool) → int_eq p.printed.status (pos 0) ≡ b → (if b then None else Some (PreprocessFailed p.printed.status)) ≡ Some g → ⊥
+    good true e h = cc
+    good false e h = let t = ap (λ s. int_eq s (pos 0)) ok in cc
+
+    by : (b : Bool) → (if b then preprocess_fault_of p.printed else read_fault_of p.call.scene.files (input_path p.call ∷ [])) ≡ Some g → ⊥
+    by true h = good (int_eq p.printed.status (pos 0)) refl h
+    by false h = read_never (first_missing p.call.scene.files (input_path p.call ∷ [])) status g h k
+
+never_fails : (p : PrintedCall) → p.printed.status ≡ pos 0 → (status : ℤ) → key_fault_by p ≡ Some (PreprocessFailed status) → ⊥
+never_fails p ok status h = or_else_none (read_fault_of p.call.scene.files (extra_paths p.call)) (or_else (option_map Read (missing_input p.call)) (text_fault_by p)) (PreprocessFailed status)
+    (λ g e k. read_never (first_missing p.call.scene.files (extra_paths p.call)) status g e k)
+    (λ g e k. or_else_none (option_map Read (missing_input p.call)) (text_fault_by p) (PreprocessFailed status) (λ g' e' k'. read_never (missing_input p.call) status g' e' k') (λ g' e' k'. text_never p ok status g' e' k') (e ∙ ap Some k))
+    h
+
+-- the records are true of a call
+pub true_step : (digest_of : Bytes → Bytes) → Agree_on digest_of → (settings : Settings) (earlier : List Account) (a : Account) (held : Held) → IsOfOneCall settings a
+    → EntryInvariant digest_of settings (direct_calls earlier) held → EntryPremises digest_of (direct_calls (earlier ++ a ∷ [])) → RecordsAreTrue digest_of a held
+true_step digest_of agree settings earlier (passed why) held own inv premises = tt
+true_step digest_of agree settings earlier (worked w) held own inv premises = λ text_key m.
+    let list : direct_calls (earlier ++ worked w ∷ []) ≡ direct_calls earlier ++ asking m.p = direct_last earlier (worked w) ∙ ap (λ o. direct_calls earlier ++ asked_by o) m.has in
+    let are = agree settings (direct_calls earlier) m.p held (own m.p m.has).settled inv (subst (EntryPremises digest_of) list premises) m.framed text_key m.match in
+    let is = own m.p m.has in
+    record {
+      is_key = are.is_key ∙ ap (key_of digest_of) (sym is.rec);
+      succeeds = λ status h. never_fails m.p are.succeeds status (sym is.fault ∙ h);
+    }
+
+-- where no records are kept there is nothing to be said
+pub plain_step : (digest_of : Bytes → Bytes) (a : Account) (held : Held) → direct_of a ≡ None → RecordsAreTrue digest_of a held
+plain_step digest_of (passed why) held none = tt
+plain_step digest_of (worked w) held none = λ text_key m. absurd (let h : None ≡ Some m.p = sym none ∙ m.has in cc)
+
+-- A run over both stores is one over the store of outputs alone, where the records are true of each of its calls: they are where no call has an entry key,
+pub plain_run : (digest_of : Bytes → Bytes) (settings : Settings) (old new : Shelves) (run : List Served) → BothRun digest_of settings old run new → AllByRecursion (λ s. direct_of s.account ≡ None) run → Run digest_of old.objects run new.objects
+plain_run digest_of settings old new [] r none = r.1
+plain_run digest_of settings old new (s ∷ run) r none = (r.0.objects, r.1.objects, r.3, r.4.own (plain_step digest_of s.account r.0.entries.held none.0), plain_run digest_of settings r.1 new run r.5 none.1)
+
+loses_records : (digest_of : Bytes → Bytes) (settings : Settings) (calls : List PrintedCall) (old new : Shelf EntryKey Record) → Loses old new → EntryInvariant digest_of settings calls old.held → EntryInvariant digest_of settings calls new.held
+loses_records digest_of settings calls old new l inv k e h r among = inv k e (l.within k e h) r among
+
+-- or from records of earlier calls
+pub true_run : (digest_of : Bytes → Bytes) → Agree_on digest_of → Stay_on digest_of → (settings : Settings) (earlier : List Account) (old new : Shelves) (run : List Served) → BothRun digest_of settings old run new → EntryInvariant digest_of settings (direct_calls earlier) old.entries.held → EntryPremises digest_of (direct_calls (earlier ++ accounts_of run)) → Run digest_of old.objects run new.objects
+true_run digest_of agree stay settings earlier old new [] r inv p = r.1
+true_run digest_of agree stay settings earlier old new (s ∷ run) r inv p =
+    let begins = loses_records digest_of settings (direct_calls earlier) old.entries r.0.entries r.2 inv in
+    let regrouped : earlier ++ accounts_of (s ∷ run) ≡ (earlier ++ s.account ∷ []) ++ accounts_of run = sym (append_assoc earlier (s.account ∷ []) (accounts_of run)) in
+    let all = subst (λ (l : List Account). EntryPremises digest_of (direct_calls l)) regrouped p in
+    let are_true = true_step digest_of agree settings earlier s.account r.0.entries.held r.4.configured begins (entry_front digest_of (earlier ++ s.account ∷ []) (accounts_of run) all) in
+    (r.0.objects, r.1.objects, r.3, r.4.own are_true, true_run digest_of agree stay settings (earlier ++ s.account ∷ []) r.1 new run r.5 (records_step digest_of stay settings earlier s.account r.0.entries r.1.entries s.before.preprocessed s.after.preprocessed r.4.configured r.4.entries begins) all)
+
+no_records : (digest_of : Bytes → Bytes) (settings : Settings) (s : Shelf EntryKey Record) → IsEmpty s → EntryInvariant digest_of settings [] s.held
+no_records digest_of settings s empty k e h = let none = empty k in cc
+
+pub empty_run : (digest_of : Bytes → Bytes) → Agree_on digest_of → Stay_on digest_of → (settings : Settings) (old new : Shelves) (run : List Served) → BothRun digest_of settings old run new → IsEmpty old.entries → EntryPremises digest_of (direct_calls (accounts_of run)) → Run digest_of old.objects run new.objects
+empty_run digest_of agree stay settings old new run r empty p = true_run digest_of agree stay settings [] old new run r (no_records digest_of settings old.entries empty) p
 
 both_all : (p q : Pairs) → all p ≡ all q → p ≡ q
 both_all p q e = cc
@@ -243,3 +421,77 @@ two_runs_agree digest_of tells one two one_old one_new two_old two_new r q e f s
     all_agree one two same (run_passes digest_of one_old one_new one r)
     (run_answers digest_of tells [] one_old one_new one r (empty_invariant digest_of one_old e) p)
     (run_answers digest_of tells [] two_old two_new two q (empty_invariant digest_of two_old f) (subst (Premises digest_of) same p))
+
+pub not_both : (b : Bool) → b ≡ true → b ≡ false → ⊥
+not_both b p q = let h = sym p ∙ q in cc
+
+-- what a work says of include records is of its own call
+pub one_call : (meaning : Meaning) (tree : Tree) (settings : Settings) (request : Request) → IsOfOneCall settings (account_at meaning tree settings request)
+one_call meaning tree settings request = by (verdict_of (kind_of request.compiler) (words_at request tree))
+  where
+    printed : (call : KeyCall) (b : Bool) (p : PrintedCall) → (if b then Some (printed_call meaning call) else None) ≡ Some p → printed_call meaning call ≡ p
+    printed call true p h = cc
+    printed call false p h = cc
+
+    by : (d : Decision) → IsOfOneCall settings (account_by meaning tree settings request d)
+    by (passes why) = tt
+    by (asks parsed) = λ p h.
+        let call = call_at request tree settings parsed in
+        let same : printed_call meaning call ≡ p = printed call (has_entry_key call) p h in
+        subst (IsOfCall settings (work_at meaning call)) same (record { settled = refl; rec = refl; fault = refl })
+
+-- where no records are kept no call asks for any
+pub none_asked : (meaning : Meaning) (tree : Tree) (settings : Settings) (request : Request) → settings.direct ≡ false → direct_of (account_at meaning tree settings request) ≡ None
+none_asked meaning tree settings request off = by (verdict_of (kind_of request.compiler) (words_at request tree))
+  where
+    by : (d : Decision) → direct_of (account_by meaning tree settings request d) ≡ None
+    by (passes why) = refl
+    by (asks parsed) =
+        let call = call_at request tree settings parsed in
+        let no : has_entry_key call ≡ false = ap (λ b. (b && (needs_preprocessing call.parsed.language && is_none call.parsed.too_hard_for_preprocessor_cache_mode)) && is_told call (contents_at call.scene.files (input_path call))) off in
+        ap (λ b. if b then Some (printed_call meaning call) else None) no
+
+-- where no records are kept, those that are held are true of each call
+pub plain_true : (digest_of : Bytes → Bytes) (meaning : Meaning) (tree : Tree) (settings : Settings) (request : Request) (held : Held) → settings.direct ≡ false → RecordsAreTrue digest_of (account_at meaning tree settings request) held
+plain_true digest_of meaning tree settings request held off = plain_step digest_of (account_at meaning tree settings request) held (none_asked meaning tree settings request off)
+
+-- and they stay as they are
+pub plain_kept : (digest_of : Bytes → Bytes) (meaning : Meaning) (tree : Tree) (settings : Settings) (request : Request) (old new : Shelf EntryKey Record) (printed printed_new : ℕ) → settings.direct ≡ false → EntriesTurn digest_of (account_at meaning tree settings request) old new printed printed_new → new ≡ old
+plain_kept digest_of meaning tree settings request old new printed printed_new off turn = subst (λ (o : Option PrintedCall). EntriesBy digest_of o old new printed printed_new) (none_asked meaning tree settings request off) turn
+
+pub agree_step : (digest_of : Bytes → Bytes) → Agree_on digest_of → (meaning : Meaning) (tree : Tree) (settings : Settings) (request : Request) (held : Held) (earlier : List Account) → (settings.direct ≡ true → EntryInvariant digest_of settings (direct_calls earlier) held × EntryPremises digest_of (direct_calls (earlier ++ account_at meaning tree settings request ∷ []))) → RecordsAreTrue digest_of (account_at meaning tree settings request) held
+agree_step digest_of agree meaning tree settings request held earlier assumed = by settings.direct refl
+  where
+    by : (b : Bool) → settings.direct ≡ b → RecordsAreTrue digest_of (account_at meaning tree settings request) held
+    by true on = let both = assumed on in true_step digest_of agree settings earlier (account_at meaning tree settings request) held (one_call meaning tree settings request) both.0 both.1
+    by false off = plain_true digest_of meaning tree settings request held off
+
+-- no call that was served asks for any
+none_served : {F T : Type 0} (settings : Settings) (files : FilesView F) (tool : ToolView T) → settings.direct ≡ false → (calls : List (Call F T)) (ends : List Ticks) (results : List (Result Answer Fault)) → AllByRecursion (λ s. direct_of s.account ≡ None) (served (map (begin_of settings files tool) calls) ends results)
+none_served settings files tool off [] ends results = tt
+none_served settings files tool off (c ∷ calls) [] results = tt
+none_served settings files tool off (c ∷ calls) (e ∷ ends) [] = tt
+none_served settings files tool off (c ∷ calls) (e ∷ ends) (r ∷ results) = (none_asked (tool.meaning c.tool) (files.tree c.files) settings c.request off, none_served settings files tool off calls ends results)
+
+-- a run over both stores is one over the store of outputs alone
+pub served_run : (digest_of : Bytes → Bytes) → Agree_on digest_of → Stay_on digest_of → {F T : Type 0} (settings : Settings) (files : FilesView F) (tool : ToolView T) (shelves shelves_new : Shelves) (old new : List (Call F T)) (results : List (Result Answer Fault)) → length results ≡ length old → length new ≡ length old
+    → BothRun digest_of settings shelves (served_at settings files tool old new results) shelves_new → (settings.direct ≡ true → IsEmpty shelves.entries × EntryPremises digest_of (direct_calls (accounts_at settings files tool old))) → Run digest_of shelves.objects (served_at settings files tool old new results) shelves_new.objects
+served_run digest_of agree stay settings files tool shelves shelves_new old new results len same run assumed = by settings.direct refl
+  where
+    by : (b : Bool) → settings.direct ≡ b → Run digest_of shelves.objects (served_at settings files tool old new results) shelves_new.objects
+    by true on =
+        let both = assumed on in
+        let accounts = served_accounts settings files tool old new results len same in
+        empty_run digest_of agree stay settings shelves shelves_new (served_at settings files tool old new results) run both.0 (subst (λ (l : List Account). EntryPremises digest_of (direct_calls l)) (sym accounts) both.1)
+    by false off = plain_run digest_of settings shelves shelves_new (served_at settings files tool old new results) run (none_served settings files tool off old (map (end_of settings files tool) new) results)
+
+pub direct_runs_agree : (digest_of : Bytes → Bytes) → Tells digest_of → Agree_on digest_of → Stay_on digest_of → (settings : Settings) (one two : List Served) (one_old one_new two_old two_new : Shelves)
+    → BothRun digest_of settings one_old one one_new → BothRun digest_of settings two_old two two_new
+    → IsEmpty one_old.entries → IsEmpty two_old.entries → IsEmpty one_old.objects → IsEmpty two_old.objects
+    → accounts_of one ≡ accounts_of two → Premises digest_of (accounts_of one) → SameOutputs one two
+direct_runs_agree digest_of tells agree stay settings one two one_old one_new two_old two_new r q a b e f same p =
+    let assumed = entry_premises digest_of (accounts_of one) p in
+    two_runs_agree digest_of tells one two one_old.objects one_new.objects two_old.objects two_new.objects
+    (empty_run digest_of agree stay settings one_old one_new one r a assumed)
+    (empty_run digest_of agree stay settings two_old two_new two q b (subst (λ (l : List Account). EntryPremises digest_of (direct_calls l)) same assumed))
+    e f same p

@@ -1,27 +1,36 @@
 -- How a call ends, by what the look-up and the put said.
-use Rattle.std.proofs.Common.{◌≡◌, ℕ, List, Bool, true, Option, Some, None, IsSome, IsNone, Result, Ok, Err, ◌⊎◌, inl, inr, refl, sym, ap, subst, ◌∙◌, IsErrAnd}
+use Rattle.std.proofs.Common.{◌≡◌, ℕ, ℤ, List, [], Bool, true, false, Option, Some, None, IsSome, IsNone, Result, Ok, Err, ◌⊎◌, inl, inr, refl, sym, ap, subst, ◌∙◌, IsErrAnd}
 use Rattle.std.specs.Option.{option_map}
 use Rattle.std.proofs.lemmas.Result.{err_from_is_err_and}
 use Rattle.os_files.specs.Bytes.{Bytes, ticked}
 use Rattle.os_files.specs.Fails.{FailsOn}
 use Rattle.os_files.specs.Tree.{Tree}
 use Rattle.ckeys_base.specs.Shelf.{Shelf, Asks, Puts, Forgotten}
+use Rattle.ckeys.specs.Calls.{KeyCause, PrintedCall, key_fault_by, needs_preprocessing}
+use Rattle.ckeys.specs.Entries.{Held}
+use Rattle.ckeys.specs.EntryTurns.{IsSpared, KeyFine, KeyRecorded, KeyRuns}
+use Rattle.ckeys.specs.Keys.{key_of}
 use Rattle.ckeys.specs.Meaning.{Meaning, FailsIn}
 use Rattle.ckeys.specs.Records.{AreTold}
+use Rattle.entry_keys.specs.declared.entry_key.EntryKey.{EntryKey}
+use Rattle.include_records.specs.Records.{Record}
 use Rattle.ckeys.specs.declared.fault.Fault.{Fault}
 use Rattle.ckeys.specs.declared.fault.Fault.TheVariants.{Memory, Read, Tool, PreprocessFailed, CompileFailed, MissingOutput}
 use Rattle.ckeys.specs.declared.step.Step.{Step}
 use Rattle.ckeys.specs.declared.step.Step.TheVariants.{Preprocess, Compile}
-use Rattle.wrap_base.specs.Account.{Account, passed, worked, Work, Pairs, IsSuccess, placed}
-use Rattle.wrap_base.specs.Answers.{EarlyCause, Says, SaysWorked}
-use Rattle.wrap_base.specs.Keys.{store_key_of}
-use Rattle.wrap_base.specs.Turn.{StoreTurn, StillKept, MissTurn, Told, ToldBy}
+use Rattle.wrap_base.specs.Account.{Account, passed, worked, Work, Pairs, IsSuccess, direct_of, placed}
+use Rattle.wrap_base.specs.Answers.{EarlyCause, GoesOn, GoesOnWith, Placed, SaysBy, SaysWorkedBy}
+use Rattle.wrap_base.specs.Asking.{AskedTurn, AskedUnder, EntriesBy, EntriesTurn, HowFrom, RecordsAreTrue, Shelves, WorkKeyFrom}
+use Rattle.wrap_base.specs.Keys.{store_key_with}
+use Rattle.wrap_base.specs.Turn.{KeyedTurn, StoreTurn, own_text_key, StillKept, StoredTurn, MissTurn, Told, ToldBy}
+use Rattle.wrap_base.specs.Verdict.{Why}
+use Rattle.wrap_base.specs.declared.reason.Reason.{Reason}
 use Rattle.wrap_base.specs.declared.answer.Answer.{Answer}
 use Rattle.wrap_base.specs.declared.answer.Answer.TheVariants.{Outputs, Pass}
-use Rattle.wrap_base.specs.declared.answer.How.TheVariants.{Stored, Fresh}
+use Rattle.wrap_base.specs.declared.answer.How.TheVariants.{Fresh}
 use Rattle.wrap_base.specs.declared.answer.Output.{Output}
 use Rattle.wrap_base.specs.declared.store_key.StoreKey.{StoreKey}
-use Rattle.wrap.specs.Steps.{CompileCause, RanOnce}
+use Rattle.wrap.specs.Steps.{CompileCause, RanOnce, kept_how}
 
 some_or_none : {A : Type 0} (o : Option A) → IsSome o ⊎ (o ≡ None)
 some_or_none None = inr refl
@@ -52,9 +61,9 @@ put_holds : (eq : StoreKey → StoreKey → Bool) (new : Shelf StoreKey Pairs) (
 put_holds eq new key value asked (Ok u) puts kept = puts.outcome
 put_holds eq new key value asked (Err pair) puts kept = let refused = (puts.kept.0 kept).2 in cc
 
-module _ (digest_of : Bytes → Bytes) (w : Work) (key : StoreKey) (is_key : key ≡ store_key_of digest_of w) (old asked : Shelf StoreKey Pairs) (answer : Option Pairs) (asks : Asks old asked key answer) where
+module _ (digest_of : Bytes → Bytes) (text_key : Bytes) (w : Work) (key : StoreKey) (is_key : key ≡ store_key_with digest_of w text_key) (old asked : Shelf StoreKey Pairs) (answer : Option Pairs) (asks : Asks old asked key answer) where
   -- the look-up failed for memory
-  pub turn_ask_failed : (before after : ℕ) → after ≡ before → (result : Result Answer Fault) → IsErrAnd result (λ f. f ≡ Memory) → StoreTurn digest_of (worked w) old asked before after result
+  pub turn_ask_failed : (before after : ℕ) → after ≡ before → (result : Result Answer Fault) → IsErrAnd result (λ f. f ≡ Memory) → KeyedTurn digest_of text_key (worked w) old asked before after result
   turn_ask_failed before after same result err =
       let p = err_from_is_err_and result err in
       rw (p.1, p.2) (record {
@@ -66,15 +75,15 @@ module _ (digest_of : Bytes → Bytes) (w : Work) (key : StoreKey) (is_key : key
       })
 
   -- what the look-up found is answered
-  pub turn_stored : (before after : ℕ) → after ≡ before → AreTold w.rec.words w.rec.variables → (found : List Output) → Some found ≡ option_map (placed w.outputs) answer → StoreTurn digest_of (worked w) old asked before after (Ok (Outputs found Stored None))
-  turn_stored before after same told found e =
+  pub turn_stored : (from : Bool) → (from ≡ true → IsSome w.direct) → (before after : ℕ) → after ≡ before → AreTold w.rec.words w.rec.variables → (found : List Output) → Some found ≡ option_map (placed w.outputs) answer → KeyedTurn digest_of text_key (worked w) old asked before after (Ok (Outputs found (kept_how from) None))
+  turn_stored from direct before after same told found e =
       let it = some_pairs (placed w.outputs) found answer e in
       record {
         gains = λ k v h. inl (asks.within k v h);
         faulted = tt;
         kept = asks_kept old asked key answer asks;
         cleared = asks.cleared;
-        told = (
+        told = hit from direct (
           it.0,
           it.2,
           record {
@@ -85,19 +94,23 @@ module _ (digest_of : Bytes → Bytes) (w : Work) (key : StoreKey) (is_key : key
           },
         );
       }
+    where
+      hit : (b : Bool) → (b ≡ true → IsSome w.direct) → Placed w found (StoredTurn digest_of text_key w old asked before after) → Told digest_of text_key w old asked before after (Ok (Outputs found (kept_how b) None))
+      hit true direct placed = (direct refl, placed)
+      hit false direct placed = placed
 
   -- nothing was found
-  lacked : answer ≡ None → (new : Shelf StoreKey Pairs) → new.forgets ≡ asked.forgets → (old.held (store_key_of digest_of w) ≡ None) ⊎ (new.forgets ≡ ticked old.forgets)
+  lacked : answer ≡ None → (new : Shelf StoreKey Pairs) → new.forgets ≡ asked.forgets → (old.held (store_key_with digest_of w text_key) ≡ None) ⊎ (new.forgets ≡ ticked old.forgets)
   lacked none new same = elim (some_or_none (old.held key)) [
     | inl some ↦ inr (same ∙ asks.forgot (some, rw none refl))
     | inr not ↦ inl (ap old.held (sym is_key) ∙ not)
   ]
 
   module _ (none : answer ≡ None) (before mid after : ℕ) (steady : mid ≡ before) where
-    miss : (new : Shelf StoreKey Pairs) → new.forgets ≡ asked.forgets → after ≡ ticked mid → MissTurn digest_of w old new before after
+    miss : (new : Shelf StoreKey Pairs) → new.forgets ≡ asked.forgets → after ≡ ticked mid → MissTurn digest_of text_key w old new before after
     miss new same ran = record { lacked = lacked none new same; compile = ran ∙ ap ticked steady }
 
-    told_fault : (device_in : Step → Type 0) (fault : Fault) → CompileCause w device_in fault → RanOnce {A = Pairs} (Err fault) mid after → Told digest_of w old asked before after (Err fault)
+    told_fault : (device_in : Step → Type 0) (fault : Fault) → CompileCause w device_in fault → RanOnce {A = Pairs} (Err fault) mid after → Told digest_of text_key w old asked before after (Err fault)
     told_fault device_in Memory h (inl same) = inl (same ∙ steady)
     told_fault device_in Memory h (inr ran) = inr (miss asked refl ran)
     told_fault device_in (Read name) h ran = absurd h
@@ -108,7 +121,7 @@ module _ (digest_of : Bytes → Bytes) (w : Work) (key : StoreKey) (is_key : key
     told_fault device_in (MissingOutput name) h ran = miss asked refl ran
 
     -- the compile failed
-    pub turn_compile_failed : (device_in : Step → Type 0) (fault : Fault) → CompileCause w device_in fault → RanOnce {A = Pairs} (Err fault) mid after → (result : Result Answer Fault) → IsErrAnd result (λ f. f ≡ fault) → StoreTurn digest_of (worked w) old asked before after result
+    pub turn_compile_failed : (device_in : Step → Type 0) (fault : Fault) → CompileCause w device_in fault → RanOnce {A = Pairs} (Err fault) mid after → (result : Result Answer Fault) → IsErrAnd result (λ f. f ≡ fault) → KeyedTurn digest_of text_key (worked w) old asked before after result
     turn_compile_failed device_in fault cause ran result err =
         let p = err_from_is_err_and result err in
         rw (p.1, p.2) (record {
@@ -120,7 +133,7 @@ module _ (digest_of : Bytes → Bytes) (w : Work) (key : StoreKey) (is_key : key
         })
 
     -- the copy failed for memory
-    pub turn_copy_failed : after ≡ ticked mid → (result : Result Answer Fault) → IsErrAnd result (λ f. f ≡ Memory) → StoreTurn digest_of (worked w) old asked before after result
+    pub turn_copy_failed : after ≡ ticked mid → (result : Result Answer Fault) → IsErrAnd result (λ f. f ≡ Memory) → KeyedTurn digest_of text_key (worked w) old asked before after result
     turn_copy_failed ran result err =
         let p = err_from_is_err_and result err in
         rw (p.1, p.2) (record {
@@ -133,7 +146,7 @@ module _ (digest_of : Bytes → Bytes) (w : Work) (key : StoreKey) (is_key : key
 
     -- a fresh output is put, and answered
     pub turn_fresh : after ≡ ticked mid → AreTold w.rec.words w.rec.variables → (eq : StoreKey → StoreKey → Bool) → ((a b : StoreKey) → eq a b ≡ true → a ≡ b)
-        → (new : Shelf StoreKey Pairs) (value : Pairs) (map : List Output) (put : Result (Unit {0}) (StoreKey × Pairs)) → Puts eq asked new key value put → IsSuccess w value → map ≡ placed w.outputs value → StoreTurn digest_of (worked w) old new before after (Ok (Outputs map Fresh None))
+        → (new : Shelf StoreKey Pairs) (value : Pairs) (map : List Output) (put : Result (Unit {0}) (StoreKey × Pairs)) → Puts eq asked new key value put → IsSuccess w value → map ≡ placed w.outputs value → KeyedTurn digest_of text_key (worked w) old new before after (Ok (Outputs map Fresh None))
     turn_fresh ran told eq equal new value map put puts made same = record {
       gains = λ k v h. elim (puts.gains k v h) [
         | inl was ↦ inl (asks.within k v was)
@@ -158,23 +171,23 @@ pub fails_in_later : {T : Type 0} (meaning : T → Meaning) (failed : T → ℕ)
 fails_in_later meaning failed fails_in old mid new m f step h = record { from = h.from; same = h.same ∙ m; steady = h.steady ∙ f; ticks = h.ticks; leads = h.leads }
 
 -- the compile failed
-pub compile_says : (w : Work) (on_file : Bytes → Type 0) (device_in later_in : Step → Type 0) → ((step : Step) → later_in step → device_in step) → w.fault ≡ None → (fault : Fault) → CompileCause w later_in fault → (result : Result Answer Fault) → IsErrAnd result (λ f. f ≡ fault) → SaysWorked w on_file device_in result
-compile_says w on_file device_in later_in more none fault cause result err = let p = err_from_is_err_and result err in rw (p.1, p.2) (says fault cause)
+pub compile_says : (went_on : Type 0) (w : Work) (on_file : Bytes → Type 0) (device_in later_in : Step → Type 0) → ((step : Step) → later_in step → device_in step) → went_on → (fault : Fault) → CompileCause w later_in fault → (result : Result Answer Fault) → IsErrAnd result (λ f. f ≡ fault) → SaysWorkedBy went_on w on_file device_in result
+compile_says went_on w on_file device_in later_in more goes fault cause result err = let p = err_from_is_err_and result err in rw (p.1, p.2) (says fault cause)
   where
-    says : (f : Fault) → CompileCause w later_in f → SaysWorked w on_file device_in (Err f)
+    says : (f : Fault) → CompileCause w later_in f → SaysWorkedBy went_on w on_file device_in (Err f)
     says Memory h = tt
     says (Read name) h = absurd h
     says (Tool Preprocess) h = absurd h
     says (Tool Compile) h = more Compile h
     says (PreprocessFailed status) h = absurd h
-    says (CompileFailed status) h = (none, h)
-    says (MissingOutput name) h = (none, h)
+    says (CompileFailed status) h = (goes, h)
+    says (MissingOutput name) h = (goes, h)
 
 -- a fault that comes before there is a verdict
-pub early_says : (a : Account) (on_file : Bytes → Type 0) (device_in : Step → Type 0) (fault : Fault) → EarlyCause on_file fault → (result : Result Answer Fault) → IsErrAnd result (λ f. f ≡ fault) → Says a on_file device_in result
-early_says a on_file device_in fault cause result err = let p = err_from_is_err_and result err in rw (p.1, p.2) (says a fault cause)
+pub early_says : (went_on : Work → Type 0) (a : Account) (on_file : Bytes → Type 0) (device_in : Step → Type 0) (fault : Fault) → EarlyCause on_file fault → (result : Result Answer Fault) → IsErrAnd result (λ f. f ≡ fault) → SaysBy went_on a on_file device_in result
+early_says went_on a on_file device_in fault cause result err = let p = err_from_is_err_and result err in rw (p.1, p.2) (says a fault cause)
   where
-    says : (b : Account) (f : Fault) → EarlyCause on_file f → Says b on_file device_in (Err f)
+    says : (b : Account) (f : Fault) → EarlyCause on_file f → SaysBy went_on b on_file device_in (Err f)
     says (passed why) f h = h
     says (worked w) Memory h = tt
     says (worked w) (Read name) h = inl h
@@ -183,8 +196,8 @@ early_says a on_file device_in fault cause result err = let p = err_from_is_err_
     says (worked w) (CompileFailed status) h = absurd h
     says (worked w) (MissingOutput name) h = absurd h
 
-pub early_turn : (digest_of : Bytes → Bytes) (a : Account) (shelf : Shelf StoreKey Pairs) (count : ℕ) (on_file : Bytes → Type 0) (fault : Fault) → EarlyCause on_file fault → (result : Result Answer Fault) → IsErrAnd result (λ f. f ≡ fault) → StoreTurn digest_of a shelf shelf count count result
-early_turn digest_of a shelf count on_file fault cause result err = let p = err_from_is_err_and result err in rw (p.1, p.2) (record {
+pub early_turn : (digest_of : Bytes → Bytes) (text_key : Bytes) (a : Account) (shelf : Shelf StoreKey Pairs) (count : ℕ) (on_file : Bytes → Type 0) (fault : Fault) → EarlyCause on_file fault → (result : Result Answer Fault) → IsErrAnd result (λ f. f ≡ fault) → KeyedTurn digest_of text_key a shelf shelf count count result
+early_turn digest_of text_key a shelf count on_file fault cause result err = let p = err_from_is_err_and result err in rw (p.1, p.2) (record {
   gains = λ key pairs h. inl h;
   faulted = λ key pairs h. h;
   kept = λ h. record { was = h; keys = λ key s. s; steady = refl };
@@ -192,7 +205,7 @@ early_turn digest_of a shelf count on_file fault cause result err = let p = err_
   told = told a fault cause;
 })
   where
-    told : (b : Account) (f : Fault) → EarlyCause on_file f → ToldBy digest_of b shelf shelf count count (Err f)
+    told : (b : Account) (f : Fault) → EarlyCause on_file f → ToldBy digest_of text_key b shelf shelf count count (Err f)
     told (passed why) f h = (refl, refl)
     told (worked w) Memory h = inl refl
     told (worked w) (Read name) h = refl
@@ -206,13 +219,139 @@ pub fails_on_later : {F : Type 0} (tree : F → Tree) (failed : F → ℕ) (fail
 fails_on_later tree failed fails_on old mid new m f name h = record { from = h.from; same = h.same ∙ m; steady = h.steady ∙ f; ticks = h.ticks; leads = h.leads }
 
 -- what is said of files as they were before
-pub says_later : (w : Work) (one other : Bytes → Type 0) (device_in : Step → Type 0) → ((name : Bytes) → one name → other name) → (result : Result Answer Fault) → SaysWorked w one device_in result → SaysWorked w other device_in result
-says_later w one other device_in more (Ok (Pass reason)) h = h
-says_later w one other device_in more (Ok (Outputs map how dep_info)) h = h
-says_later w one other device_in more (Err Memory) h = h
-says_later w one other device_in more (Err (Read name)) (inl h) = inl (more name h)
-says_later w one other device_in more (Err (Read name)) (inr h) = inr h
-says_later w one other device_in more (Err (Tool step)) h = h
-says_later w one other device_in more (Err (PreprocessFailed status)) h = h
-says_later w one other device_in more (Err (CompileFailed status)) h = h
-says_later w one other device_in more (Err (MissingOutput name)) h = h
+pub says_later : (went_on : Type 0) (w : Work) (one other : Bytes → Type 0) (device_in : Step → Type 0) → ((name : Bytes) → one name → other name) → (result : Result Answer Fault) → SaysWorkedBy went_on w one device_in result → SaysWorkedBy went_on w other device_in result
+says_later went_on w one other device_in more (Ok (Pass reason)) h = h
+says_later went_on w one other device_in more (Ok (Outputs map how dep_info)) h = h
+says_later went_on w one other device_in more (Err Memory) h = h
+says_later went_on w one other device_in more (Err (Read name)) (inl h) = inl (more name h)
+says_later went_on w one other device_in more (Err (Read name)) (inr h) = inr h
+says_later went_on w one other device_in more (Err (Tool step)) h = h
+says_later went_on w one other device_in more (Err (PreprocessFailed status)) h = h
+says_later went_on w one other device_in more (Err (CompileFailed status)) h = h
+says_later went_on w one other device_in more (Err (MissingOutput name)) h = h
+
+-- there is no key
+pub key_turn : (digest_of : Bytes → Bytes) (text_key : Bytes) (w : Work) (first : Option Fault) (shelf : Shelf StoreKey Pairs) (before after : ℕ) → after ≡ before → (on_file : Bytes → Type 0) (device_in : Step → Type 0) (fault : Fault) → KeyCause first on_file device_in fault → (result : Result Answer Fault) → IsErrAnd result (λ f. f ≡ fault) → KeyedTurn digest_of text_key (worked w) shelf shelf before after result
+key_turn digest_of text_key w first shelf before after same on_file device_in fault cause result err = let p = err_from_is_err_and result err in rw (p.1, p.2) (record {
+  gains = λ key pairs h. inl h;
+  faulted = λ key pairs h. h;
+  kept = λ h. record { was = h; keys = λ key s. s; steady = refl };
+  cleared = refl;
+  told = told fault cause;
+})
+  where
+    told : (f : Fault) → KeyCause first on_file device_in f → Told digest_of text_key w shelf shelf before after (Err f)
+    told Memory h = inl same
+    told (Read name) h = same
+    told (Tool Preprocess) h = same
+    told (Tool Compile) h = absurd h
+    told (PreprocessFailed status) h = same
+    told (CompileFailed status) h = absurd h
+    told (MissingOutput name) h = absurd h
+
+pub key_says : (went_on : Type 0) (w : Work) (on_file : Bytes → Type 0) (device_in : Step → Type 0) (fault : Fault) → KeyCause w.fault on_file device_in fault → (result : Result Answer Fault) → IsErrAnd result (λ f. f ≡ fault) → SaysWorkedBy went_on w on_file device_in result
+key_says went_on w on_file device_in fault cause result err = let p = err_from_is_err_and result err in rw (p.1, p.2) (says fault cause)
+  where
+    says : (f : Fault) → KeyCause w.fault on_file device_in f → SaysWorkedBy went_on w on_file device_in (Err f)
+    says Memory h = tt
+    says (Read name) h = h
+    says (Tool Preprocess) h = h
+    says (Tool Compile) h = absurd h
+    says (PreprocessFailed status) h = h
+    says (CompileFailed status) h = absurd h
+    says (MissingOutput name) h = absurd h
+
+-- memory was refused
+pub memory_says : (went_on : Type 0) (w : Work) (on_file : Bytes → Type 0) (device_in : Step → Type 0) (result : Result Answer Fault) → IsErrAnd result (λ f. f ≡ Memory) → SaysWorkedBy went_on w on_file device_in result
+memory_says went_on w on_file device_in result err = let p = err_from_is_err_and result err in rw (p.1, p.2) tt
+
+module _ (digest_of : Bytes → Bytes) (w : Work) (p : PrintedCall) (fault_is : w.fault ≡ key_fault_by p) (held : Held) (from : Bool) (text_key : Bytes) (is_key : WorkKeyFrom digest_of w held from text_key) (fine : KeyFine p from) where
+  -- a call that has its key goes on
+  pub goes_on : GoesOn w
+  goes_on = by from is_key fine
+    where
+      none_goes : (o : Option PrintedCall) (f : Option Fault) → f ≡ None → GoesOnWith o f
+      none_goes None f h = h
+      none_goes (Some q) f h = rw h tt
+
+      by : (b : Bool) → WorkKeyFrom digest_of w held b text_key → KeyFine p b → GoesOn w
+      by true k h = rw k.has (subst IsSpared (sym fault_is) h)
+      by false k h = none_goes w.direct w.fault (fault_is ∙ h)
+
+  -- and has no fault, where the records are true of it
+  pub own_goes_on : RecordsAreTrue digest_of (worked w) held → w.fault ≡ None
+  own_goes_on are_true = by from is_key fine
+    where
+      spared : (f : Option Fault) → IsSpared f → ((status : ℤ) → f ≡ Some (PreprocessFailed status) → ⊥) → f ≡ None
+      spared None s n = refl
+      spared (Some Memory) s n = absurd s
+      spared (Some (Read path)) s n = absurd s
+      spared (Some (Tool step)) s n = absurd s
+      spared (Some (PreprocessFailed status)) s n = absurd (n status refl)
+      spared (Some (CompileFailed status)) s n = absurd s
+      spared (Some (MissingOutput name)) s n = absurd s
+
+      by : (b : Bool) → WorkKeyFrom digest_of w held b text_key → KeyFine p b → w.fault ≡ None
+      by true k h = spared w.fault (subst IsSpared (sym fault_is) h) (are_true text_key k).succeeds
+      by false k h = fault_is ∙ h
+
+-- under whichever key a call asks, it is its own where the records are true of it
+pub own_key : (digest_of : Bytes → Bytes) (w : Work) (held : Held) (from : Bool) (text_key : Bytes) → RecordsAreTrue digest_of (worked w) held → WorkKeyFrom digest_of w held from text_key → text_key ≡ key_of digest_of w.rec
+own_key digest_of w held true text_key are_true k = (are_true text_key k).is_key
+own_key digest_of w held false text_key are_true k = k
+
+pub own_turn : (digest_of : Bytes → Bytes) (a : Account) (old new : Shelves) (printed printed_new compiled compiled_new : ℕ) (result : Result Answer Fault) → RecordsAreTrue digest_of a old.entries.held → AskedTurn digest_of a old new printed printed_new compiled compiled_new result → StoreTurn digest_of a old.objects new.objects compiled compiled_new result
+own_turn digest_of (passed why) old new printed printed_new compiled compiled_new result are_true asked = record { gains = asked.objects.gains; faulted = asked.objects.faulted; kept = asked.objects.kept; cleared = asked.objects.cleared; told = asked.objects.told }
+own_turn digest_of (worked w) old new printed printed_new compiled compiled_new result are_true asked = subst (λ k. KeyedTurn digest_of k (worked w) old.objects new.objects compiled compiled_new result) (own_key digest_of w old.entries.held asked.from asked.text_key are_true asked.is_key) asked.objects
+
+-- a call that ends with a fault
+pub asked_fault : (digest_of : Bytes → Bytes) (a : Account) (old new : Shelves) (printed printed_new compiled compiled_new : ℕ) (result : Result Answer Fault) (fault : Fault) → IsErrAnd result (λ f. f ≡ fault) → (from : Bool) (text_key : Bytes) → AskedUnder digest_of a old.entries.held from text_key → KeyedTurn digest_of text_key a old.objects new.objects compiled compiled_new result → AskedTurn digest_of a old new printed printed_new compiled compiled_new result
+asked_fault digest_of a old new printed printed_new compiled compiled_new (Ok answer) fault err from text_key is_key turn = absurd err
+asked_fault digest_of (passed why) old new printed printed_new compiled compiled_new (Err f) fault err from text_key is_key turn = record { from = from; text_key = text_key; is_key = is_key; how = tt; fine = tt; runs = tt; recorded = tt; objects = turn }
+asked_fault digest_of (worked w) old new printed printed_new compiled compiled_new (Err f) fault err from text_key is_key turn = record { from = from; text_key = text_key; is_key = is_key; how = tt; fine = tt; runs = tt; recorded = tt; objects = turn }
+
+-- a hit
+pub how_kept : (from : Bool) (map : List Output) → HowFrom from (Ok (Outputs map (kept_how from) None))
+how_kept true map = refl
+how_kept false map = refl
+
+pub has_direct : (digest_of : Bytes → Bytes) (w : Work) (held : Held) (from : Bool) (text_key : Bytes) → WorkKeyFrom digest_of w held from text_key → from ≡ true → IsSome w.direct
+has_direct digest_of w held true text_key k h = rw k.has refl
+has_direct digest_of w held false text_key k h = cc
+
+module _ (digest_of : Bytes → Bytes) (w : Work) (old new : Shelves) (printed printed_new compiled compiled_new : ℕ) (from : Bool) (text_key : Bytes) (is_key : WorkKeyFrom digest_of w old.entries.held from text_key)
+    (fine : from ≡ false → w.fault ≡ None) (runs : needs_preprocessing w.rec.language ≡ true → KeyRuns from printed printed_new) (recorded : (p : PrintedCall) → w.direct ≡ Some p → KeyRecorded digest_of p new.entries from text_key) where
+  pub asked_hit : (map : List Output) → KeyedTurn digest_of text_key (worked w) old.objects new.objects compiled compiled_new (Ok (Outputs map (kept_how from) None)) → AskedTurn digest_of (worked w) old new printed printed_new compiled compiled_new (Ok (Outputs map (kept_how from) None))
+  asked_hit map turn = record { from = from; text_key = text_key; is_key = is_key; how = how_kept from map; fine = fine; runs = runs; recorded = recorded; objects = turn }
+
+  pub asked_fresh : (map : List Output) → KeyedTurn digest_of text_key (worked w) old.objects new.objects compiled compiled_new (Ok (Outputs map Fresh None)) → AskedTurn digest_of (worked w) old new printed printed_new compiled compiled_new (Ok (Outputs map Fresh None))
+  asked_fresh map turn = record { from = from; text_key = text_key; is_key = is_key; how = tt; fine = fine; runs = runs; recorded = recorded; objects = turn }
+
+-- its own key, where there is no other
+pub own_asked : (digest_of : Bytes → Bytes) (a : Account) (held : Held) → AskedUnder digest_of a held false (own_text_key digest_of a)
+own_asked digest_of (passed why) held = tt
+own_asked digest_of (worked w) held = refl
+
+-- a call that asks no store
+pub quiet_entries : (digest_of : Bytes → Bytes) (a : Account) (s : Shelf EntryKey Record) (n : ℕ) → EntriesTurn digest_of a s s n n
+quiet_entries digest_of a s n = by (direct_of a)
+  where
+    by : (o : Option PrintedCall) → EntriesBy digest_of o s s n n
+    by None = refl
+    by (Some p) = record { gains = λ k e h. inl h; kept = λ h. record { was = h; keys = λ k i. i; steady = refl }; cleared = refl; asked = λ k m. inl refl; idle = λ h. refl }
+
+pub passed_asked : (digest_of : Bytes → Bytes) (why : Why) (a : Account) (old : Shelves) (printed compiled : ℕ) (reason : Reason) → passed why ≡ a → AskedTurn digest_of a old old printed printed compiled compiled (Ok (Pass reason))
+passed_asked digest_of why a old printed compiled reason is = subst (λ (b : Account). AskedTurn digest_of b old old printed printed compiled compiled (Ok (Pass reason))) is (record {
+  from = false;
+  text_key = [];
+  is_key = tt;
+  how = tt;
+  fine = tt;
+  runs = tt;
+  recorded = tt;
+  objects = record { gains = λ k v h. inl h; faulted = tt; kept = λ h. record { was = h; keys = λ k s. s; steady = refl }; cleared = refl; told = (refl, refl) };
+})
+
+pub text_fine : (w : Work) (p : PrintedCall) → w.fault ≡ key_fault_by p → (from : Bool) → KeyFine p from → from ≡ false → w.fault ≡ None
+text_fine w p fault_is true fine h = cc
+text_fine w p fault_is false fine h = fault_is ∙ fine

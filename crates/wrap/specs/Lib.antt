@@ -3,3 +3,4 @@ pub mod Sessions
 pub mod Gathering
 pub mod Steps
 pub mod Example
+pub mod DirectExample

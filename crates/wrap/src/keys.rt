@@ -1,21 +1,25 @@
 //! The key under which a request's outputs are kept, and what the store holds under it.
 
-ghost use Rattle.std.specs.Prelude.{◌≡◌, None, IfOk, IfErr, OnOk};
+ghost use Rattle.std.specs.Prelude.{◌≡◌, true, None, Some, IfOk, IfErr, OnOk};
 ghost use Rattle.std.specs.List.{AllByRecursion};
 ghost use Rattle.std.specs.Option.{option_map};
 ghost use Rattle.os_files.specs.Fails.{FailsOn};
 ghost use Rattle.ckeys_base.specs.Shelf.{Asks};
-ghost use Rattle.ckeys.specs.Calls.{KeyCause};
+ghost use Rattle.ckeys.specs.Calls.{KeyCause, PrintedCall, needs_preprocessing, printed_call};
+ghost use Rattle.ckeys.specs.EntryTurns.{KeyFine, KeyRecorded, KeyRuns};
 ghost use Rattle.ckeys.specs.Meaning.{FailsIn, names_of};
 ghost use Rattle.ckeys.specs.Records.{FitsLength};
-ghost use Rattle.wrap_base.specs.Account.{call_at, work_at, placed};
-ghost use Rattle.wrap_base.specs.Keys.{store_key_of};
+ghost use Rattle.wrap_base.specs.Account.{call_at, work_at, worked, placed};
+ghost use Rattle.wrap_base.specs.Asking.{EntriesTurn, WorkKeyFrom};
+ghost use Rattle.wrap_base.specs.Keys.{store_key_with};
 
 use crate::outputs::placed;
 use crate::verdict::Plan;
 use ckeys::config::KeyConfig;
 use ckeys::fault::Fault;
 use ckeys::output_name::OutputName;
+use ckeys::place::CallPlace;
+use ckeys::{EntryKey, PreprocessorCacheEntry};
 use ckeys_base::hash_state::HashState;
 use ckeys_base::store::Store;
 use cmdlines_base::command::ArtifactDescriptor;
@@ -45,41 +49,58 @@ fn names_of(
     Ok(Listed::from_vec(names))
 }
 
-/// The key of a request that asks for this.
-pub fn store_key<H: HashState, F: Files, T: Tool>(
+/// Where and when a request is asked.
+fn place_of<'a>(request: &'a Request, config: &'a KeyConfig) -> CallPlace<'a>
+    ensures dir { result.dir.now ≡ request.now.dir }
+    ensures env { result.env.now ≡ request.now.env }
+    ensures moment { result.moment ≡ request.now.moment }
+    ensures config { result.config.now ≡ config.now }
+{
+    CallPlace {
+        dir: &request.dir,
+        env: request.env.as_slice(),
+        moment: request.moment,
+        config,
+    }
+}
+
+/// The key of a request that asks for this, and whether an include record gave it.
+pub fn store_key<H: HashState, E: Store<EntryKey, PreprocessorCacheEntry>, F: Files, T: Tool>(
     alloc: Global,
     request: &Request,
     plan: &Plan,
     config: &KeyConfig,
+    entries: &mut E,
     files: &mut F,
     tool: &mut T,
-) -> Result<StoreKey, Fault>
-    ensures key { let w = work_at (T.meaning tool.old) (call_at request.now (F.tree files.old) config.now.basedirs plan.now.parsed) in IfOk result (λ key. key ≡ store_key_of H.digest_of w) }
-    ensures fine { let w = work_at (T.meaning tool.old) (call_at request.now (F.tree files.old) config.now.basedirs plan.now.parsed) in OnOk result (w.fault ≡ None) }
-    ensures fit { let w = work_at (T.meaning tool.old) (call_at request.now (F.tree files.old) config.now.basedirs plan.now.parsed) in OnOk result (AllByRecursion FitsLength w.rec.variables) }
-    ensures cause { let w = work_at (T.meaning tool.old) (call_at request.now (F.tree files.old) config.now.basedirs plan.now.parsed) in IfErr result (KeyCause w.fault (FailsOn F.tree F.failed F.fails_on files.old files.new) (FailsIn T.meaning T.failed T.fails_in tool.old tool.new)) }
+) -> Result<(StoreKey, bool), Fault>
+    ensures key { let w = work_at (T.meaning tool.old) (call_at request.now (F.tree files.old) config.now plan.now.parsed) in IfOk result (λ made. made.0 ≡ store_key_with H.digest_of w made.0.digest) }
+    ensures from { let w = work_at (T.meaning tool.old) (call_at request.now (F.tree files.old) config.now plan.now.parsed) in IfOk result (λ made. WorkKeyFrom H.digest_of w (E.shelf entries.old).held made.1 made.0.digest) }
+    ensures fine { let p = printed_call (T.meaning tool.old) (call_at request.now (F.tree files.old) config.now plan.now.parsed) in IfOk result (λ made. KeyFine p made.1) }
+    ensures fit { let w = work_at (T.meaning tool.old) (call_at request.now (F.tree files.old) config.now plan.now.parsed) in OnOk result (AllByRecursion FitsLength w.rec.variables) }
+    ensures cause { let w = work_at (T.meaning tool.old) (call_at request.now (F.tree files.old) config.now plan.now.parsed) in IfErr result (KeyCause w.fault (FailsOn F.tree F.failed F.fails_on files.old files.new) (FailsIn T.meaning T.failed T.fails_in tool.old tool.new)) }
+    ensures entries { let w = work_at (T.meaning tool.old) (call_at request.now (F.tree files.old) config.now plan.now.parsed) in EntriesTurn H.digest_of (worked w) (E.shelf entries.old) (E.shelf entries.new) (T.preprocessed tool.old) (T.preprocessed tool.new) }
+    ensures recorded { let w = work_at (T.meaning tool.old) (call_at request.now (F.tree files.old) config.now plan.now.parsed) in IfOk result (λ made. (p : PrintedCall) → w.direct ≡ Some p → KeyRecorded H.digest_of p (E.shelf entries.new) made.1 made.0.digest) }
+    ensures runs { let w = work_at (T.meaning tool.old) (call_at request.now (F.tree files.old) config.now plan.now.parsed) in needs_preprocessing w.rec.language ≡ true → IfOk result (λ made. KeyRuns made.1 (T.preprocessed tool.old) (T.preprocessed tool.new)) }
     ensures tree { F.tree files.new ≡ F.tree files.old }
     ensures meaning { T.meaning tool.new ≡ T.meaning tool.old }
     ensures steady { OnOk result ((T.failed tool.new ≡ T.failed tool.old) × (F.failed files.new ≡ F.failed files.old)) }
     ensures compiles { T.compiled tool.new ≡ T.compiled tool.old }
 {
     let hasher = request.compiler.hasher(&plan.parsed);
-    let env = request.env.as_slice();
-    let (digest, shape, _) = hasher.generate_hash_key::<H, F, T>(
-        alloc,
-        &request.dir,
-        env,
-        request.moment,
-        config,
-        files,
-        tool,
+    let place = place_of(request, config);
+    let (digest, shape, from_record) = hasher.generate_hash_key::<H, E, F, T>(
+        alloc, &place, entries, files, tool,
     )?;
-    Ok(StoreKey {
+    let names = names_of(alloc, plan.parsed.outputs.as_slice())?;
+    let digest = OsBytes::from_vec(digest.into_bytes());
+    let key = StoreKey {
         family: Family::C,
         shape,
-        names: names_of(alloc, plan.parsed.outputs.as_slice())?,
-        digest: OsBytes::from_vec(digest.into_bytes()),
-    })
+        names,
+        digest,
+    };
+    Ok((key, from_record))
 }
 
 /// What the store holds under the key, on a request's own paths.

@@ -1,17 +1,28 @@
 //! Laws over runs. Calls of them do nothing.
 
-ghost use Rattle.std.specs.Prelude.{◌≡◌, ◌↔◌, List, codes, length};
+ghost use Rattle.std.specs.Prelude.{◌≡◌, ◌↔◌, ◌∷◌, [], ℕ, ℤ, true, false, List, Some, codes, length};
+ghost use Rattle.os_files.specs.Tree.{Tree};
+ghost use Rattle.include_records.specs.Records.{Record};
+ghost use Rattle.entry_keys.specs.declared.entry_key.EntryKey.{EntryKey};
+ghost use Rattle.os_files.specs.declared.files.Metadata.{Metadata};
+ghost use Rattle.time_macros.specs.Days.{ZoneRule};
+ghost use Rattle.ckeys.specs.Entries.{HasMatch, Held, entry_key_by, has_entry_key, includes_by};
+ghost use Rattle.wrap.specs.DirectExample.{call_on, header_include, first_byte_digest, printed_text, record_on, text_key_on, two_moments};
+ghost use Rattle.ckeys.specs.Meaning.{Meaning};
 ghost use Rattle.os_files.specs.Bytes.{Bytes};
-ghost use Rattle.ckeys_base.specs.Shelf.{Shelf};
+ghost use Rattle.ckeys_base.specs.Shelf.{IsEmpty, Shelf};
 ghost use Rattle.ckeys.specs.Keys.{AreDistinct};
 ghost use Rattle.ckeys.specs.Records.{AreTold};
-ghost use Rattle.wrap_base.specs.Account.{Pairs, Work};
+ghost use Rattle.wrap_base.specs.Account.{Pairs, Work, account_at};
+ghost use Rattle.ckeys.specs.Folders.{Settings};
+ghost use Rattle.wrap_base.specs.Asking.{EntriesTurn, RecordsAreTrue, Shelves};
+ghost use Rattle.wrap_base.specs.declared.request.Request.{Request};
 ghost use Rattle.wrap_base.specs.Keys.{Premises, SameRecord, store_key_of};
-ghost use Rattle.wrap_base.specs.Whole.{IsEmpty, Run, SameOutputs, Served, accounts_of};
+ghost use Rattle.wrap_base.specs.Whole.{BothRun, Run, SameOutputs, Served, accounts_of};
 ghost use Rattle.wrap_base.specs.declared.store_key.StoreKey.{StoreKey};
 ghost use Rattle.wrap.specs.Example.{compile_of, telling_digest, two_compiles};
 
-use ckeys::laws::keys_tell_records;
+use ckeys::laws::{keys_tell_records, records_are_true};
 use ckeys_base::hash_state::HashState;
 
 /// Two runs of one list of calls, over stores that forget and refuse as they like, give equal outputs wherever both answer
@@ -23,6 +34,28 @@ pub fn two_runs_agree<H: HashState>()
 {
     keys_tell_records::<H>();
 }
+
+/// Likewise of two runs over both stores, from empty ones: their include records may give keys or forget as they like.
+pub fn two_direct_runs_agree<H: HashState>()
+    ensures { (settings : Settings) (one two : List Served) (one_old one_new two_old two_new : Shelves)
+        → BothRun H.digest_of settings one_old one one_new → BothRun H.digest_of settings two_old two two_new
+        → IsEmpty one_old.entries → IsEmpty two_old.entries → IsEmpty one_old.objects → IsEmpty two_old.objects
+        → accounts_of one ≡ accounts_of two → Premises H.digest_of (accounts_of one) → SameOutputs one two }
+{
+    keys_tell_records::<H>();
+    records_are_true::<H>();
+}
+
+/// Where no include records are kept, those that a store may hold are true of each call, so that all that `serve` says of such
+/// holds with no premise; and no call changes that store.
+pub fn records_that_are_not_kept_change_nothing<H: HashState>()
+    ensures are_true { (meaning : Meaning) (tree : Tree) (settings : Settings) (request : Request) (held : Held)
+        → settings.direct ≡ false → RecordsAreTrue H.digest_of (account_at meaning tree settings request) held }
+    ensures untouched { (meaning : Meaning) (tree : Tree) (settings : Settings) (request : Request)
+        (old new : Shelf EntryKey Record) (printed printed_new : ℕ) → settings.direct ≡ false
+        → EntriesTurn H.digest_of (account_at meaning tree settings request) old new printed printed_new
+        → new ≡ old }
+{}
 
 /// Under distinct digests store keys are equal exactly if the records are, names of outputs with their marks included.
 pub fn store_keys_tell_records<H: HashState>()
@@ -37,4 +70,20 @@ pub fn premises_can_be_met()
     ensures met { Premises telling_digest two_compiles }
     ensures differ { (compile_of (codes "int x;")).rec ≡ (compile_of (codes "int y;")).rec → ⊥ }
     ensures long { (bytes : Bytes) → length (telling_digest bytes) ≡ 32 }
+{}
+
+/// What is assumed of runs can be met with `direct` on: a call at two moments meets it under digests of 32 bytes. It has an
+/// entry key; of its text the header is recorded; and where that stands under the first moment's entry key, it matches at the second.
+pub fn premises_can_be_met_over_records()
+    ensures met { (about : Metadata) (zone : ZoneRule) (one other : ℤ) →
+        Premises first_byte_digest (two_moments about zone one other) }
+    ensures asks { (about : Metadata) (zone : ZoneRule) (moment : ℤ) →
+        has_entry_key (call_on about zone moment) ≡ true }
+    ensures recorded { (about : Metadata) (zone : ZoneRule) (moment : ℤ) →
+        includes_by first_byte_digest (call_on about zone moment) printed_text
+        ≡ Some (header_include about zone ∷ []) }
+    ensures found { (about : Metadata) (zone : ZoneRule) (one other : ℤ) (held : Held) →
+        held (entry_key_by first_byte_digest (call_on about zone one)) ≡ Some (record_on about zone one)
+        → HasMatch first_byte_digest (call_on about zone other) held (text_key_on about zone one) }
+    ensures long { (bytes : Bytes) → length (first_byte_digest bytes) ≡ 32 }
 {}

@@ -1,16 +1,19 @@
 //! The session that answers requests.
 
-ghost use Rattle.std.specs.Prelude.{◌≡◌, true, List, [], ◌∷◌, ◌++◌, length, IfOk, OnErr, IsErrOf};
+ghost use Rattle.std.specs.Prelude.{◌≡◌, true, false, List, [], ◌∷◌, ◌++◌, length, IfOk, OnErr, IsErrOf};
 ghost use Rattle.os_files.specs.Fails.{FailsOn};
-ghost use Rattle.ckeys_base.specs.Shelf.{Clears};
+ghost use Rattle.ckeys_base.specs.Shelf.{Clears, IsEmpty};
+ghost use Rattle.ckeys.specs.Entries.{EntryInvariant, EntryPremises};
 ghost use Rattle.ckeys.specs.Meaning.{FailsIn};
-ghost use Rattle.wrap_base.specs.Account.{Account, account_at, call_at, work_at, worked};
-ghost use Rattle.wrap_base.specs.Answers.{Answers, OnPass, Says, SaysWorked, settled, settled_by};
+ghost use Rattle.wrap_base.specs.Account.{Account, account_at, call_at, direct_calls, work_at, worked};
+ghost use Rattle.wrap_base.specs.Answers.{Answers, GoesOn, OnPass, Says, SaysBy, SaysWorked, SaysWorkedBy, settled, settled_by};
+ghost use Rattle.wrap_base.specs.Asking.{AskedTurn, EntriesTurn, RecordsAreTrue, shelves_of};
 ghost use Rattle.wrap_base.specs.Keys.{Invariant, Premises};
 ghost use Rattle.wrap_base.specs.Turn.{StoreTurn};
-ghost use Rattle.wrap_base.specs.Whole.{AllAnswer, Each, IsAnswered, IsEmpty, OneFresh, Run, accounts_at, files_view, served_at, tool_view};
+ghost use Rattle.wrap_base.specs.Whole.{AllAnswer, BothRun, Each, IsAnswered, OneFresh, Run, accounts_at, files_view, served_at, tool_view};
 ghost use Rattle.wrap.specs.Plans.{IsPlanOf};
 ghost use Rattle.wrap.specs.Sessions.{held_by};
+ghost use Rattle.wrap.specs.Steps.{kept_how};
 
 use crate::keys::{ask, store_key};
 use crate::outputs::placed;
@@ -18,8 +21,9 @@ use crate::steps::compiled_pairs;
 use crate::verdict::{Plan, Verdict, judge};
 use ckeys::config::KeyConfig;
 use ckeys::fault::Fault;
-use ckeys::laws::keys_tell_records;
+use ckeys::laws::{keys_tell_records, records_are_true};
 use ckeys::word_end::stripped_words_lack_the_end;
+use ckeys::{EntryKey, PreprocessorCacheEntry};
 use ckeys_base::hash_state::HashState;
 use ckeys_base::store::Store;
 use os_files::files::Files;
@@ -33,49 +37,64 @@ use wrap_base::request::Request;
 use wrap_base::store_key::{StoreKey, keys_are_their_fields};
 use wrap_base::tool::Tool;
 
-/// Answers requests under one configuration, from a store of what was compiled, by one hash function. Contracts see the
-/// folders that don't count, and the store.
+/// Answers requests under one configuration, from a store of include records and one of what was compiled, by one hash
+/// function. Contracts see what the configuration fixes, and the stores.
 #[derive(Drop)]
-pub struct Session<H, O> {
+pub struct Session<H, E, O> {
     alloc: Global,
     config: KeyConfig,
+    entries: E,
     objects: O,
     hash: PhantomData<H>,
 }
 
-impl<H, O> Model for Session<H, O> {
+impl<H, E, O> Model for Session<H, E, O> {
     ghost use Rattle.wrap.specs.Sessions.{Held, held_by};
 
-    ghost Value = { Held O };
+    ghost Value = { Held E O };
 
-    ghost view = { λ a. held_by a.config.basedirs a.objects };
+    ghost view = { λ a. held_by a.config a.entries a.objects };
 }
 
-impl<H: HashState, O: Store<StoreKey, Listed<(OsBytes, OsBytes)>> + Drop> Session<H, O> {
-    /// A session under that configuration over this store, whose calls take their memory from the allocator.
-    pub fn new(alloc: Global, config: KeyConfig, objects: O) -> Session<H, O>
-        ensures { result ≡ held_by config.basedirs objects }
+impl<
+    H: HashState,
+    E: Store<EntryKey, PreprocessorCacheEntry> + Drop,
+    O: Store<StoreKey, Listed<(OsBytes, OsBytes)>> + Drop,
+> Session<H, E, O> {
+    /// A session under that configuration over these stores, whose calls take their memory from the allocator.
+    pub fn new(alloc: Global, config: KeyConfig, entries: E, objects: O) -> Session<H, E, O>
+        ensures { result ≡ held_by config entries objects }
     {
         Session {
             alloc,
             config,
+            entries,
             objects,
             hash: PhantomData,
         }
     }
 
-    /// The store.
+    /// The store of include records.
+    pub fn entries(&self) -> &E
+        ensures { result.now ≡ self.now.entries }
+    {
+        &self.entries
+    }
+
+    /// The store of outputs.
     pub fn objects(&self) -> &O
         ensures { result.now ≡ self.now.objects }
     {
         &self.objects
     }
 
-    /// Drops all that the store holds.
+    /// Drops all that the stores hold.
     pub fn forget_all(&mut self)
+        ensures entries { Clears (E.shelf self.old.entries) (E.shelf self.new.entries) }
         ensures objects { Clears (O.shelf self.old.objects) (O.shelf self.new.objects) }
-        ensures folders { self.new.folders ≡ self.old.folders }
+        ensures settings { self.new.settings ≡ self.old.settings }
     {
+        self.entries.forget_all();
         self.objects.forget_all();
     }
 
@@ -88,28 +107,44 @@ impl<H: HashState, O: Store<StoreKey, Listed<(OsBytes, OsBytes)>> + Drop> Sessio
         tool: &mut T,
     ) -> Result<Answer, Fault>
         // It is passed through exactly where the verdict says, unless memory was refused first; a fault has its cause.
-        ensures says { let a = account_at (T.meaning tool.old) (F.tree files.old) self.old.folders request.now in Says a (FailsOn F.tree F.failed F.fails_on files.old files.new) (FailsIn T.meaning T.failed T.fails_in tool.old tool.new) result }
+        ensures says { let a = account_at (T.meaning tool.old) (F.tree files.old) self.old.settings request.now in SaysBy GoesOn a (FailsOn F.tree F.failed F.fails_on files.old files.new) (FailsIn T.meaning T.failed T.fails_in tool.old tool.new) result }
 
         // A pass moves no tick.
         ensures quiet { OnPass result ((T.preprocessed tool.new ≡ T.preprocessed tool.old) × (T.compiled tool.new ≡ T.compiled tool.old) × (T.failed tool.new ≡ T.failed tool.old)) }
 
-        // Where no growth is refused and no device fails, what is said before the compile is the account's alone.
-        ensures exact { let a = account_at (T.meaning tool.old) (F.tree files.old) self.old.folders request.now in (IsErrOf result Fault.Memory → ⊥) → F.failed files.new ≡ F.failed files.old → T.failed tool.new ≡ T.failed tool.old → settled_by result ≡ settled a }
+        // Under which key it asks the store of outputs, and what it does to that, whatever the records hold.
+        ensures asked { let a = account_at (T.meaning tool.old) (F.tree files.old) self.old.settings request.now in AskedTurn H.digest_of a (shelves_of (E.shelf self.old.entries) (O.shelf self.old.objects)) (shelves_of (E.shelf self.new.entries) (O.shelf self.new.objects)) (T.preprocessed tool.old) (T.preprocessed tool.new) (T.compiled tool.old) (T.compiled tool.new) result }
 
-        // What it does to the store, and what the answer tells of the store and of the compiler's runs.
-        ensures store { let a = account_at (T.meaning tool.old) (F.tree files.old) self.old.folders request.now in StoreTurn H.digest_of a (O.shelf self.old.objects) (O.shelf self.new.objects) (T.compiled tool.old) (T.compiled tool.new) result }
+        // What it does to the records, and to the preprocessor's tick.
+        ensures entries { let a = account_at (T.meaning tool.old) (F.tree files.old) self.old.settings request.now in EntriesTurn H.digest_of a (E.shelf self.old.entries) (E.shelf self.new.entries) (T.preprocessed tool.old) (T.preprocessed tool.new) }
 
-        // Whatever list of earlier calls meets the invariant, that list followed by this call meets it at the end.
-        ensures invariant { let a = account_at (T.meaning tool.old) (F.tree files.old) self.old.folders request.now in (earlier : List Account) → Invariant H.digest_of earlier (O.shelf self.old.objects).held → Invariant H.digest_of (earlier ++ a ∷ []) (O.shelf self.new.objects).held }
+        // Whatever list of earlier calls meets the invariant of the records, that list followed by this call meets it at the end.
+        ensures records { let a = account_at (T.meaning tool.old) (F.tree files.old) self.old.settings request.now in (earlier : List Account) → EntryInvariant H.digest_of self.old.settings (direct_calls earlier) (E.shelf self.old.entries).held → EntryInvariant H.digest_of self.old.settings (direct_calls (earlier ++ a ∷ [])) (E.shelf self.new.entries).held }
 
-        // Outputs are those that the compiler gives afresh.
-        ensures outputs { let a = account_at (T.meaning tool.old) (F.tree files.old) self.old.folders request.now in (earlier : List Account) → Invariant H.digest_of earlier (O.shelf self.old.objects).held → Premises H.digest_of (earlier ++ a ∷ []) → Answers a result }
+        // Then they are true of this call, where digests are distinct and texts are printed again; and so they are where none are kept.
+        ensures agree { let a = account_at (T.meaning tool.old) (F.tree files.old) self.old.settings request.now in (earlier : List Account) → (self.old.settings.direct ≡ true → EntryInvariant H.digest_of self.old.settings (direct_calls earlier) (E.shelf self.old.entries).held × EntryPremises H.digest_of (direct_calls (earlier ++ a ∷ []))) → RecordsAreTrue H.digest_of a (E.shelf self.old.entries).held }
 
-        ensures folders { self.new.folders ≡ self.old.folders }
+        // Where they are, outputs mean that the call has no fault before the store is asked.
+        ensures goes_on { let a = account_at (T.meaning tool.old) (F.tree files.old) self.old.settings request.now in RecordsAreTrue H.digest_of a (E.shelf self.old.entries).held → Says a (FailsOn F.tree F.failed F.fails_on files.old files.new) (FailsIn T.meaning T.failed T.fails_in tool.old tool.new) result }
+
+        // Then, where no growth is refused and no device fails, what is said before the compile is the account's alone.
+        ensures exact { let a = account_at (T.meaning tool.old) (F.tree files.old) self.old.settings request.now in RecordsAreTrue H.digest_of a (E.shelf self.old.entries).held → (IsErrOf result Fault.Memory → ⊥) → F.failed files.new ≡ F.failed files.old → T.failed tool.new ≡ T.failed tool.old → settled_by result ≡ settled a }
+
+        // Then, what it does to the store of outputs under its own key, and what the answer tells of the store and of the compiler's runs.
+        ensures store { let a = account_at (T.meaning tool.old) (F.tree files.old) self.old.settings request.now in RecordsAreTrue H.digest_of a (E.shelf self.old.entries).held → StoreTurn H.digest_of a (O.shelf self.old.objects) (O.shelf self.new.objects) (T.compiled tool.old) (T.compiled tool.new) result }
+
+        // Then, whatever list of earlier calls meets the invariant, that list followed by this call meets it at the end.
+        ensures invariant { let a = account_at (T.meaning tool.old) (F.tree files.old) self.old.settings request.now in RecordsAreTrue H.digest_of a (E.shelf self.old.entries).held → (earlier : List Account) → Invariant H.digest_of earlier (O.shelf self.old.objects).held → Invariant H.digest_of (earlier ++ a ∷ []) (O.shelf self.new.objects).held }
+
+        // Then, outputs are those that the compiler gives afresh.
+        ensures outputs { let a = account_at (T.meaning tool.old) (F.tree files.old) self.old.settings request.now in RecordsAreTrue H.digest_of a (E.shelf self.old.entries).held → (earlier : List Account) → Invariant H.digest_of earlier (O.shelf self.old.objects).held → Premises H.digest_of (earlier ++ a ∷ []) → Answers a result }
+
+        ensures settings { self.new.settings ≡ self.old.settings }
         ensures meaning { T.meaning tool.new ≡ T.meaning tool.old }
         ensures tree { F.tree files.new ≡ F.tree files.old }
     {
         keys_tell_records::<H>();
+        records_are_true::<H>();
         self.turn(request, files, tool)
     }
 
@@ -121,23 +156,28 @@ impl<H: HashState, O: Store<StoreKey, Listed<(OsBytes, OsBytes)>> + Drop> Sessio
         ensures length { IfOk result (λ answers. length answers.items ≡ length calls.old) }
 
         // Each answer is one call's, in order, as `serve` says.
-        ensures run { IfOk result (λ answers. Run H.digest_of (O.shelf self.old.objects) (served_at self.old.folders (files_view F.tree F.failed) (tool_view T.meaning T.preprocessed T.compiled T.failed) calls.old calls.new answers.items) (O.shelf self.new.objects)) }
+        ensures run { IfOk result (λ answers. BothRun H.digest_of self.old.settings (shelves_of (E.shelf self.old.entries) (O.shelf self.old.objects)) (served_at self.old.settings (files_view F.tree F.failed) (tool_view T.meaning T.preprocessed T.compiled T.failed) calls.old calls.new answers.items) (shelves_of (E.shelf self.new.entries) (O.shelf self.new.objects))) }
+
+        // Where no records are kept, or from an empty store of them where digests are distinct and texts are printed again, each call is one over the store of outputs alone, under its own key.
+        ensures own { (self.old.settings.direct ≡ true → IsEmpty (E.shelf self.old.entries) × EntryPremises H.digest_of (direct_calls (accounts_at self.old.settings (files_view F.tree F.failed) (tool_view T.meaning T.preprocessed T.compiled T.failed) calls.old)))
+            → IfOk result (λ answers. Run H.digest_of (O.shelf self.old.objects) (served_at self.old.settings (files_view F.tree F.failed) (tool_view T.meaning T.preprocessed T.compiled T.failed) calls.old calls.new answers.items) (O.shelf self.new.objects)) }
 
         // Each is passed through exactly where the verdict says, and a fault has its cause, as `serve` says.
-        ensures says { IfOk result (λ answers. Each (IsAnswered self.old.folders F.tree F.failed F.fails_on T.meaning T.failed T.fails_in) calls.old calls.new answers.items) }
+        ensures says { IfOk result (λ answers. Each (IsAnswered self.old.settings F.tree F.failed F.fails_on T.meaning T.failed T.fails_in) calls.old calls.new answers.items) }
 
-        // From an empty store all outputs are those that the compilers give afresh on each call's files.
-        ensures outputs { IsEmpty (O.shelf self.old.objects) → Premises H.digest_of (accounts_at self.old.folders (files_view F.tree F.failed) (tool_view T.meaning T.preprocessed T.compiled T.failed) calls.old)
-            → IfOk result (λ answers. AllAnswer (served_at self.old.folders (files_view F.tree F.failed) (tool_view T.meaning T.preprocessed T.compiled T.failed) calls.old calls.new answers.items)) }
+        // From empty stores all outputs are those that the compilers give afresh on each call's files.
+        ensures outputs { (self.old.settings.direct ≡ true → IsEmpty (E.shelf self.old.entries)) → IsEmpty (O.shelf self.old.objects) → Premises H.digest_of (accounts_at self.old.settings (files_view F.tree F.failed) (tool_view T.meaning T.preprocessed T.compiled T.failed) calls.old)
+            → IfOk result (λ answers. AllAnswer (served_at self.old.settings (files_view F.tree F.failed) (tool_view T.meaning T.preprocessed T.compiled T.failed) calls.old calls.new answers.items)) }
 
         // With nothing forgotten or refused, equal records get at most one fresh answer.
-        ensures once { (O.shelf self.new.objects).kept ≡ true
-            → IfOk result (λ answers. OneFresh (served_at self.old.folders (files_view F.tree F.failed) (tool_view T.meaning T.preprocessed T.compiled T.failed) calls.old calls.new answers.items)) }
+        ensures once { (self.old.settings.direct ≡ true → IsEmpty (E.shelf self.old.entries) × EntryPremises H.digest_of (direct_calls (accounts_at self.old.settings (files_view F.tree F.failed) (tool_view T.meaning T.preprocessed T.compiled T.failed) calls.old))) → (O.shelf self.new.objects).kept ≡ true
+            → IfOk result (λ answers. OneFresh (served_at self.old.settings (files_view F.tree F.failed) (tool_view T.meaning T.preprocessed T.compiled T.failed) calls.old calls.new answers.items)) }
 
-        ensures folders { self.new.folders ≡ self.old.folders }
-        ensures unchanged { OnErr result ((calls.new ≡ calls.old) × (O.shelf self.new.objects ≡ O.shelf self.old.objects)) }
+        ensures settings { self.new.settings ≡ self.old.settings }
+        ensures unchanged { OnErr result ((calls.new ≡ calls.old) × (E.shelf self.new.entries ≡ E.shelf self.old.entries) × (O.shelf self.new.objects ≡ O.shelf self.old.objects)) }
     {
         keys_tell_records::<H>();
+        records_are_true::<H>();
         self.run_all(calls)
     }
 
@@ -146,10 +186,10 @@ impl<H: HashState, O: Store<StoreKey, Listed<(OsBytes, OsBytes)>> + Drop> Sessio
         calls: &mut [Call<F, T>],
     ) -> Result<Vec<Result<Answer, Fault>>, AllocError>
         ensures length { IfOk result (λ answers. length answers.items ≡ length calls.old) }
-        ensures run { IfOk result (λ answers. Run H.digest_of (O.shelf self.old.objects) (served_at self.old.folders (files_view F.tree F.failed) (tool_view T.meaning T.preprocessed T.compiled T.failed) calls.old calls.new answers.items) (O.shelf self.new.objects)) }
-        ensures says { IfOk result (λ answers. Each (IsAnswered self.old.folders F.tree F.failed F.fails_on T.meaning T.failed T.fails_in) calls.old calls.new answers.items) }
-        ensures folders { self.new.folders ≡ self.old.folders }
-        ensures unchanged { OnErr result ((calls.new ≡ calls.old) × (O.shelf self.new.objects ≡ O.shelf self.old.objects)) }
+        ensures run { IfOk result (λ answers. BothRun H.digest_of self.old.settings (shelves_of (E.shelf self.old.entries) (O.shelf self.old.objects)) (served_at self.old.settings (files_view F.tree F.failed) (tool_view T.meaning T.preprocessed T.compiled T.failed) calls.old calls.new answers.items) (shelves_of (E.shelf self.new.entries) (O.shelf self.new.objects))) }
+        ensures says { IfOk result (λ answers. Each (IsAnswered self.old.settings F.tree F.failed F.fails_on T.meaning T.failed T.fails_in) calls.old calls.new answers.items) }
+        ensures settings { self.new.settings ≡ self.old.settings }
+        ensures unchanged { OnErr result ((calls.new ≡ calls.old) × (E.shelf self.new.entries ≡ E.shelf self.old.entries) × (O.shelf self.new.objects ≡ O.shelf self.old.objects)) }
     {
         let mut answers = Vec::with_capacity(self.alloc, calls.len())?;
         for call in calls.iter_mut() {
@@ -165,18 +205,21 @@ impl<H: HashState, O: Store<StoreKey, Listed<(OsBytes, OsBytes)>> + Drop> Sessio
         files: &mut F,
         tool: &mut T,
     ) -> Result<Answer, Fault>
-        ensures says { let a = account_at (T.meaning tool.old) (F.tree files.old) self.old.folders request.now in Says a (FailsOn F.tree F.failed F.fails_on files.old files.new) (FailsIn T.meaning T.failed T.fails_in tool.old tool.new) result }
+        ensures says { let a = account_at (T.meaning tool.old) (F.tree files.old) self.old.settings request.now in SaysBy GoesOn a (FailsOn F.tree F.failed F.fails_on files.old files.new) (FailsIn T.meaning T.failed T.fails_in tool.old tool.new) result }
+        ensures goes_on { let a = account_at (T.meaning tool.old) (F.tree files.old) self.old.settings request.now in RecordsAreTrue H.digest_of a (E.shelf self.old.entries).held → Says a (FailsOn F.tree F.failed F.fails_on files.old files.new) (FailsIn T.meaning T.failed T.fails_in tool.old tool.new) result }
         ensures quiet { OnPass result ((T.preprocessed tool.new ≡ T.preprocessed tool.old) × (T.compiled tool.new ≡ T.compiled tool.old) × (T.failed tool.new ≡ T.failed tool.old)) }
-        ensures store { let a = account_at (T.meaning tool.old) (F.tree files.old) self.old.folders request.now in StoreTurn H.digest_of a (O.shelf self.old.objects) (O.shelf self.new.objects) (T.compiled tool.old) (T.compiled tool.new) result }
-        ensures folders { self.new.folders ≡ self.old.folders }
+        ensures asked { let a = account_at (T.meaning tool.old) (F.tree files.old) self.old.settings request.now in AskedTurn H.digest_of a (shelves_of (E.shelf self.old.entries) (O.shelf self.old.objects)) (shelves_of (E.shelf self.new.entries) (O.shelf self.new.objects)) (T.preprocessed tool.old) (T.preprocessed tool.new) (T.compiled tool.old) (T.compiled tool.new) result }
+        ensures entries { let a = account_at (T.meaning tool.old) (F.tree files.old) self.old.settings request.now in EntriesTurn H.digest_of a (E.shelf self.old.entries) (E.shelf self.new.entries) (T.preprocessed tool.old) (T.preprocessed tool.new) }
+        ensures settings { self.new.settings ≡ self.old.settings }
         ensures meaning { T.meaning tool.new ≡ T.meaning tool.old }
         ensures tree { F.tree files.new ≡ F.tree files.old }
     {
         match judge(self.alloc, request, files)? {
             Verdict::Passes(reason) => Ok(Answer::Pass(reason)),
-            Verdict::Asks(plan) => answer::<H, O, F, T>(
+            Verdict::Asks(plan) => answer::<H, E, O, F, T>(
                 self.alloc,
                 &self.config,
+                &mut self.entries,
                 &mut self.objects,
                 request,
                 &plan,
@@ -187,11 +230,29 @@ impl<H: HashState, O: Store<StoreKey, Listed<(OsBytes, OsBytes)>> + Drop> Sessio
     }
 }
 
+/// How a hit is told.
+fn kept_how(from_record: bool) -> How
+    ensures { result ≡ kept_how from_record }
+{
+    if from_record {
+        How::Direct
+    } else {
+        How::Stored
+    }
+}
+
 /// Answers a request that isn't passed through: what the store holds under its key, or what one compile makes, which
 /// is kept then.
-fn answer<H: HashState, O: Store<StoreKey, Listed<(OsBytes, OsBytes)>>, F: Files, T: Tool>(
+fn answer<
+    H: HashState,
+    E: Store<EntryKey, PreprocessorCacheEntry>,
+    O: Store<StoreKey, Listed<(OsBytes, OsBytes)>>,
+    F: Files,
+    T: Tool,
+>(
     alloc: Global,
     config: &KeyConfig,
+    entries: &mut E,
     objects: &mut O,
     request: &Request,
     plan: &Plan,
@@ -199,8 +260,10 @@ fn answer<H: HashState, O: Store<StoreKey, Listed<(OsBytes, OsBytes)>>, F: Files
     tool: &mut T,
 ) -> Result<Answer, Fault>
     requires plan { IsPlanOf request.now plan.now }
-    ensures says { let w = work_at (T.meaning tool.old) (call_at request.now (F.tree files.old) config.now.basedirs plan.now.parsed) in SaysWorked w (FailsOn F.tree F.failed F.fails_on files.old files.new) (FailsIn T.meaning T.failed T.fails_in tool.old tool.new) result }
-    ensures store { let w = work_at (T.meaning tool.old) (call_at request.now (F.tree files.old) config.now.basedirs plan.now.parsed) in StoreTurn H.digest_of (worked w) (O.shelf objects.old) (O.shelf objects.new) (T.compiled tool.old) (T.compiled tool.new) result }
+    ensures says { let w = work_at (T.meaning tool.old) (call_at request.now (F.tree files.old) config.now plan.now.parsed) in SaysWorkedBy (GoesOn w) w (FailsOn F.tree F.failed F.fails_on files.old files.new) (FailsIn T.meaning T.failed T.fails_in tool.old tool.new) result }
+    ensures goes_on { let w = work_at (T.meaning tool.old) (call_at request.now (F.tree files.old) config.now plan.now.parsed) in RecordsAreTrue H.digest_of (worked w) (E.shelf entries.old).held → SaysWorked w (FailsOn F.tree F.failed F.fails_on files.old files.new) (FailsIn T.meaning T.failed T.fails_in tool.old tool.new) result }
+    ensures asked { let w = work_at (T.meaning tool.old) (call_at request.now (F.tree files.old) config.now plan.now.parsed) in AskedTurn H.digest_of (worked w) (shelves_of (E.shelf entries.old) (O.shelf objects.old)) (shelves_of (E.shelf entries.new) (O.shelf objects.new)) (T.preprocessed tool.old) (T.preprocessed tool.new) (T.compiled tool.old) (T.compiled tool.new) result }
+    ensures entries { let w = work_at (T.meaning tool.old) (call_at request.now (F.tree files.old) config.now plan.now.parsed) in EntriesTurn H.digest_of (worked w) (E.shelf entries.old) (E.shelf entries.new) (T.preprocessed tool.old) (T.preprocessed tool.new) }
     ensures unpassed { OnPass result ⊥ }
     ensures meaning { T.meaning tool.new ≡ T.meaning tool.old }
     ensures tree { F.tree files.new ≡ F.tree files.old }
@@ -208,12 +271,14 @@ fn answer<H: HashState, O: Store<StoreKey, Listed<(OsBytes, OsBytes)>>, F: Files
     // Laws, which cost nothing: what follows from them is said above.
     keys_are_their_fields();
     stripped_words_lack_the_end();
-    let key = store_key::<H, F, T>(alloc, request, plan, config, files, tool)?;
+    let (key, from_record) = store_key::<H, E, F, T>(
+        alloc, request, plan, config, entries, files, tool,
+    )?;
     let outputs = plan.parsed.outputs.as_slice();
     if let Some(map) = ask(alloc, objects, &key, outputs)? {
         return Ok(Answer::Outputs {
             map,
-            how: How::Stored,
+            how: kept_how(from_record),
             dep_info: None,
         });
     }

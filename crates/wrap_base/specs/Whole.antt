@@ -1,17 +1,19 @@
 -- Whole runs.
-use Rattle.std.specs.Prelude.{◌≡◌, ℕ, true, List, [], ◌∷◌, map, Option, Some, None, Result, Ok, Err, IsErrOf}
+use Rattle.std.specs.Prelude.{◌≡◌, ℕ, true, false, List, [], ◌∷◌, map, Option, Some, None, Result, Ok, Err, IsErrOf}
 use Rattle.std.specs.List.{AllByRecursion}
 use Rattle.os_files.specs.Bytes.{Bytes, ticked}
 use Rattle.os_files.specs.Fails.{FailsOn}
 use Rattle.os_files.specs.Tree.{Tree}
 use Rattle.ckeys_base.specs.Shelf.{Shelf, Within, KeepsKeys}
+use Rattle.ckeys.specs.Folders.{Settings}
 use Rattle.ckeys.specs.Meaning.{FailsIn, Meaning}
 use Rattle.ckeys.specs.declared.fault.Fault.{Fault}
 use Rattle.ckeys.specs.declared.fault.Fault.TheVariants.{Memory}
 use Rattle.ckeys.specs.declared.step.Step.{Step}
 use Rattle.wrap_base.specs.Verdict.{Why}
 use Rattle.wrap_base.specs.Account.{Account, passed, worked, Pairs, account_at, why_passed}
-use Rattle.wrap_base.specs.Answers.{Answers, OnPass, Says, SaysPassed, settled, settled_by}
+use Rattle.wrap_base.specs.Answers.{Answers, GoesOn, OnPass, Says, SaysBy, SaysPassed, settled, settled_by}
+use Rattle.wrap_base.specs.Asking.{AskedTurn, EntriesTurn, IsOfOneCall, RecordsAreTrue, Shelves}
 use Rattle.wrap_base.specs.Keys.{SameRecord}
 use Rattle.wrap_base.specs.Turn.{StoreTurn}
 use Rattle.wrap_base.specs.declared.answer.Answer.{Answer}
@@ -43,7 +45,7 @@ pub record Served : Type 0 where
   pub result : Result Answer Fault
 
 -- from the end of one call to the beginning of the next, pairs may be lost
-pub record Loses (old new : Shelf StoreKey Pairs) : Type 0 where
+pub record Loses {K V : Type 0} (old new : Shelf K V) : Type 0 where
   pub within : Within old.held new.held
   pub kept : new.kept ≡ true → (old.kept ≡ true) × KeepsKeys old.held new.held
 
@@ -52,9 +54,19 @@ abbrev pub Run : (Bytes → Bytes) → Shelf StoreKey Pairs → List Served → 
 Run digest_of old [] new = Loses old new
 Run digest_of old (s ∷ rest) new = (begin : Shelf StoreKey Pairs) × (mid : Shelf StoreKey Pairs) × Loses old begin × Turn digest_of s.account begin mid s.before s.after s.result × Run digest_of mid rest new
 
--- nothing is held
-abbrev pub IsEmpty : Shelf StoreKey Pairs → Type 0
-IsEmpty shelf = (key : StoreKey) → shelf.held key ≡ None
+-- One call over both stores, by plain values: where the records are true of it, it is a turn over the object store alone; and, whether they are or not, it asks that store under a key and does to both what its answer tells; what the verdict passes through is passed through.
+pub record CallTurn (digest_of : Bytes → Bytes) (settings : Settings) (a : Account) (old new : Shelves) (before after : Ticks) (result : Result Answer Fault) : Type 0 where
+  pub own : RecordsAreTrue digest_of a old.entries.held → Turn digest_of a old.objects new.objects before after result
+  pub asked : AskedTurn digest_of a old new before.preprocessed after.preprocessed before.compiled after.compiled result
+  pub entries : EntriesTurn digest_of a old.entries new.entries before.preprocessed after.preprocessed
+  pub configured : IsOfOneCall settings a
+  pub passes : (why : Why) → why_passed a ≡ Some why → SaysPassed why (λ name. after.files_failed ≡ ticked before.files_failed) result
+  pub quiet : OnPass result ((after.preprocessed ≡ before.preprocessed) × (after.compiled ≡ before.compiled) × (after.failed ≡ before.failed))
+
+-- calls one after another over both stores
+abbrev pub BothRun : (Bytes → Bytes) → Settings → Shelves → List Served → Shelves → Type 0
+BothRun digest_of settings old [] new = Loses old.entries new.entries × Loses old.objects new.objects
+BothRun digest_of settings old (s ∷ rest) new = (begin : Shelves) × (mid : Shelves) × Loses old.entries begin.entries × Loses old.objects begin.objects × CallTurn digest_of settings s.account begin mid s.before s.after s.result × BothRun digest_of settings mid rest new
 
 abbrev pub accounts_of : List Served → List Account
 accounts_of run = map (λ s. s.account) run
@@ -123,13 +135,13 @@ files_view tree failed = record { tree = tree; failed = failed }
 abbrev pub tool_view : {T : Type 0} → (T → Meaning) → (T → ℕ) → (T → ℕ) → (T → ℕ) → ToolView T
 tool_view meaning preprocessed compiled failed = record { meaning = meaning; preprocessed = preprocessed; compiled = compiled; failed = failed }
 
-module _ {F T : Type 0} (folders : List Bytes) (files : FilesView F) (tool : ToolView T) where
+module _ {F T : Type 0} (settings : Settings) (files : FilesView F) (tool : ToolView T) where
   abbrev pub ticks_of : F → T → Ticks
   ticks_of f t = record { preprocessed = tool.preprocessed t; compiled = tool.compiled t; failed = tool.failed t; files_failed = files.failed f }
 
   -- a call as it begins
   abbrev pub begin_of : Call F T → Account × Ticks
-  begin_of c = (account_at (tool.meaning c.tool) (files.tree c.files) folders c.request, ticks_of c.files c.tool)
+  begin_of c = (account_at (tool.meaning c.tool) (files.tree c.files) settings c.request, ticks_of c.files c.tool)
 
   abbrev pub end_of : Call F T → Ticks
   end_of c = ticks_of c.files c.tool
@@ -140,7 +152,7 @@ module _ {F T : Type 0} (folders : List Bytes) (files : FilesView F) (tool : Too
 
   -- their accounts
   abbrev pub accounts_at : List (Call F T) → List Account
-  accounts_at calls = map (λ c. account_at (tool.meaning c.tool) (files.tree c.files) folders c.request) calls
+  accounts_at calls = map (λ c. account_at (tool.meaning c.tool) (files.tree c.files) settings c.request) calls
 
 -- what holds of each: as it began, as it ended, and its result
 abbrev pub Each : {A B : Type 0} → (A → A → B → Type 0) → List A → List A → List B → Type 0
@@ -149,9 +161,10 @@ Each P (b ∷ begins) [] results = Unit {0}
 Each P (b ∷ begins) (e ∷ ends) [] = Unit {0}
 Each P (b ∷ begins) (e ∷ ends) (r ∷ results) = P b e r × Each P begins ends results
 
--- A call is answered: its answer says what it may, a fault only with its cause; and its request, the tree of its files and its tool's meaning are as they were.
-pub record IsAnswered {F T : Type 0} (folders : List Bytes) (tree : F → Tree) (files_failed : F → ℕ) (fails_on : F → Bytes → F → Type 0) (meaning : T → Meaning) (failed : T → ℕ) (fails_in : T → Step → T → Type 0) (begin end : Call F T) (result : Result Answer Fault) : Type 0 where
-  pub says : Says (account_at (meaning begin.tool) (tree begin.files) folders begin.request) (FailsOn tree files_failed fails_on begin.files end.files) (FailsIn meaning failed fails_in begin.tool end.tool) result
+-- A call is answered: its answer says what it may, a fault only with its cause, and outputs, where no records are kept, only where the call has no fault before; and its request, the tree of its files and its tool's meaning are as they were.
+pub record IsAnswered {F T : Type 0} (settings : Settings) (tree : F → Tree) (files_failed : F → ℕ) (fails_on : F → Bytes → F → Type 0) (meaning : T → Meaning) (failed : T → ℕ) (fails_in : T → Step → T → Type 0) (begin end : Call F T) (result : Result Answer Fault) : Type 0 where
+  pub says : SaysBy GoesOn (account_at (meaning begin.tool) (tree begin.files) settings begin.request) (FailsOn tree files_failed fails_on begin.files end.files) (FailsIn meaning failed fails_in begin.tool end.tool) result
+  pub plain : settings.direct ≡ false → Says (account_at (meaning begin.tool) (tree begin.files) settings begin.request) (FailsOn tree files_failed fails_on begin.files end.files) (FailsIn meaning failed fails_in begin.tool end.tool) result
   pub request : end.request ≡ begin.request
   pub kept_tree : tree end.files ≡ tree begin.files
   pub kept_meaning : meaning end.tool ≡ meaning begin.tool

@@ -1,183 +1,206 @@
 //! `serve` with a device that fails, and with a compiler that makes nothing.
 
-use crate::fail_tool::FailTool;
+use crate::calls::served;
 use crate::idle_tool::IdleTool;
-use crate::support::{Scene, script_tool};
-use ckeys::preprocessor::{Preprocessor, Ticks};
-use ckeys::step::Step;
-use os_files::files::Files;
+use crate::scene::{Limits, NO_FAILURE, Scene};
+use crate::support::{MapSession, request, session, told};
+use ckeys::preprocessor::Preprocessor;
 use os_files::memory_files::MemoryFiles;
-use os_files::os_bytes::OsBytes;
-use script_tool::script::ScriptTool;
 use std::alloc::{AllocError, Global};
-use std::process::Abort;
 use std::test::Fail;
-use test_kit::fail_files::FailFiles;
-use test_kit::rows::files_of;
-use wrap_base::tool::Tool;
+use test_kit::texts::is_that;
+use wrap_base::call::Call;
 
-/// The outputs for `/w/foo.c`: name, path and the contents of 22 bytes.
-const OF_FOO: &str = "obj foo.o # 1 \"/w/foo.c\"\nint x;\n";
-
-/// The outputs for `/w/y.i`, which is preprocessed: its own 7 bytes.
-const OF_Y: &str = "obj y.o int y;\n";
-
-/// The files of each request here.
-fn all_files(alloc: Global) -> Result<MemoryFiles, AllocError> {
-    let rows: [(&str, &[u8]); 3] = [
-        ("/w/foo.c", b"int x;\n"),
-        ("/w/p.so", b"plug"),
-        ("/w/y.i", b"int y;\n"),
-    ];
-    files_of(alloc, &rows)
+/// A request that is served twice.
+struct Row {
+    line: &'static str,
+    /// Whether include records are kept.
+    direct: bool,
+    /// Where its outputs come from, each time.
+    hows: [&'static str; 2],
+    /// Each output's name, path and contents.
+    outputs: &'static str,
+    /// How many include records are held then.
+    records: usize,
+    /// The tool's steps in the two calls.
+    steps: &'static str,
+    /// Whether files are asked for outside of these steps.
+    reads: bool,
 }
 
-/// Asserts that the store holds nothing, and that the request is served twice now: with these outputs made afresh, and
-/// with the same ones from the store.
-fn serves_twice<F: Files + Drop, T: Tool + Drop>(
-    rt: &impl Abort,
-    alloc: Global,
-    scene: &mut Scene<F, T>,
-    outputs: &str,
-) -> Result<(), Fail> {
-    assert_eq!(rt; scene.held(), 0);
-    for how in ["Fresh", "Stored"] {
-        let text = scene.serve()?;
-        let expected = format!(in alloc; "{how} {outputs}")?;
-        assert_eq!(rt; text.as_str(), expected.as_str());
-    }
-    assert_eq!(rt; scene.held(), 1);
-    Ok(())
-}
+const ROWS: [Row; 4] = [
+    // A marker of 15 bytes and the source.
+    Row {
+        line: "-c foo.c",
+        direct: false,
+        hows: ["Fresh", "Stored"],
+        outputs: "obj foo.o # 1 \"/w/foo.c\"\nint x;\n",
+        records: 0,
+        steps: "fault tool preprocess;fault tool compile;fault tool preprocess;",
+        reads: false,
+    },
+    Row {
+        line: "-c foo.c -fplugin=p.so",
+        direct: false,
+        hows: ["Fresh", "Stored"],
+        outputs: "obj foo.o # 1 \"/w/foo.c\"\nint x;\n",
+        records: 0,
+        steps: "fault tool preprocess;fault tool compile;fault tool preprocess;",
+        reads: true,
+    },
+    // The source is preprocessed, and the output is its own 7 bytes.
+    Row {
+        line: "-c y.i",
+        direct: false,
+        hows: ["Fresh", "Stored"],
+        outputs: "obj y.o int y;\n",
+        records: 0,
+        steps: "fault tool compile;",
+        reads: true,
+    },
+    // Three markers of 13 bytes and the header's line. The second call runs no step.
+    Row {
+        line: "-c m.c -o m.o",
+        direct: true,
+        hows: ["Fresh", "Direct"],
+        outputs: "obj m.o # 1 \"/w/m.c\"\n# 1 \"/w/h.h\"\nA\n# 1 \"/w/m.c\"\n",
+        records: 1,
+        steps: "fault tool preprocess;fault tool compile;",
+        reads: true,
+    },
+];
 
-/// What is due where the files' device failed on that name: the tool's fault, where it was asked in one of its steps.
-fn due_text(
-    alloc: Global,
-    failed_name: Option<&OsBytes>,
-    ticks: Ticks,
-    outputs: &str,
-) -> Result<String, AllocError> {
-    match failed_name {
-        None => format!(in alloc; "Fresh {outputs}"),
-        Some(name) if ticks.failure == 0 => format!(in alloc; "fault read {name}"),
-        Some(_) if ticks.compile == 0 => format!(in alloc; "fault tool preprocess"),
-        Some(_) => format!(in alloc; "fault tool compile"),
-    }
-}
-
-/// Serves the request, one call of whose files is refused or none, and then as it should be. Answers whether the refused call
-/// was one outside of the tool's steps, and `None` where no call was refused.
-fn reads_itself(
-    rt: &impl Abort,
-    alloc: Global,
-    scene: &mut Scene<FailFiles<MemoryFiles>, ScriptTool>,
-    outputs: &str,
-) -> Result<Option<bool>, Fail> {
+/// Serves the request, and asserts what is told.
+fn tells(scene: &mut Scene, due: &str) -> Result<(), Fail> {
     let text = scene.serve()?;
-    let ticks = scene.tool.ticks();
-    let due = due_text(alloc, scene.files.failed_name.as_ref(), ticks, outputs)?;
-    assert_eq!(rt; text.as_str(), due.as_str());
-    if scene.files.failed_name.is_none() {
+    is_that(text.as_str(), due, "served")
+}
+
+/// Serves the request, and serves it again where a call of a device was refused. Asserts what is told, and that no outputs were
+/// kept of the refused call. Answers its fault.
+fn tells_at_last(scene: &mut Scene, due: &str) -> Result<Option<String>, Fail> {
+    let (had_failed, ticks, held) = (scene.has_failed(), scene.ticks(), scene.held());
+    let text = scene.serve()?;
+    if scene.has_failed() == had_failed {
+        is_that(text.as_str(), due, "served")?;
         return Ok(None);
     }
-    serves_twice(rt, alloc, scene, outputs)?;
-    Ok(Some(ticks.failure == 0))
+    is_that(text.as_str(), scene.due_fault(ticks)?.as_str(), "refused")?;
+    if scene.held().1 != held.1 {
+        return Err("outputs of a refused call".into());
+    }
+    tells(scene, due)?;
+    Ok(Some(text))
 }
 
-/// Likewise for the request of this line, while the files' device refuses the call behind that many.
-fn without_a_file(
-    rt: &impl Abort,
-    alloc: Global,
-    line: &str,
-    outputs: &str,
-    calls_left: u64,
-) -> Result<Option<bool>, Fail> {
-    let files = FailFiles::new(all_files(alloc)?, calls_left);
-    let mut scene = Scene::new(alloc, line, files, script_tool(alloc)?)?;
-    reads_itself(rt, alloc, &mut scene, outputs)
+/// Serves the row's two requests. Answers the fault of the refused call.
+fn serves_row(alloc: Global, row: &Row, scene: &mut Scene) -> Result<Option<String>, Fail> {
+    let mut fault = None;
+    for how in row.hows {
+        let due = format!(in alloc; "{how} {}", row.outputs)?;
+        if let Some(text) = tells_at_last(scene, due.as_str())? {
+            fault = Some(text);
+        }
+    }
+    if scene.held() != (row.records, 1) {
+        return Err("another number of pairs".into());
+    }
+    Ok(fault)
 }
 
-/// Refuses each call of the files in turn, up to the first run that meets no refusal. Answers whether one of the refused
-/// calls was outside of the tool's steps.
-fn reads_files(rt: &impl Abort, alloc: Global, line: &str, outputs: &str) -> Result<bool, Fail> {
-    let mut reads = false;
+/// A device of which each call is refused in turn.
+#[derive(Clone, Copy)]
+enum Device {
+    Files,
+    Tool,
+}
+
+/// The call of that device behind that many fails.
+fn limits(device: Device, calls_left: u64) -> Limits {
+    let mut limits = NO_FAILURE;
+    match device {
+        Device::Files => limits.files = calls_left,
+        Device::Tool => limits.tool = calls_left,
+    }
+    limits
+}
+
+/// The fault of the row's refused call.
+fn fault_at(alloc: Global, row: &Row, limits: Limits) -> Result<Option<String>, Fail> {
+    let mut scene = Scene::new(alloc, row.line, row.direct, limits)?;
+    serves_row(alloc, row, &mut scene)
+}
+
+/// The row's faults where each call of the device is refused in turn, up to the first run that meets no refusal.
+fn faults(alloc: Global, row: &Row, device: Device) -> Result<String, Fail> {
+    let mut faults = String::new(alloc);
     for calls_left in 0..u64::MAX {
-        let Some(is_outside) = without_a_file(rt, alloc, line, outputs, calls_left)? else {
+        let Some(fault) = fault_at(alloc, row, limits(device, calls_left))? else {
             break;
         };
-        reads = reads || is_outside;
+        write!(faults, "{fault};")?;
     }
-    Ok(reads)
+    Ok(faults)
 }
 
 #[test]
 fn each_file_is_refused(rt: HostRuntime) -> Result<(), Fail> {
-    let alloc = rt.alloc();
-    for (line, outputs, reads) in [
-        ("-c foo.c", OF_FOO, false),
-        ("-c foo.c -fplugin=p.so", OF_FOO, true),
-        ("-c y.i", OF_Y, true),
-    ] {
-        assert_eq!(rt; reads_files(&rt, alloc, line, outputs)?, reads, "{line}");
+    for row in ROWS.iter() {
+        let faults = faults(rt.alloc(), row, Device::Files)?;
+        assert_eq!(rt; faults.contains("fault read "), row.reads, "{}", row.line);
+        assert!(rt; faults.contains("fault tool "), "{}", row.line);
     }
     Ok(())
-}
-
-/// Serves the request, one call of whose tool is refused or none, and then as it should be. Answers the step of the refused
-/// call.
-fn refused_step(
-    rt: &impl Abort,
-    alloc: Global,
-    scene: &mut Scene<MemoryFiles, FailTool<ScriptTool>>,
-    outputs: &str,
-) -> Result<Option<Step>, Fail> {
-    let text = scene.serve()?;
-    let Some(step) = scene.tool.failed_step else {
-        return Ok(None);
-    };
-    let due = format!(in alloc; "fault tool {step}")?;
-    assert_eq!(rt; text.as_str(), due.as_str());
-    assert_eq!(rt; scene.tool.ticks().failure, 1);
-    serves_twice(rt, alloc, scene, outputs)?;
-    Ok(Some(step))
-}
-
-/// Likewise for the request of this line, while the tool's device refuses the call behind that many.
-fn without_a_step(
-    rt: &impl Abort,
-    alloc: Global,
-    line: &str,
-    outputs: &str,
-    calls_left: u64,
-) -> Result<Option<Step>, Fail> {
-    let tool = FailTool::new(script_tool(alloc)?, calls_left);
-    let mut scene = Scene::new(alloc, line, all_files(alloc)?, tool)?;
-    refused_step(rt, alloc, &mut scene, outputs)
 }
 
 #[test]
 fn each_step_is_refused(rt: HostRuntime) -> Result<(), Fail> {
-    let alloc = rt.alloc();
-    for (line, outputs, calls_left, step) in [
-        ("-c foo.c", OF_FOO, 0, Some(Step::Preprocess)),
-        ("-c foo.c", OF_FOO, 1, Some(Step::Compile)),
-        ("-c foo.c", OF_FOO, 2, None),
-        ("-c y.i", OF_Y, 0, Some(Step::Compile)),
-        ("-c y.i", OF_Y, 1, None),
-    ] {
-        let refused = without_a_step(&rt, alloc, line, outputs, calls_left)?;
-        assert_eq!(rt; refused, step, "{line} at {calls_left}");
+    for row in ROWS.iter() {
+        let faults = faults(rt.alloc(), row, Device::Tool)?;
+        is_that(faults.as_str(), row.steps, row.line)?;
     }
     Ok(())
 }
 
+/// The request of `foo.c`, without files, to a compiler that makes nothing.
+fn idle_call(alloc: Global) -> Result<Call<MemoryFiles, IdleTool>, AllocError> {
+    Ok(Call {
+        request: request(alloc, "-c foo.c")?,
+        files: MemoryFiles::new(alloc),
+        tool: IdleTool::new(),
+    })
+}
+
+/// What the call is told, how often its compiler ran, and how much is held then.
+fn told_idle(
+    alloc: Global,
+    session: &mut MapSession,
+    call: &mut Call<MemoryFiles, IdleTool>,
+) -> Result<String, Fail> {
+    let answer = served(session, &call.request, &mut call.files, &mut call.tool);
+    let text = told(alloc, &answer)?;
+    let (compile, held) = (call.tool.ticks().compile, session.objects().len());
+    Ok(format!(in alloc; "{text}; compile {compile}, held {held}")?)
+}
+
+/// Likewise by a session of its own.
+fn told_alone(alloc: Global, call: &mut Call<MemoryFiles, IdleTool>) -> Result<String, Fail> {
+    let mut session = session(alloc, false)?;
+    told_idle(alloc, &mut session, call)
+}
+
+/// Likewise of that call.
+fn told_of_idle_call(alloc: Global) -> Result<String, Fail> {
+    let mut call = idle_call(alloc)?;
+    told_alone(alloc, &mut call)
+}
+
 #[test]
 fn an_output_that_is_not_made_is_named(rt: HostRuntime) -> Result<(), Fail> {
-    let alloc = rt.alloc();
-    let mut scene = Scene::new(alloc, "-c foo.c", MemoryFiles::new(alloc), IdleTool::new())?;
-    let text = scene.serve()?;
-    assert_eq!(rt; text.as_str(), "fault missing obj");
-    assert_eq!(rt; scene.tool.ticks().compile, 1);
-    assert_eq!(rt; scene.held(), 0);
-    Ok(())
+    let text = told_of_idle_call(rt.alloc())?;
+    is_that(
+        text.as_str(),
+        "fault missing obj; compile 1, held 0",
+        "-c foo.c",
+    )
 }

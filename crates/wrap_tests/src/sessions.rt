@@ -1,156 +1,181 @@
 //! What sessions answer to several requests, what runs for them, and what is held of them.
 
-use crate::support::{Scene, request, script_tool, session, told};
+use crate::calls::all_served;
+use crate::scene::{NO_FAILURE, Scene, call};
+use crate::support::{MapSession, session, told};
 use ckeys::fault::Fault;
 use ckeys::preprocessor::Preprocessor;
+use ckeys_base::hash_state::HashState;
 use os_files::memory_files::MemoryFiles;
 use script_tool::script::ScriptTool;
 use sha2::Sha256;
 use std::alloc::{AllocError, Global};
 use std::test::Fail;
-use test_kit::rows::files_of;
-use wrap::laws::{premises_can_be_met, store_keys_tell_records, two_runs_agree};
+use test_kit::texts::is_that;
+use wrap::laws::{
+    premises_can_be_met, records_that_are_not_kept_change_nothing, store_keys_tell_records,
+    two_direct_runs_agree, two_runs_agree,
+};
 use wrap_base::answer::Answer;
 use wrap_base::call::Call;
 
 /// What is told of `/w/foo.c` compiled afresh.
 const FRESH_FOO: &str = "Fresh obj foo.o # 1 \"/w/foo.c\"\nint x;\n";
 
-/// The same from the store.
-const STORED_FOO: &str = "Stored obj foo.o # 1 \"/w/foo.c\"\nint x;\n";
-
-/// The files of each request here.
-const FILES: [(&str, &[u8]); 3] = [
-    ("/w/foo.c", b"int x;\n"),
-    ("/w/y.i", b"int y;\n"),
-    ("/w/bad.c", b"#error\n"),
-];
-
-/// What the request is answered, twice, which steps ran for that, and how many pairs are held then.
-fn told_twice(
-    alloc: Global,
-    scene: &mut Scene<MemoryFiles, ScriptTool>,
-) -> Result<String, AllocError> {
+/// What the request is answered, twice, which steps ran for that, and how many requests' outputs are held then.
+fn told_twice(alloc: Global, scene: &mut Scene) -> Result<String, Fail> {
     let first = scene.serve()?;
     let second = scene.serve()?;
-    let (preprocess, compile) = (scene.tool.ticks().preprocess, scene.tool.ticks().compile);
-    let held = scene.held();
-    format!(in alloc; "{first};{second};preprocess {preprocess}, compile {compile}, held {held}")
+    let (ticks, held) = (scene.ticks(), scene.held().1);
+    let (preprocess, compile) = (ticks.preprocess, ticks.compile);
+    let work = format!(in alloc; "preprocess {preprocess}, compile {compile}, held {held}")?;
+    Ok(format!(in alloc; "{first};{second};{work}")?)
 }
 
 /// Likewise for the request of this line.
 fn served_twice(alloc: Global, line: &str) -> Result<String, Fail> {
-    let mut scene = Scene::new(alloc, line, files_of(alloc, &FILES)?, script_tool(alloc)?)?;
-    Ok(told_twice(alloc, &mut scene)?)
+    let mut scene = Scene::new(alloc, line, false, NO_FAILURE)?;
+    told_twice(alloc, &mut scene)
 }
 
 #[test]
 fn one_request_twice(rt: HostRuntime) -> Result<(), Fail> {
-    let alloc = rt.alloc();
-    for (line, first, second, work) in [
+    let rows = [
         (
             "-c y.i",
-            "Fresh obj y.o int y;\n",
-            "Stored obj y.o int y;\n",
-            "preprocess 0, compile 1, held 1",
+            "Fresh obj y.o int y;\n;Stored obj y.o int y;\n;preprocess 0, compile 1, held 1",
         ),
         (
             "-c foo.c",
-            FRESH_FOO,
-            STORED_FOO,
-            "preprocess 2, compile 1, held 1",
+            "Fresh obj foo.o # 1 \"/w/foo.c\"\nint x;\n;Stored obj foo.o # 1 \"/w/foo.c\"\nint x;\n;preprocess 2, compile 1, held 1",
         ),
         (
             "-c bad.c",
-            "fault compile 1",
-            "fault compile 1",
-            "preprocess 2, compile 2, held 0",
+            "fault compile 1;fault compile 1;preprocess 2, compile 2, held 0",
         ),
-    ] {
-        let expected = format!(in alloc; "{first};{second};{work}")?;
-        assert_eq!(rt; served_twice(alloc, line)?.as_str(), expected.as_str());
+    ];
+    for (line, expected) in rows {
+        is_that(served_twice(rt.alloc(), line)?.as_str(), expected, line)?;
+    }
+    Ok(())
+}
+
+/// Laws, which cost nothing: what is seen here of some runs and keys holds of all.
+fn laws<H: HashState>() {
+    two_runs_agree::<H>();
+    two_direct_runs_agree::<H>();
+    records_that_are_not_kept_change_nothing::<H>();
+    store_keys_tell_records::<H>();
+    premises_can_be_met();
+}
+
+/// Serves the request, drops all, and serves it again: it is compiled each time.
+fn compiles_each_time(scene: &mut Scene) -> Result<(), Fail> {
+    for compiles in [1, 2] {
+        is_that(scene.serve()?.as_str(), FRESH_FOO, "afresh")?;
+        if (scene.ticks().compile, scene.held()) != (compiles, (0, 1)) {
+            return Err("another number of compiles or pairs".into());
+        }
+        scene.forget_all();
+        if scene.held() != (0, 0) {
+            return Err("not all is dropped".into());
+        }
     }
     Ok(())
 }
 
 #[test]
 fn all_is_forgotten(rt: HostRuntime) -> Result<(), Fail> {
-    // Laws, which cost nothing: the two answers agree, and so do their keys.
-    two_runs_agree::<Sha256>();
-    store_keys_tell_records::<Sha256>();
-    premises_can_be_met();
-    let alloc = rt.alloc();
-    let mut scene = Scene::new(
-        alloc,
-        "-c foo.c",
-        files_of(alloc, &FILES)?,
-        script_tool(alloc)?,
-    )?;
-    for compiles in [1, 2] {
-        let text = scene.serve()?;
-        assert_eq!(rt; text.as_str(), FRESH_FOO);
-        assert_eq!(rt; scene.tool.ticks().compile, compiles);
-        assert_eq!(rt; scene.held(), 1);
-        scene.forget_all();
-        assert_eq!(rt; scene.held(), 0);
+    laws::<Sha256>();
+    let mut scene = Scene::new(rt.alloc(), "-c foo.c", false, NO_FAILURE)?;
+    compiles_each_time(&mut scene)
+}
+
+/// The calls of these lines.
+fn calls_of(alloc: Global, lines: &[&str]) -> Result<Vec<Call<MemoryFiles, ScriptTool>>, Fail> {
+    let mut calls = Vec::new(alloc);
+    for line in lines {
+        calls.push(call(alloc, line)?).map_err(AllocError::from)?;
+    }
+    Ok(calls)
+}
+
+/// Adds what these answers tell, in order.
+fn push_told(
+    alloc: Global,
+    text: &mut String,
+    answers: &[Result<Answer, Fault>],
+) -> Result<(), AllocError> {
+    for answer in answers {
+        write!(text, "{};", told(alloc, answer)?)?;
     }
     Ok(())
 }
 
-/// The call of this line with files and a tool of its own.
-fn call(alloc: Global, line: &str) -> Result<Call<MemoryFiles, ScriptTool>, Fail> {
-    Ok(Call {
-        request: request(alloc, line)?,
-        files: files_of(alloc, &FILES)?,
-        tool: script_tool(alloc)?,
-    })
+/// Adds how often the compiler ran in each of these calls.
+fn push_compiles(
+    text: &mut String,
+    calls: &[Call<MemoryFiles, ScriptTool>],
+) -> Result<(), AllocError> {
+    for call in calls {
+        write!(text, " {}", call.tool.ticks().compile)?;
+    }
+    Ok(())
 }
 
-/// What these answers tell, in order.
-fn all_told(alloc: Global, answers: &[Result<Answer, Fault>]) -> Result<String, AllocError> {
+/// What the calls of these lines tell, how often each ran the compiler, and how much is held then.
+fn told_in_order(alloc: Global, session: &mut MapSession, lines: &[&str]) -> Result<String, Fail> {
+    let mut calls = calls_of(alloc, lines)?;
+    let answers = all_served(session, calls.as_mut_slice())?;
     let mut text = String::new(alloc);
-    for answer in answers {
-        let line = told(alloc, answer)?;
-        write!(text, "{line};")?;
-    }
+    push_told(alloc, &mut text, answers.as_slice())?;
+    push_compiles(&mut text, calls.as_slice())?;
     Ok(text)
 }
 
-/// How often the compiler ran in each of these calls.
-fn compiles_of(
+/// Asserts what the calls of these lines tell, and how many include records and requests' outputs are held then.
+fn calls_tell(
     alloc: Global,
-    calls: &[Call<MemoryFiles, ScriptTool>],
-) -> Result<Vec<u64>, AllocError> {
-    let mut compiles = Vec::new(alloc);
-    for call in calls {
-        compiles.push(call.tool.ticks().compile)?;
+    direct: bool,
+    lines: &[&str],
+    expected: &str,
+    held: (usize, usize),
+) -> Result<(), Fail> {
+    let mut session = session(alloc, direct)?;
+    let text = told_in_order(alloc, &mut session, lines)?;
+    if (session.entries().len(), session.objects().len()) != held {
+        return Err("another number of pairs".into());
     }
-    Ok(compiles)
+    is_that(text.as_str(), expected, "in order")
 }
 
 #[test]
 fn calls_in_order(rt: HostRuntime) -> Result<(), Fail> {
-    let alloc = rt.alloc();
-    let mut session = session(alloc)?;
-    let mut calls = vec![in alloc;
-        call(alloc, "-c foo.c")?,
-        call(alloc, "-c foo.c")?,
-        call(alloc, "foo.c")?,
-    ]?;
-    let answers = session.serve_all(calls.as_mut_slice())?;
-    let text = all_told(alloc, answers.as_slice())?;
-    let expected = format!(in alloc; "{FRESH_FOO};{STORED_FOO};pass not a compilation;")?;
-    assert_eq!(rt; text.as_str(), expected.as_str());
-    let compiles = compiles_of(alloc, calls.as_slice())?;
-    assert_eq!(rt; compiles.as_slice(), [1, 0, 0].as_slice());
-    Ok(())
+    let expected =
+        "Fresh obj foo.o # 1 \"/w/foo.c\"\nint x;\n;Stored obj foo.o # 1 \"/w/foo.c\"\nint x;\n;pass not a compilation; 1 0 0";
+    calls_tell(
+        rt.alloc(),
+        false,
+        &["-c foo.c", "-c foo.c", "foo.c"],
+        expected,
+        (0, 1),
+    )
+}
+
+#[test]
+fn calls_over_records(rt: HostRuntime) -> Result<(), Fail> {
+    let expected =
+        "Fresh obj m.o # 1 \"/w/m.c\"\n# 1 \"/w/h.h\"\nA\n# 1 \"/w/m.c\"\n;Direct obj m.o # 1 \"/w/m.c\"\n# 1 \"/w/h.h\"\nA\n# 1 \"/w/m.c\"\n; 1 0";
+    calls_tell(
+        rt.alloc(),
+        true,
+        &["-c m.c -o m.o", "-c m.c -o m.o"],
+        expected,
+        (1, 1),
+    )
 }
 
 #[test]
 fn no_calls(rt: HostRuntime) -> Result<(), Fail> {
-    let mut session = session(rt.alloc())?;
-    let answers = session.serve_all::<MemoryFiles, ScriptTool>(&mut [])?;
-    assert!(rt; answers.is_empty());
-    assert_eq!(rt; session.objects().len(), 0);
-    Ok(())
+    calls_tell(rt.alloc(), false, &[], "", (0, 0))
 }

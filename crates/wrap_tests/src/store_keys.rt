@@ -1,52 +1,85 @@
 //! Which keys of the store are equal.
 
+use crate::calls::computed;
 use ckeys::output_name::OutputName;
 use ckeys::params::HashKeyParams;
+use ckeys::shape::CShape;
 use ckeys_base::store::Store;
 use cmdlines_tables::language::Language;
 use os_files::listed::Listed;
 use os_files::os_bytes::OsBytes;
 use sha2::Sha256;
-use std::alloc::Global;
+use std::alloc::{AllocError, Global};
 use std::cmp::Ordering;
 use std::test::Fail;
 use wrap_base::map_store::MapStore;
 use wrap_base::store_key::{Family, StoreKey, keys_are_their_fields};
 
-/// The key with these parts of a request of that family for an object, which a compile may leave out or not.
+/// What is hashed: `ab` as the digest of an extra file, or as that of an assembler. The bytes are the same.
+#[derive(Clone, Copy)]
+enum Hashed {
+    File,
+    Assembler,
+}
+
+/// Two of one key, and then one of another shape, one of another family and one of other names: what is hashed, the family,
+/// and whether a compile may leave out the output.
+const KEYS: [(Hashed, Family, bool); 5] = [
+    (Hashed::File, Family::C, false),
+    (Hashed::File, Family::C, false),
+    (Hashed::Assembler, Family::C, false),
+    (Hashed::File, Family::Rustc, false),
+    (Hashed::File, Family::C, true),
+];
+
+fn of_file(alloc: Global) -> Result<(String, CShape), AllocError> {
+    let extra = vec![in alloc; String::from_str(alloc, "ab")?]?;
+    let params = HashKeyParams::new("cc", Language::C, &[], b"t");
+    computed::<Sha256>(alloc, &params.with_extra_hashes(extra.as_slice()))
+}
+
+fn of_assembler(alloc: Global) -> Result<(String, CShape), AllocError> {
+    let params = HashKeyParams::new("cc", Language::C, &[], b"t");
+    computed::<Sha256>(alloc, &params.with_assembler_digest(Some("ab")))
+}
+
+fn hashed_of(alloc: Global, hashed: Hashed) -> Result<(String, CShape), AllocError> {
+    match hashed {
+        Hashed::File => of_file(alloc),
+        Hashed::Assembler => of_assembler(alloc),
+    }
+}
+
+/// The names of one object, which a compile may leave out or not.
+fn names_of(alloc: Global, optional: bool) -> Result<Listed<OutputName>, AllocError> {
+    let name = OsBytes::from_slice(alloc, b"obj")?;
+    Ok(Listed::from_vec(vec![in alloc; OutputName { name, optional }]?))
+}
+
+/// The key with these parts.
 fn key_of(
     alloc: Global,
-    params: &HashKeyParams<'_>,
+    hashed: Hashed,
     family: Family,
     optional: bool,
-) -> Result<StoreKey, Fail> {
-    let (digest, shape) = params.compute::<Sha256>(alloc)?;
-    let name = OsBytes::from_slice(alloc, b"obj")?;
-    let names = vec![in alloc; OutputName { name, optional }]?;
+) -> Result<StoreKey, AllocError> {
+    let names = names_of(alloc, optional)?;
+    let (digest, shape) = hashed_of(alloc, hashed)?;
     Ok(StoreKey {
         family,
         shape,
-        names: Listed::from_vec(names),
+        names,
         digest: OsBytes::from_vec(digest.into_bytes()),
     })
 }
 
-/// The keys of one digest: two of one key, and then one of another shape, one of another family and one of other names.
-fn alike(alloc: Global) -> Result<Vec<StoreKey>, Fail> {
-    let extra = vec![in alloc; String::from_str(alloc, "ab")?]?;
-    let of_file = HashKeyParams::new("cc", Language::C, &[], b"t").with_extra_hashes(
-        extra.as_slice(),
-    );
-    let of_assembler = HashKeyParams::new("cc", Language::C, &[], b"t").with_assembler_digest(Some(
-        "ab",
-    ));
-    Ok(vec![in alloc;
-        key_of(alloc, &of_file, Family::C, false)?,
-        key_of(alloc, &of_file, Family::C, false)?,
-        key_of(alloc, &of_assembler, Family::C, false)?,
-        key_of(alloc, &of_file, Family::Rustc, false)?,
-        key_of(alloc, &of_file, Family::C, true)?,
-    ]?)
+/// The keys of one digest.
+fn alike(alloc: Global) -> Result<Vec<StoreKey>, AllocError> {
+    let mut keys = Vec::new(alloc);
+    for (hashed, family, optional) in KEYS {
+        keys.push(key_of(alloc, hashed, family, optional)?)?;
+    }
+    Ok(keys)
 }
 
 #[test]

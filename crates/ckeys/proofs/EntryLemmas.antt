@@ -1,0 +1,248 @@
+-- How the key of a call is made, by what the look-up of its include record and the put said.
+use Rattle.std.proofs.Common.{◌≡◌, ℕ, suc, ℤ, pos, List, [], ◌∷◌, Bool, true, false, if◌then◌else◌, Option, Some, None, IsSome, IsNone, Result, Ok, Err, IfOk, inl, inr, refl, sym, ap, subst, ◌∙◌, length, arith}
+use Rattle.std.specs.Prelude.{String, string_bytes}
+use Rattle.std.specs.declared.alloc.Global.{Global}
+use Rattle.ckeys.specs.declared.shape.CShape.{CShape}
+use Rattle.std.specs.List.{Contains}
+use Rattle.std.specs.Option.{option_map}
+use Rattle.std.specs.Ordering.{int_eq}
+use Rattle.std.proofs.lemmas.Bool.{and_from}
+use Rattle.std.proofs.lemmas.Bool.Decides.{Decides-eqb, Decides-int_eq}
+use Rattle.std.proofs.lemmas.Slice.Eq.{bytes_eq-Decides}
+use Rattle.os_files.specs.Bytes.{Bytes, ticked}
+use Rattle.os_files.specs.Tree.{contents_at, is_file_at}
+use Rattle.ckeys_base.specs.Hex.{hex_of}
+use Rattle.ckeys_base.specs.Shelf.{Shelf, Asks, Puts}
+use Rattle.time_macros.specs.Macros.{holds_date, holds_timestamp}
+use Rattle.include_records.specs.LookUps.{LooksUp}
+use Rattle.include_records.specs.Records.{Record, result_with}
+use Rattle.include_records.specs.Results.{HasMore}
+use Rattle.include_records.specs.Surroundings.{Place, are_there, contents_in, dated, fits_contents, include_with, includes_of, is_the, lacks_day, path_at, second_at, stamped}
+use Rattle.include_records.specs.declared.entry.CachedResult.{CachedResult}
+use Rattle.include_records.specs.declared.entry.IncludeEntry.{IncludeEntry}
+use Rattle.entry_keys.specs.declared.entry_key.EntryKey.{EntryKey}
+use Rattle.ckeys.specs.Calls.{FileCause, KeyCall, KeyCause, PrintedCall, input_path, key_fault_by, needs_preprocessing, preprocess_fault_of, read_fault_of, record_by, text_by, text_fault_by, text_in, extra_paths, first_missing, missing_input, or_else}
+use Rattle.ckeys.specs.Entries.{AreTrue, HasMatch, Held, IsFramed, IsOwnResult, entry_key_of, good_text, has_entry_key, includes_by}
+use Rattle.ckeys.specs.EntryTurns.{EntryTurn, IsHeldFor, IsOwnPair, IsSpared, Keeps, KeptOn, KeyFine, KeyFrom, KeyRecorded, TextFine, results_of}
+use Rattle.ckeys.specs.Keys.{key_of}
+use Rattle.ckeys.specs.Surroundings.{named_at, place_of, recorded_of}
+use Rattle.ckeys.specs.declared.fault.Fault.{Fault}
+use Rattle.ckeys.specs.declared.fault.Fault.TheVariants.{Memory, Read, Tool, PreprocessFailed, CompileFailed, MissingOutput}
+use Rattle.ckeys.specs.declared.step.Step.{Step}
+use Rattle.ckeys.proofs.RecordLemmas.{contents_are, has_key, is_preprocessed, names_there, recorded_parts, some_same, there_of}
+
+-- a day is the day itself
+the_same : (d : Option ℤ) → is_the d d ≡ true
+the_same None = refl
+the_same (Some x) = (Decides-int_eq x x).1 refl
+
+the_dated : (contents : Bytes) (day : Option ℤ) → is_the (dated contents day) day ≡ true
+the_dated contents day = by (holds_date contents)
+  where
+    by : (b : Bool) → is_the (if b then day else None) day ≡ true
+    by true = the_same day
+    by false = refl
+
+the_stamped : (contents : Bytes) (second : ℤ) → is_the (stamped contents second) (Some second) ≡ true
+the_stamped contents second = by (holds_timestamp contents)
+  where
+    by : (b : Bool) → is_the (if b then Some second else None) (Some second) ≡ true
+    by true = the_same (Some second)
+    by false = refl
+
+module _ (place : Place) (digest_of : Bytes → Bytes) where
+  -- what is recorded of a file is there
+  own_fits : (name contents : Bytes) → fits_contents place digest_of (include_with place digest_of name contents) (Some contents) ≡ true
+  own_fits name contents = and_from _ _ ((Decides-eqb (length contents) (length contents)).1 refl) (and_from _ _ ((bytes_eq-Decides (hex_of (digest_of contents)) (hex_of (digest_of contents))).1 refl) (and_from _ _ (the_dated contents place.day) (the_stamped contents (second_at place.files (path_at place name)))))
+
+  own_next : (name : Bytes) (names : List Bytes) → is_file_at place.files (path_at place name) ≡ true → (lacks : Bool) (rest : Option (List IncludeEntry)) → ((tail : List IncludeEntry) → rest ≡ Some tail → are_there place digest_of tail ≡ true)
+      → (includes : List IncludeEntry) → (if lacks then None else option_map (λ tail. include_with place digest_of name (contents_in place.files (path_at place name)) ∷ tail) rest) ≡ Some includes → are_there place digest_of includes ≡ true
+  own_next name names file true rest on includes e = cc
+  own_next name names file false None on includes e = cc
+  own_next name names file false (Some tail) on includes e =
+      let whole = some_same _ _ e in
+      let it = there_of place.files (path_at place name) file in
+      let read = contents_are place.files (path_at place name) it.0 it.1 in
+      let first : fits_contents place digest_of (include_with place digest_of name (contents_in place.files (path_at place name))) (contents_at place.files (path_at place name)) ≡ true = subst (λ o. fits_contents place digest_of (include_with place digest_of name (contents_in place.files (path_at place name))) o ≡ true) (ap Some read ∙ sym it.1) (own_fits name (contents_in place.files (path_at place name))) in
+      subst (λ (l : List IncludeEntry). are_there place digest_of l ≡ true) whole (and_from _ _ first (on tail refl))
+
+  -- a call's own include list is there
+  own_there : (names : List Bytes) → ((name : Bytes) → Contains names name → is_file_at place.files (path_at place name) ≡ true) → (includes : List IncludeEntry) → includes_of place digest_of names ≡ Some includes → are_there place digest_of includes ≡ true
+  own_there [] files includes e = let whole = some_same _ _ e in subst (λ (l : List IncludeEntry). are_there place digest_of l ≡ true) whole refl
+  own_there (name ∷ names) files includes e = own_next name names (files name (0, omega arith, refl)) (lacks_day (contents_in place.files (path_at place name)) place.day) (includes_of place digest_of names) (λ tail f. own_there names (λ n c. files n (further c)) tail f) includes e
+    where
+      further : {n : Bytes} → Contains names n → Contains (name ∷ names) n
+      further c = (suc c.0, omega (arith, c.1), c.2)
+
+  pub recorded_there : (input text : Bytes) (includes : List IncludeEntry) → recorded_of place digest_of input text ≡ Some includes → are_there place digest_of includes ≡ true
+  recorded_there input text includes e =
+      let parts = recorded_parts place digest_of (named_at place input text) includes e in
+      own_there parts.0 (names_there place input text parts.0 parts.1) includes parts.2
+
+no_key : (c : KeyCall) → has_entry_key c ≡ true → has_entry_key c ≡ false → ⊥
+no_key c p q = let h = sym p ∙ q in cc
+
+not_both : {A : Type 0} (o : Option A) → IsSome o → IsNone o → ⊥
+not_both None s n = cc
+not_both (Some x) s n = cc
+
+results_in : (o : Option Record) (r : CachedResult) → Contains (results_of o) r → (e : Record) × (o ≡ Some e) × Contains e.results r
+results_in None r c = let within = c.1 in absurd (omega arith)
+results_in (Some e) r c = (e, refl, c)
+
+put_holds : (eq : EntryKey → EntryKey → Bool) (new : Shelf EntryKey Record) (key : EntryKey) (value : Record) (asked : Shelf EntryKey Record) (put : Result (Unit {0}) (EntryKey × Record)) → Puts eq asked new key value put → new.kept ≡ true → new.held key ≡ Some value
+put_holds eq new key value asked (Ok u) puts kept = puts.outcome
+put_holds eq new key value asked (Err pair) puts kept = let refused = (puts.kept.0 kept).2 in cc
+
+-- the text of a call with an entry key, whose preprocessor didn't fail
+pub good_of : (p : PrintedCall) → has_entry_key p.call ≡ true → text_fault_by p ≡ None → good_text p.printed ≡ Some (text_by p)
+good_of p has fine =
+    let n = is_preprocessed p.call has in
+    let first : preprocess_fault_of p.printed ≡ None = sym (ap (λ b. if b then preprocess_fault_of p.printed else read_fault_of p.call.scene.files (input_path p.call ∷ [])) n) ∙ fine in
+    let text : text_by p ≡ text_in p.printed.files = ap (λ b. if b then text_in p.printed.files else contents_in p.call.scene.files (input_path p.call)) n in
+    by (int_eq p.printed.status (pos 0)) refl first ∙ ap Some (sym text)
+  where
+    by : (b : Bool) → int_eq p.printed.status (pos 0) ≡ b → (if b then None else Some (PreprocessFailed p.printed.status)) ≡ None → (if int_eq p.printed.status (pos 0) then Some (text_in p.printed.files) else None) ≡ Some (text_in p.printed.files)
+    by true e h = ap (λ b. if b then Some (text_in p.printed.files) else None) e
+    by false e h = cc
+
+module _ (digest_of : Bytes → Bytes) (p : PrintedCall) (key : EntryKey) (is_entry : entry_key_of digest_of p.call ≡ Some key) (framed : IsFramed digest_of p.call) (old asked : Shelf EntryKey Record) (asks : Asks old asked key (asked.held key)) where
+  has : has_entry_key p.call ≡ true
+  has = (has_key digest_of p.call key is_entry).0
+
+  still : asked.kept ≡ true → KeptOn old asked
+  still h = let was = asks.kept.0 h in record { was = was.0; keys = was.1; steady = asks.steady (λ f. not_both (asked.held key) (was.1 key f.0) f.1) }
+
+  -- the preprocessor didn't run
+  pub turn_asked : (before after : ℕ) → after ≡ before → EntryTurn digest_of p old asked before after
+  turn_asked before after same = record { gains = λ k e h. inl (asks.within k e h); kept = still; cleared = asks.cleared; asked = λ k m. inl same; idle = λ h. absurd (no_key p.call has h) }
+
+  -- a result of what is held matches
+  pub from_record : (text_key : Bytes) → LooksUp digest_of (place_of p.call) (results_of (asked.held key)) (Some text_key) → HasMatch digest_of p.call old.held text_key
+  from_record text_key found =
+      let it = results_in (asked.held key) found.0 found.1 in
+      record { key = key; is_entry = is_entry; entry = it.0; is_held = asks.within key it.0 it.1; r = found.0; among = it.2; is_key = found.2; there = found.3 }
+
+  pub still_matches : (text_key : Bytes) → LooksUp digest_of (place_of p.call) (results_of (asked.held key)) (Some text_key) → HasMatch digest_of p.call asked.held text_key
+  still_matches text_key found =
+      let it = results_in (asked.held key) found.0 found.1 in
+      record { key = key; is_entry = is_entry; entry = it.0; is_held = it.1; r = found.0; among = it.2; is_key = found.2; there = found.3 }
+
+  -- no result does
+  module _ (none : LooksUp digest_of (place_of p.call) (results_of (asked.held key)) None) where
+    missed_at : (text_key : Bytes) (m : HasMatch digest_of p.call old.held text_key) → old.held key ≡ Some m.entry → (o : Option Record) → asked.held key ≡ o → asked.forgets ≡ ticked old.forgets
+    missed_at text_key m held None h = asks.forgot (rw held refl, rw h refl)
+    missed_at text_key m held (Some x) h =
+        let there = asks.within key x h in
+        let same : m.entry ≡ x = some_same _ _ (sym held ∙ there) in
+        let among : Contains (results_of (asked.held key)) m.r = subst (λ (o : Option Record). Contains (results_of o) m.r) (sym h) (subst (λ (e : Record). Contains e.results m.r) same m.among) in
+        let clash = sym m.there ∙ none m.r among in
+        cc
+
+    missed : (text_key : Bytes) → HasMatch digest_of p.call old.held text_key → asked.forgets ≡ ticked old.forgets
+    missed text_key m =
+        let same : m.key ≡ key = some_same _ _ (sym m.is_entry ∙ is_entry) in
+        missed_at text_key m (ap old.held (sym same) ∙ m.is_held) (asked.held key) refl
+
+    pub turn_missed : (before after : ℕ) → EntryTurn digest_of p old asked before after
+    turn_missed before after = record { gains = λ k e h. inl (asks.within k e h); kept = still; cleared = asks.cleared; asked = λ k m. inr (missed k m); idle = λ h. absurd (no_key p.call has h) }
+
+    -- the text's result is put
+    module _ (eq : EntryKey → EntryKey → Bool) (equal : (a b : EntryKey) → eq a b ≡ true → a ≡ b) (results : List CachedResult) (known : results ≡ results_of (asked.held key)) (new : Shelf EntryKey Record) (before after : ℕ) where
+      module _ (value : Record) (put : Result (Unit {0}) (EntryKey × Record)) (puts : Puts eq asked new key value put) (own : CachedResult) (more : HasMore results own value.results) (is_own : IsOwnResult digest_of p own) where
+        own_pair : (k : EntryKey) (e : Record) → k ≡ key → e ≡ value → IsOwnPair digest_of p old.held k e
+        own_pair k e same is = record {
+          is_entry = is_entry ∙ ap Some (sym same);
+          framed = framed;
+          from = λ r among. elim (more.others r (subst (λ (x : Record). Contains x.results r) is among)) [
+            | inl was ↦
+                let it = results_in (asked.held key) r (subst (λ (l : List CachedResult). Contains l r) known was) in
+                inl (it.0, ap old.held same ∙ asks.within key it.0 it.1, it.2)
+            | inr mine ↦ inr (subst (IsOwnResult digest_of p) (sym mine) is_own)
+          ];
+        }
+
+        turn_put : EntryTurn digest_of p old new before after
+        turn_put = record {
+          gains = λ k e h. elim (puts.gains k e h) [
+            | inl was ↦ inl (asks.within k e was)
+            | inr mine ↦ inr (own_pair k e (equal k key mine.0) mine.1)
+          ];
+          kept = λ h. let q = puts.kept.0 h in let s = still q.0 in record { was = s.was; keys = λ k i. q.1 k (s.keys k i); steady = puts.steady ∙ s.steady };
+          cleared = puts.cleared ∙ asks.cleared;
+          asked = λ k m. inr (puts.steady ∙ missed k m);
+          idle = λ h. absurd (no_key p.call has h);
+        }
+
+        put_match : are_there (place_of p.call) digest_of own.includes ≡ true → IsHeldFor digest_of p new own.key
+        put_match there kept = record { key = key; is_entry = is_entry; entry = value; is_held = put_holds eq new key value asked put puts kept; r = own; among = more.among; is_key = refl; there = there }
+
+      -- the text is put beside what was known, where it is recorded
+      pub turn_kept : (text text_key : Bytes) → good_text p.printed ≡ Some text → text_key ≡ key_of digest_of (record_by p) → (o : Option (List IncludeEntry)) → includes_by digest_of p.call text ≡ o → Keeps eq key results text_key o asked new
+          → EntryTurn digest_of p old new before after × KeyRecorded digest_of p new false text_key
+      turn_kept text text_key good is_key None e keeps = (
+        subst (λ (s : Shelf EntryKey Record). EntryTurn digest_of p old s before after) (sym keeps) (turn_missed before after),
+        λ h other includes g i. absurd (let same : text ≡ other = some_same _ _ (sym good ∙ g) in let n : None ≡ Some includes = sym e ∙ ap (includes_by digest_of p.call) same ∙ i in cc),
+      )
+      turn_kept text text_key good is_key (Some includes) e keeps =
+          let own = result_with text_key includes in
+          let is_own : IsOwnResult digest_of p own = record { text = text; printed = good; is_key = is_key; includes = e } in
+          let there = recorded_there (place_of p.call) digest_of (input_path p.call) text includes e in
+          (turn_put keeps.0 keeps.1 keeps.3 own keeps.2 is_own, λ h other is g i. put_match keeps.0 keeps.1 keeps.3 own keeps.2 is_own there)
+
+-- a file that can't be had is the call's cause
+pub file_cause : (first : Option Fault) (missing : Option Bytes) (on_file later : Bytes → Type 0) (device_in : Step → Type 0) → ((name : Bytes) → later name → on_file name) → ((name : Bytes) → missing ≡ Some name → first ≡ Some (Read name)) → (fault : Fault) → FileCause missing later fault → KeyCause first on_file device_in fault
+file_cause first missing on_file later device_in lift is Memory h = tt
+file_cause first missing on_file later device_in lift is (Read name) (inl h) = inl (lift name h)
+file_cause first missing on_file later device_in lift is (Read name) (inr h) = inr (is name h)
+file_cause first missing on_file later device_in lift is (Tool step) h = absurd h
+file_cause first missing on_file later device_in lift is (PreprocessFailed status) h = absurd h
+file_cause first missing on_file later device_in lift is (CompileFailed status) h = absurd h
+file_cause first missing on_file later device_in lift is (MissingOutput name) h = absurd h
+
+-- where extra files and the input are there
+pub first_is : (p : PrintedCall) → first_missing p.call.scene.files (extra_paths p.call) ≡ None → missing_input p.call ≡ None → key_fault_by p ≡ text_fault_by p
+first_is p h k = λ i. or_else (option_map Read (h i)) (or_else (option_map Read (k i)) (text_fault_by p))
+
+-- where extra files are there, and the input isn't
+pub input_first : (p : PrintedCall) (name : Bytes) → first_missing p.call.scene.files (extra_paths p.call) ≡ None → missing_input p.call ≡ Some name → key_fault_by p ≡ Some (Read name)
+input_first p name h k = λ i. or_else (option_map Read (h i)) (or_else (option_map Read (k i)) (text_fault_by p))
+
+-- a call without an entry key leaves the records as they are
+pub turn_unasked : (digest_of : Bytes → Bytes) (p : PrintedCall) (s : Shelf EntryKey Record) → entry_key_of digest_of p.call ≡ None → (before after : ℕ) → EntryTurn digest_of p s s before after
+turn_unasked digest_of p s none before after = record {
+  gains = λ k e h. inl h;
+  kept = λ h. record { was = h; keys = λ k i. i; steady = refl };
+  cleared = refl;
+  asked = λ k m. absurd (let both = sym m.is_entry ∙ none in cc);
+  idle = λ h. refl;
+}
+
+spared : (b : Bool) (p : PrintedCall) → b ≡ true → IsSpared (if b then preprocess_fault_of p.printed else read_fault_of p.call.scene.files (input_path p.call ∷ []))
+spared false p h = cc
+spared true p h = by (int_eq p.printed.status (pos 0))
+  where
+    by : (b : Bool) → IsSpared (if b then None else Some (PreprocessFailed p.printed.status))
+    by true = tt
+    by false = tt
+
+pub fine_is : (p : PrintedCall) (from : Bool) → has_entry_key p.call ≡ true → first_missing p.call.scene.files (extra_paths p.call) ≡ None → missing_input p.call ≡ None → TextFine p from → KeyFine p from
+fine_is p true entry h k fine = subst IsSpared (sym (first_is p h k)) (spared (needs_preprocessing p.call.parsed.language) p (is_preprocessed p.call entry))
+fine_is p false entry h k fine = first_is p h k ∙ fine
+
+-- wherever the key came from, it is the call's own where the records are true of it
+pub own_key : (digest_of : Bytes → Bytes) (p : PrintedCall) (held : Held) (result : Result (String Global × CShape × Bool) Fault) → AreTrue digest_of p held → IfOk result (λ made. KeyFrom digest_of p held made.2 (string_bytes made.0)) → IfOk result (λ made. string_bytes made.0 ≡ key_of digest_of (record_by p))
+own_key digest_of p held (Ok made) are_true from = by made.2 from
+  where
+    by : (b : Bool) → KeyFrom digest_of p held b (string_bytes made.0) → string_bytes made.0 ≡ key_of digest_of (record_by p)
+    by true k = (are_true k.0 (string_bytes made.0) k.1).is_key
+    by false k = k
+own_key digest_of p held (Err fault) are_true from = tt
+
+pub plain_key : (digest_of : Bytes → Bytes) (p : PrintedCall) (held : Held) (result : Result (String Global × CShape × Bool) Fault) → has_entry_key p.call ≡ false → IfOk result (λ made. KeyFrom digest_of p held made.2 (string_bytes made.0)) → IfOk result (λ made. made.2 ≡ false)
+plain_key digest_of p held (Ok made) none from = by made.2 from
+  where
+    by : (b : Bool) → KeyFrom digest_of p held b (string_bytes made.0) → b ≡ false
+    by true k = absurd (no_key p.call (has_key digest_of p.call k.1.key k.1.is_entry).0 none)
+    by false k = refl
+plain_key digest_of p held (Err fault) none from = tt

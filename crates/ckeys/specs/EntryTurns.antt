@@ -1,0 +1,94 @@
+-- One call of `generate_hash_key`: where its key comes from, and what it does to the store of include records.
+use Rattle.std.specs.Prelude.{◌≡◌, ◌⊎◌, ℕ, Bool, true, false, List, [], Option, None, Some, Result}
+use Rattle.std.specs.List.{Contains}
+use Rattle.os_files.specs.Bytes.{Bytes, ticked}
+use Rattle.ckeys_base.specs.Shelf.{Shelf, KeepsKeys, Puts}
+use Rattle.include_records.specs.LookUps.{LooksUp}
+use Rattle.include_records.specs.Records.{Record, result_with}
+use Rattle.include_records.specs.Results.{HasMore}
+use Rattle.include_records.specs.Surroundings.{Place}
+use Rattle.include_records.specs.declared.entry.CachedResult.{CachedResult}
+use Rattle.include_records.specs.declared.entry.IncludeEntry.{IncludeEntry}
+use Rattle.entry_keys.specs.declared.entry_key.EntryKey.{EntryKey}
+use Rattle.ckeys.specs.Calls.{PrintedCall, key_fault_by, record_by, text_fault_by}
+use Rattle.ckeys.specs.Entries.{Held, HasMatch, IsFramed, IsOwnResult, entry_key_of, good_text, has_entry_key, includes_by}
+use Rattle.ckeys.specs.Keys.{key_of}
+use Rattle.ckeys.specs.declared.known.Known.{Known}
+use Rattle.ckeys.specs.declared.known.Known.TheVariants.{Found, Missed}
+use Rattle.ckeys.specs.declared.fault.Fault.{Fault}
+use Rattle.ckeys.specs.declared.fault.Fault.TheVariants.{Memory, Read, Tool, PreprocessFailed, CompileFailed, MissingOutput}
+
+-- where the key of a call comes from: a matching result that is held, or its text
+abbrev pub KeyFrom : (Bytes → Bytes) → PrintedCall → Held → Bool → Bytes → Type 0
+KeyFrom digest_of p held true text_key = IsFramed digest_of p.call × HasMatch digest_of p.call held text_key
+KeyFrom digest_of p held false text_key = text_key ≡ key_of digest_of (record_by p)
+
+-- the first fault, where a record gave the key: none, or that of the preprocessor, which didn't run
+abbrev pub IsSpared : Option Fault → Type 0
+IsSpared None = Unit {0}
+IsSpared (Some Memory) = ⊥
+IsSpared (Some (Read path)) = ⊥
+IsSpared (Some (Tool step)) = ⊥
+IsSpared (Some (PreprocessFailed status)) = Unit {0}
+IsSpared (Some (CompileFailed status)) = ⊥
+IsSpared (Some (MissingOutput name)) = ⊥
+
+abbrev pub KeyFine : PrintedCall → Bool → Type 0
+KeyFine p true = IsSpared (key_fault_by p)
+KeyFine p false = key_fault_by p ≡ None
+
+-- the preprocessor ran exactly if the key came from the text
+abbrev pub KeyRuns : Bool → ℕ → ℕ → Type 0
+KeyRuns true before after = after ≡ before
+KeyRuns false before after = after ≡ ticked before
+
+-- a matching result with this key is held, unless something was dropped or refused
+abbrev pub IsHeldFor : (Bytes → Bytes) → PrintedCall → Shelf EntryKey Record → Bytes → Type 0
+IsHeldFor digest_of p new text_key = new.kept ≡ true → HasMatch digest_of p.call new.held text_key
+
+-- and so it is at the end, where the text is recorded
+abbrev pub KeyRecorded : (Bytes → Bytes) → PrintedCall → Shelf EntryKey Record → Bool → Bytes → Type 0
+KeyRecorded digest_of p new true text_key = IsHeldFor digest_of p new text_key
+KeyRecorded digest_of p new false text_key = has_entry_key p.call ≡ true → (text : Bytes) (includes : List IncludeEntry) → good_text p.printed ≡ Some text → includes_by digest_of p.call text ≡ Some includes → IsHeldFor digest_of p new text_key
+
+-- where nothing was dropped or refused, nothing was before either, each key is still there, and no look-up forgot
+pub record KeptOn {K V : Type 0} (old new : Shelf K V) : Type 0 where
+  pub was : old.kept ≡ true
+  pub keys : KeepsKeys old.held new.held
+  pub steady : new.forgets ≡ old.forgets
+
+-- a pair that a call adds is its own: under its entry key, results that were held there before, and its own
+pub record IsOwnPair (digest_of : Bytes → Bytes) (p : PrintedCall) (old : Held) (key : EntryKey) (entry : Record) : Type 0 where
+  pub is_entry : entry_key_of digest_of p.call ≡ Some key
+  pub framed : IsFramed digest_of p.call
+  pub from : (r : CachedResult) → Contains entry.results r → ((before : Record) × (old key ≡ Some before) × Contains before.results r) ⊎ IsOwnResult digest_of p r
+
+-- what one call does to the store of include records, and to the preprocessor's tick
+pub record EntryTurn (digest_of : Bytes → Bytes) (p : PrintedCall) (old new : Shelf EntryKey Record) (before after : ℕ) : Type 0 where
+  pub gains : (key : EntryKey) (entry : Record) → new.held key ≡ Some entry → (old.held key ≡ Some entry) ⊎ IsOwnPair digest_of p old.held key entry
+  pub kept : new.kept ≡ true → KeptOn old new
+  pub cleared : new.clears ≡ old.clears
+  -- a matching result that was held spares the preprocessor, or a look-up forgot it
+  pub asked : (text_key : Bytes) → HasMatch digest_of p.call old.held text_key → (after ≡ before) ⊎ (new.forgets ≡ ticked old.forgets)
+  -- a call without an entry key doesn't touch it
+  pub idle : has_entry_key p.call ≡ false → new ≡ old
+
+-- the results that lie under a key
+abbrev pub results_of : Option Record → List CachedResult
+results_of None = []
+results_of (Some entry) = entry.results
+
+-- what a look-up told of what lies under the key
+abbrev pub IsKnown : (Bytes → Bytes) → Place → Option Record → Known → Type 0
+IsKnown digest_of place held (Found text_key) = LooksUp digest_of place (results_of held) (Some text_key)
+IsKnown digest_of place held (Missed entry) = (entry.results ≡ results_of held) × LooksUp digest_of place (results_of held) None
+
+-- a text's result is put beside those that were known, where it's recorded
+abbrev pub Keeps : (EntryKey → EntryKey → Bool) → EntryKey → List CachedResult → Bytes → Option (List IncludeEntry) → Shelf EntryKey Record → Shelf EntryKey Record → Type 0
+Keeps eq key results text_key None old new = new ≡ old
+Keeps eq key results text_key (Some includes) old new = (entry : Record) × (put : Result (Unit {0}) (EntryKey × Record)) × HasMore results (result_with text_key includes) entry.results × Puts eq old new key entry put
+
+-- the first fault behind the extra files and the input
+abbrev pub TextFine : PrintedCall → Bool → Type 0
+TextFine p true = Unit {0}
+TextFine p false = text_fault_by p ≡ None

@@ -1,0 +1,11 @@
+//! What an include record tells of a call.
+
+use include_records::key_text::KeyText;
+use include_records::record::PreprocessorCacheEntry;
+
+/// The key of the call's text, or nothing; and then the record, for one more result.
+#[derive(Drop)]
+pub enum Known {
+    Found(KeyText),
+    Missed(PreprocessorCacheEntry),
+}

@@ -1,0 +1,199 @@
+//! Keys that come from include records, and keys of many calls.
+
+use crate::calls::{Place, Records, ask, known};
+use crate::compilers::{gcc, parsed};
+use crate::keys::digest_of;
+use crate::print_tool::PrintTool;
+use ckeys::compiler::CCompiler;
+use ckeys::config::KeyConfig;
+use ckeys::fault::Fault;
+use ckeys::hash_keys::{HashCall, hash_keys};
+use ckeys::preprocessor::Preprocessor;
+use ckeys::shape::CShape;
+use cmdlines::gcc::Gcc;
+use cmdlines::parsed::ParsedArguments;
+use os_files::memory_files::MemoryFiles;
+use os_files::os_bytes::OsBytes;
+use sha2::Sha256;
+use std::alloc::{AllocError, Global};
+use std::test::Fail;
+use test_kit::rows::{files_of, insert};
+use time_macros::zone::Zone;
+use wrap_base::map_store::MapStore;
+
+/// What the preprocessor prints of `foo.c`, which includes `foo.h`.
+const TEXT: &[u8] = b"# 1 \"foo.c\"\n# 1 \"foo.h\" 1\nint x;\n";
+
+/// The same with another header.
+const OTHER_TEXT: &[u8] = b"# 1 \"foo.c\"\n# 1 \"foo.h\" 1\nint y;\n";
+
+/// What is hashed of `-c foo.c -O2` for the first of these texts.
+const MATERIAL: &[u8] = b"d\x0011c-O2\xff# 1 \"foo.c\"\n# 1 \"foo.h\" 1\nint x;\n";
+
+/// What is hashed of it for the other one.
+const OTHER_MATERIAL: &[u8] = b"d\x0011c-O2\xff# 1 \"foo.c\"\n# 1 \"foo.h\" 1\nint y;\n";
+
+/// `foo.c` and its header in `/w`.
+fn sources(alloc: Global) -> Result<MemoryFiles, AllocError> {
+    let rows = [
+        ("/w/foo.c", b"#include \"foo.h\"\n".as_slice()),
+        ("/w/foo.h", b"int x;\n".as_slice()),
+    ];
+    files_of(alloc, &rows)
+}
+
+/// The key of `-c foo.c -O2` over these records, and whether one of them gave it.
+fn key_over(
+    alloc: Global,
+    direct: bool,
+    records: &mut Records,
+    files: &mut MemoryFiles,
+    tool: &mut PrintTool,
+) -> Result<(String, bool), Fail> {
+    let compiler = known(alloc, gcc(alloc, false, None)?)?;
+    let place = Place {
+        dir: "/w",
+        env: &[],
+        folders: &[],
+        direct,
+    };
+    match ask(
+        alloc,
+        &compiler,
+        "-c foo.c -O2",
+        &place,
+        records,
+        files,
+        tool,
+    )? {
+        Ok((key, _, from_record)) => Ok((key, from_record)),
+        Err(fault) => Err(Fail::new(fault)),
+    }
+}
+
+#[test]
+fn a_record_gives_the_key(rt: HostRuntime) -> Result<(), Fail> {
+    let alloc = rt.alloc();
+    let mut files = sources(alloc)?;
+    let mut records = MapStore::new(alloc);
+    let mut tool = PrintTool::new(alloc, 0, TEXT)?;
+    let mut other_tool = PrintTool::new(alloc, 0, OTHER_TEXT)?;
+    let expected = digest_of(alloc, MATERIAL)?;
+    for of_record in [false, true, true] {
+        let (key, from_record) = key_over(alloc, true, &mut records, &mut files, &mut tool)?;
+        assert_eq!(rt; key.as_str(), expected.as_str());
+        assert_eq!(rt; from_record, of_record);
+    }
+    assert_eq!(rt; tool.ticks().preprocess, 1);
+    // The header changes, and then it is again what it was.
+    insert(alloc, &mut files, "/w/foo.h", b"int y;\n")?;
+    let (key, from_record) = key_over(alloc, true, &mut records, &mut files, &mut other_tool)?;
+    assert_eq!(rt; key.as_str(), digest_of(alloc, OTHER_MATERIAL)?.as_str());
+    assert!(rt; !from_record);
+    assert_eq!(rt; other_tool.ticks().preprocess, 1);
+    insert(alloc, &mut files, "/w/foo.h", b"int x;\n")?;
+    let (key, from_record) = key_over(alloc, true, &mut records, &mut files, &mut other_tool)?;
+    assert_eq!(rt; key.as_str(), expected.as_str());
+    assert!(rt; from_record);
+    assert_eq!(rt; other_tool.ticks().preprocess, 1);
+    assert_eq!(rt; records.len(), 1);
+    Ok(())
+}
+
+#[test]
+fn no_records_are_kept(rt: HostRuntime) -> Result<(), Fail> {
+    let alloc = rt.alloc();
+    let mut files = sources(alloc)?;
+    let mut records = MapStore::new(alloc);
+    let mut tool = PrintTool::new(alloc, 0, TEXT)?;
+    let expected = digest_of(alloc, MATERIAL)?;
+    for runs in [1, 2] {
+        let (key, from_record) = key_over(alloc, false, &mut records, &mut files, &mut tool)?;
+        assert_eq!(rt; key.as_str(), expected.as_str());
+        assert!(rt; !from_record);
+        assert_eq!(rt; tool.ticks().preprocess, runs);
+    }
+    assert_eq!(rt; records.len(), 0);
+    Ok(())
+}
+
+/// Calls of which keys are made, each on the sources and by a tool that prints its own text.
+type Calls<'a> = Vec<HashCall<'a, Gcc, MemoryFiles, PrintTool>>;
+
+/// What `hash_keys` answers of these calls from an empty store of records.
+fn answers_of(
+    alloc: Global,
+    calls: &mut Calls<'_>,
+) -> Result<Vec<Result<(String, CShape, bool), Fault>>, Fail> {
+    let config = KeyConfig::new(alloc, &[], Zone::utc(), true)?;
+    let mut records: Records = MapStore::new(alloc);
+    Ok(hash_keys::<Sha256, Gcc, Records, MemoryFiles, PrintTool>(
+        alloc,
+        calls.as_mut_slice(),
+        &config,
+        &mut records,
+    )?)
+}
+
+/// The key that is answered, and whether a record gave it.
+fn key_in(answer: Result<(String, CShape, bool), Fault>) -> Result<(String, bool), Fail> {
+    match answer {
+        Ok((key, _, from_record)) => Ok((key, from_record)),
+        Err(fault) => Err(Fail::new(fault)),
+    }
+}
+
+/// The call of this request in that directory, whose tool prints this text.
+fn call_of<'a>(
+    alloc: Global,
+    compiler: &'a CCompiler<Gcc>,
+    parsed: &'a ParsedArguments,
+    dir: &'a OsBytes,
+    text: &[u8],
+) -> Result<HashCall<'a, Gcc, MemoryFiles, PrintTool>, Fail> {
+    Ok(HashCall {
+        hasher: compiler.hasher(parsed),
+        dir,
+        env: &[],
+        moment: 0,
+        files: sources(alloc)?,
+        tool: PrintTool::new(alloc, 0, text)?,
+    })
+}
+
+/// It twice, with tools that print two texts.
+fn two_calls<'a>(
+    alloc: Global,
+    compiler: &'a CCompiler<Gcc>,
+    parsed: &'a ParsedArguments,
+    dir: &'a OsBytes,
+) -> Result<Calls<'a>, Fail> {
+    let mut calls: Calls<'a> = Vec::new(alloc);
+    calls.push(call_of(alloc, compiler, parsed, dir, TEXT)?)?;
+    calls.push(call_of(alloc, compiler, parsed, dir, OTHER_TEXT)?)?;
+    Ok(calls)
+}
+
+#[test]
+fn a_call_gives_the_key_of_the_next(rt: HostRuntime) -> Result<(), Fail> {
+    let alloc = rt.alloc();
+    let compiler = known(alloc, gcc(alloc, false, None)?)?;
+    let parsed = parsed(alloc, &compiler.compiler, "-c foo.c -O2")?;
+    let dir = OsBytes::from_slice(alloc, b"/w")?;
+    let mut calls = two_calls(alloc, &compiler, &parsed, &dir)?;
+    let expected = digest_of(alloc, MATERIAL)?;
+    let mut of_record = false;
+    for answer in answers_of(alloc, &mut calls)? {
+        let (key, from_record) = key_in(answer)?;
+        assert_eq!(rt; key.as_str(), expected.as_str());
+        assert_eq!(rt; from_record, of_record);
+        of_record = true;
+    }
+    assert!(rt; of_record);
+    let mut runs = 1;
+    for call in &calls {
+        assert_eq!(rt; call.tool.ticks().preprocess, runs);
+        runs = 0;
+    }
+    Ok(())
+}

@@ -1,0 +1,38 @@
+//! Days and seconds as records have them.
+
+ghost use Rattle.std.specs.Prelude.{◌≡◌, IfOk, IfErr, OnOk};
+ghost use Rattle.os_files.specs.Fails.{FailsOn};
+ghost use Rattle.response_files.specs.Causes.{CauseOf};
+ghost use Rattle.include_records.specs.Surroundings as spec;
+ghost use Rattle.time_macros.specs.Days.{local_day};
+
+use os_files::files::{FileFail, Files};
+use os_files::os_bytes::OsBytes;
+use response_files::fault::ParseFault;
+use std::alloc::Global;
+use time_macros::days::local_day;
+use time_macros::zone::Zone;
+
+/// The day that a clock in the zone shows at a moment, as `time_macros::days::local_day` gives it.
+pub fn day_of(moment: i64, zone: &Zone) -> Option<i64>
+    ensures { result ≡ local_day zone.now moment }
+{
+    local_day(moment, zone).map(|day| day as i64)
+}
+
+/// The second in which what is at a path was last changed, since the start of 1970 in UTC; 0 where nothing is.
+///
+/// `Read` names the path where the device failed on it.
+pub fn second_at<F: Files>(alloc: Global, path: &OsBytes, files: &mut F) -> Result<i64, ParseFault>
+    ensures second { IfOk result (λ second. second ≡ spec.second_at (F.tree files.old) path.now) }
+    ensures cause { IfErr result (CauseOf (FailsOn F.tree F.failed F.fails_on files.old files.new)) }
+    ensures tree { F.tree files.new ≡ F.tree files.old }
+    ensures steady { OnOk result (F.failed files.new ≡ F.failed files.old) }
+{
+    match files.metadata(alloc, path) {
+        Ok(Some(metadata)) => Ok(metadata.mtime.seconds),
+        Ok(None) => Ok(0),
+        Err(FileFail::Memory) => Err(ParseFault::Memory),
+        Err(FileFail::Device) => Err(ParseFault::Read(path.clone()?)),
+    }
+}

@@ -1,0 +1,75 @@
+//! Calls of sessions and of what keys are made of, without clauses: who calls these loads none of what those promise.
+
+use ckeys::config::KeyConfig;
+use ckeys::fault::Fault;
+use ckeys::params::HashKeyParams;
+use ckeys::shape::CShape;
+use ckeys::{EntryKey, PreprocessorCacheEntry};
+use ckeys_base::hash_state::HashState;
+use ckeys_base::store::Store;
+use os_files::files::Files;
+use os_files::listed::Listed;
+use os_files::os_bytes::OsBytes;
+use std::alloc::{AllocError, Global};
+use wrap::session::Session;
+use wrap_base::answer::Answer;
+use wrap_base::call::Call;
+use wrap_base::request::Request;
+use wrap_base::store_key::StoreKey;
+use wrap_base::tool::Tool;
+
+/// A session over these stores.
+pub(crate) fn session_over<
+    H: HashState,
+    E: Store<EntryKey, PreprocessorCacheEntry> + Drop,
+    O: Store<StoreKey, Listed<(OsBytes, OsBytes)>> + Drop,
+>(alloc: Global, config: KeyConfig, entries: E, objects: O) -> Session<H, E, O> {
+    Session::new(alloc, config, entries, objects)
+}
+
+/// What the session answers.
+pub(crate) fn served<
+    H: HashState,
+    E: Store<EntryKey, PreprocessorCacheEntry> + Drop,
+    O: Store<StoreKey, Listed<(OsBytes, OsBytes)>> + Drop,
+    F: Files,
+    T: Tool,
+>(
+    session: &mut Session<H, E, O>,
+    request: &Request,
+    files: &mut F,
+    tool: &mut T,
+) -> Result<Answer, Fault> {
+    session.serve(request, files, tool)
+}
+
+/// What the session answers to each of these calls.
+pub(crate) fn all_served<
+    H: HashState,
+    E: Store<EntryKey, PreprocessorCacheEntry> + Drop,
+    O: Store<StoreKey, Listed<(OsBytes, OsBytes)>> + Drop,
+    F: Files,
+    T: Tool,
+>(
+    session: &mut Session<H, E, O>,
+    calls: &mut [Call<F, T>],
+) -> Result<Vec<Result<Answer, Fault>>, AllocError> {
+    session.serve_all(calls)
+}
+
+/// Drops all that the session's stores hold.
+pub(crate) fn forget_all<
+    H: HashState,
+    E: Store<EntryKey, PreprocessorCacheEntry> + Drop,
+    O: Store<StoreKey, Listed<(OsBytes, OsBytes)>> + Drop,
+>(session: &mut Session<H, E, O>) {
+    session.forget_all();
+}
+
+/// The digest of these parts, and what it doesn't tell.
+pub(crate) fn computed<H: HashState>(
+    alloc: Global,
+    params: &HashKeyParams<'_>,
+) -> Result<(String, CShape), AllocError> {
+    params.compute::<H>(alloc)
+}
