@@ -115,7 +115,7 @@ module _ (digest_of : Bytes → Bytes) (p : PrintedCall) (key : EntryKey) (is_en
 
   -- the preprocessor didn't run
   pub turn_asked : (before after : ℕ) → after ≡ before → EntryTurn digest_of p old asked before after
-  turn_asked before after same = record { gains = λ k e h. inl (asks.within k e h); kept = still; cleared = asks.cleared; asked = λ k m. inl same; idle = λ h. absurd (no_key p.call has h) }
+  turn_asked before after same = record { gains = λ k e h. inl (asks.within k e h); kept = still; cleared = asks.cleared; put = inl asks.put; asked = λ k m. inl same; idle = λ h. absurd (no_key p.call has h) }
 
   -- a result of what is held matches
   pub from_record : (text_key : Bytes) → LooksUp digest_of (place_of p.call) (results_of (asked.held key)) (Some text_key) → HasMatch digest_of p.call old.held text_key
@@ -145,7 +145,7 @@ module _ (digest_of : Bytes → Bytes) (p : PrintedCall) (key : EntryKey) (is_en
         missed_at text_key m (ap old.held (sym same) ∙ m.is_held) (asked.held key) refl
 
     pub turn_missed : (before after : ℕ) → EntryTurn digest_of p old asked before after
-    turn_missed before after = record { gains = λ k e h. inl (asks.within k e h); kept = still; cleared = asks.cleared; asked = λ k m. inr (missed k m); idle = λ h. absurd (no_key p.call has h) }
+    turn_missed before after = record { gains = λ k e h. inl (asks.within k e h); kept = still; cleared = asks.cleared; put = inl asks.put; asked = λ k m. inr (missed k m); idle = λ h. absurd (no_key p.call has h) }
 
     -- the text's result is put
     module _ (eq : EntryKey → EntryKey → Bool) (equal : (a b : EntryKey) → eq a b ≡ true → a ≡ b) (results : List CachedResult) (known : results ≡ results_of (asked.held key)) (new : Shelf EntryKey Record) (before after : ℕ) where
@@ -162,6 +162,9 @@ module _ (digest_of : Bytes → Bytes) (p : PrintedCall) (key : EntryKey) (is_en
           ];
         }
 
+        put_one : new.puts ≡ ticked old.puts
+        put_one = puts.put ∙ ap ticked asks.put
+
         turn_put : EntryTurn digest_of p old new before after
         turn_put = record {
           gains = λ k e h. elim (puts.gains k e h) [
@@ -170,6 +173,7 @@ module _ (digest_of : Bytes → Bytes) (p : PrintedCall) (key : EntryKey) (is_en
           ];
           kept = λ h. let q = puts.kept.0 h in let s = still q.0 in record { was = s.was; keys = λ k i. q.1 k (s.keys k i); steady = puts.steady ∙ s.steady };
           cleared = puts.cleared ∙ asks.cleared;
+          put = inr (record { own = own; is_own = is_own; put = put_one });
           asked = λ k m. inr (puts.steady ∙ missed k m);
           idle = λ h. absurd (no_key p.call has h);
         }
@@ -179,7 +183,7 @@ module _ (digest_of : Bytes → Bytes) (p : PrintedCall) (key : EntryKey) (is_en
 
       -- the text is put beside what was known, where it is recorded
       pub turn_kept : (text text_key : Bytes) → good_text p.printed ≡ Some text → text_key ≡ key_of digest_of (record_by p) → (o : Option (List IncludeEntry)) → includes_by digest_of p.call text ≡ o → Keeps eq key results text_key o asked new
-          → EntryTurn digest_of p old new before after × KeyRecorded digest_of p new false text_key
+          → EntryTurn digest_of p old new before after × KeyRecorded digest_of p old new false text_key
       turn_kept text text_key good is_key None e keeps = (
         subst (λ (s : Shelf EntryKey Record). EntryTurn digest_of p old s before after) (sym keeps) (turn_missed before after),
         λ h other includes g i. absurd (let same : text ≡ other = some_same _ _ (sym good ∙ g) in let n : None ≡ Some includes = sym e ∙ ap (includes_by digest_of p.call) same ∙ i in cc),
@@ -188,7 +192,7 @@ module _ (digest_of : Bytes → Bytes) (p : PrintedCall) (key : EntryKey) (is_en
           let own = result_with text_key includes in
           let is_own : IsOwnResult digest_of p own = record { text = text; printed = good; is_key = is_key; includes = e } in
           let there = recorded_there (place_of p.call) digest_of (input_path p.call) text includes e in
-          (turn_put keeps.0 keeps.1 keeps.3 own keeps.2 is_own, λ h other is g i. put_match keeps.0 keeps.1 keeps.3 own keeps.2 is_own there)
+          (turn_put keeps.0 keeps.1 keeps.3 own keeps.2 is_own, λ h other is g i. (put_match keeps.0 keeps.1 keeps.3 own keeps.2 is_own there, put_one keeps.0 keeps.1 keeps.3 own keeps.2 is_own))
 
 -- a file that can't be had is the call's cause
 pub file_cause : (first : Option Fault) (missing : Option Bytes) (on_file later : Bytes → Type 0) (device_in : Step → Type 0) → ((name : Bytes) → later name → on_file name) → ((name : Bytes) → missing ≡ Some name → first ≡ Some (Read name)) → (fault : Fault) → FileCause missing later fault → KeyCause first on_file device_in fault
@@ -214,6 +218,7 @@ turn_unasked digest_of p s none before after = record {
   gains = λ k e h. inl h;
   kept = λ h. record { was = h; keys = λ k i. i; steady = refl };
   cleared = refl;
+  put = inl refl;
   asked = λ k m. absurd (let both = sym m.is_entry ∙ none in cc);
   idle = λ h. refl;
 }

@@ -46,10 +46,10 @@ KeyRuns false before after = after ≡ ticked before
 abbrev pub IsHeldFor : (Bytes → Bytes) → PrintedCall → Shelf EntryKey Record → Bytes → Type 0
 IsHeldFor digest_of p new text_key = new.kept ≡ true → HasMatch digest_of p.call new.held text_key
 
--- and so it is at the end, where the text is recorded
-abbrev pub KeyRecorded : (Bytes → Bytes) → PrintedCall → Shelf EntryKey Record → Bool → Bytes → Type 0
-KeyRecorded digest_of p new true text_key = IsHeldFor digest_of p new text_key
-KeyRecorded digest_of p new false text_key = has_entry_key p.call ≡ true → (text : Bytes) (includes : List IncludeEntry) → good_text p.printed ≡ Some text → includes_by digest_of p.call text ≡ Some includes → IsHeldFor digest_of p new text_key
+-- and so it is at the end: nothing was put where a record gave the key, and one pair where the text is recorded
+abbrev pub KeyRecorded : (Bytes → Bytes) → PrintedCall → Shelf EntryKey Record → Shelf EntryKey Record → Bool → Bytes → Type 0
+KeyRecorded digest_of p old new true text_key = IsHeldFor digest_of p new text_key × (new.puts ≡ old.puts)
+KeyRecorded digest_of p old new false text_key = has_entry_key p.call ≡ true → (text : Bytes) (includes : List IncludeEntry) → good_text p.printed ≡ Some text → includes_by digest_of p.call text ≡ Some includes → IsHeldFor digest_of p new text_key × (new.puts ≡ ticked old.puts)
 
 -- where nothing was dropped or refused, nothing was before either, each key is still there, and no look-up forgot
 pub record KeptOn {K V : Type 0} (old new : Shelf K V) : Type 0 where
@@ -63,11 +63,18 @@ pub record IsOwnPair (digest_of : Bytes → Bytes) (p : PrintedCall) (old : Held
   pub framed : IsFramed digest_of p.call
   pub from : (r : CachedResult) → Contains entry.results r → ((before : Record) × (old key ≡ Some before) × Contains before.results r) ⊎ IsOwnResult digest_of p r
 
+-- one pair is put: a result of the call's own text is recorded
+pub record PutsOwn (digest_of : Bytes → Bytes) (p : PrintedCall) (old new : Shelf EntryKey Record) : Type 0 where
+  pub own : CachedResult
+  pub is_own : IsOwnResult digest_of p own
+  pub put : new.puts ≡ ticked old.puts
+
 -- what one call does to the store of include records, and to the preprocessor's tick
 pub record EntryTurn (digest_of : Bytes → Bytes) (p : PrintedCall) (old new : Shelf EntryKey Record) (before after : ℕ) : Type 0 where
   pub gains : (key : EntryKey) (entry : Record) → new.held key ≡ Some entry → (old.held key ≡ Some entry) ⊎ IsOwnPair digest_of p old.held key entry
   pub kept : new.kept ≡ true → KeptOn old new
   pub cleared : new.clears ≡ old.clears
+  pub put : (new.puts ≡ old.puts) ⊎ PutsOwn digest_of p old new
   -- a matching result that was held spares the preprocessor, or a look-up forgot it
   pub asked : (text_key : Bytes) → HasMatch digest_of p.call old.held text_key → (after ≡ before) ⊎ (new.forgets ≡ ticked old.forgets)
   -- a call without an entry key doesn't touch it

@@ -1,5 +1,5 @@
 -- Calls of which keys are made one after another, over one store of include records.
-use Rattle.std.specs.Prelude.{◌≡◌, ℕ, Bool, true, false, List, [], ◌∷◌, ◌++◌, map, filter, String, string_bytes, Result, IfOk, IfErr, OnOk}
+use Rattle.std.specs.Prelude.{◌≡◌, ℕ, Bool, true, false, List, [], ◌∷◌, ◌++◌, map, filter, String, string_bytes, Result, IfOk, IfErr, OnOk, IsErrOf}
 use Rattle.std.specs.List.{AllByRecursion, zip}
 use Rattle.std.specs.declared.alloc.Global.{Global}
 use Rattle.os_files.specs.Bytes.{Bytes}
@@ -16,10 +16,11 @@ use Rattle.ckeys.specs.EntryTurns.{EntryTurn, KeyFine, KeyFrom, KeyRecorded, Key
 use Rattle.ckeys.specs.Folders.{Settings}
 use Rattle.ckeys.specs.Hashers.{call_of}
 use Rattle.ckeys.specs.Keys.{key_of, record_shape}
-use Rattle.ckeys.specs.Meaning.{FailsIn, Meaning}
+use Rattle.ckeys.specs.Meaning.{AreSteady, FailsIn, Meaning}
 use Rattle.ckeys.specs.Params.{is_cached}
 use Rattle.ckeys.specs.Records.{FitsLength}
 use Rattle.ckeys.specs.declared.fault.Fault.{Fault}
+use Rattle.ckeys.specs.declared.fault.Fault.TheVariants.{Memory}
 use Rattle.ckeys.specs.declared.hash_keys.HashCall.{HashCall}
 use Rattle.ckeys.specs.declared.shape.CShape.{CShape}
 use Rattle.ckeys.specs.declared.step.Step.{Step}
@@ -72,7 +73,8 @@ pub record IsKeyed {I F T : Type 0} (digest_of : Bytes → Bytes) (view : CallVi
   pub runs : needs_preprocessing begin.hasher.parsed.now.language ≡ true → IfOk answer (λ made. KeyRuns made.2 (view.preprocessed begin.tool) (view.preprocessed end.tool))
   pub plain : has_entry_key (printed_at view settings begin).call ≡ false → IfOk answer (λ made. made.2 ≡ false)
   pub fit : OnOk answer (AllByRecursion FitsLength (filter is_cached begin.env.now))
-  pub steady : OnOk answer ((view.failed end.tool ≡ view.failed begin.tool) × (view.files_failed end.files ≡ view.files_failed begin.files))
+  pub steady : OnOk answer (AreSteady view.failed view.files_failed begin.tool begin.files end.tool end.files)
+  pub memory : IsErrOf answer Memory → AreSteady view.failed view.files_failed begin.tool begin.files end.tool end.files
   pub compiles : view.compiled end.tool ≡ view.compiled begin.tool
   pub hasher : end.hasher ≡ begin.hasher
   pub dir : end.dir ≡ begin.dir
@@ -89,7 +91,7 @@ AreKeyed digest_of view settings fails_on fails_in begins ends answers = AllByRe
 pub record AsksOver {I F T : Type 0} (digest_of : Bytes → Bytes) (view : CallView I F T) (settings : Settings) (old new : Shelf EntryKey Record) (begin end : HashCall I F T) (answer : KeyAnswer) : Type 0 where
   pub from : IfOk answer (λ made. KeyFrom digest_of (printed_at view settings begin) old.held made.2 (string_bytes made.0))
   pub entries : EntryTurn digest_of (printed_at view settings begin) old new (view.preprocessed begin.tool) (view.preprocessed end.tool)
-  pub recorded : IfOk answer (λ made. KeyRecorded digest_of (printed_at view settings begin) new made.2 (string_bytes made.0))
+  pub recorded : IfOk answer (λ made. KeyRecorded digest_of (printed_at view settings begin) old new made.2 (string_bytes made.0))
 
 -- calls one after another: as each begins and ends, and what it answers
 abbrev pub KeyRun : {I F T : Type 0} → (Bytes → Bytes) → CallView I F T → Settings → Shelf EntryKey Record → List ((HashCall I F T × HashCall I F T) × KeyAnswer) → Shelf EntryKey Record → Type 0

@@ -62,7 +62,9 @@ pub trait CCompilerImpl {
         ensures input { IfOk result (λ answer. HasSafeInputIn (kind_of self.now) (opened_words (kind_of self.now) dir.now (F.tree files.old) words.now) (decision_of answer)) }
         ensures object { IfOk result (λ answer. HasObjectIn (decision_of answer)) }
         ensures tree { F.tree files.new ≡ F.tree files.old }
-        ensures steady { OnOk result (F.failed files.new ≡ F.failed files.old) };
+        ensures steady { OnOk result (F.failed files.new ≡ F.failed files.old) }
+        ensures memory { IsErrOf result ParseFault.Memory →
+            F.failed files.new ≡ F.failed files.old };
 
     /// The words of the preprocess command.
     fn preprocess_words(

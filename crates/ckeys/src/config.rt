@@ -40,7 +40,7 @@ impl fmt::Display for ConfigError {
 
 /// The folders that don't count, the zone in which days are told, and whether include records are kept. Contracts see the
 /// folders without the slashes at their ends.
-#[derive(Drop)]
+#[derive(Clone, Debug, Drop, PartialEq, Eq)]
 pub struct KeyConfig {
     basedirs: Listed<OsBytes>,
     zone: Zone,
@@ -53,6 +53,8 @@ impl Model for KeyConfig {
     ghost Value = { Settings };
 
     ghost view = { λ a. settings_with a.basedirs a.zone a.direct };
+
+    ghost inverse = { λ s. record { basedirs = s.basedirs; zone = s.zone; direct = s.direct } };
 }
 
 impl KeyConfig {

@@ -1,6 +1,6 @@
 //! The entry key of a call, and what is recorded of its text.
 
-ghost use Rattle.std.specs.Prelude.{◌≡◌, ◌∷◌, [], Some, None, IfOk, IfErr, IfSome, OnOk, map, string_bytes};
+ghost use Rattle.std.specs.Prelude.{◌≡◌, ◌∷◌, [], Some, None, IfOk, IfErr, IfSome, OnOk, map, string_bytes, IsErrOf};
 ghost use Rattle.os_files.specs.Fails.{FailsOn};
 ghost use Rattle.os_files.specs.Path.{join};
 ghost use Rattle.os_files.specs.Tree.{Tree, contents_at};
@@ -14,7 +14,6 @@ ghost use Rattle.ckeys.specs.Surroundings.{recorded_of};
 use crate::compiler_impl::CCompilerImpl;
 use crate::fault::Fault;
 use crate::hasher::{CCompilerHasher, needs_c_preprocessing};
-use crate::needed::needed_at;
 use crate::place::CallPlace;
 use ckeys_base::hash_state::HashState;
 use entry_keys::asker::Asker;
@@ -25,7 +24,7 @@ use include_records::includes::includes_of;
 use include_records::moments::second_at;
 use marker_walk::answer::Walk;
 use marker_walk::walk::walk;
-use os_files::files::Files;
+use os_files::files::{FileFail, Files};
 use os_files::listed::Listed;
 use os_files::os_bytes::OsBytes;
 use os_files::path::join;
@@ -68,10 +67,15 @@ fn input_of<F: Files>(
         IfErr result (FileCause missing (FailsOn F.tree F.failed F.fails_on files.old files.new)) }
     ensures tree { F.tree files.new ≡ F.tree files.old }
     ensures steady { OnOk result (F.failed files.new ≡ F.failed files.old) }
+    ensures memory { IsErrOf result Fault.Memory → F.failed files.new ≡ F.failed files.old }
 {
     let path = join(alloc, dir.as_bytes(), name.as_bytes())?;
-    let contents = needed_at(alloc, &path, files)?;
-    let second = second_at(alloc, &path, files)?;
+    let contents = match files.read(alloc, &path) {
+        Ok(Some(contents)) => contents,
+        Ok(None) | Err(FileFail::Device) => return Err(Fault::Read(path)),
+        Err(FileFail::Memory) => return Err(Fault::Memory),
+    };
+    let second = second_at(alloc, path, files)?;
     Ok(Input { contents, second })
 }
 
@@ -128,6 +132,7 @@ impl<'a, I: CCompilerImpl + Drop> CCompilerHasher<'a, I> {
             IfErr result (FileCause (missing_input call) fails_on) }
         ensures tree { F.tree files.new ≡ F.tree files.old }
         ensures steady { OnOk result (F.failed files.new ≡ F.failed files.old) }
+        ensures memory { IsErrOf result Fault.Memory → F.failed files.new ≡ F.failed files.old }
     {
         if !self.asks_records(place) {
             return Ok(None);
@@ -153,6 +158,7 @@ pub(crate) fn includes_for<H: HashState, F: Files>(
         IfErr result (FileCause None fails_on) }
     ensures tree { F.tree files.new ≡ F.tree files.old }
     ensures steady { OnOk result (F.failed files.new ≡ F.failed files.old) }
+    ensures memory { IsErrOf result Fault.Memory → F.failed files.new ≡ F.failed files.old }
 {
     let dir = place.dir;
     match walk(

@@ -1,10 +1,10 @@
 //! The key of a call: of a request that asks for something, on the files that are there when it is asked.
 
-ghost use Rattle.std.specs.Prelude.{◌≡◌, false, true, List, ◌++◌, None, Some, filter, map, string_bytes, IfOk, IfErr, OnOk, OnErr};
+ghost use Rattle.std.specs.Prelude.{◌≡◌, false, true, List, ◌++◌, None, Some, filter, map, string_bytes, IfOk, IfErr, OnOk, OnErr, IsErrOf};
 ghost use Rattle.std.specs.List.{AllByRecursion};
 ghost use Rattle.os_files.specs.Bytes.{Bytes, ticked};
 ghost use Rattle.os_files.specs.Fails.{FailsOn};
-ghost use Rattle.ckeys.specs.Meaning.{FailsIn};
+ghost use Rattle.ckeys.specs.Meaning.{AreSteady, FailsIn};
 ghost use Rattle.ckeys_base.specs.Shelf.{Asks};
 ghost use Rattle.os_files.specs.Path.{join};
 ghost use Rattle.ckeys.specs.Calls.{FileCause, KeyCause, key_fault_of, PrintedCall, needs_preprocessing, printed_call, record_by, record_of, text_fault_by, text_fault_of, text_of};
@@ -85,7 +85,10 @@ impl<'a, I: CCompilerImpl + Drop> CCompilerHasher<'a, I> {
         ensures cause { let call = call_by I.kind_of I.traits self.now place.now (F.tree files.old) in IfErr result (KeyCause (text_fault_of (T.meaning tool.old) call) (FailsOn F.tree F.failed F.fails_on files.old files.new) (FailsIn T.meaning T.failed T.fails_in tool.old tool.new)) }
         ensures tree { F.tree files.new ≡ F.tree files.old }
         ensures meaning { T.meaning tool.new ≡ T.meaning tool.old }
-        ensures steady { OnOk result ((T.failed tool.new ≡ T.failed tool.old) × (F.failed files.new ≡ F.failed files.old)) }
+        ensures steady { OnOk result
+            (AreSteady T.failed F.failed tool.old files.old tool.new files.new) }
+        ensures memory { IsErrOf result Fault.Memory →
+            AreSteady T.failed F.failed tool.old files.old tool.new files.new }
         ensures idle { needs_preprocessing self.now.parsed.now.language ≡ false → (T.preprocessed tool.new ≡ T.preprocessed tool.old) × (T.failed tool.new ≡ T.failed tool.old) }
         ensures runs { needs_preprocessing self.now.parsed.now.language ≡ true → OnOk result (T.preprocessed tool.new ≡ ticked (T.preprocessed tool.old)) }
         ensures compiles { T.compiled tool.new ≡ T.compiled tool.old }
@@ -163,7 +166,10 @@ impl<'a, I: CCompilerImpl + Drop> CCompilerHasher<'a, I> {
         ensures cause { let call = call_by I.kind_of I.traits self.now place.now (F.tree files.old) in IfErr result (KeyCause (text_fault_of (T.meaning tool.old) call) (FailsOn F.tree F.failed F.fails_on files.old files.new) (FailsIn T.meaning T.failed T.fails_in tool.old tool.new)) }
         ensures tree { F.tree files.new ≡ F.tree files.old }
         ensures meaning { T.meaning tool.new ≡ T.meaning tool.old }
-        ensures steady { OnOk result ((T.failed tool.new ≡ T.failed tool.old) × (F.failed files.new ≡ F.failed files.old)) }
+        ensures steady { OnOk result
+            (AreSteady T.failed F.failed tool.old files.old tool.new files.new) }
+        ensures memory { IsErrOf result Fault.Memory →
+            AreSteady T.failed F.failed tool.old files.old tool.new files.new }
         ensures idle { needs_preprocessing self.now.parsed.now.language ≡ false → (T.preprocessed tool.new ≡ T.preprocessed tool.old) × (T.failed tool.new ≡ T.failed tool.old) }
         ensures runs { needs_preprocessing self.now.parsed.now.language ≡ true → OnOk result (T.preprocessed tool.new ≡ ticked (T.preprocessed tool.old)) }
         ensures compiles { T.compiled tool.new ≡ T.compiled tool.old }
@@ -211,11 +217,14 @@ impl<'a, I: CCompilerImpl + Drop> CCompilerHasher<'a, I> {
         ensures fine { let p = printed_call (T.meaning tool.old) (call_by I.kind_of I.traits self.now place.now (F.tree files.old)) in IfOk result (λ made. TextFine p made.2) }
         ensures cause { let p = printed_call (T.meaning tool.old) (call_by I.kind_of I.traits self.now place.now (F.tree files.old)) in IfErr result (KeyCause (text_fault_by p) (FailsOn F.tree F.failed F.fails_on files.old files.new) (FailsIn T.meaning T.failed T.fails_in tool.old tool.new)) }
         ensures entries { let p = printed_call (T.meaning tool.old) (call_by I.kind_of I.traits self.now place.now (F.tree files.old)) in EntryTurn H.digest_of p (E.shelf entries.old) (E.shelf entries.new) (T.preprocessed tool.old) (T.preprocessed tool.new) }
-        ensures recorded { let p = printed_call (T.meaning tool.old) (call_by I.kind_of I.traits self.now place.now (F.tree files.old)) in IfOk result (λ made. KeyRecorded H.digest_of p (E.shelf entries.new) made.2 (string_bytes made.0)) }
+        ensures recorded { let p = printed_call (T.meaning tool.old) (call_by I.kind_of I.traits self.now place.now (F.tree files.old)) in IfOk result (λ made. KeyRecorded H.digest_of p (E.shelf entries.old) (E.shelf entries.new) made.2 (string_bytes made.0)) }
         ensures runs { IfOk result (λ made. KeyRuns made.2 (T.preprocessed tool.old) (T.preprocessed tool.new)) }
         ensures tree { F.tree files.new ≡ F.tree files.old }
         ensures meaning { T.meaning tool.new ≡ T.meaning tool.old }
-        ensures steady { OnOk result ((T.failed tool.new ≡ T.failed tool.old) × (F.failed files.new ≡ F.failed files.old)) }
+        ensures steady { OnOk result
+            (AreSteady T.failed F.failed tool.old files.old tool.new files.new) }
+        ensures memory { IsErrOf result Fault.Memory →
+            AreSteady T.failed F.failed tool.old files.old tool.new files.new }
         ensures compiles { T.compiled tool.new ≡ T.compiled tool.old }
     {
         // A law, which costs nothing: what follows from it is said above.
@@ -265,7 +274,7 @@ impl<'a, I: CCompilerImpl + Drop> CCompilerHasher<'a, I> {
         ensures cause { let call = call_by I.kind_of I.traits self.now place.now (F.tree files.old) in IfErr result (KeyCause (key_fault_of (T.meaning tool.old) call) (FailsOn F.tree F.failed F.fails_on files.old files.new) (FailsIn T.meaning T.failed T.fails_in tool.old tool.new)) }
         // What the call does to the include records, and to the preprocessor's tick.
         ensures entries { let p = printed_call (T.meaning tool.old) (call_by I.kind_of I.traits self.now place.now (F.tree files.old)) in EntryTurn H.digest_of p (E.shelf entries.old) (E.shelf entries.new) (T.preprocessed tool.old) (T.preprocessed tool.new) }
-        ensures recorded { let p = printed_call (T.meaning tool.old) (call_by I.kind_of I.traits self.now place.now (F.tree files.old)) in IfOk result (λ made. KeyRecorded H.digest_of p (E.shelf entries.new) made.2 (string_bytes made.0)) }
+        ensures recorded { let p = printed_call (T.meaning tool.old) (call_by I.kind_of I.traits self.now place.now (F.tree files.old)) in IfOk result (λ made. KeyRecorded H.digest_of p (E.shelf entries.old) (E.shelf entries.new) made.2 (string_bytes made.0)) }
         // Whatever list of earlier calls meets the invariant of the records, that list followed by this call meets it at the end.
         ensures records { let p = printed_call (T.meaning tool.old) (call_by I.kind_of I.traits self.now place.now (F.tree files.old)) in (earlier : List PrintedCall) → EntryInvariant H.digest_of place.now.config.now earlier (E.shelf entries.old).held → EntryInvariant H.digest_of place.now.config.now (earlier ++ asking p) (E.shelf entries.new).held }
         // Then, where digests are distinct and texts are printed again, the key is the call's own, wherever it came from.
@@ -274,7 +283,10 @@ impl<'a, I: CCompilerImpl + Drop> CCompilerHasher<'a, I> {
         ensures plain { let call = call_by I.kind_of I.traits self.now place.now (F.tree files.old) in has_entry_key call ≡ false → IfOk result (λ made. made.2 ≡ false) }
         ensures tree { F.tree files.new ≡ F.tree files.old }
         ensures meaning { T.meaning tool.new ≡ T.meaning tool.old }
-        ensures steady { OnOk result ((T.failed tool.new ≡ T.failed tool.old) × (F.failed files.new ≡ F.failed files.old)) }
+        ensures steady { OnOk result
+            (AreSteady T.failed F.failed tool.old files.old tool.new files.new) }
+        ensures memory { IsErrOf result Fault.Memory →
+            AreSteady T.failed F.failed tool.old files.old tool.new files.new }
         ensures idle { needs_preprocessing self.now.parsed.now.language ≡ false → (T.preprocessed tool.new ≡ T.preprocessed tool.old) × (T.failed tool.new ≡ T.failed tool.old) }
         ensures runs { needs_preprocessing self.now.parsed.now.language ≡ true → IfOk result (λ made. KeyRuns made.2 (T.preprocessed tool.old) (T.preprocessed tool.new)) }
         ensures compiles { T.compiled tool.new ≡ T.compiled tool.old }
@@ -298,10 +310,13 @@ impl<'a, I: CCompilerImpl + Drop> CCompilerHasher<'a, I> {
         ensures fine { let p = printed_call (T.meaning tool.old) (call_by I.kind_of I.traits self.now place.now (F.tree files.old)) in IfOk result (λ made. KeyFine p made.2) }
         ensures cause { let call = call_by I.kind_of I.traits self.now place.now (F.tree files.old) in IfErr result (KeyCause (key_fault_of (T.meaning tool.old) call) (FailsOn F.tree F.failed F.fails_on files.old files.new) (FailsIn T.meaning T.failed T.fails_in tool.old tool.new)) }
         ensures entries { let p = printed_call (T.meaning tool.old) (call_by I.kind_of I.traits self.now place.now (F.tree files.old)) in EntryTurn H.digest_of p (E.shelf entries.old) (E.shelf entries.new) (T.preprocessed tool.old) (T.preprocessed tool.new) }
-        ensures recorded { let p = printed_call (T.meaning tool.old) (call_by I.kind_of I.traits self.now place.now (F.tree files.old)) in IfOk result (λ made. KeyRecorded H.digest_of p (E.shelf entries.new) made.2 (string_bytes made.0)) }
+        ensures recorded { let p = printed_call (T.meaning tool.old) (call_by I.kind_of I.traits self.now place.now (F.tree files.old)) in IfOk result (λ made. KeyRecorded H.digest_of p (E.shelf entries.old) (E.shelf entries.new) made.2 (string_bytes made.0)) }
         ensures tree { F.tree files.new ≡ F.tree files.old }
         ensures meaning { T.meaning tool.new ≡ T.meaning tool.old }
-        ensures steady { OnOk result ((T.failed tool.new ≡ T.failed tool.old) × (F.failed files.new ≡ F.failed files.old)) }
+        ensures steady { OnOk result
+            (AreSteady T.failed F.failed tool.old files.old tool.new files.new) }
+        ensures memory { IsErrOf result Fault.Memory →
+            AreSteady T.failed F.failed tool.old files.old tool.new files.new }
         ensures idle { needs_preprocessing self.now.parsed.now.language ≡ false → (T.preprocessed tool.new ≡ T.preprocessed tool.old) × (T.failed tool.new ≡ T.failed tool.old) }
         ensures runs { needs_preprocessing self.now.parsed.now.language ≡ true → IfOk result (λ made. KeyRuns made.2 (T.preprocessed tool.old) (T.preprocessed tool.new)) }
         ensures compiles { T.compiled tool.new ≡ T.compiled tool.old }
@@ -331,6 +346,7 @@ fn look_up<H: HashState, E: Store<EntryKey, PreprocessorCacheEntry>, F: Files>(
     ensures cause { IfErr result (FileCause None (FailsOn F.tree F.failed F.fails_on files.old files.new)) }
     ensures tree { F.tree files.new ≡ F.tree files.old }
     ensures steady { OnOk result (F.failed files.new ≡ F.failed files.old) }
+    ensures memory { IsErrOf result Fault.Memory → F.failed files.new ≡ F.failed files.old }
 {
     match entries.get(key) {
         Some(record) => {
@@ -361,6 +377,7 @@ fn keep<H: HashState, E: Store<EntryKey, PreprocessorCacheEntry>, F: Files>(
     ensures cause { IfErr result (FileCause None (FailsOn F.tree F.failed F.fails_on files.old files.new)) }
     ensures tree { F.tree files.new ≡ F.tree files.old }
     ensures steady { OnOk result (F.failed files.new ≡ F.failed files.old) }
+    ensures memory { IsErrOf result Fault.Memory → F.failed files.new ≡ F.failed files.old }
 {
     if let Some(includes) = includes_for::<H, F>(alloc, &made.text, input, place, files)? {
         let text_key = KeyText::new(String::from_str(alloc, made.key.as_str())?);

@@ -1,10 +1,9 @@
 //! Files that a key needs: they are there, or there is no key.
 
-ghost use Rattle.std.specs.Prelude.{◌≡◌, None, Some, [], ◌∷◌, map, string_bytes, IfOk, IfErr, OnOk};
+ghost use Rattle.std.specs.Prelude.{◌≡◌, None, [], ◌∷◌, map, string_bytes, IfOk, IfErr, OnOk, IsErrOf};
 ghost use Rattle.os_files.specs.Fails.{FailsOn};
 ghost use Rattle.os_files.specs.Path.{join};
 ghost use Rattle.ckeys_base.specs.Hex.{hex_of};
-ghost use Rattle.os_files.specs.Tree.{contents_at};
 ghost use Rattle.include_records.specs.Surroundings.{contents_in};
 ghost use Rattle.ckeys.specs.Calls.{FileCause, first_missing};
 
@@ -29,31 +28,12 @@ fn needed_digest<H: HashState, F: Files>(
     ensures cause { IfErr result (FileCause (first_missing (F.tree files.old) (join dir.now name.now ∷ [])) (FailsOn F.tree F.failed F.fails_on files.old files.new)) }
     ensures tree { F.tree files.new ≡ F.tree files.old }
     ensures steady { OnOk result (F.failed files.new ≡ F.failed files.old) }
+    ensures memory { IsErrOf result Fault.Memory → F.failed files.new ≡ F.failed files.old }
 {
     let path = join(alloc, dir.as_bytes(), name.as_bytes())?;
     match Digest::<H>::file(alloc, &path, files) {
         Ok(Some(digest)) => Ok(digest),
         Ok(None) | Err(FileFail::Device) => Err(Fault::Read(path)),
-        Err(FileFail::Memory) => Err(Fault::Memory),
-    }
-}
-
-/// The contents of a file that is needed.
-pub(crate) fn needed_at<F: Files>(
-    alloc: Global,
-    path: &OsBytes,
-    files: &mut F,
-) -> Result<OsBytes, Fault>
-    ensures contents { IfOk result (λ contents.
-        contents_at (F.tree files.old) path.now ≡ Some contents) }
-    ensures cause { let missing = first_missing (F.tree files.old) (path.now ∷ []) in
-        IfErr result (FileCause missing (FailsOn F.tree F.failed F.fails_on files.old files.new)) }
-    ensures tree { F.tree files.new ≡ F.tree files.old }
-    ensures steady { OnOk result (F.failed files.new ≡ F.failed files.old) }
-{
-    match files.read(alloc, path) {
-        Ok(Some(contents)) => Ok(contents),
-        Ok(None) | Err(FileFail::Device) => Err(Fault::Read(path.clone()?)),
         Err(FileFail::Memory) => Err(Fault::Memory),
     }
 }
@@ -73,9 +53,14 @@ pub(crate) fn needed_contents<F: Files>(
         IfErr result (FileCause missing (FailsOn F.tree F.failed F.fails_on files.old files.new)) }
     ensures tree { F.tree files.new ≡ F.tree files.old }
     ensures steady { OnOk result (F.failed files.new ≡ F.failed files.old) }
+    ensures memory { IsErrOf result Fault.Memory → F.failed files.new ≡ F.failed files.old }
 {
     let path = join(alloc, dir.as_bytes(), name.as_bytes())?;
-    needed_at(alloc, &path, files)
+    match files.read(alloc, &path) {
+        Ok(Some(contents)) => Ok(contents),
+        Ok(None) | Err(FileFail::Device) => Err(Fault::Read(path)),
+        Err(FileFail::Memory) => Err(Fault::Memory),
+    }
 }
 
 /// The digests of the files whose contents count, in order.
@@ -90,6 +75,7 @@ pub(crate) fn extra_hashes<H: HashState, F: Files>(
     ensures cause { IfErr result (FileCause (first_missing (F.tree files.old) (map (join dir.now) names.now)) (FailsOn F.tree F.failed F.fails_on files.old files.new)) }
     ensures tree { F.tree files.new ≡ F.tree files.old }
     ensures steady { OnOk result (F.failed files.new ≡ F.failed files.old) }
+    ensures memory { IsErrOf result Fault.Memory → F.failed files.new ≡ F.failed files.old }
 {
     let mut digests = Listed::new(alloc);
     let mut rest = names;

@@ -1,4 +1,4 @@
--- A digest under SHA-256 is a byte string.
+-- Numbers as bytes, and so a digest under SHA-256, are byte strings.
 use Rattle.std.specs.Prelude.{ℕ, ◌<◌, zero, suc, List}
 use Rattle.std.specs.Int.{byte_at, bytes_high_first}
 use Rattle.std.proofs.Common.{arith}
@@ -10,7 +10,7 @@ byte_at-lt : (i n : ℕ) → byte_at i n < 256
 byte_at-lt zero n = omega arith
 byte_at-lt (suc i) n = omega arith
 
-AreBytes-high_first : (count n : ℕ) → AreBytes (bytes_high_first count n)
+pub AreBytes-high_first : (count n : ℕ) → AreBytes (bytes_high_first count n)
 AreBytes-high_first zero n = All-nil _
 AreBytes-high_first (suc count) n = All-cons (λ b. b < 256) (byte_at count n) _ (byte_at-lt count n) (AreBytes-high_first count n)
 

@@ -8,6 +8,7 @@ pub record Shelf (K V : Type 0) : Type 0 where
   pub kept : Bool  -- whether nothing was dropped or refused yet
   pub forgets : ℕ  -- how often a look-up answered nothing for a key held just before, modulo 2 ^ 64
   pub clears : ℕ  -- how often all was dropped on demand, modulo 2 ^ 64
+  pub puts : ℕ  -- how often a pair was put, taken or refused, modulo 2 ^ 64
 
 -- nothing is held
 abbrev pub IsEmpty : {K V : Type 0} → Shelf K V → Type 0
@@ -38,6 +39,7 @@ module _ {K V : Type 0} where
     pub forgot : Forgotten (old.held key) answer → new.forgets ≡ ticked old.forgets
     pub steady : (Forgotten (old.held key) answer → ⊥) → new.forgets ≡ old.forgets
     pub cleared : new.clears ≡ old.clears
+    pub put : new.puts ≡ old.puts
 
   -- A put: the pair is added, or handed back. Other pairs may be dropped.
   pub record Puts (eq : K → K → Bool) (old new : Shelf K V) (key : K) (value : V) (result : Result (Unit {0}) (K × V)) : Type 0 where
@@ -46,6 +48,7 @@ module _ {K V : Type 0} where
     pub kept : (new.kept ≡ true) ↔ ((old.kept ≡ true) × KeepsKeys old.held new.held × IsOk result)
     pub steady : new.forgets ≡ old.forgets
     pub cleared : new.clears ≡ old.clears
+    pub put : new.puts ≡ ticked old.puts
 
   -- All is dropped on demand.
   pub record Clears (old new : Shelf K V) : Type 0 where
@@ -53,3 +56,4 @@ module _ {K V : Type 0} where
     pub kept : (new.kept ≡ true) ↔ ((old.kept ≡ true) × KeepsKeys old.held new.held)
     pub steady : new.forgets ≡ old.forgets
     pub cleared : new.clears ≡ ticked old.clears
+    pub put : new.puts ≡ old.puts

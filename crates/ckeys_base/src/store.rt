@@ -36,6 +36,10 @@ pub trait Store<K: Eq, V> {
     fn cleared(&self) -> u64
         ensures { result ≡ (shelf self.now).clears };
 
+    /// How often `put` was called, modulo 2 ^ 64. It takes no memory.
+    fn puts(&self) -> u64
+        ensures { result ≡ (shelf self.now).puts };
+
     /// Equal keys hold the same.
     ghost respects: { (s : Self) (a b : K) → K.eq a b ≡ true → (shelf s).held a ≡ (shelf s).held b };
 }

@@ -104,6 +104,16 @@ fn joined(
     Ok(kept)
 }
 
+/// Of each text or argument, by whichever places, one set of intervals alone is what goes, and what `stripped_of` says is left,
+/// is what that leaves. Calls of it do nothing.
+pub fn stripping_leaves_one_text()
+    ensures one { (places : Places) (folders : List Bytes) (text : Bytes)
+        → HasExactlyOne (IsStripping (longest places folders text) 0 (length text)) }
+    ensures left { (places : Places) (folders : List Bytes) (text : Bytes) (starts : List ℕ)
+        → IsStripping (longest places folders text) 0 (length text) starts
+        → stripped_of places folders text ≡ left_by (longest places folders text) text starts }
+{}
+
 /// Stripping adds no byte: what no byte of a text is, none of what is left is. Calls of it do nothing.
 pub fn stripping_adds_no_byte()
     ensures { (places : Places) (folders : List Bytes) (text : Bytes) (test : ℕ → Bool) → list_any test text ≡ false → list_any test (stripped_of places folders text) ≡ false }

@@ -1,13 +1,17 @@
 //! Digests that FIPS 180 prints, however the bytes come, and readers that fail.
 
 ghost use Rattle.std.specs.Prelude.{◌<◌};
+ghost use Rattle.sha2.specs.Hashers.{Holds512};
+ghost use Rattle.sha2.specs.Sha512.{sha512};
+ghost use Rattle.sha2.proofs.Facts512.{length-sha512};
+ghost use Rattle.ckeys_base_tests.specs.WideBytes.{AreBytes-sha512};
 
 use ckeys_base::digest::{Digest, Error, HASH_BUFFER_SIZE, texts_tell_digests};
 use ckeys_base::hash_state::HashState;
 use os_files::file_time::FileTime;
 use os_files::memory_files::{MemoryFile, MemoryFiles};
 use os_files::os_bytes::OsBytes;
-use sha2::Sha256;
+use sha2::{Sha256, Sha512};
 use std::alloc::{AllocError, Global};
 use std::io;
 use std::io::Read;
@@ -27,6 +31,45 @@ const OF_TWO_BLOCKS: &str = "42d8a6162d60838b5e0c6239c0e306933ac34e9546ff12766fc
 
 /// The digest of a million times `a`, which the standard prints as `cdc76e5c..`.
 const OF_A_MILLION: &str = "dc7ce6c59941bf29181a7c2e487de3761f08a9844a7902e040d693cc7c11c20d";
+
+/// The digest of `abc` under SHA-512, which the standard prints as `ddaf35a1..`.
+const OF_ABC_WIDE: &str =
+    "ddfa531a3916a7abcc143794ea021413216eafe4989ae72aa0e9ee6eb4553da9122999a272f41c8a63abc3323aefbedb54d4443246c38ee0a2a99cf45ac44af9";
+
+/// SHA-512 of FIPS 180-4.
+#[derive(Drop)]
+struct Wide {
+    state: Sha512,
+}
+
+impl HashState for Wide {
+    const LEN: usize = 64;
+
+    ghost LEN = { 64 };
+
+    ghost holds = { λ wide held. Holds512 wide.state held };
+
+    ghost digest_of = { sha512 };
+
+    ghost digest_length = { length-sha512 };
+
+    ghost digest_bytes = { AreBytes-sha512 };
+
+    fn new() -> Wide {
+        Wide {
+            state: sha2::Digest::new(),
+        }
+    }
+
+    fn feed(&mut self, bytes: &[u8]) {
+        sha2::Digest::update(&mut self.state, bytes);
+    }
+
+    fn digest(self, alloc: Global) -> Result<Vec<u8>, AllocError> {
+        let digest = sha2::Digest::finalize(self.state);
+        Ok(Vec::from_array(alloc, digest)?)
+    }
+}
 
 /// Gives a few bytes a read, and then ends or fails.
 #[derive(Drop)]
@@ -78,6 +121,21 @@ fn prints_the_digests_of_the_standard(rt: HostRuntime) -> Result<(), Fail> {
     }
     assert_eq!(rt; <Sha256 as HashState>::LEN, 32);
     texts_tell_digests::<Sha256>();
+    Ok(())
+}
+
+#[test]
+fn another_hash_has_a_longer_text(rt: HostRuntime) -> Result<(), Fail> {
+    let alloc = rt.alloc();
+    let sips = Sips {
+        rest: b"abc",
+        most: 2,
+        fails: false,
+    };
+    assert_eq!(rt;
+        Digest::<Wide>::reader_sync(alloc, sips)?.as_str(),
+        OF_ABC_WIDE
+    );
     Ok(())
 }
 

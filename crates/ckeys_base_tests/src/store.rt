@@ -19,6 +19,7 @@ struct SmallStore {
     kept: bool,
     forgot: u64,
     cleared: u64,
+    puts: u64,
 }
 
 impl SmallStore {
@@ -29,6 +30,7 @@ impl SmallStore {
             kept: true,
             forgot: 0,
             cleared: 0,
+            puts: 0,
         }
     }
 
@@ -39,6 +41,7 @@ impl SmallStore {
             × KeepsKeys (λ q. get nat_cmp self.old.map q) (λ q. get nat_cmp self.new.map q)) }
         ensures forgot { self.new.forgot ≡ self.old.forgot }
         ensures cleared { self.new.cleared ≡ self.old.cleared }
+        ensures puts { self.new.puts ≡ self.old.puts }
     {
         self.kept = self.kept && self.map.is_empty();
         self.map.clear();
@@ -56,7 +59,7 @@ impl SmallStore {
 }
 
 impl Store<u8, u8> for SmallStore {
-    ghost shelf = { λ s. record { held = λ k. get nat_cmp s.map k; kept = s.kept; forgets = s.forgot; clears = s.cleared } };
+    ghost shelf = { λ s. record { held = λ k. get nat_cmp s.map k; kept = s.kept; forgets = s.forgot; clears = s.cleared; puts = s.puts } };
 
     ghost respects = { λ s a b e. Prim.search rules };
 
@@ -69,6 +72,7 @@ impl Store<u8, u8> for SmallStore {
     }
 
     fn put(&mut self, key: u8, value: u8) -> Result<(), (u8, u8)> {
+        self.puts = self.puts.wrapping_add(1);
         match self.map.insert(key, value) {
             Ok(_) => Ok(()),
             Err(failed) => {
@@ -94,11 +98,20 @@ impl Store<u8, u8> for SmallStore {
     fn cleared(&self) -> u64 {
         self.cleared
     }
+
+    fn puts(&self) -> u64 {
+        self.puts
+    }
 }
 
 /// What a store says of itself.
-fn counts<S: Store<u8, u8>>(store: &S) -> (bool, u64, u64) {
-    (store.kept_all(), store.forgot(), store.cleared())
+fn counts<S: Store<u8, u8>>(store: &S) -> (bool, u64, u64, u64) {
+    (
+        store.kept_all(),
+        store.forgot(),
+        store.cleared(),
+        store.puts(),
+    )
 }
 
 /// A copy of what the store holds under the key.
@@ -133,10 +146,10 @@ fn holds_what_was_put_last(rt: HostRuntime) -> Result<(), Fail> {
     assert_eq!(rt; held_after_put(&mut store, 2, 20), Some(20));
     assert_eq!(rt; held_after_put(&mut store, 1, 11), Some(11));
     assert_eq!(rt; held(&mut store, 2), Some(20));
-    assert_eq!(rt; counts(&store), (true, 0, 0));
+    assert_eq!(rt; counts(&store), (true, 0, 0, 3));
     assert_eq!(rt; drops_all(&mut store), 1);
     assert_eq!(rt; held(&mut store, 1), None);
-    assert_eq!(rt; counts(&store), (false, 0, 1));
+    assert_eq!(rt; counts(&store), (false, 0, 1, 3));
     kept_look_up_changes_nothing::<u8, u8>();
     Ok(())
 }
@@ -145,17 +158,17 @@ fn holds_what_was_put_last(rt: HostRuntime) -> Result<(), Fail> {
 fn dropping_nothing_keeps_all(rt: HostRuntime) {
     let mut store = SmallStore::new(rt.alloc(), false);
     assert_eq!(rt; drops_all(&mut store), 1);
-    assert_eq!(rt; counts(&store), (true, 0, 1));
+    assert_eq!(rt; counts(&store), (true, 0, 1, 0));
 }
 
 #[test]
 fn a_forgotten_key_is_counted(rt: HostRuntime) {
     let mut store = SmallStore::new(rt.alloc(), true);
     assert_eq!(rt; held(&mut store, 1), None);
-    assert_eq!(rt; counts(&store), (true, 0, 0));
+    assert_eq!(rt; counts(&store), (true, 0, 0, 0));
     assert_eq!(rt; held_after_put(&mut store, 1, 10), None);
-    assert_eq!(rt; counts(&store), (false, 1, 0));
+    assert_eq!(rt; counts(&store), (false, 1, 0, 1));
     assert_eq!(rt; held(&mut store, 1), None);
     assert_eq!(rt; drops_all(&mut store), 1);
-    assert_eq!(rt; counts(&store), (false, 1, 1));
+    assert_eq!(rt; counts(&store), (false, 1, 1, 1));
 }

@@ -1,6 +1,6 @@
 //! Whether the definitions of stripping say what is meant, by examples.
 
-use ckeys_base::strip::{strip_basedirs, strip_basedirs_from_arg};
+use ckeys_base::strip::{strip_basedirs, strip_basedirs_from_arg, stripping_leaves_one_text};
 use os_files::os_bytes::OsBytes;
 use std::alloc::{AllocError, Global};
 use std::borrow::CowSlice;
@@ -60,5 +60,6 @@ fn a_text_without_folders_is_lent(rt: HostRuntime) -> Result<(), Fail> {
     let left = strip_basedirs(alloc, text, &project)?;
     assert!(rt; matches!(left, CowSlice::Borrowed(_)));
     assert_eq!(rt; left.as_slice(), text.as_slice());
+    stripping_leaves_one_text();
     Ok(())
 }

@@ -11,7 +11,8 @@ use Rattle.cmdlines_base.specs.Cutting.{Place, reading_at}
 use Rattle.cmdlines_base.specs.Printing.{is_empty_j, words_of}
 use Rattle.cmdlines_base.specs.Reading.{Item, Reading, raw, unknown, flag, valued, behind_dashes, before, nothing}
 use Rattle.cmdlines_base.specs.Table.{Entry}
-use Rattle.cmdlines_base.specs.Values.{Steps, is_refused, values_by}
+use Rattle.cmdlines_base.specs.Refusal.{Refusal}
+use Rattle.cmdlines_base.specs.Values.{Steps, refusal_of, values_by}
 use Rattle.cmdlines_base.specs.declared.argument_error.ArgParseError.{ArgParseError}
 use Rattle.cmdlines_base.specs.declared.argument_error.ArgParseError.TheVariants.{UnexpectedEndOfArgs, InvalidUnicode, Other, Memory}
 use Rattle.cmdlines_tables.specs.Kinds.{is_compile, is_output, is_arch, is_diagnostics, is_extra_file, asks_dependencies, is_dependency_path, is_dependency_target}
@@ -26,19 +27,19 @@ use Rattle.cmdlines.specs.Wanted.{has_kind, word_in, color_in, language_in, bloc
 use Rattle.cmdlines.specs.declared.facts.Facts.{Facts}
 use Rattle.cmdlines.specs.declared.lists.Lists.{Lists}
 
-never_refused : (item : Item ArgKind) → is_refused (values_by IsFlag IsValue never) item ≡ true → ⊥
-never_refused (raw w) h = cc
-never_refused (unknown w) h = cc
-never_refused (flag f k) h = cc
-never_refused (valued f k w d) h = cc
-never_refused (behind_dashes w) h = cc
+never_refused : (item : Item ArgKind) (why : Refusal) → refusal_of (values_by IsFlag IsValue never) item ≡ Some why → ⊥
+never_refused (raw w) why h = cc
+never_refused (unknown w) why h = cc
+never_refused (flag f k) why h = cc
+never_refused (valued f k w d) why h = cc
+never_refused (behind_dashes w) why h = cc
 
 -- words that can't be cut, and no value is refused: they end where a value should come
 pub cut_short : (table : List (Entry ArgKind)) (old new : Place) (error : ArgParseError) → Steps (values_by IsFlag IsValue never) table old (Some (Err error)) new → (error ≡ Memory → ⊥) → reading_at table old ≡ record { items = []; cut_short = true }
 cut_short table old new UnexpectedEndOfArgs h other = h.0
 cut_short table old new Memory h other = absurd (other refl)
-cut_short table old new (InvalidUnicode w) h other = absurd (never_refused h.0.item h.0.refused)
-cut_short table old new (Other t) h other = absurd (never_refused h.0.item h.0.refused)
+cut_short table old new (InvalidUnicode w) h other = absurd (never_refused h.0.item _ h.0.refused.0)
+cut_short table old new (Other t) h other = absurd (never_refused h.0.item _ h.0.refused)
 
 flat_map-more : {X Y : Type 0} (f : X → List Y) (start : List Y) (x : X) (xs : List X) → (start ++ flat_map f (x ∷ [])) ++ flat_map f xs ≡ start ++ flat_map f (x ∷ xs)
 flat_map-more {X} {Y} f start x xs = append_assoc start (flat_map f (x ∷ [])) (flat_map f xs) ∙ ap (λ (t : List Y). start ++ t) (sym (flat_map-append f (x ∷ []) xs))

@@ -110,6 +110,8 @@ impl<K: HasKind> FoundCompiler<K> {
         ensures object { IfOk result (λ answer. HasObjectIn (decision_of answer)) }
         ensures tree { F.tree files.new ≡ F.tree files.old }
         ensures steady { OnOk result (F.failed files.new ≡ F.failed files.old) }
+        ensures memory { IsErrOf result ParseFault.Memory →
+            F.failed files.new ≡ F.failed files.old }
     {
         // Laws, which cost nothing: what follows from them is said above.
         inputs_are_safe();

@@ -1,6 +1,6 @@
 //! The parse of a request's words, with the files that they name opened as its compiler does.
 
-ghost use Rattle.std.specs.Prelude.{◌≡◌, IfOk, IfErr, OnOk};
+ghost use Rattle.std.specs.Prelude.{◌≡◌, IfOk, IfErr, OnOk, IsErrOf};
 ghost use Rattle.os_files.specs.Fails.{FailsOn};
 ghost use Rattle.response_files.specs.Causes.{CauseOf};
 ghost use Rattle.cmdlines_base.specs.Table.{all_entries};
@@ -46,6 +46,7 @@ pub(crate) fn parse_opened<S: SearchableArgInfo<ArgData>, F: Files>(
     ensures cause { IfErr result (CauseOf (FailsOn F.tree F.failed F.fails_on files.old files.new)) }
     ensures tree { F.tree files.new ≡ F.tree files.old }
     ensures steady { OnOk result (F.failed files.new ≡ F.failed files.old) }
+    ensures memory { IsErrOf result ParseFault.Memory → F.failed files.new ≡ F.failed files.old }
 {
     // A law, which costs nothing: what follows from it is said above.
     other_words_stay();

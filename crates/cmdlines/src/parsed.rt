@@ -18,7 +18,7 @@ use std::alloc::{AllocError, Global};
 use std::collections::BTreeSet;
 
 /// The options of a request that can be cached.
-#[derive(Drop)]
+#[derive(Clone, Debug, Drop, PartialEq, Eq)]
 pub struct ParsedArguments {
     /// The one input, as its word stands.
     pub input: OsBytes,

@@ -280,8 +280,8 @@ module _ {T K : Type 0} (values : Values T K) (table : List (Entry K)) (old : Pl
           accepted = t.accepted;
         }
 
-    refused : TakesRefused values (first_by entry word) rest → CutsRefused values table old
-    refused t =
+    refused : (error : ArgParseError) → TakesRefused values (first_by entry word) rest error → CutsRefused values table old error
+    refused error t =
         let takes : taken (start table word) rest ≡ Some (t.item, t.left) = ap (λ s. taken s rest) (sym is-start) ∙ t.takes in
         record {
           item = t.item;
@@ -293,6 +293,6 @@ module _ {T K : Type 0} (values : Values T K) (table : List (Entry K)) (old : Pl
     -- none
     pub cut-fails : (error : ArgParseError) → FailsToTake values (first_by entry word) rest error → FailsToCut values table old error
     cut-fails UnexpectedEndOfArgs h = reading-at ∙ lack-reads table word (past_dashes old).dashes unseen (past-unstopped old.dashes old.words word rest stand) rest (ap (λ s. taken s rest) (sym is-start) ∙ h)
-    cut-fails (InvalidUnicode w) h = refused h
-    cut-fails (Other t) h = refused h
+    cut-fails (InvalidUnicode w) h = refused (InvalidUnicode w) h
+    cut-fails (Other t) h = refused (Other t) h
     cut-fails Memory h = tt

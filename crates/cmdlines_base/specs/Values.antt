@@ -1,6 +1,7 @@
 -- Arguments with values of a type, and the items that they are of.
-use Rattle.std.specs.Prelude.{◌≡◌, Bool, true, false, List, [], ◌++◌, Option, None, Some, Result, Ok, Err}
+use Rattle.std.specs.Prelude.{◌≡◌, Bool, true, List, [], ◌++◌, Option, None, Some, Result, Ok, Err}
 use Rattle.os_files.specs.Bytes.{Bytes}
+use Rattle.cmdlines_base.specs.Refusal.{Refusal, IsErrorOf}
 use Rattle.cmdlines_base.specs.Table.{Entry}
 use Rattle.cmdlines_base.specs.Reading.{Item, raw, unknown, flag, valued, behind_dashes, is_behind, Start, whole, awaits, ends, Reading, nothing, before}
 use Rattle.cmdlines_base.specs.Cutting.{Place, is_seen, taken, reading_at, past_dashes, IsWrittenAs}
@@ -11,19 +12,24 @@ use Rattle.cmdlines_base.specs.declared.argument_error.ArgParseError.TheVariants
 use Rattle.cmdlines_base.specs.declared.cutting.First.{First}
 use Rattle.cmdlines_base.specs.declared.cutting.First.TheVariants as firsts
 
--- what a type of values makes of a flag and of a word, and which words it refuses
+-- what a type of values makes of a flag and of a word, and why it refuses a word, if it does
 pub record Values (T K : Type 0) : Type 1 where
   pub flag_value : K → T → Type 0
   pub word_value : K → Bytes → T → Type 0
-  pub refuses : K → Bytes → Bool
+  pub refusal : K → Bytes → Option Refusal
 
-abbrev pub values_by : {T K : Type 0} → (K → T → Type 0) → (K → Bytes → T → Type 0) → (K → Bytes → Bool) → Values T K
-values_by flag_value word_value refuses = record { flag_value = flag_value; word_value = word_value; refuses = refuses }
+abbrev pub values_by : {T K : Type 0} → (K → T → Type 0) → (K → Bytes → T → Type 0) → (K → Bytes → Option Refusal) → Values T K
+values_by flag_value word_value refusal = record { flag_value = flag_value; word_value = word_value; refusal = refusal }
 
 -- whether the item has a kind of value that prints what it reads, or none
 abbrev pub is_given_back : {K : Type 0} → (K → Bool) → Item K → Bool
 is_given_back gives_back (valued f k w d) = gives_back k
 is_given_back gives_back _ = true
+
+-- the word in which the item's value stands
+abbrev pub value_word : {K : Type 0} → Item K → Bytes
+value_word (valued f k w d) = w
+value_word _ = []
 
 module _ {T K : Type 0} (values : Values T K) where
   -- the argument is that item, with its value
@@ -35,46 +41,50 @@ module _ {T K : Type 0} (values : Values T K) where
   IsOf (valued f k w d) (arguments.WithValue g t e) = (g.now ≡ f) × values.word_value k w t × (e ≡ d)
   IsOf _ _ = ⊥
 
-  -- whether the item's value is refused
-  abbrev pub is_refused : Item K → Bool
-  is_refused (raw w) = false
-  is_refused (unknown w) = false
-  is_refused (flag f k) = false
-  is_refused (valued f k w d) = values.refuses k w
-  is_refused (behind_dashes w) = false
+  -- why the item's value is refused, if it is
+  abbrev pub refusal_of : Item K → Option Refusal
+  refusal_of (raw w) = None
+  refusal_of (unknown w) = None
+  refusal_of (flag f k) = None
+  refusal_of (valued f k w d) = values.refusal k w
+  refusal_of (behind_dashes w) = None
+
+  -- the error says why the item has no value
+  abbrev pub IsErrorOn : Item K → ArgParseError → Type 0
+  IsErrorOn item error = IsErrorOf (refusal_of item) (value_word item) error
 
   -- what a first word makes, with its value
   abbrev pub IsFirst : Start K → First T K → Type 0
-  IsFirst (whole a) (firsts.Whole argument) = IsOf a argument × (is_refused a ≡ false)
+  IsFirst (whole a) (firsts.Whole argument) = IsOf a argument × (refusal_of a ≡ None)
   IsFirst (awaits f k d) (firsts.Awaits g l e) = (g.now ≡ f) × (l ≡ k) × (e ≡ d)
   IsFirst _ _ = ⊥
 
-  -- it is an item whose value is refused
-  abbrev pub IsRefused : Start K → Type 0
-  IsRefused (whole a) = is_refused a ≡ true
-  IsRefused (awaits f k d) = ⊥
-  IsRefused ends = ⊥
+  -- the error says why it makes no item with a value
+  abbrev pub IsRefused : Start K → ArgParseError → Type 0
+  IsRefused (whole a) error = IsErrorOn a error
+  IsRefused (awaits f k d) error = IsErrorOf None [] error
+  IsRefused ends error = IsErrorOf None [] error
 
   -- What a start and the words behind its word make: an argument with its value, and the words that are left.
   pub record Takes (start : Start K) (rest : List Bytes) (argument : Argument T) (left : List Bytes) : Type 0 where
     pub item : Item K
     pub takes : taken start rest ≡ Some (item, left)
     pub is : IsOf item argument
-    pub accepted : is_refused item ≡ false
+    pub accepted : refusal_of item ≡ None
 
-  -- the item that they make has a value that is refused
-  pub record TakesRefused (start : Start K) (rest : List Bytes) : Type 0 where
+  -- the item that they make has a value that is refused with this error
+  pub record TakesRefused (start : Start K) (rest : List Bytes) (error : ArgParseError) : Type 0 where
     pub item : Item K
     pub left : List Bytes
     pub takes : taken start rest ≡ Some (item, left)
-    pub refused : is_refused item ≡ true
+    pub refused : IsErrorOn item error
 
   -- why they make no argument
   abbrev pub FailsToTake : Start K → List Bytes → ArgParseError → Type 0
   FailsToTake start rest UnexpectedEndOfArgs = taken start rest ≡ None
   FailsToTake start rest Memory = Unit {0}
-  FailsToTake start rest (InvalidUnicode word) = TakesRefused start rest
-  FailsToTake start rest (Other text) = TakesRefused start rest
+  FailsToTake start rest (InvalidUnicode word) = TakesRefused start rest (InvalidUnicode word)
+  FailsToTake start rest (Other reason) = TakesRefused start rest (Other reason)
 
   -- One argument is cut: it is the first item of the reading of what was left, and some words are consumed for it.
   pub record Cuts (table : List (Entry K)) (old : Place) (argument : Argument T) (new : Place) : Type 0 where
@@ -86,21 +96,21 @@ module _ {T K : Type 0} (values : Values T K) where
     pub written : IsWrittenAs item consumed
     pub behind : is_behind item ≡ is_seen new.dashes
     pub is : IsOf item argument
-    pub accepted : is_refused item ≡ false
+    pub accepted : refusal_of item ≡ None
 
-  -- the first item of the reading has a value that is refused
-  pub record CutsRefused (table : List (Entry K)) (old : Place) : Type 0 where
+  -- the first item of the reading has a value that is refused with this error
+  pub record CutsRefused (table : List (Entry K)) (old : Place) (error : ArgParseError) : Type 0 where
     pub item : Item K
     pub rest : Reading K
     pub reads : reading_at table old ≡ before item rest
-    pub refused : is_refused item ≡ true
+    pub refused : IsErrorOn item error
 
   -- why no argument is cut
   abbrev pub FailsToCut : List (Entry K) → Place → ArgParseError → Type 0
   FailsToCut table old UnexpectedEndOfArgs = reading_at table old ≡ record { items = []; cut_short = true }
   FailsToCut table old Memory = Unit {0}
-  FailsToCut table old (InvalidUnicode word) = CutsRefused table old
-  FailsToCut table old (Other text) = CutsRefused table old
+  FailsToCut table old (InvalidUnicode word) = CutsRefused table old (InvalidUnicode word)
+  FailsToCut table old (Other reason) = CutsRefused table old (Other reason)
 
   -- no words are left behind double dashes that stood there
   abbrev pub IsAtEnd : Place → Place → Type 0

@@ -4,7 +4,7 @@ use os_files::listed::Listed;
 use os_files::os_bytes::OsBytes;
 
 /// What is run: an executable with its words, in a directory, under an environment.
-#[derive(Drop)]
+#[derive(Clone, Debug, Drop, PartialEq, Eq)]
 pub struct SingleCompileCommand {
     pub executable: OsBytes,
     pub arguments: Listed<OsBytes>,
@@ -13,7 +13,7 @@ pub struct SingleCompileCommand {
 }
 
 /// Where an output goes, and whether a compile may leave it out.
-#[derive(Drop)]
+#[derive(Clone, Debug, Drop, PartialEq, Eq)]
 pub struct ArtifactDescriptor {
     pub path: OsBytes,
     pub optional: bool,

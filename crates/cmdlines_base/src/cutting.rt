@@ -1,9 +1,9 @@
 //! Words cut into arguments by a table.
 
-ghost use Rattle.std.specs.Prelude.{◌≡◌, List, [], length, ◌≤◌, IfOk, OnOk, IfErr, Bool, false, true};
+ghost use Rattle.std.specs.Prelude.{◌≡◌, List, [], length, ◌≤◌, None, IfOk, OnOk, IfErr, Bool};
 ghost use Rattle.std.specs.Iterator.{at_most};
 ghost use Rattle.os_files.specs.Bytes.{Bytes};
-ghost use Rattle.cmdlines_base.specs.Refusal.{OnRefusal};
+ghost use Rattle.cmdlines_base.specs.Refusal.{IsErrorOf};
 ghost use Rattle.cmdlines_base.specs.Table.{Entry, entry_at, all_entries, longest_fit};
 ghost use Rattle.cmdlines_base.specs.Reading.{valued, loose, value_in, first_by, reading, Reading, Reads, is_double_dash};
 ghost use Rattle.cmdlines_base.specs.Cutting.{place_of, table_in, past_dashes, is_seen, taken};
@@ -26,7 +26,7 @@ pub enum First<T: ArgumentValue> {
 
 /// A word that fits no entry.
 fn loose<T: ArgumentValue>(alloc: Global, word: &[u8]) -> Result<Argument<T>, AllocError>
-    ensures { IfOk result (λ argument. IsOf (values_by T.flag_value T.word_value T.refuses) (loose word.now) argument) }
+    ensures { IfOk result (λ argument. IsOf (values_by T.flag_value T.word_value T.refusal) (loose word.now) argument) }
 {
     let bytes = OsBytes::from_slice(alloc, word)?;
     if word.first().copied() == Some(b'-') {
@@ -57,9 +57,9 @@ fn with_value<T: ArgumentValue>(
     word: &[u8],
     disposition: ArgDisposition,
 ) -> ArgParseResult<Argument<T>>
-    ensures value { IfOk result (IsOf (values_by T.flag_value T.word_value T.refuses) (valued flag.entry.now kind word.now disposition)) }
-    ensures accepted { OnOk result (T.refuses kind word.now ≡ false) }
-    ensures refused { IfErr result (λ e. OnRefusal e (T.refuses kind word.now ≡ true)) }
+    ensures value { IfOk result (IsOf (values_by T.flag_value T.word_value T.refusal) (valued flag.entry.now kind word.now disposition)) }
+    ensures accepted { OnOk result (T.refusal kind word.now ≡ None) }
+    ensures refused { IfErr result (IsErrorOf (T.refusal kind word.now) word.now) }
 {
     let value = T::of_word(alloc, kind, word)?;
     Ok(Argument::WithValue(flag, value, disposition))
@@ -71,8 +71,8 @@ fn first_by<T: ArgumentValue>(
     entry: Option<&ArgInfo<T>>,
     word: &[u8],
 ) -> ArgParseResult<First<T>>
-    ensures first { IfOk result (IsFirst (values_by T.flag_value T.word_value T.refuses) (first_by (entry_at entry.entry) word.now)) }
-    ensures refused { IfErr result (λ e. OnRefusal e (IsRefused (values_by T.flag_value T.word_value T.refuses) (first_by (entry_at entry.entry) word.now))) }
+    ensures first { IfOk result (IsFirst (values_by T.flag_value T.word_value T.refusal) (first_by (entry_at entry.entry) word.now)) }
+    ensures refused { IfErr result (IsRefused (values_by T.flag_value T.word_value T.refusal) (first_by (entry_at entry.entry) word.now)) }
 {
     match entry {
         None => Ok(First::Whole(loose(alloc, word)?)),
@@ -110,9 +110,9 @@ fn first_argument<'a, T: ArgumentValue>(
     word: &[u8],
     rest: &'a [OsBytes],
 ) -> ArgParseResult<(Argument<T>, &'a [OsBytes])>
-    ensures takes { IfOk result (λ found. Takes (values_by T.flag_value T.word_value T.refuses) (first_by (entry_at entry.entry) word.now) rest.now found.0 found.1.now) }
+    ensures takes { IfOk result (λ found. Takes (values_by T.flag_value T.word_value T.refusal) (first_by (entry_at entry.entry) word.now) rest.now found.0 found.1.now) }
     ensures fewer { IfOk result (λ found. length found.1.now ≤ length rest.now) }
-    ensures fails { IfErr result (FailsToTake (values_by T.flag_value T.word_value T.refuses) (first_by (entry_at entry.entry) word.now) rest.now) }
+    ensures fails { IfErr result (FailsToTake (values_by T.flag_value T.word_value T.refusal) (first_by (entry_at entry.entry) word.now) rest.now) }
 {
     match first_by(alloc, entry, word)? {
         First::Whole(argument) => Ok((argument, rest)),
@@ -209,7 +209,7 @@ impl<'a, T: ArgumentValue, S: SearchableArgInfo<T>> ArgsIter<'a, T, S> {
 impl<'a, T: ArgumentValue, S: SearchableArgInfo<T>> Iterator for ArgsIter<'a, T, S> {
     type Item = ArgParseResult<Argument<T>>;
 
-    ghost next_gives = { λ s r t. Steps (values_by T.flag_value T.word_value T.refuses) (all_entries (S.tables (table_in s))) (place_of s) r (place_of t) × (table_in t ≡ table_in s) };
+    ghost next_gives = { λ s r t. Steps (values_by T.flag_value T.word_value T.refusal) (all_entries (S.tables (table_in s))) (place_of s) r (place_of t) × (table_in t ≡ table_in s) };
 
     ghost remaining = { λ s. at_most (length (place_of s).words) };
 

@@ -226,5 +226,5 @@ pub fn arguments_print_one_or_two_words<T: IntoArg>()
 
 /// The argument that was made of an item prints the words of that item, where its kind prints what it reads.
 pub fn arguments_print_what_was_read<T: ArgumentValue>()
-    ensures { (item : Item T.Kind) (argument : Argument T) → IsOf (values_by T.flag_value T.word_value T.refuses) item argument → is_given_back T.gives_back item ≡ true → argument_words T.word argument ≡ printed item }
+    ensures { (item : Item T.Kind) (argument : Argument T) → IsOf (values_by T.flag_value T.word_value T.refusal) item argument → is_given_back T.gives_back item ≡ true → argument_words T.word argument ≡ printed item }
 {}

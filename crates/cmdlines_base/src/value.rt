@@ -1,9 +1,9 @@
 //! Values of arguments: what is read from a word, and printed as a word or a text again.
 
-ghost use Rattle.std.specs.Prelude.{◌≡◌, Bool, true, false, Option, IfOk, IfErr, OnOk, string_bytes};
+ghost use Rattle.std.specs.Prelude.{◌≡◌, Bool, true, false, Option, None, IfOk, IfErr, OnOk, string_bytes};
 ghost use Rattle.std.specs.Str.{is_utf8};
 ghost use Rattle.os_files.specs.Bytes.{Bytes};
-ghost use Rattle.cmdlines_base.specs.Refusal.{OnRefusal};
+ghost use Rattle.cmdlines_base.specs.Refusal.{Refusal, IsErrorOf};
 ghost use Rattle.cmdlines_base.specs.Texts.{WordText, PathText, ValueText};
 
 use crate::argument_error::{ArgParseError, ArgParseResult, ArgToStringError, ArgToStringResult};
@@ -15,14 +15,14 @@ pub trait FromArg: Drop {
     /// What the word makes.
     ghost reads: { Bytes → Self → Type 0 };
 
-    /// Whether the word makes no value.
-    ghost rejects: { Bytes → Bool };
+    /// Why the word makes no value, if it makes none.
+    ghost refusal: { Bytes → Option Refusal };
 
     /// The value in the word.
     fn process(arg: OsBytes) -> ArgParseResult<Self>
         ensures value { IfOk result (reads arg) }
-        ensures accepted { OnOk result (rejects arg ≡ false) }
-        ensures refused { IfErr result (λ e. OnRefusal e (rejects arg ≡ true)) };
+        ensures accepted { OnOk result (refusal arg ≡ None) }
+        ensures refused { IfErr result (IsErrorOf (refusal arg) arg) };
 }
 
 /// A value that is printed.
@@ -59,8 +59,8 @@ pub trait ArgumentValue: IntoArg {
     /// What an option of that kind is with that word for its value.
     ghost word_value: { Self.Kind → Bytes → Self → Type 0 };
 
-    /// Whether an option of that kind doesn't take that word.
-    ghost refuses: { Self.Kind → Bytes → Bool };
+    /// Why an option of that kind doesn't take that word, if it doesn't.
+    ghost refusal: { Self.Kind → Bytes → Option Refusal };
 
     /// Whether an option of that kind prints the word that was read.
     ghost gives_back: { Self.Kind → Bool };
@@ -72,8 +72,8 @@ pub trait ArgumentValue: IntoArg {
     /// The value in a word.
     fn of_word(alloc: Global, kind: Self::Kind, word: &[u8]) -> ArgParseResult<Self>
         ensures value { IfOk result (word_value kind word.now) }
-        ensures accepted { OnOk result (refuses kind word.now ≡ false) }
-        ensures refused { IfErr result (λ e. OnRefusal e (refuses kind word.now ≡ true)) };
+        ensures accepted { OnOk result (refusal kind word.now ≡ None) }
+        ensures refused { IfErr result (IsErrorOf (refusal kind word.now) word.now) };
 
     /// Printing what was read gives the word, where the kind says so.
     ghost prints_what_it_reads: { (kind : Self.Kind) (read : Bytes) (value : Self) → gives_back kind ≡ true → word_value kind read value → Self.word value ≡ read };
@@ -126,11 +126,11 @@ pub fn path_to_string<F: FnMut(&[u8]) -> Option<String>>(
 
 /// Bytes, whatever they are.
 impl FromArg for OsBytes {
-    ghost use Rattle.std.specs.Prelude.{◌≡◌, false};
+    ghost use Rattle.std.specs.Prelude.{◌≡◌, None};
 
     ghost reads = { λ arg value. value ≡ arg };
 
-    ghost rejects = { λ _. false };
+    ghost refusal = { λ _. None };
 
     fn process(arg: OsBytes) -> ArgParseResult<OsBytes> {
         Ok(arg)
@@ -159,7 +159,7 @@ impl IntoArg for OsBytes {
 
 /// A word; a flag has the empty one.
 impl ArgumentValue for OsBytes {
-    ghost use Rattle.std.specs.Prelude.{◌≡◌, [], true, false};
+    ghost use Rattle.std.specs.Prelude.{◌≡◌, [], true, None};
 
     type Kind = ();
 
@@ -167,7 +167,7 @@ impl ArgumentValue for OsBytes {
 
     ghost word_value = { λ _ word value. value ≡ word };
 
-    ghost refuses = { λ _ _. false };
+    ghost refusal = { λ _ _. None };
 
     ghost gives_back = { λ _. true };
 
@@ -184,12 +184,12 @@ impl ArgumentValue for OsBytes {
 
 /// A word that is text.
 impl FromArg for String {
-    ghost use Rattle.std.specs.Prelude.{◌≡◌, not, string_bytes};
-    ghost use Rattle.std.specs.Str.{is_utf8};
+    ghost use Rattle.std.specs.Prelude.{◌≡◌, string_bytes};
+    ghost use Rattle.cmdlines_base.specs.Refusal.{unless_text};
 
     ghost reads = { λ arg value. string_bytes value ≡ arg };
 
-    ghost rejects = { λ arg. not (is_utf8 arg) };
+    ghost refusal = { unless_text };
 
     fn process(arg: OsBytes) -> ArgParseResult<String> {
         match into_text(arg) {
@@ -221,8 +221,8 @@ impl IntoArg for String {
 
 /// A word that is text; a flag has the empty one.
 impl ArgumentValue for String {
-    ghost use Rattle.std.specs.Prelude.{◌≡◌, [], not, true, string_bytes};
-    ghost use Rattle.std.specs.Str.{is_utf8};
+    ghost use Rattle.std.specs.Prelude.{◌≡◌, [], true, string_bytes};
+    ghost use Rattle.cmdlines_base.specs.Refusal.{unless_text};
 
     type Kind = ();
 
@@ -230,7 +230,7 @@ impl ArgumentValue for String {
 
     ghost word_value = { λ _ word value. string_bytes value ≡ word };
 
-    ghost refuses = { λ _ word. not (is_utf8 word) };
+    ghost refusal = { λ _ word. unless_text word };
 
     ghost gives_back = { λ _. true };
 
@@ -247,11 +247,11 @@ impl ArgumentValue for String {
 
 /// Nothing: what was read isn't kept.
 impl FromArg for () {
-    ghost use Rattle.std.specs.Prelude.{⊤, false};
+    ghost use Rattle.std.specs.Prelude.{⊤, None};
 
     ghost reads = { λ _ _. ⊤ };
 
-    ghost rejects = { λ _. false };
+    ghost refusal = { λ _. None };
 
     fn process(_arg: OsBytes) -> ArgParseResult<()> {
         Ok(())
@@ -280,7 +280,7 @@ impl IntoArg for () {
 
 /// No value; the word of an option isn't kept, so that it isn't printed again.
 impl ArgumentValue for () {
-    ghost use Rattle.std.specs.Prelude.{⊤, false};
+    ghost use Rattle.std.specs.Prelude.{⊤, false, None};
 
     type Kind = ();
 
@@ -288,7 +288,7 @@ impl ArgumentValue for () {
 
     ghost word_value = { λ _ _ _. ⊤ };
 
-    ghost refuses = { λ _ _. false };
+    ghost refusal = { λ _ _. None };
 
     ghost gives_back = { λ _. false };
 

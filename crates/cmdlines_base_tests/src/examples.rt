@@ -1,8 +1,9 @@
 //! Values and a table for the tests.
 
-ghost use Rattle.std.specs.Prelude.{◌≡◌, ◌&&◌, ◌||◌, ◌==◌, not, length, [], None, Some, true, unwrap_or, if◌then◌else◌};
+ghost use Rattle.std.specs.Prelude.{◌≡◌, ◌==◌, length, [], None, Some, true, codes, unwrap_or, if◌then◌else◌};
 ghost use Rattle.std.proofs.Common.{ap};
 ghost use Rattle.std.specs.Str.{is_utf8};
+ghost use Rattle.cmdlines_base.specs.Refusal.{because, unless_text};
 
 use cmdlines_base::argument::ArgDisposition;
 use cmdlines_base::argument_error::{ArgParseError, ArgParseResult, ArgToStringResult};
@@ -87,7 +88,7 @@ impl ArgumentValue for Value {
 
     ghost word_value = { λ _ word value. value.word ≡ Some word };
 
-    ghost refuses = { λ kind word. kind.only_text && (length word == 0 || not (is_utf8 word)) };
+    ghost refusal = { λ kind word. if kind.only_text then (if length word == 0 then Some (because (codes "empty")) else unless_text word) else None };
 
     ghost gives_back = { λ _. true };
 

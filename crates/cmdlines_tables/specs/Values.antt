@@ -1,7 +1,8 @@
 -- The arguments of a C compiler, as items.
-use Rattle.std.specs.Prelude.{◌≡◌, Bool, true, false, []}
+use Rattle.std.specs.Prelude.{◌≡◌, Bool, true, false, [], Option, None}
 use Rattle.os_files.specs.Bytes.{Bytes}
 use Rattle.cmdlines_base.specs.Reading.{Item, raw, unknown, flag, valued, behind_dashes}
+use Rattle.cmdlines_base.specs.Refusal.{Refusal}
 use Rattle.cmdlines_base.specs.declared.argument.Argument.{Argument}
 use Rattle.cmdlines_base.specs.declared.argument.Argument.TheVariants as arguments
 use Rattle.cmdlines_tables.specs.declared.kind.ArgKind.{ArgKind}
@@ -23,8 +24,8 @@ IsFlag kind value = value ≡ values.Flag kind
 abbrev pub IsValue : ArgKind → Bytes → ArgData → Type 0
 IsValue kind word value = value ≡ values.Value kind word
 
-abbrev pub never : ArgKind → Bytes → Bool
-never kind word = false
+abbrev pub never : ArgKind → Bytes → Option Refusal
+never kind word = None
 
 -- an argument, without where its flag lies in memory, and where it stands: behind double dashes that end the options, or not
 abbrev pub placed : Bool → Argument ArgData → Item ArgKind

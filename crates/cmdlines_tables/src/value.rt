@@ -10,7 +10,7 @@ use os_files::os_bytes::OsBytes;
 use std::alloc::{AllocError, Global};
 
 /// The value of an argument: its kind, and its word where it takes one.
-#[derive(Drop)]
+#[derive(Clone, Debug, Drop, PartialEq, Eq)]
 pub enum ArgData {
     Flag(ArgKind),
     Value(ArgKind, OsBytes),
@@ -48,7 +48,7 @@ impl ArgumentValue for ArgData {
 
     ghost word_value = { IsValue };
 
-    ghost refuses = { never };
+    ghost refusal = { never };
 
     ghost gives_back = { λ _. true };
 

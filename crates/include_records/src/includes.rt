@@ -1,6 +1,6 @@
 //! What is recorded of files.
 
-ghost use Rattle.std.specs.Prelude.{◌≡◌, IfOk, IfErr, OnOk, None, Some, if◌then◌else◌};
+ghost use Rattle.std.specs.Prelude.{◌≡◌, IfOk, IfErr, OnOk, None, Some, if◌then◌else◌, IsErrOf};
 ghost use Rattle.os_files.specs.Fails.{FailsOn};
 ghost use Rattle.response_files.specs.Causes.{CauseOf};
 ghost use Rattle.include_records.specs.Surroundings.{contents_in, include_with, includes_of, lacks_day, path_at, place_with};
@@ -9,9 +9,9 @@ ghost use Rattle.time_macros.specs.Macros as macros;
 
 use crate::entry::IncludeEntry;
 use crate::moments::{day_of, second_at};
-use crate::sighting::{contents_of, digest_of};
+use crate::sighting::digest_of;
 use ckeys_base::hash_state::HashState;
-use os_files::files::Files;
+use os_files::files::{FileFail, Files};
 use os_files::listed::Listed;
 use os_files::os_bytes::OsBytes;
 use os_files::path::join;
@@ -51,14 +51,20 @@ fn include_of<H: HashState, F: Files>(
     ensures cause { IfErr result (CauseOf (FailsOn F.tree F.failed F.fails_on files.old files.new)) }
     ensures tree { F.tree files.new ≡ F.tree files.old }
     ensures steady { OnOk result (F.failed files.new ≡ F.failed files.old) }
+    ensures memory { IsErrOf result ParseFault.Memory → F.failed files.new ≡ F.failed files.old }
 {
     let path = join(alloc, dir.as_bytes(), name.as_bytes())?;
-    let contents = contents_of(alloc, &path, files)?.unwrap_or(OsBytes::empty(alloc));
+    let contents = match files.read(alloc, &path) {
+        Ok(Some(contents)) => contents,
+        Ok(None) => OsBytes::empty(alloc),
+        Err(FileFail::Memory) => return Err(ParseFault::Memory),
+        Err(FileFail::Device) => return Err(ParseFault::Read(path)),
+    };
     let is_dated = holds_date(contents.as_bytes());
     if is_dated && day.is_none() {
         return Ok(None);
     }
-    let second = second_at(alloc, &path, files)?;
+    let second = second_at(alloc, path, files)?;
     Ok(Some(IncludeEntry {
         path: name.clone()?,
         size: contents.as_bytes().len() as u64,
@@ -85,6 +91,7 @@ fn includes_on<H: HashState, F: Files>(
     ensures cause { IfErr result (CauseOf (FailsOn F.tree F.failed F.fails_on files.old files.new)) }
     ensures tree { F.tree files.new ≡ F.tree files.old }
     ensures steady { OnOk result (F.failed files.new ≡ F.failed files.old) }
+    ensures memory { IsErrOf result ParseFault.Memory → F.failed files.new ≡ F.failed files.old }
 {
     let mut list = Listed::new(alloc);
     for name in names {
@@ -113,6 +120,7 @@ pub fn includes_of<H: HashState, F: Files>(
     ensures cause { IfErr result (CauseOf (FailsOn F.tree F.failed F.fails_on files.old files.new)) }
     ensures tree { F.tree files.new ≡ F.tree files.old }
     ensures steady { OnOk result (F.failed files.new ≡ F.failed files.old) }
+    ensures memory { IsErrOf result ParseFault.Memory → F.failed files.new ≡ F.failed files.old }
 {
     includes_on::<H, F>(alloc, dir, day_of(moment, zone), names, files)
 }

@@ -1,6 +1,6 @@
 //! Which text a call prints, told from what is recorded.
 
-ghost use Rattle.std.specs.Prelude.{◌≡◌, IfOk, IfErr, OnOk};
+ghost use Rattle.std.specs.Prelude.{◌≡◌, IfOk, IfErr, OnOk, IsErrOf};
 ghost use Rattle.os_files.specs.Fails.{FailsOn};
 ghost use Rattle.response_files.specs.Causes.{CauseOf};
 ghost use Rattle.include_records.specs.LookUps.{LooksUp, last_there};
@@ -38,6 +38,8 @@ impl PreprocessorCacheEntry {
         ensures cause { IfErr result (CauseOf (FailsOn F.tree F.failed F.fails_on files.old files.new)) }
         ensures tree { F.tree files.new ≡ F.tree files.old }
         ensures steady { OnOk result (F.failed files.new ≡ F.failed files.old) }
+        ensures memory { IsErrOf result ParseFault.Memory →
+            F.failed files.new ≡ F.failed files.old }
     {
         self.last_there::<H, F>(alloc, dir, day_of(moment, zone), files)
     }
@@ -55,6 +57,8 @@ impl PreprocessorCacheEntry {
         ensures cause { IfErr result (CauseOf (FailsOn F.tree F.failed F.fails_on files.old files.new)) }
         ensures tree { F.tree files.new ≡ F.tree files.old }
         ensures steady { OnOk result (F.failed files.new ≡ F.failed files.old) }
+        ensures memory { IsErrOf result ParseFault.Memory →
+            F.failed files.new ≡ F.failed files.old }
     {
         let mut sightings = Sightings::new(alloc);
         let mut left = self.results.len();

@@ -1,6 +1,6 @@
 //! Days and seconds as records have them.
 
-ghost use Rattle.std.specs.Prelude.{◌≡◌, IfOk, IfErr, OnOk};
+ghost use Rattle.std.specs.Prelude.{◌≡◌, IfOk, IfErr, OnOk, IsErrOf};
 ghost use Rattle.os_files.specs.Fails.{FailsOn};
 ghost use Rattle.response_files.specs.Causes.{CauseOf};
 ghost use Rattle.include_records.specs.Surroundings as spec;
@@ -23,16 +23,17 @@ pub fn day_of(moment: i64, zone: &Zone) -> Option<i64>
 /// The second in which what is at a path was last changed, since the start of 1970 in UTC; 0 where nothing is.
 ///
 /// `Read` names the path where the device failed on it.
-pub fn second_at<F: Files>(alloc: Global, path: &OsBytes, files: &mut F) -> Result<i64, ParseFault>
-    ensures second { IfOk result (λ second. second ≡ spec.second_at (F.tree files.old) path.now) }
+pub fn second_at<F: Files>(alloc: Global, path: OsBytes, files: &mut F) -> Result<i64, ParseFault>
+    ensures second { IfOk result (λ second. second ≡ spec.second_at (F.tree files.old) path) }
     ensures cause { IfErr result (CauseOf (FailsOn F.tree F.failed F.fails_on files.old files.new)) }
     ensures tree { F.tree files.new ≡ F.tree files.old }
     ensures steady { OnOk result (F.failed files.new ≡ F.failed files.old) }
+    ensures memory { IsErrOf result ParseFault.Memory → F.failed files.new ≡ F.failed files.old }
 {
-    match files.metadata(alloc, path) {
+    match files.metadata(alloc, &path) {
         Ok(Some(metadata)) => Ok(metadata.mtime.seconds),
         Ok(None) => Ok(0),
         Err(FileFail::Memory) => Err(ParseFault::Memory),
-        Err(FileFail::Device) => Err(ParseFault::Read(path.clone()?)),
+        Err(FileFail::Device) => Err(ParseFault::Read(path)),
     }
 }

@@ -1,10 +1,9 @@
 //! What is seen of files during one look-up: each is read once.
 
-ghost use Rattle.std.specs.Prelude.{◌≡◌, ℤ, Option, IfOk, IfErr, OnOk};
+ghost use Rattle.std.specs.Prelude.{◌≡◌, ℤ, Option, IfOk, IfErr, OnOk, IsErrOf};
 ghost use Rattle.os_files.specs.Bytes.{Bytes};
 ghost use Rattle.os_files.specs.Fails.{FailsOn};
 ghost use Rattle.os_files.specs.Path.{join};
-ghost use Rattle.os_files.specs.Tree.{contents_at};
 ghost use Rattle.ckeys_base.specs.Hex.{hex_of};
 ghost use Rattle.response_files.specs.Causes.{CauseOf};
 ghost use Rattle.include_records.specs.Sightings.{AreTrue, fits_seen, seen_at};
@@ -37,24 +36,6 @@ pub(crate) struct Sightings {
     pub(crate) by_name: HashMap<OsBytes, Option<Seen>>,
 }
 
-/// The contents of the regular file at a path.
-pub(crate) fn contents_of<F: Files>(
-    alloc: Global,
-    path: &OsBytes,
-    files: &mut F,
-) -> Result<Option<OsBytes>, ParseFault>
-    ensures contents { IfOk result (λ found. found ≡ contents_at (F.tree files.old) path.now) }
-    ensures cause { IfErr result (CauseOf (FailsOn F.tree F.failed F.fails_on files.old files.new)) }
-    ensures tree { F.tree files.new ≡ F.tree files.old }
-    ensures steady { OnOk result (F.failed files.new ≡ F.failed files.old) }
-{
-    match files.read(alloc, path) {
-        Ok(found) => Ok(found),
-        Err(FileFail::Memory) => Err(ParseFault::Memory),
-        Err(FileFail::Device) => Err(ParseFault::Read(path.clone()?)),
-    }
-}
-
 /// The text of the digest of these bytes.
 pub(crate) fn digest_of<H: HashState>(alloc: Global, bytes: &[u8]) -> Result<KeyText, AllocError>
     ensures { IfOk result (λ text. text ≡ hex_of (H.digest_of bytes.now)) }
@@ -76,12 +57,16 @@ fn look_at<H: HashState, F: Files>(
     ensures cause { IfErr result (CauseOf (FailsOn F.tree F.failed F.fails_on files.old files.new)) }
     ensures tree { F.tree files.new ≡ F.tree files.old }
     ensures steady { OnOk result (F.failed files.new ≡ F.failed files.old) }
+    ensures memory { IsErrOf result ParseFault.Memory → F.failed files.new ≡ F.failed files.old }
 {
     let path = join(alloc, dir.as_bytes(), name.as_bytes())?;
-    let Some(contents) = contents_of(alloc, &path, files)? else {
-        return Ok(None);
+    let contents = match files.read(alloc, &path) {
+        Ok(Some(contents)) => contents,
+        Ok(None) => return Ok(None),
+        Err(FileFail::Memory) => return Err(ParseFault::Memory),
+        Err(FileFail::Device) => return Err(ParseFault::Read(path)),
     };
-    let second = second_at(alloc, &path, files)?;
+    let second = second_at(alloc, path, files)?;
     let digest = digest_of::<H>(alloc, contents.as_bytes())?;
     Ok(Some(Seen {
         size: contents.as_bytes().len() as u64,
@@ -142,6 +127,8 @@ impl Sightings {
         ensures cause { IfErr result (CauseOf (FailsOn F.tree F.failed F.fails_on files.old files.new)) }
         ensures tree { F.tree files.new ≡ F.tree files.old }
         ensures steady { OnOk result (F.failed files.new ≡ F.failed files.old) }
+        ensures memory { IsErrOf result ParseFault.Memory →
+            F.failed files.new ≡ F.failed files.old }
     {
         if let Some(seen) = self.by_name.get(&include.path) {
             return Ok(fits_seen(day, include, seen));
@@ -168,6 +155,8 @@ impl Sightings {
         ensures cause { IfErr result (CauseOf (FailsOn F.tree F.failed F.fails_on files.old files.new)) }
         ensures tree { F.tree files.new ≡ F.tree files.old }
         ensures steady { OnOk result (F.failed files.new ≡ F.failed files.old) }
+        ensures memory { IsErrOf result ParseFault.Memory →
+            F.failed files.new ≡ F.failed files.old }
     {
         for include in includes {
             if !self.is_there::<H, F>(alloc, dir, day, include, files)? {

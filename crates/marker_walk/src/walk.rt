@@ -1,6 +1,6 @@
 //! The walk over the markers of a text.
 
-ghost use Rattle.std.specs.Prelude.{◌≡◌, ◌||◌, true, false, not, if◌then◌else◌, List, ◌∷◌, None, IfOk, IfErr, OnOk};
+ghost use Rattle.std.specs.Prelude.{◌≡◌, ◌||◌, true, false, not, if◌then◌else◌, List, ◌∷◌, None, IfOk, IfErr, OnOk, IsErrOf};
 ghost use Rattle.std.specs.Borrow.{Bor};
 ghost use Rattle.std.specs.Str.{bytes_eq};
 ghost use Rattle.os_files.specs.Bytes.{Bytes};
@@ -84,6 +84,7 @@ fn verdict_on<F: Files>(
     ensures cause { IfErr result (CauseOf (FailsOn F.tree F.failed F.fails_on files.old files.new)) }
     ensures tree { F.tree files.new ≡ F.tree files.old }
     ensures steady { OnOk result (F.failed files.new ≡ F.failed files.old) }
+    ensures memory { IsErrOf result ParseFault.Memory → F.failed files.new ≡ F.failed files.old }
 {
     if name.starts_with(b"<") {
         return Ok(Verdict::Skipped);
@@ -132,6 +133,7 @@ fn take_name<'a, F: Files>(
     ensures cause { IfErr result (CauseOf (FailsOn F.tree F.failed F.fails_on files.old files.new)) }
     ensures tree { F.tree files.new ≡ F.tree files.old }
     ensures steady { OnOk result (F.failed files.new ≡ F.failed files.old) }
+    ensures memory { IsErrOf result ParseFault.Memory → F.failed files.new ≡ F.failed files.old }
 {
     if !seen.comes_first(raw)? {
         return Ok(true);
@@ -166,6 +168,7 @@ pub fn walk<F: Files>(
     ensures cause { IfErr result (CauseOf (FailsOn F.tree F.failed F.fails_on files.old files.new)) }
     ensures tree { F.tree files.new ≡ F.tree files.old }
     ensures steady { OnOk result (F.failed files.new ≡ F.failed files.old) }
+    ensures memory { IsErrOf result ParseFault.Memory → F.failed files.new ≡ F.failed files.old }
 {
     if asks_for_more(text) {
         return Ok(Walk::Refused);

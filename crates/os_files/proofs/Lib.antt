@@ -1,2 +1,3 @@
 pub mod MemoryLookups
 pub mod PieceLaws
+pub mod PathOrder

@@ -1,8 +1,11 @@
 -- Paths as Unix reads them: bytes, cut at slashes.
-use Rattle.std.specs.Prelude.{ℕ, Bool, not, ◌||◌, ◌==◌, nat_eq, if◌then◌else◌, List, [], ◌∷◌, ◌++◌, length, map, filter, Option, None, Some, codes, option_and_then}
+use Rattle.std.specs.Prelude.{ℕ, Bool, not, ◌||◌, ◌==◌, nat_eq, if◌then◌else◌, List, [], ◌∷◌, ◌++◌, length, map, filter, Option, None, Some, unwrap_or, codes, option_and_then}
+use Rattle.std.specs.Cmp.Lexicographic.{slice_cmp}
 use Rattle.std.specs.List.{slice_split, before_first, before_last, after_last, join_with_byte, starts_with, ends_with, last_or}
 use Rattle.std.specs.Option.{option_map_or}
+use Rattle.std.specs.Ordering.{nat_cmp, ordering_then}
 use Rattle.std.specs.Str.{byte, bytes_eq}
+use Rattle.std.specs.declared.cmp.Ordering.{Ordering}
 use Rattle.os_files.specs.Bytes.{Bytes}
 use Rattle.os_files.specs.declared.path.Component.{Component}
 use Rattle.os_files.specs.declared.path.Component.TheVariants.{RootDir, CurDir, ParentDir, Normal}
@@ -63,6 +66,23 @@ name_in root = None
 name_in current = None
 name_in parent = None
 name_in (named name) = Some name
+
+-- the root comes first, then `.`, then `..`, and then names
+abbrev pub rank : Part → ℕ
+rank root = 0
+rank current = 1
+rank parent = 2
+rank (named name) = 3
+
+-- two components by their ranks, and two names by their bytes
+abbrev pub part_cmp : Part → Part → Ordering
+part_cmp p q =
+    let names = slice_cmp nat_cmp (unwrap_or (name_in p) []) (unwrap_or (name_in q) []) in
+    ordering_then (nat_cmp (rank p) (rank q)) names
+
+-- Paths component by component, where a path comes before those that go on behind it. Paths of the same components go by their bytes.
+abbrev pub path_cmp : Bytes → Bytes → Ordering
+path_cmp p q = ordering_then (slice_cmp part_cmp (components p) (components q)) (slice_cmp nat_cmp p q)
 
 -- the last component, where it is a name
 abbrev pub file_name : Bytes → Option Bytes

@@ -2,6 +2,7 @@
 
 ghost use Rattle.std.specs.Prelude.{◌≡◌, ◌==◌, [], ◌∷◌, ◌++◌, length, OnOk, OnErr};
 ghost use Rattle.std.specs.Cmp.Lexicographic.{pointwise, slice_cmp, slice_partial_cmp, lists_per, lists_equiv, lists_po, lists_total, lists_agrees, lists_ties};
+ghost use Rattle.std.specs.List.{AllZip};
 ghost use Rattle.std.specs.Hash as fed;
 ghost use Rattle.std.specs.Hash.{items_Alike};
 
@@ -11,7 +12,7 @@ use std::hash::{Hash, Hasher};
 use std::marker::Model;
 
 /// Items in order.
-#[derive(Drop)]
+#[derive(Debug, Drop)]
 pub struct Listed<T> {
     items: Vec<T>,
 }
@@ -76,6 +77,17 @@ impl<T: Drop> Listed<T> {
     {
         self.items.push(item)?;
         Ok(())
+    }
+}
+
+/// A copy has copies of the items, in order.
+impl<T: Clone> Clone for Listed<T> {
+    ghost is_clone = { λ list copy. AllZip T.is_clone list copy × (length copy ≡ length list) };
+
+    fn clone(&self) -> Result<Listed<T>, AllocError> {
+        Ok(Listed {
+            items: self.items.clone()?,
+        })
     }
 }
 

@@ -1,16 +1,19 @@
 //! Paths as Unix reads them: bytes, cut at slashes.
 
+ghost use Rattle.std.specs.Cmp.{IsTotalOrder};
 ghost use Rattle.std.specs.Prelude.{◌≡◌, ℕ, ◌==◌, ◌-◌, ◌≤◌, not, ◌++◌, ◌∷◌, [], length, map, filter, take, drop, IfOk, IfSome, None};
 ghost use Rattle.std.specs.List.{suffix_len, last_or};
 ghost use Rattle.std.specs.Option.{option_copied, option_map, option_map_or, option_to_list};
+ghost use Rattle.std.specs.declared.cmp.Ordering.TheVariants.{Equal};
 ghost use Rattle.os_files.specs.Bytes.{Bytes};
-ghost use Rattle.os_files.specs.Path.{pieces, counts, part_in, part_of, start_of, join, components, file_name, stem, extension_in, extension, renamed, with_extension};
+ghost use Rattle.os_files.specs.Path.{pieces, counts, part_in, part_of, start_of, join, components, path_cmp, file_name, stem, extension_in, extension, renamed, with_extension};
 
 use crate::os_bytes::OsBytes;
 use std::alloc::{AllocError, Global};
+use std::cmp::Ordering;
 
 /// A component of a path.
-#[derive(Clone, Copy, Debug, PartialEq, Eq)]
+#[derive(Clone, Copy, Debug, PartialEq, Eq, PartialOrd, Ord)]
 pub enum Component<'a> {
     /// The root, where an absolute path begins.
     RootDir,
@@ -91,6 +94,34 @@ pub fn components<'a>(alloc: Global, path: &'a [u8]) -> Result<Vec<Component<'a>
     }
     Ok(list)
 }
+
+/// Whether a path comes before another one: component by component, the root before `.`, `.` before `..`, and `..` before names,
+/// which go by their bytes; a path before those that go on behind it. Paths of the same components go by their bytes.
+pub fn compare_paths(left: &[u8], right: &[u8]) -> Ordering
+    ensures { result ≡ path_cmp left.now right.now }
+{
+    let others = start_of(right).into_iter().chain(
+        right
+            .split(|byte| *byte == b'/')
+            .filter(|name| counts(name))
+            .map(part_in),
+    );
+    start_of(left)
+        .into_iter()
+        .chain(
+            left.split(|byte| *byte == b'/')
+                .filter(|name| counts(name))
+                .map(part_in),
+        )
+        .cmp(others)
+        .then_with(|| left.cmp(right))
+}
+
+/// Any paths stand in one order, and only equal ones tie. A call of it does nothing.
+pub fn paths_have_one_order()
+    ensures total { IsTotalOrder path_cmp }
+    ensures ties { (left right : Bytes) → path_cmp left right ≡ Equal → left ≡ right }
+{}
 
 /// Where the part behind the last such byte begins: 0 where there is none.
 fn behind_last(bytes: &[u8], byte: u8) -> usize

@@ -1,6 +1,9 @@
 //! Whether the clauses of paths say what is meant, by examples worked out by hand.
 
-use os_files::path::{components, extension, file_name, join, with_extension};
+use os_files::path::{
+    compare_paths, components, extension, file_name, join, paths_have_one_order, with_extension,
+};
+use std::cmp::Ordering;
 use std::test::Fail;
 
 #[test]
@@ -81,4 +84,36 @@ fn components_by_example(rt: HostRuntime) -> Result<(), Fail> {
         assert_eq!(rt; shown.as_str(), want, "{path:?}");
     }
     Ok(())
+}
+
+#[test]
+fn paths_in_order(rt: HostRuntime) {
+    paths_have_one_order();
+    let rising = [
+        "",
+        "/",
+        "/.",
+        "/r",
+        "/r/a",
+        ".",
+        "./a",
+        "../y",
+        "a",
+        "a/",
+        "a/./b",
+        "a//b",
+        "a/b",
+        "a/b-c",
+        "a-b",
+        "a.b",
+        "lib/x.rlib",
+        "lib-y.rlib",
+        "lib.rlib",
+    ];
+    for (place, left) in rising.iter().enumerate() {
+        for (other, right) in rising.iter().enumerate() {
+            let order = compare_paths(left.as_bytes(), right.as_bytes());
+            assert_eq!(rt; order, place.cmp(&other), "{left:?} and {right:?}");
+        }
+    }
 }

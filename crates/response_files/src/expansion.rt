@@ -1,6 +1,6 @@
 //! Words with the files that they name opened.
 
-ghost use Rattle.std.specs.Prelude.{◌≡◌, ◌++◌, IfOk, IfErr, OnOk};
+ghost use Rattle.std.specs.Prelude.{◌≡◌, ◌++◌, IfOk, IfErr, OnOk, IsErrOf};
 ghost use Rattle.os_files.specs.Bytes.{Bytes};
 ghost use Rattle.os_files.specs.Fails.{FailsOn};
 ghost use Rattle.response_files.specs.Causes.{CauseOf};
@@ -32,6 +32,7 @@ fn expand_onto<F: Files>(
     ensures cause { IfErr result (CauseOf (FailsOn F.tree F.failed F.fails_on files.old files.new)) }
     ensures tree { F.tree files.new ≡ F.tree files.old }
     ensures steady { OnOk result (F.failed files.new ≡ F.failed files.old) }
+    ensures memory { IsErrOf result ParseFault.Memory → F.failed files.new ≡ F.failed files.old }
 {
     for word in words {
         match opened_by(alloc, style, dir, chain, files, word)? {
@@ -59,6 +60,7 @@ pub fn expand<F: Files>(
     ensures cause { IfErr result (CauseOf (FailsOn F.tree F.failed F.fails_on files.old files.new)) }
     ensures tree { F.tree files.new ≡ F.tree files.old }
     ensures steady { OnOk result (F.failed files.new ≡ F.failed files.old) }
+    ensures memory { IsErrOf result ParseFault.Memory → F.failed files.new ≡ F.failed files.old }
 {
     let mut chain = Chain::new(alloc);
     let mut out = Vec::new(alloc);

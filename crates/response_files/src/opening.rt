@@ -1,6 +1,6 @@
 //! What one word opens.
 
-ghost use Rattle.std.specs.Prelude.{◌≡◌, IfOk, IfErr, OnOk};
+ghost use Rattle.std.specs.Prelude.{◌≡◌, IfOk, IfErr, OnOk, IsErrOf};
 ghost use Rattle.os_files.specs.Fails.{FailsOn};
 ghost use Rattle.response_files.specs.Causes.{CauseOf};
 ghost use Rattle.response_files.specs.Chains.{is_open};
@@ -35,6 +35,7 @@ pub(crate) fn opened_by<F: Files>(
     ensures cause { IfErr result (CauseOf (FailsOn F.tree F.failed F.fails_on files.old files.new)) }
     ensures tree { F.tree files.new ≡ F.tree files.old }
     ensures steady { OnOk result (F.failed files.new ≡ F.failed files.old) }
+    ensures memory { IsErrOf result ParseFault.Memory → F.failed files.new ≡ F.failed files.old }
 {
     let Some(name) = style.path(alloc, dir, word.as_bytes())? else {
         return Ok(None);

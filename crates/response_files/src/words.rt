@@ -1,7 +1,8 @@
 //! Words with their files opened, one after another.
 
-ghost use Rattle.std.specs.Prelude.{◌≡◌, length};
+ghost use Rattle.std.specs.Prelude.{◌≡◌, [], ◌∷◌, length, Err, IsOk};
 ghost use Rattle.std.specs.Iterator.{at_most};
+ghost use Rattle.std.specs.List.{AllByRecursion};
 ghost use Rattle.os_files.specs.Fails.{FailsOn};
 ghost use Rattle.response_files.specs.Expansion.{expanded};
 ghost use Rattle.response_files.specs.declared.style.Style.{Style};
@@ -43,6 +44,11 @@ impl<S: Opens> ExpandedWords<S> {
     ) -> ExpandedWords<S>
         ensures gives { Gives (items_left result) (expanded S.style dir.now (F.tree files.old) words.now) (FailsOn F.tree F.failed F.fails_on files.old files.new) }
         ensures tree { F.tree files.new ≡ F.tree files.old }
+        // No device failed where words come, nor where memory was refused.
+        ensures steady { AllByRecursion IsOk (items_left result) →
+            F.failed files.new ≡ F.failed files.old }
+        ensures memory { items_left result ≡ Err ParseFault.Memory ∷ [] →
+            F.failed files.new ≡ F.failed files.old }
     {
         match expand(alloc, S::style(), dir, words, files) {
             Ok(words) => ExpandedWords {

@@ -3,7 +3,9 @@
 use os_files::os_bytes::OsBytes;
 use response_texts::decoding::decode_response_text;
 use response_texts::gnu::split_gnu_response_file_args;
-use response_texts::laws::{gnu_texts_have_one_reading, msvc_texts_have_one_reading};
+use response_texts::laws::{
+    empty_quotes_are_an_argument, gnu_texts_have_one_reading, msvc_texts_have_one_reading,
+};
 use response_texts::msvc::SplitMsvcResponseFileArgs;
 use std::alloc::{AllocError, Global};
 use std::process::Abort;
@@ -52,6 +54,7 @@ fn gnu_arguments(rt: HostRuntime) -> Result<(), Fail> {
 fn msvc_arguments_by_example(rt: HostRuntime) -> Result<(), Fail> {
     let alloc = rt.alloc();
     msvc_texts_have_one_reading();
+    empty_quotes_are_an_argument();
     let rows: [(&str, &[&str]); 9] = [
         (r#"a\\"b c" "" x\"y"#, &[r"a\b c", "", r#"x"y"#]),
         ("", &[]),

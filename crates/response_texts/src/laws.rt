@@ -1,6 +1,6 @@
 //! Laws of response texts. Calls of them do nothing.
 
-ghost use Rattle.std.specs.Prelude.{◌≡◌, ◌<◌, List, length};
+ghost use Rattle.std.specs.Prelude.{◌≡◌, ◌<◌, ◌∷◌, ◌++◌, [], List, codes, length};
 ghost use Rattle.std.specs.List.{AllByRecursion};
 ghost use Rattle.os_files.specs.Bytes.{Bytes};
 ghost use Rattle.response_texts.specs.Gnu.{IsGnuText};
@@ -18,4 +18,10 @@ pub fn gnu_texts_have_one_reading()
 pub fn msvc_texts_have_one_reading()
     ensures reads { (text : Bytes) → IsMsvcText text (msvc_arguments text) }
     ensures only { (text : Bytes) (arguments : List Bytes) → IsMsvcText text arguments → arguments ≡ msvc_arguments text }
+{}
+
+/// By the MSVC grammar quotes with nothing in them are one empty argument, alone and before further ones.
+pub fn empty_quotes_are_an_argument()
+    ensures alone { msvc_arguments (codes "\"\"") ≡ [] ∷ [] }
+    ensures before { (text : Bytes) → msvc_arguments (codes "\"\" " ++ text) ≡ [] ∷ msvc_arguments text }
 {}

@@ -1,8 +1,9 @@
--- Lists of keys in order: in which order keys are put in, and how often, doesn't matter.
-use Rattle.std.proofs.Common.{◌≡◌, List, [], ◌∷◌, refl, ap, sym, ◌∙◌, Ordering, Less, Equal, Greater}
+-- Lists of keys in order: they rise strictly and have the keys that were put in; in which order, and how often, doesn't matter.
+use Rattle.std.proofs.Common.{◌≡◌, ◌||◌, Bool, true, false, List, [], ◌∷◌, refl, ap, sym, ◌∙◌, arith, Ordering, Less, Equal, Greater}
 use Rattle.std.specs.BTreeSet.{insert_key}
 use Rattle.std.specs.Cmp.{IsTotalOrder}
-use Rattle.std.specs.List.{fold}
+use Rattle.std.specs.List.{AllByRecursion, fold, list_any}
+use Rattle.std.specs.List.Sorted.{IsStrictlySortedBy}
 use Rattle.std.specs.Ordering.{match_ordering, ordering_reverse}
 use Rattle.std.proofs.lemmas.Cmp.{tied_itself}
 use Rattle.std.proofs.lemmas.Map.Lookups.{CmpEqualImpliesEq}
@@ -87,3 +88,65 @@ module _ {K : Type 0} (cmp : K → K → Ordering) (o : IsTotalOrder cmp) (exact
   pub together : (s t ks : List K) → put-all s (put-all t ks) ≡ put-all (put-all s t) ks
   together s t [] = refl
   together s t (k ∷ ks) = together s (put t k) ks ∙ ap (λ u. put-all u ks) (into s t k)
+
+  all-put : (P : K → Type 0) (xs : List K) (k : K) → AllByRecursion P xs → P k → AllByRecursion P (put xs k)
+  all-put P [] k a p = (p, tt)
+  all-put P (x ∷ xs) k a p = by (cmp k x) (all-put P xs k a.1 p)
+    where
+      by : (r : Ordering) → AllByRecursion P (put xs k) → AllByRecursion P (match_ordering r (k ∷ x ∷ xs) (x ∷ xs) (x ∷ put xs k))
+      by Less later = (p, a)
+      by Equal later = a
+      by Greater later = (a.0, later)
+
+  all-above : (k x : K) → cmp k x ≡ Less → (xs : List K) → AllByRecursion (λ y. cmp x y ≡ Less) xs → AllByRecursion (λ y. cmp k y ≡ Less) xs
+  all-above k x h [] a = tt
+  all-above k x h (y ∷ ys) a = (o.trans k x y h a.0, all-above k x h ys a.1)
+
+  -- a key more
+  rises-put : (xs : List K) (k : K) → IsStrictlySortedBy cmp xs → IsStrictlySortedBy cmp (put xs k)
+  unfolding IsStrictlySortedBy
+  rises-put [] k rises = (tt, tt)
+  rises-put (x ∷ xs) k rises = by (cmp k x) refl (rises-put xs k rises.1)
+    where
+      by : (r : Ordering) → cmp k x ≡ r → IsStrictlySortedBy cmp (put xs k) → IsStrictlySortedBy cmp (match_ordering r (k ∷ x ∷ xs) (x ∷ xs) (x ∷ put xs k))
+      by Less h later = ((h, all-above k x h xs rises.0), rises)
+      by Equal h later = rises
+      by Greater h later = (all-put (λ y. cmp x y ≡ Less) xs k rises.0 (turned k x Greater h), later)
+
+  -- keys that are put in rise strictly
+  pub rises-all : (s ks : List K) → IsStrictlySortedBy cmp s → IsStrictlySortedBy cmp (put-all s ks)
+  rises-all s [] rises = rises
+  rises-all s (k ∷ ks) rises = rises-all (put s k) ks (rises-put s k rises)
+
+  module _ (test : K → Bool) where
+    twice : (a b : Bool) → (a || b) ≡ (a || (a || b))
+    twice true b = refl
+    twice false b = refl
+
+    turned-or : (a b c : Bool) → (a || (b || c)) ≡ (b || (a || c))
+    turned-or true true c = refl
+    turned-or true false c = refl
+    turned-or false b c = refl
+
+    any-put : (xs : List K) (k : K) → list_any test (put xs k) ≡ (test k || list_any test xs)
+    any-put [] k = refl
+    any-put (x ∷ xs) k = by (cmp k x) refl (any-put xs k)
+      where
+        by : (r : Ordering) → cmp k x ≡ r → list_any test (put xs k) ≡ (test k || list_any test xs) → list_any test (match_ordering r (k ∷ x ∷ xs) (x ∷ xs) (x ∷ put xs k)) ≡ (test k || (test x || list_any test xs))
+        by Less h later = refl
+        by Equal h later = twice (test x) (list_any test xs) ∙ ap (λ y. test y || (test x || list_any test xs)) (sym (exact k x h))
+        by Greater h later = ap (λ rest. test x || rest) later ∙ turned-or (test x) (test k) (list_any test xs)
+
+    or-false : (a : Bool) → a ≡ (a || false)
+    or-false true = refl
+    or-false false = refl
+
+    moved : (a b c : Bool) → ((a || b) || c) ≡ (b || (a || c))
+    moved true true c = refl
+    moved true false c = refl
+    moved false b c = refl
+
+    -- and they are those keys
+    pub any-all : (s ks : List K) → list_any test (put-all s ks) ≡ (list_any test s || list_any test ks)
+    any-all s [] = or-false (list_any test s)
+    any-all s (k ∷ ks) = any-all (put s k) ks ∙ ap (λ first. first || list_any test ks) (any-put s k) ∙ moved (test k) (list_any test s) (list_any test ks)

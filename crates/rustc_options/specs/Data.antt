@@ -1,10 +1,11 @@
 -- What rustc's options say: the value of a flag, and of an option with a word.
-use Rattle.std.specs.Prelude.{◌≡◌, Bool, true, false, not, ◌||◌, List, [], ◌∷◌, ◌++◌, Option, None, Some, is_none, filter, if◌then◌else◌, codes, unwrap_or}
+use Rattle.std.specs.Prelude.{◌≡◌, Bool, true, false, not, ◌||◌, List, [], ◌∷◌, ◌++◌, Option, None, Some, filter, if◌then◌else◌, codes, unwrap_or}
 use Rattle.std.specs.List.{list_any}
 use Rattle.std.specs.Option.{option_map_or}
 use Rattle.std.specs.Str.{bytes_eq}
 use Rattle.os_files.specs.Bytes.{Bytes}
 use Rattle.os_files.specs.Path.{extension}
+use Rattle.cmdlines_base.specs.Refusal.{Refusal, because}
 use Rattle.rustc_options.specs.Splitting.{before_equals, behind_equals, with_equals, maybe_with_equals}
 use Rattle.rustc_options.specs.Sets.{between_commas, joined_by_commas, in_order}
 use Rattle.rustc_options.specs.declared.types.ArgCrateTypes.{ArgCrateTypes}
@@ -131,13 +132,17 @@ data_of kinds.Target w = values.Target (target_of w)
 data_of kinds.Unstable w = values.Unstable (option_of w)
 
 -- only an extern refuses a word: one without `=`
-abbrev pub refuses : ArgKind → Bytes → Bool
-refuses kinds.Extern w = is_none (behind_equals w)
-refuses _ w = false
+abbrev pub without_path : Option Bytes → Option Refusal
+without_path None = Some (because (codes "an extern has no path"))
+without_path (Some path) = None
+
+abbrev pub refusal : ArgKind → Bytes → Option Refusal
+refusal kinds.Extern w = without_path (behind_equals w)
+refusal _ w = None
 
 -- what an option of that kind is with a word that it takes
 abbrev pub IsWordValue : ArgKind → Bytes → ArgData → Type 0
-IsWordValue kind w value = (value ≡ data_of kind w) × (refuses kind w ≡ false)
+IsWordValue kind w value = (value ≡ data_of kind w) × (refusal kind w ≡ None)
 
 -- what a flag says. Only flags of the first two kinds stand in the table; of any other kind it would be an empty word that is passed on.
 abbrev pub flag_data : ArgKind → ArgData

@@ -1,10 +1,10 @@
 -- What a value prints is the word that was read, where its kind says so.
-use Rattle.std.specs.Prelude.{◌≡◌, ℕ, ◌==◌, Bool, true, false, [], ◌∷◌, Option, None, Some, is_none, unwrap_or, if◌then◌else◌, refl}
+use Rattle.std.specs.Prelude.{◌≡◌, ℕ, ◌==◌, Bool, true, false, [], ◌∷◌, Option, None, Some, unwrap_or, if◌then◌else◌, refl}
 use Rattle.std.proofs.Common.{ap, sym, ◌∙◌}
-use Rattle.std.proofs.lemmas.Bool.{eqb-true, false≢true, true≢false}
+use Rattle.std.proofs.lemmas.Bool.{eqb-true, false≢true}
 use Rattle.os_files.specs.Bytes.{Bytes}
 use Rattle.rustc_options.specs.Splitting.{before_equals, behind_equals, with_equals, maybe_with_equals}
-use Rattle.rustc_options.specs.Data.{data_of, word_of, refuses, prints_its_word, IsWordValue, target_word}
+use Rattle.rustc_options.specs.Data.{data_of, word_of, refusal, prints_its_word, IsWordValue, target_word, without_path}
 use Rattle.rustc_options.specs.declared.kind.ArgKind.{ArgKind}
 use Rattle.rustc_options.specs.declared.kind.ArgKind.TheVariants as kinds
 use Rattle.rustc_options.specs.declared.data.ArgData.{ArgData}
@@ -24,15 +24,15 @@ pub both_again : (word : Bytes) → maybe_with_equals (before_equals word) (behi
 both_again [] = refl
 both_again (b ∷ bs) = both_by b bs (b == 61) refl (both_again bs)
 
-extern_by : (front : Bytes) (back : Option Bytes) → is_none back ≡ false → with_equals front (unwrap_or back []) ≡ maybe_with_equals front back
-extern_by front None accepted = absurd (true≢false accepted)
+extern_by : (front : Bytes) (back : Option Bytes) → without_path back ≡ None → with_equals front (unwrap_or back []) ≡ maybe_with_equals front back
+extern_by front None accepted = cc
 extern_by front (Some back) accepted = refl
 
 target_by : (word : Bytes) (is_path : Bool) → target_word (if is_path then targets.Path word else targets.Name word) ≡ word
 target_by word true = refl
 target_by word false = refl
 
-pub word_again : (kind : ArgKind) (word : Bytes) → prints_its_word kind ≡ true → refuses kind word ≡ false → word_of (data_of kind word) ≡ word
+pub word_again : (kind : ArgKind) (word : Bytes) → prints_its_word kind ≡ true → refusal kind word ≡ None → word_of (data_of kind word) ≡ word
 word_again kinds.TooHardFlag word prints accepted = absurd (false≢true prints)
 word_again kinds.TooHardPath word prints accepted = refl
 word_again kinds.NotCompilationFlag word prints accepted = absurd (false≢true prints)

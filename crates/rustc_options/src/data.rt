@@ -10,7 +10,7 @@ use os_files::os_bytes::OsBytes;
 use std::alloc::{AllocError, Global};
 
 /// The value of an argument: what its option is for, and what its word says.
-#[derive(Drop, PartialEq, Eq)]
+#[derive(Clone, Debug, Drop, PartialEq, Eq)]
 pub enum ArgData {
     TooHardFlag,
     TooHardPath(OsBytes),
@@ -81,7 +81,7 @@ impl IntoArg for ArgData {
 }
 
 impl ArgumentValue for ArgData {
-    ghost use Rattle.rustc_options.specs.Data.{IsFlagValue, IsWordValue, refuses, prints_its_word};
+    ghost use Rattle.rustc_options.specs.Data.{IsFlagValue, IsWordValue, refusal, prints_its_word};
     ghost use Rattle.rustc_options.specs.Printed.{prints_what_it_read};
 
     type Kind = ArgKind;
@@ -90,7 +90,7 @@ impl ArgumentValue for ArgData {
 
     ghost word_value = { IsWordValue };
 
-    ghost refuses = { refuses };
+    ghost refusal = { refusal };
 
     ghost gives_back = { prints_its_word };
 

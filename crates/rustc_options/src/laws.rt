@@ -1,9 +1,14 @@
 //! Laws of the values. No code calls them: whoever prints what was read cites them.
 
-ghost use Rattle.std.specs.Prelude.{◌≡◌, true, false, ◌++◌, None, Some, map, codes};
+ghost use Rattle.std.specs.Prelude.{◌≡◌, true, ◌++◌, List, None, Some, map, codes};
+ghost use Rattle.std.specs.Cmp.Lexicographic.{slice_cmp};
+ghost use Rattle.std.specs.List.{list_any};
+ghost use Rattle.std.specs.List.Sorted.{IsStrictlySortedBy};
+ghost use Rattle.std.specs.Ordering.{nat_cmp};
+ghost use Rattle.std.specs.Str.{bytes_eq};
 ghost use Rattle.os_files.specs.Bytes.{Bytes};
 ghost use Rattle.rustc_options.specs.Splitting.{behind_equals};
-ghost use Rattle.rustc_options.specs.Data.{data_of, word_of, refuses, prints_its_word, printed_type};
+ghost use Rattle.rustc_options.specs.Data.{data_of, word_of, refusal, prints_its_word, printed_type};
 ghost use Rattle.rustc_options.specs.Sets.{between_commas, joined_by_commas, in_order};
 ghost use Rattle.rustc_options.specs.declared.kind.ArgKind.{ArgKind};
 ghost use Rattle.rustc_options.specs.declared.kind.ArgKind.TheVariants.{CrateType, LinkLibrary, LinkPath};
@@ -12,10 +17,16 @@ ghost use Rattle.rustc_options.specs.declared.kind.ArgKind.TheVariants.{CrateTyp
 /// kind that is meant where the word names none, and crate types each once, in the order of their bytes, and `rlib` for
 /// `lib`.
 pub fn words_are_printed_again()
-    ensures word { (kind : ArgKind) (word : Bytes) → prints_its_word kind ≡ true → refuses kind word ≡ false → word_of (data_of kind word) ≡ word }
+    ensures word { (kind : ArgKind) (word : Bytes) → prints_its_word kind ≡ true → refusal kind word ≡ None → word_of (data_of kind word) ≡ word }
     ensures library { (word back : Bytes) → behind_equals word ≡ Some back → word_of (data_of LinkLibrary word) ≡ word }
     ensures bare_library { (word : Bytes) → behind_equals word ≡ None → word_of (data_of LinkLibrary word) ≡ codes "dylib=" ++ word }
     ensures path { (word back : Bytes) → behind_equals word ≡ Some back → word_of (data_of LinkPath word) ≡ word }
     ensures bare_path { (word : Bytes) → behind_equals word ≡ None → word_of (data_of LinkPath word) ≡ codes "all=" ++ word }
     ensures crate_types { (word : Bytes) → word_of (data_of CrateType word) ≡ joined_by_commas (in_order (map printed_type (between_commas word))) }
+{}
+
+/// Words in order rise strictly, and they are the words that were given.
+pub fn words_in_order_are_a_set()
+    ensures rising { (words : List Bytes) → IsStrictlySortedBy (slice_cmp nat_cmp) (in_order words) }
+    ensures same { (words : List Bytes) (word : Bytes) → list_any (bytes_eq word) (in_order words) ≡ list_any (bytes_eq word) words }
 {}

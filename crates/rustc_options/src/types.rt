@@ -15,7 +15,7 @@ use os_files::path::extension;
 use std::alloc::{AllocError, Global};
 
 /// What to make of a crate: `--crate-type`.
-#[derive(Drop, PartialEq, Eq)]
+#[derive(Clone, Debug, Drop, PartialEq, Eq)]
 pub struct ArgCrateTypes {
     /// `rlib`, or `lib`, which is the same.
     pub rlib: bool,
@@ -124,12 +124,12 @@ fn crate_type_names(alloc: Global, types: &ArgCrateTypes) -> Result<Listed<OsByt
 }
 
 impl FromArg for ArgCrateTypes {
-    ghost use Rattle.std.specs.Prelude.{◌≡◌, false};
+    ghost use Rattle.std.specs.Prelude.{◌≡◌, None};
     ghost use Rattle.rustc_options.specs.Data.{crate_types_of};
 
     ghost reads = { λ arg value. value ≡ crate_types_of arg };
 
-    ghost rejects = { λ _. false };
+    ghost refusal = { λ _. None };
 
     fn process(arg: OsBytes) -> ArgParseResult<ArgCrateTypes> {
         let word = arg.into_vec();
@@ -162,12 +162,12 @@ impl IntoArg for ArgCrateTypes {
 }
 
 impl FromArg for ArgLinkLibrary {
-    ghost use Rattle.std.specs.Prelude.{◌≡◌, false};
+    ghost use Rattle.std.specs.Prelude.{◌≡◌, None};
     ghost use Rattle.rustc_options.specs.Data.{link_library_of};
 
     ghost reads = { λ arg value. value ≡ link_library_of arg };
 
-    ghost rejects = { λ _. false };
+    ghost refusal = { λ _. None };
 
     fn process(arg: OsBytes) -> ArgParseResult<ArgLinkLibrary> {
         match split_at_equals(arg)? {
@@ -220,12 +220,12 @@ fn behind_equals_to_string<F: FnMut(&[u8]) -> Option<String>>(
 }
 
 impl FromArg for ArgLinkPath {
-    ghost use Rattle.std.specs.Prelude.{◌≡◌, false};
+    ghost use Rattle.std.specs.Prelude.{◌≡◌, None};
     ghost use Rattle.rustc_options.specs.Data.{link_path_of};
 
     ghost reads = { λ arg value. value ≡ link_path_of arg };
 
-    ghost rejects = { λ _. false };
+    ghost refusal = { λ _. None };
 
     fn process(arg: OsBytes) -> ArgParseResult<ArgLinkPath> {
         match split_at_equals(arg)? {
@@ -261,12 +261,12 @@ impl IntoArg for ArgLinkPath {
 }
 
 impl FromArg for ArgOption {
-    ghost use Rattle.std.specs.Prelude.{◌≡◌, false};
+    ghost use Rattle.std.specs.Prelude.{◌≡◌, None};
     ghost use Rattle.rustc_options.specs.Data.{option_of};
 
     ghost reads = { λ arg value. value ≡ option_of arg };
 
-    ghost rejects = { λ _. false };
+    ghost refusal = { λ _. None };
 
     fn process(arg: OsBytes) -> ArgParseResult<ArgOption> {
         let (opt, value) = split_at_equals(arg)?;
@@ -298,13 +298,13 @@ impl IntoArg for ArgOption {
 
 /// A word without `=` is refused.
 impl FromArg for ArgExtern {
-    ghost use Rattle.std.specs.Prelude.{◌≡◌, is_none};
-    ghost use Rattle.rustc_options.specs.Data.{extern_of};
+    ghost use Rattle.std.specs.Prelude.{◌≡◌};
+    ghost use Rattle.rustc_options.specs.Data.{extern_of, without_path};
     ghost use Rattle.rustc_options.specs.Splitting.{behind_equals};
 
     ghost reads = { λ arg value. value ≡ extern_of arg };
 
-    ghost rejects = { λ arg. is_none (behind_equals arg) };
+    ghost refusal = { λ arg. without_path (behind_equals arg) };
 
     fn process(arg: OsBytes) -> ArgParseResult<ArgExtern> {
         match split_at_equals(arg)? {
@@ -346,12 +346,12 @@ fn names_json(word: &[u8]) -> bool
 
 /// A word with the extension `json` is a path.
 impl FromArg for ArgTarget {
-    ghost use Rattle.std.specs.Prelude.{◌≡◌, false};
+    ghost use Rattle.std.specs.Prelude.{◌≡◌, None};
     ghost use Rattle.rustc_options.specs.Data.{target_of};
 
     ghost reads = { λ arg value. value ≡ target_of arg };
 
-    ghost rejects = { λ _. false };
+    ghost refusal = { λ _. None };
 
     fn process(arg: OsBytes) -> ArgParseResult<ArgTarget> {
         if names_json(arg.as_bytes()) {

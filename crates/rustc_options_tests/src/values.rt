@@ -4,7 +4,7 @@ use cmdlines_base::argument_error::{ArgParseError, ArgToStringError};
 use cmdlines_base::value::{FromArg, IntoArg};
 use os_files::listed::Listed;
 use os_files::os_bytes::OsBytes;
-use rustc_options::laws::words_are_printed_again;
+use rustc_options::laws::{words_are_printed_again, words_in_order_are_a_set};
 use rustc_options::types::{
     ArgCodegen, ArgCrateTypes, ArgExtern, ArgLinkLibrary, ArgLinkPath, ArgOption, ArgTarget,
     ArgUnstable,
@@ -70,6 +70,7 @@ fn each_reads<T: FromArg + IntoArg>(
 #[test]
 fn options_print_what_was_read(rt: HostRuntime) -> Result<(), Fail> {
     words_are_printed_again();
+    words_in_order_are_a_set();
     let alloc = rt.alloc();
     let codegen = [
         ("opt-level=1", "opt-level=1"),

@@ -1,9 +1,10 @@
--- Causes of faults, later on.
-use Rattle.std.proofs.Common.{◌≡◌, ℕ, ◌∙◌}
+-- Causes of faults, later on, and items with a fault.
+use Rattle.std.proofs.Common.{◌≡◌, ℕ, List, [], ◌∷◌, ◌++◌, map, Ok, Err, ◌∙◌}
 use Rattle.os_files.specs.Bytes.{Bytes}
 use Rattle.os_files.specs.Fails.{FailsOn}
 use Rattle.os_files.specs.Tree.{Tree}
 use Rattle.response_files.specs.Causes.{CauseOf}
+use Rattle.response_files.specs.Words.{Items}
 use Rattle.response_files.specs.declared.fault.ParseFault.{ParseFault}
 use Rattle.response_files.specs.declared.fault.ParseFault.TheVariants.{Memory, Read}
 
@@ -12,3 +13,10 @@ pub cause-later : {F : Type 0} (tree : F → Tree) (failed : F → ℕ) (fails_o
     → (fault : ParseFault) → CauseOf (FailsOn tree failed fails_on mid new) fault → CauseOf (FailsOn tree failed fails_on old new) fault
 cause-later tree failed fails_on old mid new same steady Memory h = tt
 cause-later tree failed fails_on old mid new same steady (Read path) h = record { from = h.from; same = h.same ∙ same; steady = h.steady ∙ steady; ticks = h.ticks; leads = h.leads }
+
+-- items that end with a fault aren't words alone
+pub no_fault : (front : Items) (fault : ParseFault) (given : List Bytes) → front ++ Err fault ∷ [] ≡ map Ok given → ⊥
+no_fault [] fault [] e = cc
+no_fault [] fault (word ∷ words) e = cc
+no_fault (item ∷ items) fault [] e = cc
+no_fault (item ∷ items) fault (word ∷ words) e = let rest : items ++ Err fault ∷ [] ≡ map Ok words = cc in no_fault items fault words rest

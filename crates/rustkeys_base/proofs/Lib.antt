@@ -4,4 +4,5 @@ pub mod CauseLemmas
 pub mod FactLemmas
 pub mod ItemLemmas
 pub mod VerdictLemmas
+pub mod DeciderLaws
 mod HeldWords

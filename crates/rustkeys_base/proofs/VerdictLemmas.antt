@@ -12,7 +12,7 @@ use Rattle.cmdlines_base.specs.declared.argument_error.ArgParseError.{ArgParseEr
 use Rattle.cmdlines_base.specs.declared.argument_error.ArgParseError.TheVariants.{UnexpectedEndOfArgs, InvalidUnicode, Other, Memory}
 use Rattle.cmdlines.specs.declared.compiler_arguments.CompilerArguments.{CompilerArguments}
 use Rattle.cmdlines.specs.declared.compiler_arguments.CompilerArguments.TheVariants as answers
-use Rattle.rustc_options.specs.Data.{IsFlagValue, IsWordValue, refuses}
+use Rattle.rustc_options.specs.Data.{IsFlagValue, IsWordValue, refusal}
 use Rattle.rustc_options.specs.Table.{rustc_entries}
 use Rattle.rustc_options.specs.declared.data.ArgData.{ArgData}
 use Rattle.rustc_options.specs.declared.kind.ArgKind.{ArgKind}
@@ -41,11 +41,11 @@ module _ (dir : Bytes) (files : Tree) (f : Facts) (item : Item ArgKind) (left : 
   verdict-misread misread = rw misread refl
 
 -- words that can't be cut: they end where a value should come, or a value is refused
-pub verdict-uncut : (dir : Bytes) (files : Tree) (f : Facts) (old : Place) (error : ArgParseError) → FailsToCut (values_by IsFlagValue IsWordValue refuses) rustc_entries old error → (error ≡ Memory → ⊥) → verdict_at dir files f (reading_at rustc_entries old) ≡ not_parsed
+pub verdict-uncut : (dir : Bytes) (files : Tree) (f : Facts) (old : Place) (error : ArgParseError) → FailsToCut (values_by IsFlagValue IsWordValue refusal) rustc_entries old error → (error ≡ Memory → ⊥) → verdict_at dir files f (reading_at rustc_entries old) ≡ not_parsed
 verdict-uncut dir files f old UnexpectedEndOfArgs h other = ap (verdict_at dir files f) h
 verdict-uncut dir files f old Memory h other = absurd (other refl)
-verdict-uncut dir files f old (InvalidUnicode w) h other = ap (verdict_at dir files f) h.reads ∙ verdict-misread dir files f h.item h.rest h.refused
-verdict-uncut dir files f old (Other t) h other = ap (verdict_at dir files f) h.reads ∙ verdict-misread dir files f h.item h.rest h.refused
+verdict-uncut dir files f old (InvalidUnicode w) h other = ap (verdict_at dir files f) h.reads ∙ verdict-misread dir files f h.item h.rest (ap is_some h.refused.0)
+verdict-uncut dir files f old (Other t) h other = ap (verdict_at dir files f) h.reads ∙ verdict-misread dir files f h.item h.rest (ap is_some h.refused)
 
 -- what nothing asks for
 pub asks-nothing : (dir : Bytes) (files : Tree) (items : List (Item ArgKind)) (answer : CompilerArguments ParsedArguments) → AsksNothing answer → IsAsked dir files items answer

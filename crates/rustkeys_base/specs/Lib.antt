@@ -4,5 +4,6 @@ pub mod Words
 pub mod Saying
 pub mod Facts
 pub mod Verdict
+pub mod Deciders
 pub mod Requests
 pub mod Notification

@@ -4,10 +4,8 @@ use Rattle.std.specs.List.{flat_map, AllZip}
 use Rattle.std.specs.List.Sorted.{IsSorted}
 use Rattle.std.specs.Option.{option_map_or}
 use Rattle.std.specs.Str.{bytes_eq}
-use Rattle.std.specs.Cmp.Lexicographic.{slice_cmp}
-use Rattle.std.specs.Ordering.{nat_cmp}
 use Rattle.os_files.specs.Bytes.{Bytes}
-use Rattle.os_files.specs.Path.{join}
+use Rattle.os_files.specs.Path.{join, path_cmp}
 use Rattle.os_files.specs.Tree.{Tree, exists_at}
 use Rattle.cmdlines_base.specs.Pieces.{normalized}
 use Rattle.cmdlines_base.specs.Printing.{normalized_disposition}
@@ -20,7 +18,7 @@ use Rattle.cmdlines.specs.declared.compiler_arguments.CompilerArguments.{Compile
 use Rattle.cmdlines.specs.declared.compiler_arguments.CompilerArguments.TheVariants as answers
 use Rattle.cmdlines_tables.specs.declared.compiler.ColorMode.{ColorMode}
 use Rattle.cmdlines_tables.specs.declared.compiler.ColorMode.TheVariants.{Auto, On, Off}
-use Rattle.rustc_options.specs.Data.{IsFlagValue, IsWordValue, refuses}
+use Rattle.rustc_options.specs.Data.{IsFlagValue, IsWordValue, refusal}
 use Rattle.rustc_options.specs.Sets.{in_order}
 use Rattle.rustc_options.specs.declared.data.ArgData.{ArgData}
 use Rattle.rustc_options.specs.declared.data.ArgData.TheVariants as values
@@ -54,7 +52,7 @@ abbrev pub kept_with : List (Argument ArgData) → Argument ArgData → List (Ar
 kept_with kept argument = if is_color (token_in argument) then kept else kept ++ normalized Separated argument ∷ []
 
 abbrev pub IsArgument : Item ArgKind → Argument ArgData → Type 0
-IsArgument item argument = IsOf (values_by IsFlagValue IsWordValue refuses) item argument
+IsArgument item argument = IsOf (values_by IsFlagValue IsWordValue refusal) item argument
 
 -- the last word on colours: `always`, `never`, or any other, which leaves it to rustc
 abbrev pub color_named : Bytes → ColorMode
@@ -97,7 +95,7 @@ static_libraries dir files f = filter_map (library_in files (map (join dir) f.st
 pub record IsParsed (dir : Bytes) (files : Tree) (f : Facts) (p : ParsedArguments) : Type 0 where
   pub output_dir : Some p.output_dir ≡ f.output_dir
   pub externs : IsPermutation f.externs p.externs
-  pub sorted : IsSorted (slice_cmp nat_cmp) p.externs
+  pub sorted : IsSorted path_cmp p.externs
   pub crate_link_paths : p.crate_link_paths ≡ map (join dir) f.crate_paths
   pub staticlibs : p.staticlibs ≡ static_libraries dir files f
   pub crate_name : Some p.crate_name ≡ f.crate_name

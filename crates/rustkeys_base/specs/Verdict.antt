@@ -8,10 +8,10 @@ use Rattle.os_files.specs.Bytes.{Bytes}
 use Rattle.os_files.specs.Path.{join}
 use Rattle.os_files.specs.Tree.{Tree, is_file_at}
 use Rattle.cmdlines_base.specs.Reading.{Item, Reading}
-use Rattle.cmdlines_base.specs.Values.{is_refused, values_by}
+use Rattle.cmdlines_base.specs.Values.{refusal_of, values_by}
 use Rattle.cmdlines.specs.declared.compiler_arguments.CompilerArguments.{CompilerArguments}
 use Rattle.cmdlines.specs.declared.compiler_arguments.CompilerArguments.TheVariants as answers
-use Rattle.rustc_options.specs.Data.{IsFlagValue, IsWordValue, refuses}
+use Rattle.rustc_options.specs.Data.{IsFlagValue, IsWordValue, refusal}
 use Rattle.rustc_options.specs.Sets.{between_commas, joined_by_commas}
 use Rattle.rustc_options.specs.Table.{rustc_reading}
 use Rattle.rustc_options.specs.declared.data.ArgData.{ArgData}
@@ -123,7 +123,7 @@ not_parsed = refused (codes "argument parse")
 
 -- whether the item's value is refused
 abbrev pub is_misread : Item ArgKind → Bool
-is_misread item = is_refused (values_by IsFlagValue IsWordValue refuses) item
+is_misread item = is_some (refusal_of (values_by IsFlagValue IsWordValue refusal) item)
 
 abbrev pub unless_decided : Option Verdict → Verdict → Verdict
 unless_decided None later = later

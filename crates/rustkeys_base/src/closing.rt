@@ -1,13 +1,11 @@
 //! What all arguments of a request come to, once none of them decides by itself.
 
-ghost use Rattle.std.specs.Prelude.{◌≡◌, Some, map, IfOk, IfErr, OnOk, MatchOption, IsPermutation};
+ghost use Rattle.std.specs.Prelude.{◌≡◌, Some, map, IfOk, IfErr, IsErrOf, OnOk, MatchOption, IsPermutation};
 ghost use Rattle.std.specs.List.{list_any};
 ghost use Rattle.std.specs.List.Sorted.{IsSorted};
-ghost use Rattle.std.specs.Cmp.Lexicographic.{slice_cmp};
-ghost use Rattle.std.specs.Ordering.{nat_cmp};
 ghost use Rattle.os_files.specs.Fails.{FailsOn};
 ghost use Rattle.cmdlines.specs.Wanted.{when};
-ghost use Rattle.os_files.specs.Path.{join};
+ghost use Rattle.os_files.specs.Path.{join, path_cmp};
 ghost use Rattle.rustc_options.specs.Sets.{in_order};
 ghost use Rattle.response_files.specs.Causes.{CauseOf};
 ghost use Rattle.rustkeys_base.specs.Requests.{IsAskedBy, IsMadeOf, color_mode, named_by_crate, dep_info, gcno, static_libraries};
@@ -23,6 +21,7 @@ use cmdlines_tables::compiler::ColorMode;
 use os_files::files::Files;
 use os_files::listed::Listed;
 use os_files::os_bytes::OsBytes;
+use os_files::path::{compare_paths, paths_have_one_order};
 use rustc_options::data::ArgData;
 use rustc_options::sets::{between_commas, in_order};
 use std::alloc::{AllocError, Global};
@@ -135,13 +134,15 @@ fn named_if(
     }
 }
 
-/// The paths in the order of their bytes.
+/// The paths in order.
 fn sorted(paths: Listed<OsBytes>) -> Listed<OsBytes>
     ensures same { IsPermutation paths result }
-    ensures sorted { IsSorted (slice_cmp nat_cmp) result }
+    ensures sorted { IsSorted path_cmp result }
 {
+    // A law, which costs nothing: what follows from it is said above.
+    paths_have_one_order();
     let mut paths = paths.into_vec();
-    paths.sort_unstable();
+    paths.sort_unstable_by(|left, right| compare_paths(left.as_bytes(), right.as_bytes()));
     Listed::from_vec(paths)
 }
 
@@ -172,6 +173,7 @@ fn made_for<F: Files>(
     ensures cause { IfErr result (CauseOf (FailsOn F.tree F.failed F.fails_on files.old files.new)) }
     ensures tree { F.tree files.new ≡ F.tree files.old }
     ensures steady { OnOk result (F.failed files.new ≡ F.failed files.old) }
+    ensures memory { IsErrOf result ParseFault.Memory → F.failed files.new ≡ F.failed files.old }
 {
     let links = has_kind(b"link", kinds.as_slice());
     let depends = has_kind(b"dep-info", kinds.as_slice());
@@ -200,7 +202,7 @@ fn parsed(
     requires asks { closing facts ≡ asks }
     ensures output_dir { Some result.output_dir ≡ facts.output_dir }
     ensures externs { IsPermutation facts.externs result.externs }
-    ensures sorted { IsSorted (slice_cmp nat_cmp) result.externs }
+    ensures sorted { IsSorted path_cmp result.externs }
     ensures crate_name { Some result.crate_name ≡ facts.crate_name }
     ensures rest { IsMadeOf facts made links arguments result }
 {
@@ -240,6 +242,7 @@ pub(crate) fn close<F: Files>(
     ensures cause { IfErr result (CauseOf (FailsOn F.tree F.failed F.fails_on files.old files.new)) }
     ensures tree { F.tree files.new ≡ F.tree files.old }
     ensures steady { OnOk result (F.failed files.new ≡ F.failed files.old) }
+    ensures memory { IsErrOf result ParseFault.Memory → F.failed files.new ≡ F.failed files.old }
 {
     let kinds = emitted(alloc, &facts)?;
     if let Some(why) = refusal(alloc, &facts, kinds.as_slice())? {

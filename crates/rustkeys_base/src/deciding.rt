@@ -1,6 +1,6 @@
 //! What one argument decides by itself, after what is known of those before it.
 
-ghost use Rattle.std.specs.Prelude.{◌≡◌, IfOk, IfErr, OnOk};
+ghost use Rattle.std.specs.Prelude.{◌≡◌, IfOk, IfErr, IsErrOf, OnOk};
 ghost use Rattle.std.specs.Option.{option_map};
 ghost use Rattle.os_files.specs.Fails.{FailsOn};
 ghost use Rattle.response_files.specs.Causes.{CauseOf};
@@ -94,6 +94,7 @@ fn is_unsure<F: Files>(
     ensures cause { IfErr result (CauseOf (FailsOn F.tree F.failed F.fails_on files.old files.new)) }
     ensures tree { F.tree files.new ≡ F.tree files.old }
     ensures steady { OnOk result (F.failed files.new ≡ F.failed files.old) }
+    ensures memory { IsErrOf result ParseFault.Memory → F.failed files.new ≡ F.failed files.old }
 {
     let word = match target {
         ArgTarget::Name(word) => word,
@@ -123,6 +124,7 @@ fn option_decides<F: Files>(
     ensures cause { IfErr result (CauseOf (FailsOn F.tree F.failed F.fails_on files.old files.new)) }
     ensures tree { F.tree files.new ≡ F.tree files.old }
     ensures steady { OnOk result (F.failed files.new ≡ F.failed files.old) }
+    ensures memory { IsErrOf result ParseFault.Memory → F.failed files.new ≡ F.failed files.old }
 {
     match value {
         ArgData::TooHardFlag | ArgData::TooHardPath(_) => Ok(Some(refused(flag))),
@@ -155,6 +157,7 @@ pub(crate) fn decides<F: Files>(
     ensures cause { IfErr result (CauseOf (FailsOn F.tree F.failed F.fails_on files.old files.new)) }
     ensures tree { F.tree files.new ≡ F.tree files.old }
     ensures steady { OnOk result (F.failed files.new ≡ F.failed files.old) }
+    ensures memory { IsErrOf result ParseFault.Memory → F.failed files.new ≡ F.failed files.old }
 {
     match argument {
         Argument::Raw(word) => match &so_far.input {

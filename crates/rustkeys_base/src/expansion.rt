@@ -1,6 +1,6 @@
 //! rustc's words with the files that they name opened.
 
-ghost use Rattle.std.specs.Prelude.{◌≡◌, ◌++◌, false, IfErr, IfOk, List, OnOk, codes, length};
+ghost use Rattle.std.specs.Prelude.{◌≡◌, ◌∷◌, ◌++◌, [], false, Err, IfErr, IfOk, IsErrOf, List, Ok, OnOk, codes, length, map};
 ghost use Rattle.std.specs.Iterator.{at_most};
 ghost use Rattle.std.specs.List.{list_any};
 ghost use Rattle.std.specs.Option.{option_copied};
@@ -61,6 +61,7 @@ fn opened_by<F: Files>(
     ensures cause { IfErr result (CauseOf (FailsOn F.tree F.failed F.fails_on files.old files.new)) }
     ensures tree { F.tree files.new ≡ F.tree files.old }
     ensures steady { OnOk result (F.failed files.new ≡ F.failed files.old) }
+    ensures memory { IsErrOf result ParseFault.Memory → F.failed files.new ≡ F.failed files.old }
 {
     let Some(path) = path_of(alloc, dir, word)? else {
         return Ok(None);
@@ -85,6 +86,7 @@ pub fn expand_rustc<F: Files>(
     ensures cause { IfErr result (CauseOf (FailsOn F.tree F.failed F.fails_on files.old files.new)) }
     ensures tree { F.tree files.new ≡ F.tree files.old }
     ensures steady { OnOk result (F.failed files.new ≡ F.failed files.old) }
+    ensures memory { IsErrOf result ParseFault.Memory → F.failed files.new ≡ F.failed files.old }
 {
     let mut out = Vec::new(alloc);
     for word in words {
@@ -114,6 +116,9 @@ impl ExpandResponseFile {
     ) -> ExpandResponseFile
         ensures gives { Gives (items_left result) (expanded_by_rustc dir.now (F.tree files.old) words.now) (FailsOn F.tree F.failed F.fails_on files.old files.new) }
         ensures tree { F.tree files.new ≡ F.tree files.old }
+        // No device failed where words are all that comes, nor where want of memory is.
+        ensures steady { (given : List Bytes) → items_left result ≡ map Ok given → F.failed files.new ≡ F.failed files.old }
+        ensures memory { items_left result ≡ Err ParseFault.Memory ∷ [] → F.failed files.new ≡ F.failed files.old }
     {
         match expand_rustc(alloc, dir, words, files) {
             Ok(words) => ExpandResponseFile {

@@ -5,6 +5,7 @@ pub mod closing;
 pub mod deciding;
 pub mod expansion;
 pub mod facts;
+pub mod laws;
 pub mod libraries;
 pub mod notification;
 pub mod parse;

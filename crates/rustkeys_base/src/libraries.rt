@@ -1,6 +1,6 @@
 //! Static libraries, where they lie.
 
-ghost use Rattle.std.specs.Prelude.{◌≡◌, ◌++◌, IfOk, IfErr, OnOk, find, map, filter_map};
+ghost use Rattle.std.specs.Prelude.{◌≡◌, ◌++◌, IfOk, IfErr, IsErrOf, OnOk, find, map, filter_map};
 ghost use Rattle.os_files.specs.Fails.{FailsOn};
 ghost use Rattle.os_files.specs.Path.{join};
 ghost use Rattle.os_files.specs.Tree.{exists_at};
@@ -61,11 +61,14 @@ fn exists<F: Files>(alloc: Global, path: &OsBytes, files: &mut F) -> Result<bool
     ensures cause { IfErr result (CauseOf (FailsOn F.tree F.failed F.fails_on files.old files.new)) }
     ensures tree { F.tree files.new ≡ F.tree files.old }
     ensures steady { OnOk result (F.failed files.new ≡ F.failed files.old) }
+    ensures memory { IsErrOf result ParseFault.Memory → F.failed files.new ≡ F.failed files.old }
 {
-    match files.exists(alloc, path) {
+    // The copy is made first, so that no want of memory stands for a device that failed.
+    let path = path.clone()?;
+    match files.exists(alloc, &path) {
         Ok(is_there) => Ok(is_there),
         Err(FileFail::Memory) => Err(ParseFault::Memory),
-        Err(FileFail::Device) => Err(ParseFault::Read(path.clone()?)),
+        Err(FileFail::Device) => Err(ParseFault::Read(path)),
     }
 }
 
@@ -79,6 +82,7 @@ fn first_there<F: Files>(
     ensures cause { IfErr result (CauseOf (FailsOn F.tree F.failed F.fails_on files.old files.new)) }
     ensures tree { F.tree files.new ≡ F.tree files.old }
     ensures steady { OnOk result (F.failed files.new ≡ F.failed files.old) }
+    ensures memory { IsErrOf result ParseFault.Memory → F.failed files.new ≡ F.failed files.old }
 {
     let mut rest = paths;
     while let Some((path, more)) = rest.split_first() {
@@ -101,6 +105,7 @@ fn library_in<F: Files>(
     ensures cause { IfErr result (CauseOf (FailsOn F.tree F.failed F.fails_on files.old files.new)) }
     ensures tree { F.tree files.new ≡ F.tree files.old }
     ensures steady { OnOk result (F.failed files.new ≡ F.failed files.old) }
+    ensures memory { IsErrOf result ParseFault.Memory → F.failed files.new ≡ F.failed files.old }
 {
     let names = library_names(alloc, name)?;
     let mut rest = folders;
@@ -125,6 +130,7 @@ pub(crate) fn libraries_in<F: Files>(
     ensures cause { IfErr result (CauseOf (FailsOn F.tree F.failed F.fails_on files.old files.new)) }
     ensures tree { F.tree files.new ≡ F.tree files.old }
     ensures steady { OnOk result (F.failed files.new ≡ F.failed files.old) }
+    ensures memory { IsErrOf result ParseFault.Memory → F.failed files.new ≡ F.failed files.old }
 {
     let mut found = Vec::new(alloc);
     let mut rest = names;

@@ -14,13 +14,13 @@ pub struct CrateTypes {
 }
 
 /// A request to rustc that can be cached, by its words.
-#[derive(Drop)]
+#[derive(Clone, Debug, Drop, PartialEq, Eq)]
 pub struct ParsedArguments {
     /// All arguments but those on colours, in order, each that may stand either way apart from its value.
     pub arguments: Listed<Argument<ArgData>>,
     /// The folder of the outputs, as it is written.
     pub output_dir: OsBytes,
-    /// The files of the crates that the source names, as they are written, in the order of their bytes.
+    /// The files of the crates that the source names, as they are written, in the order of paths.
     pub externs: Listed<OsBytes>,
     /// The folders of crates.
     pub crate_link_paths: Listed<OsBytes>,

@@ -3,6 +3,7 @@
 use crate::written::{WHOLE, comes_to, each_comes_to, each_makes};
 use os_files::memory_files::MemoryFiles;
 use os_files::os_bytes::OsBytes;
+use rustkeys_base::laws::first_that_decides_does;
 use std::alloc::Global;
 use std::test::Fail;
 use test_kit::rows::words;
@@ -185,6 +186,7 @@ fn words_that_are_not_cut(rt: HostRuntime) -> Result<(), Fail> {
 
 #[test]
 fn the_first_word_that_decides(rt: HostRuntime) -> Result<(), Fail> {
+    first_that_decides_does();
     let rows = [
         ("--help -o x", "not a compilation"),
         ("-o x --help", "-o"),

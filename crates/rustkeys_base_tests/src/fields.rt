@@ -187,6 +187,11 @@ fn externs_are_sorted_by_their_paths(rt: HostRuntime) -> Result<(), Fail> {
             "--extern a=/w/x --extern b=x/y --extern c=x",
             "; externs /w/x x x/y",
         ),
+        (
+            "--extern a=lib-y.rlib --extern b=lib/x.rlib",
+            "; externs lib/x.rlib lib-y.rlib",
+        ),
+        ("--extern a=../y --extern b=/r", "; externs /r ../y"),
     ];
     each_adds_alone(rt.alloc(), &rows)
 }

@@ -1,6 +1,6 @@
 //! For tests: files whose device fails at one call.
 
-ghost use Rattle.std.specs.Prelude.{◌≡◌, ◌⊎◌, ◌+◌, ◌%◌, ◌^◌, None, Some, IsErrOf};
+ghost use Rattle.std.specs.Prelude.{◌≡◌, ◌⊎◌, ◌+◌, ◌-◌, ◌%◌, ◌^◌, None, Some, IsErrOf, OnOk};
 ghost use Rattle.os_files.specs.Bytes.{ticked};
 
 use os_files::files::{FileFail, Files, Metadata};
@@ -41,6 +41,8 @@ impl<F> FailFiles<F> {
     /// Counts a call on that name, and fails at the one that is to fail.
     fn count(&mut self, alloc: Global, path: &OsBytes) -> Result<(), FileFail>
         ensures files { self.new.files ≡ self.old.files }
+        ensures counted { self.new.calls_left ≡ self.old.calls_left - 1 }
+        ensures fails { self.old.calls_left ≡ 0 → self.old.failed_name ≡ None → OnOk result ⊥ }
         ensures device { IsErrOf result FileFail.Device → (self.old.calls_left ≡ 0) × (self.old.failed_name ≡ None) × (self.new.failed ≡ ticked self.old.failed) × (self.new.failed_name ≡ Some path.now) }
         ensures steady { (IsErrOf result FileFail.Device → ⊥) → self.new.failed ≡ self.old.failed }
         ensures memory { IsErrOf result FileFail.Memory → self.new ≡ self.old }

@@ -1,5 +1,5 @@
 -- The premises can be met over include records.
-use Rattle.std.proofs.Common.{◌≡◌, ◌⊎◌, inl, inr, ℕ, zero, suc, ℤ, pos, ◌==◌, Bool, true, false, if◌then◌else◌, List, [], ◌∷◌, get_or, Option, Some, None, refl, sym, ap, subst, ◌∙◌, ◌<◌, arith, codes}
+use Rattle.std.proofs.Common.{◌≡◌, ◌⊎◌, inl, inr, ℕ, zero, suc, ℤ, pos, ◌==◌, Bool, true, false, if◌then◌else◌, List, [], ◌∷◌, get_or, Some, None, refl, sym, ap, subst, ◌∙◌, arith, codes}
 use Rattle.std.specs.List.{Contains}
 use Rattle.std.specs.Option.{option_and_then}
 use Rattle.std.specs.Str.{bytes_eq}
@@ -14,12 +14,12 @@ use Rattle.entry_keys.specs.Identity.{identity_material}
 use Rattle.entry_keys.specs.Sights.{sight_material}
 use Rattle.entry_keys.specs.Telling.{entry_key_with}
 use Rattle.ckeys.specs.Calls.{PrintedCall}
-use Rattle.ckeys.specs.Entries.{HasMatch, Held, IsHashedBy, entry_key_by, entry_key_of, good_text, has_entry_key, identity_by, includes_by, sights_by}
+use Rattle.ckeys.specs.Entries.{HasMatch, Held, IsHashedBy, entry_key_by, good_text, has_entry_key, identity_by, includes_by, sights_by}
 use Rattle.ckeys.specs.Entries.IsHashedBy.{of_identity, of_sights, of_extra_file, of_file}
 use Rattle.ckeys.specs.Keys.{IsHashedFor, record_material}
-use Rattle.ckeys.specs.Meaning.{Made, made_of}
+use Rattle.ckeys.specs.Meaning.{made_of}
 use Rattle.wrap_base.specs.Account.{Work, direct_calls, worked}
-use Rattle.wrap_base.specs.Keys.{IsHashedDirect, IsHashedIn, Premises}
+use Rattle.wrap_base.specs.Keys.{HasRecord, IsHashedDirect, IsHashedIn, Premises}
 use Rattle.wrap.specs.DirectExample.{call_on, header, header_include, first_byte_digest, printed_on, printed_text, record_on, file_with, source, text_key_on, two_files, two_moments, work_on}
 
 some_same : {A : Type 0} (x y : A) → Some x ≡ Some y → x ≡ y
@@ -94,9 +94,9 @@ module _ (about : Metadata) (zone : ZoneRule) where
   direct_on : (moment : ℤ) → (work_on about zone moment).direct ≡ Some (printed_on about zone moment)
   direct_on moment = ap (λ b. if b then Some (printed_on about zone moment) else None) (asks_on moment)
 
-  hashed_on : (moment : ℤ) (bytes : Bytes) → IsHashedFor first_byte_digest (work_on about zone moment).rec bytes ⊎ IsHashedDirect first_byte_digest (work_on about zone moment).direct bytes → Hashed bytes
-  hashed_on moment bytes (inl (inl c)) = absurd (none_there bytes c)
-  hashed_on moment bytes (inl (inr is)) = by_text is
+  hashed_on : (moment : ℤ) (bytes : Bytes) → (HasRecord (work_on about zone moment) × IsHashedFor first_byte_digest (work_on about zone moment).rec bytes) ⊎ IsHashedDirect first_byte_digest (work_on about zone moment).direct bytes → Hashed bytes
+  hashed_on moment bytes (inl (fine, inl c)) = absurd (none_there bytes c)
+  hashed_on moment bytes (inl (fine, inr is)) = by_text is
   hashed_on moment bytes (inr h) = asked_hashed moment bytes (subst (λ o. IsHashedDirect first_byte_digest o bytes) (direct_on moment) h)
 
   module _ (one other : ℤ) where
@@ -108,8 +108,8 @@ module _ (about : Metadata) (zone : ZoneRule) where
 
     hashed_in : (bytes : Bytes) → IsHashedIn first_byte_digest (two_moments about zone one other) bytes → Hashed bytes
     hashed_in bytes h = elim (call_of h.call h.among) [
-      | inl is ↦ hashed_on one bytes (subst (λ (w : Work). IsHashedFor first_byte_digest w.rec bytes ⊎ IsHashedDirect first_byte_digest w.direct bytes) is h.is)
-      | inr is ↦ hashed_on other bytes (subst (λ (w : Work). IsHashedFor first_byte_digest w.rec bytes ⊎ IsHashedDirect first_byte_digest w.direct bytes) is h.is)
+      | inl is ↦ hashed_on one bytes (subst (λ (w : Work). (HasRecord w × IsHashedFor first_byte_digest w.rec bytes) ⊎ IsHashedDirect first_byte_digest w.direct bytes) is h.is)
+      | inr is ↦ hashed_on other bytes (subst (λ (w : Work). (HasRecord w × IsHashedFor first_byte_digest w.rec bytes) ⊎ IsHashedDirect first_byte_digest w.direct bytes) is h.is)
     ]
 
     fresh_is : (w : Work) → Contains (two_moments about zone one other) (worked w) → w.fresh ≡ made_of (pos 0) (Some (codes "object") ∷ [])
@@ -142,7 +142,7 @@ module _ (about : Metadata) (zone : ZoneRule) where
   pub premises_on : (one other : ℤ) → Premises first_byte_digest (two_moments about zone one other)
   premises_on one other = record {
     distinct = λ x y hx hy e. is_at x (hashed_in one other x hx) ∙ ap (λ (d : Bytes). string_at (get_or d 0 0)) e ∙ sym (is_at y (hashed_in one other y hy));
-    settled = λ a b ca cb same. fresh_is one other a ca ∙ sym (fresh_is one other b cb);
+    settled = λ a b ca cb fine fine_too same. fresh_is one other a ca ∙ sym (fresh_is one other b cb);
     reprinted = λ earlier now text names within also printed named who around.
         let printed_of : (p : PrintedCall) → Contains (direct_calls (two_moments about zone one other)) p → p.printed ≡ made_of (pos 0) (Some printed_text ∷ []) = λ p c. printed_is one other p (subst (λ (l : List PrintedCall). Contains l p) (calls_are one other) c) in
         ap good_text (printed_of now also ∙ sym (printed_of earlier within)) ∙ printed;

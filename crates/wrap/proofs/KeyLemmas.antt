@@ -66,8 +66,8 @@ module _ (digest_of : Bytes → Bytes) (meaning : Meaning) (call : KeyCall) wher
       by false h = turn.idle h
 
   -- the text that is recorded
-  pub recorded_by : (new : Shelf EntryKey Record) (from : Bool) (text_key : Bytes) → KeyRecorded digest_of (printed_call meaning call) new from text_key → (p : PrintedCall) → direct_at meaning call ≡ Some p → KeyRecorded digest_of p new from text_key
-  recorded_by new from text_key recorded p has = subst (λ (q : PrintedCall). KeyRecorded digest_of q new from text_key) (by (has_entry_key call) has) recorded
+  pub recorded_by : (old new : Shelf EntryKey Record) (from : Bool) (text_key : Bytes) → KeyRecorded digest_of (printed_call meaning call) old new from text_key → (p : PrintedCall) → direct_at meaning call ≡ Some p → KeyRecorded digest_of p old new from text_key
+  recorded_by old new from text_key recorded p has = subst (λ (q : PrintedCall). KeyRecorded digest_of q old new from text_key) (by (has_entry_key call) has) recorded
     where
       by : (b : Bool) → (if b then Some (printed_call meaning call) else None) ≡ Some p → printed_call meaning call ≡ p
       by true h = cc

@@ -17,7 +17,6 @@ use Rattle.ckeys.specs.EntryTurns.{EntryTurn}
 use Rattle.ckeys.specs.Folders.{Settings}
 use Rattle.ckeys.specs.Keys.{key_of}
 use Rattle.ckeys.specs.Meaning.{Meaning, names_of}
-use Rattle.ckeys.specs.Surroundings.{place_of}
 use Rattle.entry_keys.specs.declared.entry_key.EntryKey.{EntryKey}
 use Rattle.include_records.specs.Records.{Record}
 use Rattle.ckeys.specs.declared.fault.Fault.TheVariants.{PreprocessFailed, Read}
@@ -30,7 +29,7 @@ use Rattle.wrap_base.specs.Answers.{Answers, SaysPassed}
 use Rattle.wrap_base.specs.Asking.{EntriesBy, EntriesTurn, IsOfCall, IsOfOneCall, RecordsAreTrue, Shelves}
 use Rattle.wrap_base.specs.Keys.{store_key_of, IsHashedDirect, IsHashedIn, Premises, Invariant}
 use Rattle.wrap_base.specs.Turn.{StoreTurn}
-use Rattle.wrap_base.specs.Whole.{Ticks, CallTurn, BothRun, Served, Loses, Run, accounts_of, AllAnswer, IsFresh, HaveOneRecord, OneFresh, outputs_in, Agree, SameOutputs, served, Each, FilesView, ToolView, begin_of, end_of, served_at, accounts_at}
+use Rattle.wrap_base.specs.Whole.{Ticks, CallTurn, BothRun, SessionRun, Served, Loses, Run, accounts_of, AllAnswer, IsFresh, HaveOneRecord, OneFresh, outputs_in, Agree, SameOutputs, served, Each, FilesView, ToolView, begin_of, end_of, served_at, accounts_at}
 use Rattle.wrap_base.specs.declared.answer.Answer.{Answer}
 use Rattle.wrap_base.specs.declared.answer.Answer.TheVariants.{Pass, Outputs}
 use Rattle.wrap_base.specs.declared.answer.How.TheVariants.{Direct, Stored, Fresh}
@@ -42,9 +41,14 @@ loses_nothing : {K V : Type 0} (s : Shelf K V) → Loses s s
 loses_nothing s = record { within = λ q v h. h; kept = λ h. (h, λ q i. i) }
 
 -- a run goes on by one call
-pub run_more : (digest_of : Bytes → Bytes) (settings : Settings) (old mid new : Shelves) (run : List Served) (s : Served) → BothRun digest_of settings old run mid → CallTurn digest_of settings s.account mid new s.before s.after s.result → BothRun digest_of settings old (run ++ s ∷ []) new
-run_more digest_of settings old mid new [] s r turn = (mid, new, r.0, r.1, turn, (loses_nothing new.entries, loses_nothing new.objects))
-run_more digest_of settings old mid new (x ∷ run) s r turn = (r.0, r.1, r.2, r.3, r.4, run_more digest_of settings r.1 mid new run s r.5 turn)
+pub run_more : (digest_of : Bytes → Bytes) (settings : Settings) (old mid new : Shelves) (run : List Served) (s : Served) → SessionRun digest_of settings old run mid → CallTurn digest_of settings s.account mid new s.before s.after s.result → SessionRun digest_of settings old (run ++ s ∷ []) new
+run_more digest_of settings old mid new [] s r turn = (new, subst (λ (begin : Shelves). CallTurn digest_of settings s.account begin new s.before s.after s.result) r turn, refl)
+run_more digest_of settings old mid new (x ∷ run) s r turn = (r.0, r.1, run_more digest_of settings r.0 mid new run s r.2 turn)
+
+-- a session's calls are a run in which nothing is lost between them
+both_run : (digest_of : Bytes → Bytes) (settings : Settings) (old new : Shelves) (run : List Served) → SessionRun digest_of settings old run new → BothRun digest_of settings old run new
+both_run digest_of settings old new [] r = subst (λ (end : Shelves). Loses old.entries end.entries × Loses old.objects end.objects) (sym r) (loses_nothing old.entries, loses_nothing old.objects)
+both_run digest_of settings old new (s ∷ run) r = (old, r.0, loses_nothing old.entries, loses_nothing old.objects, r.1, both_run digest_of settings r.0 new run r.2)
 
 -- three lists that grow together
 served_more : (bs : List (Account × Ticks)) (es : List Ticks) (rs : List (Result Answer Fault)) (b : Account × Ticks) (e : Ticks) (r : Result Answer Fault) → length bs ≡ length rs → length es ≡ length rs
@@ -103,7 +107,7 @@ premises_front digest_of run more p = record {
   distinct = λ x y hx hy e. p.distinct x y
       (record { call = hx.call; among = Contains-append_left run more (worked hx.call) hx.among; is = hx.is })
       (record { call = hy.call; among = Contains-append_left run more (worked hy.call) hy.among; is = hy.is }) e;
-  settled = λ a b ca cb same. p.settled a b (Contains-append_left run more (worked a) ca) (Contains-append_left run more (worked b) cb) same;
+  settled = λ a b ca cb fine fine_too same. p.settled a b (Contains-append_left run more (worked a) ca) (Contains-append_left run more (worked b) cb) fine fine_too same;
   reprinted = λ earlier now text names in_b in_p. p.reprinted earlier now text names (direct_front run more earlier in_b) (direct_front run more now in_p);
 }
 
@@ -156,8 +160,8 @@ run_answers digest_of tells earlier old new (s ∷ run) r inv p =
     let begins = loses_invariant digest_of earlier old r.0 r.2 inv in
     let regrouped : earlier ++ accounts_of (s ∷ run) ≡ (earlier ++ s.account ∷ []) ++ accounts_of run = sym (append_assoc earlier (s.account ∷ []) (accounts_of run)) in
     let all = subst (Premises digest_of) regrouped p in (
-      answers_step digest_of tells s.account r.0 r.1 s.before.compiled s.after.compiled s.result r.3.store earlier begins (premises_front digest_of (earlier ++ s.account ∷ []) (accounts_of run) all),
-      run_answers digest_of tells (earlier ++ s.account ∷ []) r.1 new run r.4 (invariant_step digest_of s.account r.0 r.1 s.before.compiled s.after.compiled s.result r.3.store earlier begins) all,
+      answers_step digest_of tells s.account r.0 r.1 s.before.compiled s.after.compiled s.result r.3.store r.3.fine earlier begins (premises_front digest_of (earlier ++ s.account ∷ []) (accounts_of run) all),
+      run_answers digest_of tells (earlier ++ s.account ∷ []) r.1 new run r.4 (invariant_step digest_of s.account r.0 r.1 s.before.compiled s.after.compiled s.result r.3.store r.3.fine earlier begins) all,
     )
 
 -- what is kept at the end was kept before
@@ -475,15 +479,18 @@ none_served settings files tool off (c ∷ calls) (e ∷ ends) (r ∷ results) =
 
 -- a run over both stores is one over the store of outputs alone
 pub served_run : (digest_of : Bytes → Bytes) → Agree_on digest_of → Stay_on digest_of → {F T : Type 0} (settings : Settings) (files : FilesView F) (tool : ToolView T) (shelves shelves_new : Shelves) (old new : List (Call F T)) (results : List (Result Answer Fault)) → length results ≡ length old → length new ≡ length old
-    → BothRun digest_of settings shelves (served_at settings files tool old new results) shelves_new → (settings.direct ≡ true → IsEmpty shelves.entries × EntryPremises digest_of (direct_calls (accounts_at settings files tool old))) → Run digest_of shelves.objects (served_at settings files tool old new results) shelves_new.objects
+    → SessionRun digest_of settings shelves (served_at settings files tool old new results) shelves_new → (settings.direct ≡ true → IsEmpty shelves.entries × EntryPremises digest_of (direct_calls (accounts_at settings files tool old))) → Run digest_of shelves.objects (served_at settings files tool old new results) shelves_new.objects
 served_run digest_of agree stay settings files tool shelves shelves_new old new results len same run assumed = by settings.direct refl
   where
+    calls : BothRun digest_of settings shelves (served_at settings files tool old new results) shelves_new
+    calls = both_run digest_of settings shelves shelves_new (served_at settings files tool old new results) run
+
     by : (b : Bool) → settings.direct ≡ b → Run digest_of shelves.objects (served_at settings files tool old new results) shelves_new.objects
     by true on =
         let both = assumed on in
         let accounts = served_accounts settings files tool old new results len same in
-        empty_run digest_of agree stay settings shelves shelves_new (served_at settings files tool old new results) run both.0 (subst (λ (l : List Account). EntryPremises digest_of (direct_calls l)) (sym accounts) both.1)
-    by false off = plain_run digest_of settings shelves shelves_new (served_at settings files tool old new results) run (none_served settings files tool off old (map (end_of settings files tool) new) results)
+        empty_run digest_of agree stay settings shelves shelves_new (served_at settings files tool old new results) calls both.0 (subst (λ (l : List Account). EntryPremises digest_of (direct_calls l)) (sym accounts) both.1)
+    by false off = plain_run digest_of settings shelves shelves_new (served_at settings files tool old new results) calls (none_served settings files tool off old (map (end_of settings files tool) new) results)
 
 pub direct_runs_agree : (digest_of : Bytes → Bytes) → Tells digest_of → Agree_on digest_of → Stay_on digest_of → (settings : Settings) (one two : List Served) (one_old one_new two_old two_new : Shelves)
     → BothRun digest_of settings one_old one one_new → BothRun digest_of settings two_old two two_new

@@ -22,7 +22,7 @@ use Rattle.wrap_base.specs.Account.{Account, passed, worked, Work, Pairs, IsSucc
 use Rattle.wrap_base.specs.Answers.{EarlyCause, GoesOn, GoesOnWith, Placed, SaysBy, SaysWorkedBy}
 use Rattle.wrap_base.specs.Asking.{AskedTurn, AskedUnder, EntriesBy, EntriesTurn, HowFrom, RecordsAreTrue, Shelves, WorkKeyFrom}
 use Rattle.wrap_base.specs.Keys.{store_key_with}
-use Rattle.wrap_base.specs.Turn.{KeyedTurn, StoreTurn, own_text_key, StillKept, StoredTurn, MissTurn, Told, ToldBy}
+use Rattle.wrap_base.specs.Turn.{KeyedTurn, PutsBy, StoreTurn, own_text_key, StillKept, StoredTurn, MissTurn, Told, ToldBy}
 use Rattle.wrap_base.specs.Verdict.{Why}
 use Rattle.wrap_base.specs.declared.reason.Reason.{Reason}
 use Rattle.wrap_base.specs.declared.answer.Answer.{Answer}
@@ -69,8 +69,10 @@ module _ (digest_of : Bytes → Bytes) (text_key : Bytes) (w : Work) (key : Stor
       rw (p.1, p.2) (record {
         gains = λ k v h. inl (asks.within k v h);
         faulted = asks.within;
+        unrefused = λ was keys. asks.kept.1 (was, keys);
         kept = asks_kept old asked key answer asks;
         cleared = asks.cleared;
+        put = asks.put;
         told = inl same;
       })
 
@@ -81,8 +83,10 @@ module _ (digest_of : Bytes → Bytes) (text_key : Bytes) (w : Work) (key : Stor
       record {
         gains = λ k v h. inl (asks.within k v h);
         faulted = tt;
+        unrefused = tt;
         kept = asks_kept old asked key answer asks;
         cleared = asks.cleared;
+        put = puts_none from asks.put;
         told = hit from direct (
           it.0,
           it.2,
@@ -95,6 +99,10 @@ module _ (digest_of : Bytes → Bytes) (text_key : Bytes) (w : Work) (key : Stor
         );
       }
     where
+      puts_none : (b : Bool) → asked.puts ≡ old.puts → PutsBy (Ok (Outputs found (kept_how b) None)) old asked
+      puts_none true h = h
+      puts_none false h = h
+
       hit : (b : Bool) → (b ≡ true → IsSome w.direct) → Placed w found (StoredTurn digest_of text_key w old asked before after) → Told digest_of text_key w old asked before after (Ok (Outputs found (kept_how b) None))
       hit true direct placed = (direct refl, placed)
       hit false direct placed = placed
@@ -127,8 +135,10 @@ module _ (digest_of : Bytes → Bytes) (text_key : Bytes) (w : Work) (key : Stor
         rw (p.1, p.2) (record {
           gains = λ k v h. inl (asks.within k v h);
           faulted = asks.within;
+          unrefused = λ was keys. asks.kept.1 (was, keys);
           kept = asks_kept old asked key answer asks;
           cleared = asks.cleared;
+          put = asks.put;
           told = told_fault device_in fault cause ran;
         })
 
@@ -139,8 +149,10 @@ module _ (digest_of : Bytes → Bytes) (text_key : Bytes) (w : Work) (key : Stor
         rw (p.1, p.2) (record {
           gains = λ k v h. inl (asks.within k v h);
           faulted = asks.within;
+          unrefused = λ was keys. asks.kept.1 (was, keys);
           kept = asks_kept old asked key answer asks;
           cleared = asks.cleared;
+          put = asks.put;
           told = inr (miss asked refl ran);
         })
 
@@ -153,8 +165,10 @@ module _ (digest_of : Bytes → Bytes) (text_key : Bytes) (w : Work) (key : Stor
         | inr own ↦ inr (record { is_key = equal k key own.0 ∙ is_key; made = subst (IsSuccess w) (sym own.1) made; told = told })
       ];
       faulted = tt;
+      unrefused = tt;
       kept = λ h. let p = puts.kept.0 h in let q = asks_kept old asked key answer asks p.0 in record { was = q.was; keys = λ k s. p.1 k (q.keys k s); steady = puts.steady ∙ q.steady };
       cleared = puts.cleared ∙ asks.cleared;
+      put = puts.put ∙ ap ticked asks.put;
       told = (
         value,
         same,
@@ -200,8 +214,10 @@ pub early_turn : (digest_of : Bytes → Bytes) (text_key : Bytes) (a : Account) 
 early_turn digest_of text_key a shelf count on_file fault cause result err = let p = err_from_is_err_and result err in rw (p.1, p.2) (record {
   gains = λ key pairs h. inl h;
   faulted = λ key pairs h. h;
+  unrefused = λ was keys. was;
   kept = λ h. record { was = h; keys = λ key s. s; steady = refl };
   cleared = refl;
+  put = refl;
   told = told a fault cause;
 })
   where
@@ -235,8 +251,10 @@ pub key_turn : (digest_of : Bytes → Bytes) (text_key : Bytes) (w : Work) (firs
 key_turn digest_of text_key w first shelf before after same on_file device_in fault cause result err = let p = err_from_is_err_and result err in rw (p.1, p.2) (record {
   gains = λ key pairs h. inl h;
   faulted = λ key pairs h. h;
+  unrefused = λ was keys. was;
   kept = λ h. record { was = h; keys = λ key s. s; steady = refl };
   cleared = refl;
+  put = refl;
   told = told fault cause;
 })
   where
@@ -301,7 +319,7 @@ own_key digest_of w held true text_key are_true k = (are_true text_key k).is_key
 own_key digest_of w held false text_key are_true k = k
 
 pub own_turn : (digest_of : Bytes → Bytes) (a : Account) (old new : Shelves) (printed printed_new compiled compiled_new : ℕ) (result : Result Answer Fault) → RecordsAreTrue digest_of a old.entries.held → AskedTurn digest_of a old new printed printed_new compiled compiled_new result → StoreTurn digest_of a old.objects new.objects compiled compiled_new result
-own_turn digest_of (passed why) old new printed printed_new compiled compiled_new result are_true asked = record { gains = asked.objects.gains; faulted = asked.objects.faulted; kept = asked.objects.kept; cleared = asked.objects.cleared; told = asked.objects.told }
+own_turn digest_of (passed why) old new printed printed_new compiled compiled_new result are_true asked = record { gains = asked.objects.gains; faulted = asked.objects.faulted; unrefused = asked.objects.unrefused; kept = asked.objects.kept; cleared = asked.objects.cleared; put = asked.objects.put; told = asked.objects.told }
 own_turn digest_of (worked w) old new printed printed_new compiled compiled_new result are_true asked = subst (λ k. KeyedTurn digest_of k (worked w) old.objects new.objects compiled compiled_new result) (own_key digest_of w old.entries.held asked.from asked.text_key are_true asked.is_key) asked.objects
 
 -- a call that ends with a fault
@@ -320,7 +338,7 @@ has_direct digest_of w held true text_key k h = rw k.has refl
 has_direct digest_of w held false text_key k h = cc
 
 module _ (digest_of : Bytes → Bytes) (w : Work) (old new : Shelves) (printed printed_new compiled compiled_new : ℕ) (from : Bool) (text_key : Bytes) (is_key : WorkKeyFrom digest_of w old.entries.held from text_key)
-    (fine : from ≡ false → w.fault ≡ None) (runs : needs_preprocessing w.rec.language ≡ true → KeyRuns from printed printed_new) (recorded : (p : PrintedCall) → w.direct ≡ Some p → KeyRecorded digest_of p new.entries from text_key) where
+    (fine : from ≡ false → w.fault ≡ None) (runs : needs_preprocessing w.rec.language ≡ true → KeyRuns from printed printed_new) (recorded : (p : PrintedCall) → w.direct ≡ Some p → KeyRecorded digest_of p old.entries new.entries from text_key) where
   pub asked_hit : (map : List Output) → KeyedTurn digest_of text_key (worked w) old.objects new.objects compiled compiled_new (Ok (Outputs map (kept_how from) None)) → AskedTurn digest_of (worked w) old new printed printed_new compiled compiled_new (Ok (Outputs map (kept_how from) None))
   asked_hit map turn = record { from = from; text_key = text_key; is_key = is_key; how = how_kept from map; fine = fine; runs = runs; recorded = recorded; objects = turn }
 
@@ -338,7 +356,7 @@ quiet_entries digest_of a s n = by (direct_of a)
   where
     by : (o : Option PrintedCall) → EntriesBy digest_of o s s n n
     by None = refl
-    by (Some p) = record { gains = λ k e h. inl h; kept = λ h. record { was = h; keys = λ k i. i; steady = refl }; cleared = refl; asked = λ k m. inl refl; idle = λ h. refl }
+    by (Some p) = record { gains = λ k e h. inl h; kept = λ h. record { was = h; keys = λ k i. i; steady = refl }; cleared = refl; put = inl refl; asked = λ k m. inl refl; idle = λ h. refl }
 
 pub passed_asked : (digest_of : Bytes → Bytes) (why : Why) (a : Account) (old : Shelves) (printed compiled : ℕ) (reason : Reason) → passed why ≡ a → AskedTurn digest_of a old old printed printed compiled compiled (Ok (Pass reason))
 passed_asked digest_of why a old printed compiled reason is = subst (λ (b : Account). AskedTurn digest_of b old old printed printed compiled compiled (Ok (Pass reason))) is (record {
@@ -349,7 +367,7 @@ passed_asked digest_of why a old printed compiled reason is = subst (λ (b : Acc
   fine = tt;
   runs = tt;
   recorded = tt;
-  objects = record { gains = λ k v h. inl h; faulted = tt; kept = λ h. record { was = h; keys = λ k s. s; steady = refl }; cleared = refl; told = (refl, refl) };
+  objects = record { gains = λ k v h. inl h; faulted = tt; unrefused = tt; kept = λ h. record { was = h; keys = λ k s. s; steady = refl }; cleared = refl; put = refl; told = (refl, refl) };
 })
 
 pub text_fine : (w : Work) (p : PrintedCall) → w.fault ≡ key_fault_by p → (from : Bool) → KeyFine p from → from ≡ false → w.fault ≡ None

@@ -3,7 +3,7 @@ use Rattle.std.specs.Prelude.{◌≡◌, ◌⊎◌, false, List}
 use Rattle.os_files.specs.Bytes.{Bytes}
 use Rattle.cmdlines.specs.Commands.{ReadsAs, output_path, compile_items, preprocess_items, preprocess_words}
 use Rattle.cmdlines.specs.Hazards.{opens_file}
-use Rattle.cmdlines.specs.Parsing.{IsGivenByOption}
+use Rattle.cmdlines.specs.Parsing.{HasSafeInput, IsGivenByOption}
 use Rattle.cmdlines_tables.specs.Tables.{reading_of}
 use Rattle.ckeys.specs.Records.{hold_end}
 use Rattle.wrap_base.specs.Commands.{kind_of, compile_command_of}
@@ -29,6 +29,10 @@ pub record IsPlanOf (request : Request) (plan : Plan) : Type 0 where
 pub record IsReadAgain (request : Request) (words : List Bytes) (plan : Plan) : Type 0 where
   pub compile : ReadsAs (kind_of request.compiler) plan.compile.arguments (compile_items (kind_of request.compiler) plan.parsed (output_path plan.parsed) (reading_of (kind_of request.compiler) words).items)
   pub preprocess : ReadsAs (kind_of request.compiler) (preprocess_words (kind_of request.compiler) plan.parsed) (preprocess_items (kind_of request.compiler) plan.parsed (reading_of (kind_of request.compiler) words).items)
+
+-- It does, where the input can stand where it's written, whoever gave it.
+abbrev pub IsReadAgainWhereSafe : Request → List Bytes → Plan → Type 0
+IsReadAgainWhereSafe request words plan = HasSafeInput (kind_of request.compiler) plan.parsed → IsReadAgain request words plan
 
 -- It does, unless an option of Msvc gave the input.
 abbrev pub IsReadAgainUnlessGiven : Request → List Bytes → Plan → Type 0

@@ -1,13 +1,13 @@
 //! The key under which a request's outputs are kept, and what the store holds under it.
 
-ghost use Rattle.std.specs.Prelude.{◌≡◌, true, None, Some, IfOk, IfErr, OnOk};
+ghost use Rattle.std.specs.Prelude.{◌≡◌, true, None, Some, IfOk, IfErr, OnOk, IsErrOf};
 ghost use Rattle.std.specs.List.{AllByRecursion};
 ghost use Rattle.std.specs.Option.{option_map};
 ghost use Rattle.os_files.specs.Fails.{FailsOn};
 ghost use Rattle.ckeys_base.specs.Shelf.{Asks};
 ghost use Rattle.ckeys.specs.Calls.{KeyCause, PrintedCall, needs_preprocessing, printed_call};
 ghost use Rattle.ckeys.specs.EntryTurns.{KeyFine, KeyRecorded, KeyRuns};
-ghost use Rattle.ckeys.specs.Meaning.{FailsIn, names_of};
+ghost use Rattle.ckeys.specs.Meaning.{AreSteady, FailsIn, names_of};
 ghost use Rattle.ckeys.specs.Records.{FitsLength};
 ghost use Rattle.wrap_base.specs.Account.{call_at, work_at, worked, placed};
 ghost use Rattle.wrap_base.specs.Asking.{EntriesTurn, WorkKeyFrom};
@@ -80,11 +80,14 @@ pub fn store_key<H: HashState, E: Store<EntryKey, PreprocessorCacheEntry>, F: Fi
     ensures fit { let w = work_at (T.meaning tool.old) (call_at request.now (F.tree files.old) config.now plan.now.parsed) in OnOk result (AllByRecursion FitsLength w.rec.variables) }
     ensures cause { let w = work_at (T.meaning tool.old) (call_at request.now (F.tree files.old) config.now plan.now.parsed) in IfErr result (KeyCause w.fault (FailsOn F.tree F.failed F.fails_on files.old files.new) (FailsIn T.meaning T.failed T.fails_in tool.old tool.new)) }
     ensures entries { let w = work_at (T.meaning tool.old) (call_at request.now (F.tree files.old) config.now plan.now.parsed) in EntriesTurn H.digest_of (worked w) (E.shelf entries.old) (E.shelf entries.new) (T.preprocessed tool.old) (T.preprocessed tool.new) }
-    ensures recorded { let w = work_at (T.meaning tool.old) (call_at request.now (F.tree files.old) config.now plan.now.parsed) in IfOk result (λ made. (p : PrintedCall) → w.direct ≡ Some p → KeyRecorded H.digest_of p (E.shelf entries.new) made.1 made.0.digest) }
+    ensures recorded { let w = work_at (T.meaning tool.old) (call_at request.now (F.tree files.old) config.now plan.now.parsed) in IfOk result (λ made. (p : PrintedCall) → w.direct ≡ Some p → KeyRecorded H.digest_of p (E.shelf entries.old) (E.shelf entries.new) made.1 made.0.digest) }
     ensures runs { let w = work_at (T.meaning tool.old) (call_at request.now (F.tree files.old) config.now plan.now.parsed) in needs_preprocessing w.rec.language ≡ true → IfOk result (λ made. KeyRuns made.1 (T.preprocessed tool.old) (T.preprocessed tool.new)) }
     ensures tree { F.tree files.new ≡ F.tree files.old }
     ensures meaning { T.meaning tool.new ≡ T.meaning tool.old }
-    ensures steady { OnOk result ((T.failed tool.new ≡ T.failed tool.old) × (F.failed files.new ≡ F.failed files.old)) }
+    ensures steady { OnOk result
+        (AreSteady T.failed F.failed tool.old files.old tool.new files.new) }
+    ensures memory { IsErrOf result Fault.Memory →
+        AreSteady T.failed F.failed tool.old files.old tool.new files.new }
     ensures compiles { T.compiled tool.new ≡ T.compiled tool.old }
 {
     let hasher = request.compiler.hasher(&plan.parsed);

@@ -1,16 +1,16 @@
 //! The session that answers requests.
 
-ghost use Rattle.std.specs.Prelude.{◌≡◌, true, false, List, [], ◌∷◌, ◌++◌, length, IfOk, OnErr, IsErrOf};
+ghost use Rattle.std.specs.Prelude.{◌≡◌, true, false, List, [], ◌∷◌, ◌++◌, length, IfOk, OnOk, OnErr, IsErrOf};
 ghost use Rattle.os_files.specs.Fails.{FailsOn};
-ghost use Rattle.ckeys_base.specs.Shelf.{Clears, IsEmpty};
+ghost use Rattle.ckeys_base.specs.Shelf.{Clears, IsEmpty, Puts};
 ghost use Rattle.ckeys.specs.Entries.{EntryInvariant, EntryPremises};
-ghost use Rattle.ckeys.specs.Meaning.{FailsIn};
+ghost use Rattle.ckeys.specs.Meaning.{AreSteady, FailsIn};
 ghost use Rattle.wrap_base.specs.Account.{Account, account_at, call_at, direct_calls, work_at, worked};
 ghost use Rattle.wrap_base.specs.Answers.{Answers, GoesOn, OnPass, Says, SaysBy, SaysWorked, SaysWorkedBy, settled, settled_by};
 ghost use Rattle.wrap_base.specs.Asking.{AskedTurn, EntriesTurn, RecordsAreTrue, shelves_of};
 ghost use Rattle.wrap_base.specs.Keys.{Invariant, Premises};
 ghost use Rattle.wrap_base.specs.Turn.{StoreTurn};
-ghost use Rattle.wrap_base.specs.Whole.{AllAnswer, BothRun, Each, IsAnswered, OneFresh, Run, accounts_at, files_view, served_at, tool_view};
+ghost use Rattle.wrap_base.specs.Whole.{AllAnswer, Each, IsAnswered, OneFresh, Run, SessionRun, accounts_at, files_view, served_at, tool_view};
 ghost use Rattle.wrap.specs.Plans.{IsPlanOf};
 ghost use Rattle.wrap.specs.Sessions.{held_by};
 ghost use Rattle.wrap.specs.Steps.{kept_how};
@@ -142,6 +142,12 @@ impl<
         ensures settings { self.new.settings ≡ self.old.settings }
         ensures meaning { T.meaning tool.new ≡ T.meaning tool.old }
         ensures tree { F.tree files.new ≡ F.tree files.old }
+
+        // No device failed where there is an answer, nor where memory was refused.
+        ensures steady { OnOk result
+            (AreSteady T.failed F.failed tool.old files.old tool.new files.new) }
+        ensures memory { IsErrOf result Fault.Memory →
+            AreSteady T.failed F.failed tool.old files.old tool.new files.new }
     {
         keys_tell_records::<H>();
         records_are_true::<H>();
@@ -155,8 +161,8 @@ impl<
     ) -> Result<Vec<Result<Answer, Fault>>, AllocError>
         ensures length { IfOk result (λ answers. length answers.items ≡ length calls.old) }
 
-        // Each answer is one call's, in order, as `serve` says.
-        ensures run { IfOk result (λ answers. BothRun H.digest_of self.old.settings (shelves_of (E.shelf self.old.entries) (O.shelf self.old.objects)) (served_at self.old.settings (files_view F.tree F.failed) (tool_view T.meaning T.preprocessed T.compiled T.failed) calls.old calls.new answers.items) (shelves_of (E.shelf self.new.entries) (O.shelf self.new.objects))) }
+        // Each answer is one call's, in order, as `serve` says; and nothing else is done to the stores.
+        ensures run { IfOk result (λ answers. SessionRun H.digest_of self.old.settings (shelves_of (E.shelf self.old.entries) (O.shelf self.old.objects)) (served_at self.old.settings (files_view F.tree F.failed) (tool_view T.meaning T.preprocessed T.compiled T.failed) calls.old calls.new answers.items) (shelves_of (E.shelf self.new.entries) (O.shelf self.new.objects))) }
 
         // Where no records are kept, or from an empty store of them where digests are distinct and texts are printed again, each call is one over the store of outputs alone, under its own key.
         ensures own { (self.old.settings.direct ≡ true → IsEmpty (E.shelf self.old.entries) × EntryPremises H.digest_of (direct_calls (accounts_at self.old.settings (files_view F.tree F.failed) (tool_view T.meaning T.preprocessed T.compiled T.failed) calls.old)))
@@ -186,7 +192,7 @@ impl<
         calls: &mut [Call<F, T>],
     ) -> Result<Vec<Result<Answer, Fault>>, AllocError>
         ensures length { IfOk result (λ answers. length answers.items ≡ length calls.old) }
-        ensures run { IfOk result (λ answers. BothRun H.digest_of self.old.settings (shelves_of (E.shelf self.old.entries) (O.shelf self.old.objects)) (served_at self.old.settings (files_view F.tree F.failed) (tool_view T.meaning T.preprocessed T.compiled T.failed) calls.old calls.new answers.items) (shelves_of (E.shelf self.new.entries) (O.shelf self.new.objects))) }
+        ensures run { IfOk result (λ answers. SessionRun H.digest_of self.old.settings (shelves_of (E.shelf self.old.entries) (O.shelf self.old.objects)) (served_at self.old.settings (files_view F.tree F.failed) (tool_view T.meaning T.preprocessed T.compiled T.failed) calls.old calls.new answers.items) (shelves_of (E.shelf self.new.entries) (O.shelf self.new.objects))) }
         ensures says { IfOk result (λ answers. Each (IsAnswered self.old.settings F.tree F.failed F.fails_on T.meaning T.failed T.fails_in) calls.old calls.new answers.items) }
         ensures settings { self.new.settings ≡ self.old.settings }
         ensures unchanged { OnErr result ((calls.new ≡ calls.old) × (E.shelf self.new.entries ≡ E.shelf self.old.entries) × (O.shelf self.new.objects ≡ O.shelf self.old.objects)) }
@@ -213,6 +219,10 @@ impl<
         ensures settings { self.new.settings ≡ self.old.settings }
         ensures meaning { T.meaning tool.new ≡ T.meaning tool.old }
         ensures tree { F.tree files.new ≡ F.tree files.old }
+        ensures steady { OnOk result
+            (AreSteady T.failed F.failed tool.old files.old tool.new files.new) }
+        ensures memory { IsErrOf result Fault.Memory →
+            AreSteady T.failed F.failed tool.old files.old tool.new files.new }
     {
         match judge(self.alloc, request, files)? {
             Verdict::Passes(reason) => Ok(Answer::Pass(reason)),
@@ -241,6 +251,17 @@ fn kept_how(from_record: bool) -> How
     }
 }
 
+/// Puts what a compile made under its key, once, whatever was dropped before; or hands it back where the store refuses it.
+fn keep<O: Store<StoreKey, Listed<(OsBytes, OsBytes)>>>(
+    objects: &mut O,
+    key: StoreKey,
+    pairs: Listed<(OsBytes, OsBytes)>,
+) -> Result<(), (StoreKey, Listed<(OsBytes, OsBytes)>)>
+    ensures { Puts ⟦<StoreKey as PartialEq>⟧.eq (O.shelf objects.old) (O.shelf objects.new) key pairs result }
+{
+    objects.put(key, pairs)
+}
+
 /// Answers a request that isn't passed through: what the store holds under its key, or what one compile makes, which
 /// is kept then.
 fn answer<
@@ -267,6 +288,10 @@ fn answer<
     ensures unpassed { OnPass result ⊥ }
     ensures meaning { T.meaning tool.new ≡ T.meaning tool.old }
     ensures tree { F.tree files.new ≡ F.tree files.old }
+    ensures steady { OnOk result
+        (AreSteady T.failed F.failed tool.old files.old tool.new files.new) }
+    ensures memory { IsErrOf result Fault.Memory →
+        AreSteady T.failed F.failed tool.old files.old tool.new files.new }
 {
     // Laws, which cost nothing: what follows from them is said above.
     keys_are_their_fields();
@@ -284,7 +309,7 @@ fn answer<
     }
     let pairs = compiled_pairs(alloc, request, plan, files, tool)?;
     let map = placed(alloc, outputs, pairs.as_slice())?;
-    let _ = objects.put(key, pairs);
+    let _ = keep(objects, key, pairs);
     Ok(Answer::Outputs {
         map,
         how: How::Fresh,

@@ -1,6 +1,6 @@
 //! The verdict on a request's words: it is passed through, or there is a plan of what is run for it.
 
-ghost use Rattle.std.specs.Prelude.{◌≡◌, is_some, true, List, IfOk, IfErr, OnOk};
+ghost use Rattle.std.specs.Prelude.{◌≡◌, is_some, true, List, IfOk, IfErr, OnOk, IsErrOf};
 ghost use Rattle.os_files.specs.Bytes.{Bytes};
 ghost use Rattle.os_files.specs.Fails.{FailsOn};
 ghost use Rattle.cmdlines.specs.Commands.{object_path};
@@ -9,7 +9,7 @@ ghost use Rattle.cmdlines.specs.ReadBack.{ReadsAsCompile, ReadsAsPreprocess};
 ghost use Rattle.wrap_base.specs.Commands.{compile_command_of, kind_of, words_at};
 ghost use Rattle.wrap_base.specs.Answers.{EarlyCause};
 ghost use Rattle.wrap_base.specs.Verdict.{with_hazards, verdict_of};
-ghost use Rattle.wrap.specs.Plans.{decision_of, IsPlanOf, IsReadAgain, IsReadAgainUnlessGiven, OnAsks};
+ghost use Rattle.wrap.specs.Plans.{decision_of, IsPlanOf, IsReadAgain, IsReadAgainUnlessGiven, IsReadAgainWhereSafe, OnAsks};
 
 use ckeys::compiler_impl::CCompilerImpl;
 use ckeys::fault::Fault;
@@ -66,6 +66,8 @@ fn after_hazards(
     ensures verdict { IfOk result (λ verdict. decision_of verdict ≡ with_hazards (kind_of request.now.compiler) (parsing.asks parsed)) }
     ensures plan { IfOk result (λ verdict. OnAsks verdict (IsPlanOf request.now)) }
     ensures again { (words : List Bytes) → parsing.parse_of (kind_of request.now.compiler) words ≡ parsing.asks parsed → parsing.HasSafeInput (kind_of request.now.compiler) parsed → IfOk result (λ verdict. OnAsks verdict (IsReadAgain request.now words)) }
+    ensures safe { (words : List Bytes) → parsing.parse_of (kind_of request.now.compiler) words ≡ parsing.asks parsed
+        → IfOk result (λ verdict. OnAsks verdict (IsReadAgainWhereSafe request.now words)) }
 {
     if empty_value(&parsed) {
         return Ok(Verdict::Passes(Reason::EmptyValue));
@@ -89,13 +91,15 @@ fn after_hazards(
 /// The verdict on a request, with the files of words that it names opened.
 pub fn judge<F: Files>(alloc: Global, request: &Request, files: &mut F) -> Result<Verdict, Fault>
     ensures verdict { IfOk result (λ verdict. decision_of verdict ≡ verdict_of (kind_of request.now.compiler) (words_at request.now (F.tree files.old))) }
-    // The commands are those of the request, and its compiler reads them again as what was wanted, unless an option of Msvc gave the
-    // input.
+    // The commands are those of the request, and its compiler reads them again as what was wanted, unless an option of Msvc gave an
+    // input that can't stand where it's written.
     ensures plan { IfOk result (λ verdict. OnAsks verdict (IsPlanOf request.now)) }
     ensures again { IfOk result (λ verdict. OnAsks verdict (IsReadAgainUnlessGiven request.now (words_at request.now (F.tree files.old)))) }
+    ensures safe { IfOk result (λ verdict. OnAsks verdict (IsReadAgainWhereSafe request.now (words_at request.now (F.tree files.old)))) }
     ensures cause { IfErr result (EarlyCause (FailsOn F.tree F.failed F.fails_on files.old files.new)) }
     ensures tree { F.tree files.new ≡ F.tree files.old }
     ensures steady { OnOk result (F.failed files.new ≡ F.failed files.old) }
+    ensures memory { IsErrOf result Fault.Memory → F.failed files.new ≡ F.failed files.old }
 {
     let words = request.words.as_slice();
     match request

@@ -1,2 +1,3 @@
 pub mod KeyEquality
 pub mod EmptiedShelf
+pub mod Looking

@@ -85,7 +85,7 @@ pub record AskedTurn (digest_of : Bytes → Bytes) (a : Account) (old new : Shel
   pub how : HowFrom from result
   pub fine : OnOutputs a result (λ w. from ≡ false → w.fault ≡ None)
   pub runs : OnOutputs a result (λ w. needs_preprocessing w.rec.language ≡ true → KeyRuns from printed printed_new)
-  pub recorded : OnOutputs a result (λ w. (p : PrintedCall) → w.direct ≡ Some p → KeyRecorded digest_of p new.entries from text_key)
+  pub recorded : OnOutputs a result (λ w. (p : PrintedCall) → w.direct ≡ Some p → KeyRecorded digest_of p old.entries new.entries from text_key)
   pub objects : KeyedTurn digest_of text_key a old.objects new.objects compiled compiled_new result
 
 -- what one call does to the include records: nothing where it has no entry key

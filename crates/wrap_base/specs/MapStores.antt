@@ -7,7 +7,7 @@ use Rattle.wrap_base.specs.declared.map_store.MapStore.{MapStore}
 
 -- what can be seen of it: no look-up forgets
 abbrev pub shelf_of : {K V : Type 0} → (K → K → Bool) → MapStore K V → Shelf K V
-shelf_of eq s = record { held = λ key. get eq s.map key; kept = s.kept; forgets = 0; clears = s.cleared }
+shelf_of eq s = record { held = λ key. get eq s.map key; kept = s.kept; forgets = 0; clears = s.cleared; puts = s.puts }
 
 -- how many keys have a pair
 abbrev pub count_of : {K V : Type 0} → MapStore K V → ℕ

@@ -1,20 +1,20 @@
 -- Whole runs.
-use Rattle.std.specs.Prelude.{◌≡◌, ℕ, true, false, List, [], ◌∷◌, map, Option, Some, None, Result, Ok, Err, IsErrOf}
+use Rattle.std.specs.Prelude.{◌≡◌, ℕ, true, false, List, [], ◌∷◌, map, Option, Some, None, Result, Ok, Err, OnOk, IsErrOf}
 use Rattle.std.specs.List.{AllByRecursion}
 use Rattle.os_files.specs.Bytes.{Bytes, ticked}
 use Rattle.os_files.specs.Fails.{FailsOn}
 use Rattle.os_files.specs.Tree.{Tree}
 use Rattle.ckeys_base.specs.Shelf.{Shelf, Within, KeepsKeys}
 use Rattle.ckeys.specs.Folders.{Settings}
-use Rattle.ckeys.specs.Meaning.{FailsIn, Meaning}
+use Rattle.ckeys.specs.Meaning.{AreSteady, FailsIn, Meaning}
 use Rattle.ckeys.specs.declared.fault.Fault.{Fault}
 use Rattle.ckeys.specs.declared.fault.Fault.TheVariants.{Memory}
 use Rattle.ckeys.specs.declared.step.Step.{Step}
 use Rattle.wrap_base.specs.Verdict.{Why}
 use Rattle.wrap_base.specs.Account.{Account, passed, worked, Pairs, account_at, why_passed}
 use Rattle.wrap_base.specs.Answers.{Answers, GoesOn, OnPass, Says, SaysBy, SaysPassed, settled, settled_by}
-use Rattle.wrap_base.specs.Asking.{AskedTurn, EntriesTurn, IsOfOneCall, RecordsAreTrue, Shelves}
-use Rattle.wrap_base.specs.Keys.{SameRecord}
+use Rattle.wrap_base.specs.Asking.{AskedTurn, EntriesTurn, IsOfOneCall, OnOutputs, RecordsAreTrue, Shelves}
+use Rattle.wrap_base.specs.Keys.{HasRecord, SameRecord}
 use Rattle.wrap_base.specs.Turn.{StoreTurn}
 use Rattle.wrap_base.specs.declared.answer.Answer.{Answer}
 use Rattle.wrap_base.specs.declared.answer.Answer.TheVariants.{Pass, Outputs}
@@ -30,11 +30,16 @@ pub record Ticks : Type 0 where
   pub failed : ℕ  -- the failures of the tool
   pub files_failed : ℕ  -- the failures of the files
 
--- One call, by plain values: what it does to the store and what its answer tells; what the verdict passes through is passed through, unless memory was refused before or a file's device failed, and then no tick of the tool moves; and where no growth is refused and no device fails, what is said before the compile is the account's alone.
+-- neither failure tick has moved
+abbrev pub SameFailures : Ticks → Ticks → Type 0
+SameFailures before after = (after.failed ≡ before.failed) × (after.files_failed ≡ before.files_failed)
+
+-- One call, by plain values: what it does to the store and what its answer tells; what the verdict passes through is passed through, unless memory was refused before or a file's device failed, and then no tick of the tool moves; outputs are answered only where the call has a record; and where no growth is refused and no device fails, what is said before the compile is the account's alone.
 pub record Turn (digest_of : Bytes → Bytes) (a : Account) (old new : Shelf StoreKey Pairs) (before after : Ticks) (result : Result Answer Fault) : Type 0 where
   pub store : StoreTurn digest_of a old new before.compiled after.compiled result
   pub passes : (why : Why) → why_passed a ≡ Some why → SaysPassed why (λ name. after.files_failed ≡ ticked before.files_failed) result
   pub quiet : OnPass result ((after.preprocessed ≡ before.preprocessed) × (after.compiled ≡ before.compiled) × (after.failed ≡ before.failed))
+  pub fine : OnOutputs a result HasRecord
   pub exact : (IsErrOf result Memory → ⊥) → after.files_failed ≡ before.files_failed → after.failed ≡ before.failed → settled_by result ≡ settled a
 
 -- a call that was answered: its account, the ticks before and after it, and its answer
@@ -54,12 +59,14 @@ abbrev pub Run : (Bytes → Bytes) → Shelf StoreKey Pairs → List Served → 
 Run digest_of old [] new = Loses old new
 Run digest_of old (s ∷ rest) new = (begin : Shelf StoreKey Pairs) × (mid : Shelf StoreKey Pairs) × Loses old begin × Turn digest_of s.account begin mid s.before s.after s.result × Run digest_of mid rest new
 
--- One call over both stores, by plain values: where the records are true of it, it is a turn over the object store alone; and, whether they are or not, it asks that store under a key and does to both what its answer tells; what the verdict passes through is passed through.
+-- One call over both stores, by plain values: where the records are true of it, it is a turn over the object store alone; and, whether they are or not, it asks that store under a key and does to both what its answer tells; what the verdict passes through is passed through; and no failure tick has moved where there is an answer, nor where memory was refused.
 pub record CallTurn (digest_of : Bytes → Bytes) (settings : Settings) (a : Account) (old new : Shelves) (before after : Ticks) (result : Result Answer Fault) : Type 0 where
   pub own : RecordsAreTrue digest_of a old.entries.held → Turn digest_of a old.objects new.objects before after result
   pub asked : AskedTurn digest_of a old new before.preprocessed after.preprocessed before.compiled after.compiled result
   pub entries : EntriesTurn digest_of a old.entries new.entries before.preprocessed after.preprocessed
   pub configured : IsOfOneCall settings a
+  pub steady : OnOk result (SameFailures before after)
+  pub memory : IsErrOf result Memory → SameFailures before after
   pub passes : (why : Why) → why_passed a ≡ Some why → SaysPassed why (λ name. after.files_failed ≡ ticked before.files_failed) result
   pub quiet : OnPass result ((after.preprocessed ≡ before.preprocessed) × (after.compiled ≡ before.compiled) × (after.failed ≡ before.failed))
 
@@ -67,6 +74,11 @@ pub record CallTurn (digest_of : Bytes → Bytes) (settings : Settings) (a : Acc
 abbrev pub BothRun : (Bytes → Bytes) → Settings → Shelves → List Served → Shelves → Type 0
 BothRun digest_of settings old [] new = Loses old.entries new.entries × Loses old.objects new.objects
 BothRun digest_of settings old (s ∷ rest) new = (begin : Shelves) × (mid : Shelves) × Loses old.entries begin.entries × Loses old.objects begin.objects × CallTurn digest_of settings s.account begin mid s.before s.after s.result × BothRun digest_of settings mid rest new
+
+-- a session's calls over both stores: each begins at what the one before it left
+abbrev pub SessionRun : (Bytes → Bytes) → Settings → Shelves → List Served → Shelves → Type 0
+SessionRun digest_of settings old [] new = new ≡ old
+SessionRun digest_of settings old (s ∷ rest) new = (mid : Shelves) × CallTurn digest_of settings s.account old mid s.before s.after s.result × SessionRun digest_of settings mid rest new
 
 abbrev pub accounts_of : List Served → List Account
 accounts_of run = map (λ s. s.account) run
@@ -161,10 +173,12 @@ Each P (b ∷ begins) [] results = Unit {0}
 Each P (b ∷ begins) (e ∷ ends) [] = Unit {0}
 Each P (b ∷ begins) (e ∷ ends) (r ∷ results) = P b e r × Each P begins ends results
 
--- A call is answered: its answer says what it may, a fault only with its cause, and outputs, where no records are kept, only where the call has no fault before; and its request, the tree of its files and its tool's meaning are as they were.
+-- A call is answered: its answer says what it may, a fault only with its cause, and outputs, where no records are kept, only where the call has no fault before; no failure tick has moved where there is an answer, nor where memory was refused; and its request, the tree of its files and its tool's meaning are as they were.
 pub record IsAnswered {F T : Type 0} (settings : Settings) (tree : F → Tree) (files_failed : F → ℕ) (fails_on : F → Bytes → F → Type 0) (meaning : T → Meaning) (failed : T → ℕ) (fails_in : T → Step → T → Type 0) (begin end : Call F T) (result : Result Answer Fault) : Type 0 where
   pub says : SaysBy GoesOn (account_at (meaning begin.tool) (tree begin.files) settings begin.request) (FailsOn tree files_failed fails_on begin.files end.files) (FailsIn meaning failed fails_in begin.tool end.tool) result
   pub plain : settings.direct ≡ false → Says (account_at (meaning begin.tool) (tree begin.files) settings begin.request) (FailsOn tree files_failed fails_on begin.files end.files) (FailsIn meaning failed fails_in begin.tool end.tool) result
+  pub steady : OnOk result (AreSteady failed files_failed begin.tool begin.files end.tool end.files)
+  pub memory : IsErrOf result Memory → AreSteady failed files_failed begin.tool begin.files end.tool end.files
   pub request : end.request ≡ begin.request
   pub kept_tree : tree end.files ≡ tree begin.files
   pub kept_meaning : meaning end.tool ≡ meaning begin.tool

@@ -1,10 +1,14 @@
 //! A store that drops nothing by itself.
 
 ghost use Rattle.std.specs.Prelude.{◌≡◌, ◌↔◌, true, None};
+ghost use Rattle.std.specs.Borrow.{sem};
 ghost use Rattle.std.specs.HashMap.{get};
+ghost use Rattle.std.specs.Io.BufRead.{Rests};
+ghost use Rattle.std.specs.Option.{option_copied};
 ghost use Rattle.std.proofs.Common.{rules};
-ghost use Rattle.ckeys_base.specs.Shelf.{Clears, KeepsKeys, Puts};
+ghost use Rattle.ckeys_base.specs.Shelf.{Asks, Clears, KeepsKeys, Puts};
 ghost use Rattle.wrap_base.specs.MapStores.{PutsAlone, count_of, shelf_of};
+ghost use Rattle.wrap_base.specs.contracts.map_store.MapStore.{the_row};
 
 use ckeys_base::store::Store;
 use std::alloc::Global;
@@ -18,6 +22,7 @@ pub struct MapStore<K: Eq + Hash, V> {
     map: HashMap<K, V>,
     kept: bool,
     cleared: u64,
+    puts: u64,
 }
 
 impl<K: Eq + Hash + Drop, V: Drop> MapStore<K, V> {
@@ -26,12 +31,13 @@ impl<K: Eq + Hash + Drop, V: Drop> MapStore<K, V> {
         ensures empty { (key : K) → (shelf_of K.eq result).held key ≡ None }
         ensures count { count_of result ≡ 0 }
         ensures kept { (shelf_of K.eq result).kept ≡ true }
-        ensures ticks { ((shelf_of K.eq result).forgets ≡ 0) × ((shelf_of K.eq result).clears ≡ 0) }
+        ensures ticks { ((shelf_of K.eq result).forgets ≡ 0) × ((shelf_of K.eq result).clears ≡ 0) × ((shelf_of K.eq result).puts ≡ 0) }
     {
         MapStore {
             map: HashMap::new(alloc),
             kept: true,
             cleared: 0,
+            puts: 0,
         }
     }
 
@@ -41,6 +47,7 @@ impl<K: Eq + Hash + Drop, V: Drop> MapStore<K, V> {
         ensures kept { (self.new.kept ≡ true) ↔ ((self.old.kept ≡ true) × KeepsKeys (λ q. get K.eq self.old.map q) (λ q. get K.eq self.new.map q)) }
         ensures count { count_of self.new ≡ 0 }
         ensures cleared { self.new.cleared ≡ self.old.cleared }
+        ensures puts { self.new.puts ≡ self.old.puts }
     {
         keys_are_themselves::<K>();
         self.kept = self.kept && self.map.is_empty();
@@ -60,7 +67,12 @@ impl<K: Eq + Hash + Drop, V: Drop> Store<K, V> for MapStore<K, V> {
 
     ghost respects = { λ s a b e. Prim.search rules };
 
-    fn get(&mut self, key: &K) -> Option<&V> {
+    fn get(&mut self, key: &K) -> Option<&V>
+        // It changes nothing, whatever was refused or dropped before.
+        ensures* after_borrow { sem 𝓛 (Rests (the_row K.row V.row K.PartialEq (record { hash_input = K.hash_input })) self.entry (λ new.
+            Asks (shelf_of K.eq self.old) (shelf_of K.eq new) key.now (option_copied result)
+            × (new ≡ self.old))) }
+    {
         self.map.get(key)
     }
 
@@ -68,6 +80,7 @@ impl<K: Eq + Hash + Drop, V: Drop> Store<K, V> for MapStore<K, V> {
         ensures stored { Puts K.eq (shelf_of K.eq self.old) (shelf_of K.eq self.new) key value result }
         ensures alone { PutsAlone K.eq self.old self.new key value result }
     {
+        self.puts = self.puts.wrapping_add(1);
         match self.map.insert(key, value) {
             Ok(_) => Ok(()),
             Err(failed) => {
@@ -95,6 +108,10 @@ impl<K: Eq + Hash + Drop, V: Drop> Store<K, V> for MapStore<K, V> {
 
     fn cleared(&self) -> u64 {
         self.cleared
+    }
+
+    fn puts(&self) -> u64 {
+        self.puts
     }
 }
 

@@ -1,6 +1,7 @@
 //! Keys under which outputs are kept.
 
-ghost use Rattle.std.specs.Prelude.{◌≡◌, ◌↔◌, true};
+ghost use Rattle.std.specs.Prelude.{◌≡◌, ◌↔◌, ◌++◌, true};
+ghost use Rattle.std.specs.Ordering.{ordering_then};
 ghost use Rattle.std.specs.declared.cmp.Ordering.TheVariants.{Equal};
 ghost use Rattle.wrap_base.specs.declared.store_key.StoreKey.{StoreKey};
 
@@ -8,6 +9,7 @@ use ckeys::output_name::OutputName;
 use ckeys::shape::CShape;
 use os_files::listed::Listed;
 use os_files::os_bytes::OsBytes;
+use std::hash::Hash;
 
 /// Whose requests a key is of.
 #[derive(Clone, Copy, Debug, PartialEq, Eq, PartialOrd, Ord, Hash)]
@@ -26,10 +28,19 @@ pub struct StoreKey {
     pub digest: OsBytes,
 }
 
-/// Keys are equal exactly if their fields are, and so they are in order.
+/// Keys are equal exactly if their fields are, and so they are in order. They are ordered by the family, then the shape, then the
+/// names, then the digest, and what is hashed of one is what is hashed of these, in this order.
 pub fn keys_are_their_fields()
     ensures equal { (one other : StoreKey) → (⟦<StoreKey as PartialEq>⟧.eq one other ≡ true) ↔ (one ≡ other) }
-    ensures ordered { (one other : StoreKey) → (⟦<StoreKey as Ord>⟧.cmp one other ≡ Equal) ↔ (one ≡ other) }
+    ensures tied { (one other : StoreKey) → (⟦<StoreKey as Ord>⟧.cmp one other ≡ Equal) ↔ (one ≡ other) }
+    ensures ordered { (one other : StoreKey) → ⟦<StoreKey as Ord>⟧.cmp one other
+        ≡ ordering_then (⟦<Family as Ord>⟧.cmp one.family other.family)
+        (ordering_then (⟦<CShape as Ord>⟧.cmp one.shape other.shape)
+        (ordering_then (⟦<Listed<OutputName> as Ord>⟧.cmp one.names other.names)
+        (⟦<OsBytes as Ord>⟧.cmp one.digest other.digest))) }
+    ensures hashed { (key : StoreKey) → ⟦<StoreKey as Hash>⟧.hash_input key
+        ≡ ⟦<Family as Hash>⟧.hash_input key.family ++ ⟦<CShape as Hash>⟧.hash_input key.shape
+        ++ ⟦<Listed<OutputName> as Hash>⟧.hash_input key.names ++ ⟦<OsBytes as Hash>⟧.hash_input key.digest }
 {
     ties_are_equal::<StoreKey>();
 }

@@ -16,37 +16,37 @@ struct Row {
     line: &'static str,
     /// Whether include records are kept.
     direct: bool,
-    /// Where its outputs come from, each time.
+    /// Where its outputs come from, or that it passes, each time.
     hows: [&'static str; 2],
-    /// Each output's name, path and contents.
+    /// Each output's name, path and contents, or why it passes.
     outputs: &'static str,
-    /// How many include records are held then.
-    records: usize,
+    /// How many include records are held then, and how many requests' outputs.
+    held: (usize, usize),
     /// The tool's steps in the two calls.
     steps: &'static str,
-    /// Whether files are asked for outside of these steps.
-    reads: bool,
+    /// The fault of a file that is asked for outside of these steps, where there is one.
+    reads: &'static str,
 }
 
-const ROWS: [Row; 4] = [
+const ROWS: [Row; 6] = [
     // A marker of 15 bytes and the source.
     Row {
         line: "-c foo.c",
         direct: false,
         hows: ["Fresh", "Stored"],
         outputs: "obj foo.o # 1 \"/w/foo.c\"\nint x;\n",
-        records: 0,
+        held: (0, 1),
         steps: "fault tool preprocess;fault tool compile;fault tool preprocess;",
-        reads: false,
+        reads: "",
     },
     Row {
         line: "-c foo.c -fplugin=p.so",
         direct: false,
         hows: ["Fresh", "Stored"],
         outputs: "obj foo.o # 1 \"/w/foo.c\"\nint x;\n",
-        records: 0,
+        held: (0, 1),
         steps: "fault tool preprocess;fault tool compile;fault tool preprocess;",
-        reads: true,
+        reads: "fault read /w/p.so;",
     },
     // The source is preprocessed, and the output is its own 7 bytes.
     Row {
@@ -54,9 +54,29 @@ const ROWS: [Row; 4] = [
         direct: false,
         hows: ["Fresh", "Stored"],
         outputs: "obj y.o int y;\n",
-        records: 0,
+        held: (0, 1),
         steps: "fault tool compile;",
-        reads: true,
+        reads: "fault read /w/y.i;",
+    },
+    // A file of words that names another one.
+    Row {
+        line: "@a.rsp",
+        direct: false,
+        hows: ["Fresh", "Stored"],
+        outputs: "obj foo.o # 1 \"/w/foo.c\"\nint x;\n",
+        held: (0, 1),
+        steps: "fault tool preprocess;fault tool compile;fault tool preprocess;",
+        reads: "fault read /w/b.rsp;",
+    },
+    // The file's words preprocess alone: no step is run.
+    Row {
+        line: "@e.rsp",
+        direct: false,
+        hows: ["pass", "pass"],
+        outputs: "-E",
+        held: (0, 0),
+        steps: "",
+        reads: "fault read /w/e.rsp;",
     },
     // Three markers of 13 bytes and the header's line. The second call runs no step.
     Row {
@@ -64,9 +84,9 @@ const ROWS: [Row; 4] = [
         direct: true,
         hows: ["Fresh", "Direct"],
         outputs: "obj m.o # 1 \"/w/m.c\"\n# 1 \"/w/h.h\"\nA\n# 1 \"/w/m.c\"\n",
-        records: 1,
+        held: (1, 1),
         steps: "fault tool preprocess;fault tool compile;",
-        reads: true,
+        reads: "fault read /w/m.c;",
     },
 ];
 
@@ -102,7 +122,7 @@ fn serves_row(alloc: Global, row: &Row, scene: &mut Scene) -> Result<Option<Stri
             fault = Some(text);
         }
     }
-    if scene.held() != (row.records, 1) {
+    if scene.held() != row.held {
         return Err("another number of pairs".into());
     }
     Ok(fault)
@@ -147,8 +167,10 @@ fn faults(alloc: Global, row: &Row, device: Device) -> Result<String, Fail> {
 fn each_file_is_refused(rt: HostRuntime) -> Result<(), Fail> {
     for row in ROWS.iter() {
         let faults = faults(rt.alloc(), row, Device::Files)?;
-        assert_eq!(rt; faults.contains("fault read "), row.reads, "{}", row.line);
-        assert!(rt; faults.contains("fault tool "), "{}", row.line);
+        let (reads, runs) = (!row.reads.is_empty(), !row.steps.is_empty());
+        assert_eq!(rt; faults.contains("fault read "), reads, "{}", row.line);
+        assert_eq!(rt; faults.contains("fault tool "), runs, "{}", row.line);
+        assert!(rt; faults.contains(row.reads), "{}", row.line);
     }
     Ok(())
 }

@@ -1,6 +1,6 @@
 //! For tests: a tool whose device fails at one call.
 
-ghost use Rattle.std.specs.Prelude.{◌≡◌, ◌⊎◌, ◌+◌, ◌%◌, ◌^◌, None, Some, OnOk, OnErr, IfErr};
+ghost use Rattle.std.specs.Prelude.{◌≡◌, ◌⊎◌, ◌+◌, ◌-◌, ◌%◌, ◌^◌, None, Some, OnOk, OnErr, IfErr};
 ghost use Rattle.os_files.specs.Bytes.{ticked};
 ghost use Rattle.ckeys.specs.Meaning.{StepTicks};
 
@@ -48,6 +48,8 @@ impl<T> FailTool<T> {
     /// Counts a call of that step, and fails at the one that is to fail.
     fn count(&mut self, step: Step) -> Result<(), ToolFail>
         ensures tool { self.new.tool ≡ self.old.tool }
+        ensures counted { self.new.calls_left ≡ self.old.calls_left - 1 }
+        ensures fails { self.old.calls_left ≡ 0 → self.old.failed_step ≡ None → OnOk result ⊥ }
         ensures ok { OnOk result (self.new.own ≡ self.old.own) }
         ensures device { IfErr result (λ e. e ≡ ToolFail.Device) }
         ensures due { OnErr result ((self.old.calls_left ≡ 0) × (self.old.failed_step ≡ None) × (self.new.failed_step ≡ Some step)) }

@@ -29,6 +29,7 @@ pub(crate) struct Forgetful<K: Eq + Hash, V> {
     kept: bool,
     forgot: u64,
     cleared: u64,
+    puts: u64,
 }
 
 impl<K: Eq + Hash + Drop, V: Drop> Forgetful<K, V> {
@@ -41,6 +42,7 @@ impl<K: Eq + Hash + Drop, V: Drop> Forgetful<K, V> {
             kept: true,
             forgot: 0,
             cleared: 0,
+            puts: 0,
         }
     }
 
@@ -50,6 +52,7 @@ impl<K: Eq + Hash + Drop, V: Drop> Forgetful<K, V> {
         ensures kept { self.new.kept ≡ self.old.kept }
         ensures forgot { self.new.forgot ≡ self.old.forgot }
         ensures cleared { self.new.cleared ≡ self.old.cleared }
+        ensures puts { self.new.puts ≡ self.old.puts }
     {
         let (order, others) = self.orders.split_first()?;
         self.orders = others;
@@ -63,6 +66,7 @@ impl<K: Eq + Hash + Drop, V: Drop> Forgetful<K, V> {
             × KeepsKeys (λ q. get K.eq self.old.map q) (λ q. get K.eq self.new.map q)) }
         ensures forgot { self.new.forgot ≡ self.old.forgot }
         ensures cleared { self.new.cleared ≡ self.old.cleared }
+        ensures puts { self.new.puts ≡ self.old.puts }
     {
         keys_are_themselves::<K>();
         self.kept = self.kept && self.map.is_empty();
@@ -91,6 +95,7 @@ impl<K: Eq + Hash + Drop, V: Drop> Store<K, V> for Forgetful<K, V> {
       kept = s.kept;
       forgets = s.forgot;
       clears = s.cleared;
+      puts = s.puts;
     } };
 
     ghost respects = { λ s a b e. Prim.search rules };
@@ -101,6 +106,7 @@ impl<K: Eq + Hash + Drop, V: Drop> Store<K, V> for Forgetful<K, V> {
     }
 
     fn put(&mut self, key: K, value: V) -> Result<(), (K, V)> {
+        self.puts = self.puts.wrapping_add(1);
         match self.next_order() {
             Some(Order::Refuse) => {
                 self.kept = false;
@@ -133,6 +139,10 @@ impl<K: Eq + Hash + Drop, V: Drop> Store<K, V> for Forgetful<K, V> {
 
     fn cleared(&self) -> u64 {
         self.cleared
+    }
+
+    fn puts(&self) -> u64 {
+        self.puts
     }
 }
 

@@ -39,7 +39,7 @@ fn what_is_put_is_held(rt: HostRuntime) -> Result<(), Fail> {
     holds(&rt, &mut store, &rows);
     assert_eq!(rt; store.len(), 2);
     assert!(rt; store.kept_all());
-    assert_eq!(rt; (store.forgot(), store.cleared()), (0, 0));
+    assert_eq!(rt; (store.forgot(), store.cleared(), store.puts()), (0, 0, 2));
     Ok(())
 }
 
@@ -59,7 +59,7 @@ fn all_is_dropped(rt: HostRuntime) -> Result<(), Fail> {
     holds(&rt, &mut store, &[("one", None), ("two", None)]);
     assert_eq!(rt; store.len(), 0);
     assert!(rt; !store.kept_all());
-    assert_eq!(rt; (store.forgot(), store.cleared()), (0, 1));
+    assert_eq!(rt; (store.forgot(), store.cleared(), store.puts()), (0, 1, 2));
     Ok(())
 }
 
@@ -69,6 +69,6 @@ fn nothing_is_dropped_of_an_empty_store(rt: HostRuntime) -> Result<(), Fail> {
     store.forget_all();
     assert_eq!(rt; store.len(), 0);
     assert!(rt; store.kept_all());
-    assert_eq!(rt; (store.forgot(), store.cleared()), (0, 1));
+    assert_eq!(rt; (store.forgot(), store.cleared(), store.puts()), (0, 1, 0));
     Ok(())
 }

@@ -26,13 +26,16 @@ pub(crate) const NO_FAILURE: Limits = Limits {
 };
 
 /// The files of each request.
-const FILES: [(&str, &[u8]); 6] = [
+const FILES: [(&str, &[u8]); 9] = [
     ("/w/foo.c", b"int x;\n"),
     ("/w/y.i", b"int y;\n"),
     ("/w/bad.c", b"#error\n"),
     ("/w/p.so", b"plug"),
     ("/w/m.c", b"#include \"h.h\"\n"),
     ("/w/h.h", b"A\n"),
+    ("/w/a.rsp", b"@b.rsp"),
+    ("/w/b.rsp", b"-c foo.c"),
+    ("/w/e.rsp", b"-E foo.c"),
 ];
 
 /// The files of each request.

@@ -65,6 +65,7 @@ loop-call-preserved g c =
       plain = subst (λ q. has_entry_key q.call ≡ false → IfOk answer (λ made. made.2 ≡ false)) is e.plain;
       fit = subst (λ env. OnOk answer (AllByRecursion FitsLength (filter is_cached env))) at_place.env e.fit;
       steady = e.steady;
+      memory = e.memory;
       compiles = e.compiles;
       hasher = refl;
       dir = refl;
@@ -87,7 +88,7 @@ loop-call-preserved g c =
     let over : AsksOver digest_of view settings (g.E.Store.shelf c.loop-call.entries) ends called ended answer = record {
       from = from;
       entries = subst (λ q. EntryTurn digest_of q (g.E.Store.shelf c.loop-call.entries) ends (view.preprocessed called.tool) (view.preprocessed ended.tool)) is e.entries;
-      recorded = subst (λ q. IfOk answer (λ made. KeyRecorded digest_of q ends made.2 (string_bytes made.0))) is e.recorded;
+      recorded = subst (λ q. IfOk answer (λ made. KeyRecorded digest_of q (g.E.Store.shelf c.loop-call.entries) ends made.2 (string_bytes made.0))) is e.recorded;
     } in
     let Keyed : (HashCall g.row.I.Denot g.row.F.Denot g.row.T.Denot × HashCall g.row.I.Denot g.row.F.Denot g.row.T.Denot) × KeyAnswer → Type 0 = λ x. IsKeyed digest_of view settings g.F.Files.fails_on g.T.Preprocessor.fails_in x.0.0 x.0.1 x.1 in
     let zipped = zipped_more first now rs i inv.rest lt inv.count d ended answer in

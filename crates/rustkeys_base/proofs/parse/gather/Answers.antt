@@ -1,5 +1,6 @@
 use Rattle.std.proofs.Common.{◌≡◌, ◌∙◌, List, [], ◌∷◌, None, ap, sym, subst, append-nil, map, rules}
 use Rattle.std.specs.List.{AllZip}
+use Rattle.std.specs.Prelude.{is_some}
 use Rattle.std.specs.Option.{option_map}
 use Rattle.cmdlines_base.specs.Cutting.{place_of, reading_at}
 use Rattle.cmdlines_base.specs.Reading.{Reading}
@@ -38,7 +39,7 @@ loop-next-preserved g c =
     let noted : c.take.new.facts ≡ facts_with f (token_of step.item ∷ []) = (rw none at c.in_ok-why-in-Ok.ensures.noted) ∙ ap (λ t. facts_with f (t ∷ [])) token in
     record {
       table = steps.1 ∙ inv.table;
-      verdict = ap (λ h. verdict_at dir tree h left) noted ∙ sym (verdict-more dir tree f step.item left step.accepted nothing) ∙ ap (verdict_at dir tree f) (sym step.reads) ∙ inv.verdict;
+      verdict = ap (λ h. verdict_at dir tree h left) noted ∙ sym (verdict-more dir tree f step.item left (ap is_some step.accepted) nothing) ∙ ap (verdict_at dir tree f) (sym step.reads) ∙ inv.verdict;
       facts = ap (λ h. facts_with h (map token_of left.items)) noted ∙ facts-more f (token_of step.item) (map token_of left.items) ∙ ap (λ (r : Reading ArgKind). facts_with f (map token_of r.items)) (sym step.reads) ∙ inv.facts;
       kept = continues-more step.item left.items all.items argument c.loop-next.kept c.take.new.kept step.is (rw none at c.in_ok-why-in-Ok.ensures.kept) (subst (λ (r : Reading ArgKind). Continues r.items c.loop-next.kept all.items) step.reads inv.kept);
       tree = c.in_ok-why-in-Ok.ensures.tree ∙ inv.tree;

@@ -7,7 +7,7 @@ use Rattle.cmdlines_base.proofs.cutting.ArgsIterIterator.next.Goals as goal
 
 pub returns-in-Ok-clause-steps : goal.returns-in-Ok-clause-steps
 returns-in-Ok-clause-steps g c =
-    let values = values_by g.T.ArgumentValue.flag_value g.T.ArgumentValue.word_value g.T.ArgumentValue.refuses in
+    let values = values_by g.T.ArgumentValue.flag_value g.T.ArgumentValue.word_value g.T.ArgumentValue.refusal in
     let table = all_entries (g.S.SearchableArgInfo.tables c.args.self.now.table.now) in
     let old = place_of c.args.self.now in
     let word = c.in_ok-word.word.now in
@@ -19,7 +19,7 @@ returns-in-Ok-clause-steps g c =
 
 pub returns-in-Ok-first_argument-clause-steps : goal.returns-in-Ok-first_argument-clause-steps
 returns-in-Ok-first_argument-clause-steps g c =
-    let values = values_by g.T.ArgumentValue.flag_value g.T.ArgumentValue.word_value g.T.ArgumentValue.refuses in
+    let values = values_by g.T.ArgumentValue.flag_value g.T.ArgumentValue.word_value g.T.ArgumentValue.refusal in
     let table = all_entries (g.S.SearchableArgInfo.tables c.args.self.now.table.now) in
     let old = place_of c.args.self.now in
     let word = c.as_bytes-bytes.result.now in
@@ -32,7 +32,7 @@ returns-in-Ok-first_argument-clause-steps g c =
 
 pub returns-in-Err-first_argument-clause-steps : goal.returns-in-Err-first_argument-clause-steps
 returns-in-Err-first_argument-clause-steps g c =
-    let values = values_by g.T.ArgumentValue.flag_value g.T.ArgumentValue.word_value g.T.ArgumentValue.refuses in
+    let values = values_by g.T.ArgumentValue.flag_value g.T.ArgumentValue.word_value g.T.ArgumentValue.refusal in
     let table = all_entries (g.S.SearchableArgInfo.tables c.args.self.now.table.now) in
     let old = place_of c.args.self.now in
     let word = c.as_bytes-bytes.result.now in

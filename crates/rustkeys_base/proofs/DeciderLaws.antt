@@ -1,0 +1,136 @@
+-- What decides first.
+use Rattle.std.proofs.Common.{◌≡◌, Bool, true, false, List, [], ◌∷◌, ◌++◌, Option, Some, None, map, not, ◌&&◌, refl, ap, sym, ◌∙◌, append-nil, cond}
+use Rattle.std.specs.Bool.{if◌then◌else◌}
+use Rattle.std.specs.Option.{is_some, option_map}
+use Rattle.std.specs.Prelude.{codes}
+use Rattle.std.specs.Str.{bytes_eq}
+use Rattle.std.proofs.lemmas.Bool.{false≢true}
+use Rattle.os_files.specs.Bytes.{Bytes}
+use Rattle.os_files.specs.Tree.{Tree}
+use Rattle.cmdlines_base.specs.Reading.{Item}
+use Rattle.rustc_options.specs.declared.data.ArgData.{ArgData}
+use Rattle.rustc_options.specs.declared.data.ArgData.TheVariants as values
+use Rattle.rustc_options.specs.declared.kind.ArgKind.{ArgKind}
+use Rattle.rustkeys_base.specs.Facts.{facts_of, facts_with, no_facts}
+use Rattle.rustkeys_base.specs.Saying.{Token, loose, says, unread, token_of}
+use Rattle.rustkeys_base.specs.Verdict.{Verdict, asks, not_compilation, cannot_cache, closing, codegen_decides, decides, is_misread, is_unsure, not_parsed, other_types, second_input, unless_decided, verdict_from}
+use Rattle.rustkeys_base.specs.declared.facts.Facts.{Facts}
+use Rattle.rustkeys_base.proofs.FactLemmas.{facts-more, facts-none}
+
+abbrev is_asks : Verdict → Bool
+is_asks asks = true
+is_asks not_compilation = false
+is_asks (cannot_cache reason more) = false
+
+abbrev asks_in : Option Verdict → Bool
+asks_in None = false
+asks_in (Some verdict) = is_asks verdict
+
+either : (b : Bool) (o p : Option Verdict) → asks_in o ≡ false → asks_in p ≡ false → asks_in (cond b o p) ≡ false
+either true o p h k = h
+either false o p h k = k
+
+types-refuse : (names : List Bytes) → asks_in (other_types names) ≡ false
+types-refuse [] = refl
+types-refuse (name ∷ names) = refl
+
+codegen-refuses : (opt : Bytes) (value : Option Bytes) → asks_in (codegen_decides opt value) ≡ false
+codegen-refuses opt value = either (bytes_eq opt (codes "incremental")) _ _ refl (either (bytes_eq opt (codes "extra-filename") && not (is_some value)) _ _ refl refl)
+
+module _ (dir : Bytes) (files : Tree) where
+  token-refuses : (f : Facts) (token : Token) → asks_in (decides dir files f token) ≡ false
+  token-refuses f (loose word) = by f.input
+    where
+      by : (o : Option Bytes) → asks_in (option_map (λ previous. second_input previous word) o) ≡ false
+      by None = refl
+      by (Some previous) = refl
+  token-refuses f (says flag values.TooHardFlag) = refl
+  token-refuses f (says flag (values.TooHardPath path)) = refl
+  token-refuses f (says flag values.NotCompilationFlag) = refl
+  token-refuses f (says flag (values.NotCompilation word)) = refl
+  token-refuses f (says flag (values.LinkLibrary l)) = refl
+  token-refuses f (says flag (values.LinkPath l)) = refl
+  token-refuses f (says flag (values.Emit kinds)) = either (is_some f.emit) _ _ refl refl
+  token-refuses f (says flag (values.Extern e)) = refl
+  token-refuses f (says flag (values.Color mode)) = refl
+  token-refuses f (says flag (values.Json word)) = refl
+  token-refuses f (says flag (values.CrateName name)) = refl
+  token-refuses f (says flag (values.CrateType types)) = types-refuse types.others
+  token-refuses f (says flag (values.OutDir path)) = refl
+  token-refuses f (says flag (values.CodeGen o)) = codegen-refuses o.opt o.value
+  token-refuses f (says flag (values.PassThrough word)) = refl
+  token-refuses f (says flag (values.Target target)) = either (is_unsure dir files target) _ _ refl refl
+  token-refuses f (says flag (values.Unstable o)) = refl
+  token-refuses f unread = refl
+
+  abbrev decided : Facts → Item ArgKind → Option Verdict
+  decided f item = if is_misread item then Some not_parsed else decides dir files f (token_of item)
+
+  -- no item decides that something is asked for
+  refuses : (f : Facts) (item : Item ArgKind) (verdict : Verdict) → decided f item ≡ Some verdict → verdict ≡ asks → ⊥
+  refuses f item verdict h is = false≢true (sym (either (is_misread item) _ _ refl (token-refuses f (token_of item))) ∙ ap asks_in h ∙ ap is_asks is)
+
+  one-by : (misread : Bool) (o : Option Verdict) (later : Verdict) → (if misread then not_parsed else unless_decided o later) ≡ unless_decided (if misread then Some not_parsed else o) later
+  one-by true o later = refl
+  one-by false o later = refl
+
+  abbrev onto : Facts → Item ArgKind → Facts
+  onto f item = facts_with f (token_of item ∷ [])
+
+  one : (f : Facts) (item : Item ArgKind) (items : List (Item ArgKind)) (cut : Bool) (o : Option Verdict) → decided f item ≡ o → verdict_from dir files f (item ∷ items) cut ≡ unless_decided o (verdict_from dir files (onto f item) items cut)
+  one f item items cut o h =
+      one-by (is_misread item) (decides dir files f (token_of item)) (verdict_from dir files (onto f item) items cut)
+      ∙ ap (λ d. unless_decided d (verdict_from dir files (onto f item) items cut)) h
+
+  abbrev NoneFrom : Facts → List (Item ArgKind) → Type 0
+  NoneFrom f items = (earlier : List (Item ArgKind)) (item : Item ArgKind) (later : List (Item ArgKind)) → items ≡ earlier ++ item ∷ later → decided (facts_with f (map token_of earlier)) item ≡ None
+
+  head-none : (f : Facts) (item : Item ArgKind) (items : List (Item ArgKind)) → NoneFrom f (item ∷ items) → decided f item ≡ None
+  head-none f item items h = ap (λ g. decided g item) (sym (facts-none f)) ∙ h [] item items refl
+
+  tail-none : (f : Facts) (item : Item ArgKind) (items : List (Item ArgKind)) → NoneFrom f (item ∷ items) → NoneFrom (onto f item) items
+  tail-none f item items h earlier other later e =
+      ap (λ g. decided g other) (facts-more f (token_of item) (map token_of earlier)) ∙ h (item ∷ earlier) other later (ap (λ (l : List (Item ArgKind)). item ∷ l) e)
+
+  both-none : (f : Facts) (item : Item ArgKind) (items : List (Item ArgKind)) → decided f item ≡ None → NoneFrom (onto f item) items → NoneFrom f (item ∷ items)
+  both-none f item items none nones [] other later e =
+      let same : other ≡ item = cc in
+      ap (decided (facts_with f [])) same ∙ ap (λ g. decided g item) (facts-none f) ∙ none
+  both-none f item items none nones (first ∷ earlier) other later e =
+      let same : first ≡ item = cc in
+      let rest : items ≡ earlier ++ other ∷ later = cc in
+      ap (λ i. decided (facts_with f (token_of i ∷ map token_of earlier)) other) same
+      ∙ ap (λ g. decided g other) (sym (facts-more f (token_of item) (map token_of earlier)))
+      ∙ nones earlier other later rest
+
+  -- items of which none decides
+  passed : (earlier : List (Item ArgKind)) (f : Facts) (rest : List (Item ArgKind)) (cut : Bool) → NoneFrom f earlier → verdict_from dir files f (earlier ++ rest) cut ≡ verdict_from dir files (facts_with f (map token_of earlier)) rest cut
+  passed [] f rest cut h = ap (λ g. verdict_from dir files g rest cut) (sym (facts-none f))
+  passed (item ∷ items) f rest cut h =
+      one f item (items ++ rest) cut None (head-none f item items h)
+      ∙ passed items (onto f item) rest cut (tail-none f item items h)
+      ∙ ap (λ g. verdict_from dir files g rest cut) (facts-more f (token_of item) (map token_of items))
+
+  pub first_decides : (earlier later : List (Item ArgKind)) (item : Item ArgKind) (cut : Bool) (verdict : Verdict) → NoneFrom no_facts earlier → decided (facts_of (map token_of earlier)) item ≡ Some verdict → verdict_from dir files no_facts (earlier ++ item ∷ later) cut ≡ verdict
+  first_decides earlier later item cut verdict nones h = passed earlier no_facts (item ∷ later) cut nones ∙ one (facts_of (map token_of earlier)) item later cut (Some verdict) h
+
+  pub none_decides : (items : List (Item ArgKind)) (cut : Bool) → NoneFrom no_facts items → verdict_from dir files no_facts items cut ≡ (if cut then not_parsed else closing (facts_of (map token_of items)))
+  none_decides items cut nones = ap (λ (l : List (Item ArgKind)). verdict_from dir files no_facts l cut) (sym (append-nil items)) ∙ passed items no_facts [] cut nones
+
+  abbrev Asks : Facts → List (Item ArgKind) → Bool → Type 0
+  Asks f items cut = NoneFrom f items × (cut ≡ false) × (closing (facts_with f (map token_of items)) ≡ asks)
+
+  pub asks_for : (items : List (Item ArgKind)) (f : Facts) (cut : Bool) → verdict_from dir files f items cut ≡ asks → Asks f items cut
+  asks_for [] f true h = absurd (false≢true (ap is_asks h))
+  asks_for [] f false h = (nowhere, refl, ap closing (facts-none f) ∙ h)
+    where
+      nowhere : NoneFrom f []
+      nowhere [] item later e = cc
+      nowhere (first ∷ earlier) item later e = cc
+  asks_for (item ∷ items) f cut h = by (decided f item) refl (asks_for items (onto f item) cut)
+    where
+      by : (o : Option Verdict) → decided f item ≡ o → (verdict_from dir files (onto f item) items cut ≡ asks → Asks (onto f item) items cut) → Asks f (item ∷ items) cut
+      by None none later =
+          let rest = later (sym (one f item items cut None none) ∙ h) in
+          (both-none f item items none rest.0, rest.1, ap closing (sym (facts-more f (token_of item) (map token_of items))) ∙ rest.2)
+      by (Some verdict) some later = absurd (refuses f item verdict some (sym (one f item items cut (Some verdict) some) ∙ h))
