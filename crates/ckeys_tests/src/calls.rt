@@ -11,7 +11,6 @@ use ckeys::hasher::needs_c_preprocessing;
 use ckeys::place::CallPlace;
 use ckeys::preprocessor::Preprocessor;
 use ckeys::shape::CShape;
-use ckeys::step::Step;
 use ckeys::{EntryKey, PreprocessorCacheEntry};
 use cmdlines::clang::Clang;
 use cmdlines::gcc::Gcc;
@@ -78,19 +77,6 @@ pub(crate) fn ask<I: CCompilerImpl + Drop, F: Files>(
     Ok(hasher.generate_hash_key::<Sha256, Records, F, PrintTool>(alloc, &at, records, files, tool))
 }
 
-/// What the call of this line gives, where no record is there.
-fn call<I: CCompilerImpl + Drop, F: Files>(
-    alloc: Global,
-    compiler: &CCompiler<I>,
-    line: &str,
-    place: &Place<'_>,
-    files: &mut F,
-    tool: &mut PrintTool,
-) -> Result<Result<(String, CShape, bool), Fault>, Fail> {
-    let mut records = MapStore::new(alloc);
-    ask(alloc, compiler, line, place, &mut records, files, tool)
-}
-
 /// The key of this line of gcc in `/w`, or the fault as text.
 fn outcome<F: Files>(
     alloc: Global,
@@ -99,10 +85,44 @@ fn outcome<F: Files>(
     tool: &mut PrintTool,
 ) -> Result<String, Fail> {
     let compiler = known(alloc, gcc(alloc, false, None)?)?;
-    match call(alloc, &compiler, line, &in_w(), files, tool)? {
+    let mut records = MapStore::new(alloc);
+    match ask(alloc, &compiler, line, &in_w(), &mut records, files, tool)? {
         Ok((key, _, _)) => Ok(key),
         Err(fault) => Ok(format!(in alloc; "{fault}")?),
     }
+}
+
+/// The same on these files, where the preprocessor prints `int x;` and ends with this status; and how often it ran.
+fn told(
+    alloc: Global,
+    line: &str,
+    rows: &[(&str, &[u8])],
+    status: i32,
+) -> Result<(String, u64), Fail> {
+    let mut files = files_of(alloc, rows)?;
+    let mut tool = PrintTool::new(alloc, status, b"int x;")?;
+    let text = outcome(alloc, line, &mut files, &mut tool)?;
+    Ok((text, tool.ticks().preprocess))
+}
+
+/// The same where the device of all files fails; how often the preprocessor ran, and how often a file's device failed.
+fn told_of_broken_files(alloc: Global, line: &str) -> Result<(String, u64, u64), Fail> {
+    let mut files = BrokenFiles::new();
+    let mut tool = PrintTool::new(alloc, 0, b"int x;")?;
+    let text = outcome(alloc, line, &mut files, &mut tool)?;
+    Ok((text, tool.ticks().preprocess, files.failures()))
+}
+
+/// The same on these files where the tool's device fails, and how often it did.
+fn told_by_broken_tool(
+    alloc: Global,
+    line: &str,
+    rows: &[(&str, &[u8])],
+) -> Result<(String, u64), Fail> {
+    let mut files = files_of(alloc, rows)?;
+    let mut tool = PrintTool::broken(alloc);
+    let text = outcome(alloc, line, &mut files, &mut tool)?;
+    Ok((text, tool.ticks().failure))
 }
 
 /// The key and the shape of this line of this compiler on no files, with this text.
@@ -116,8 +136,18 @@ fn key_of<I: CCompilerImpl + Drop>(
     let compiler = known(alloc, compiler)?;
     let mut files = MemoryFiles::new(alloc);
     let mut tool = PrintTool::new(alloc, 0, text)?;
-    match call(alloc, &compiler, line, place, &mut files, &mut tool)? {
-        Ok((key, shape, _)) => Ok((key, shape)),
+    let mut records = MapStore::new(alloc);
+    match ask(
+        alloc,
+        &compiler,
+        line,
+        place,
+        &mut records,
+        &mut files,
+        &mut tool,
+    )? {
+        Ok((key, shape, false)) => Ok((key, shape)),
+        Ok((_, _, true)) => Err("a key from a record that isn't there".into()),
         Err(fault) => Err(Fail::new(fault)),
     }
 }
@@ -125,38 +155,26 @@ fn key_of<I: CCompilerImpl + Drop>(
 #[test]
 fn a_request_is_preprocessed(rt: HostRuntime) -> Result<(), Fail> {
     let alloc = rt.alloc();
-    let compiler = known(alloc, gcc(alloc, false, None)?)?;
-    let mut files = MemoryFiles::new(alloc);
-    let mut tool = PrintTool::new(alloc, 0, b"int x;")?;
-    let answer = call(
-        alloc,
-        &compiler,
-        "-c foo.c -O2",
-        &in_w(),
-        &mut files,
-        &mut tool,
-    )?;
-    let Ok((key, shape, from_record)) = answer else {
-        return Err("no key".into());
-    };
+    let line = "-c foo.c -O2";
     let expected = digest_of(alloc, b"d\x0011c-O2\xffint x;")?;
+    let (key, runs) = told(alloc, line, &[], 0)?;
+    assert_eq!(rt; key.as_str(), expected.as_str());
+    assert_eq!(rt; runs, 1);
+    let (key, shape) = key_of(alloc, gcc(alloc, false, None)?, line, &in_w(), b"int x;")?;
     assert_eq!(rt; key.as_str(), expected.as_str());
     assert_eq!(rt; shape.language, Language::C);
     assert_eq!(rt;
         (shape.compiler_digest, shape.words, shape.variables),
         (1, 1, 0)
     );
-    assert!(rt; !from_record);
-    assert_eq!(rt; tool.ticks().preprocess, 1);
     Ok(())
 }
 
 #[test]
 fn an_extra_file_is_hashed(rt: HostRuntime) -> Result<(), Fail> {
     let alloc = rt.alloc();
-    let mut tool = PrintTool::new(alloc, 0, b"int x;")?;
-    let mut files = files_of(alloc, &[("/w/p.so", b"plug".as_slice())])?;
-    let key = outcome(alloc, "-c foo.c -fplugin=p.so", &mut files, &mut tool)?;
+    let rows = [("/w/p.so", b"plug".as_slice())];
+    let (key, runs) = told(alloc, "-c foo.c -fplugin=p.so", &rows, 0)?;
     let plug = digest_of(alloc, b"plug")?;
     let expected = digest_of_all(
         alloc,
@@ -167,75 +185,68 @@ fn an_extra_file_is_hashed(rt: HostRuntime) -> Result<(), Fail> {
         ],
     )?;
     assert_eq!(rt; key.as_str(), expected.as_str());
-    assert_eq!(rt; tool.ticks().preprocess, 1);
+    assert_eq!(rt; runs, 1);
     Ok(())
 }
 
 #[test]
 fn an_extra_file_is_needed(rt: HostRuntime) -> Result<(), Fail> {
     let alloc = rt.alloc();
-    let mut tool = PrintTool::new(alloc, 0, b"int x;")?;
-    let mut files = files_of(alloc, &[("/p.so", b"plug".as_slice())])?;
-    let missing = outcome(alloc, "-c foo.c -fplugin=p.so", &mut files, &mut tool)?;
+    let line = "-c foo.c -fplugin=p.so";
+    let (missing, runs) = told(alloc, line, &[("/p.so", b"plug".as_slice())], 0)?;
     assert_eq!(rt; missing.as_str(), "read /w/p.so");
-    let mut broken = BrokenFiles::new();
-    let failed = outcome(alloc, "-c foo.c -fplugin=p.so", &mut broken, &mut tool)?;
+    assert_eq!(rt; runs, 0);
+    let (failed, runs, failures) = told_of_broken_files(alloc, line)?;
     assert_eq!(rt; failed.as_str(), "read /w/p.so");
-    assert_eq!(rt; tool.ticks().preprocess, 0);
+    assert_eq!(rt; (runs, failures), (0, 1));
     Ok(())
 }
 
 #[test]
 fn a_preprocessor_fails(rt: HostRuntime) -> Result<(), Fail> {
     let alloc = rt.alloc();
-    let compiler = known(alloc, gcc(alloc, false, None)?)?;
-    let mut files = MemoryFiles::new(alloc);
-    let mut tool = PrintTool::new(alloc, 1, b"int x;")?;
-    let ended = call(alloc, &compiler, "-c foo.c", &in_w(), &mut files, &mut tool)?;
-    assert!(rt; matches!(&ended, Err(Fault::PreprocessFailed(1))));
-    assert_eq!(rt; tool.ticks().preprocess, 1);
-    let mut broken = PrintTool::broken(alloc);
-    let failed = call(
-        alloc,
-        &compiler,
-        "-c foo.c",
-        &in_w(),
-        &mut files,
-        &mut broken,
-    )?;
-    assert!(rt; matches!(&failed, Err(Fault::Tool(Step::Preprocess))));
-    assert_eq!(rt; broken.ticks().failure, 1);
+    let (ended, runs) = told(alloc, "-c foo.c", &[], 1)?;
+    assert_eq!(rt; ended.as_str(), "preprocess 1");
+    assert_eq!(rt; runs, 1);
+    let (failed, failures) = told_by_broken_tool(alloc, "-c foo.c", &[])?;
+    assert_eq!(rt; failed.as_str(), "tool preprocess");
+    assert_eq!(rt; failures, 1);
     Ok(())
 }
 
 #[test]
 fn a_preprocessed_input_is_read(rt: HostRuntime) -> Result<(), Fail> {
     let alloc = rt.alloc();
-    let mut tool = PrintTool::broken(alloc);
-    let mut files = files_of(alloc, &[("/w/y.i", b"int y;\n".as_slice())])?;
-    let key = outcome(alloc, "-c y.i", &mut files, &mut tool)?;
-    let expected = digest_of(alloc, b"d\x0011cpp-outputint y;\n")?;
-    assert_eq!(rt; key.as_str(), expected.as_str());
-    let mut files = files_of(alloc, &[("/w/y.s", b"nop\n".as_slice())])?;
-    let key = outcome(alloc, "-c y.s", &mut files, &mut tool)?;
-    let expected = digest_of(alloc, b"d\x0011assemblernop\n")?;
-    assert_eq!(rt; key.as_str(), expected.as_str());
-    assert_eq!(rt; tool.ticks().preprocess, 0);
+    let rows = [
+        (
+            "-c y.i",
+            ("/w/y.i", b"int y;\n".as_slice()),
+            b"d\x0011cpp-outputint y;\n".as_slice(),
+        ),
+        (
+            "-c y.s",
+            ("/w/y.s", b"nop\n".as_slice()),
+            b"d\x0011assemblernop\n".as_slice(),
+        ),
+    ];
+    // The tool's device would fail.
+    for (line, file, material) in rows {
+        let (key, failures) = told_by_broken_tool(alloc, line, &[file])?;
+        assert_eq!(rt; key.as_str(), digest_of(alloc, material)?.as_str());
+        assert_eq!(rt; failures, 0);
+    }
     Ok(())
 }
 
 #[test]
 fn a_preprocessed_input_is_needed(rt: HostRuntime) -> Result<(), Fail> {
     let alloc = rt.alloc();
-    let mut tool = PrintTool::new(alloc, 0, b"int x;")?;
-    let mut files = MemoryFiles::new(alloc);
-    let missing = outcome(alloc, "-c y.i", &mut files, &mut tool)?;
+    let (missing, runs) = told(alloc, "-c y.i", &[], 0)?;
     assert_eq!(rt; missing.as_str(), "read /w/y.i");
-    let mut broken = BrokenFiles::new();
-    let failed = outcome(alloc, "-c y.i", &mut broken, &mut tool)?;
+    assert_eq!(rt; runs, 0);
+    let (failed, runs, failures) = told_of_broken_files(alloc, "-c y.i")?;
     assert_eq!(rt; failed.as_str(), "read /w/y.i");
-    assert_eq!(rt; broken.failures(), 1);
-    assert_eq!(rt; tool.ticks().preprocess, 0);
+    assert_eq!(rt; (runs, failures), (0, 1));
     assert!(rt; !needs_c_preprocessing(Language::CPreprocessed));
     assert!(rt; needs_c_preprocessing(Language::C));
     Ok(())

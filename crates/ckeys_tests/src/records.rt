@@ -17,7 +17,7 @@ use os_files::os_bytes::OsBytes;
 use sha2::Sha256;
 use std::alloc::{AllocError, Global};
 use std::test::Fail;
-use test_kit::rows::{files_of, insert};
+use test_kit::rows::files_of;
 use time_macros::zone::Zone;
 use wrap_base::map_store::MapStore;
 
@@ -33,23 +33,29 @@ const MATERIAL: &[u8] = b"d\x0011c-O2\xff# 1 \"foo.c\"\n# 1 \"foo.h\" 1\nint x;\
 /// What is hashed of it for the other one.
 const OTHER_MATERIAL: &[u8] = b"d\x0011c-O2\xff# 1 \"foo.c\"\n# 1 \"foo.h\" 1\nint y;\n";
 
-/// `foo.c` and its header in `/w`.
-fn sources(alloc: Global) -> Result<MemoryFiles, AllocError> {
+/// The header, and then another one of that name.
+const HEADER: &[u8] = b"int x;\n";
+
+const OTHER_HEADER: &[u8] = b"int y;\n";
+
+/// `foo.c` and this header in `/w`.
+fn sources(alloc: Global, header: &[u8]) -> Result<MemoryFiles, AllocError> {
     let rows = [
         ("/w/foo.c", b"#include \"foo.h\"\n".as_slice()),
-        ("/w/foo.h", b"int x;\n".as_slice()),
+        ("/w/foo.h", header),
     ];
     files_of(alloc, &rows)
 }
 
-/// The key of `-c foo.c -O2` over these records, and whether one of them gave it.
+/// A call of `-c foo.c -O2` over these records, with this header and where the preprocessor prints this text: its key, whether a record
+/// gave it, and how often the preprocessor ran.
 fn key_over(
     alloc: Global,
     direct: bool,
     records: &mut Records,
-    files: &mut MemoryFiles,
-    tool: &mut PrintTool,
-) -> Result<(String, bool), Fail> {
+    header: &[u8],
+    text: &[u8],
+) -> Result<(String, bool, u64), Fail> {
     let compiler = known(alloc, gcc(alloc, false, None)?)?;
     let place = Place {
         dir: "/w",
@@ -57,16 +63,13 @@ fn key_over(
         folders: &[],
         direct,
     };
+    let mut files = sources(alloc, header)?;
+    let mut tool = PrintTool::new(alloc, 0, text)?;
+    let line = "-c foo.c -O2";
     match ask(
-        alloc,
-        &compiler,
-        "-c foo.c -O2",
-        &place,
-        records,
-        files,
-        tool,
+        alloc, &compiler, line, &place, records, &mut files, &mut tool,
     )? {
-        Ok((key, _, from_record)) => Ok((key, from_record)),
+        Ok((key, _, from_record)) => Ok((key, from_record, tool.ticks().preprocess)),
         Err(fault) => Err(Fail::new(fault)),
     }
 }
@@ -74,28 +77,21 @@ fn key_over(
 #[test]
 fn a_record_gives_the_key(rt: HostRuntime) -> Result<(), Fail> {
     let alloc = rt.alloc();
-    let mut files = sources(alloc)?;
     let mut records = MapStore::new(alloc);
-    let mut tool = PrintTool::new(alloc, 0, TEXT)?;
-    let mut other_tool = PrintTool::new(alloc, 0, OTHER_TEXT)?;
-    let expected = digest_of(alloc, MATERIAL)?;
-    for of_record in [false, true, true] {
-        let (key, from_record) = key_over(alloc, true, &mut records, &mut files, &mut tool)?;
-        assert_eq!(rt; key.as_str(), expected.as_str());
-        assert_eq!(rt; from_record, of_record);
-    }
-    assert_eq!(rt; tool.ticks().preprocess, 1);
     // The header changes, and then it is again what it was.
-    insert(alloc, &mut files, "/w/foo.h", b"int y;\n")?;
-    let (key, from_record) = key_over(alloc, true, &mut records, &mut files, &mut other_tool)?;
-    assert_eq!(rt; key.as_str(), digest_of(alloc, OTHER_MATERIAL)?.as_str());
-    assert!(rt; !from_record);
-    assert_eq!(rt; other_tool.ticks().preprocess, 1);
-    insert(alloc, &mut files, "/w/foo.h", b"int x;\n")?;
-    let (key, from_record) = key_over(alloc, true, &mut records, &mut files, &mut other_tool)?;
-    assert_eq!(rt; key.as_str(), expected.as_str());
-    assert!(rt; from_record);
-    assert_eq!(rt; other_tool.ticks().preprocess, 1);
+    let rows = [
+        (HEADER, TEXT, MATERIAL, false),
+        (HEADER, TEXT, MATERIAL, true),
+        (HEADER, TEXT, MATERIAL, true),
+        (OTHER_HEADER, OTHER_TEXT, OTHER_MATERIAL, false),
+        (HEADER, OTHER_TEXT, MATERIAL, true),
+    ];
+    for (header, text, material, of_record) in rows {
+        let (key, from_record, runs) = key_over(alloc, true, &mut records, header, text)?;
+        assert_eq!(rt; key.as_str(), digest_of(alloc, material)?.as_str());
+        assert_eq!(rt; from_record, of_record);
+        assert_eq!(rt; runs, u64::from(!of_record));
+    }
     assert_eq!(rt; records.len(), 1);
     Ok(())
 }
@@ -103,15 +99,12 @@ fn a_record_gives_the_key(rt: HostRuntime) -> Result<(), Fail> {
 #[test]
 fn no_records_are_kept(rt: HostRuntime) -> Result<(), Fail> {
     let alloc = rt.alloc();
-    let mut files = sources(alloc)?;
     let mut records = MapStore::new(alloc);
-    let mut tool = PrintTool::new(alloc, 0, TEXT)?;
-    let expected = digest_of(alloc, MATERIAL)?;
-    for runs in [1, 2] {
-        let (key, from_record) = key_over(alloc, false, &mut records, &mut files, &mut tool)?;
-        assert_eq!(rt; key.as_str(), expected.as_str());
+    for _ in 0..2 {
+        let (key, from_record, runs) = key_over(alloc, false, &mut records, HEADER, TEXT)?;
+        assert_eq!(rt; key.as_str(), digest_of(alloc, MATERIAL)?.as_str());
         assert!(rt; !from_record);
-        assert_eq!(rt; tool.ticks().preprocess, runs);
+        assert_eq!(rt; runs, 1);
     }
     assert_eq!(rt; records.len(), 0);
     Ok(())
@@ -156,7 +149,7 @@ fn call_of<'a>(
         dir,
         env: &[],
         moment: 0,
-        files: sources(alloc)?,
+        files: sources(alloc, HEADER)?,
         tool: PrintTool::new(alloc, 0, text)?,
     })
 }
@@ -174,26 +167,34 @@ fn two_calls<'a>(
     Ok(calls)
 }
 
-#[test]
-fn a_call_gives_the_key_of_the_next(rt: HostRuntime) -> Result<(), Fail> {
-    let alloc = rt.alloc();
+/// What two such calls are answered, and how often the preprocessor ran for each.
+fn asked_twice(alloc: Global) -> Result<(Vec<(String, bool)>, Vec<u64>), Fail> {
     let compiler = known(alloc, gcc(alloc, false, None)?)?;
     let parsed = parsed(alloc, &compiler.compiler, "-c foo.c -O2")?;
     let dir = OsBytes::from_slice(alloc, b"/w")?;
     let mut calls = two_calls(alloc, &compiler, &parsed, &dir)?;
-    let expected = digest_of(alloc, MATERIAL)?;
-    let mut of_record = false;
+    let mut keys = Vec::new(alloc);
     for answer in answers_of(alloc, &mut calls)? {
-        let (key, from_record) = key_in(answer)?;
+        keys.push(key_in(answer)?)?;
+    }
+    let runs = calls
+        .iter()
+        .map(|call| call.tool.ticks().preprocess)
+        .collect(alloc)?;
+    Ok((keys, runs))
+}
+
+#[test]
+fn a_call_gives_the_key_of_the_next(rt: HostRuntime) -> Result<(), Fail> {
+    let alloc = rt.alloc();
+    let (keys, runs) = asked_twice(alloc)?;
+    let expected = digest_of(alloc, MATERIAL)?;
+    let wanted = [false, true];
+    assert_eq!(rt; keys.len(), 2);
+    for ((key, from_record), of_record) in keys.iter().zip(wanted) {
         assert_eq!(rt; key.as_str(), expected.as_str());
-        assert_eq!(rt; from_record, of_record);
-        of_record = true;
+        assert_eq!(rt; *from_record, of_record);
     }
-    assert!(rt; of_record);
-    let mut runs = 1;
-    for call in &calls {
-        assert_eq!(rt; call.tool.ticks().preprocess, runs);
-        runs = 0;
-    }
+    assert_eq!(rt; runs.as_slice(), [1_u64, 0].as_slice());
     Ok(())
 }

@@ -69,7 +69,7 @@ impl Facts {
         }
     }
     /// Notes what an argument says. Where it stands doesn't matter.
-    pub fn note<S: SearchableArgInfo<ArgData>>(
+    pub(crate) fn note<S: SearchableArgInfo<ArgData>>(
         &mut self,
         alloc: Global,
         table: &S,

@@ -54,7 +54,7 @@ impl Lists {
     }
 
     /// Adds an argument to the lists that it goes to.
-    pub fn take(
+    pub(crate) fn take(
         &mut self,
         alloc: Global,
         argument: Argument<ArgData>,

@@ -4,18 +4,12 @@ use cmdlines::clang::{Clang, ClangKind};
 use cmdlines::command::CommandError;
 use cmdlines::compiler_arguments::{CompilerArguments, ParseFault};
 use cmdlines::diab::{Diab, DiabKind};
-use cmdlines::facts::Facts;
 use cmdlines::found::{FoundCompiler, HasKind};
 use cmdlines::gcc::{Gcc, GccKind};
-use cmdlines::lists::Lists;
 use cmdlines::msvc::{Msvc, MsvcKind};
 use cmdlines::tasking_vx::{TaskingVX, TaskingVXKind};
-use cmdlines_base::argument::Argument;
 use cmdlines_base::value::ArgumentValue;
-use cmdlines_tables::compiler::{CCompilerKind, ColorMode};
-use cmdlines_tables::kind::ArgKind;
-use cmdlines_tables::tables::gnu_table;
-use cmdlines_tables::value::ArgData;
+use cmdlines_tables::compiler::CCompilerKind;
 use cmdlines_texts::written::{bare, parsed, written};
 use os_files::os_bytes::OsBytes;
 use std::alloc::{AllocError, Global};
@@ -108,22 +102,6 @@ fn the_object_of_a_request(rt: HostRuntime) -> Result<(), Fail> {
     };
     assert_eq!(rt; object.path.as_bytes(), b"foo.o".as_slice());
     assert!(rt; !object.optional);
-    Ok(())
-}
-
-#[test]
-fn facts_and_lists_take_an_argument(rt: HostRuntime) -> Result<(), Fail> {
-    let alloc = rt.alloc();
-    let table = gnu_table(alloc)?;
-    let (mut facts, mut lists) = (Facts::new(), Lists::new(alloc));
-    let colored = ArgData::of_flag(alloc, ArgKind::NoDiagnosticsColorFlag);
-    let argument = Argument::Flag("-fno-diagnostics-color", colored);
-    facts.note(alloc, &table, &argument)?;
-    lists.take(alloc, argument, false)?;
-    assert_eq!(rt; facts.color, Some(ColorMode::Off));
-    assert!(rt; !facts.compiles);
-    assert_eq!(rt; lists.common.len(), 1);
-    assert!(rt; lists.inputs.is_empty());
     Ok(())
 }
 

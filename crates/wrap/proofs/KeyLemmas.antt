@@ -15,8 +15,8 @@ use Rattle.ckeys_base.specs.Shelf.{Shelf}
 use Rattle.ckeys.specs.declared.fault.Fault.{Fault}
 use Rattle.ckeys.specs.declared.place.CallPlace.{CallPlace}
 use Rattle.ckeys.specs.declared.hasher.CCompilerHasher.{CCompilerHasher}
-use Rattle.wrap_base.specs.Account.{call_at, direct_at, work_at, worked}
-use Rattle.wrap_base.specs.Asking.{EntriesBy, EntriesTurn, WorkKeyFrom}
+use Rattle.wrap.specs.Account.{call_at, direct_at, work_at, worked}
+use Rattle.wrap.specs.Asking.{EntriesBy, EntriesTurn, WorkKeyFrom}
 use Rattle.wrap_base.specs.Commands.{kind_of, traits_of, executable_of, digest_of}
 use Rattle.wrap_base.specs.declared.compiler.Compiler.{Compiler}
 use Rattle.wrap_base.specs.declared.request.Request.{Request}

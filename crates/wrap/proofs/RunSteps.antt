@@ -22,14 +22,14 @@ use Rattle.include_records.specs.Records.{Record}
 use Rattle.ckeys.specs.declared.fault.Fault.TheVariants.{PreprocessFailed, Read}
 use Rattle.ckeys.specs.declared.fault.Fault.{Fault}
 use Rattle.wrap_base.specs.Commands.{kind_of, words_at}
-use Rattle.wrap_base.specs.Verdict.{Decision, Why, asks, passes, verdict_of}
+use Rattle.wrap.specs.Verdicts.{Decision, Why, asks, passes, verdict_of}
 use Rattle.wrap_base.specs.declared.request.Request.{Request}
-use Rattle.wrap_base.specs.Account.{Account, passed, worked, Work, Pairs, account_at, account_by, asked_by, call_at, work_at, collected, all, direct_calls, direct_of, placed, why_passed}
-use Rattle.wrap_base.specs.Answers.{Answers, SaysPassed}
-use Rattle.wrap_base.specs.Asking.{EntriesBy, EntriesTurn, IsOfCall, IsOfOneCall, RecordsAreTrue, Shelves}
-use Rattle.wrap_base.specs.Keys.{store_key_of, IsHashedDirect, IsHashedIn, Premises, Invariant}
-use Rattle.wrap_base.specs.Turn.{StoreTurn}
-use Rattle.wrap_base.specs.Whole.{Ticks, CallTurn, BothRun, SessionRun, Served, Loses, Run, accounts_of, AllAnswer, IsFresh, HaveOneRecord, OneFresh, outputs_in, Agree, SameOutputs, served, Each, FilesView, ToolView, begin_of, end_of, served_at, accounts_at}
+use Rattle.wrap.specs.Account.{Account, passed, worked, Work, Pairs, account_at, account_by, asked_by, call_at, work_at, collected, all, direct_calls, direct_of, placed, why_passed}
+use Rattle.wrap.specs.Answers.{Answers, SaysPassed}
+use Rattle.wrap.specs.Asking.{EntriesBy, EntriesTurn, IsOfCall, IsOfOneCall, RecordsAreTrue, Shelves}
+use Rattle.wrap.specs.StoreKeys.{store_key_of, IsHashedDirect, IsHashedIn, Premises, Invariant}
+use Rattle.wrap.specs.Turn.{StoreTurn}
+use Rattle.wrap.specs.Whole.{Ticks, CallTurn, BothRun, SessionRun, Served, Loses, Run, accounts_of, AllAnswer, IsFresh, HaveOneRecord, OneFresh, outputs_in, Agree, SameOutputs, served, Each, FilesView, ToolView, begin_of, end_of, served_at, accounts_at}
 use Rattle.wrap_base.specs.declared.answer.Answer.{Answer}
 use Rattle.wrap_base.specs.declared.answer.Answer.TheVariants.{Pass, Outputs}
 use Rattle.wrap_base.specs.declared.answer.How.TheVariants.{Direct, Stored, Fresh}

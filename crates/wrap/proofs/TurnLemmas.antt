@@ -18,12 +18,12 @@ use Rattle.ckeys.specs.declared.fault.Fault.{Fault}
 use Rattle.ckeys.specs.declared.fault.Fault.TheVariants.{Memory, Read, Tool, PreprocessFailed, CompileFailed, MissingOutput}
 use Rattle.ckeys.specs.declared.step.Step.{Step}
 use Rattle.ckeys.specs.declared.step.Step.TheVariants.{Preprocess, Compile}
-use Rattle.wrap_base.specs.Account.{Account, passed, worked, Work, Pairs, IsSuccess, direct_of, placed}
-use Rattle.wrap_base.specs.Answers.{EarlyCause, GoesOn, GoesOnWith, Placed, SaysBy, SaysWorkedBy}
-use Rattle.wrap_base.specs.Asking.{AskedTurn, AskedUnder, EntriesBy, EntriesTurn, HowFrom, RecordsAreTrue, Shelves, WorkKeyFrom}
-use Rattle.wrap_base.specs.Keys.{store_key_with}
-use Rattle.wrap_base.specs.Turn.{KeyedTurn, PutsBy, StoreTurn, own_text_key, StillKept, StoredTurn, MissTurn, Told, ToldBy}
-use Rattle.wrap_base.specs.Verdict.{Why}
+use Rattle.wrap.specs.Account.{Account, passed, worked, Work, Pairs, IsSuccess, direct_of, placed}
+use Rattle.wrap.specs.Answers.{EarlyCause, GoesOn, GoesOnWith, Placed, SaysBy, SaysWorkedBy}
+use Rattle.wrap.specs.Asking.{AskedTurn, AskedUnder, EntriesBy, EntriesTurn, HowFrom, RecordsAreTrue, Shelves, WorkKeyFrom}
+use Rattle.wrap.specs.StoreKeys.{store_key_with}
+use Rattle.wrap.specs.Turn.{KeyedTurn, PutsBy, StoreTurn, own_text_key, StillKept, StoredTurn, MissTurn, Told, ToldBy}
+use Rattle.wrap.specs.Verdicts.{Why}
 use Rattle.wrap_base.specs.declared.reason.Reason.{Reason}
 use Rattle.wrap_base.specs.declared.answer.Answer.{Answer}
 use Rattle.wrap_base.specs.declared.answer.Answer.TheVariants.{Outputs, Pass}

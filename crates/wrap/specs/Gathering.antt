@@ -1,6 +1,6 @@
 -- Outputs that were gathered so far.
 use Rattle.std.specs.Prelude.{◌++◌}
-use Rattle.wrap_base.specs.Account.{Collected, missing, all, Pairs}
+use Rattle.wrap.specs.Account.{Collected, missing, all, Pairs}
 
 -- what was gathered so far, and then the rest
 abbrev pub and_then : Pairs → Collected → Collected

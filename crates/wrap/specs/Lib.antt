@@ -1,3 +1,11 @@
+pub mod Verdicts
+pub mod Account
+pub mod StoreKeys
+pub mod SameCalls
+pub mod Answers
+pub mod Turn
+pub mod Asking
+pub mod Whole
 pub mod Plans
 pub mod Sessions
 pub mod Gathering

@@ -7,7 +7,7 @@ use Rattle.cmdlines.specs.Parsing.{HasSafeInput, IsGivenByOption}
 use Rattle.cmdlines_tables.specs.Tables.{reading_of}
 use Rattle.ckeys.specs.Records.{hold_end}
 use Rattle.wrap_base.specs.Commands.{kind_of, compile_command_of}
-use Rattle.wrap_base.specs.Verdict.{Decision, passes, asks, why_of, hashed_words}
+use Rattle.wrap.specs.Verdicts.{Decision, passes, asks, why_of, hashed_words}
 use Rattle.wrap_base.specs.declared.request.Request.{Request}
 use Rattle.wrap.specs.declared.verdict.Plan.{Plan}
 use Rattle.wrap.specs.declared.verdict.Verdict.{Verdict}

@@ -1,19 +1,16 @@
-//! The key under which a request's outputs are kept, and what the store holds under it.
+//! The key under which a request's outputs are kept.
 
 ghost use Rattle.std.specs.Prelude.{◌≡◌, true, None, Some, IfOk, IfErr, OnOk, IsErrOf};
 ghost use Rattle.std.specs.List.{AllByRecursion};
-ghost use Rattle.std.specs.Option.{option_map};
 ghost use Rattle.os_files.specs.Fails.{FailsOn};
-ghost use Rattle.ckeys_base.specs.Shelf.{Asks};
 ghost use Rattle.ckeys.specs.Calls.{KeyCause, PrintedCall, needs_preprocessing, printed_call};
 ghost use Rattle.ckeys.specs.EntryTurns.{KeyFine, KeyRecorded, KeyRuns};
 ghost use Rattle.ckeys.specs.Meaning.{AreSteady, FailsIn, names_of};
 ghost use Rattle.ckeys.specs.Records.{FitsLength};
-ghost use Rattle.wrap_base.specs.Account.{call_at, work_at, worked, placed};
-ghost use Rattle.wrap_base.specs.Asking.{EntriesTurn, WorkKeyFrom};
-ghost use Rattle.wrap_base.specs.Keys.{store_key_with};
+ghost use Rattle.wrap.specs.Account.{call_at, work_at, worked};
+ghost use Rattle.wrap.specs.Asking.{EntriesTurn, WorkKeyFrom};
+ghost use Rattle.wrap.specs.StoreKeys.{store_key_with};
 
-use crate::outputs::placed;
 use crate::verdict::Plan;
 use ckeys::config::KeyConfig;
 use ckeys::fault::Fault;
@@ -27,7 +24,6 @@ use os_files::files::Files;
 use os_files::listed::Listed;
 use os_files::os_bytes::OsBytes;
 use std::alloc::{AllocError, Global};
-use wrap_base::answer::Output;
 use wrap_base::request::Request;
 use wrap_base::store_key::{Family, StoreKey};
 use wrap_base::tool::Tool;
@@ -104,20 +100,4 @@ pub fn store_key<H: HashState, E: Store<EntryKey, PreprocessorCacheEntry>, F: Fi
         digest,
     };
     Ok((key, from_record))
-}
-
-/// What the store holds under the key, on a request's own paths.
-pub fn ask<O: Store<StoreKey, Listed<(OsBytes, OsBytes)>>>(
-    alloc: Global,
-    objects: &mut O,
-    key: &StoreKey,
-    outputs: &[(OsBytes, ArtifactDescriptor)],
-) -> Result<Option<Listed<Output>>, AllocError>
-    ensures asks { Asks (O.shelf objects.old) (O.shelf objects.new) key.now ((O.shelf objects.new).held key.now) }
-    ensures found { IfOk result (λ found. found ≡ option_map (placed outputs.now) ((O.shelf objects.new).held key.now)) }
-{
-    match objects.get(key) {
-        Some(pairs) => Ok(Some(placed(alloc, outputs, pairs.as_slice())?)),
-        None => Ok(None),
-    }
 }

@@ -8,17 +8,19 @@ ghost use Rattle.os_files.specs.declared.files.Metadata.{Metadata};
 ghost use Rattle.time_macros.specs.Days.{ZoneRule};
 ghost use Rattle.ckeys.specs.Entries.{HasMatch, Held, entry_key_by, has_entry_key, includes_by};
 ghost use Rattle.wrap.specs.DirectExample.{call_on, header_include, first_byte_digest, printed_text, record_on, text_key_on, two_moments};
+ghost use Rattle.ckeys.specs.Calls.{KeyCall};
 ghost use Rattle.ckeys.specs.Meaning.{Meaning};
 ghost use Rattle.os_files.specs.Bytes.{Bytes};
 ghost use Rattle.ckeys_base.specs.Shelf.{IsEmpty, Shelf};
 ghost use Rattle.ckeys.specs.Keys.{AreDistinct};
 ghost use Rattle.ckeys.specs.Records.{AreTold};
-ghost use Rattle.wrap_base.specs.Account.{Pairs, Work, account_at};
+ghost use Rattle.wrap.specs.Account.{Pairs, Work, account_at, work_at};
+ghost use Rattle.wrap.specs.SameCalls.{AreSameWithoutFolders};
 ghost use Rattle.ckeys.specs.Folders.{Settings};
-ghost use Rattle.wrap_base.specs.Asking.{EntriesTurn, RecordsAreTrue, Shelves};
+ghost use Rattle.wrap.specs.Asking.{EntriesTurn, RecordsAreTrue, Shelves};
 ghost use Rattle.wrap_base.specs.declared.request.Request.{Request};
-ghost use Rattle.wrap_base.specs.Keys.{Premises, SameRecord, store_key_of};
-ghost use Rattle.wrap_base.specs.Whole.{BothRun, Run, SameOutputs, Served, accounts_of};
+ghost use Rattle.wrap.specs.StoreKeys.{Premises, SameRecord, store_key_of};
+ghost use Rattle.wrap.specs.Whole.{BothRun, Run, SameOutputs, Served, accounts_of};
 ghost use Rattle.wrap_base.specs.declared.store_key.StoreKey.{StoreKey};
 ghost use Rattle.wrap.specs.Example.{compile_of, telling_digest, two_compiles};
 
@@ -86,4 +88,12 @@ pub fn premises_can_be_met_over_records()
         held (entry_key_by first_byte_digest (call_on about zone one)) ≡ Some (record_on about zone one)
         → HasMatch first_byte_digest (call_on about zone other) held (text_key_on about zone one) }
     ensures long { (bytes : Bytes) → length (first_byte_digest bytes) ≡ 32 }
+{}
+
+/// Two calls that are the same without the folders of their configurations, wherever they run and whatever their files are
+/// called, have one store key.
+pub fn folders_do_not_count_in_store_keys()
+    ensures { (digest_of : Bytes → Bytes) (meaning : Meaning) (one other : KeyCall)
+        → AreSameWithoutFolders meaning one other
+        → store_key_of digest_of (work_at meaning one) ≡ store_key_of digest_of (work_at meaning other) }
 {}

@@ -2,22 +2,23 @@
 
 ghost use Rattle.std.specs.Prelude.{◌≡◌, true, false, List, [], ◌∷◌, ◌++◌, length, IfOk, OnOk, OnErr, IsErrOf};
 ghost use Rattle.os_files.specs.Fails.{FailsOn};
-ghost use Rattle.ckeys_base.specs.Shelf.{Clears, IsEmpty, Puts};
+ghost use Rattle.ckeys_base.specs.Shelf.{Clears, IsEmpty};
 ghost use Rattle.ckeys.specs.Entries.{EntryInvariant, EntryPremises};
 ghost use Rattle.ckeys.specs.Meaning.{AreSteady, FailsIn};
-ghost use Rattle.wrap_base.specs.Account.{Account, account_at, call_at, direct_calls, work_at, worked};
-ghost use Rattle.wrap_base.specs.Answers.{Answers, GoesOn, OnPass, Says, SaysBy, SaysWorked, SaysWorkedBy, settled, settled_by};
-ghost use Rattle.wrap_base.specs.Asking.{AskedTurn, EntriesTurn, RecordsAreTrue, shelves_of};
-ghost use Rattle.wrap_base.specs.Keys.{Invariant, Premises};
-ghost use Rattle.wrap_base.specs.Turn.{StoreTurn};
-ghost use Rattle.wrap_base.specs.Whole.{AllAnswer, Each, IsAnswered, OneFresh, Run, SessionRun, accounts_at, files_view, served_at, tool_view};
+ghost use Rattle.wrap.specs.Account.{Account, account_at, call_at, direct_calls, work_at, worked};
+ghost use Rattle.wrap.specs.Answers.{Answers, GoesOn, OnPass, Says, SaysBy, SaysWorked, SaysWorkedBy, settled, settled_by};
+ghost use Rattle.wrap.specs.Asking.{AskedTurn, EntriesTurn, RecordsAreTrue, shelves_of};
+ghost use Rattle.wrap.specs.StoreKeys.{Invariant, Premises};
+ghost use Rattle.wrap.specs.Turn.{StoreTurn};
+ghost use Rattle.wrap.specs.Whole.{AllAnswer, Each, IsAnswered, OneFresh, Run, SessionRun, accounts_at, files_view, served_at, tool_view};
 ghost use Rattle.wrap.specs.Plans.{IsPlanOf};
 ghost use Rattle.wrap.specs.Sessions.{held_by};
 ghost use Rattle.wrap.specs.Steps.{kept_how};
 
-use crate::keys::{ask, store_key};
+use crate::compile::compiled_pairs;
+use crate::keys::store_key;
 use crate::outputs::placed;
-use crate::steps::compiled_pairs;
+use crate::stored::{ask, keep};
 use crate::verdict::{Plan, Verdict, judge};
 use ckeys::config::KeyConfig;
 use ckeys::fault::Fault;
@@ -249,17 +250,6 @@ fn kept_how(from_record: bool) -> How
     } else {
         How::Stored
     }
-}
-
-/// Puts what a compile made under its key, once, whatever was dropped before; or hands it back where the store refuses it.
-fn keep<O: Store<StoreKey, Listed<(OsBytes, OsBytes)>>>(
-    objects: &mut O,
-    key: StoreKey,
-    pairs: Listed<(OsBytes, OsBytes)>,
-) -> Result<(), (StoreKey, Listed<(OsBytes, OsBytes)>)>
-    ensures { Puts ⟦<StoreKey as PartialEq>⟧.eq (O.shelf objects.old) (O.shelf objects.new) key pairs result }
-{
-    objects.put(key, pairs)
 }
 
 /// Answers a request that isn't passed through: what the store holds under its key, or what one compile makes, which

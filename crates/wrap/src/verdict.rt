@@ -7,8 +7,8 @@ ghost use Rattle.cmdlines.specs.Commands.{object_path};
 ghost use Rattle.cmdlines.specs.Parsing as parsing;
 ghost use Rattle.cmdlines.specs.ReadBack.{ReadsAsCompile, ReadsAsPreprocess};
 ghost use Rattle.wrap_base.specs.Commands.{compile_command_of, kind_of, words_at};
-ghost use Rattle.wrap_base.specs.Answers.{EarlyCause};
-ghost use Rattle.wrap_base.specs.Verdict.{with_hazards, verdict_of};
+ghost use Rattle.wrap.specs.Answers.{EarlyCause};
+ghost use Rattle.wrap.specs.Verdicts.{with_hazards, verdict_of};
 ghost use Rattle.wrap.specs.Plans.{decision_of, IsPlanOf, IsReadAgain, IsReadAgainUnlessGiven, IsReadAgainWhereSafe, OnAsks};
 
 use ckeys::compiler_impl::CCompilerImpl;

@@ -4,7 +4,6 @@
 pub mod answer;
 pub mod call;
 pub mod compiler;
-pub mod laws;
 pub mod map_store;
 pub mod reason;
 pub mod request;

@@ -1,7 +1,7 @@
 use Rattle.std.proofs.Common.{◌≡◌, drop}
 use Rattle.std.specs.Vec.Iter.{into_iter_items}
 use Rattle.ckeys.specs.Meaning.{names_of}
-use Rattle.wrap_base.specs.Account.{collected}
+use Rattle.wrap.specs.Account.{collected}
 use Rattle.wrap.specs.Gathering.{and_then}
 use Rattle.wrap.proofs.outputs.collected.Given as goal
 

@@ -1,5 +1,5 @@
 use Rattle.std.proofs.Common.{◌≡◌, length}
-use Rattle.wrap_base.specs.Account.{path_of}
+use Rattle.wrap.specs.Account.{path_of}
 use Rattle.wrap.proofs.outputs.path_of.Given as goal
 
 -- the name is looked up among those that are left

@@ -1,5 +1,5 @@
 use Rattle.std.proofs.Common.{◌≡◌, take}
-use Rattle.wrap_base.specs.Account.{placed}
+use Rattle.wrap.specs.Account.{placed}
 use Rattle.wrap.proofs.outputs.placed.Given as goal
 
 abbrev pub invariant-loop-name : goal.invariant-loop-name

@@ -2,9 +2,9 @@ use Rattle.std.proofs.Common.{◌≡◌}
 use Rattle.ckeys.specs.Calls.{KeyCall, record_of}
 use Rattle.ckeys.specs.Keys.{key_of, record_shape}
 use Rattle.ckeys.specs.Meaning.{Meaning}
-use Rattle.wrap_base.specs.SameCalls.{AreSameWithoutFolders}
+use Rattle.wrap.specs.SameCalls.{AreSameWithoutFolders}
 use Rattle.wrap_base.specs.declared.store_key.Family.TheVariants.{C}
-use Rattle.wrap_base.proofs.laws.folders_do_not_count_in_store_keys.Goals as goal
+use Rattle.wrap.proofs.laws.folders_do_not_count_in_store_keys.Goals as goal
 
 -- the records of such calls are equal
 one_record : (meaning : Meaning) (one other : KeyCall) → AreSameWithoutFolders meaning one other → record_of meaning one ≡ record_of meaning other

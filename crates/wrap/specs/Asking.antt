@@ -11,8 +11,8 @@ use Rattle.entry_keys.specs.declared.entry_key.EntryKey.{EntryKey}
 use Rattle.include_records.specs.Records.{Record}
 use Rattle.ckeys.specs.declared.fault.Fault.{Fault}
 use Rattle.ckeys.specs.declared.fault.Fault.TheVariants.{PreprocessFailed}
-use Rattle.wrap_base.specs.Account.{Account, passed, worked, Work, Pairs, direct_of}
-use Rattle.wrap_base.specs.Turn.{KeyedTurn}
+use Rattle.wrap.specs.Account.{Account, passed, worked, Work, Pairs, direct_of}
+use Rattle.wrap.specs.Turn.{KeyedTurn}
 use Rattle.wrap_base.specs.declared.answer.Answer.{Answer}
 use Rattle.wrap_base.specs.declared.answer.Answer.TheVariants.{Pass, Outputs}
 use Rattle.wrap_base.specs.declared.answer.How.TheVariants.{Direct, Stored, Fresh}
