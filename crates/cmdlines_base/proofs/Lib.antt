@@ -5,3 +5,4 @@ pub mod TakeLemmas
 pub mod StepLemmas
 pub mod AgainLemmas
 pub mod ClearLemmas
+pub mod NodeLemmas

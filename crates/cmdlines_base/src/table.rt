@@ -1,7 +1,9 @@
 //! Tables of options, and the search for the longest flag that fits a word.
 
-ghost use Rattle.std.specs.Prelude.{◌≡◌, List, [], ◌∷◌, ◌++◌, if◌then◌else◌};
+ghost use Rattle.std.specs.Prelude.{◌≡◌, All, List, [], ◌∷◌, ◌++◌, if◌then◌else◌, nat_le, nat_lt};
 ghost use Rattle.std.specs.List.{list_all};
+ghost use Rattle.std.specs.List.Sorted.{IsNonDecreasingBy};
+ghost use Rattle.cmdlines_base.specs.Nodes.{GoesOn, IsNode, IsPicked, byte_at};
 ghost use Rattle.std.specs.Option.{option_copied};
 ghost use Rattle.os_files.specs.Bytes.{Bytes};
 ghost use Rattle.cmdlines_base.specs.Table.{Entry, entry_of, entry_at, entries_of, fits, joins_by, has_ascii, rises_to, is_table, longer, all_entries, longest_fit, IsEntryOf, behind};
@@ -31,6 +33,16 @@ impl<T: ArgumentValue> ArgInfo<T> {
         match self {
             ArgInfo::Flag(flag, _) => flag,
             ArgInfo::TakeArg(flag, _, _) => flag,
+        }
+    }
+
+    /// The byte of the flag behind that many, or 0 where it has ended.
+    fn byte_at(&self, depth: usize) -> u8
+        ensures { result ≡ byte_at depth (entry_of self.now) }
+    {
+        match self.flag().as_bytes().get(depth) {
+            Some(byte) => *byte,
+            None => 0,
         }
     }
 
@@ -98,6 +110,54 @@ fn longer<'a, T: ArgumentValue>(
     }
 }
 
+/// Of a node's entries, the best with the one whose flag ends there, where it fits; and the others.
+fn past_ended<'a, T: ArgumentValue>(
+    best: Option<&'a ArgInfo<T>>,
+    node: &'a [ArgInfo<T>],
+    depth: usize,
+    word: &[u8],
+) -> (Option<&'a ArgInfo<T>>, &'a [ArgInfo<T>])
+    requires node { IsNode depth word.now (entries_of node.now) }
+    ensures fit { longer (entry_at result.0) (longest_fit (entries_of result.1.now) word.now) ≡ longer (entry_at best.entry) (longest_fit (entries_of node.now) word.now) }
+    ensures node { IsNode depth word.now (entries_of result.1.now) }
+    ensures on { All (GoesOn depth) (entries_of result.1.now) }
+{
+    match node.split_first() {
+        Some((entry, others)) if entry.flag().len() <= depth => {
+            let found = if entry.fits(word) {
+                longer(best, Some(entry))
+            } else {
+                best
+            };
+            (found, others)
+        }
+        _ => (best, node),
+    }
+}
+
+/// Of entries whose bytes behind that many rise, those with that byte.
+fn picked<'a, T: ArgumentValue>(
+    entries: &'a [ArgInfo<T>],
+    depth: usize,
+    byte: u8,
+) -> &'a [ArgInfo<T>]
+    requires rising { IsNonDecreasingBy (λ e. byte_at depth (entry_of e)) entries.now }
+    ensures { IsPicked depth byte (entries_of entries.now) (entries_of result.now) }
+{
+    let start = entries.partition_point(
+        |entry: &ArgInfo<T>| -> bool
+            ensures { result ≡ nat_lt (byte_at depth (entry_of entry.now)) byte }
+        { entry.byte_at(depth) < byte },
+    );
+    let rest = &entries[start..];
+    let end = rest.partition_point(
+        |entry: &ArgInfo<T>| -> bool
+            ensures { result ≡ nat_le (byte_at depth (entry_of entry.now)) byte }
+        { entry.byte_at(depth) <= byte },
+    );
+    &rest[..end]
+}
+
 /// Whether flags rise strictly and delimiters are ASCII.
 fn is_table<T: ArgumentValue>(entries: &[ArgInfo<T>]) -> bool
     ensures { result ≡ is_table (entries_of entries.now) }
@@ -160,16 +220,21 @@ pub trait SearchableArgInfo<T: ArgumentValue> {
 impl<T: ArgumentValue> SearchableArgInfo<T> for Table<T> {
     ghost tables = { λ t. t ∷ [] };
 
+    /// Narrows the entries, byte by byte, to those whose flags begin as the word does.
     fn search(&self, word: &[u8]) -> Option<&ArgInfo<T>> {
         let mut best = None;
-        let mut rest = self.entries.as_slice();
-        while let Some((entry, others)) = rest.split_first() {
-            if entry.fits(word) {
-                best = longer(best, Some(entry));
+        let mut node = self.entries.as_slice();
+        let mut depth = 0;
+        while depth < word.len() {
+            let (found, others) = past_ended(best, node, depth, word);
+            best = found;
+            node = picked(others, depth, word[depth]);
+            if node.is_empty() {
+                return best;
             }
-            rest = others;
+            depth += 1;
         }
-        best
+        past_ended(best, node, depth, word).0
     }
 
     fn check(&self) -> bool {

@@ -1,10 +1,11 @@
-use Rattle.std.proofs.Common.{◌≡◌, length}
-use Rattle.cmdlines_base.specs.Table.{longer, longest_fit, entry_at, entries_of}
+use Rattle.std.proofs.Common.{◌≡◌, ◌-◌, length}
+use Rattle.cmdlines_base.specs.Table.{entry_at, entries_of, longer, longest_fit}
+use Rattle.cmdlines_base.specs.Nodes.{IsNode}
 use Rattle.cmdlines_base.proofs.table.TableSearchableArgInfo.search.Given as goal
 
--- the best so far, or a longer fit of what is left, is the longest of all
-abbrev pub invariant-loop-entry : goal.invariant-loop-entry
-invariant-loop-entry g l = longer (entry_at l.best) (longest_fit (entries_of l.rest) l.word) ≡ longest_fit l.fn.self l.word
+-- the best so far, or a longer fit in the node, is the longest of all
+abbrev pub invariant-loop-depth : goal.invariant-loop-depth
+invariant-loop-depth g l = IsNode l.depth l.word (entries_of l.node) × (longer (entry_at l.best) (longest_fit (entries_of l.node) l.word) ≡ longest_fit l.fn.self l.word)
 
-abbrev pub decreases-loop-entry : goal.decreases-loop-entry
-decreases-loop-entry g l = length l.rest
+abbrev pub decreases-loop-depth : goal.decreases-loop-depth
+decreases-loop-depth g l = length l.word - l.depth

@@ -1,0 +1,32 @@
+use Rattle.std.proofs.Common.{rules, ◌≡◌, ◌<◌, All, List, [], ◌∷◌, length, sym, subst, ap, arith, ◌∙◌}
+use Rattle.std.proofs.lemmas.List.{length-map}
+use Rattle.cmdlines_base.specs.Nodes.{GoesOn, IsNode}
+use Rattle.cmdlines_base.specs.Table.{entry_of, entries_of}
+use Rattle.cmdlines_base.proofs.NodeLemmas.{all_on, ends_once, node_behind}
+use Rattle.cmdlines_base.proofs.table.past_ended.Goals.{in_default-via-in-Some+else-flag-depth, in_default-via-in_default}
+use Rattle.cmdlines_base.proofs.table.past_ended.Goals as goal
+
+pub returns-after-fits-clause-node : goal.returns-after-fits-clause-node
+returns-after-fits-clause-node g c =
+    let d = c.args.depth in
+    let word = c.args.word.now in
+    node_behind d word (entry_of c.in-Some.entry.now) (entries_of c.in-Some.others.now) (subst (λ xs. IsNode d word (entries_of xs)) c.in-Some.ensures.cases.0 c.requires.node)
+
+pub returns-after-fits-clause-on : goal.returns-after-fits-clause-on
+returns-after-fits-clause-on g c =
+    let d = c.args.depth in
+    let word = c.args.word.now in
+    let node : IsNode d word (entry_of c.in-Some.entry.now ∷ entries_of c.in-Some.others.now) = subst (λ xs. IsNode d word (entries_of xs)) c.in-Some.ensures.cases.0 c.requires.node in
+    ends_once d word (entry_of c.in-Some.entry.now) (entries_of c.in-Some.others.now) node.rise node.begin
+
+pub returns-in_default-clause-on : goal.returns-in_default-clause-on
+returns-in_default-clause-on g c =
+    let d = c.args.depth in
+    let word = c.args.word.now in
+    elim c.in_default.branch [
+      | in_default-via-in-Some+else-flag-depth w ↦
+          let node : IsNode d word (entry_of w.in-Some.entry.now ∷ entries_of w.in-Some.others.now) = subst (λ xs. IsNode d word (entries_of xs)) w.in-Some.ensures.cases.0 c.requires.node in
+          let on : d < length (entry_of w.in-Some.entry.now).flag = omega (arith, w.if-flag-depth.false, ap length w.flag.ensures) in
+          subst (λ xs. All (GoesOn d) (entries_of xs)) (sym w.in-Some.ensures.cases.0) (all_on d word (entry_of w.in-Some.entry.now) (entries_of w.in-Some.others.now) node on)
+      | in_default-via-in_default w ↦ λ k e lt. absurd (omega (arith, lt, length-map c.args.node.now entry_of, w.in_default.ensures.cases))
+    ]
