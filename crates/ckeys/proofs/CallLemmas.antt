@@ -1,5 +1,5 @@
 -- Why a call has no key.
-use Rattle.std.proofs.Common.{◌≡◌, inl, inr, ℕ, Option, None, Result, Ok, Err, IfErr, IsErrAnd, sym, subst, ◌∙◌}
+use Rattle.std.proofs.Common.{◌≡◌, inl, ℕ, Option, Some, None, Result, Ok, Err, IfErr, IsErrAnd, sym, subst, ◌∙◌}
 use Rattle.std.specs.Option.{option_map}
 use Rattle.os_files.specs.Bytes.{Bytes}
 use Rattle.os_files.specs.Fails.{FailsOn}
@@ -8,11 +8,12 @@ use Rattle.response_files.specs.Causes.{CauseOf}
 use Rattle.response_files.specs.declared.fault.ParseFault.{ParseFault}
 use Rattle.response_files.specs.declared.fault.ParseFault.TheVariants as files_faults
 use Rattle.ckeys.specs.Meaning.{Meaning}
+use Rattle.ckeys.specs.Causes.{no_step, stage_of}
 use Rattle.ckeys.specs.Calls.{FileCause, KeyCall, KeyCause, extra_paths, fault_by, first_missing, missing_input, key_fault_of, or_else, text_fault_of}
 use Rattle.ckeys.specs.declared.fault.Fault.{Fault}
-use Rattle.ckeys.specs.declared.fault.Fault.TheVariants.{Memory, Read, Tool, PreprocessFailed, CompileFailed, MissingOutput}
+use Rattle.ckeys.specs.declared.fault.Fault.TheVariants.{Read}
 use Rattle.ckeys.specs.declared.step.Step.{Step}
-use Rattle.ckeys.specs.declared.step.Step.TheVariants.{Preprocess, Compile}
+use Rattle.ckeys.proofs.CauseLemmas.{by_stage, caused_more, file_early}
 
 -- where all extra files are there, and the input where it is needed, the first fault is the text's
 pub text_first : (meaning : Meaning) (call : KeyCall) → first_missing call.scene.files (extra_paths call) ≡ None → missing_input call ≡ None → key_fault_of meaning call ≡ text_fault_of meaning call
@@ -24,14 +25,11 @@ since tree failed fails_on old mid new same steady name f = record { from = f.fr
 
 -- the text's cause is the call's
 pub cause_is : (first text_first : Option Fault) (on_file later : Bytes → Type 0) (device_in : Step → Type 0) (fault : Fault) → first ≡ text_first → ((name : Bytes) → later name → on_file name) → KeyCause text_first later device_in fault → KeyCause first on_file device_in fault
-cause_is first text_first on_file later device_in Memory e lift h = tt
-cause_is first text_first on_file later device_in (Read path) e lift (inl h) = inl (lift path h)
-cause_is first text_first on_file later device_in (Read path) e lift (inr h) = inr (e ∙ h)
-cause_is first text_first on_file later device_in (Tool Preprocess) e lift h = h
-cause_is first text_first on_file later device_in (Tool Compile) e lift h = h
-cause_is first text_first on_file later device_in (PreprocessFailed status) e lift h = e ∙ h
-cause_is first text_first on_file later device_in (CompileFailed status) e lift h = h
-cause_is first text_first on_file later device_in (MissingOutput name) e lift h = h
+cause_is first text_first on_file later device_in fault e lift h = by_stage (stage_of fault) (λ u. u) (caused_more text_first first later on_file device_in device_in (λ f is. e ∙ is) lift (λ step d. d) fault) (λ n. n) h
+
+-- a file that can't be had is the call's cause
+pub file_cause : (first : Option Fault) (missing : Option Bytes) (on_file later : Bytes → Type 0) (device_in : Step → Type 0) → ((name : Bytes) → later name → on_file name) → ((fault : Fault) → option_map Read missing ≡ Some fault → first ≡ Some fault) → (fault : Fault) → FileCause missing later fault → KeyCause first on_file device_in fault
+file_cause first missing on_file later device_in lift is fault h = by_stage (stage_of fault) (λ u. u) (caused_more (option_map Read missing) first later on_file no_step device_in is lift (λ step n. absurd n) fault) (λ n. n) (file_early missing later fault h)
 
 -- what holds of a fault holds of what it became
 pub on_exit : {A : Type 0} (P : Fault → Type 0) (result : Result A Fault) (fault : Fault) → IsErrAnd result (λ f. f ≡ fault) → P fault → IfErr result P

@@ -21,14 +21,13 @@ use Rattle.include_records.specs.Surroundings.{Place, are_there, contents_in, da
 use Rattle.include_records.specs.declared.entry.CachedResult.{CachedResult}
 use Rattle.include_records.specs.declared.entry.IncludeEntry.{IncludeEntry}
 use Rattle.entry_keys.specs.declared.entry_key.EntryKey.{EntryKey}
-use Rattle.ckeys.specs.Calls.{FileCause, KeyCall, KeyCause, PrintedCall, input_path, key_fault_by, needs_preprocessing, preprocess_fault_of, read_fault_of, record_by, text_by, text_fault_by, text_in, extra_paths, first_missing, missing_input, or_else}
+use Rattle.ckeys.specs.Calls.{KeyCall, PrintedCall, input_path, key_fault_by, needs_preprocessing, preprocess_fault_of, read_fault_of, record_by, text_by, text_fault_by, text_in, extra_paths, first_missing, missing_input, or_else}
 use Rattle.ckeys.specs.Entries.{AreTrue, HasMatch, Held, IsFramed, IsOwnResult, entry_key_of, good_text, has_entry_key, includes_by}
 use Rattle.ckeys.specs.EntryTurns.{EntryTurn, IsHeldFor, IsOwnPair, IsSpared, Keeps, KeptOn, KeyFine, KeyFrom, KeyRecorded, TextFine, results_of}
 use Rattle.ckeys.specs.Keys.{key_of}
 use Rattle.ckeys.specs.Surroundings.{named_at, place_of, recorded_of}
 use Rattle.ckeys.specs.declared.fault.Fault.{Fault}
-use Rattle.ckeys.specs.declared.fault.Fault.TheVariants.{Memory, Read, Tool, PreprocessFailed, CompileFailed, MissingOutput}
-use Rattle.ckeys.specs.declared.step.Step.{Step}
+use Rattle.ckeys.specs.declared.fault.Fault.TheVariants.{Read, PreprocessFailed}
 use Rattle.ckeys.proofs.RecordLemmas.{contents_are, has_key, is_preprocessed, names_there, recorded_parts, some_same, there_of}
 
 -- a day is the day itself
@@ -194,23 +193,13 @@ module _ (digest_of : Bytes → Bytes) (p : PrintedCall) (key : EntryKey) (is_en
           let there = recorded_there (place_of p.call) digest_of (input_path p.call) text includes e in
           (turn_put keeps.0 keeps.1 keeps.3 own keeps.2 is_own, λ h other is g i. (put_match keeps.0 keeps.1 keeps.3 own keeps.2 is_own there, put_one keeps.0 keeps.1 keeps.3 own keeps.2 is_own))
 
--- a file that can't be had is the call's cause
-pub file_cause : (first : Option Fault) (missing : Option Bytes) (on_file later : Bytes → Type 0) (device_in : Step → Type 0) → ((name : Bytes) → later name → on_file name) → ((name : Bytes) → missing ≡ Some name → first ≡ Some (Read name)) → (fault : Fault) → FileCause missing later fault → KeyCause first on_file device_in fault
-file_cause first missing on_file later device_in lift is Memory h = tt
-file_cause first missing on_file later device_in lift is (Read name) (inl h) = inl (lift name h)
-file_cause first missing on_file later device_in lift is (Read name) (inr h) = inr (is name h)
-file_cause first missing on_file later device_in lift is (Tool step) h = absurd h
-file_cause first missing on_file later device_in lift is (PreprocessFailed status) h = absurd h
-file_cause first missing on_file later device_in lift is (CompileFailed status) h = absurd h
-file_cause first missing on_file later device_in lift is (MissingOutput name) h = absurd h
-
 -- where extra files and the input are there
 pub first_is : (p : PrintedCall) → first_missing p.call.scene.files (extra_paths p.call) ≡ None → missing_input p.call ≡ None → key_fault_by p ≡ text_fault_by p
 first_is p h k = λ i. or_else (option_map Read (h i)) (or_else (option_map Read (k i)) (text_fault_by p))
 
 -- where extra files are there, and the input isn't
-pub input_first : (p : PrintedCall) (name : Bytes) → first_missing p.call.scene.files (extra_paths p.call) ≡ None → missing_input p.call ≡ Some name → key_fault_by p ≡ Some (Read name)
-input_first p name h k = λ i. or_else (option_map Read (h i)) (or_else (option_map Read (k i)) (text_fault_by p))
+pub input_first : (p : PrintedCall) → first_missing p.call.scene.files (extra_paths p.call) ≡ None → (fault : Fault) → option_map Read (missing_input p.call) ≡ Some fault → key_fault_by p ≡ Some fault
+input_first p h fault k = λ i. or_else (option_map Read (h i)) (or_else (k i) (text_fault_by p))
 
 -- a call without an entry key leaves the records as they are
 pub turn_unasked : (digest_of : Bytes → Bytes) (p : PrintedCall) (s : Shelf EntryKey Record) → entry_key_of digest_of p.call ≡ None → (before after : ℕ) → EntryTurn digest_of p s s before after
@@ -234,6 +223,11 @@ spared true p h = by (int_eq p.printed.status (pos 0))
 pub fine_is : (p : PrintedCall) (from : Bool) → has_entry_key p.call ≡ true → first_missing p.call.scene.files (extra_paths p.call) ≡ None → missing_input p.call ≡ None → TextFine p from → KeyFine p from
 fine_is p true entry h k fine = subst IsSpared (sym (first_is p h k)) (spared (needs_preprocessing p.call.parsed.language) p (is_preprocessed p.call entry))
 fine_is p false entry h k fine = first_is p h k ∙ fine
+
+-- so it is, whatever came of the call that was asked on the same files
+pub fine_later : (p q : PrintedCall) → q ≡ p → (result : Result (String Global × CShape × Bool) Fault) → has_entry_key p.call ≡ true → first_missing p.call.scene.files (extra_paths p.call) ≡ None → missing_input p.call ≡ None → IfOk result (λ made. TextFine q made.2) → IfOk result (λ made. KeyFine p made.2)
+fine_later p q same (Ok made) entry h k fine = fine_is p made.2 entry h k (subst (λ (x : PrintedCall). TextFine x made.2) same fine)
+fine_later p q same (Err fault) entry h k fine = tt
 
 -- wherever the key came from, it is the call's own where the records are true of it
 pub own_key : (digest_of : Bytes → Bytes) (p : PrintedCall) (held : Held) (result : Result (String Global × CShape × Bool) Fault) → AreTrue digest_of p held → IfOk result (λ made. KeyFrom digest_of p held made.2 (string_bytes made.0)) → IfOk result (λ made. string_bytes made.0 ≡ key_of digest_of (record_by p))

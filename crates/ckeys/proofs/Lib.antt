@@ -2,6 +2,7 @@ pub mod MaterialLemmas
 pub mod FeedLemmas
 pub mod KeyLemmas
 pub mod FolderLemmas
+pub mod CauseLemmas
 pub mod CallLemmas
 pub mod WordEnds
 pub mod RecordLemmas

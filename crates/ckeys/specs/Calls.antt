@@ -1,5 +1,5 @@
 -- A call of which a key is made: its record, and its first fault.
-use Rattle.std.specs.Prelude.{◌≡◌, ◌⊎◌, pos, Bool, true, false, ◌&&◌, if◌then◌else◌, List, [], ◌∷◌, ◌++◌, map, filter, find, Option, None, Some, is_none}
+use Rattle.std.specs.Prelude.{pos, Bool, true, false, ◌&&◌, if◌then◌else◌, List, [], ◌∷◌, ◌++◌, map, filter, find, Option, None, Some, is_none}
 use Rattle.std.specs.Option.{option_map}
 use Rattle.std.specs.Ordering.{int_eq}
 use Rattle.os_files.specs.Bytes.{Bytes}
@@ -17,14 +17,15 @@ use Rattle.response_files.specs.declared.fault.ParseFault.TheVariants as files_f
 use Rattle.ckeys_base.specs.FolderPlaces.{text_places}
 use Rattle.ckeys_base.specs.FromTheLeft.{stripped_of}
 use Rattle.include_records.specs.Surroundings.{contents_in}
+use Rattle.ckeys.specs.Causes.{ByStage, IsCaused, no_step, stage_of}
 use Rattle.ckeys.specs.Folders.{Settings}
 use Rattle.ckeys.specs.Meaning.{Scene, Made, Meaning}
 use Rattle.ckeys.specs.Records.{CRecord}
 use Rattle.ckeys.specs.Params.{is_cached, stripped_words}
 use Rattle.ckeys.specs.declared.fault.Fault.{Fault}
-use Rattle.ckeys.specs.declared.fault.Fault.TheVariants.{Memory, Read, Tool, PreprocessFailed, CompileFailed, MissingOutput}
+use Rattle.ckeys.specs.declared.fault.Fault.TheVariants.{Memory, Read, PreprocessFailed}
 use Rattle.ckeys.specs.declared.step.Step.{Step}
-use Rattle.ckeys.specs.declared.step.Step.TheVariants.{Preprocess, Compile}
+use Rattle.ckeys.specs.declared.step.Step.TheVariants.{Preprocess}
 
 -- the compiler's kind, what is known of it and its digest, what its words ask for, where and when its commands run, and what the configuration fixes
 pub record KeyCall : Type 0 where
@@ -141,19 +142,8 @@ fault_by (files_faults.Read path) = Read path
 
 -- Why a file that is needed can't be had: memory; or its device failed; or it is the first one that isn't there.
 abbrev pub FileCause : Option Bytes → (Bytes → Type 0) → Fault → Type 0
-FileCause missing on_file Memory = Unit {0}
-FileCause missing on_file (Read path) = on_file path ⊎ (missing ≡ Some path)
-FileCause missing on_file (Tool step) = ⊥
-FileCause missing on_file (PreprocessFailed status) = ⊥
-FileCause missing on_file (CompileFailed status) = ⊥
-FileCause missing on_file (MissingOutput name) = ⊥
+FileCause missing on_file fault = IsCaused (option_map Read missing) on_file no_step fault
 
--- Why there is no key: memory; a file's device, or the tool's in preprocessing; or the first fault.
+-- Why there is no key: a cause that comes before the compile.
 abbrev pub KeyCause : Option Fault → (Bytes → Type 0) → (Step → Type 0) → Fault → Type 0
-KeyCause first on_file device_in Memory = Unit {0}
-KeyCause first on_file device_in (Read path) = on_file path ⊎ (first ≡ Some (Read path))
-KeyCause first on_file device_in (Tool Preprocess) = device_in Preprocess
-KeyCause first on_file device_in (Tool Compile) = ⊥
-KeyCause first on_file device_in (PreprocessFailed status) = first ≡ Some (PreprocessFailed status)
-KeyCause first on_file device_in (CompileFailed status) = ⊥
-KeyCause first on_file device_in (MissingOutput name) = ⊥
+KeyCause first on_file device_in fault = ByStage (stage_of fault) (Unit {0}) (IsCaused first on_file device_in fault) ⊥

@@ -3,6 +3,7 @@ pub mod Material
 pub mod Params
 pub mod Meaning
 pub mod Keys
+pub mod Causes
 pub mod Calls
 pub mod Folders
 pub mod Compilers

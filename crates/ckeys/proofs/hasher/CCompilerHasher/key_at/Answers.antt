@@ -1,5 +1,6 @@
-use Rattle.std.proofs.Common.{◌≡◌, None, map, ap, sym, subst, ◌∙◌}
+use Rattle.std.proofs.Common.{◌≡◌, None, Some, map, ap, sym, subst, ◌∙◌}
 use Rattle.std.specs.Prelude.{IfSome}
+use Rattle.std.specs.Option.{option_map}
 use Rattle.os_files.specs.Fails.{FailsOn}
 use Rattle.os_files.specs.Path.{join}
 use Rattle.os_files.specs.Tree.{Tree}
@@ -7,8 +8,10 @@ use Rattle.ckeys.specs.Calls.{KeyCall, KeyCause, PrintedCall, first_missing, key
 use Rattle.ckeys.specs.Entries.{IsFramed, entry_key_of}
 use Rattle.ckeys.specs.Hashers.{call_by}
 use Rattle.ckeys.specs.Meaning.{FailsIn}
-use Rattle.ckeys.proofs.CallLemmas.{since, cause_is, cause_later, on_exit}
-use Rattle.ckeys.proofs.EntryLemmas.{file_cause, first_is, input_first, turn_unasked}
+use Rattle.ckeys.specs.declared.fault.Fault.TheVariants.{Read}
+use Rattle.ckeys.proofs.CallLemmas.{since, cause_is, file_cause, cause_later, on_exit}
+use Rattle.ckeys.proofs.EntryLemmas.{fine_later, first_is, input_first, turn_unasked}
+use Rattle.ckeys.proofs.RecordLemmas.{has_key}
 use Rattle.ckeys.proofs.hasher.CCompilerHasher.key_at.Goals as goal
 
 pub returns-in_err-made-clause-cause : goal.returns-in_err-made-clause-cause
@@ -49,6 +52,20 @@ returns-clause-cause g c =
     let later = FailsOn tree failed fails_on c.entry_key.new.files c.recorded_key.new.files in
     cause_later c.recorded_key.result (key_fault_of meaning p.call) (text_fault_of meaning (call_on (tree c.entry_key.new.files))) on_file later device_in (first_is p there input ∙ ap (λ t. text_fault_of meaning (call_on t)) (sym trees)) (since tree failed fails_on c.args.files.now c.entry_key.new.files c.recorded_key.new.files trees steady) c.recorded_key.ensures.cause
 
+pub returns-clause-fine : goal.returns-clause-fine
+returns-clause-fine g c =
+    let digest = g.H.HashState.digest_of in
+    let tree = g.F.Files.tree in
+    let meaning = g.T.Preprocessor.meaning c.args.tool.now in
+    let call_on : Tree → KeyCall = λ t. call_by g.I.CCompilerImpl.kind_of g.I.CCompilerImpl.traits c.args.self.now c.args.place.now t in
+    let printed_on : Tree → PrintedCall = λ t. printed_call meaning (call_on t) in
+    let p : PrintedCall = printed_on (tree c.args.files.now) in
+    let there : first_missing (tree c.args.files.now) (map (join c.args.place.now.dir.now) c.args.self.now.parsed.now.extra_hash_files) ≡ None = ap (λ names. first_missing (tree c.args.files.now) (map (join c.args.place.now.dir.now) names)) (sym c.as_slice-names.ensures) ∙ c.in_ok-extra.ensures.there in
+    let input : missing_input p.call ≡ None = ap (λ t. missing_input (call_on t)) (sym c.extra_hashes.ensures.tree) ∙ c.in_ok-entry_key.ensures.there in
+    let trees : tree c.entry_key.new.files ≡ tree c.args.files.now = c.entry_key.ensures.tree ∙ c.extra_hashes.ensures.tree in
+    let entry : entry_key_of digest p.call ≡ Some c.in-Some.entry_key = ap (λ t. entry_key_of digest (call_on t)) (sym c.extra_hashes.ensures.tree) ∙ sym c.in_ok-entry_key.ensures.key ∙ c.in-Some.is in
+    fine_later p (printed_on (tree c.entry_key.new.files)) (ap printed_on trees) c.recorded_key.result (has_key digest p.call c.in-Some.entry_key entry).0 there input c.recorded_key.ensures.fine
+
 pub returns-in_err-entry_key-clause-cause : goal.returns-in_err-entry_key-clause-cause
 returns-in_err-entry_key-clause-cause g c =
     let digest = g.H.HashState.digest_of in
@@ -66,7 +83,7 @@ returns-in_err-entry_key-clause-cause g c =
     let device_in = FailsIn g.T.Preprocessor.meaning g.T.Preprocessor.failed g.T.Preprocessor.fails_in c.args.tool.now c.args.tool.now in
     let fault = c.in_err-entry_key.field-0.0 in
     on_exit (KeyCause (key_fault_of meaning p.call) on_file device_in) c.from_residual-in_err-entry_key.result fault c.from_residual-in_err-entry_key.ensures.1
-    (file_cause (key_fault_of meaning p.call) missing on_file later device_in (since tree failed fails_on c.args.files.now c.extra_hashes.new.files c.entry_key.new.files c.extra_hashes.ensures.tree c.in_ok-extra.ensures.steady) (λ name e. input_first p name there (same ∙ e)) fault c.in_err-entry_key.ensures.cause)
+    (file_cause (key_fault_of meaning p.call) missing on_file later device_in (since tree failed fails_on c.args.files.now c.extra_hashes.new.files c.entry_key.new.files c.extra_hashes.ensures.tree c.in_ok-extra.ensures.steady) (λ f e. input_first p there f (ap (option_map Read) same ∙ e)) fault c.in_err-entry_key.ensures.cause)
 
 pub returns-in_default-clause-entries : goal.returns-in_default-clause-entries
 returns-in_default-clause-entries g c =

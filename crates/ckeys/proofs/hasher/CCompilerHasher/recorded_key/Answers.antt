@@ -16,8 +16,8 @@ use Rattle.ckeys.specs.Surroundings.{recorded_of}
 use Rattle.entry_keys.specs.contracts.entry_key.EntryKeyPartialEq.TheImpl as entry_eq
 use Rattle.entry_keys.specs.declared.entry_key.EntryKey.{EntryKey}
 use Rattle.include_records.specs.Records.{Record}
-use Rattle.ckeys.proofs.CallLemmas.{since, cause_is, on_exit}
-use Rattle.ckeys.proofs.EntryLemmas.{file_cause, from_record, good_of, turn_asked, turn_kept, turn_missed}
+use Rattle.ckeys.proofs.CallLemmas.{since, cause_is, file_cause, on_exit}
+use Rattle.ckeys.proofs.EntryLemmas.{from_record, good_of, turn_asked, turn_kept, turn_missed}
 use Rattle.ckeys.proofs.RecordLemmas.{has_key}
 use Rattle.ckeys.proofs.hasher.CCompilerHasher.recorded_key.Goals as goal
 

@@ -1,0 +1,46 @@
+-- Where in a call each fault comes, and what causes it.
+use Rattle.std.specs.Prelude.{◌≡◌, ◌⊎◌, Option, Some}
+use Rattle.os_files.specs.Bytes.{Bytes}
+use Rattle.ckeys.specs.declared.fault.Fault.{Fault}
+use Rattle.ckeys.specs.declared.fault.Fault.TheVariants.{Memory, Read, Tool, PreprocessFailed, CompileFailed, MissingOutput}
+use Rattle.ckeys.specs.declared.step.Step.{Step}
+use Rattle.ckeys.specs.declared.step.Step.TheVariants.{Preprocess, Compile}
+
+-- the stages of a call: at any time memory may be refused; then the call comes to its key; and then it is compiled
+pub data Stage : Type 0 where
+  any_time : Stage
+  before_compile : Stage
+  in_compile : Stage
+
+abbrev pub stage_in : Step → Stage
+stage_in Preprocess = before_compile
+stage_in Compile = in_compile
+
+-- the stage in which a fault comes
+abbrev pub stage_of : Fault → Stage
+stage_of Memory = any_time
+stage_of (Read name) = before_compile
+stage_of (Tool step) = stage_in step
+stage_of (PreprocessFailed status) = before_compile
+stage_of (CompileFailed status) = in_compile
+stage_of (MissingOutput name) = in_compile
+
+-- what holds at any time, before the compile, or in it
+abbrev pub ByStage : Stage → Type 0 → Type 0 → Type 0 → Type 0
+ByStage any_time P Q R = P
+ByStage before_compile P Q R = Q
+ByStage in_compile P Q R = R
+
+-- What causes a fault: want of memory; the device at that file; the device in that step; and else exactly the first fault in the order of the steps.
+abbrev pub IsCaused : Option Fault → (Bytes → Type 0) → (Step → Type 0) → Fault → Type 0
+IsCaused first on_file in_step Memory = Unit {0}
+IsCaused first on_file in_step (Read name) = on_file name ⊎ (first ≡ Some (Read name))
+IsCaused first on_file in_step (Tool step) = in_step step
+IsCaused first on_file in_step fault = first ≡ Some fault
+
+-- no file, and no step
+abbrev pub no_file : Bytes → Type 0
+no_file name = ⊥
+
+abbrev pub no_step : Step → Type 0
+no_step step = ⊥
