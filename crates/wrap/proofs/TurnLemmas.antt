@@ -7,6 +7,7 @@ use Rattle.os_files.specs.Fails.{FailsOn}
 use Rattle.os_files.specs.Tree.{Tree}
 use Rattle.ckeys_base.specs.Shelf.{Shelf, Asks, Puts, Forgotten}
 use Rattle.ckeys.specs.Calls.{KeyCause, PrintedCall, key_fault_by, needs_preprocessing}
+use Rattle.ckeys.specs.Causes.{ByStage, no_file, no_step, stage_of}
 use Rattle.ckeys.specs.Entries.{Held}
 use Rattle.ckeys.specs.EntryTurns.{IsSpared, KeyFine, KeyRecorded, KeyRuns}
 use Rattle.ckeys.specs.Keys.{key_of}
@@ -17,8 +18,7 @@ use Rattle.include_records.specs.Records.{Record}
 use Rattle.ckeys.specs.declared.fault.Fault.{Fault}
 use Rattle.ckeys.specs.declared.fault.Fault.TheVariants.{Memory, Read, Tool, PreprocessFailed, CompileFailed, MissingOutput}
 use Rattle.ckeys.specs.declared.step.Step.{Step}
-use Rattle.ckeys.specs.declared.step.Step.TheVariants.{Preprocess, Compile}
-use Rattle.wrap.specs.Account.{Account, passed, worked, Work, Pairs, IsSuccess, direct_of, placed}
+use Rattle.wrap.specs.Account.{Account, passed, worked, Work, Pairs, IsSuccess, compile_fault_of, direct_of, placed}
 use Rattle.wrap.specs.Answers.{EarlyCause, GoesOn, GoesOnWith, Placed, SaysBy, SaysWorkedBy}
 use Rattle.wrap.specs.Asking.{AskedTurn, AskedUnder, EntriesBy, EntriesTurn, HowFrom, RecordsAreTrue, Shelves, WorkKeyFrom}
 use Rattle.wrap.specs.StoreKeys.{store_key_with}
@@ -31,6 +31,7 @@ use Rattle.wrap_base.specs.declared.answer.How.TheVariants.{Fresh}
 use Rattle.wrap_base.specs.declared.answer.Output.{Output}
 use Rattle.wrap_base.specs.declared.store_key.StoreKey.{StoreKey}
 use Rattle.wrap.specs.Steps.{CompileCause, RanOnce, kept_how}
+use Rattle.ckeys.proofs.CauseLemmas.{by_stage, caused_more, file_early}
 
 some_or_none : {A : Type 0} (o : Option A) → IsSome o ⊎ (o ≡ None)
 some_or_none None = inr refl
@@ -118,19 +119,15 @@ module _ (digest_of : Bytes → Bytes) (text_key : Bytes) (w : Work) (key : Stor
     miss : (new : Shelf StoreKey Pairs) → new.forgets ≡ asked.forgets → after ≡ ticked mid → MissTurn digest_of text_key w old new before after
     miss new same ran = record { lacked = lacked none new same; compile = ran ∙ ap ticked steady }
 
-    told_fault : (device_in : Step → Type 0) (fault : Fault) → CompileCause w device_in fault → RanOnce {A = Pairs} (Err fault) mid after → Told digest_of text_key w old asked before after (Err fault)
-    told_fault device_in Memory h (inl same) = inl (same ∙ steady)
-    told_fault device_in Memory h (inr ran) = inr (miss asked refl ran)
-    told_fault device_in (Read name) h ran = absurd h
-    told_fault device_in (Tool Compile) h ran = miss asked refl ran
-    told_fault device_in (Tool Preprocess) h ran = absurd h
-    told_fault device_in (PreprocessFailed status) h ran = absurd h
-    told_fault device_in (CompileFailed status) h ran = miss asked refl ran
-    told_fault device_in (MissingOutput name) h ran = miss asked refl ran
+    told_fault : (fault : Fault) → RanOnce {A = Pairs} (Err fault) mid after → Told digest_of text_key w old asked before after (Err fault)
+    told_fault fault ran = by_stage (stage_of fault) (λ o. elim o [
+      | inl same ↦ inl (same ∙ steady)
+      | inr once ↦ inr (miss asked refl once)
+    ]) (λ n. absurd n) (λ once. miss asked refl once) ran
 
     -- the compile failed
-    pub turn_compile_failed : (device_in : Step → Type 0) (fault : Fault) → CompileCause w device_in fault → RanOnce {A = Pairs} (Err fault) mid after → (result : Result Answer Fault) → IsErrAnd result (λ f. f ≡ fault) → KeyedTurn digest_of text_key (worked w) old asked before after result
-    turn_compile_failed device_in fault cause ran result err =
+    pub turn_compile_failed : (fault : Fault) → RanOnce {A = Pairs} (Err fault) mid after → (result : Result Answer Fault) → IsErrAnd result (λ f. f ≡ fault) → KeyedTurn digest_of text_key (worked w) old asked before after result
+    turn_compile_failed fault ran result err =
         let p = err_from_is_err_and result err in
         rw (p.1, p.2) (record {
           gains = λ k v h. inl (asks.within k v h);
@@ -139,7 +136,7 @@ module _ (digest_of : Bytes → Bytes) (text_key : Bytes) (w : Work) (key : Stor
           kept = asks_kept old asked key answer asks;
           cleared = asks.cleared;
           put = asks.put;
-          told = told_fault device_in fault cause ran;
+          told = told_fault fault ran;
         })
 
     -- the copy failed for memory
@@ -186,16 +183,13 @@ fails_in_later meaning failed fails_in old mid new m f step h = record { from = 
 
 -- the compile failed
 pub compile_says : (went_on : Type 0) (w : Work) (on_file : Bytes → Type 0) (device_in later_in : Step → Type 0) → ((step : Step) → later_in step → device_in step) → went_on → (fault : Fault) → CompileCause w later_in fault → (result : Result Answer Fault) → IsErrAnd result (λ f. f ≡ fault) → SaysWorkedBy went_on w on_file device_in result
-compile_says went_on w on_file device_in later_in more goes fault cause result err = let p = err_from_is_err_and result err in rw (p.1, p.2) (says fault cause)
-  where
-    says : (f : Fault) → CompileCause w later_in f → SaysWorkedBy went_on w on_file device_in (Err f)
-    says Memory h = tt
-    says (Read name) h = absurd h
-    says (Tool Preprocess) h = absurd h
-    says (Tool Compile) h = more Compile h
-    says (PreprocessFailed status) h = absurd h
-    says (CompileFailed status) h = (goes, h)
-    says (MissingOutput name) h = (goes, h)
+compile_says went_on w on_file device_in later_in more goes fault cause result err =
+    let p = err_from_is_err_and result err in
+    rw (p.1, p.2) (by_stage (stage_of fault) (λ u. u) (λ n. absurd n) (λ h. (goes, caused_more (compile_fault_of w) (compile_fault_of w) no_file no_file later_in device_in (λ f e. e) (λ name n. n) more fault h)) cause)
+
+-- a fault that comes before there is a verdict is none of the compile
+early_stage : (on_file : Bytes → Type 0) (fault : Fault) → EarlyCause on_file fault → ByStage (stage_of fault) (Unit {0}) (EarlyCause on_file fault) ⊥
+early_stage on_file fault h = file_early None on_file fault h
 
 -- a fault that comes before there is a verdict
 pub early_says : (went_on : Work → Type 0) (a : Account) (on_file : Bytes → Type 0) (device_in : Step → Type 0) (fault : Fault) → EarlyCause on_file fault → (result : Result Answer Fault) → IsErrAnd result (λ f. f ≡ fault) → SaysBy went_on a on_file device_in result
@@ -203,12 +197,7 @@ early_says went_on a on_file device_in fault cause result err = let p = err_from
   where
     says : (b : Account) (f : Fault) → EarlyCause on_file f → SaysBy went_on b on_file device_in (Err f)
     says (passed why) f h = h
-    says (worked w) Memory h = tt
-    says (worked w) (Read name) h = inl h
-    says (worked w) (Tool step) h = absurd h
-    says (worked w) (PreprocessFailed status) h = absurd h
-    says (worked w) (CompileFailed status) h = absurd h
-    says (worked w) (MissingOutput name) h = absurd h
+    says (worked w) f h = by_stage (stage_of f) (λ u. u) (caused_more None w.fault on_file on_file no_step device_in (λ g e. cc) (λ name d. d) (λ step n. absurd n) f) (λ n. absurd n) (early_stage on_file f h)
 
 pub early_turn : (digest_of : Bytes → Bytes) (text_key : Bytes) (a : Account) (shelf : Shelf StoreKey Pairs) (count : ℕ) (on_file : Bytes → Type 0) (fault : Fault) → EarlyCause on_file fault → (result : Result Answer Fault) → IsErrAnd result (λ f. f ≡ fault) → KeyedTurn digest_of text_key a shelf shelf count count result
 early_turn digest_of text_key a shelf count on_file fault cause result err = let p = err_from_is_err_and result err in rw (p.1, p.2) (record {
@@ -223,12 +212,7 @@ early_turn digest_of text_key a shelf count on_file fault cause result err = let
   where
     told : (b : Account) (f : Fault) → EarlyCause on_file f → ToldBy digest_of text_key b shelf shelf count count (Err f)
     told (passed why) f h = (refl, refl)
-    told (worked w) Memory h = inl refl
-    told (worked w) (Read name) h = refl
-    told (worked w) (Tool step) h = absurd h
-    told (worked w) (PreprocessFailed status) h = absurd h
-    told (worked w) (CompileFailed status) h = absurd h
-    told (worked w) (MissingOutput name) h = absurd h
+    told (worked w) f h = by_stage (stage_of f) (λ u. inl refl) (λ c. refl) (λ n. absurd n) (early_stage on_file f h)
 
 -- a file's device failed after calls on which it didn't
 pub fails_on_later : {F : Type 0} (tree : F → Tree) (failed : F → ℕ) (fails_on : F → Bytes → F → Type 0) (old mid new : F) → tree mid ≡ tree old → failed mid ≡ failed old → (name : Bytes) → FailsOn tree failed fails_on mid new name → FailsOn tree failed fails_on old new name
@@ -238,13 +222,7 @@ fails_on_later tree failed fails_on old mid new m f name h = record { from = h.f
 pub says_later : (went_on : Type 0) (w : Work) (one other : Bytes → Type 0) (device_in : Step → Type 0) → ((name : Bytes) → one name → other name) → (result : Result Answer Fault) → SaysWorkedBy went_on w one device_in result → SaysWorkedBy went_on w other device_in result
 says_later went_on w one other device_in more (Ok (Pass reason)) h = h
 says_later went_on w one other device_in more (Ok (Outputs map how dep_info)) h = h
-says_later went_on w one other device_in more (Err Memory) h = h
-says_later went_on w one other device_in more (Err (Read name)) (inl h) = inl (more name h)
-says_later went_on w one other device_in more (Err (Read name)) (inr h) = inr h
-says_later went_on w one other device_in more (Err (Tool step)) h = h
-says_later went_on w one other device_in more (Err (PreprocessFailed status)) h = h
-says_later went_on w one other device_in more (Err (CompileFailed status)) h = h
-says_later went_on w one other device_in more (Err (MissingOutput name)) h = h
+says_later went_on w one other device_in more (Err fault) h = by_stage (stage_of fault) (λ u. u) (caused_more w.fault w.fault one other device_in device_in (λ f e. e) more (λ step d. d) fault) (λ c. c) h
 
 -- there is no key
 pub key_turn : (digest_of : Bytes → Bytes) (text_key : Bytes) (w : Work) (first : Option Fault) (shelf : Shelf StoreKey Pairs) (before after : ℕ) → after ≡ before → (on_file : Bytes → Type 0) (device_in : Step → Type 0) (fault : Fault) → KeyCause first on_file device_in fault → (result : Result Answer Fault) → IsErrAnd result (λ f. f ≡ fault) → KeyedTurn digest_of text_key (worked w) shelf shelf before after result
@@ -259,25 +237,10 @@ key_turn digest_of text_key w first shelf before after same on_file device_in fa
 })
   where
     told : (f : Fault) → KeyCause first on_file device_in f → Told digest_of text_key w shelf shelf before after (Err f)
-    told Memory h = inl same
-    told (Read name) h = same
-    told (Tool Preprocess) h = same
-    told (Tool Compile) h = absurd h
-    told (PreprocessFailed status) h = same
-    told (CompileFailed status) h = absurd h
-    told (MissingOutput name) h = absurd h
+    told f h = by_stage (stage_of f) (λ u. inl same) (λ c. same) (λ n. absurd n) h
 
 pub key_says : (went_on : Type 0) (w : Work) (on_file : Bytes → Type 0) (device_in : Step → Type 0) (fault : Fault) → KeyCause w.fault on_file device_in fault → (result : Result Answer Fault) → IsErrAnd result (λ f. f ≡ fault) → SaysWorkedBy went_on w on_file device_in result
-key_says went_on w on_file device_in fault cause result err = let p = err_from_is_err_and result err in rw (p.1, p.2) (says fault cause)
-  where
-    says : (f : Fault) → KeyCause w.fault on_file device_in f → SaysWorkedBy went_on w on_file device_in (Err f)
-    says Memory h = tt
-    says (Read name) h = h
-    says (Tool Preprocess) h = h
-    says (Tool Compile) h = absurd h
-    says (PreprocessFailed status) h = h
-    says (CompileFailed status) h = absurd h
-    says (MissingOutput name) h = absurd h
+key_says went_on w on_file device_in fault cause result err = let p = err_from_is_err_and result err in rw (p.1, p.2) (by_stage (stage_of fault) (λ u. u) (λ c. c) (λ n. absurd n) cause)
 
 -- memory was refused
 pub memory_says : (went_on : Type 0) (w : Work) (on_file : Bytes → Type 0) (device_in : Step → Type 0) (result : Result Answer Fault) → IsErrAnd result (λ f. f ≡ Memory) → SaysWorkedBy went_on w on_file device_in result
