@@ -9,3 +9,4 @@ pub mod ReadBack
 pub mod Compilers
 pub mod Hazards
 pub mod Opening
+pub mod KnownLanguages

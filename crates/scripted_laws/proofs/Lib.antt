@@ -1,0 +1,3 @@
+pub mod SourceLemmas
+pub mod OutcomeLemmas
+pub mod RunLemmas

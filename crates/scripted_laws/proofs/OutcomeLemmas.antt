@@ -1,0 +1,136 @@
+-- The fresh outcome of a call that has a record, over the scripted tool.
+use Rattle.std.proofs.Common.{◌≡◌, Bool, true, false, cond, not, if◌then◌else◌, List, [], ◌∷◌, Option, None, Some, refl, sym, ap, subst, ◌∙◌}
+use Rattle.std.specs.Prelude.{is_none, unwrap_or}
+use Rattle.std.specs.Option.{option_and_then, option_map}
+use Rattle.os_files.specs.Bytes.{Bytes}
+use Rattle.os_files.specs.Path.{join}
+use Rattle.os_files.specs.Tree.{Tree, contents_at}
+use Rattle.cmdlines.specs.Commands.{ReadsAs, compile_items, compile_words, output_path, preprocess_items, preprocess_words}
+use Rattle.cmdlines.specs.KnownLanguages.{HasKnownLanguageIn, IsKnownTo}
+use Rattle.cmdlines.specs.Parsing.{HasSafeInput, parse_of}
+use Rattle.cmdlines.specs.Parsing as parsing
+use Rattle.cmdlines.specs.ReadBack.{ReadsAsCompile, ReadsAsPreprocess}
+use Rattle.cmdlines.specs.declared.parsed.ParsedArguments.{ParsedArguments}
+use Rattle.cmdlines_tables.specs.Tables.{reading_of}
+use Rattle.cmdlines_tables.specs.declared.compiler.CCompilerKind.{CCompilerKind}
+use Rattle.ckeys_base.specs.FolderPlaces.{text_places}
+use Rattle.ckeys_base.specs.FromTheLeft.{stripped_of}
+use Rattle.include_records.specs.Surroundings.{contents_in}
+use Rattle.ckeys.specs.Calls.{KeyCall, needs_preprocessing, missing_input, extra_paths, or_else, preprocess_fault_of, printed_of, read_fault_of, text_fault_of, text_in}
+use Rattle.ckeys.specs.Folders.{Settings}
+use Rattle.ckeys.specs.Meaning.{Made, Meaning, Scene, names_of}
+use Rattle.ckeys.specs.Records.{hold_end}
+use Rattle.ckeys.specs.declared.fault.Fault.{Fault}
+use Rattle.ckeys.specs.declared.fault.Fault.TheVariants.{Read}
+use Rattle.ckeys.specs.declared.output_name.OutputName.{OutputName}
+use Rattle.ckeys.specs.declared.step.Step.TheVariants.{Compile}
+use Rattle.script_tool.specs.Scripted.{compiled, language_in, one_in, printed, scripted, takes_as_it_stands, text_at, text_by, without}
+use Rattle.wrap.specs.Account.{Work, account_by, call_at, work_at, passed, worked}
+use Rattle.wrap.specs.StoreKeys.{HasRecord}
+use Rattle.wrap.specs.Verdicts.{Decision, asks, byte_255, commands_open_file, empty_value, hashed_words, opens_a_file, passes, verdict_of, with_hazards}
+use Rattle.wrap_base.specs.Commands.{kind_of, words_at}
+use Rattle.wrap_base.specs.declared.request.Request.{Request}
+use Rattle.scripted_laws.specs.ScriptedCalls.{HasSafeSource, IsMadeOfRecord, IsScripted}
+use Rattle.scripted_laws.proofs.SourceLemmas.{compile_input, compile_stands, preprocess_input}
+
+none_some : {X : Type 0} (x : X) → Some x ≡ None → ⊥
+none_some x h = cc
+
+-- the compiler goes over the text of the record, where the preprocessor or the input gave one
+module _ (folders : List Bytes) (scene : Scene) (input : Bytes) (names : List OutputName) where
+  abbrev path : Bytes
+  path = join scene.dir input
+
+  abbrev MadeOf : Option Bytes → Bytes → Type 0
+  MadeOf text recorded = compiled (without folders text) names ≡ compiled (Some (stripped_of text_places folders recorded)) names
+
+  by_printed : (made : Made) (text : Option Bytes) → made ≡ printed text → preprocess_fault_of made ≡ None → MadeOf text (text_in made.files)
+  by_printed made None is fine = absurd (none_some _ (sym (ap preprocess_fault_of is) ∙ fine))
+  by_printed made (Some text) is fine = ap (λ (m : Made). compiled (Some (stripped_of text_places folders (text_in m.files))) names) (sym is)
+
+  by_bytes : (bytes : Option Bytes) → option_map Read (cond (is_none bytes) (Some path) None) ≡ None → MadeOf bytes (unwrap_or bytes [])
+  by_bytes None fine = absurd (none_some _ fine)
+  by_bytes (Some bytes) fine = refl
+
+  by_text : (needs : Bool) (made : Made) → made ≡ printed (text_at scene.files scene.dir path) → (if needs then preprocess_fault_of made else read_fault_of scene.files (path ∷ [])) ≡ None
+      → MadeOf (text_by (not needs) scene input) (if needs then text_in made.files else contents_in scene.files path)
+  by_text true made is fine = by_printed made (text_at scene.files scene.dir path) is fine
+  by_text false made is fine = by_bytes (contents_at scene.files path) fine
+
+or_none : (first second : Option Fault) → or_else first second ≡ None → second ≡ None
+or_none None second h = h
+or_none (Some fault) second h = absurd (none_some fault h)
+
+module _ (settings : Settings) (tree : Tree) (request : Request) (p : ParsedArguments) where
+  abbrev kind : CCompilerKind
+  kind = kind_of request.compiler
+
+  abbrev meaning : Meaning
+  meaning = scripted settings.basedirs
+
+  abbrev call : KeyCall
+  call = call_at request tree settings p
+
+  abbrev names : List OutputName
+  names = names_of p.outputs
+
+  abbrev compile_command : List Bytes
+  compile_command = compile_words kind p (output_path p)
+
+  text_fine : HasRecord (work_at meaning call) → text_fault_of meaning call ≡ None
+  text_fine fine = or_none (option_map Read (missing_input call)) (text_fault_of meaning call) (or_none (read_fault_of tree (extra_paths call)) (or_else (option_map Read (missing_input call)) (text_fault_of meaning call)) fine)
+
+  work_made : (words : List Bytes) → ReadsAs kind compile_command (compile_items kind p (output_path p) (reading_of kind words).items) → ReadsAs kind (preprocess_words kind p) (preprocess_items kind p (reading_of kind words).items)
+      → IsKnownTo kind p.language → HasRecord (work_at meaning call) → IsMadeOfRecord (work_at meaning call)
+  work_made words compile preprocess known fine =
+      let items = (reading_of kind words).items in
+      let r = reading_of kind compile_command in
+      let printed_is : printed_of meaning call ≡ printed (text_at tree request.dir (join request.dir p.input)) = ap (λ o. printed (option_and_then (text_by false call.scene) o)) (preprocess_input kind p items (preprocess_words kind p) preprocess) in
+      ap (λ o. compiled (without settings.basedirs (option_and_then (text_by (takes_as_it_stands Compile (one_in language_in r)) call.scene) o)) names) (compile_input kind p items compile_command (output_path p) compile)
+      ∙ ap (λ s. compiled (without settings.basedirs (text_by s call.scene p.input)) names) (compile_stands kind p items compile_command (output_path p) compile known)
+      ∙ by_text settings.basedirs call.scene p.input names (needs_preprocessing p.language) (printed_of meaning call) printed_is (text_fine fine)
+
+-- what is asked for past the hazards was asked before them, with no empty value
+abbrev Comes : parsing.Decision → ParsedArguments → Type 0
+Comes decision p = (decision ≡ parsing.asks p) × (p.empty_value ≡ false)
+
+hazards_passed : (kind : CCompilerKind) (decision : parsing.Decision) (p : ParsedArguments) → with_hazards kind decision ≡ asks p → Comes decision p
+hazards_passed kind parsing.not_compilation p h = cc
+hazards_passed kind (parsing.cannot_cache reason more) p h = cc
+hazards_passed kind (parsing.asks q) p h = by (q.empty_value) refl (commands_open_file kind q) (hold_end (hashed_words q)) h
+  where
+    by : (s : Bool) → q.empty_value ≡ s → (t u : Bool) → (if s then passes empty_value else (if t then passes opens_a_file else (if u then passes byte_255 else asks q))) ≡ asks p → Comes (parsing.asks q) p
+    by true e t u h = cc
+    by false e true u h = cc
+    by false e false true h = cc
+    by false e false false h = (ap parsing.asks (same h), sym (ap (λ (x : ParsedArguments). x.empty_value) (same h)) ∙ e)
+      where
+        same : asks q ≡ asks p → q ≡ p
+        same h = cc
+
+abbrev pub MakeOfRecords : Type 0
+MakeOfRecords = (settings : Settings) (w : Work) → IsScripted settings (worked w) → HasRecord w → IsMadeOfRecord w
+
+module _ (compiles : (kind : CCompilerKind) (p : ParsedArguments) → ReadsAsCompile kind p (compile_words kind p (output_path p))) (preprocesses : (kind : CCompilerKind) (p : ParsedArguments) → ReadsAsPreprocess kind p (preprocess_words kind p)) (known : (kind : CCompilerKind) (words : List Bytes) → HasKnownLanguageIn kind (parse_of kind words)) where
+  decision_made : (settings : Settings) (tree : Tree) (request : Request) (w : Work) → HasSafeSource tree request → (decision : Decision) → verdict_of (kind_of request.compiler) (words_at request tree) ≡ decision
+      → account_by (scripted settings.basedirs) tree settings request decision ≡ worked w → HasRecord w → IsMadeOfRecord w
+  decision_made settings tree request w safe (passes why) is h fine = absurd (other h)
+    where
+      other : passed why ≡ worked w → ⊥
+      other h = cc
+  decision_made settings tree request w safe (asks p) is h fine =
+      let kind = kind_of request.compiler in
+      let words = words_at request tree in
+      let came : Comes (parse_of kind words) p = hazards_passed kind (parse_of kind words) p is in
+      subst IsMadeOfRecord (same h)
+      (work_made settings tree request p words
+      (compiles kind p words came.0 came.1 (safe p came.0))
+      (preprocesses kind p words came.0 came.1 (safe p came.0))
+      (known kind words p came.0)
+      (subst HasRecord (sym (same h)) fine))
+    where
+      same : worked (work_at (scripted settings.basedirs) (call_at request tree settings p)) ≡ worked w → work_at (scripted settings.basedirs) (call_at request tree settings p) ≡ w
+      same h = cc
+
+  pub records_made : MakeOfRecords
+  records_made settings w h fine = decision_made settings h.tree h.request w h.safe (verdict_of (kind_of h.request.compiler) (words_at h.request h.tree)) refl h.is fine

@@ -1,0 +1,12 @@
+use Rattle.wrap.specs.Whole.{accounts_at, files_view, tool_view}
+use Rattle.scripted_laws.proofs.RunLemmas.{calls_scripted, run_meets}
+use Rattle.scripted_laws.proofs.laws.scripted_runs_meet_their_premise.Goals as goal
+
+pub returns-clause-accounts : goal.returns-clause-accounts
+returns-clause-accounts g c = run_meets c.records_fix_scripted_outcomes.ensures.equal
+
+pub returns-clause-calls : goal.returns-clause-calls
+returns-clause-calls g c = λ digest_of settings calls all.
+    let files = files_view g.F.Files.tree g.F.Files.failed in
+    let tool = tool_view g.T.Preprocessor.meaning g.T.Preprocessor.preprocessed g.T.Preprocessor.compiled g.T.Preprocessor.failed in
+    run_meets c.records_fix_scripted_outcomes.ensures.equal digest_of settings (accounts_at settings files tool calls) (calls_scripted settings files tool calls all)

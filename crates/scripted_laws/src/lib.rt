@@ -1,0 +1,4 @@
+//! Laws of sessions over the scripted tool.
+#![tactic(auto)]
+
+pub mod laws;
