@@ -1,0 +1,102 @@
+//! What the words of entries come to, by the public parse of each compiler.
+
+use crate::entry::Entry;
+use crate::executables::EntryCompiler;
+use cmdlines::clang::Clang;
+use cmdlines::compiler_arguments::{CompilerArguments, ParseFault};
+use cmdlines::diab::Diab;
+use cmdlines::gcc::Gcc;
+use cmdlines::msvc::Msvc;
+use cmdlines::parsed::ParsedArguments;
+use cmdlines::tasking_vx::TaskingVX;
+use cmdlines_tables::compiler::CCompilerKind;
+use os_files::files::Files;
+use os_files::os_bytes::OsBytes;
+use rustkeys_base::{parse, parsed as rust};
+use std::alloc::{AllocError, Global};
+
+/// What the words of an entry come to.
+#[derive(Drop)]
+pub enum Verdict {
+    /// By a C compiler of this kind.
+    C(CCompilerKind, CompilerArguments<ParsedArguments>),
+    Rustc(CompilerArguments<rust::ParsedArguments>),
+    /// The executable is none that is known.
+    Unknown,
+}
+
+/// The C compilers, of which nothing more is known.
+#[derive(Drop)]
+pub struct Compilers {
+    pub gcc: Gcc,
+    pub clang: Clang,
+    pub diab: Diab,
+    pub msvc: Msvc,
+    pub tasking_vx: TaskingVX,
+}
+
+impl Compilers {
+    pub fn new(alloc: Global) -> Result<Compilers, AllocError> {
+        Ok(Compilers {
+            gcc: Gcc::new(alloc, false, None, None)?,
+            clang: Clang::new(alloc, false, None, None)?,
+            diab: Diab::new(alloc, false, None, None)?,
+            msvc: Msvc::new(alloc, false, None, None)?,
+            tasking_vx: TaskingVX::new(alloc, false, None, None)?,
+        })
+    }
+
+    /// What words come to by a compiler of that kind.
+    fn parse<F: Files>(
+        &self,
+        alloc: Global,
+        kind: CCompilerKind,
+        words: &[OsBytes],
+        dir: &OsBytes,
+        files: &mut F,
+    ) -> Result<CompilerArguments<ParsedArguments>, ParseFault> {
+        match kind {
+            CCompilerKind::Gcc => self.gcc.parse_arguments(alloc, words, dir, files),
+            CCompilerKind::Clang => self.clang.parse_arguments(alloc, words, dir, files),
+            CCompilerKind::Diab => self.diab.parse_arguments(alloc, words, dir, files),
+            CCompilerKind::Msvc => self.msvc.parse_arguments(alloc, words, dir, files),
+            CCompilerKind::TaskingVX => self.tasking_vx.parse_arguments(alloc, words, dir, files),
+        }
+    }
+
+    /// What the words of an entry come to.
+    pub fn decide<F: Files>(
+        &self,
+        alloc: Global,
+        entry: &Entry,
+        files: &mut F,
+    ) -> Result<Verdict, ParseFault> {
+        let words = entry.words.as_slice();
+        match entry.compiler {
+            None => Ok(Verdict::Unknown),
+            Some(EntryCompiler::C(kind)) => {
+                let answer = self.parse(alloc, kind, words, &entry.dir, files)?;
+                Ok(Verdict::C(kind, answer))
+            }
+            Some(EntryCompiler::Rustc) => {
+                let answer = parse::parse_arguments(alloc, words, &entry.dir, files)?;
+                Ok(Verdict::Rustc(answer))
+            }
+        }
+    }
+
+    /// What the words of each entry come to, in order.
+    pub fn decide_all<F: Files>(
+        &self,
+        alloc: Global,
+        entries: &[Entry],
+        files: &mut F,
+    ) -> Result<Vec<Verdict>, ParseFault> {
+        let mut verdicts = Vec::new(alloc);
+        for entry in entries {
+            let verdict = self.decide(alloc, entry, files)?;
+            verdicts.push(verdict)?;
+        }
+        Ok(verdicts)
+    }
+}

@@ -1,0 +1,18 @@
+//! A command line of a build.
+
+use crate::executables::EntryCompiler;
+use os_files::listed::Listed;
+use os_files::os_bytes::OsBytes;
+
+/// A command line of a build.
+#[derive(Drop)]
+pub struct Entry {
+    /// The compiler, where its executable's name tells one.
+    pub compiler: Option<EntryCompiler>,
+    /// The executable that compiles, as its word stands.
+    pub executable: OsBytes,
+    /// The words behind it.
+    pub words: Listed<OsBytes>,
+    /// The folder in which it is run.
+    pub dir: OsBytes,
+}

@@ -1,0 +1,100 @@
+//! Compilers by the file names of their executables.
+//!
+//! | file name | compiler |
+//! |---|---|
+//! | `cc`, `gcc`, `c++`, `g++`, perhaps with a target before and a version behind, as `aarch64-linux-gnu-gcc-13.2` | Gcc |
+//! | `clang`, `clang++`, likewise | Clang |
+//! | `cl` | Msvc |
+//! | `dcc` | Diab |
+//! | `cctc` | TaskingVX |
+//! | `rustc` | rustc |
+//!
+//! Each may end in `.exe`. The file name is what stands behind the last slash of either kind.
+
+use cmdlines_tables::compiler::CCompilerKind;
+
+/// A compiler whose words can be read.
+#[derive(Clone, Copy, Debug, PartialEq, Eq)]
+pub enum EntryCompiler {
+    C(CCompilerKind),
+    Rustc,
+}
+
+/// What stands behind the last slash of either kind.
+fn file_name(path: &[u8]) -> &[u8] {
+    let mut parts = path.rsplit(|byte| *byte == b'/' || *byte == b'\\');
+    parts.next().unwrap_or(path)
+}
+
+/// The name without `.exe` at its end.
+fn without_exe(name: &[u8]) -> &[u8] {
+    match name.strip_suffix(b".exe") {
+        Some(stem) => stem,
+        None => name,
+    }
+}
+
+fn is_version(part: &[u8]) -> bool {
+    !part.is_empty() && part.iter().all(|byte| matches!(*byte, b'0'..=b'9' | b'.'))
+}
+
+/// The name of the compiler alone: of the parts between dashes the last one that is no version.
+fn without_target_and_version(name: &[u8]) -> &[u8] {
+    let mut parts = name.rsplit(|byte| *byte == b'-');
+    match (parts.next(), parts.next()) {
+        (Some(version), Some(stem)) if is_version(version) => stem,
+        (Some(stem), _) => stem,
+        (None, _) => name,
+    }
+}
+
+/// The compiler that an executable of this path is, where its name tells.
+pub fn compiler_of(executable: &[u8]) -> Option<EntryCompiler> {
+    let name = without_exe(file_name(executable));
+    if name == b"cl".as_slice() {
+        return Some(EntryCompiler::C(CCompilerKind::Msvc));
+    }
+    if name == b"dcc".as_slice() {
+        return Some(EntryCompiler::C(CCompilerKind::Diab));
+    }
+    if name == b"cctc".as_slice() {
+        return Some(EntryCompiler::C(CCompilerKind::TaskingVX));
+    }
+    if name == b"rustc".as_slice() {
+        return Some(EntryCompiler::Rustc);
+    }
+    let stem = without_target_and_version(name);
+    if [
+        b"cc".as_slice(),
+        b"gcc".as_slice(),
+        b"c++".as_slice(),
+        b"g++".as_slice(),
+    ]
+    .contains(&stem)
+    {
+        return Some(EntryCompiler::C(CCompilerKind::Gcc));
+    }
+    if stem == b"clang".as_slice() || stem == b"clang++".as_slice() {
+        return Some(EntryCompiler::C(CCompilerKind::Clang));
+    }
+    None
+}
+
+/// Whether an executable of this path runs the compiler that the words behind it name.
+pub fn is_wrapper(executable: &[u8]) -> bool {
+    let name = without_exe(file_name(executable));
+    name == b"ccache".as_slice() || name == b"sccache".as_slice() || name == b"distcc".as_slice()
+}
+
+/// The compiler of this name, as `--lines` takes it.
+pub fn compiler_called(name: &str) -> Option<EntryCompiler> {
+    match name {
+        "gcc" => Some(EntryCompiler::C(CCompilerKind::Gcc)),
+        "clang" => Some(EntryCompiler::C(CCompilerKind::Clang)),
+        "diab" => Some(EntryCompiler::C(CCompilerKind::Diab)),
+        "msvc" => Some(EntryCompiler::C(CCompilerKind::Msvc)),
+        "taskingvx" => Some(EntryCompiler::C(CCompilerKind::TaskingVX)),
+        "rustc" => Some(EntryCompiler::Rustc),
+        _ => None,
+    }
+}
