@@ -1,7 +1,13 @@
 //! What the words of entries come to, by the public parse of each compiler.
 
+ghost use Rattle.std.specs.Prelude.{◌≡◌, IfOk, map};
+ghost use Rattle.cmdlines.specs.Opening.{opened_words};
+ghost use Rattle.cmdlines.specs.Parsing.{decision_of, parse_of};
+ghost use Rattle.reports.specs.Outcomes.{outcome_in, outcome_of, outcome_told};
+
 use crate::entry::Entry;
 use crate::executables::EntryCompiler;
+use crate::snapshot::Asked;
 use cmdlines::clang::Clang;
 use cmdlines::compiler_arguments::{CompilerArguments, ParseFault};
 use cmdlines::diab::Diab;
@@ -14,6 +20,7 @@ use os_files::files::Files;
 use os_files::os_bytes::OsBytes;
 use rustkeys_base::{parse, parsed as rust};
 use std::alloc::{AllocError, Global};
+use std::mem;
 
 /// What the words of an entry come to.
 #[derive(Drop)]
@@ -54,7 +61,10 @@ impl Compilers {
         words: &[OsBytes],
         dir: &OsBytes,
         files: &mut F,
-    ) -> Result<CompilerArguments<ParsedArguments>, ParseFault> {
+    ) -> Result<CompilerArguments<ParsedArguments>, ParseFault>
+        ensures decision { IfOk result (λ answer. decision_of answer ≡ parse_of kind (opened_words kind dir.now (F.tree files.old) words.now)) }
+        ensures tree { F.tree files.new ≡ F.tree files.old }
+    {
         match kind {
             CCompilerKind::Gcc => self.gcc.parse_arguments(alloc, words, dir, files),
             CCompilerKind::Clang => self.clang.parse_arguments(alloc, words, dir, files),
@@ -70,7 +80,10 @@ impl Compilers {
         alloc: Global,
         entry: &Entry,
         files: &mut F,
-    ) -> Result<Verdict, ParseFault> {
+    ) -> Result<Verdict, ParseFault>
+        ensures outcome { IfOk result (λ verdict. outcome_in verdict ≡ outcome_of (F.tree files.old) entry.now) }
+        ensures tree { F.tree files.new ≡ F.tree files.old }
+    {
         let words = entry.words.as_slice();
         match entry.compiler {
             None => Ok(Verdict::Unknown),
@@ -84,19 +97,47 @@ impl Compilers {
             }
         }
     }
+}
 
-    /// What the words of each entry come to, in order.
-    pub fn decide_all<F: Files>(
-        &self,
-        alloc: Global,
-        entries: &[Entry],
-        files: &mut F,
-    ) -> Result<Vec<Verdict>, ParseFault> {
-        let mut verdicts = Vec::new(alloc);
-        for entry in entries {
-            let verdict = self.decide(alloc, entry, files)?;
-            verdicts.push(verdict)?;
-        }
-        Ok(verdicts)
+/// What is decided on an entry.
+#[derive(Drop)]
+pub struct Decided {
+    pub verdict: Verdict,
+    /// The files that its words name as files of words, and that aren't there.
+    pub missing: Vec<OsBytes>,
+}
+
+/// What is decided on an entry, with these files.
+fn decided_on(
+    alloc: Global,
+    compilers: &Compilers,
+    entry: &Entry,
+    files: &mut Asked,
+) -> Result<Decided, ParseFault>
+    ensures outcome { IfOk result (λ decided. outcome_in decided.verdict ≡ outcome_of files.old.files entry.now) }
+    ensures tree { files.new.files ≡ files.old.files }
+{
+    let verdict = compilers.decide(alloc, entry, files)?;
+    let missing = mem::replace(&mut files.read, Vec::new(alloc));
+    Ok(Decided { verdict, missing })
+}
+
+/// What is decided on each entry, in order, with these files.
+pub fn decide_all(
+    alloc: Global,
+    compilers: &Compilers,
+    entries: &[Entry],
+    files: &mut Asked,
+) -> Result<Vec<Decided>, ParseFault>
+    // Each is what the definitions make of the entry's words.
+    ensures outcomes { IfOk result (λ decided. map outcome_told decided.items ≡ map (outcome_of files.old.files) entries.now) }
+    ensures tree { files.new.files ≡ files.old.files }
+{
+    let mut decided = Vec::new(alloc);
+    let mut rest = entries;
+    while let Some((entry, more)) = rest.split_first() {
+        decided.push(decided_on(alloc, compilers, entry, files)?)?;
+        rest = more;
     }
+    Ok(decided)
 }

@@ -1,8 +1,13 @@
 //! The program: it reads command lines, and prints what each comes to.
 
+use crate::database::read_database;
+use crate::deciding::{Compilers, decide_all};
+use crate::disk::snapshot_for;
 pub use crate::fault::ReportFault;
 use crate::fault::fault_of;
 use crate::lines::text_of_lines;
+use crate::report::{Shape, report_text};
+use crate::request_texts::Detail;
 use crate::usage::{HELP, Usage, usage_of};
 use std::alloc::Global;
 use std::io::{Read, Write};
@@ -10,7 +15,7 @@ use std::rt::Files;
 
 /// Reads command lines from the reader to its end, and writes what they come to.
 ///
-/// `args` are the words behind the program's name. Nothing is written before all is read.
+/// `args` are the words behind the program's name. Nothing is written before all is read and decided.
 pub fn run<D: Files, R: Read, W: Write>(
     alloc: Global,
     args: &[String],
@@ -21,15 +26,39 @@ pub fn run<D: Files, R: Read, W: Write>(
     let Some(usage) = usage_of(args) else {
         return Err(ReportFault::Arguments);
     };
-    match usage {
-        Usage::Help => write_text(writer, HELP),
-        Usage::Lines(compiler, shown) => {
-            let text = whole_text(alloc, reader)?;
-            let lines = text_of_lines(alloc, compiler, shown, text.as_slice())?;
-            write_text(writer, lines.as_str())
-        }
-        Usage::Report { .. } => Err(ReportFault::Arguments),
+    if usage == Usage::Help {
+        return write_text(writer, HELP);
     }
+    let input = whole_text(alloc, reader)?;
+    let text = match usage {
+        Usage::Help => String::new(alloc),
+        Usage::Lines(compiler, shown) => text_of_lines(alloc, compiler, shown, input.as_slice())?,
+        Usage::Report { lists, commands } => {
+            let detail = if lists { Detail::Lists } else { Detail::Short };
+            text_of_report(alloc, disk, Shape { detail, commands }, input.as_slice())?
+        }
+    };
+    write_text(writer, text.as_str())
+}
+
+/// The report on a database.
+fn text_of_report<D: Files>(
+    alloc: Global,
+    disk: &D,
+    shape: Shape,
+    database: &[u8],
+) -> Result<String, ReportFault> {
+    let entries = read_database(alloc, database)?;
+    let compilers = Compilers::new(alloc)?;
+    let mut files = snapshot_for(alloc, disk, &compilers, entries.as_slice())?;
+    let decided = decide_all(alloc, &compilers, entries.as_slice(), &mut files)?;
+    report_text(
+        alloc,
+        &compilers,
+        shape,
+        entries.as_slice(),
+        decided.as_slice(),
+    )
 }
 
 /// What the reader gives to its end.

@@ -7,16 +7,16 @@ use std::alloc::{AllocError, Global};
 
 /// Files, with the names of those that were asked for and aren't there.
 #[derive(Drop)]
-pub(crate) struct Asked {
-    pub(crate) files: MemoryFiles,
+pub struct Asked {
+    pub files: MemoryFiles,
     /// Those whose contents were asked for.
-    pub(crate) read: Vec<OsBytes>,
+    pub read: Vec<OsBytes>,
     /// Those of which it was asked whether they are there.
-    pub(crate) looked_for: Vec<OsBytes>,
+    pub looked_for: Vec<OsBytes>,
 }
 
 impl Asked {
-    pub(crate) fn new(alloc: Global) -> Asked {
+    pub fn new(alloc: Global) -> Asked {
         Asked {
             files: MemoryFiles::new(alloc),
             read: Vec::new(alloc),

@@ -1,0 +1,77 @@
+//! Options that the tables don't know, and under which a kept output may be incomplete or wrong. docs/REPORT.md tells what each does.
+
+use crate::deciding::Verdict;
+use cmdlines::compiler_arguments::CompilerArguments;
+use cmdlines_tables::compiler::CCompilerKind;
+use os_files::os_bytes::OsBytes;
+use std::alloc::{AllocError, Global};
+
+/// Options that stand alone.
+const WHOLE: [&str; 7] = [
+    "-coverage",
+    "-fstack-usage",
+    "-fcallgraph-info",
+    "-fsave-optimization-record",
+    "-fdirectives-only",
+    "-frewrite-includes",
+    "-ftime-trace",
+];
+
+/// What options begin with that go on.
+const FRONTS: [&str; 11] = [
+    "-save-temps=",
+    "-gsplit-dwarf=",
+    "-fcallgraph-info=",
+    "-fdump-",
+    "-ftime-trace=",
+    "-fsave-optimization-record=",
+    "-Wp,-MD,",
+    "-Wp,-MMD,",
+    "-fpass-plugin=",
+    "-fcs-profile-use=",
+    "-fprofile-instrument-use-path=",
+];
+
+/// The option that a word is, as the table writes it, where it is one to beware of.
+fn option_of(word: &[u8]) -> Option<&'static str> {
+    for option in WHOLE {
+        if word == option.as_bytes() {
+            return Some(option);
+        }
+    }
+    for front in FRONTS {
+        if word.starts_with(front.as_bytes()) {
+            return Some(front);
+        }
+    }
+    None
+}
+
+/// Adds each option to beware of among words, once.
+fn push_options(found: &mut Vec<&'static str>, words: &[OsBytes]) -> Result<(), AllocError> {
+    for word in words {
+        if let Some(option) = option_of(word.as_bytes()) {
+            if !found.contains(&option) {
+                found.push(option)?;
+            }
+        }
+    }
+    Ok(())
+}
+
+/// The options to beware of in what Gcc and Clang keep, each once.
+pub(crate) fn options_to_beware_of(
+    alloc: Global,
+    verdict: &Verdict,
+) -> Result<Vec<&'static str>, AllocError> {
+    let mut found = Vec::new(alloc);
+    if let Verdict::C(
+        CCompilerKind::Gcc | CCompilerKind::Clang,
+        CompilerArguments::Ok(parsed),
+    ) = verdict
+    {
+        push_options(&mut found, parsed.preprocessor_args.as_slice())?;
+        push_options(&mut found, parsed.common_args.as_slice())?;
+    }
+    Ok(found)
+}

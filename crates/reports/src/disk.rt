@@ -1,0 +1,130 @@
+//! The files that command lines name, read from the disk once, before anything is decided.
+
+use crate::deciding::Compilers;
+use crate::entry::Entry;
+use crate::executables::EntryCompiler;
+use crate::fault::ReportFault;
+use crate::snapshot::Asked;
+use os_files::file_time::FileTime;
+use os_files::memory_files::MemoryFile;
+use os_files::os_bytes::OsBytes;
+use std::alloc::Global;
+use std::io::{ErrorKind, Read};
+use std::rt::Files;
+use std::{fs, mem};
+
+/// How deep files of words may name one another. What lies deeper counts as not there.
+const DEPTH: u32 = 64;
+
+/// Whether the words may make a compiler ask for a file.
+fn may_ask(entry: &Entry) -> bool {
+    entry.compiler == Some(EntryCompiler::Rustc)
+        || entry.words.as_slice().iter().any(|word| {
+            word.as_bytes().starts_with(b"@") || word.as_bytes().starts_with(b"-@")
+        })
+}
+
+/// The contents of a regular file on the disk, where it can be read.
+fn contents_on<D: Files>(
+    alloc: Global,
+    disk: &D,
+    path: &OsBytes,
+) -> Result<Option<OsBytes>, ReportFault> {
+    let Ok(name) = str::from_utf8(path.as_bytes()) else {
+        return Ok(None);
+    };
+    match fs::metadata(disk, name) {
+        Ok(found) if found.is_file() => {}
+        _ => return Ok(None),
+    }
+    let Ok(mut file) = fs::open(disk, name) else {
+        return Ok(None);
+    };
+    let mut bytes = Vec::new(alloc);
+    match file.read_to_end(&mut bytes) {
+        Ok(_) => Ok(Some(OsBytes::from_vec(bytes))),
+        Err(error) if error.kind() == ErrorKind::OutOfMemory => Err(ReportFault::Memory),
+        Err(_) => Ok(None),
+    }
+}
+
+/// Whether a regular file is there on the disk.
+fn is_on<D: Files>(disk: &D, path: &OsBytes) -> bool {
+    let Ok(name) = str::from_utf8(path.as_bytes()) else {
+        return false;
+    };
+    match fs::metadata(disk, name) {
+        Ok(found) => found.is_file(),
+        Err(_) => false,
+    }
+}
+
+/// Keeps a file in memory.
+fn keep(asked: &mut Asked, path: OsBytes, contents: OsBytes) -> Result<(), ReportFault> {
+    let mtime = FileTime::from_seconds(0);
+    asked.files.insert(path, MemoryFile { contents, mtime })?;
+    Ok(())
+}
+
+/// Fetches the files whose contents were asked for, and tells whether one of them is there.
+fn fetch_read<D: Files>(alloc: Global, disk: &D, asked: &mut Asked) -> Result<bool, ReportFault> {
+    let mut is_there = false;
+    for path in mem::replace(&mut asked.read, Vec::new(alloc)) {
+        if let Some(contents) = contents_on(alloc, disk, &path)? {
+            keep(asked, path, contents)?;
+            is_there = true;
+        }
+    }
+    Ok(is_there)
+}
+
+/// Notes which of the files that were looked for are there, with no contents, and tells whether one of them is.
+fn fetch_looked_for<D: Files>(
+    alloc: Global,
+    disk: &D,
+    asked: &mut Asked,
+) -> Result<bool, ReportFault> {
+    let mut is_there = false;
+    for path in mem::replace(&mut asked.looked_for, Vec::new(alloc)) {
+        if is_on(disk, &path) {
+            keep(asked, path, OsBytes::empty(alloc))?;
+            is_there = true;
+        }
+    }
+    Ok(is_there)
+}
+
+/// Fetches all that an entry asks for.
+fn fetch_for<D: Files>(
+    alloc: Global,
+    disk: &D,
+    compilers: &Compilers,
+    entry: &Entry,
+    asked: &mut Asked,
+) -> Result<(), ReportFault> {
+    for _ in 0..DEPTH {
+        drop(compilers.decide(alloc, entry, asked)?);
+        let read = fetch_read(alloc, disk, asked)?;
+        let looked_for = fetch_looked_for(alloc, disk, asked)?;
+        if !read && !looked_for {
+            break;
+        }
+    }
+    Ok(())
+}
+
+/// The files that the entries ask for, as they are on the disk.
+pub(crate) fn snapshot_for<D: Files>(
+    alloc: Global,
+    disk: &D,
+    compilers: &Compilers,
+    entries: &[Entry],
+) -> Result<Asked, ReportFault> {
+    let mut asked = Asked::new(alloc);
+    for entry in entries {
+        if may_ask(entry) {
+            fetch_for(alloc, disk, compilers, entry, &mut asked)?;
+        }
+    }
+    Ok(asked)
+}
