@@ -1,5 +1,6 @@
 //! Each other public call once, and printed texts.
 
+use crate::written::{bare, parsed_by_clang};
 use cmdlines::clang::{Clang, ClangKind};
 use cmdlines::command::CommandError;
 use cmdlines::compiler_arguments::{CompilerArguments, ParseFault};
@@ -10,7 +11,6 @@ use cmdlines::msvc::{Msvc, MsvcKind};
 use cmdlines::tasking_vx::{TaskingVX, TaskingVXKind};
 use cmdlines_base::value::ArgumentValue;
 use cmdlines_tables::compiler::CCompilerKind;
-use cmdlines_texts::written::{bare, parsed, written};
 use os_files::os_bytes::OsBytes;
 use std::alloc::{AllocError, Global};
 use std::process::Abort;
@@ -96,26 +96,11 @@ fn answers_are_compared(rt: HostRuntime) {
 fn the_object_of_a_request(rt: HostRuntime) -> Result<(), Fail> {
     let alloc = rt.alloc();
     let line = "-c foo.c --serialize-diagnostics foo.dia";
-    let request = parsed(alloc, CCompilerKind::Clang, line)?;
+    let request = parsed_by_clang(alloc, line)?;
     let Some(object) = request.object() else {
         return Err("no object".into());
     };
     assert_eq!(rt; object.path.as_bytes(), b"foo.o".as_slice());
     assert!(rt; !object.optional);
-    Ok(())
-}
-
-#[test]
-fn words_that_are_no_text(rt: HostRuntime) -> Result<(), Fail> {
-    let alloc = rt.alloc();
-    let mut words = Vec::new(alloc);
-    for word in [b"-c".as_slice(), b"\xff.c".as_slice(), b"-D\xff".as_slice()] {
-        words.push(OsBytes::from_slice(alloc, word)?)?;
-    }
-    let text = written(alloc, CCompilerKind::Gcc, words.as_slice())?;
-    assert_eq!(rt;
-        text.as_str(),
-        "input \u{fffd}.c; language c; obj \u{fffd}.o; preprocessor -D\u{fffd}"
-    );
     Ok(())
 }

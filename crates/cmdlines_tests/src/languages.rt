@@ -1,8 +1,6 @@
-//! The language of an input, and where its object goes.
+//! Languages by their extensions and names.
 
-use cmdlines_tables::compiler::CCompilerKind;
 use cmdlines_tables::language::{Language, language_to_clang_arg, language_to_gcc_arg};
-use cmdlines_texts::written::each_comes_to;
 use std::test::Fail;
 
 #[test]
@@ -62,59 +60,4 @@ fn by_the_name(rt: HostRuntime) -> Result<(), Fail> {
     assert_eq!(rt; language_to_gcc_arg(Language::Rust), None);
     assert_eq!(rt; language_to_clang_arg(Language::Rust), None);
     Ok(())
-}
-
-#[test]
-fn of_an_input(rt: HostRuntime) -> Result<(), Fail> {
-    let rows = [
-        ("-c src/a.cc", "input src/a.cc; language c++; obj a.o"),
-        ("-c a.b.c", "input a.b.c; language c; obj a.b.o"),
-        (
-            "-c /a/b.S",
-            "input /a/b.S; language assembler-with-cpp; obj b.o",
-        ),
-        ("-c a.ii", "input a.ii; language c++-cpp-output; obj a.o"),
-        ("-c foo", "unknown source language"),
-        ("-c foo.h", "unknown source language"),
-    ];
-    each_comes_to(rt.alloc(), CCompilerKind::Gcc, &rows)
-}
-
-#[test]
-fn by_the_last_language_option(rt: HostRuntime) -> Result<(), Fail> {
-    let rows = [
-        (
-            "-x assembler-with-cpp -c foo.q",
-            "input foo.q; language assembler-with-cpp; obj foo.o",
-        ),
-        ("-xc++ -c foo.c", "input foo.c; language c++; obj foo.o"),
-        (
-            "-x c -c foo.q -xc++",
-            "input foo.q; language c++; obj foo.o",
-        ),
-        ("-x none -c foo.c", "input foo.c; language c; obj foo.o"),
-        (
-            "-x c++ -x none -c foo.c",
-            "input foo.c; language c; obj foo.o",
-        ),
-        ("-x c -x none -c foo.q", "unknown source language"),
-        ("-x nope -c foo.c", "unknown source language"),
-        ("-x rust -c foo.c", "unknown source language"),
-    ];
-    each_comes_to(rt.alloc(), CCompilerKind::Gcc, &rows)
-}
-
-#[test]
-fn where_the_object_goes(rt: HostRuntime) -> Result<(), Fail> {
-    let rows = [
-        (
-            "-c d/foo.c -o e/f.o",
-            "input d/foo.c; language c; obj e/f.o",
-        ),
-        ("-c foo.c -oe.o", "input foo.c; language c; obj e.o"),
-        ("-o a.o -c foo.c -o b.o", "input foo.c; language c; obj b.o"),
-        ("-x c -c .. -o a.o", "input ..; language c; obj a.o"),
-        ("-x c -c ..", "no output file"),
-    ];
-    each_comes_to(rt.alloc(), CCompilerKind::Gcc, &rows)
 }

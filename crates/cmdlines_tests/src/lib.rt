@@ -1,21 +1,15 @@
-//! Tests of command lines: what words come to, and the commands that are made for them, by example.
+//! Tests of command lines of what rows of data cannot show: small calls, tables, laws, and printed faults.
 #![tactic(auto)]
 
 #[cfg(test)]
-mod builds;
-#[cfg(test)]
 mod calls;
-#[cfg(test)]
-mod colors;
 #[cfg(test)]
 mod commands;
 #[cfg(test)]
 mod languages;
 #[cfg(test)]
-mod lists;
-#[cfg(test)]
-mod reasons;
-#[cfg(test)]
 mod small;
 #[cfg(test)]
 mod tables;
+#[cfg(test)]
+mod written;

@@ -1,7 +1,10 @@
 //! The small calls on what a command line asks for, and the hazards.
 
+use crate::written::{bare, parsed_by_clang, parsed_by_gcc, parsed_by_msvc};
+use cmdlines::clang::ClangKind;
 use cmdlines::command::command_at;
 use cmdlines::compiler_arguments::CompilerArguments;
+use cmdlines::gcc::GccKind;
 use cmdlines::hazards::{empty_value, opens_file};
 use cmdlines::laws::{inputs_are_safe, requests_have_an_object};
 use cmdlines_base::argument::Argument;
@@ -9,7 +12,6 @@ use cmdlines_tables::compiler::CCompilerKind;
 use cmdlines_tables::cutting::arguments_of;
 use cmdlines_tables::laws::arguments_are_their_items;
 use cmdlines_tables::tables::gnu_table;
-use cmdlines_texts::written::{clang, gcc, parsed};
 use os_files::listed::Listed;
 use os_files::memory_files::MemoryFiles;
 use os_files::os_bytes::OsBytes;
@@ -25,7 +27,7 @@ fn the_name_of_the_object_is_shown(rt: HostRuntime) -> Result<(), Fail> {
         ("-c foo.c -o ..", "Unknown filename"),
         ("-c foo.c -o /", "Unknown filename"),
     ] {
-        let request = parsed(alloc, CCompilerKind::Gcc, line)?;
+        let request = parsed_by_gcc(alloc, line)?;
         let shown = request.output_pretty(alloc)?;
         assert_eq!(rt; shown.as_str(), name, "{line}");
     }
@@ -39,7 +41,7 @@ fn a_name_that_is_no_text_is_shown_as_well_as_it_can(rt: HostRuntime) -> Result<
     list.push(OsBytes::from_slice(alloc, b"a/\xff.o")?)?;
     let dir = OsBytes::from_slice(alloc, b"/work")?;
     let mut files = MemoryFiles::new(alloc);
-    let answer = gcc(alloc)?.parse_arguments(alloc, list.as_slice(), &dir, &mut files)?;
+    let answer = bare::<GccKind>(alloc)?.parse_arguments(alloc, list.as_slice(), &dir, &mut files)?;
     let CompilerArguments::Ok(request) = answer else {
         return Err("no request".into());
     };
@@ -50,7 +52,7 @@ fn a_name_that_is_no_text_is_shown_as_well_as_it_can(rt: HostRuntime) -> Result<
 #[test]
 fn without_an_object_there_is_no_name(rt: HostRuntime) -> Result<(), Fail> {
     let alloc = rt.alloc();
-    let mut request = parsed(alloc, CCompilerKind::Clang, "-c foo.c")?;
+    let mut request = parsed_by_clang(alloc, "-c foo.c")?;
     assert!(rt; request.object().is_some());
     request.outputs = Listed::new(alloc);
     assert!(rt; request.object().is_none());
@@ -61,7 +63,7 @@ fn without_an_object_there_is_no_name(rt: HostRuntime) -> Result<(), Fail> {
 #[test]
 fn architectures_are_listed_once(rt: HostRuntime) -> Result<(), Fail> {
     let alloc = rt.alloc();
-    let mut request = parsed(alloc, CCompilerKind::Gcc, "-c foo.c")?;
+    let mut request = parsed_by_gcc(alloc, "-c foo.c")?;
     for (line, archs, several) in [
         ("", "", false),
         ("-arch a", "a", false),
@@ -85,11 +87,11 @@ fn architectures_are_listed_once(rt: HostRuntime) -> Result<(), Fail> {
 fn hazards_are_told(rt: HostRuntime) -> Result<(), Fail> {
     let alloc = rt.alloc();
     for (line, empty) in [("-c foo.c -I", true), ("-c foo.c -std=", false)] {
-        let request = parsed(alloc, CCompilerKind::Gcc, line)?;
+        let request = parsed_by_gcc(alloc, line)?;
         assert_eq!(rt; empty_value(&request), empty, "{line}");
     }
     for (line, empty) in [("-c foo.c /I", true), ("-c foo.c /W", false)] {
-        let request = parsed(alloc, CCompilerKind::Msvc, line)?;
+        let request = parsed_by_msvc(alloc, line)?;
         assert_eq!(rt; empty_value(&request), empty, "{line}");
     }
     Ok(())
@@ -157,6 +159,6 @@ fn laws_are_called(rt: HostRuntime) -> Result<(), Fail> {
     inputs_are_safe();
     requests_have_an_object();
     arguments_are_their_items();
-    assert!(rt; !clang(alloc)?.plusplus());
+    assert!(rt; !bare::<ClangKind>(alloc)?.plusplus());
     Ok(())
 }

@@ -47,8 +47,11 @@ fn option_of(word: &[u8]) -> Option<&'static str> {
     None
 }
 
-/// Adds each option to beware of among words, once.
-fn push_options(found: &mut Vec<&'static str>, words: &[OsBytes]) -> Result<(), AllocError> {
+/// These options, and each to beware of among words behind them, once.
+fn with_options(
+    mut found: Vec<&'static str>,
+    words: &[OsBytes],
+) -> Result<Vec<&'static str>, AllocError> {
     for word in words {
         if let Some(option) = option_of(word.as_bytes()) {
             if !found.contains(&option) {
@@ -56,7 +59,7 @@ fn push_options(found: &mut Vec<&'static str>, words: &[OsBytes]) -> Result<(), 
             }
         }
     }
-    Ok(())
+    Ok(found)
 }
 
 /// The options to beware of in what Gcc and Clang keep, each once.
@@ -64,14 +67,14 @@ pub(crate) fn options_to_beware_of(
     alloc: Global,
     verdict: &Verdict,
 ) -> Result<Vec<&'static str>, AllocError> {
-    let mut found = Vec::new(alloc);
+    let found = Vec::new(alloc);
     if let Verdict::C(
         CCompilerKind::Gcc | CCompilerKind::Clang,
         CompilerArguments::Ok(parsed),
     ) = verdict
     {
-        push_options(&mut found, parsed.preprocessor_args.as_slice())?;
-        push_options(&mut found, parsed.common_args.as_slice())?;
+        let found = with_options(found, parsed.preprocessor_args.as_slice())?;
+        return with_options(found, parsed.common_args.as_slice());
     }
     Ok(found)
 }

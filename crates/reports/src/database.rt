@@ -78,10 +78,11 @@ fn read_dir(members: &mut Map<String, Value>) -> Result<OsBytes, EntryFault> {
 
 /// The entry of an executable, which may stand behind wrappers, and its words.
 fn entry_of(alloc: Global, dir: OsBytes, words: Vec<OsBytes>) -> Result<Entry, EntryFault> {
-    let mut wrappers = 0usize;
-    while wrappers + 1 < words.len() && is_wrapper(words[wrappers].as_bytes()) {
-        wrappers += 1;
-    }
+    let wrappers = words
+        .iter()
+        .take_while(|word| is_wrapper(word.as_bytes()))
+        .count()
+        .min(words.len().saturating_sub(1));
     let mut words = words.into_iter().skip(wrappers);
     let Some(executable) = words.next() else {
         return Err(EntryFault::Wrong("it has no words"));

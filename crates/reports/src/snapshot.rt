@@ -1,5 +1,7 @@
 //! Files in memory that note which ones are asked for and aren't known, so that these can be fetched.
 
+ghost use Rattle.std.specs.Prelude.{◌≡◌};
+
 use os_files::files::{FileFail, Files, Metadata};
 use os_files::memory_files::MemoryFiles;
 use os_files::os_bytes::OsBytes;
@@ -25,13 +27,17 @@ impl Asked {
     }
 
     /// Notes that the contents of this file were asked for.
-    fn note_read(&mut self, path: &OsBytes) -> Result<(), AllocError> {
+    fn note_read(&mut self, path: &OsBytes) -> Result<(), AllocError>
+        ensures { self.new.files ≡ self.old.files }
+    {
         self.read.push(path.clone()?)?;
         Ok(())
     }
 
     /// Notes that it was asked whether this file is there, where it isn't.
-    fn note(&mut self, is_there: bool, path: &OsBytes) -> Result<(), AllocError> {
+    fn note(&mut self, is_there: bool, path: &OsBytes) -> Result<(), AllocError>
+        ensures { self.new.files ≡ self.old.files }
+    {
         if !is_there {
             self.looked_for.push(path.clone()?)?;
         }

@@ -1,6 +1,6 @@
 //! Files of words.
 
-use crate::written::{WHOLE, each_comes_to, each_makes};
+use crate::written::{WHOLE, answer};
 use os_files::files::Files;
 use os_files::memory_files::MemoryFiles;
 use os_files::os_bytes::OsBytes;
@@ -16,7 +16,7 @@ use test_kit::texts::is_that;
 
 /// The files of each row, in `/w`.
 fn all_files(alloc: Global) -> Result<MemoryFiles, AllocError> {
-    let rows: [(&str, &[u8]); 10] = [
+    let rows: [(&str, &[u8]); 9] = [
         ("/w/lines", b"--emit\nlink\n"),
         ("/w/args", b"--emit\nlink\n@more"),
         ("/w/more", b"-g"),
@@ -26,10 +26,6 @@ fn all_files(alloc: Global) -> Result<MemoryFiles, AllocError> {
         ("/w/spaces", b"-a b 'c d'\n\\\n"),
         ("/w/ragged", b"  --emit  \n\tlink\n\nfoo.rs\r"),
         ("/o/far", b"-O"),
-        (
-            "/w/whole",
-            b"--emit=link\nfoo.rs\n--out-dir\nout\n--crate-name\nfoo\n--crate-type\nlib\n",
-        ),
     ];
     files_of(alloc, &rows)
 }
@@ -155,61 +151,46 @@ fn lines_of_texts(rt: HostRuntime) -> Result<(), Fail> {
     Ok(())
 }
 
-#[test]
-fn requests_with_files_of_words(rt: HostRuntime) -> Result<(), Fail> {
-    let mut files = all_files(rt.alloc())?;
-    let rows = [
-        ("@whole", "foo in out; types rlib; emit link"),
-        ("rustc @whole", "foo in out; types rlib; emit link"),
-        ("@front @whole", "foo in out; types rlib; emit link"),
-        (
-            "@lines foo.rs --out-dir out --crate-name foo --crate-type lib",
-            "foo in out; types rlib; emit link",
-        ),
-        (
-            "@args foo.rs --out-dir out --crate-name foo --crate-type lib",
-            "multiple input files: prev = @more, next = foo.rs",
-        ),
-        (
-            "@whole @broken",
-            "multiple input files: prev = foo.rs, next = @broken",
-        ),
-        ("@whole @whole", "more than one --emit"),
-        ("@missing_file", "missing output_dir"),
-        ("@empty", "missing input"),
-    ];
-    each_comes_to(rt.alloc(), &mut files, &rows)
-}
-
+/// Each row: words before and behind the whole request, and what is said where the device fails at the first file that is asked for.
 #[test]
 fn requests_by_a_device_that_fails(rt: HostRuntime) -> Result<(), Fail> {
-    let rows = [
-        ("-g", "foo in out; types rlib; emit link"),
-        (
-            "-L p -l bar",
-            "foo in out; types rlib; emit link; crates /w/p",
-        ),
-        (
-            "--target x.json",
-            "foo in out; types rlib; emit link; target x.json",
-        ),
-        ("--target x", "cannot read /w/x.json"),
-        ("-L n -l static=s", "cannot read /w/n/libs.a"),
-        ("-l static=s -L native=/o", "cannot read /o/libs.a"),
-        (
-            "-L crate=n -l static=s",
-            "foo in out; types rlib; emit link; crates /w/n",
-        ),
-        ("@args", "cannot read /w/args"),
-        ("-o x @args", "cannot read /w/args"),
-        ("-o x --target x", "-o"),
-        (
-            "-L n -l static=s bar.rs",
-            "multiple input files: prev = foo.rs, next = bar.rs",
-        ),
-    ];
-    let line = format!(in rt.alloc(); "@args {WHOLE}")?;
-    let first = [(line.as_str(), "cannot read /w/args")];
-    each_comes_to(rt.alloc(), &mut BrokenFiles::new(), &first)?;
-    each_makes(rt.alloc(), &mut BrokenFiles::new(), &rows)
+    let alloc = rt.alloc();
+    for (before, more, want) in [
+        ("", "--target x", "cannot read /w/x.json"),
+        ("", "-L n -l static=s", "cannot read /w/n/libs.a"),
+        ("", "-l static=s -L native=/o", "cannot read /o/libs.a"),
+        ("@args ", "", "cannot read /w/args"),
+        ("", "@args", "cannot read /w/args"),
+        ("", "-o x @args", "cannot read /w/args"),
+    ] {
+        let line = format!(in alloc; "{before}{WHOLE} {more}")?;
+        let list = words(alloc, line.as_str())?;
+        let Err(fault) = answer(alloc, list.as_slice(), &mut BrokenFiles::new()) else {
+            return Err("an answer".into());
+        };
+        let text = format!(in alloc; "{fault}")?;
+        is_that(text.as_str(), want, more)?;
+    }
+    Ok(())
+}
+
+/// Each row: words behind the whole request that ask for no file, so that the answer is the one without files.
+#[test]
+fn requests_that_ask_for_no_file(rt: HostRuntime) -> Result<(), Fail> {
+    let alloc = rt.alloc();
+    for more in [
+        "-g",
+        "-L p -l bar",
+        "--target x.json",
+        "-L crate=n -l static=s",
+        "-o x --target x",
+        "-L n -l static=s bar.rs",
+    ] {
+        let line = format!(in alloc; "{WHOLE} {more}")?;
+        let list = words(alloc, line.as_str())?;
+        let broken = answer(alloc, list.as_slice(), &mut BrokenFiles::new())?;
+        let without = answer(alloc, list.as_slice(), &mut MemoryFiles::new(alloc))?;
+        assert!(rt; broken == without, "{more}");
+    }
+    Ok(())
 }

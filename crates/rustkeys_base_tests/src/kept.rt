@@ -1,108 +1,19 @@
 //! The arguments that requests keep, and the words that these print.
 
-use crate::written::{WHOLE, arguments_of, printed};
+use crate::written::{WHOLE, answer, arguments_of};
+use cmdlines::compiler_arguments::CompilerArguments;
 use cmdlines_base::argument::{ArgDisposition, Argument};
+use os_files::memory_files::MemoryFiles;
 use os_files::os_bytes::OsBytes;
 use rustc_options::data::ArgData;
 use rustc_options::types::ArgTarget;
+use rustkeys_base::laws::first_that_decides_does;
+use rustkeys_base::parsed::CrateTypes;
 use std::alloc::{AllocError, Global};
 use std::fmt::Write;
 use std::test::Fail;
+use test_kit::rows::words;
 use test_kit::texts::is_that;
-
-/// The words that the whole request prints, those of an argument in brackets.
-const PRINTED: &str = "[--emit link][foo.rs][--out-dir out][--crate-name foo][--crate-type rlib]";
-
-/// Each row: words behind the whole request, and the words that are printed behind its own.
-fn each_prints(alloc: Global, rows: &[(&str, &str)]) -> Result<(), Fail> {
-    for (more, want) in rows.iter() {
-        let line = format!(in alloc; "{WHOLE} {more}")?;
-        let arguments = arguments_of(alloc, line.as_str())?;
-        let text = printed(alloc, arguments.as_slice())?;
-        let expected = format!(in alloc; "{PRINTED}{want}")?;
-        is_that(text.as_str(), expected.as_str(), more)?;
-    }
-    Ok(())
-}
-
-#[test]
-fn words_are_printed(rt: HostRuntime) -> Result<(), Fail> {
-    let alloc = rt.alloc();
-    let arguments = arguments_of(alloc, WHOLE)?;
-    let text = printed(alloc, arguments.as_slice())?;
-    is_that(text.as_str(), PRINTED, WHOLE)?;
-    let rows = [
-        ("-C opt-level=1 -Cdebug", "[-C opt-level=1][-C debug]"),
-        ("--codegen=a=b=c", "[--codegen a=b=c]"),
-        ("-Zprofile -Z x=y", "[-Z profile][-Z x=y]"),
-        ("--extern a=b=c", "[--extern a=b=c]"),
-        ("--extern=a=", "[--extern a=]"),
-        (
-            "--target=x --target t.json",
-            "[--target x][--target t.json]",
-        ),
-        ("--json=a,b", "[--json a,b]"),
-        ("-A a -Db -F=c -W d", "[-A a][-D b][-F =c][-W d]"),
-        ("--cfg=a=\"b\" --cfg c", "[--cfg a=\"b\"][--cfg c]"),
-        (
-            "--edition=2021 -g -O --test",
-            "[--edition=2021][-g][-O][--test]",
-        ),
-        ("--cap-lints=warn", "[--cap-lints warn]"),
-    ];
-    each_prints(alloc, &rows)
-}
-
-#[test]
-fn what_is_meant_is_printed(rt: HostRuntime) -> Result<(), Fail> {
-    let rows = [
-        ("-l bar", "[-l dylib=bar]"),
-        ("-lstatic=bar", "[-l static=bar]"),
-        ("-L p", "[-L all=p]"),
-        ("-Lcrate=p", "[-L crate=p]"),
-        (
-            "--crate-type lib,staticlib",
-            "[--crate-type rlib,staticlib]",
-        ),
-        (
-            "--crate-type=staticlib,lib,rlib",
-            "[--crate-type rlib,staticlib]",
-        ),
-    ];
-    each_prints(rt.alloc(), &rows)
-}
-
-/// Where the words end behind an option whose value may stand joined, it has an empty value, and stays one word.
-#[test]
-fn options_that_are_the_last_word(rt: HostRuntime) -> Result<(), Fail> {
-    let rows = [
-        ("-L", "[-Lall=]"),
-        ("-l", "[-ldylib=]"),
-        ("-C", "[-C]"),
-        ("-A", "[-A]"),
-        ("-L ", "[-L all=]"),
-    ];
-    each_prints(rt.alloc(), &rows)
-}
-
-#[test]
-fn no_word_on_colors_is_kept(rt: HostRuntime) -> Result<(), Fail> {
-    let rows = [
-        ("--color=always", ""),
-        ("--color never -g", "[-g]"),
-        ("--color=auto --color=x", ""),
-        ("--colour=auto", "[--colour=auto]"),
-    ];
-    each_prints(rt.alloc(), &rows)
-}
-
-#[test]
-fn the_name_of_rustc_is_not_kept(rt: HostRuntime) -> Result<(), Fail> {
-    let alloc = rt.alloc();
-    let line = format!(in alloc; "rustc {WHOLE}")?;
-    assert!(rt; arguments_of(alloc, line.as_str())? == arguments_of(alloc, WHOLE)?);
-    Ok(())
-}
 
 #[test]
 fn joined_and_apart_are_the_same(rt: HostRuntime) -> Result<(), Fail> {
@@ -120,8 +31,6 @@ fn joined_and_apart_are_the_same(rt: HostRuntime) -> Result<(), Fail> {
         let first = arguments_of(alloc, apart)?;
         let second = arguments_of(alloc, joined)?;
         assert!(rt; first == second, "{joined}");
-        let text = printed(alloc, second.as_slice())?;
-        assert_eq!(rt; text, printed(alloc, first.as_slice())?);
     }
     Ok(())
 }
@@ -210,4 +119,25 @@ fn paths_are_what_the_closure_answers(rt: HostRuntime) -> Result<(), Fail> {
     let more = "--target|/there|--target|u|-l|dylib=p|--test|-ldylib=|";
     let want = format!(in alloc; "{whole}{more}")?;
     is_that(text.as_str(), want.as_str(), line.as_str())
+}
+
+#[test]
+fn types_are_compared(rt: HostRuntime) -> Result<(), Fail> {
+    let alloc = rt.alloc();
+    let list = words(alloc, WHOLE)?;
+    let answer = answer(alloc, list.as_slice(), &mut MemoryFiles::new(alloc))?;
+    let CompilerArguments::Ok(parsed) = answer else {
+        return Err("no request".into());
+    };
+    let types = CrateTypes {
+        rlib: true,
+        staticlib: false,
+    };
+    assert_eq!(rt; parsed.crate_types, types);
+    Ok(())
+}
+
+#[test]
+fn laws() {
+    first_that_decides_does();
 }

@@ -1,14 +1,8 @@
-//! Tests of rustc's words: what they come to, and what is kept of them, by example.
+//! Tests of rustc's words of what rows of data cannot show: what is kept as values, files of words, failing devices, notifications.
 #![tactic(auto)]
 
 #[cfg(test)]
-mod answers;
-#[cfg(test)]
-mod cargo;
-#[cfg(test)]
 mod expansion;
-#[cfg(test)]
-mod fields;
 #[cfg(test)]
 mod kept;
 #[cfg(test)]
