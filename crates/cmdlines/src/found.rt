@@ -17,11 +17,9 @@ use crate::compiler_arguments::{CompilerArguments, ParseFault};
 use crate::laws::{inputs_are_safe, requests_have_an_object};
 use crate::opening::parse_opened;
 use crate::parsed::ParsedArguments;
-use cmdlines_base::byte_tree::ByteTree;
 use cmdlines_base::command::SingleCompileCommand;
 use cmdlines_tables::compiler::CCompilerKind;
-use cmdlines_tables::compiler_tables::compiler_tree;
-use cmdlines_tables::value::ArgData;
+use cmdlines_tables::compiler_tables::CCompilerTables;
 use os_files::files::Files;
 use os_files::listed::Listed;
 use os_files::os_bytes::OsBytes;
@@ -43,20 +41,21 @@ pub struct FoundCompiler<K: HasKind> {
     plusplus: bool,
     version: Option<String>,
     assembler_digest: Option<String>,
-    tree: ByteTree<ArgData>,
+    tables: CCompilerTables,
     kind: PhantomData<K>,
 }
 
 impl<K: HasKind> Model for FoundCompiler<K> {
     ghost use Rattle.std.specs.Prelude.{◌≡◌};
     ghost use Rattle.cmdlines.specs.Compilers.{Traits, traits_of};
+    ghost use Rattle.cmdlines_tables.specs.Search.{tables_in};
     ghost use Rattle.cmdlines_tables.specs.Tables.{tables_of};
 
     ghost Value = { Traits };
 
     ghost view = { λ a. traits_of a.plusplus a.version a.assembler_digest };
 
-    ghost invariant = { λ a. a.tree ≡ tables_of K.kind };
+    ghost invariant = { λ a. tables_in a.tables ≡ tables_of K.kind };
 }
 
 impl<K: HasKind> FoundCompiler<K> {
@@ -72,7 +71,7 @@ impl<K: HasKind> FoundCompiler<K> {
             plusplus,
             version,
             assembler_digest,
-            tree: compiler_tree(alloc, K::kind())?,
+            tables: CCompilerTables::new(alloc, K::kind())?,
             kind: PhantomData,
         })
     }
@@ -117,7 +116,7 @@ impl<K: HasKind> FoundCompiler<K> {
         // Laws, which cost nothing: what follows from them is said above.
         inputs_are_safe();
         requests_have_an_object();
-        parse_opened(alloc, K::kind(), &self.tree, dir, words, files)
+        parse_opened(alloc, K::kind(), &self.tables, dir, words, files)
     }
 
     /// The words of the preprocess command.
