@@ -17,9 +17,11 @@ use crate::compiler_arguments::{CompilerArguments, ParseFault};
 use crate::laws::{inputs_are_safe, requests_have_an_object};
 use crate::opening::parse_opened;
 use crate::parsed::ParsedArguments;
+use cmdlines_base::byte_tree::ByteTree;
 use cmdlines_base::command::SingleCompileCommand;
 use cmdlines_tables::compiler::CCompilerKind;
-use cmdlines_tables::compiler_tables::CCompilerTables;
+use cmdlines_tables::compiler_tables::compiler_tree;
+use cmdlines_tables::value::ArgData;
 use os_files::files::Files;
 use os_files::listed::Listed;
 use os_files::os_bytes::OsBytes;
@@ -41,21 +43,20 @@ pub struct FoundCompiler<K: HasKind> {
     plusplus: bool,
     version: Option<String>,
     assembler_digest: Option<String>,
-    tables: CCompilerTables,
+    tree: ByteTree<ArgData>,
     kind: PhantomData<K>,
 }
 
 impl<K: HasKind> Model for FoundCompiler<K> {
     ghost use Rattle.std.specs.Prelude.{◌≡◌};
     ghost use Rattle.cmdlines.specs.Compilers.{Traits, traits_of};
-    ghost use Rattle.cmdlines_tables.specs.Search.{tables_in};
     ghost use Rattle.cmdlines_tables.specs.Tables.{tables_of};
 
     ghost Value = { Traits };
 
     ghost view = { λ a. traits_of a.plusplus a.version a.assembler_digest };
 
-    ghost invariant = { λ a. tables_in a.tables ≡ tables_of K.kind };
+    ghost invariant = { λ a. a.tree ≡ tables_of K.kind };
 }
 
 impl<K: HasKind> FoundCompiler<K> {
@@ -71,7 +72,7 @@ impl<K: HasKind> FoundCompiler<K> {
             plusplus,
             version,
             assembler_digest,
-            tables: CCompilerTables::new(alloc, K::kind())?,
+            tree: compiler_tree(alloc, K::kind())?,
             kind: PhantomData,
         })
     }
@@ -116,7 +117,7 @@ impl<K: HasKind> FoundCompiler<K> {
         // Laws, which cost nothing: what follows from them is said above.
         inputs_are_safe();
         requests_have_an_object();
-        parse_opened(alloc, K::kind(), &self.tables, dir, words, files)
+        parse_opened(alloc, K::kind(), &self.tree, dir, words, files)
     }
 
     /// The words of the preprocess command.

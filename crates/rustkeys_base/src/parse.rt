@@ -19,8 +19,8 @@ use crate::parsed::ParsedArguments;
 use cmdlines::compiler_arguments::{CompilerArguments, ParseFault};
 use cmdlines_base::argument::{Argument, NormalizedDisposition};
 use cmdlines_base::argument_error::ArgParseError;
+use cmdlines_base::byte_tree::ByteTree;
 use cmdlines_base::cutting::ArgsIter;
-use cmdlines_base::table::Table;
 use os_files::files::Files;
 use os_files::listed::Listed;
 use os_files::os_bytes::OsBytes;
@@ -114,14 +114,14 @@ fn take<F: Files>(
 /// Gathers what the words say, as far as none decides by itself.
 fn gather<F: Files>(
     alloc: Global,
-    table: &Table<ArgData>,
+    tree: &ByteTree<ArgData>,
     words: &[OsBytes],
     dir: &OsBytes,
     facts: &mut Facts,
     kept: &mut Listed<Argument<ArgData>>,
     files: &mut F,
 ) -> Result<Option<Refusal>, ParseFault>
-    requires table { table.now ≡ rustc_entries }
+    requires tree { tree.now ≡ rustc_entries ∷ [] }
     requires facts { facts.old ≡ no_facts }
     requires kept { kept.old ≡ [] }
     ensures gathered { IfOk result (Gathers dir.now (F.tree files.old) (rustc_reading words.now) facts.new kept.new) }
@@ -130,7 +130,7 @@ fn gather<F: Files>(
     ensures steady { OnOk result (F.failed files.new ≡ F.failed files.old) }
     ensures memory { IsErrOf result ParseFault.Memory → F.failed files.new ≡ F.failed files.old }
 {
-    let mut arguments = ArgsIter::new(alloc, words, table);
+    let mut arguments = ArgsIter::new(alloc, words, tree);
     while let Some(next) = arguments.next() {
         match next {
             Err(error) => return Ok(Some(not_cut(error)?)),
@@ -159,11 +159,11 @@ fn parse<F: Files>(
     ensures steady { OnOk result (F.failed files.new ≡ F.failed files.old) }
     ensures memory { IsErrOf result ParseFault.Memory → F.failed files.new ≡ F.failed files.old }
 {
-    let table = rustc_table(alloc)?;
+    let tree = ByteTree::of_one(rustc_table(alloc)?);
     let words = behind_rustc(words);
     let mut facts = Facts::new(alloc);
     let mut kept = Listed::new(alloc);
-    match gather(alloc, &table, words, dir, &mut facts, &mut kept, files)? {
+    match gather(alloc, &tree, words, dir, &mut facts, &mut kept, files)? {
         Some(why) => Ok(why.into_answer()),
         None => close(alloc, dir, facts, kept, files),
     }

@@ -14,7 +14,7 @@ use cmdlines_base::argument::Argument;
 use cmdlines_base::argument_error::ArgParseError;
 use cmdlines_base::table::SearchableArgInfo;
 use cmdlines_tables::compiler::CCompilerKind;
-use cmdlines_tables::compiler_tables::CCompilerTables;
+use cmdlines_tables::compiler_tables::compiler_tree;
 use cmdlines_tables::cutting::arguments_of;
 use cmdlines_tables::kind::ArgKind;
 use cmdlines_tables::language::Language;
@@ -108,8 +108,8 @@ pub fn source_of(
 ) -> Result<Source, AllocError>
     ensures { IfOk result (λ source. source ≡ source_in (reading_of kind words.now)) }
 {
-    let tables = CCompilerTables::new(alloc, kind)?;
-    source_by(alloc, kind, words, &tables)
+    let tree = compiler_tree(alloc, kind)?;
+    source_by(alloc, kind, words, &tree)
 }
 
 /// Whether inputs of the language of this name aren't preprocessed.
