@@ -1,0 +1,3 @@
+pub mod RowReads
+pub mod PieceFormats
+pub mod WholeKeys
