@@ -1,5 +1,5 @@
 -- Whole keys: what is read of their bytes is what was written, and what was written is read.
-use Rattle.std.proofs.Common.{◌≡◌, ℕ, ◌+◌, ◌-◌, ◌^◌, ◌<◌, ◌≤◌, true, false, cond, eqb, List, [], ◌∷◌, ◌++◌, length, get_or, take, drop, map, Option, Some, None, refl, sym, ap, subst, ◌∙◌, append_assoc, arith}
+use Rattle.std.proofs.Common.{◌≡◌, ℕ, ◌+◌, ◌-◌, ◌^◌, ◌<◌, true, false, cond, eqb, List, [], ◌∷◌, ◌++◌, length, get_or, take, drop, map, Some, None, refl, sym, ap, subst, ◌∙◌, append_assoc, arith}
 use Rattle.std.specs.Prelude.{unwrap_or, slice_index}
 use Rattle.std.specs.List.{flat_map, AllByRecursion}
 use Rattle.std.proofs.lemmas.Bool.{eqb-true, eqb-false, eq-eqb, ne_eqb}
@@ -14,10 +14,9 @@ use Rattle.rustc_parts.specs.Formed.{HasDigests, IsDigest, digest_digits}
 use Rattle.rustc_parts.specs.Material.{env_dep_bytes, joined, material_of, pair_bytes}
 use Rattle.rustc_parts.specs.Reading.{Files, Front, Surroundings, digest_at, files_at, front_at, front_of, parts_at, parts_from, surroundings_at, version_at}
 use Rattle.rustc_parts.specs.Shapes.{shape_of}
-use Rattle.rustc_parts.specs.declared.parts.EnvDep.{EnvDep}
 use Rattle.rustc_parts.specs.declared.parts.Parts.{Parts}
 use Rattle.rustc_parts.specs.declared.parts.RShape.{RShape}
-use Rattle.rustc_parts.proofs.PieceFormats.{AreWords, EnvDepFits, IsEnvDep, IsTarget, PairFits, behind_format, digest_format, each_format, env_dep_format, pair_format, row_format, target_format, words_format}
+use Rattle.rustc_parts.proofs.PieceFormats.{AreWords, EnvDepFits, IsTarget, PairFits, behind_format, digest_format, each_format, env_dep_format, pair_format, row_format, target_format, words_format}
 use Rattle.rustc_parts.specs.Reading.{env_dep_at, pair_at}
 use Rattle.std.specs.Prelude.{is_some}
 

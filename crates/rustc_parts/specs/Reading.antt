@@ -1,5 +1,5 @@
 -- The pieces of a key, read from the left of its bytes by what these don't tell.
-use Rattle.std.specs.Prelude.{◌≡◌, ℕ, Bool, true, false, ◌==◌, ◌-◌, List, [], ◌∷◌, length, take, slice_index, Option, None, Some, if◌then◌else◌}
+use Rattle.std.specs.Prelude.{ℕ, Bool, true, false, ◌==◌, ◌-◌, List, [], ◌∷◌, length, take, slice_index, Option, None, Some, if◌then◌else◌}
 use Rattle.std.specs.List.{list_all}
 use Rattle.std.specs.Str.{byte}
 use Rattle.os_files.specs.Bytes.{Bytes}

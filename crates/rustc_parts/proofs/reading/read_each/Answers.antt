@@ -1,4 +1,3 @@
-use Rattle.std.proofs.Common.{◌∙◌, false}
 use Rattle.std.proofs.lemmas.Result.{err_from_is_err_and}
 use Rattle.byte_formats.specs.Reading.{taken_at}
 use Rattle.rustc_parts.specs.Reading.{each_at}

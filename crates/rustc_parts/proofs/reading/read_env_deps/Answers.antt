@@ -1,4 +1,4 @@
-use Rattle.std.proofs.Common.{◌∙◌, false}
+use Rattle.std.proofs.Common.{false}
 use Rattle.std.proofs.lemmas.Result.{err_from_is_err_and}
 use Rattle.rustc_parts.specs.Reading.{each_at, env_dep_at}
 use Rattle.rustc_parts.proofs.RowReads.{each-goes_on, each-ends, each-done}
