@@ -12,6 +12,7 @@ ghost use Rattle.cmdlines.specs.Parsing.{decision_of, parse_of, HasSafeInputIn};
 ghost use Rattle.cmdlines.specs.ReadBack.{ReadsAsCompile, ReadsAsPreprocess};
 ghost use Rattle.cmdlines_tables.specs.Tables.{reading_of};
 ghost use Rattle.cmdlines_tables.specs.declared.compiler.CCompilerKind.{CCompilerKind};
+ghost use Rattle.ckeys.specs.EntryTurns.{AtMostOnce};
 ghost use Rattle.ckeys.specs.Meaning.{scene_with, made_of};
 
 use crate::preprocessor::{Preprocessor, Printed, ToolFail};
@@ -107,6 +108,7 @@ pub trait CCompilerImpl {
         ensures device { IsErrOf result ToolFail.Device → (T.failed tool.new ≡ ticked (T.failed tool.old)) × T.fails_in tool.old Step.Preprocess tool.new }
         ensures steady { (IsErrOf result ToolFail.Device → ⊥) → (T.failed tool.new ≡ T.failed tool.old) × (F.failed files.new ≡ F.failed files.old) }
         ensures runs { (IsErrOf result ToolFail.Memory → ⊥) → T.preprocessed tool.new ≡ ticked (T.preprocessed tool.old) }
+        ensures once { AtMostOnce (T.preprocessed tool.old) (T.preprocessed tool.new) }
         ensures compiles { T.compiled tool.new ≡ T.compiled tool.old }
     {
         let words = self.preprocess_words(alloc, parsed)?;

@@ -9,7 +9,7 @@ ghost use Rattle.ckeys_base.specs.Shelf.{Asks};
 ghost use Rattle.os_files.specs.Path.{join};
 ghost use Rattle.ckeys.specs.Calls.{FileCause, KeyCause, key_fault_of, PrintedCall, needs_preprocessing, printed_call, record_by, record_of, text_fault_by, text_fault_of, text_of};
 ghost use Rattle.ckeys.specs.Entries.{EntryInvariant, EntryPremises, IsFramed, asking, entry_key_of, has_entry_key};
-ghost use Rattle.ckeys.specs.EntryTurns.{EntryTurn, IsKnown, Keeps, KeyFine, KeyFrom, KeyRecorded, KeyRuns, TextFine};
+ghost use Rattle.ckeys.specs.EntryTurns.{EntryTurn, IsKnown, Keeps, KeyFine, KeyFrom, KeyRecorded, KeyRuns, RunsUntilKey, TextFine};
 ghost use Rattle.ckeys.specs.Surroundings.{recorded_of};
 ghost use Rattle.ckeys.specs.Keys.{key_of, record_shape};
 ghost use Rattle.ckeys.specs.Hashers.{AreExtra, call_by, handed_by, looked_at};
@@ -91,6 +91,8 @@ impl<'a, I: CCompilerImpl + Drop> CCompilerHasher<'a, I> {
             AreSteady T.failed F.failed tool.old files.old tool.new files.new }
         ensures idle { needs_preprocessing self.now.parsed.now.language ≡ false → (T.preprocessed tool.new ≡ T.preprocessed tool.old) × (T.failed tool.new ≡ T.failed tool.old) }
         ensures runs { needs_preprocessing self.now.parsed.now.language ≡ true → OnOk result (T.preprocessed tool.new ≡ ticked (T.preprocessed tool.old)) }
+        ensures until { needs_preprocessing self.now.parsed.now.language ≡ true →
+            IfErr result (RunsUntilKey (T.preprocessed tool.old) (T.preprocessed tool.new)) }
         ensures compiles { T.compiled tool.new ≡ T.compiled tool.old }
     {
         if !needs_c_preprocessing(self.parsed.language) {
@@ -172,6 +174,8 @@ impl<'a, I: CCompilerImpl + Drop> CCompilerHasher<'a, I> {
             AreSteady T.failed F.failed tool.old files.old tool.new files.new }
         ensures idle { needs_preprocessing self.now.parsed.now.language ≡ false → (T.preprocessed tool.new ≡ T.preprocessed tool.old) × (T.failed tool.new ≡ T.failed tool.old) }
         ensures runs { needs_preprocessing self.now.parsed.now.language ≡ true → OnOk result (T.preprocessed tool.new ≡ ticked (T.preprocessed tool.old)) }
+        ensures until { needs_preprocessing self.now.parsed.now.language ≡ true →
+            IfErr result (RunsUntilKey (T.preprocessed tool.old) (T.preprocessed tool.new)) }
         ensures compiles { T.compiled tool.new ≡ T.compiled tool.old }
     {
         let text = self.text(alloc, place, files, tool)?;
@@ -219,6 +223,7 @@ impl<'a, I: CCompilerImpl + Drop> CCompilerHasher<'a, I> {
         ensures entries { let p = printed_call (T.meaning tool.old) (call_by I.kind_of I.traits self.now place.now (F.tree files.old)) in EntryTurn H.digest_of p (E.shelf entries.old) (E.shelf entries.new) (T.preprocessed tool.old) (T.preprocessed tool.new) }
         ensures recorded { let p = printed_call (T.meaning tool.old) (call_by I.kind_of I.traits self.now place.now (F.tree files.old)) in IfOk result (λ made. KeyRecorded H.digest_of p (E.shelf entries.old) (E.shelf entries.new) made.2 (string_bytes made.0)) }
         ensures runs { IfOk result (λ made. KeyRuns made.2 (T.preprocessed tool.old) (T.preprocessed tool.new)) }
+        ensures until { IfErr result (RunsUntilKey (T.preprocessed tool.old) (T.preprocessed tool.new)) }
         ensures tree { F.tree files.new ≡ F.tree files.old }
         ensures meaning { T.meaning tool.new ≡ T.meaning tool.old }
         ensures steady { OnOk result
@@ -289,6 +294,9 @@ impl<'a, I: CCompilerImpl + Drop> CCompilerHasher<'a, I> {
             AreSteady T.failed F.failed tool.old files.old tool.new files.new }
         ensures idle { needs_preprocessing self.now.parsed.now.language ≡ false → (T.preprocessed tool.new ≡ T.preprocessed tool.old) × (T.failed tool.new ≡ T.failed tool.old) }
         ensures runs { needs_preprocessing self.now.parsed.now.language ≡ true → IfOk result (λ made. KeyRuns made.2 (T.preprocessed tool.old) (T.preprocessed tool.new)) }
+        // How often the preprocessor ran before a fault.
+        ensures until { needs_preprocessing self.now.parsed.now.language ≡ true →
+            IfErr result (RunsUntilKey (T.preprocessed tool.old) (T.preprocessed tool.new)) }
         ensures compiles { T.compiled tool.new ≡ T.compiled tool.old }
     {
         records_are_true::<H>();
@@ -319,6 +327,8 @@ impl<'a, I: CCompilerImpl + Drop> CCompilerHasher<'a, I> {
             AreSteady T.failed F.failed tool.old files.old tool.new files.new }
         ensures idle { needs_preprocessing self.now.parsed.now.language ≡ false → (T.preprocessed tool.new ≡ T.preprocessed tool.old) × (T.failed tool.new ≡ T.failed tool.old) }
         ensures runs { needs_preprocessing self.now.parsed.now.language ≡ true → IfOk result (λ made. KeyRuns made.2 (T.preprocessed tool.old) (T.preprocessed tool.new)) }
+        ensures until { needs_preprocessing self.now.parsed.now.language ≡ true →
+            IfErr result (RunsUntilKey (T.preprocessed tool.old) (T.preprocessed tool.new)) }
         ensures compiles { T.compiled tool.new ≡ T.compiled tool.old }
     {
         let names = self.parsed.extra_hash_files.as_slice();
