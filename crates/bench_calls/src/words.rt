@@ -152,7 +152,7 @@ pub(crate) fn openings(alloc: Global, count: u32, repeats: u32) -> Result<Tally,
 }
 
 /// Tallies copies of the texts.
-fn copy(alloc: Global, texts: &[OsBytes]) -> Result<Tally, AllocError>
+pub(crate) fn copy(alloc: Global, texts: &[OsBytes]) -> Result<Tally, AllocError>
     ensures { IfOk result (λ tally. tally.count ≡ length texts.now) }
 {
     let mut copies = Vec::new(alloc);
