@@ -1,3 +1,4 @@
 pub mod RowReads
 pub mod PieceFormats
 pub mod WholeKeys
+pub mod OneOrder

@@ -2,7 +2,7 @@
 #![tactic(auto)]
 
 pub mod laws;
-mod order;
+pub mod order;
 pub mod parts;
 pub mod reading;
 pub mod writing;
