@@ -1,6 +1,7 @@
 //! What is written of pieces, and read back.
 
 use crate::made::{EMPTY, listed, nothing, only, pair, set, unset};
+use os_files::listed::Listed;
 use os_files::os_bytes::OsBytes;
 use rustc_parts::parts::Parts;
 use rustc_parts::reading::read_key_bytes;
@@ -24,35 +25,33 @@ fn between<'a>(bytes: &'a [u8]) -> &'a [u8] {
 
 /// A crate of two sources and an extern, all empty, with a static library.
 fn small_crate(alloc: Global) -> Result<Parts, Fail> {
-    let mut parts = nothing(alloc)?;
-    parts.toolchain = listed(alloc, &[EMPTY])?;
-    parts.words = listed(alloc, &[b"a", b"b", b"--cfg", b"abc", b"--cfg", b"xyz"])?;
-    parts.sources = listed(alloc, &[EMPTY, EMPTY])?;
-    parts.externs = listed(alloc, &[EMPTY])?;
-    parts.archives = listed(alloc, &[EMPTY])?;
-    parts.variables.push(pair(alloc, b"CARGO_BLAH", b"abc")?)?;
-    parts
-        .variables
-        .push(pair(alloc, b"CARGO_PKG_NAME", b"foo")?)?;
-    Ok(parts)
+    let mut variables = Listed::new(alloc);
+    variables.push(pair(alloc, b"CARGO_BLAH", b"abc")?)?;
+    variables.push(pair(alloc, b"CARGO_PKG_NAME", b"foo")?)?;
+    Ok(Parts {
+        toolchain: listed(alloc, &[EMPTY])?,
+        version: OsBytes::from_slice(alloc, b"host: x")?,
+        words: listed(alloc, &[b"a", b"b", b"--cfg", b"abc", b"--cfg", b"xyz"])?,
+        sources: listed(alloc, &[EMPTY, EMPTY])?,
+        externs: listed(alloc, &[EMPTY])?,
+        archives: listed(alloc, &[EMPTY])?,
+        target: None,
+        env_deps: Listed::new(alloc),
+        variables,
+        dir: OsBytes::from_slice(alloc, b"/t")?,
+    })
 }
+
+/// Its bytes.
+const SMALL_CRATE: &[u8] =
+    b"73e0b4c2489cfc141a9bf4f8c99f69b4272ea144e46b939c44a5999b187258b55\x12\0\0\0\0\0\0\0ab--cfgabc--cfgxyz3e0b4c2489cfc141a9bf4f8c99f69b4272ea144e46b939c44a5999b187258b553e0b4c2489cfc141a9bf4f8c99f69b4272ea144e46b939c44a5999b187258b553e0b4c2489cfc141a9bf4f8c99f69b4272ea144e46b939c44a5999b187258b553e0b4c2489cfc141a9bf4f8c99f69b4272ea144e46b939c44a5999b187258b55\x0a\0\0\0\0\0\0\0CARGO_BLAH=\x03\0\0\0\0\0\0\0abc\x0e\0\0\0\0\0\0\0CARGO_PKG_NAME=\x03\0\0\0\0\0\0\0foo\x02\0\0\0\0\0\0\0/thost: x\xff";
 
 #[test]
 fn a_small_crate_is_written_piece_by_piece(rt: HostRuntime) -> Result<(), Fail> {
     let alloc = rt.alloc();
-    let mut wanted = Vec::new(alloc);
-    wanted.extend_from_slice(b"7")?;
-    wanted.extend_from_slice(EMPTY)?;
-    wanted.extend_from_slice(b"\x12\0\0\0\0\0\0\0ab--cfgabc--cfgxyz")?;
-    for _ in 0..4 {
-        wanted.extend_from_slice(EMPTY)?;
-    }
-    wanted.extend_from_slice(b"\x0a\0\0\0\0\0\0\0CARGO_BLAH=\x03\0\0\0\0\0\0\0abc")?;
-    wanted.extend_from_slice(b"\x0e\0\0\0\0\0\0\0CARGO_PKG_NAME=\x03\0\0\0\0\0\0\0foo")?;
-    wanted.extend_from_slice(b"\x02\0\0\0\0\0\0\0/thost: x\xff")?;
-    let bytes = key_bytes(alloc, &small_crate(alloc)?)?;
-    assert_eq!(rt; bytes.as_slice(), wanted.as_slice());
-    assert_eq!(rt; is_read_back(alloc, &small_crate(alloc)?)?, true);
+    let parts = small_crate(alloc)?;
+    assert_eq!(rt; key_bytes(alloc, &parts)?.as_slice() == SMALL_CRATE, true);
+    assert_eq!(rt; is_read_back(alloc, &parts)?, true);
     Ok(())
 }
 
@@ -77,7 +76,10 @@ fn words_are_told_by_the_shape(rt: HostRuntime) -> Result<(), Fail> {
     for parts in [&one, &other] {
         let bytes = key_bytes(alloc, parts)?;
         assert_eq!(rt; is_read_back(alloc, parts)?, true);
-        assert_eq!(rt; between(&bytes), b"\x03\0\0\0\0\0\0\0abc".as_slice());
+        assert_eq!(rt;
+            between(&bytes) == b"\x03\0\0\0\0\0\0\0abc".as_slice(),
+            true
+        );
     }
     assert_eq!(rt; one.shape(alloc)? == other.shape(alloc)?, false);
     Ok(())
@@ -94,7 +96,7 @@ fn unset_is_told_by_the_shape(rt: HostRuntime) -> Result<(), Fail> {
         let bytes = key_bytes(alloc, parts)?;
         assert_eq!(rt; is_read_back(alloc, parts)?, true);
         let wanted = b"\0\0\0\0\0\0\0\0\x03\0\0\0\0\0\0\0FOO=\0\0\0\0\0\0\0\0";
-        assert_eq!(rt; between(&bytes), wanted.as_slice());
+        assert_eq!(rt; between(&bytes) == wanted.as_slice(), true);
     }
     assert_eq!(rt; one.shape(alloc)? == other.shape(alloc)?, false);
     Ok(())
@@ -117,7 +119,10 @@ fn sources_and_externs_are_told_by_the_shape(rt: HostRuntime) -> Result<(), Fail
     other.sources = listed(alloc, &[A])?;
     other.externs = listed(alloc, &[B, C])?;
     let bytes = key_bytes(alloc, &one)?;
-    assert_eq!(rt; key_bytes(alloc, &other)?.as_slice(), bytes.as_slice());
+    assert_eq!(rt;
+        key_bytes(alloc, &other)?.as_slice() == bytes.as_slice(),
+        true
+    );
     for parts in [&one, &other] {
         assert_eq!(rt; is_read_back(alloc, parts)?, true);
     }
