@@ -1,5 +1,5 @@
 -- What the words of an entry come to, by the definitions of each compiler's parse.
-use Rattle.std.specs.Prelude.{Bool, true, false, List, Option, None, Some}
+use Rattle.std.specs.Prelude.{Bool, true, false, not, List, Option, None, Some}
 use Rattle.os_files.specs.Bytes.{Bytes}
 use Rattle.os_files.specs.Tree.{Tree}
 use Rattle.cmdlines.specs.Opening.{opened_words}
@@ -47,3 +47,7 @@ is_passed (by_rustc rust.asks) = false
 is_passed (by_rustc rust.not_compilation) = true
 is_passed (by_rustc (rust.cannot_cache reason more)) = true
 is_passed unknown = true
+
+-- whether the outputs are kept
+abbrev pub is_kept : Outcome → Bool
+is_kept outcome = not (is_passed outcome)
