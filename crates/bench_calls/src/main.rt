@@ -244,7 +244,8 @@ fn copy(alloc: Global, text: &[u8]) -> Result<Glance, AllocError>
 
 /// A glance at the text without the folders that count in it.
 fn strip(alloc: Global, text: &[u8], folders: &[OsBytes]) -> Result<Glance, AllocError>
-    ensures { IfOk result (λ seen. seen.length ≡ length (stripped_of text_places folders.now text.now)) }
+    ensures { IfOk result
+        (λ seen. seen.length ≡ length (stripped_of text_places folders.now text.now)) }
 {
     let left = strip_basedirs(alloc, text, folders)?;
     Ok(Glance::at(left.as_slice()))

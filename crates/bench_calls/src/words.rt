@@ -132,7 +132,8 @@ fn open(
     words: &[OsBytes],
     files: &mut MemoryFiles,
 ) -> Result<Tally, ParseFault>
-    ensures words { IfOk result (λ tally. tally.count ≡ length (expanded Gnu dir.now files.old words.now)) }
+    ensures words { IfOk result
+        (λ tally. tally.count ≡ length (expanded Gnu dir.now files.old words.now)) }
     ensures files { files.new ≡ files.old }
 {
     let words = expand(alloc, Style::Gnu, dir, words, files)?;

@@ -105,9 +105,14 @@ impl<K: HasKind> FoundCompiler<K> {
         dir: &OsBytes,
         files: &mut F,
     ) -> Result<CompilerArguments<ParsedArguments>, ParseFault>
-        ensures decision { IfOk result (λ answer. decision_of answer ≡ parse_of K.kind (opened_words K.kind dir.now (F.tree files.old) words.now)) }
-        ensures cause { IfErr result (CauseOf (FailsOn F.tree F.failed F.fails_on files.old files.new)) }
-        ensures input { IfOk result (λ answer. HasSafeInputIn K.kind (opened_words K.kind dir.now (F.tree files.old) words.now) (decision_of answer)) }
+        ensures decision { IfOk result
+            (λ answer. decision_of answer
+            ≡ parse_of K.kind (opened_words K.kind dir.now (F.tree files.old) words.now)) }
+        ensures cause { IfErr result
+            (CauseOf (FailsOn F.tree F.failed F.fails_on files.old files.new)) }
+        ensures input { IfOk result
+            (λ answer. HasSafeInputIn K.kind
+            (opened_words K.kind dir.now (F.tree files.old) words.now) (decision_of answer)) }
         ensures object { IfOk result (λ answer. HasObjectIn (decision_of answer)) }
         ensures tree { F.tree files.new ≡ F.tree files.old }
         ensures steady { OnOk result (F.failed files.new ≡ F.failed files.old) }
@@ -141,7 +146,10 @@ impl<K: HasKind> FoundCompiler<K> {
         dir: &OsBytes,
         env: &[(OsBytes, OsBytes)],
     ) -> Result<(SingleCompileCommand, Cacheable), CommandError>
-        ensures command { IfOk result (λ made. made.0 ≡ command_at executable.now (compile_words K.kind parsed.now (output_path parsed.now)) env.now dir.now) }
+        ensures command { IfOk result
+            (λ made. made.0
+            ≡ command_at executable.now (compile_words K.kind parsed.now (output_path parsed.now))
+            env.now dir.now) }
         ensures cacheable { IfOk result (λ made. made.1 ≡ Cacheable.Yes) }
         ensures missing { IsErrOf result CommandError.NoObjOutput ↔ (object_path parsed.now ≡ None) }
         ensures again { IfOk result (λ made. ReadsAsCompile K.kind parsed.now made.0.arguments) }

@@ -119,10 +119,12 @@ pub(crate) fn past_ended<'a, T: ArgumentValue>(
     word: &[u8],
 ) -> (Option<&'a ArgInfo<T>>, &'a [ArgInfo<T>])
     requires node { IsNode depth word.now (entries_of node.now) }
-    ensures fit { longer (entry_at result.0) (longest_fit (entries_of result.1.now) word.now) ≡ longer (entry_at best.entry) (longest_fit (entries_of node.now) word.now) }
+    ensures fit { longer (entry_at result.0) (longest_fit (entries_of result.1.now) word.now)
+        ≡ longer (entry_at best.entry) (longest_fit (entries_of node.now) word.now) }
     ensures node { IsNode depth word.now (entries_of result.1.now) }
     ensures on { All (GoesOn depth) (entries_of result.1.now) }
-    ensures reach { max depth (reach (entries_of result.1.now) word.now) ≡ max depth (reach (entries_of node.now) word.now) }
+    ensures reach { max depth (reach (entries_of result.1.now) word.now)
+        ≡ max depth (reach (entries_of node.now) word.now) }
 {
     match node.split_first() {
         Some((entry, others)) if entry.flag().len() <= depth => {
@@ -194,7 +196,8 @@ impl<T: ArgumentValue> Model for Table<T> {
 impl<T: ArgumentValue> Table<T> {
     /// The table of these entries; None where their flags don't rise strictly or a delimiter isn't ASCII.
     pub fn new(entries: Vec<ArgInfo<T>>) -> Option<Table<T>>
-        ensures { result ≡ (if is_table (entries_of entries.items) then Some (entries_of entries.items) else None) }
+        ensures { result
+            ≡ (if is_table (entries_of entries.items) then Some (entries_of entries.items) else None) }
     {
         if is_table(entries.as_slice()) {
             Some(Table { entries })
@@ -270,5 +273,6 @@ impl<T: ArgumentValue, A: SearchableArgInfo<T>, B: SearchableArgInfo<T>> Searcha
 /// The entry of a word in the words of the subject: it stands in one of the tables and fits, no fitting entry has a
 /// longer flag, and none of a later table has the same; and there is none only where nothing fits.
 pub fn entry_has_the_longest_flag<T: ArgumentValue>()
-    ensures { (tables : List (List (Entry T.Kind))) (word : Bytes) → IsEntryOf tables word (longest_fit (all_entries tables) word) }
+    ensures { (tables : List (List (Entry T.Kind))) (word : Bytes)
+        → IsEntryOf tables word (longest_fit (all_entries tables) word) }
 {}

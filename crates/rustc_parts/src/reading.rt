@@ -65,7 +65,8 @@ fn read_digests(
     count: usize,
     bytes: &[u8],
 ) -> Result<(Listed<OsBytes>, &[u8]), ReadFault>
-    ensures { Gives (λ x. (x.0, x.1.now)) result (times_at (digest_at digest_digits) count bytes.now) }
+    ensures { Gives (λ x. (x.0, x.1.now)) result
+        (times_at (digest_at digest_digits) count bytes.now) }
 {
     let mut all = Vec::new(alloc);
     let mut rest = bytes;
@@ -233,8 +234,8 @@ fn read_files<'a>(
     shape: &RShape,
     bytes: &'a [u8],
 ) -> Result<(FileDigests, &'a [u8]), ReadFault>
-    ensures { Gives (λ x. ((x.0.sources, (x.0.externs, (x.0.archives, x.0.target))), x.1.now)) result
-        (files_at digest_digits shape.now bytes.now) }
+    ensures { Gives (λ x. ((x.0.sources, (x.0.externs, (x.0.archives, x.0.target))), x.1.now))
+        result (files_at digest_digits shape.now bytes.now) }
 {
     let (sources, rest) = read_digests(alloc, shape.sources, bytes)?;
     let (externs, rest) = read_digests(alloc, shape.externs, rest)?;

@@ -47,7 +47,8 @@ pub fn hashed_variables(
     alloc: Global,
     env: &[(OsBytes, OsBytes)],
 ) -> Result<Listed<(OsBytes, OsBytes)>, AllocError>
-    ensures same { IfOk result (λ pairs. IsPermutation (filter (λ pair. counts pair.0) env.now) pairs) }
+    ensures same { IfOk result
+        (λ pairs. IsPermutation (filter (λ pair. counts pair.0) env.now) pairs) }
     ensures sorted { IfOk result (λ pairs. IsSorted pair_cmp pairs) }
 {
     let mut kept = Vec::new(alloc);
@@ -64,7 +65,8 @@ pub fn compile_env(
     alloc: Global,
     env: &[(OsBytes, OsBytes)],
 ) -> Result<Listed<(OsBytes, OsBytes)>, AllocError>
-    ensures same { IfOk result (λ pairs. IsPermutation (filter (λ pair. compiles_with pair.0) env.now) pairs) }
+    ensures same { IfOk result
+        (λ pairs. IsPermutation (filter (λ pair. compiles_with pair.0) env.now) pairs) }
     ensures sorted { IfOk result (λ pairs. IsSorted pair_cmp pairs) }
 {
     let mut kept = Vec::new(alloc);

@@ -72,8 +72,12 @@ fn note<F: Files>(
     argument: &Argument<ArgData>,
     files: &mut F,
 ) -> Result<Option<Refusal>, ParseFault>
-    ensures decides { IfOk result (λ why. option_map verdict_of why ≡ decides dir.now (F.tree files.old) facts.old (token_in argument.now)) }
-    ensures noted { IfOk result (λ why. MatchOption why (facts.new ≡ facts_with facts.old (token_in argument.now ∷ [])) (λ decided. Unit {0})) }
+    ensures decides { IfOk result
+        (λ why. option_map verdict_of why
+        ≡ decides dir.now (F.tree files.old) facts.old (token_in argument.now)) }
+    ensures noted { IfOk result
+        (λ why. MatchOption why (facts.new ≡ facts_with facts.old (token_in argument.now ∷ []))
+        (λ decided. Unit {0})) }
     ensures cause { IfErr result (CauseOf (FailsOn F.tree F.failed F.fails_on files.old files.new)) }
     ensures tree { F.tree files.new ≡ F.tree files.old }
     ensures steady { OnOk result (F.failed files.new ≡ F.failed files.old) }
@@ -95,9 +99,14 @@ fn take<F: Files>(
     argument: Argument<ArgData>,
     files: &mut F,
 ) -> Result<Option<Refusal>, ParseFault>
-    ensures decides { IfOk result (λ why. option_map verdict_of why ≡ decides dir.now (F.tree files.old) facts.old (token_in argument)) }
-    ensures noted { IfOk result (λ why. MatchOption why (facts.new ≡ facts_with facts.old (token_in argument ∷ [])) (λ decided. Unit {0})) }
-    ensures kept { IfOk result (λ why. MatchOption why (kept.new ≡ kept_with kept.old argument) (λ decided. Unit {0})) }
+    ensures decides { IfOk result
+        (λ why. option_map verdict_of why
+        ≡ decides dir.now (F.tree files.old) facts.old (token_in argument)) }
+    ensures noted { IfOk result
+        (λ why. MatchOption why (facts.new ≡ facts_with facts.old (token_in argument ∷ []))
+        (λ decided. Unit {0})) }
+    ensures kept { IfOk result
+        (λ why. MatchOption why (kept.new ≡ kept_with kept.old argument) (λ decided. Unit {0})) }
     ensures cause { IfErr result (CauseOf (FailsOn F.tree F.failed F.fails_on files.old files.new)) }
     ensures tree { F.tree files.new ≡ F.tree files.old }
     ensures steady { OnOk result (F.failed files.new ≡ F.failed files.old) }
@@ -124,7 +133,8 @@ fn gather<F: Files>(
     requires tree { tree.now ≡ rustc_entries ∷ [] }
     requires facts { facts.old ≡ no_facts }
     requires kept { kept.old ≡ [] }
-    ensures gathered { IfOk result (Gathers dir.now (F.tree files.old) (rustc_reading words.now) facts.new kept.new) }
+    ensures gathered { IfOk result
+        (Gathers dir.now (F.tree files.old) (rustc_reading words.now) facts.new kept.new) }
     ensures cause { IfErr result (CauseOf (FailsOn F.tree F.failed F.fails_on files.old files.new)) }
     ensures tree { F.tree files.new ≡ F.tree files.old }
     ensures steady { OnOk result (F.failed files.new ≡ F.failed files.old) }
@@ -152,8 +162,11 @@ fn parse<F: Files>(
     dir: &OsBytes,
     files: &mut F,
 ) -> Result<CompilerArguments<ParsedArguments>, ParseFault>
-    ensures verdict { IfOk result (λ answer. verdict_in answer ≡ verdict_on dir.now (F.tree files.old) (request_reading words.now)) }
-    ensures asked { IfOk result (IsAsked dir.now (F.tree files.old) (request_reading words.now).items) }
+    ensures verdict { IfOk result
+        (λ answer. verdict_in answer
+        ≡ verdict_on dir.now (F.tree files.old) (request_reading words.now)) }
+    ensures asked { IfOk result
+        (IsAsked dir.now (F.tree files.old) (request_reading words.now).items) }
     ensures cause { IfErr result (CauseOf (FailsOn F.tree F.failed F.fails_on files.old files.new)) }
     ensures tree { F.tree files.new ≡ F.tree files.old }
     ensures steady { OnOk result (F.failed files.new ≡ F.failed files.old) }
@@ -177,8 +190,13 @@ pub fn parse_arguments<F: Files>(
     dir: &OsBytes,
     files: &mut F,
 ) -> Result<CompilerArguments<ParsedArguments>, ParseFault>
-    ensures verdict { IfOk result (λ answer. verdict_in answer ≡ verdict_on dir.now (F.tree files.old) (request_reading (expanded_by_rustc dir.now (F.tree files.old) words.now))) }
-    ensures asked { IfOk result (IsAsked dir.now (F.tree files.old) (request_reading (expanded_by_rustc dir.now (F.tree files.old) words.now)).items) }
+    ensures verdict { IfOk result
+        (λ answer. verdict_in answer
+        ≡ verdict_on dir.now (F.tree files.old)
+        (request_reading (expanded_by_rustc dir.now (F.tree files.old) words.now))) }
+    ensures asked { IfOk result
+        (IsAsked dir.now (F.tree files.old)
+        (request_reading (expanded_by_rustc dir.now (F.tree files.old) words.now)).items) }
     ensures cause { IfErr result (CauseOf (FailsOn F.tree F.failed F.fails_on files.old files.new)) }
     ensures tree { F.tree files.new ≡ F.tree files.old }
     ensures steady { OnOk result (F.failed files.new ≡ F.failed files.old) }

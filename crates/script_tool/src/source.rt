@@ -45,7 +45,9 @@ fn push_language(
     argument: &Argument<ArgData>,
     languages: &mut Vec<OsBytes>,
 ) -> Result<(), AllocError>
-    ensures { OnOk result ((behind : Bool) → languages.new.items ≡ languages.old.items ++ language_in (placed behind argument.now)) }
+    ensures { OnOk result
+        ((behind : Bool)
+        → languages.new.items ≡ languages.old.items ++ language_in (placed behind argument.now)) }
 {
     if let Argument::WithValue(_, data, _) = argument {
         if data.kind() == ArgKind::Language {
@@ -57,7 +59,8 @@ fn push_language(
 
 /// Adds the input that an argument names.
 fn push_input(argument: Argument<ArgData>, inputs: &mut Vec<OsBytes>) -> Result<(), AllocError>
-    ensures { OnOk result ((behind : Bool) → inputs.new.items ≡ inputs.old.items ++ input_in (placed behind argument)) }
+    ensures { OnOk result
+        ((behind : Bool) → inputs.new.items ≡ inputs.old.items ++ input_in (placed behind argument)) }
 {
     if let Argument::Raw(word) = argument {
         inputs.push(word)?;
@@ -72,7 +75,9 @@ fn source_by<S: SearchableArgInfo<ArgData>>(
     words: &[OsBytes],
     table: &S,
 ) -> Result<Source, AllocError>
-    ensures { IfOk result (λ source. source ≡ source_in (reading (ends_options kind) (all_entries (S.tables table.now)) words.now)) }
+    ensures { IfOk result
+        (λ source. source
+        ≡ source_in (reading (ends_options kind) (all_entries (S.tables table.now)) words.now)) }
 {
     // A law, which costs nothing: what follows from it is said above.
     arguments_are_their_items();

@@ -11,4 +11,4 @@ pub returns-clause-sorted : goal.returns-clause-sorted
 returns-clause-sorted c =
     let ranks = ranks_by c.variables_have_one_order.ensures.pairs (λ (pair : Bytes × Bytes). pair) in
     subst (IsSorted pair_cmp) (sym c.from_vec.ensures)
-      (c.sort_unstable_by.ensures.sorted (λ x y. is_lt (pair_cmp x y)) ranks (answers_always _ _ _ (λ f a r f' k. ap is_lt (search rules))))
+    (c.sort_unstable_by.ensures.sorted (λ x y. is_lt (pair_cmp x y)) ranks (answers_always _ _ _ (λ f a r f' k. ap is_lt (search rules))))
