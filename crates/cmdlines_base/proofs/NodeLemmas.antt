@@ -162,15 +162,15 @@ table_back [] fs h = h
 table_back (e ∷ es) fs h = table_back es fs (table_behind e (es ++ fs) h)
 
 -- what holds of all and also holds of all; of the front of a list; of its back
-all_both : {X : Type 0} (P Q : X → Type 0) (xs : List X) → All P xs → All Q xs → All (λ x. P x × Q x) xs
+pub all_both : {X : Type 0} (P Q : X → Type 0) (xs : List X) → All P xs → All Q xs → All (λ x. P x × Q x) xs
 all_both P Q [] p q = All-nil (λ x. P x × Q x)
 all_both P Q (x ∷ xs) p q = All-cons (λ x. P x × Q x) x xs (All-head P x xs p, All-head Q x xs q) (all_both P Q xs (All-tail P x xs p) (All-tail Q x xs q))
 
-all_front : {X : Type 0} (P : X → Type 0) (xs ys : List X) → All P (xs ++ ys) → All P xs
+pub all_front : {X : Type 0} (P : X → Type 0) (xs ys : List X) → All P (xs ++ ys) → All P xs
 all_front P [] ys h = All-nil P
 all_front P (x ∷ xs) ys h = All-cons P x xs (All-head P x (xs ++ ys) h) (all_front P xs ys (All-tail P x (xs ++ ys) h))
 
-all_back : {X : Type 0} (P : X → Type 0) (xs ys : List X) → All P (xs ++ ys) → All P ys
+pub all_back : {X : Type 0} (P : X → Type 0) (xs ys : List X) → All P (xs ++ ys) → All P ys
 all_back P [] ys h = h
 all_back P (x ∷ xs) ys h = all_back P xs ys (All-tail P x (xs ++ ys) h)
 
@@ -226,3 +226,11 @@ all_on d word e es h on = All-cons (GoesOn d) e es on (ends_once d word e es h.r
 pub none_fits : {T K : Type 0} (word : List ℕ) (xs : List (ArgInfo T K)) → length xs ≡ 0 → longest_fit (entries_of xs) word ≡ None
 none_fits word [] h = refl
 none_fits word (x ∷ xs) h = absurd (omega (arith, h))
+
+-- the root of a table: no byte is looked at
+pub root : {K : Type 0} (word : List ℕ) (es : List (Entry K)) → is_table es ≡ true → IsNode 0 word es
+root word es rise = record { begin = from_start es; rise = rise }
+  where
+    from_start : {K : Type 0} (fs : List (Entry K)) → All (Begins 0 word) fs
+    from_start [] = All-nil (Begins 0 word)
+    from_start (f ∷ fs) = All-cons (Begins 0 word) f fs (record { long = omega arith; alike = refl }) (from_start fs)

@@ -1,9 +1,9 @@
 -- What the words of an entry come to, by the definitions of each compiler's parse.
-use Rattle.std.specs.Prelude.{List, Option, None, Some}
+use Rattle.std.specs.Prelude.{Bool, true, false, not, List, Option, None, Some}
 use Rattle.os_files.specs.Bytes.{Bytes}
 use Rattle.os_files.specs.Tree.{Tree}
 use Rattle.cmdlines.specs.Opening.{opened_words}
-use Rattle.cmdlines.specs.Parsing.{Decision, decision_of, parse_of}
+use Rattle.cmdlines.specs.Parsing.{Decision, asks, not_compilation, cannot_cache, decision_of, parse_of}
 use Rattle.cmdlines_tables.specs.declared.compiler.CCompilerKind.{CCompilerKind}
 use Rattle.rustkeys_base.specs.Expansion.{expanded_by_rustc}
 use Rattle.rustkeys_base.specs.Verdict as rust
@@ -37,3 +37,17 @@ outcome_in verdicts.Unknown = unknown
 
 abbrev pub outcome_told : Decided → Outcome
 outcome_told decided = outcome_in decided.verdict
+
+-- whether the compiler runs as if there were no cache
+abbrev pub is_passed : Outcome → Bool
+is_passed (by_c kind (asks parsed)) = false
+is_passed (by_c kind not_compilation) = true
+is_passed (by_c kind (cannot_cache reason more)) = true
+is_passed (by_rustc rust.asks) = false
+is_passed (by_rustc rust.not_compilation) = true
+is_passed (by_rustc (rust.cannot_cache reason more)) = true
+is_passed unknown = true
+
+-- whether the outputs are kept
+abbrev pub is_kept : Outcome → Bool
+is_kept outcome = not (is_passed outcome)

@@ -62,7 +62,9 @@ impl Compilers {
         dir: &OsBytes,
         files: &mut F,
     ) -> Result<CompilerArguments<ParsedArguments>, ParseFault>
-        ensures decision { IfOk result (λ answer. decision_of answer ≡ parse_of kind (opened_words kind dir.now (F.tree files.old) words.now)) }
+        ensures decision { IfOk result
+            (λ answer. decision_of answer
+            ≡ parse_of kind (opened_words kind dir.now (F.tree files.old) words.now)) }
         ensures tree { F.tree files.new ≡ F.tree files.old }
     {
         match kind {
@@ -81,7 +83,8 @@ impl Compilers {
         entry: &Entry,
         files: &mut F,
     ) -> Result<Verdict, ParseFault>
-        ensures outcome { IfOk result (λ verdict. outcome_in verdict ≡ outcome_of (F.tree files.old) entry.now) }
+        ensures outcome { IfOk result
+            (λ verdict. outcome_in verdict ≡ outcome_of (F.tree files.old) entry.now) }
         ensures tree { F.tree files.new ≡ F.tree files.old }
     {
         let words = entry.words.as_slice();
@@ -114,7 +117,8 @@ fn decided_on(
     entry: &Entry,
     files: &mut Asked,
 ) -> Result<Decided, ParseFault>
-    ensures outcome { IfOk result (λ decided. outcome_in decided.verdict ≡ outcome_of files.old.files entry.now) }
+    ensures outcome { IfOk result
+        (λ decided. outcome_in decided.verdict ≡ outcome_of files.old.files entry.now) }
     ensures tree { files.new.files ≡ files.old.files }
 {
     let verdict = compilers.decide(alloc, entry, files)?;
@@ -130,7 +134,8 @@ pub fn decide_all(
     files: &mut Asked,
 ) -> Result<Vec<Decided>, ParseFault>
     // Each is what the definitions make of the entry's words.
-    ensures outcomes { IfOk result (λ decided. map outcome_told decided.items ≡ map (outcome_of files.old.files) entries.now) }
+    ensures outcomes { IfOk result
+        (λ decided. map outcome_told decided.items ≡ map (outcome_of files.old.files) entries.now) }
     ensures tree { files.new.files ≡ files.old.files }
 {
     let mut decided = Vec::new(alloc);

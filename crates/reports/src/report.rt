@@ -1,5 +1,8 @@
 //! The report on a database: a line for each entry, and a summary.
 
+ghost use Rattle.std.specs.Prelude.{◌≡◌, filter, length, map};
+ghost use Rattle.reports.specs.Outcomes.{is_kept, outcome_told};
+
 use crate::beware::options_to_beware_of;
 use crate::deciding::{Compilers, Decided, Verdict};
 use crate::entry::Entry;
@@ -18,14 +21,37 @@ pub(crate) struct Shape {
     pub(crate) commands: bool,
 }
 
-/// What is counted of the entries.
+/// What is noted of the entries.
 #[derive(Drop)]
 struct Summary {
-    entries: u64,
-    kept: u64,
     reasons: Tally,
     blockers: Tally,
     beware: Tally,
+}
+
+/// Whether what was decided is that the outputs are kept.
+fn keeps(decided: &Decided) -> bool
+    ensures kept { result ≡ is_kept (outcome_told decided.now) }
+{
+    match decided.verdict {
+        Verdict::C(_, CompilerArguments::Ok(_)) | Verdict::Rustc(CompilerArguments::Ok(_)) => true,
+        _ => false,
+    }
+}
+
+/// How many of the entries are kept.
+fn count_of_kept(decided: &[Decided]) -> u64
+    ensures count { result ≡ length (filter is_kept (map outcome_told decided.now)) }
+{
+    let mut kept = 0;
+    let mut rest = decided;
+    while let Some((one, more)) = rest.split_first() {
+        if keeps(one) {
+            kept += 1;
+        }
+        rest = more;
+    }
+    kept
 }
 
 /// The option that keeps direct mode from being used.
@@ -41,16 +67,14 @@ fn blocker_of(alloc: Global, verdict: &Verdict) -> Result<Option<String>, AllocE
 impl Summary {
     fn new(alloc: Global) -> Summary {
         Summary {
-            entries: 0,
-            kept: 0,
             reasons: Tally::new(alloc),
             blockers: Tally::new(alloc),
             beware: Tally::new(alloc),
         }
     }
 
-    /// Counts the entry of this number.
-    fn count(
+    /// Notes the entry of this number.
+    fn note(
         &mut self,
         alloc: Global,
         number: u64,
@@ -58,10 +82,8 @@ impl Summary {
         reason: &Option<String>,
         beware: &[&'static str],
     ) -> Result<(), AllocError> {
-        self.entries = self.entries.saturating_add(1);
-        match reason {
-            Some(reason) => self.reasons.note(reason.as_str(), number)?,
-            None => self.kept = self.kept.saturating_add(1),
+        if let Some(reason) = reason {
+            self.reasons.note(reason.as_str(), number)?;
         }
         if let Some(flag) = blocker_of(alloc, verdict)? {
             self.blockers.note(flag.as_str(), number)?;
@@ -72,8 +94,9 @@ impl Summary {
         Ok(())
     }
 
-    fn write(&self, text: &mut String) -> Result<(), AllocError> {
-        let (entries, kept) = (self.entries, self.kept);
+    /// Adds the summary of what was decided on the entries.
+    fn write(&self, text: &mut String, decided: &[Decided]) -> Result<(), AllocError> {
+        let (entries, kept) = (decided.len(), count_of_kept(decided));
         write!(text, "\nentries {entries}\nkept {kept}\n")?;
         self.reasons.write(text, "passed through")?;
         self.blockers.write(text, "without direct mode")?;
@@ -121,7 +144,7 @@ fn write_marks(
     text.push('\n')
 }
 
-/// Adds the lines of the entry of this number, and counts it.
+/// Adds the lines of the entry of this number, and notes it.
 fn write_entry(
     alloc: Global,
     text: &mut String,
@@ -146,7 +169,7 @@ fn write_entry(
     if shape.commands {
         write_commands(alloc, text, compilers, verdict)?;
     }
-    summary.count(alloc, number, verdict, &reason, beware.as_slice())?;
+    summary.note(alloc, number, verdict, &reason, beware.as_slice())?;
     Ok(())
 }
 
@@ -172,6 +195,6 @@ pub(crate) fn report_text(
             decided,
         )?;
     }
-    summary.write(&mut text)?;
+    summary.write(&mut text, decided)?;
     Ok(text)
 }

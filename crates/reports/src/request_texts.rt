@@ -1,5 +1,8 @@
 //! What words come to, as text: why they are passed through, or what they ask for.
 
+ghost use Rattle.std.specs.Prelude.{◌≡◌, IfOk, is_some};
+ghost use Rattle.reports.specs.Outcomes.{is_passed, outcome_in};
+
 use crate::deciding::{Compilers, Verdict};
 use crate::fault::ReportFault;
 use crate::texts::{write_list, write_words};
@@ -147,7 +150,10 @@ pub(crate) fn reason_of(
     alloc: Global,
     verdict: &Verdict,
     executable: &OsBytes,
-) -> Result<Option<String>, AllocError> {
+) -> Result<Option<String>, AllocError>
+    // There is a reason exactly where they are passed through.
+    ensures reason { IfOk result (λ reason. is_some reason ≡ is_passed (outcome_in verdict.now)) }
+{
     match verdict {
         Verdict::C(_, CompilerArguments::Ok(_)) | Verdict::Rustc(CompilerArguments::Ok(_)) => Ok(
             None,
