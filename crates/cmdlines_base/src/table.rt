@@ -1,9 +1,9 @@
 //! Tables of options, and the search for the longest flag that fits a word.
 
-ghost use Rattle.std.specs.Prelude.{◌≡◌, All, List, [], ◌∷◌, ◌++◌, if◌then◌else◌, nat_le, nat_lt, max, IsTrue};
+ghost use Rattle.std.specs.Prelude.{◌≡◌, true, All, List, [], ◌∷◌, ◌++◌, if◌then◌else◌, nat_le, nat_lt, max, IsTrue};
 ghost use Rattle.std.specs.List.{list_all};
 ghost use Rattle.std.specs.List.Sorted.{IsNonDecreasingBy};
-ghost use Rattle.cmdlines_base.specs.Nodes.{GoesOn, IsNode, IsPicked, byte_at};
+ghost use Rattle.cmdlines_base.specs.Nodes.{GoesOn, HasByte, IsNode, IsPicked, byte_at};
 ghost use Rattle.std.specs.Option.{option_copied};
 ghost use Rattle.os_files.specs.Bytes.{Bytes};
 ghost use Rattle.cmdlines_base.specs.Reach.{reach};
@@ -139,6 +139,17 @@ pub(crate) fn past_ended<'a, T: ArgumentValue>(
     }
 }
 
+/// Whether all of these entries, whose bytes behind that many rise, have that byte: the first and the last one tell.
+fn all_have<T: ArgumentValue>(entries: &[ArgInfo<T>], depth: usize, byte: u8) -> bool
+    requires rising { IsNonDecreasingBy (λ e. byte_at depth (entry_of e)) entries.now }
+    ensures { result ≡ true → All (HasByte depth byte) (entries_of entries.now) }
+{
+    match (entries.first(), entries.last()) {
+        (Some(first), Some(last)) => { first.byte_at(depth) == byte && last.byte_at(depth) == byte }
+        _ => false,
+    }
+}
+
 /// Of entries whose bytes behind that many rise, those with that byte.
 pub(crate) fn picked<'a, T: ArgumentValue>(
     entries: &'a [ArgInfo<T>],
@@ -148,6 +159,10 @@ pub(crate) fn picked<'a, T: ArgumentValue>(
     requires rising { IsNonDecreasingBy (λ e. byte_at depth (entry_of e)) entries.now }
     ensures { IsPicked depth byte (entries_of entries.now) (entries_of result.now) }
 {
+    // Most of a table's stretches have one byte more in common.
+    if all_have(entries, depth, byte) {
+        return entries;
+    }
     let start = entries.partition_point(
         |entry: &ArgInfo<T>| -> bool
             ensures { result ≡ nat_lt (byte_at depth (entry_of entry.now)) byte }
