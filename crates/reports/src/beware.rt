@@ -1,9 +1,9 @@
 //! Options that the tables don't know, and under which a kept output may be incomplete or wrong. docs/REPORT.md tells what each does.
 
-use crate::deciding::Verdict;
 use cmdlines::compiler_arguments::CompilerArguments;
 use cmdlines_tables::compiler::CCompilerKind;
 use os_files::os_bytes::OsBytes;
+use recorded_builds::deciding::Verdict;
 use std::alloc::{AllocError, Global};
 
 /// Options that stand alone.

@@ -1,15 +1,14 @@
 //! The report on a database: a line for each entry, and a summary.
 
-ghost use Rattle.std.specs.Prelude.{◌≡◌, filter, length, map};
-ghost use Rattle.reports.specs.Outcomes.{is_kept, outcome_told};
-
 use crate::beware::options_to_beware_of;
-use crate::deciding::{Compilers, Decided, Verdict};
-use crate::entry::Entry;
 use crate::fault::ReportFault;
-use crate::request_texts::{Detail, reason_of, write_compile, write_kept, write_preprocess};
+use crate::request_texts::{Detail, write_compile, write_kept, write_preprocess};
 use crate::tally::Tally;
 use cmdlines::compiler_arguments::CompilerArguments;
+use recorded_builds::counting::count_of_kept;
+use recorded_builds::deciding::{Compilers, Decided, Verdict};
+use recorded_builds::entry::Entry;
+use recorded_builds::reasons::reason_of;
 use std::alloc::{AllocError, Global};
 use std::fmt::Write;
 
@@ -27,31 +26,6 @@ struct Summary {
     reasons: Tally,
     blockers: Tally,
     beware: Tally,
-}
-
-/// Whether what was decided is that the outputs are kept.
-fn keeps(decided: &Decided) -> bool
-    ensures kept { result ≡ is_kept (outcome_told decided.now) }
-{
-    match decided.verdict {
-        Verdict::C(_, CompilerArguments::Ok(_)) | Verdict::Rustc(CompilerArguments::Ok(_)) => true,
-        _ => false,
-    }
-}
-
-/// How many of the entries are kept.
-fn count_of_kept(decided: &[Decided]) -> u64
-    ensures count { result ≡ length (filter is_kept (map outcome_told decided.now)) }
-{
-    let mut kept = 0;
-    let mut rest = decided;
-    while let Some((one, more)) = rest.split_first() {
-        if keeps(one) {
-            kept += 1;
-        }
-        rest = more;
-    }
-    kept
 }
 
 /// The option that keeps direct mode from being used.

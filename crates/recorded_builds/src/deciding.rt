@@ -3,7 +3,7 @@
 ghost use Rattle.std.specs.Prelude.{◌≡◌, IfOk, map};
 ghost use Rattle.cmdlines.specs.Opening.{opened_words};
 ghost use Rattle.cmdlines.specs.Parsing.{decision_of, parse_of};
-ghost use Rattle.reports.specs.Outcomes.{outcome_in, outcome_of, outcome_told};
+ghost use Rattle.recorded_builds.specs.Outcomes.{outcome_in, outcome_of, outcome_told};
 
 use crate::entry::Entry;
 use crate::executables::EntryCompiler;

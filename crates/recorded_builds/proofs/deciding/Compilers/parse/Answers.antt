@@ -2,7 +2,7 @@ use Rattle.std.proofs.Common.{◌≡◌, IfOk, sym, subst}
 use Rattle.cmdlines.specs.Opening.{opened_words}
 use Rattle.cmdlines.specs.Parsing.{decision_of, parse_of}
 use Rattle.cmdlines_tables.specs.declared.compiler.CCompilerKind.{CCompilerKind}
-use Rattle.reports.proofs.deciding.Compilers.parse.Goals as goal
+use Rattle.recorded_builds.proofs.deciding.Compilers.parse.Goals as goal
 
 pub returns-in-Gcc-clause-decision : goal.returns-in-Gcc-clause-decision
 returns-in-Gcc-clause-decision g c = subst (λ (kind : CCompilerKind). IfOk c.parse_arguments.result (λ answer. decision_of answer ≡ parse_of kind (opened_words kind c.args.dir.now (g.F.Files.tree c.args.files.now) c.args.words.now))) (sym c.in-Gcc.is) c.parse_arguments.ensures.decision

@@ -1,6 +1,6 @@
 use Rattle.std.proofs.Common.{◌≡◌, ◌++◌, map, length}
-use Rattle.reports.specs.Outcomes.{outcome_of, outcome_told}
-use Rattle.reports.proofs.deciding.decide_all.Given as goal
+use Rattle.recorded_builds.specs.Outcomes.{outcome_of, outcome_told}
+use Rattle.recorded_builds.proofs.deciding.decide_all.Given as goal
 
 -- those decided, and those of the entries that are left
 abbrev pub invariant-loop-entry : goal.invariant-loop-entry

@@ -7,12 +7,12 @@ use Rattle.cmdlines.specs.Parsing.{Decision, asks, not_compilation, cannot_cache
 use Rattle.cmdlines_tables.specs.declared.compiler.CCompilerKind.{CCompilerKind}
 use Rattle.rustkeys_base.specs.Expansion.{expanded_by_rustc}
 use Rattle.rustkeys_base.specs.Verdict as rust
-use Rattle.reports.specs.declared.deciding.Decided.{Decided}
-use Rattle.reports.specs.declared.deciding.Verdict.{Verdict}
-use Rattle.reports.specs.declared.deciding.Verdict.TheVariants as verdicts
-use Rattle.reports.specs.declared.entry.Entry.{Entry}
-use Rattle.reports.specs.declared.executables.EntryCompiler.{EntryCompiler}
-use Rattle.reports.specs.declared.executables.EntryCompiler.TheVariants as compilers
+use Rattle.recorded_builds.specs.declared.deciding.Decided.{Decided}
+use Rattle.recorded_builds.specs.declared.deciding.Verdict.{Verdict}
+use Rattle.recorded_builds.specs.declared.deciding.Verdict.TheVariants as verdicts
+use Rattle.recorded_builds.specs.declared.entry.Entry.{Entry}
+use Rattle.recorded_builds.specs.declared.executables.EntryCompiler.{EntryCompiler}
+use Rattle.recorded_builds.specs.declared.executables.EntryCompiler.TheVariants as compilers
 
 -- what words come to: by a C compiler of that kind, by rustc, or by no compiler that is known
 pub data Outcome : Type 0 where

@@ -1,6 +1,6 @@
 use Rattle.std.proofs.Common.{◌≡◌, ◌+◌, ◌≤◌, map, length, filter}
-use Rattle.reports.specs.Outcomes.{is_kept, outcome_told}
-use Rattle.reports.proofs.report.count_of_kept.Given as goal
+use Rattle.recorded_builds.specs.Outcomes.{is_kept, outcome_told}
+use Rattle.recorded_builds.proofs.counting.count_of_kept.Given as goal
 
 -- those that were counted, and those of the entries that are left
 abbrev pub invariant-loop-one : goal.invariant-loop-one
