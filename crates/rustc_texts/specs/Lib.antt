@@ -1,2 +1,0 @@
-pub mod EnvDeps
-pub mod Variables
