@@ -1,0 +1,2 @@
+pub mod EnvDeps
+pub mod Variables

@@ -1,0 +1,5 @@
+//! The texts in which rustc answers, and what is asked of it, as functions of texts and lists, with no files and no tool.
+#![tactic(auto)]
+
+pub mod env_deps;
+pub mod variables;
