@@ -1,1 +1,3 @@
+pub mod FirstLines
 pub mod MoreLines
+pub mod NameLaws

@@ -1,2 +1,3 @@
+pub mod DepInfo
 pub mod EnvDeps
 pub mod Variables
