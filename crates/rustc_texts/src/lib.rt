@@ -4,4 +4,5 @@
 pub mod dep_info;
 pub mod env_deps;
 pub mod fault;
+pub mod rewriting;
 pub mod variables;
