@@ -2,6 +2,12 @@
 #![tactic(auto)]
 
 #[cfg(test)]
+mod dep_info;
+#[cfg(test)]
 mod env_deps;
 #[cfg(test)]
+mod rewriting;
+#[cfg(test)]
 mod variables;
+#[cfg(test)]
+mod written;
