@@ -27,17 +27,17 @@ pub fn run_steps<H: HashState, F: Files, T: Tool>(
     // A step that is skipped has the outputs that it would have made.
     ensures skipped { let files = files_view F.tree F.failed in
         let tool = tool_view T.meaning T.preprocessed T.compiled T.failed in
-        Premises H.digest_of (accounts_at config.now files tool calls.old)
+        Premises H.digest_of (accounts_at config files tool calls.old)
         → IfOk result (λ build.
-            SkippedAreMade (served_at config.now files tool calls.old calls.new build.answers.items)) }
+        SkippedAreMade (served_at config files tool calls.old calls.new build.answers.items)) }
 
     // Where all is kept, no two steps of one record are run.
     ensures once { let files = files_view F.tree F.failed in
         let tool = tool_view T.meaning T.preprocessed T.compiled T.failed in
-        (config.now.direct ≡ true
-            → EntryPremises H.digest_of (direct_calls (accounts_at config.now files tool calls.old)))
+        (config.direct ≡ true
+        → EntryPremises H.digest_of (direct_calls (accounts_at config files tool calls.old)))
         → IfOk result (λ build. build.kept_all ≡ true
-            → OneFresh (served_at config.now files tool calls.old calls.new build.answers.items)) }
+        → OneFresh (served_at config files tool calls.old calls.new build.answers.items)) }
 {
     let entries = MapStore::new(alloc);
     let objects = MapStore::new(alloc);
