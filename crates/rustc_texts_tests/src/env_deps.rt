@@ -1,6 +1,5 @@
 //! The variables that a text on dependencies tells.
 
-use crate::written::WRITTEN;
 use os_files::listed::Listed;
 use os_files::os_bytes::OsBytes;
 use rustc_parts::parts::EnvDep;
@@ -24,6 +23,11 @@ fn dep(alloc: Global, name: &[u8], value: Option<&[u8]>) -> Result<EnvDep, Alloc
 fn tells(alloc: Global, text: &str, wanted: Vec<EnvDep>) -> Result<bool, Fail> {
     Ok(parse_env_dep_info(alloc, text)? == Listed::from_vec(wanted))
 }
+
+/// What rustc 1.95 wrote of a crate of two modules, one with a space in its name, that includes a text, asks for a variable that is
+/// set and for one that isn't.
+const WRITTEN: &str =
+    "../out/small.d: src/lib.rs src/plain.rs src/with\\ space.rs src/my\\ mod/a\\ b.txt\n\n../out/libsmall.rlib: src/lib.rs src/plain.rs src/with\\ space.rs src/my\\ mod/a\\ b.txt\n\nsrc/lib.rs:\nsrc/plain.rs:\nsrc/with\\ space.rs:\nsrc/my\\ mod/a\\ b.txt:\n\n# env-dep:SMALL_SET=a value: with=signs\n# env-dep:SMALL_UNSET\n";
 
 #[test]
 fn what_rustc_writes_is_read(rt: HostRuntime) -> Result<(), Fail> {

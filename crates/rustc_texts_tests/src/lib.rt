@@ -2,12 +2,6 @@
 #![tactic(auto)]
 
 #[cfg(test)]
-mod dep_info;
-#[cfg(test)]
 mod env_deps;
 #[cfg(test)]
-mod rewriting;
-#[cfg(test)]
 mod variables;
-#[cfg(test)]
-mod written;
