@@ -6,4 +6,3 @@ pub mod StepLemmas
 pub mod AgainLemmas
 pub mod ClearLemmas
 pub mod NodeLemmas
-pub mod ReachLemmas

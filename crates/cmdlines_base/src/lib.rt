@@ -3,7 +3,6 @@
 
 pub mod argument;
 pub mod argument_error;
-pub mod byte_tree;
 pub mod command;
 pub mod cutting;
 pub mod printing;

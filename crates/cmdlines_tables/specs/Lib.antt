@@ -5,3 +5,4 @@ pub mod Tables
 pub mod OwnWords
 pub mod MsvcTable
 pub mod EmbeddedTables
+pub mod Search

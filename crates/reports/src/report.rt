@@ -1,14 +1,12 @@
 //! The report on a database: a line for each entry, and a summary.
 
 use crate::beware::options_to_beware_of;
+use crate::deciding::{Compilers, Decided, Verdict};
+use crate::entry::Entry;
 use crate::fault::ReportFault;
-use crate::request_texts::{Detail, write_compile, write_kept, write_preprocess};
+use crate::request_texts::{Detail, reason_of, write_compile, write_kept, write_preprocess};
 use crate::tally::Tally;
 use cmdlines::compiler_arguments::CompilerArguments;
-use recorded_builds::counting::count_of_kept;
-use recorded_builds::deciding::{Compilers, Decided, Verdict};
-use recorded_builds::entry::Entry;
-use recorded_builds::reasons::reason_of;
 use std::alloc::{AllocError, Global};
 use std::fmt::Write;
 
@@ -20,9 +18,11 @@ pub(crate) struct Shape {
     pub(crate) commands: bool,
 }
 
-/// What is noted of the entries.
+/// What is counted of the entries.
 #[derive(Drop)]
 struct Summary {
+    entries: u64,
+    kept: u64,
     reasons: Tally,
     blockers: Tally,
     beware: Tally,
@@ -41,14 +41,16 @@ fn blocker_of(alloc: Global, verdict: &Verdict) -> Result<Option<String>, AllocE
 impl Summary {
     fn new(alloc: Global) -> Summary {
         Summary {
+            entries: 0,
+            kept: 0,
             reasons: Tally::new(alloc),
             blockers: Tally::new(alloc),
             beware: Tally::new(alloc),
         }
     }
 
-    /// Notes the entry of this number.
-    fn note(
+    /// Counts the entry of this number.
+    fn count(
         &mut self,
         alloc: Global,
         number: u64,
@@ -56,8 +58,10 @@ impl Summary {
         reason: &Option<String>,
         beware: &[&'static str],
     ) -> Result<(), AllocError> {
-        if let Some(reason) = reason {
-            self.reasons.note(reason.as_str(), number)?;
+        self.entries = self.entries.saturating_add(1);
+        match reason {
+            Some(reason) => self.reasons.note(reason.as_str(), number)?,
+            None => self.kept = self.kept.saturating_add(1),
         }
         if let Some(flag) = blocker_of(alloc, verdict)? {
             self.blockers.note(flag.as_str(), number)?;
@@ -68,9 +72,8 @@ impl Summary {
         Ok(())
     }
 
-    /// Adds the summary of what was decided on the entries.
-    fn write(&self, text: &mut String, decided: &[Decided]) -> Result<(), AllocError> {
-        let (entries, kept) = (decided.len(), count_of_kept(decided));
+    fn write(&self, text: &mut String) -> Result<(), AllocError> {
+        let (entries, kept) = (self.entries, self.kept);
         write!(text, "\nentries {entries}\nkept {kept}\n")?;
         self.reasons.write(text, "passed through")?;
         self.blockers.write(text, "without direct mode")?;
@@ -118,7 +121,7 @@ fn write_marks(
     text.push('\n')
 }
 
-/// Adds the lines of the entry of this number, and notes it.
+/// Adds the lines of the entry of this number, and counts it.
 fn write_entry(
     alloc: Global,
     text: &mut String,
@@ -143,7 +146,7 @@ fn write_entry(
     if shape.commands {
         write_commands(alloc, text, compilers, verdict)?;
     }
-    summary.note(alloc, number, verdict, &reason, beware.as_slice())?;
+    summary.count(alloc, number, verdict, &reason, beware.as_slice())?;
     Ok(())
 }
 
@@ -169,6 +172,6 @@ pub(crate) fn report_text(
             decided,
         )?;
     }
-    summary.write(&mut text, decided)?;
+    summary.write(&mut text)?;
     Ok(text)
 }

@@ -1,4 +1,0 @@
-pub mod RowReads
-pub mod PieceFormats
-pub mod WholeKeys
-pub mod OneOrder

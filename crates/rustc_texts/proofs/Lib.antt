@@ -1,4 +1,0 @@
-pub mod FirstLines
-pub mod JoinedPieces
-pub mod MoreLines
-pub mod NameLaws

@@ -1,4 +1,0 @@
-pub mod DepInfo
-pub mod EnvDeps
-pub mod Rewriting
-pub mod Variables

@@ -1,4 +1,0 @@
-//! What one writes over `wrap` alone, and what follows for it.
-#![tactic(auto)]
-
-pub mod build;
