@@ -1,24 +1,29 @@
 //! The program that `bench/run` times. On a file it copies the bytes, strips folders from them, splits them into words,
-//! walks over their markers or digests them; on a chain of files in memory, each of which names the next one, it opens the
-//! chain or copies it; and it looks into include records: as often as it is told. It prints one line of what the last call gave.
+//! walks over their markers or digests them; words in a file it cuts by a compiler's tree or tables, parses or copies; on a chain
+//! of files in memory, each of which names the next one, it opens the chain or copies it; and it makes trees, and looks into include
+//! records: as often as it is told. It prints one line of what the last call gave.
 #![tactic(auto)]
 
 ghost use Rattle.std.specs.Prelude.{◌≡◌, IfOk, length};
 ghost use Rattle.ckeys_base.specs.FolderPlaces.{text_places};
 ghost use Rattle.ckeys_base.specs.FromTheLeft.{stripped_of};
 
+mod commands;
 mod recorded;
 mod walking;
 mod words;
 
+use crate::commands::{kind_named, parses, table_cuttings, tree_cuttings, trees, word_copies};
 use crate::recorded::{file_digests, look_ups};
 use crate::walking::{byte_searches, marker_tallies, walks};
 use crate::words::{Tally, chain_copies, gnu_splittings, msvc_splittings, openings};
 use ckeys_base::digest;
 use ckeys_base::digest::Digest;
 use ckeys_base::strip::strip_basedirs;
+use cmdlines_tables::compiler::CCompilerKind;
 use os_files::os_bytes::OsBytes;
 use response_files::fault::ParseFault;
+use response_texts::gnu::split_gnu_response_file_args;
 use sha2::Sha256;
 use std::alloc::{AllocError, AllocFailed, Global};
 use std::process::ExitCode;
@@ -34,7 +39,7 @@ const FAILED: u8 = 2;
 #[derive(Debug, Drop, Error)]
 enum Fault {
     /// The words aren't those that are wanted.
-    #[error("bench_calls: wanted are a work, a number of repeats, a file or a number of files or results, and folders or a file of names")]
+    #[error("bench_calls: wanted are a work, a number of repeats, a file, a number of files or results, or a compiler, and folders, a file of names or a compiler")]
     Words,
     /// The file can't be read.
     #[error("bench_calls: the file cannot be read")]
@@ -106,7 +111,8 @@ fn main(rt: HostRuntime) -> ExitCode {
     }
 }
 
-/// Prints the line that the arguments ask for: the work, the number of repeats, what the work is done on, and folders, or a file of names.
+/// Prints the line that the arguments ask for: the work, the number of repeats, what the work is done on, and folders, a file of names
+/// or a compiler.
 fn run_on<R: Print + Files + Env + AllocGlobal>(rt: &R) -> Result<(), Fault> {
     let words: Vec<String> = env::args(rt)
         .map_err(|_error: io::Error| Fault::Words)?
@@ -159,9 +165,38 @@ fn line_for<R: Files + AllocGlobal>(
         "look_up" => tally_line(alloc, look_ups(alloc, number_of(given)?, repeats)?)?,
         "file_digests" => tally_line(alloc, file_digests(alloc, repeats)?)?,
         "copy_chain" => tally_line(alloc, chain_copies(alloc, number_of(given)?, repeats)?)?,
+        "make_tree" => tally_line(alloc, trees(alloc, kind_of(given)?, repeats)?)?,
+        "by_tree" | "by_table" | "parse" | "copy_words" => {
+            tally_line(alloc, word_tally(rt, work, repeats, given, others)?)?
+        }
         _ => return Err(Fault::Words),
     };
     Ok(line)
+}
+
+/// Does the work so often on the words in the file of that name, by the compiler that the other word names where it cuts them.
+fn word_tally<R: Files + AllocGlobal>(
+    rt: &R,
+    work: &String,
+    repeats: u32,
+    given: &String,
+    others: &[String],
+) -> Result<Tally, Fault> {
+    let alloc = rt.alloc();
+    let words = split_gnu_response_file_args(alloc, &bytes_of(rt, given)?)?;
+    let tally = match (work.as_str(), others) {
+        ("by_tree", [kind]) => tree_cuttings(alloc, kind_of(kind)?, &words, repeats)?,
+        ("by_table", [kind]) => table_cuttings(alloc, kind_of(kind)?, &words, repeats)?,
+        ("parse", []) => parses(alloc, &words, repeats)?,
+        ("copy_words", []) => word_copies(alloc, &words, repeats)?,
+        _ => return Err(Fault::Words),
+    };
+    Ok(tally)
+}
+
+/// The kind of compiler that the word names.
+fn kind_of(word: &String) -> Result<CCompilerKind, Fault> {
+    kind_named(word.as_str()).ok_or(Fault::Words)
 }
 
 /// The number that the word says.
@@ -209,7 +244,8 @@ fn copy(alloc: Global, text: &[u8]) -> Result<Glance, AllocError>
 
 /// A glance at the text without the folders that count in it.
 fn strip(alloc: Global, text: &[u8], folders: &[OsBytes]) -> Result<Glance, AllocError>
-    ensures { IfOk result (λ seen. seen.length ≡ length (stripped_of text_places folders.now text.now)) }
+    ensures { IfOk result
+        (λ seen. seen.length ≡ length (stripped_of text_places folders.now text.now)) }
 {
     let left = strip_basedirs(alloc, text, folders)?;
     Ok(Glance::at(left.as_slice()))

@@ -132,7 +132,8 @@ fn open(
     words: &[OsBytes],
     files: &mut MemoryFiles,
 ) -> Result<Tally, ParseFault>
-    ensures words { IfOk result (λ tally. tally.count ≡ length (expanded Gnu dir.now files.old words.now)) }
+    ensures words { IfOk result
+        (λ tally. tally.count ≡ length (expanded Gnu dir.now files.old words.now)) }
     ensures files { files.new ≡ files.old }
 {
     let words = expand(alloc, Style::Gnu, dir, words, files)?;
@@ -152,7 +153,7 @@ pub(crate) fn openings(alloc: Global, count: u32, repeats: u32) -> Result<Tally,
 }
 
 /// Tallies copies of the texts.
-fn copy(alloc: Global, texts: &[OsBytes]) -> Result<Tally, AllocError>
+pub(crate) fn copy(alloc: Global, texts: &[OsBytes]) -> Result<Tally, AllocError>
     ensures { IfOk result (λ tally. tally.count ≡ length texts.now) }
 {
     let mut copies = Vec::new(alloc);

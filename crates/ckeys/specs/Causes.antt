@@ -1,5 +1,5 @@
 -- Where in a call each fault comes, and what causes it.
-use Rattle.std.specs.Prelude.{◌≡◌, ◌⊎◌, Option, Some}
+use Rattle.std.specs.Prelude.{◌≡◌, ◌⊎◌, Option, None, Some}
 use Rattle.os_files.specs.Bytes.{Bytes}
 use Rattle.ckeys.specs.declared.fault.Fault.{Fault}
 use Rattle.ckeys.specs.declared.fault.Fault.TheVariants.{Memory, Read, Tool, PreprocessFailed, CompileFailed, MissingOutput}
@@ -24,6 +24,15 @@ stage_of (Tool step) = stage_in step
 stage_of (PreprocessFailed status) = before_compile
 stage_of (CompileFailed status) = in_compile
 stage_of (MissingOutput name) = in_compile
+
+-- the step of which a fault is, where it is one's
+abbrev pub step_of : Fault → Option Step
+step_of Memory = None
+step_of (Read name) = None
+step_of (Tool step) = Some step
+step_of (PreprocessFailed status) = Some Preprocess
+step_of (CompileFailed status) = Some Compile
+step_of (MissingOutput name) = Some Compile
 
 -- what holds at any time, before the compile, or in it
 abbrev pub ByStage : Stage → Type 0 → Type 0 → Type 0 → Type 0

@@ -12,11 +12,14 @@ use Rattle.include_records.specs.declared.entry.IncludeEntry.{IncludeEntry}
 use Rattle.entry_keys.specs.declared.entry_key.EntryKey.{EntryKey}
 use Rattle.ckeys.specs.Calls.{PrintedCall, key_fault_by, record_by, text_fault_by}
 use Rattle.ckeys.specs.Entries.{Held, HasMatch, IsFramed, IsOwnResult, entry_key_of, good_text, has_entry_key, includes_by}
+use Rattle.ckeys.specs.Causes.{step_of}
 use Rattle.ckeys.specs.Keys.{key_of}
 use Rattle.ckeys.specs.declared.known.Known.{Known}
 use Rattle.ckeys.specs.declared.known.Known.TheVariants.{Found, Missed}
 use Rattle.ckeys.specs.declared.fault.Fault.{Fault}
 use Rattle.ckeys.specs.declared.fault.Fault.TheVariants.{Memory, Read, Tool, PreprocessFailed, CompileFailed, MissingOutput}
+use Rattle.ckeys.specs.declared.step.Step.{Step}
+use Rattle.ckeys.specs.declared.step.Step.TheVariants.{Preprocess, Compile}
 
 -- where the key of a call comes from: a matching result that is held, or its text
 abbrev pub KeyFrom : (Bytes → Bytes) → PrintedCall → Held → Bool → Bytes → Type 0
@@ -41,6 +44,24 @@ KeyFine p false = key_fault_by p ≡ None
 abbrev pub KeyRuns : Bool → ℕ → ℕ → Type 0
 KeyRuns true before after = after ≡ before
 KeyRuns false before after = after ≡ ticked before
+
+-- it ran at most once
+abbrev pub AtMostOnce : ℕ → ℕ → Type 0
+AtMostOnce before after = (after ≡ before) ⊎ (after ≡ ticked before)
+
+-- How often it ran before a fault of that step, or of none: want of memory and a file that can't be had come before it or behind it.
+abbrev pub RunsUntilStep : Option Step → Type 0 → ℕ → ℕ → Type 0
+RunsUntilStep None in_compile before after = AtMostOnce before after
+RunsUntilStep (Some Preprocess) in_compile before after = after ≡ ticked before
+RunsUntilStep (Some Compile) in_compile before after = in_compile
+
+-- how often it ran before that fault, by what is said of one that comes in the compile
+abbrev pub RunsUntil : Fault → Type 0 → ℕ → ℕ → Type 0
+RunsUntil fault in_compile before after = RunsUntilStep (step_of fault) in_compile before after
+
+-- how often it ran before a fault that comes before the compile
+abbrev pub RunsUntilKey : ℕ → ℕ → Fault → Type 0
+RunsUntilKey before after fault = RunsUntil fault ⊥ before after
 
 -- a matching result with this key is held, unless something was dropped or refused
 abbrev pub IsHeldFor : (Bytes → Bytes) → PrintedCall → Shelf EntryKey Record → Bytes → Type 0

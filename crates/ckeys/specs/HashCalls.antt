@@ -12,7 +12,7 @@ use Rattle.include_records.specs.Records.{Record}
 use Rattle.entry_keys.specs.declared.entry_key.EntryKey.{EntryKey}
 use Rattle.ckeys.specs.Calls.{KeyCause, PrintedCall, key_fault_by, needs_preprocessing, printed_call, record_by}
 use Rattle.ckeys.specs.Entries.{asking, has_entry_key}
-use Rattle.ckeys.specs.EntryTurns.{EntryTurn, KeyFine, KeyFrom, KeyRecorded, KeyRuns}
+use Rattle.ckeys.specs.EntryTurns.{EntryTurn, KeyFine, KeyFrom, KeyRecorded, KeyRuns, RunsUntilKey}
 use Rattle.ckeys.specs.Folders.{Settings}
 use Rattle.ckeys.specs.Hashers.{call_of}
 use Rattle.ckeys.specs.Keys.{key_of, record_shape}
@@ -64,13 +64,15 @@ module _ {I F T : Type 0} (view : CallView I F T) (settings : Settings) where
   abbrev pub printed_all : List (HashCall I F T) → List PrintedCall
   printed_all calls = map printed_at calls
 
--- A call is answered: a key with the shape of the call's own record, of the call's own text where no record gave it, and only where the call has no fault, but perhaps the preprocessor's that a record spared; a fault only with its cause. The call is as it was, but for the ticks of its files and its tool.
+-- A call is answered: a key with the shape of the call's own record, of the call's own text where no record gave it, and only where the call has no fault, but perhaps the preprocessor's that a record spared; a fault only with its cause; and the preprocessor runs for it exactly as often as it has to. The call is as it was, but for the ticks of its files and its tool.
 pub record IsKeyed {I F T : Type 0} (digest_of : Bytes → Bytes) (view : CallView I F T) (settings : Settings) (fails_on : F → Bytes → F → Type 0) (fails_in : T → Step → T → Type 0) (begin end : HashCall I F T) (answer : KeyAnswer) : Type 0 where
   pub shape : IfOk answer (λ made. made.1 ≡ record_shape digest_of (record_by (printed_at view settings begin)))
   pub of_text : IfOk answer (λ made. made.2 ≡ false → string_bytes made.0 ≡ key_of digest_of (record_by (printed_at view settings begin)))
   pub fine : IfOk answer (λ made. KeyFine (printed_at view settings begin) made.2)
   pub cause : IfErr answer (KeyCause (key_fault_by (printed_at view settings begin)) (FailsOn view.tree view.files_failed fails_on begin.files end.files) (FailsIn view.meaning view.failed fails_in begin.tool end.tool))
   pub runs : needs_preprocessing begin.hasher.parsed.now.language ≡ true → IfOk answer (λ made. KeyRuns made.2 (view.preprocessed begin.tool) (view.preprocessed end.tool))
+  pub until : needs_preprocessing begin.hasher.parsed.now.language ≡ true → IfErr answer (RunsUntilKey (view.preprocessed begin.tool) (view.preprocessed end.tool))
+  pub idle : needs_preprocessing begin.hasher.parsed.now.language ≡ false → view.preprocessed end.tool ≡ view.preprocessed begin.tool
   pub plain : has_entry_key (printed_at view settings begin).call ≡ false → IfOk answer (λ made. made.2 ≡ false)
   pub fit : OnOk answer (AllByRecursion FitsLength (filter is_cached begin.env.now))
   pub steady : OnOk answer (AreSteady view.failed view.files_failed begin.tool begin.files end.tool end.files)

@@ -69,10 +69,16 @@ impl<I: CCompilerImpl + Drop> CCompiler<I> {
     ) -> Result<CCompiler<I>, Fault>
         ensures compiler { IfOk result (λ made. made.compiler ≡ compiler) }
         ensures executable { IfOk result (λ made. made.executable ≡ executable) }
-        ensures digest { IfOk result (λ made. Some (string_bytes made.executable_digest) ≡ option_map (compiler_digest_of H.digest_of (I.traits compiler).version) (contents_at (F.tree files.old) executable)) }
-        ensures cause { IfErr result (ExecutableCause (F.tree files.old) executable (FailsOn F.tree F.failed F.fails_on files.old files.new)) }
+        ensures digest { IfOk result
+            (λ made. Some (string_bytes made.executable_digest)
+            ≡ option_map (compiler_digest_of H.digest_of (I.traits compiler).version)
+            (contents_at (F.tree files.old) executable)) }
+        ensures cause { IfErr result
+            (ExecutableCause (F.tree files.old) executable
+            (FailsOn F.tree F.failed F.fails_on files.old files.new)) }
         ensures tree { F.tree files.new ≡ F.tree files.old }
-        ensures steady { (IsErrOf result (Fault.Read executable) → ⊥) → F.failed files.new ≡ F.failed files.old }
+        ensures steady { (IsErrOf result (Fault.Read executable) → ⊥)
+            → F.failed files.new ≡ F.failed files.old }
     {
         match Digest::<H>::file(alloc, &executable, files) {
             Ok(Some(digest)) => {
@@ -91,7 +97,9 @@ fn with_version<H: HashState>(
     text: String,
     version: Option<&str>,
 ) -> Result<String, AllocError>
-    ensures { IfOk result (λ digest. string_bytes digest ≡ with_version H.digest_of (option_map text_in version.entry) (string_bytes text)) }
+    ensures { IfOk result
+        (λ digest. string_bytes digest
+        ≡ with_version H.digest_of (option_map text_in version.entry) (string_bytes text)) }
 {
     let Some(version) = version else {
         return Ok(text);

@@ -12,6 +12,7 @@ ghost use Rattle.cmdlines.specs.Parsing.{decision_of, parse_of, HasSafeInputIn};
 ghost use Rattle.cmdlines.specs.ReadBack.{ReadsAsCompile, ReadsAsPreprocess};
 ghost use Rattle.cmdlines_tables.specs.Tables.{reading_of};
 ghost use Rattle.cmdlines_tables.specs.declared.compiler.CCompilerKind.{CCompilerKind};
+ghost use Rattle.ckeys.specs.EntryTurns.{AtMostOnce};
 ghost use Rattle.ckeys.specs.Meaning.{scene_with, made_of};
 
 use crate::preprocessor::{Preprocessor, Printed, ToolFail};
@@ -57,9 +58,16 @@ pub trait CCompilerImpl {
         dir: &OsBytes,
         files: &mut F,
     ) -> Result<CompilerArguments<ParsedArguments>, ParseFault>
-        ensures decision { IfOk result (λ answer. decision_of answer ≡ parse_of (kind_of self.now) (opened_words (kind_of self.now) dir.now (F.tree files.old) words.now)) }
-        ensures cause { IfErr result (CauseOf (FailsOn F.tree F.failed F.fails_on files.old files.new)) }
-        ensures input { IfOk result (λ answer. HasSafeInputIn (kind_of self.now) (opened_words (kind_of self.now) dir.now (F.tree files.old) words.now) (decision_of answer)) }
+        ensures decision { IfOk result
+            (λ answer. decision_of answer
+            ≡ parse_of (kind_of self.now)
+            (opened_words (kind_of self.now) dir.now (F.tree files.old) words.now)) }
+        ensures cause { IfErr result
+            (CauseOf (FailsOn F.tree F.failed F.fails_on files.old files.new)) }
+        ensures input { IfOk result
+            (λ answer. HasSafeInputIn (kind_of self.now)
+            (opened_words (kind_of self.now) dir.now (F.tree files.old) words.now)
+            (decision_of answer)) }
         ensures object { IfOk result (λ answer. HasObjectIn (decision_of answer)) }
         ensures tree { F.tree files.new ≡ F.tree files.old }
         ensures steady { OnOk result (F.failed files.new ≡ F.failed files.old) }
@@ -72,7 +80,8 @@ pub trait CCompilerImpl {
         alloc: Global,
         parsed: &ParsedArguments,
     ) -> Result<Listed<OsBytes>, AllocError>
-        ensures words { IfOk result (λ words. words ≡ preprocess_words (kind_of self.now) parsed.now) }
+        ensures words { IfOk result
+            (λ words. words ≡ preprocess_words (kind_of self.now) parsed.now) }
         ensures again { IfOk result (λ words. ReadsAsPreprocess (kind_of self.now) parsed.now words) };
 
     /// The compile command: this executable with the request's words, in that directory, under these variables.
@@ -84,10 +93,15 @@ pub trait CCompilerImpl {
         dir: &OsBytes,
         env: &[(OsBytes, OsBytes)],
     ) -> Result<(SingleCompileCommand, Cacheable), CommandError>
-        ensures command { IfOk result (λ made. made.0 ≡ command_at executable.now (compile_words (kind_of self.now) parsed.now (output_path parsed.now)) env.now dir.now) }
+        ensures command { IfOk result
+            (λ made. made.0
+            ≡ command_at executable.now
+            (compile_words (kind_of self.now) parsed.now (output_path parsed.now)) env.now
+            dir.now) }
         ensures cacheable { IfOk result (λ made. made.1 ≡ Cacheable.Yes) }
         ensures missing { IsErrOf result CommandError.NoObjOutput ↔ (object_path parsed.now ≡ None) }
-        ensures again { IfOk result (λ made. ReadsAsCompile (kind_of self.now) parsed.now made.0.arguments) };
+        ensures again { IfOk result
+            (λ made. ReadsAsCompile (kind_of self.now) parsed.now made.0.arguments) };
 
     /// Runs the preprocess command: what it prints is what the tool means by what the compiler's tables read of it.
     fn preprocess<F: Files, T: Preprocessor>(
@@ -101,12 +115,21 @@ pub trait CCompilerImpl {
         files: &mut F,
         tool: &mut T,
     ) -> Result<Printed, ToolFail>
-        ensures answer { IfOk result (λ p. made_of p.status (Some p.text ∷ []) ≡ T.meaning tool.old Step.Preprocess (reading_of (kind_of self.now) (preprocess_words (kind_of self.now) parsed.now)) [] (scene_with executable.now dir.now env.now (F.tree files.old) moment)) }
+        ensures answer { IfOk result
+            (λ p. made_of p.status (Some p.text ∷ [])
+            ≡ T.meaning tool.old Step.Preprocess
+            (reading_of (kind_of self.now) (preprocess_words (kind_of self.now) parsed.now)) []
+            (scene_with executable.now dir.now env.now (F.tree files.old) moment)) }
         ensures meaning { T.meaning tool.new ≡ T.meaning tool.old }
         ensures tree { F.tree files.new ≡ F.tree files.old }
-        ensures device { IsErrOf result ToolFail.Device → (T.failed tool.new ≡ ticked (T.failed tool.old)) × T.fails_in tool.old Step.Preprocess tool.new }
-        ensures steady { (IsErrOf result ToolFail.Device → ⊥) → (T.failed tool.new ≡ T.failed tool.old) × (F.failed files.new ≡ F.failed files.old) }
-        ensures runs { (IsErrOf result ToolFail.Memory → ⊥) → T.preprocessed tool.new ≡ ticked (T.preprocessed tool.old) }
+        ensures device { IsErrOf result ToolFail.Device
+            → (T.failed tool.new ≡ ticked (T.failed tool.old))
+            × T.fails_in tool.old Step.Preprocess tool.new }
+        ensures steady { (IsErrOf result ToolFail.Device → ⊥)
+            → (T.failed tool.new ≡ T.failed tool.old) × (F.failed files.new ≡ F.failed files.old) }
+        ensures runs { (IsErrOf result ToolFail.Memory → ⊥)
+            → T.preprocessed tool.new ≡ ticked (T.preprocessed tool.old) }
+        ensures once { AtMostOnce (T.preprocessed tool.old) (T.preprocessed tool.new) }
         ensures compiles { T.compiled tool.new ≡ T.compiled tool.old }
     {
         let words = self.preprocess_words(alloc, parsed)?;

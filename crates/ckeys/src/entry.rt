@@ -119,15 +119,19 @@ impl<'a, I: CCompilerImpl + Drop> CCompilerHasher<'a, I> {
         extra: &[String],
         files: &mut F,
     ) -> Result<Option<EntryKey>, Fault>
-        requires extra { let call = call_by I.kind_of I.traits self.now place.now (F.tree files.now) in
+        requires extra { let call = call_by I.kind_of I.traits self.now place.now (F.tree files.now)
+            in
             AreExtra H.digest_of call (map string_bytes extra.now) }
         ensures key { let call = call_by I.kind_of I.traits self.now place.now (F.tree files.old) in
             IfOk result (λ key. key ≡ entry_key_of H.digest_of call) }
-        ensures framed { let call = call_by I.kind_of I.traits self.now place.now (F.tree files.old) in
+        ensures framed { let call = call_by I.kind_of I.traits self.now place.now (F.tree files.old)
+            in
             IfOk result (λ key. IfSome key (λ _. IsFramed H.digest_of call)) }
-        ensures there { let call = call_by I.kind_of I.traits self.now place.now (F.tree files.old) in
+        ensures there { let call = call_by I.kind_of I.traits self.now place.now (F.tree files.old)
+            in
             OnOk result (missing_input call ≡ None) }
-        ensures cause { let call = call_by I.kind_of I.traits self.now place.now (F.tree files.old) in
+        ensures cause { let call = call_by I.kind_of I.traits self.now place.now (F.tree files.old)
+            in
             let fails_on = FailsOn F.tree F.failed F.fails_on files.old files.new in
             IfErr result (FileCause (missing_input call) fails_on) }
         ensures tree { F.tree files.new ≡ F.tree files.old }

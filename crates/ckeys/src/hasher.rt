@@ -9,7 +9,7 @@ ghost use Rattle.ckeys_base.specs.Shelf.{Asks};
 ghost use Rattle.os_files.specs.Path.{join};
 ghost use Rattle.ckeys.specs.Calls.{FileCause, KeyCause, key_fault_of, PrintedCall, needs_preprocessing, printed_call, record_by, record_of, text_fault_by, text_fault_of, text_of};
 ghost use Rattle.ckeys.specs.Entries.{EntryInvariant, EntryPremises, IsFramed, asking, entry_key_of, has_entry_key};
-ghost use Rattle.ckeys.specs.EntryTurns.{EntryTurn, IsKnown, Keeps, KeyFine, KeyFrom, KeyRecorded, KeyRuns, TextFine};
+ghost use Rattle.ckeys.specs.EntryTurns.{EntryTurn, IsKnown, Keeps, KeyFine, KeyFrom, KeyRecorded, KeyRuns, RunsUntilKey, TextFine};
 ghost use Rattle.ckeys.specs.Surroundings.{recorded_of};
 ghost use Rattle.ckeys.specs.Keys.{key_of, record_shape};
 ghost use Rattle.ckeys.specs.Hashers.{AreExtra, call_by, handed_by, looked_at};
@@ -80,17 +80,31 @@ impl<'a, I: CCompilerImpl + Drop> CCompilerHasher<'a, I> {
         files: &mut F,
         tool: &mut T,
     ) -> Result<OsBytes, Fault>
-        ensures text { let call = call_by I.kind_of I.traits self.now place.now (F.tree files.old) in IfOk result (λ text. text ≡ text_of (T.meaning tool.old) call) }
-        ensures fine { let call = call_by I.kind_of I.traits self.now place.now (F.tree files.old) in OnOk result (text_fault_of (T.meaning tool.old) call ≡ None) }
-        ensures cause { let call = call_by I.kind_of I.traits self.now place.now (F.tree files.old) in IfErr result (KeyCause (text_fault_of (T.meaning tool.old) call) (FailsOn F.tree F.failed F.fails_on files.old files.new) (FailsIn T.meaning T.failed T.fails_in tool.old tool.new)) }
+        ensures text { let call = call_by I.kind_of I.traits self.now place.now (F.tree files.old)
+            in
+            IfOk result (λ text. text ≡ text_of (T.meaning tool.old) call) }
+        ensures fine { let call = call_by I.kind_of I.traits self.now place.now (F.tree files.old)
+            in
+            OnOk result (text_fault_of (T.meaning tool.old) call ≡ None) }
+        ensures cause { let call = call_by I.kind_of I.traits self.now place.now (F.tree files.old)
+            in
+            IfErr result
+            (KeyCause (text_fault_of (T.meaning tool.old) call)
+            (FailsOn F.tree F.failed F.fails_on files.old files.new)
+            (FailsIn T.meaning T.failed T.fails_in tool.old tool.new)) }
         ensures tree { F.tree files.new ≡ F.tree files.old }
         ensures meaning { T.meaning tool.new ≡ T.meaning tool.old }
         ensures steady { OnOk result
             (AreSteady T.failed F.failed tool.old files.old tool.new files.new) }
         ensures memory { IsErrOf result Fault.Memory →
             AreSteady T.failed F.failed tool.old files.old tool.new files.new }
-        ensures idle { needs_preprocessing self.now.parsed.now.language ≡ false → (T.preprocessed tool.new ≡ T.preprocessed tool.old) × (T.failed tool.new ≡ T.failed tool.old) }
-        ensures runs { needs_preprocessing self.now.parsed.now.language ≡ true → OnOk result (T.preprocessed tool.new ≡ ticked (T.preprocessed tool.old)) }
+        ensures idle { needs_preprocessing self.now.parsed.now.language ≡ false
+            → (T.preprocessed tool.new ≡ T.preprocessed tool.old)
+            × (T.failed tool.new ≡ T.failed tool.old) }
+        ensures runs { needs_preprocessing self.now.parsed.now.language ≡ true
+            → OnOk result (T.preprocessed tool.new ≡ ticked (T.preprocessed tool.old)) }
+        ensures until { needs_preprocessing self.now.parsed.now.language ≡ true →
+            IfErr result (RunsUntilKey (T.preprocessed tool.old) (T.preprocessed tool.new)) }
         ensures compiles { T.compiled tool.new ≡ T.compiled tool.old }
     {
         if !needs_c_preprocessing(self.parsed.language) {
@@ -120,7 +134,9 @@ impl<'a, I: CCompilerImpl + Drop> CCompilerHasher<'a, I> {
         extra: &'b [String],
         text: &'b [u8],
     ) -> HashKeyParams<'b>
-        ensures { handed_of result ≡ handed_by I.traits self.now place.now.env.now place.now.config.now.basedirs (map string_bytes extra.now) text.now }
+        ensures { handed_of result
+            ≡ handed_by I.traits self.now place.now.env.now place.now.config.now.basedirs
+            (map string_bytes extra.now) text.now }
     {
         let digest = self.executable_digest;
         let words = self.parsed.common_args.as_slice();
@@ -141,8 +157,13 @@ impl<'a, I: CCompilerImpl + Drop> CCompilerHasher<'a, I> {
         extra: &[String],
         text: &[u8],
     ) -> Result<(String, CShape), AllocError>
-        ensures key { let handed = handed_by I.traits self.now place.now.env.now place.now.config.now.basedirs (map string_bytes extra.now) text.now in IfOk result (λ made. string_bytes made.0 ≡ hex_of (H.digest_of (material_of (parts_handed handed)))) }
-        ensures shape { let handed = handed_by I.traits self.now place.now.env.now place.now.config.now.basedirs (map string_bytes extra.now) text.now in IfOk result (λ made. made.1 ≡ shape_of (parts_handed handed)) }
+        ensures key { let handed = handed_by I.traits self.now place.now.env.now
+            place.now.config.now.basedirs (map string_bytes extra.now) text.now in
+            IfOk result
+            (λ made. string_bytes made.0 ≡ hex_of (H.digest_of (material_of (parts_handed handed)))) }
+        ensures shape { let handed = handed_by I.traits self.now place.now.env.now
+            place.now.config.now.basedirs (map string_bytes extra.now) text.now in
+            IfOk result (λ made. made.1 ≡ shape_of (parts_handed handed)) }
         ensures fit { OnOk result (AllByRecursion FitsLength (filter is_cached place.now.env.now)) }
     {
         self.params(place, extra, text).compute::<H>(alloc)
@@ -157,21 +178,43 @@ impl<'a, I: CCompilerImpl + Drop> CCompilerHasher<'a, I> {
         files: &mut F,
         tool: &mut T,
     ) -> Result<TextKey, Fault>
-        requires extra { let call = call_by I.kind_of I.traits self.now place.now (F.tree files.now) in AreExtra H.digest_of call (map string_bytes extra.now) }
-        ensures text { let call = call_by I.kind_of I.traits self.now place.now (F.tree files.old) in IfOk result (λ made. made.text ≡ text_of (T.meaning tool.old) call) }
-        ensures key { let call = call_by I.kind_of I.traits self.now place.now (F.tree files.old) in IfOk result (λ made. string_bytes made.key ≡ key_of H.digest_of (record_of (T.meaning tool.old) call)) }
-        ensures shape { let call = call_by I.kind_of I.traits self.now place.now (F.tree files.old) in IfOk result (λ made. made.shape ≡ record_shape H.digest_of (record_of (T.meaning tool.old) call)) }
+        requires extra { let call = call_by I.kind_of I.traits self.now place.now (F.tree files.now)
+            in
+            AreExtra H.digest_of call (map string_bytes extra.now) }
+        ensures text { let call = call_by I.kind_of I.traits self.now place.now (F.tree files.old)
+            in
+            IfOk result (λ made. made.text ≡ text_of (T.meaning tool.old) call) }
+        ensures key { let call = call_by I.kind_of I.traits self.now place.now (F.tree files.old) in
+            IfOk result
+            (λ made. string_bytes made.key
+            ≡ key_of H.digest_of (record_of (T.meaning tool.old) call)) }
+        ensures shape { let call = call_by I.kind_of I.traits self.now place.now (F.tree files.old)
+            in
+            IfOk result
+            (λ made. made.shape ≡ record_shape H.digest_of (record_of (T.meaning tool.old) call)) }
         ensures fit { OnOk result (AllByRecursion FitsLength (filter is_cached place.now.env.now)) }
-        ensures fine { let call = call_by I.kind_of I.traits self.now place.now (F.tree files.old) in OnOk result (text_fault_of (T.meaning tool.old) call ≡ None) }
-        ensures cause { let call = call_by I.kind_of I.traits self.now place.now (F.tree files.old) in IfErr result (KeyCause (text_fault_of (T.meaning tool.old) call) (FailsOn F.tree F.failed F.fails_on files.old files.new) (FailsIn T.meaning T.failed T.fails_in tool.old tool.new)) }
+        ensures fine { let call = call_by I.kind_of I.traits self.now place.now (F.tree files.old)
+            in
+            OnOk result (text_fault_of (T.meaning tool.old) call ≡ None) }
+        ensures cause { let call = call_by I.kind_of I.traits self.now place.now (F.tree files.old)
+            in
+            IfErr result
+            (KeyCause (text_fault_of (T.meaning tool.old) call)
+            (FailsOn F.tree F.failed F.fails_on files.old files.new)
+            (FailsIn T.meaning T.failed T.fails_in tool.old tool.new)) }
         ensures tree { F.tree files.new ≡ F.tree files.old }
         ensures meaning { T.meaning tool.new ≡ T.meaning tool.old }
         ensures steady { OnOk result
             (AreSteady T.failed F.failed tool.old files.old tool.new files.new) }
         ensures memory { IsErrOf result Fault.Memory →
             AreSteady T.failed F.failed tool.old files.old tool.new files.new }
-        ensures idle { needs_preprocessing self.now.parsed.now.language ≡ false → (T.preprocessed tool.new ≡ T.preprocessed tool.old) × (T.failed tool.new ≡ T.failed tool.old) }
-        ensures runs { needs_preprocessing self.now.parsed.now.language ≡ true → OnOk result (T.preprocessed tool.new ≡ ticked (T.preprocessed tool.old)) }
+        ensures idle { needs_preprocessing self.now.parsed.now.language ≡ false
+            → (T.preprocessed tool.new ≡ T.preprocessed tool.old)
+            × (T.failed tool.new ≡ T.failed tool.old) }
+        ensures runs { needs_preprocessing self.now.parsed.now.language ≡ true
+            → OnOk result (T.preprocessed tool.new ≡ ticked (T.preprocessed tool.old)) }
+        ensures until { needs_preprocessing self.now.parsed.now.language ≡ true →
+            IfErr result (RunsUntilKey (T.preprocessed tool.old) (T.preprocessed tool.new)) }
         ensures compiles { T.compiled tool.new ≡ T.compiled tool.old }
     {
         let text = self.text(alloc, place, files, tool)?;
@@ -186,7 +229,10 @@ impl<'a, I: CCompilerImpl + Drop> CCompilerHasher<'a, I> {
         place: &CallPlace,
         extra: &[String],
     ) -> Result<CShape, AllocError>
-        ensures shape { (text : Bytes) → let handed = handed_by I.traits self.now place.now.env.now place.now.config.now.basedirs (map string_bytes extra.now) text in IfOk result (λ shape. shape ≡ shape_of (parts_handed handed)) }
+        ensures shape { (text : Bytes)
+            → let handed = handed_by I.traits self.now place.now.env.now
+            place.now.config.now.basedirs (map string_bytes extra.now) text in
+            IfOk result (λ shape. shape ≡ shape_of (parts_handed handed)) }
     {
         self.params(place, extra, &[]).shape(alloc)
     }
@@ -208,17 +254,45 @@ impl<'a, I: CCompilerImpl + Drop> CCompilerHasher<'a, I> {
         files: &mut F,
         tool: &mut T,
     ) -> Result<(String, CShape, bool), Fault>
-        requires extra { let call = call_by I.kind_of I.traits self.now place.now (F.tree files.now) in AreExtra H.digest_of call (map string_bytes extra.now) }
-        requires entry { let call = call_by I.kind_of I.traits self.now place.now (F.tree files.now) in entry_key_of H.digest_of call ≡ Some entry_key }
-        requires framed { let call = call_by I.kind_of I.traits self.now place.now (F.tree files.now) in IsFramed H.digest_of call }
-        ensures key { let p = printed_call (T.meaning tool.old) (call_by I.kind_of I.traits self.now place.now (F.tree files.old)) in IfOk result (λ made. KeyFrom H.digest_of p (E.shelf entries.old).held made.2 (string_bytes made.0)) }
-        ensures shape { let call = call_by I.kind_of I.traits self.now place.now (F.tree files.old) in IfOk result (λ made. made.1 ≡ record_shape H.digest_of (record_of (T.meaning tool.old) call)) }
+        requires extra { let call = call_by I.kind_of I.traits self.now place.now (F.tree files.now)
+            in
+            AreExtra H.digest_of call (map string_bytes extra.now) }
+        requires entry { let call = call_by I.kind_of I.traits self.now place.now (F.tree files.now)
+            in
+            entry_key_of H.digest_of call ≡ Some entry_key }
+        requires framed { let call = call_by I.kind_of I.traits self.now place.now
+            (F.tree files.now) in
+            IsFramed H.digest_of call }
+        ensures key { let p = printed_call (T.meaning tool.old)
+            (call_by I.kind_of I.traits self.now place.now (F.tree files.old)) in
+            IfOk result
+            (λ made. KeyFrom H.digest_of p (E.shelf entries.old).held made.2 (string_bytes made.0)) }
+        ensures shape { let call = call_by I.kind_of I.traits self.now place.now (F.tree files.old)
+            in
+            IfOk result
+            (λ made. made.1 ≡ record_shape H.digest_of (record_of (T.meaning tool.old) call)) }
         ensures fit { OnOk result (AllByRecursion FitsLength (filter is_cached place.now.env.now)) }
-        ensures fine { let p = printed_call (T.meaning tool.old) (call_by I.kind_of I.traits self.now place.now (F.tree files.old)) in IfOk result (λ made. TextFine p made.2) }
-        ensures cause { let p = printed_call (T.meaning tool.old) (call_by I.kind_of I.traits self.now place.now (F.tree files.old)) in IfErr result (KeyCause (text_fault_by p) (FailsOn F.tree F.failed F.fails_on files.old files.new) (FailsIn T.meaning T.failed T.fails_in tool.old tool.new)) }
-        ensures entries { let p = printed_call (T.meaning tool.old) (call_by I.kind_of I.traits self.now place.now (F.tree files.old)) in EntryTurn H.digest_of p (E.shelf entries.old) (E.shelf entries.new) (T.preprocessed tool.old) (T.preprocessed tool.new) }
-        ensures recorded { let p = printed_call (T.meaning tool.old) (call_by I.kind_of I.traits self.now place.now (F.tree files.old)) in IfOk result (λ made. KeyRecorded H.digest_of p (E.shelf entries.old) (E.shelf entries.new) made.2 (string_bytes made.0)) }
-        ensures runs { IfOk result (λ made. KeyRuns made.2 (T.preprocessed tool.old) (T.preprocessed tool.new)) }
+        ensures fine { let p = printed_call (T.meaning tool.old)
+            (call_by I.kind_of I.traits self.now place.now (F.tree files.old)) in
+            IfOk result (λ made. TextFine p made.2) }
+        ensures cause { let p = printed_call (T.meaning tool.old)
+            (call_by I.kind_of I.traits self.now place.now (F.tree files.old)) in
+            IfErr result
+            (KeyCause (text_fault_by p) (FailsOn F.tree F.failed F.fails_on files.old files.new)
+            (FailsIn T.meaning T.failed T.fails_in tool.old tool.new)) }
+        ensures entries { let p = printed_call (T.meaning tool.old)
+            (call_by I.kind_of I.traits self.now place.now (F.tree files.old)) in
+            EntryTurn H.digest_of p (E.shelf entries.old) (E.shelf entries.new)
+            (T.preprocessed tool.old) (T.preprocessed tool.new) }
+        ensures recorded { let p = printed_call (T.meaning tool.old)
+            (call_by I.kind_of I.traits self.now place.now (F.tree files.old)) in
+            IfOk result
+            (λ made. KeyRecorded H.digest_of p (E.shelf entries.old) (E.shelf entries.new) made.2
+            (string_bytes made.0)) }
+        ensures runs { IfOk result
+            (λ made. KeyRuns made.2 (T.preprocessed tool.old) (T.preprocessed tool.new)) }
+        ensures until { IfErr result
+            (RunsUntilKey (T.preprocessed tool.old) (T.preprocessed tool.new)) }
         ensures tree { F.tree files.new ≡ F.tree files.old }
         ensures meaning { T.meaning tool.new ≡ T.meaning tool.old }
         ensures steady { OnOk result
@@ -266,29 +340,68 @@ impl<'a, I: CCompilerImpl + Drop> CCompilerHasher<'a, I> {
         tool: &mut T,
     ) -> Result<(String, CShape, bool), Fault>
         // Where the key comes from: a matching result under the call's entry key, or the call's text.
-        ensures key { let p = printed_call (T.meaning tool.old) (call_by I.kind_of I.traits self.now place.now (F.tree files.old)) in IfOk result (λ made. KeyFrom H.digest_of p (E.shelf entries.old).held made.2 (string_bytes made.0)) }
-        ensures shape { let call = call_by I.kind_of I.traits self.now place.now (F.tree files.old) in IfOk result (λ made. made.1 ≡ record_shape H.digest_of (record_of (T.meaning tool.old) call)) }
+        ensures key { let p = printed_call (T.meaning tool.old)
+            (call_by I.kind_of I.traits self.now place.now (F.tree files.old)) in
+            IfOk result
+            (λ made. KeyFrom H.digest_of p (E.shelf entries.old).held made.2 (string_bytes made.0)) }
+        ensures shape { let call = call_by I.kind_of I.traits self.now place.now (F.tree files.old)
+            in
+            IfOk result
+            (λ made. made.1 ≡ record_shape H.digest_of (record_of (T.meaning tool.old) call)) }
         // The lengths of the variables that count can be told, which the law on keys and records asks for.
         ensures fit { OnOk result (AllByRecursion FitsLength (filter is_cached place.now.env.now)) }
-        ensures fine { let p = printed_call (T.meaning tool.old) (call_by I.kind_of I.traits self.now place.now (F.tree files.old)) in IfOk result (λ made. KeyFine p made.2) }
-        ensures cause { let call = call_by I.kind_of I.traits self.now place.now (F.tree files.old) in IfErr result (KeyCause (key_fault_of (T.meaning tool.old) call) (FailsOn F.tree F.failed F.fails_on files.old files.new) (FailsIn T.meaning T.failed T.fails_in tool.old tool.new)) }
+        ensures fine { let p = printed_call (T.meaning tool.old)
+            (call_by I.kind_of I.traits self.now place.now (F.tree files.old)) in
+            IfOk result (λ made. KeyFine p made.2) }
+        ensures cause { let call = call_by I.kind_of I.traits self.now place.now (F.tree files.old)
+            in
+            IfErr result
+            (KeyCause (key_fault_of (T.meaning tool.old) call)
+            (FailsOn F.tree F.failed F.fails_on files.old files.new)
+            (FailsIn T.meaning T.failed T.fails_in tool.old tool.new)) }
         // What the call does to the include records, and to the preprocessor's tick.
-        ensures entries { let p = printed_call (T.meaning tool.old) (call_by I.kind_of I.traits self.now place.now (F.tree files.old)) in EntryTurn H.digest_of p (E.shelf entries.old) (E.shelf entries.new) (T.preprocessed tool.old) (T.preprocessed tool.new) }
-        ensures recorded { let p = printed_call (T.meaning tool.old) (call_by I.kind_of I.traits self.now place.now (F.tree files.old)) in IfOk result (λ made. KeyRecorded H.digest_of p (E.shelf entries.old) (E.shelf entries.new) made.2 (string_bytes made.0)) }
+        ensures entries { let p = printed_call (T.meaning tool.old)
+            (call_by I.kind_of I.traits self.now place.now (F.tree files.old)) in
+            EntryTurn H.digest_of p (E.shelf entries.old) (E.shelf entries.new)
+            (T.preprocessed tool.old) (T.preprocessed tool.new) }
+        ensures recorded { let p = printed_call (T.meaning tool.old)
+            (call_by I.kind_of I.traits self.now place.now (F.tree files.old)) in
+            IfOk result
+            (λ made. KeyRecorded H.digest_of p (E.shelf entries.old) (E.shelf entries.new) made.2
+            (string_bytes made.0)) }
         // Whatever list of earlier calls meets the invariant of the records, that list followed by this call meets it at the end.
-        ensures records { let p = printed_call (T.meaning tool.old) (call_by I.kind_of I.traits self.now place.now (F.tree files.old)) in (earlier : List PrintedCall) → EntryInvariant H.digest_of place.now.config.now earlier (E.shelf entries.old).held → EntryInvariant H.digest_of place.now.config.now (earlier ++ asking p) (E.shelf entries.new).held }
+        ensures records { let p = printed_call (T.meaning tool.old)
+            (call_by I.kind_of I.traits self.now place.now (F.tree files.old)) in
+            (earlier : List PrintedCall)
+            → EntryInvariant H.digest_of place.now.config.now earlier (E.shelf entries.old).held
+            → EntryInvariant H.digest_of place.now.config.now (earlier ++ asking p)
+            (E.shelf entries.new).held }
         // Then, where digests are distinct and texts are printed again, the key is the call's own, wherever it came from.
-        ensures own { let p = printed_call (T.meaning tool.old) (call_by I.kind_of I.traits self.now place.now (F.tree files.old)) in (earlier : List PrintedCall) → EntryInvariant H.digest_of place.now.config.now earlier (E.shelf entries.old).held → EntryPremises H.digest_of (earlier ++ asking p) → IfOk result (λ made. string_bytes made.0 ≡ key_of H.digest_of (record_by p)) }
+        ensures own { let p = printed_call (T.meaning tool.old)
+            (call_by I.kind_of I.traits self.now place.now (F.tree files.old)) in
+            (earlier : List PrintedCall)
+            → EntryInvariant H.digest_of place.now.config.now earlier (E.shelf entries.old).held
+            → EntryPremises H.digest_of (earlier ++ asking p)
+            → IfOk result (λ made. string_bytes made.0 ≡ key_of H.digest_of (record_by p)) }
         // A call that has no entry key gets the key of its text.
-        ensures plain { let call = call_by I.kind_of I.traits self.now place.now (F.tree files.old) in has_entry_key call ≡ false → IfOk result (λ made. made.2 ≡ false) }
+        ensures plain { let call = call_by I.kind_of I.traits self.now place.now (F.tree files.old)
+            in
+            has_entry_key call ≡ false → IfOk result (λ made. made.2 ≡ false) }
         ensures tree { F.tree files.new ≡ F.tree files.old }
         ensures meaning { T.meaning tool.new ≡ T.meaning tool.old }
         ensures steady { OnOk result
             (AreSteady T.failed F.failed tool.old files.old tool.new files.new) }
         ensures memory { IsErrOf result Fault.Memory →
             AreSteady T.failed F.failed tool.old files.old tool.new files.new }
-        ensures idle { needs_preprocessing self.now.parsed.now.language ≡ false → (T.preprocessed tool.new ≡ T.preprocessed tool.old) × (T.failed tool.new ≡ T.failed tool.old) }
-        ensures runs { needs_preprocessing self.now.parsed.now.language ≡ true → IfOk result (λ made. KeyRuns made.2 (T.preprocessed tool.old) (T.preprocessed tool.new)) }
+        ensures idle { needs_preprocessing self.now.parsed.now.language ≡ false
+            → (T.preprocessed tool.new ≡ T.preprocessed tool.old)
+            × (T.failed tool.new ≡ T.failed tool.old) }
+        ensures runs { needs_preprocessing self.now.parsed.now.language ≡ true
+            → IfOk result
+            (λ made. KeyRuns made.2 (T.preprocessed tool.old) (T.preprocessed tool.new)) }
+        // How often the preprocessor ran before a fault.
+        ensures until { needs_preprocessing self.now.parsed.now.language ≡ true →
+            IfErr result (RunsUntilKey (T.preprocessed tool.old) (T.preprocessed tool.new)) }
         ensures compiles { T.compiled tool.new ≡ T.compiled tool.old }
     {
         records_are_true::<H>();
@@ -304,21 +417,47 @@ impl<'a, I: CCompilerImpl + Drop> CCompilerHasher<'a, I> {
         files: &mut F,
         tool: &mut T,
     ) -> Result<(String, CShape, bool), Fault>
-        ensures key { let p = printed_call (T.meaning tool.old) (call_by I.kind_of I.traits self.now place.now (F.tree files.old)) in IfOk result (λ made. KeyFrom H.digest_of p (E.shelf entries.old).held made.2 (string_bytes made.0)) }
-        ensures shape { let call = call_by I.kind_of I.traits self.now place.now (F.tree files.old) in IfOk result (λ made. made.1 ≡ record_shape H.digest_of (record_of (T.meaning tool.old) call)) }
+        ensures key { let p = printed_call (T.meaning tool.old)
+            (call_by I.kind_of I.traits self.now place.now (F.tree files.old)) in
+            IfOk result
+            (λ made. KeyFrom H.digest_of p (E.shelf entries.old).held made.2 (string_bytes made.0)) }
+        ensures shape { let call = call_by I.kind_of I.traits self.now place.now (F.tree files.old)
+            in
+            IfOk result
+            (λ made. made.1 ≡ record_shape H.digest_of (record_of (T.meaning tool.old) call)) }
         ensures fit { OnOk result (AllByRecursion FitsLength (filter is_cached place.now.env.now)) }
-        ensures fine { let p = printed_call (T.meaning tool.old) (call_by I.kind_of I.traits self.now place.now (F.tree files.old)) in IfOk result (λ made. KeyFine p made.2) }
-        ensures cause { let call = call_by I.kind_of I.traits self.now place.now (F.tree files.old) in IfErr result (KeyCause (key_fault_of (T.meaning tool.old) call) (FailsOn F.tree F.failed F.fails_on files.old files.new) (FailsIn T.meaning T.failed T.fails_in tool.old tool.new)) }
-        ensures entries { let p = printed_call (T.meaning tool.old) (call_by I.kind_of I.traits self.now place.now (F.tree files.old)) in EntryTurn H.digest_of p (E.shelf entries.old) (E.shelf entries.new) (T.preprocessed tool.old) (T.preprocessed tool.new) }
-        ensures recorded { let p = printed_call (T.meaning tool.old) (call_by I.kind_of I.traits self.now place.now (F.tree files.old)) in IfOk result (λ made. KeyRecorded H.digest_of p (E.shelf entries.old) (E.shelf entries.new) made.2 (string_bytes made.0)) }
+        ensures fine { let p = printed_call (T.meaning tool.old)
+            (call_by I.kind_of I.traits self.now place.now (F.tree files.old)) in
+            IfOk result (λ made. KeyFine p made.2) }
+        ensures cause { let call = call_by I.kind_of I.traits self.now place.now (F.tree files.old)
+            in
+            IfErr result
+            (KeyCause (key_fault_of (T.meaning tool.old) call)
+            (FailsOn F.tree F.failed F.fails_on files.old files.new)
+            (FailsIn T.meaning T.failed T.fails_in tool.old tool.new)) }
+        ensures entries { let p = printed_call (T.meaning tool.old)
+            (call_by I.kind_of I.traits self.now place.now (F.tree files.old)) in
+            EntryTurn H.digest_of p (E.shelf entries.old) (E.shelf entries.new)
+            (T.preprocessed tool.old) (T.preprocessed tool.new) }
+        ensures recorded { let p = printed_call (T.meaning tool.old)
+            (call_by I.kind_of I.traits self.now place.now (F.tree files.old)) in
+            IfOk result
+            (λ made. KeyRecorded H.digest_of p (E.shelf entries.old) (E.shelf entries.new) made.2
+            (string_bytes made.0)) }
         ensures tree { F.tree files.new ≡ F.tree files.old }
         ensures meaning { T.meaning tool.new ≡ T.meaning tool.old }
         ensures steady { OnOk result
             (AreSteady T.failed F.failed tool.old files.old tool.new files.new) }
         ensures memory { IsErrOf result Fault.Memory →
             AreSteady T.failed F.failed tool.old files.old tool.new files.new }
-        ensures idle { needs_preprocessing self.now.parsed.now.language ≡ false → (T.preprocessed tool.new ≡ T.preprocessed tool.old) × (T.failed tool.new ≡ T.failed tool.old) }
-        ensures runs { needs_preprocessing self.now.parsed.now.language ≡ true → IfOk result (λ made. KeyRuns made.2 (T.preprocessed tool.old) (T.preprocessed tool.new)) }
+        ensures idle { needs_preprocessing self.now.parsed.now.language ≡ false
+            → (T.preprocessed tool.new ≡ T.preprocessed tool.old)
+            × (T.failed tool.new ≡ T.failed tool.old) }
+        ensures runs { needs_preprocessing self.now.parsed.now.language ≡ true
+            → IfOk result
+            (λ made. KeyRuns made.2 (T.preprocessed tool.old) (T.preprocessed tool.new)) }
+        ensures until { needs_preprocessing self.now.parsed.now.language ≡ true →
+            IfErr result (RunsUntilKey (T.preprocessed tool.old) (T.preprocessed tool.new)) }
         ensures compiles { T.compiled tool.new ≡ T.compiled tool.old }
     {
         let names = self.parsed.extra_hash_files.as_slice();
@@ -341,9 +480,13 @@ fn look_up<H: HashState, E: Store<EntryKey, PreprocessorCacheEntry>, F: Files>(
     entries: &mut E,
     files: &mut F,
 ) -> Result<Known, Fault>
-    ensures asks { Asks (E.shelf entries.old) (E.shelf entries.new) key.now ((E.shelf entries.new).held key.now) }
-    ensures found { IfOk result (IsKnown H.digest_of (looked_at place.now (F.tree files.old)) ((E.shelf entries.new).held key.now)) }
-    ensures cause { IfErr result (FileCause None (FailsOn F.tree F.failed F.fails_on files.old files.new)) }
+    ensures asks { Asks (E.shelf entries.old) (E.shelf entries.new) key.now
+        ((E.shelf entries.new).held key.now) }
+    ensures found { IfOk result
+        (IsKnown H.digest_of (looked_at place.now (F.tree files.old))
+        ((E.shelf entries.new).held key.now)) }
+    ensures cause { IfErr result
+        (FileCause None (FailsOn F.tree F.failed F.fails_on files.old files.new)) }
     ensures tree { F.tree files.new ≡ F.tree files.old }
     ensures steady { OnOk result (F.failed files.new ≡ F.failed files.old) }
     ensures memory { IsErrOf result Fault.Memory → F.failed files.new ≡ F.failed files.old }
@@ -372,9 +515,14 @@ fn keep<H: HashState, E: Store<EntryKey, PreprocessorCacheEntry>, F: Files>(
     entries: &mut E,
     files: &mut F,
 ) -> Result<(), Fault>
-    ensures keeps { OnOk result (Keeps ⟦<EntryKey as PartialEq>⟧.eq key known.results (string_bytes made.now.key) (recorded_of (looked_at place.now (F.tree files.old)) H.digest_of (join place.now.dir.now input.now) made.now.text) (E.shelf entries.old) (E.shelf entries.new)) }
+    ensures keeps { OnOk result
+        (Keeps ⟦<EntryKey as PartialEq>⟧.eq key known.results (string_bytes made.now.key)
+        (recorded_of (looked_at place.now (F.tree files.old)) H.digest_of
+        (join place.now.dir.now input.now) made.now.text)
+        (E.shelf entries.old) (E.shelf entries.new)) }
     ensures unkept { OnErr result (E.shelf entries.new ≡ E.shelf entries.old) }
-    ensures cause { IfErr result (FileCause None (FailsOn F.tree F.failed F.fails_on files.old files.new)) }
+    ensures cause { IfErr result
+        (FileCause None (FailsOn F.tree F.failed F.fails_on files.old files.new)) }
     ensures tree { F.tree files.new ≡ F.tree files.old }
     ensures steady { OnOk result (F.failed files.new ≡ F.failed files.old) }
     ensures memory { IsErrOf result Fault.Memory → F.failed files.new ≡ F.failed files.old }

@@ -23,14 +23,19 @@ use entry_keys::laws::entry_keys_tell_calls;
 /// The hashed bytes tell the parts, together with the shape: equal bytes and shapes are of equal parts, whose words
 /// lack the byte 255 and whose variables have lengths below 2^64.
 pub fn materials_tell_parts()
-    ensures { (one other : HashedParts) → AreTold one.words one.variables → AreTold other.words other.variables → material_of one ≡ material_of other → shape_of one ≡ shape_of other → one ≡ other }
+    ensures { (one other : HashedParts) → AreTold one.words one.variables
+        → AreTold other.words other.variables → material_of one ≡ material_of other
+        → shape_of one ≡ shape_of other → one ≡ other }
 {}
 
 /// Under distinct digests keys with their shapes are equal exactly if the records are, whose words lack the byte 255 and whose
 /// variables have lengths below 2^64.
 pub fn keys_tell_records<H: HashState>()
-    ensures { (one other : CRecord) → AreTold one.words one.variables → AreTold other.words other.variables → AreDistinct H.digest_of one other
-        → ((key_of H.digest_of one ≡ key_of H.digest_of other) × (record_shape H.digest_of one ≡ record_shape H.digest_of other)) ↔ (one ≡ other) }
+    ensures { (one other : CRecord) → AreTold one.words one.variables
+        → AreTold other.words other.variables → AreDistinct H.digest_of one other
+        → ((key_of H.digest_of one ≡ key_of H.digest_of other)
+        × (record_shape H.digest_of one ≡ record_shape H.digest_of other))
+        ↔ (one ≡ other) }
 {
     texts_tell_digests::<H>();
 }
@@ -38,17 +43,24 @@ pub fn keys_tell_records<H: HashState>()
 /// Requests that differ only in texts, which are equal without the folders, have one key and one shape, since the same
 /// is hashed for them.
 pub fn folders_in_texts_do_not_count()
-    ensures { (handed : Handed) → (text : Bytes) → stripped_of text_places handed.basedirs text ≡ stripped_of text_places handed.basedirs handed.preprocessor_output
+    ensures { (handed : Handed) → (text : Bytes)
+        → stripped_of text_places handed.basedirs text
+        ≡ stripped_of text_places handed.basedirs handed.preprocessor_output
         → parts_handed (record handed { preprocessor_output = text }) ≡ parts_handed handed }
 {}
 
 /// What the include records of earlier calls say is true of this call, where digests are distinct and texts are printed again; and
 /// each call leaves records of which that can be said again, with no premise.
 pub fn records_are_true<H: HashState>()
-    ensures agree { (settings : Settings) (earlier : List PrintedCall) (p : PrintedCall) (held : Held) → p.call.settings ≡ settings → EntryInvariant H.digest_of settings earlier held
+    ensures agree { (settings : Settings) (earlier : List PrintedCall) (p : PrintedCall)
+        (held : Held)
+        → p.call.settings ≡ settings → EntryInvariant H.digest_of settings earlier held
         → EntryPremises H.digest_of (earlier ++ asking p) → AreTrue H.digest_of p held }
-    ensures stay { (settings : Settings) (earlier : List PrintedCall) (p : PrintedCall) (old new : Shelf EntryKey Record) (before after : ℕ) → p.call.settings ≡ settings
-        → EntryTurn H.digest_of p old new before after → EntryInvariant H.digest_of settings earlier old.held → EntryInvariant H.digest_of settings (earlier ++ asking p) new.held }
+    ensures stay { (settings : Settings) (earlier : List PrintedCall) (p : PrintedCall)
+        (old new : Shelf EntryKey Record) (before after : ℕ)
+        → p.call.settings ≡ settings → EntryTurn H.digest_of p old new before after
+        → EntryInvariant H.digest_of settings earlier old.held
+        → EntryInvariant H.digest_of settings (earlier ++ asking p) new.held }
 {
     texts_tell_digests::<H>();
     entry_keys_tell_calls::<H>();

@@ -23,9 +23,14 @@ fn needed_digest<H: HashState, F: Files>(
     name: &OsBytes,
     files: &mut F,
 ) -> Result<String, Fault>
-    ensures digest { IfOk result (λ digest. string_bytes digest ≡ hex_of (H.digest_of (contents_in (F.tree files.old) (join dir.now name.now)))) }
-    ensures there { OnOk result (first_missing (F.tree files.old) (join dir.now name.now ∷ []) ≡ None) }
-    ensures cause { IfErr result (FileCause (first_missing (F.tree files.old) (join dir.now name.now ∷ [])) (FailsOn F.tree F.failed F.fails_on files.old files.new)) }
+    ensures digest { IfOk result
+        (λ digest. string_bytes digest
+        ≡ hex_of (H.digest_of (contents_in (F.tree files.old) (join dir.now name.now)))) }
+    ensures there { OnOk result
+        (first_missing (F.tree files.old) (join dir.now name.now ∷ []) ≡ None) }
+    ensures cause { IfErr result
+        (FileCause (first_missing (F.tree files.old) (join dir.now name.now ∷ []))
+        (FailsOn F.tree F.failed F.fails_on files.old files.new)) }
     ensures tree { F.tree files.new ≡ F.tree files.old }
     ensures steady { OnOk result (F.failed files.new ≡ F.failed files.old) }
     ensures memory { IsErrOf result Fault.Memory → F.failed files.new ≡ F.failed files.old }
@@ -70,9 +75,15 @@ pub(crate) fn extra_hashes<H: HashState, F: Files>(
     names: &[OsBytes],
     files: &mut F,
 ) -> Result<Listed<String>, Fault>
-    ensures digests { IfOk result (λ digests. map string_bytes digests ≡ map (λ contents. hex_of (H.digest_of contents)) (map (contents_in (F.tree files.old)) (map (join dir.now) names.now))) }
-    ensures there { OnOk result (first_missing (F.tree files.old) (map (join dir.now) names.now) ≡ None) }
-    ensures cause { IfErr result (FileCause (first_missing (F.tree files.old) (map (join dir.now) names.now)) (FailsOn F.tree F.failed F.fails_on files.old files.new)) }
+    ensures digests { IfOk result
+        (λ digests. map string_bytes digests
+        ≡ map (λ contents. hex_of (H.digest_of contents))
+        (map (contents_in (F.tree files.old)) (map (join dir.now) names.now))) }
+    ensures there { OnOk result
+        (first_missing (F.tree files.old) (map (join dir.now) names.now) ≡ None) }
+    ensures cause { IfErr result
+        (FileCause (first_missing (F.tree files.old) (map (join dir.now) names.now))
+        (FailsOn F.tree F.failed F.fails_on files.old files.new)) }
     ensures tree { F.tree files.new ≡ F.tree files.old }
     ensures steady { OnOk result (F.failed files.new ≡ F.failed files.old) }
     ensures memory { IsErrOf result Fault.Memory → F.failed files.new ≡ F.failed files.old }

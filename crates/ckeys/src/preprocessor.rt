@@ -71,16 +71,30 @@ pub trait Preprocessor {
         files: &mut F,
         moment: i64,
     ) -> Result<Printed, ToolFail>
-        ensures answer { IfOk result (λ p. made_of p.status (Some p.text ∷ []) ≡ meaning self.old Step.Preprocess (reading_of kind command.now.arguments) [] (scene_of command.now (F.tree files.old) moment)) }
+        ensures answer { IfOk result
+            (λ p. made_of p.status (Some p.text ∷ [])
+            ≡ meaning self.old Step.Preprocess (reading_of kind command.now.arguments) []
+            (scene_of command.now (F.tree files.old) moment)) }
         ensures meaning { meaning self.new ≡ meaning self.old }
         ensures tree { F.tree files.new ≡ F.tree files.old }
-        ensures device { IsErrOf result ToolFail.Device → (failed self.new ≡ ticked (failed self.old)) × fails_in self.old Step.Preprocess self.new }
-        ensures files_device { IsErrOf result ToolFail.Device → (F.failed files.new ≡ F.failed files.old) ⊎ (F.failed files.new ≡ ticked (F.failed files.old)) }
-        ensures steady { (IsErrOf result ToolFail.Device → ⊥) → (failed self.new ≡ failed self.old) × (F.failed files.new ≡ F.failed files.old) }
+        ensures device { IsErrOf result ToolFail.Device
+            → (failed self.new ≡ ticked (failed self.old))
+            × fails_in self.old Step.Preprocess self.new }
+        ensures files_device { IsErrOf result ToolFail.Device
+            → (F.failed files.new ≡ F.failed files.old)
+            ⊎ (F.failed files.new ≡ ticked (F.failed files.old)) }
+        ensures steady { (IsErrOf result ToolFail.Device → ⊥)
+            → (failed self.new ≡ failed self.old) × (F.failed files.new ≡ F.failed files.old) }
         ensures runs { preprocessed self.new ≡ ticked (preprocessed self.old) }
         ensures compiles { compiled self.new ≡ compiled self.old };
 
     /// The ticks of all steps.
     fn ticks(&self) -> Ticks
-        ensures { result ≡ record { preprocess = preprocessed self.now; compile = compiled self.now; failure = failed self.now } };
+        ensures { result
+            ≡ record {
+              preprocess = preprocessed self.now;
+              compile = compiled self.now;
+              failure = failed
+                  self.now;
+            } };
 }

@@ -25,7 +25,8 @@ pub fn hold_word_end(words: &[OsBytes]) -> bool
 
 /// Words that don't hold that byte don't hold it without folders either. Calls of it do nothing.
 pub fn stripped_words_lack_the_end()
-    ensures { (folders words : List Bytes) → hold_end words ≡ false → AllByRecursion LacksEnd (stripped_words folders words) }
+    ensures { (folders words : List Bytes) → hold_end words ≡ false
+        → AllByRecursion LacksEnd (stripped_words folders words) }
 {
     stripping_adds_no_byte();
 }

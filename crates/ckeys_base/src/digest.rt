@@ -81,7 +81,8 @@ impl<H: HashState> Digest<H> {
 
     /// Takes the delimiter of a name: a zero byte, `SCCACHE`, a zero byte, the name, a zero byte. It takes no memory.
     pub fn delimiter(&mut self, name: &[u8])
-        ensures { (held : Bytes) → H.holds self.old held → H.holds self.new (held ++ delimiter_of name.now) }
+        ensures { (held : Bytes) → H.holds self.old held
+            → H.holds self.new (held ++ delimiter_of name.now) }
     {
         self.update(b"\0SCCACHE\0");
         self.update(name);
@@ -180,8 +181,11 @@ impl<H: HashState> Digest<H> {
         ensures answer { IfOk result (λ found.
             option_map string_bytes found ≡ file_digest H.digest_of (F.tree files.old) path.now) }
         ensures tree { F.tree files.new ≡ F.tree files.old }
-        ensures device { IsErrOf result FileFail.Device → (F.failed files.new ≡ ticked (F.failed files.old)) × F.fails_on files.old path.now files.new }
-        ensures steady { (IsErrOf result FileFail.Device → ⊥) → F.failed files.new ≡ F.failed files.old }
+        ensures device { IsErrOf result FileFail.Device
+            → (F.failed files.new ≡ ticked (F.failed files.old))
+            × F.fails_on files.old path.now files.new }
+        ensures steady { (IsErrOf result FileFail.Device → ⊥)
+            → F.failed files.new ≡ F.failed files.old }
     {
         let Some(contents) = files.read(alloc, path)? else {
             return Ok(None);
@@ -198,12 +202,14 @@ impl<H: HashState> Digest<H> {
         paths: &[OsBytes],
         files: &mut F,
     ) -> Result<Option<Vec<String>>, FileFail>
-        ensures answer { IfOk result (λ found. option_map (λ digests. map string_bytes digests.items) found
+        ensures answer { IfOk result
+            (λ found. option_map (λ digests. map string_bytes digests.items) found
             ≡ file_digests H.digest_of (F.tree files.old) paths.now) }
         ensures tree { F.tree files.new ≡ F.tree files.old }
         ensures device { IsErrOf result FileFail.Device → (name : Bytes) × Contains paths.now name
             × FailsOn F.tree F.failed F.fails_on files.old files.new name }
-        ensures steady { (IsErrOf result FileFail.Device → ⊥) → F.failed files.new ≡ F.failed files.old }
+        ensures steady { (IsErrOf result FileFail.Device → ⊥)
+            → F.failed files.new ≡ F.failed files.old }
     {
         let mut digests = Vec::with_capacity(alloc, paths.len())?;
         'paths: for path in paths {

@@ -34,7 +34,8 @@ pub trait HashState: Drop {
 
     /// The digest of what is held, of `LEN` bytes.
     fn digest(self, alloc: Global) -> Result<Vec<u8>, AllocError>
-        ensures value { IfOk result (λ digest. (held : Bytes) → holds self held → digest.items ≡ digest_of held) }
+        ensures value { IfOk result
+            (λ digest. (held : Bytes) → holds self held → digest.items ≡ digest_of held) }
         ensures length { IfOk result (λ digest. vec_len digest ≡ LEN) };
 
     /// Each digest has that many bytes.

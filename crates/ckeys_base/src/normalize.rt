@@ -39,7 +39,9 @@ fn names_of<'a>(alloc: Global, path: &'a [u8]) -> Result<Vec<&'a [u8]>, AllocErr
 
 /// Lets the component follow these names.
 fn follow<'a>(names: &mut Vec<&'a [u8]>, component: Component<'a>) -> Result<(), AllocError>
-    ensures { OnOk result (map (λ name. name.now) names.new.items ≡ followed_by (map (λ name. name.now) names.old.items) (part_of component.entry)) }
+    ensures { OnOk result
+        (map (λ name. name.now) names.new.items
+        ≡ followed_by (map (λ name. name.now) names.old.items) (part_of component.entry)) }
 {
     match component {
         Component::RootDir | Component::CurDir => Ok(()),
@@ -53,7 +55,9 @@ fn follow<'a>(names: &mut Vec<&'a [u8]>, component: Component<'a>) -> Result<(),
 
 /// Appends the names, with a slash between each two.
 fn append_joined(bytes: &mut Vec<u8>, names: &[&[u8]]) -> Result<(), AllocError>
-    ensures { OnOk result (bytes.new.items ≡ bytes.old.items ++ join_with_byte (byte "/") (map (λ name. name.now) names.now)) }
+    ensures { OnOk result
+        (bytes.new.items
+        ≡ bytes.old.items ++ join_with_byte (byte "/") (map (λ name. name.now) names.now)) }
 {
     let Some((first, later)) = names.split_first() else {
         return Ok(());

@@ -46,8 +46,8 @@ pub trait Store<K: Eq, V> {
 
 /// A look-up of a store that has kept all changes nothing: each key holds what it held, and no key was forgotten.
 pub fn kept_look_up_changes_nothing<K, V>()
-    ensures held { (old new : Shelf K V) (key : K) (answer : Option V) → Asks old new key answer → new.kept ≡ true
-        → (q : K) → new.held q ≡ old.held q }
-    ensures forgot { (old new : Shelf K V) (key : K) (answer : Option V) → Asks old new key answer → new.kept ≡ true
-        → new.forgets ≡ old.forgets }
+    ensures held { (old new : Shelf K V) (key : K) (answer : Option V) → Asks old new key answer
+        → new.kept ≡ true → (q : K) → new.held q ≡ old.held q }
+    ensures forgot { (old new : Shelf K V) (key : K) (answer : Option V) → Asks old new key answer
+        → new.kept ≡ true → new.forgets ≡ old.forgets }
 {}

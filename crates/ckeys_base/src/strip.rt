@@ -26,12 +26,18 @@ pub fn strip_basedirs<'a>(
     text: &'a [u8],
     folders: &[OsBytes],
 ) -> Result<CowSlice<'a, u8>, AllocError>
-    ensures one { HasExactlyOne (IsStripping (longest text_places folders.now text.now) 0 (length text.now)) }
-    ensures left { (starts : List ℕ) → IsStripping (longest text_places folders.now text.now) 0 (length text.now) starts
-        → IfOk result (λ cut. cow_slice_items cut ≡ left_by (longest text_places folders.now text.now) text.now starts) }
-    ensures borrowed { (starts : List ℕ) → IsStripping (longest text_places folders.now text.now) 0 (length text.now) starts
+    ensures one { HasExactlyOne
+        (IsStripping (longest text_places folders.now text.now) 0 (length text.now)) }
+    ensures left { (starts : List ℕ)
+        → IsStripping (longest text_places folders.now text.now) 0 (length text.now) starts
+        → IfOk result
+        (λ cut. cow_slice_items cut
+        ≡ left_by (longest text_places folders.now text.now) text.now starts) }
+    ensures borrowed { (starts : List ℕ)
+        → IsStripping (longest text_places folders.now text.now) 0 (length text.now) starts
         → IfOk result (λ cut. IsBorrowedSlice cut ↔ (starts ≡ [])) }
-    ensures value { IfOk result (λ cut. cow_slice_items cut ≡ stripped_of text_places folders.now text.now) }
+    ensures value { IfOk result
+        (λ cut. cow_slice_items cut ≡ stripped_of text_places folders.now text.now) }
 {
     strip(alloc, Kind::Text, text, folders)
 }
@@ -46,12 +52,20 @@ pub fn strip_basedirs_from_arg<'a>(
     argument: &'a [u8],
     folders: &[OsBytes],
 ) -> Result<CowSlice<'a, u8>, AllocError>
-    ensures one { HasExactlyOne (IsStripping (longest argument_places folders.now argument.now) 0 (length argument.now)) }
-    ensures left { (starts : List ℕ) → IsStripping (longest argument_places folders.now argument.now) 0 (length argument.now) starts
-        → IfOk result (λ cut. cow_slice_items cut ≡ left_by (longest argument_places folders.now argument.now) argument.now starts) }
-    ensures borrowed { (starts : List ℕ) → IsStripping (longest argument_places folders.now argument.now) 0 (length argument.now) starts
+    ensures one { HasExactlyOne
+        (IsStripping (longest argument_places folders.now argument.now) 0 (length argument.now)) }
+    ensures left { (starts : List ℕ)
+        → IsStripping (longest argument_places folders.now argument.now) 0 (length argument.now)
+        starts
+        → IfOk result
+        (λ cut. cow_slice_items cut
+        ≡ left_by (longest argument_places folders.now argument.now) argument.now starts) }
+    ensures borrowed { (starts : List ℕ)
+        → IsStripping (longest argument_places folders.now argument.now) 0 (length argument.now)
+        starts
         → IfOk result (λ cut. IsBorrowedSlice cut ↔ (starts ≡ [])) }
-    ensures value { IfOk result (λ cut. cow_slice_items cut ≡ stripped_of argument_places folders.now argument.now) }
+    ensures value { IfOk result
+        (λ cut. cow_slice_items cut ≡ stripped_of argument_places folders.now argument.now) }
 {
     strip(alloc, Kind::Argument, argument, folders)
 }
@@ -63,12 +77,18 @@ fn strip<'a>(
     text: &'a [u8],
     folders: &[OsBytes],
 ) -> Result<CowSlice<'a, u8>, AllocError>
-    ensures one { HasExactlyOne (IsStripping (longest (places_of kind) folders.now text.now) 0 (length text.now)) }
-    ensures left { (starts : List ℕ) → IsStripping (longest (places_of kind) folders.now text.now) 0 (length text.now) starts
-        → IfOk result (λ cut. cow_slice_items cut ≡ left_by (longest (places_of kind) folders.now text.now) text.now starts) }
-    ensures borrowed { (starts : List ℕ) → IsStripping (longest (places_of kind) folders.now text.now) 0 (length text.now) starts
+    ensures one { HasExactlyOne
+        (IsStripping (longest (places_of kind) folders.now text.now) 0 (length text.now)) }
+    ensures left { (starts : List ℕ)
+        → IsStripping (longest (places_of kind) folders.now text.now) 0 (length text.now) starts
+        → IfOk result
+        (λ cut. cow_slice_items cut
+        ≡ left_by (longest (places_of kind) folders.now text.now) text.now starts) }
+    ensures borrowed { (starts : List ℕ)
+        → IsStripping (longest (places_of kind) folders.now text.now) 0 (length text.now) starts
         → IfOk result (λ cut. IsBorrowedSlice cut ↔ (starts ≡ [])) }
-    ensures value { IfOk result (λ cut. cow_slice_items cut ≡ stripped_of (places_of kind) folders.now text.now) }
+    ensures value { IfOk result
+        (λ cut. cow_slice_items cut ≡ stripped_of (places_of kind) folders.now text.now) }
 {
     let first = next_place(kind, folders, text, 0);
     if first == text.len() {
@@ -87,7 +107,8 @@ fn joined(
 ) -> Result<Vec<u8>, AllocError>
     requires within { first ≤ length text.now }
     requires none_before { (k : ℕ) → k < first → longest (places_of kind) folders.now text.now k ≡ 0 }
-    requires found { first < length text.now → 0 < longest (places_of kind) folders.now text.now first }
+    requires found { first < length text.now
+        → 0 < longest (places_of kind) folders.now text.now first }
     ensures { IfOk result (λ kept. kept.items ≡ stripped_of (places_of kind) folders.now text.now) }
 {
     let mut kept = Vec::with_capacity(alloc, text.len())?;
@@ -116,5 +137,6 @@ pub fn stripping_leaves_one_text()
 
 /// Stripping adds no byte: what no byte of a text is, none of what is left is. Calls of it do nothing.
 pub fn stripping_adds_no_byte()
-    ensures { (places : Places) (folders : List Bytes) (text : Bytes) (test : ℕ → Bool) → list_any test text ≡ false → list_any test (stripped_of places folders text) ≡ false }
+    ensures { (places : Places) (folders : List Bytes) (text : Bytes) (test : ℕ → Bool)
+        → list_any test text ≡ false → list_any test (stripped_of places folders text) ≡ false }
 {}

@@ -38,9 +38,12 @@ impl From<AllocError> for UnescapeError {
 /// for itself. What can't be read so is refused as `BadEscape`.
 pub fn ascii_unescape_default(alloc: Global, text: &[u8]) -> Result<Vec<u8>, UnescapeError>
     ensures read { IfOk result (λ plain. IsReading text.now plain.items) }
-    ensures only { IfOk result (λ plain. (other : Bytes) → IsReading text.now other → other ≡ plain.items) }
-    ensures refused { IsErrOf result UnescapeError.BadEscape → (plain : Bytes) → ¬ IsReading text.now plain }
-    ensures undoes { (plain : Bytes) → AllByRecursion (λ b. b < 2 ^ 8) plain → text.now ≡ flat_map escape_ascii plain
+    ensures only { IfOk result
+        (λ plain. (other : Bytes) → IsReading text.now other → other ≡ plain.items) }
+    ensures refused { IsErrOf result UnescapeError.BadEscape → (plain : Bytes)
+        → ¬ IsReading text.now plain }
+    ensures undoes { (plain : Bytes) → AllByRecursion (λ b. b < 2 ^ 8) plain
+        → text.now ≡ flat_map escape_ascii plain
         → IfOk result (λ back. back.items ≡ plain) × ¬ IsErrOf result UnescapeError.BadEscape }
 {
     match read_escapes(alloc, text)? {
@@ -52,8 +55,11 @@ pub fn ascii_unescape_default(alloc: Global, text: &[u8]) -> Result<Vec<u8>, Une
 /// The bytes that the text spells, if there are such bytes.
 fn read_escapes(alloc: Global, text: &[u8]) -> Result<Option<Vec<u8>>, AllocError>
     ensures read { IfOk result (λ found. IfSome found (λ plain. IsReading text.now plain.items)) }
-    ensures only { IfOk result (λ found. IfSome found (λ plain. (other : Bytes) → IsReading text.now other → other ≡ plain.items)) }
-    ensures refused { IfOk result (λ found. found ≡ None → (plain : Bytes) → ¬ IsReading text.now plain) }
+    ensures only { IfOk result
+        (λ found. IfSome found
+        (λ plain. (other : Bytes) → IsReading text.now other → other ≡ plain.items)) }
+    ensures refused { IfOk result
+        (λ found. found ≡ None → (plain : Bytes) → ¬ IsReading text.now plain) }
 {
     let mut plain = Vec::with_capacity(alloc, text.len())?;
     let mut rest = text;

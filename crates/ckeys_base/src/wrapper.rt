@@ -22,9 +22,11 @@ pub fn resolve_compiler_avoiding_wrapper<F: Files>(
     executable: &OsBytes,
     env: &[(OsBytes, OsBytes)],
 ) -> Result<OsBytes, FileFail>
-    ensures answer { IfOk result (λ compiler. compiler ≡ resolved (F.tree files.old) executable.now env.now) }
+    ensures answer { IfOk result
+        (λ compiler. compiler ≡ resolved (F.tree files.old) executable.now env.now) }
     ensures tree { F.tree files.new ≡ F.tree files.old }
-    ensures device { IsErrOf result FileFail.Device → (name : Bytes) × FailsOn F.tree F.failed F.fails_on files.old files.new name }
+    ensures device { IsErrOf result FileFail.Device
+        → (name : Bytes) × FailsOn F.tree F.failed F.fails_on files.old files.new name }
     ensures steady { (IsErrOf result FileFail.Device → ⊥) → F.failed files.new ≡ F.failed files.old }
 {
     if !is_wrapper(alloc, files, executable)? {
@@ -40,7 +42,8 @@ pub fn resolve_compiler_avoiding_wrapper<F: Files>(
 fn is_wrapper<F: Files>(alloc: Global, files: &mut F, path: &OsBytes) -> Result<bool, FileFail>
     ensures answer { IfOk result (λ found. found ≡ spec.is_wrapper (F.tree files.old) path.now) }
     ensures tree { F.tree files.new ≡ F.tree files.old }
-    ensures device { IsErrOf result FileFail.Device → FailsOn F.tree F.failed F.fails_on files.old files.new path.now }
+    ensures device { IsErrOf result FileFail.Device
+        → FailsOn F.tree F.failed F.fails_on files.old files.new path.now }
     ensures steady { (IsErrOf result FileFail.Device → ⊥) → F.failed files.new ≡ F.failed files.old }
 {
     let canonical = files.canonical(alloc, path)?;
@@ -58,7 +61,8 @@ fn is_wrapper_name(canonical: &OsBytes) -> bool
 fn is_compiler<F: Files>(alloc: Global, files: &mut F, path: &OsBytes) -> Result<bool, FileFail>
     ensures answer { IfOk result (λ found. found ≡ spec.is_compiler (F.tree files.old) path.now) }
     ensures tree { F.tree files.new ≡ F.tree files.old }
-    ensures device { IsErrOf result FileFail.Device → FailsOn F.tree F.failed F.fails_on files.old files.new path.now }
+    ensures device { IsErrOf result FileFail.Device
+        → FailsOn F.tree F.failed F.fails_on files.old files.new path.now }
     ensures steady { (IsErrOf result FileFail.Device → ⊥) → F.failed files.new ≡ F.failed files.old }
 {
     if !files.is_file(alloc, path)? {
@@ -74,9 +78,11 @@ fn first_compiler<F: Files>(
     executable: &[u8],
     env: &[(OsBytes, OsBytes)],
 ) -> Result<Option<OsBytes>, FileFail>
-    ensures answer { IfOk result (λ found. found ≡ spec.first_compiler (F.tree files.old) executable.now env.now) }
+    ensures answer { IfOk result
+        (λ found. found ≡ spec.first_compiler (F.tree files.old) executable.now env.now) }
     ensures tree { F.tree files.new ≡ F.tree files.old }
-    ensures device { IsErrOf result FileFail.Device → (name : Bytes) × FailsOn F.tree F.failed F.fails_on files.old files.new name }
+    ensures device { IsErrOf result FileFail.Device
+        → (name : Bytes) × FailsOn F.tree F.failed F.fails_on files.old files.new name }
     ensures steady { (IsErrOf result FileFail.Device → ⊥) → F.failed files.new ≡ F.failed files.old }
 {
     let Some(name) = file_name(executable) else {
@@ -109,7 +115,8 @@ fn value_of<'a>(env: &'a [(OsBytes, OsBytes)], name: &[u8]) -> Option<&'a [u8]>
 
 /// The folders between colons.
 fn folders_in(alloc: Global, path: &[u8]) -> Result<Vec<&[u8]>, AllocError>
-    ensures { IfOk result (λ folders. map (λ folder. folder.now) folders.items ≡ spec.folders_in path.now) }
+    ensures { IfOk result
+        (λ folders. map (λ folder. folder.now) folders.items ≡ spec.folders_in path.now) }
 {
     path.split(|byte| *byte == b':').collect(alloc)
 }

@@ -49,7 +49,8 @@ impl SmallStore {
 
     /// Drops all pairs before a look-up of the key.
     fn fade(&mut self, key: u8)
-        ensures { let shelf = ⟦<SmallStore as Store<u8, u8>>⟧.shelf in Asks (shelf self.old) (shelf self.new) key None }
+        ensures { let shelf = ⟦<SmallStore as Store<u8, u8>>⟧.shelf in
+            Asks (shelf self.old) (shelf self.new) key None }
     {
         if self.map.contains_key(&key) {
             self.forgot = self.forgot.wrapping_add(1);

@@ -150,7 +150,8 @@ fn differ(values: &[OsBytes]) -> bool
 /// The one input among words, or why there is none.
 fn only(inputs: Listed<Input>) -> Result<Input, &'static str>
     ensures { MatchResult result (λ input. inputs ≡ input ∷ [])
-        (λ reason. (kind : CCompilerKind) (f : Facts) (l : Lists) → with_inputs kind f l inputs ≡ refused reason.now) }
+        (λ reason. (kind : CCompilerKind) (f : Facts) (l : Lists)
+        → with_inputs kind f l inputs ≡ refused reason.now) }
 {
     let mut inputs = inputs.into_vec();
     match inputs.pop() {

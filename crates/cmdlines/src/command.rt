@@ -122,7 +122,8 @@ fn push_output(
 
 /// Adds the input, where it stands among the options.
 fn push_front(words: &mut Listed<OsBytes>, parsed: &ParsedArguments) -> Result<(), AllocError>
-    ensures { OnOk result (words.new ≡ words.old ++ front_words parsed.now.double_dash_input parsed.now.input) }
+    ensures { OnOk result
+        (words.new ≡ words.old ++ front_words parsed.now.double_dash_input parsed.now.input) }
 {
     if !parsed.double_dash_input {
         words.push(parsed.input.clone()?)?;
@@ -136,7 +137,8 @@ fn push_behind(
     words: &mut Listed<OsBytes>,
     parsed: &ParsedArguments,
 ) -> Result<(), AllocError>
-    ensures { OnOk result (words.new ≡ words.old ++ behind_words parsed.now.double_dash_input parsed.now.input) }
+    ensures { OnOk result
+        (words.new ≡ words.old ++ behind_words parsed.now.double_dash_input parsed.now.input) }
 {
     if parsed.double_dash_input {
         push_word(alloc, words, b"--")?;
@@ -167,7 +169,8 @@ fn push_added(
     kind: CCompilerKind,
     parsed: &ParsedArguments,
 ) -> Result<(), AllocError>
-    ensures { OnOk result (words.new ≡ words.old ++ added_words kind parsed.now.dependencies (object_path parsed.now)) }
+    ensures { OnOk result
+        (words.new ≡ words.old ++ added_words kind parsed.now.dependencies (object_path parsed.now)) }
 {
     let Some(path) = object_path(parsed) else {
         return Ok(());
@@ -278,7 +281,10 @@ pub(crate) fn compile_command(
     dir: &OsBytes,
     env: &[(OsBytes, OsBytes)],
 ) -> Result<(SingleCompileCommand, Cacheable), CommandError>
-    ensures command { IfOk result (λ made. made.0 ≡ command_at executable.now (compile_words kind parsed.now (output_path parsed.now)) env.now dir.now) }
+    ensures command { IfOk result
+        (λ made. made.0
+        ≡ command_at executable.now (compile_words kind parsed.now (output_path parsed.now)) env.now
+        dir.now) }
     ensures cacheable { IfOk result (λ made. made.1 ≡ Cacheable.Yes) }
     ensures missing { IsErrOf result CommandError.NoObjOutput ↔ (object_path parsed.now ≡ None) }
     ensures again { IfOk result (λ made. ReadsAsCompile kind parsed.now made.0.arguments) }

@@ -41,8 +41,10 @@ fn names_folder(kind: CCompilerKind, word: &[u8]) -> bool
 
 /// The flag of an option that is too hard for that compiler.
 fn too_hard_flag(kind: CCompilerKind, argument: &Argument<ArgData>) -> Option<&'static str>
-    ensures { (behind : Bool) → MatchOption result (is_hard kind (placed behind argument.now) ≡ false)
-        (λ flag. (is_hard kind (placed behind argument.now) ≡ true) × (flag.now ≡ flag_of (placed behind argument.now))) }
+    ensures { (behind : Bool)
+        → MatchOption result (is_hard kind (placed behind argument.now) ≡ false)
+        (λ flag. (is_hard kind (placed behind argument.now) ≡ true)
+        × (flag.now ≡ flag_of (placed behind argument.now))) }
 {
     let (flag, option, word) = match argument {
         Argument::Raw(_) | Argument::UnknownFlag(_) => return None,
@@ -78,7 +80,9 @@ pub(crate) fn parse<S: SearchableArgInfo<ArgData>>(
     table: &S,
     words: &[OsBytes],
 ) -> Result<CompilerArguments<ParsedArguments>, AllocError>
-    ensures { IfOk result (λ answer. decision_of answer ≡ decision_by kind (all_entries (S.tables table.now)) words.now) }
+    ensures { IfOk result
+        (λ answer. decision_of answer
+        ≡ decision_by kind (all_entries (S.tables table.now)) words.now) }
 {
     // A law, which costs nothing: what follows from it is said above.
     arguments_are_their_items();

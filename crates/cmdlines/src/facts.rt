@@ -75,7 +75,11 @@ impl Facts {
         table: &S,
         argument: &Argument<ArgData>,
     ) -> Result<(), AllocError>
-        ensures { OnOk result ((behind : Bool) → self.new ≡ facts_with (all_entries (S.tables table.now)) self.old (placed behind argument.now ∷ [])) }
+        ensures { OnOk result
+            ((behind : Bool)
+            → self.new
+            ≡ facts_with (all_entries (S.tables table.now)) self.old
+            (placed behind argument.now ∷ [])) }
     {
         if is_empty_value(table, argument) {
             self.empty_value = true;
@@ -110,7 +114,10 @@ impl Facts {
         flag: &'static str,
         kind: ArgKind,
     ) -> Result<(), AllocError>
-        ensures { OnOk result (self.new ≡ record self.old { blocker = sooner self.old.blocker (when (blocks_preprocessor_cache kind) flag.now) }) }
+        ensures { OnOk result
+            (self.new
+            ≡ record self.old
+            { blocker = sooner self.old.blocker (when (blocks_preprocessor_cache kind) flag.now) }) }
     {
         if self.blocker.is_none() && kind.blocks_preprocessor_cache() {
             self.blocker = Some(OsBytes::from_slice(alloc, flag.as_bytes())?);
@@ -169,7 +176,8 @@ fn color_named(word: &[u8]) -> ColorMode
 
 /// Whether an option whose value may stand either way was read with an empty value.
 fn is_empty_value<S: SearchableArgInfo<ArgData>>(table: &S, argument: &Argument<ArgData>) -> bool
-    ensures { (behind : Bool) → result ≡ is_empty_j (all_entries (S.tables table.now)) (placed behind argument.now) }
+    ensures { (behind : Bool)
+        → result ≡ is_empty_j (all_entries (S.tables table.now)) (placed behind argument.now) }
 {
     let Argument::WithValue(flag, data, _) = argument else {
         return false;

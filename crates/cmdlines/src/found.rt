@@ -17,9 +17,11 @@ use crate::compiler_arguments::{CompilerArguments, ParseFault};
 use crate::laws::{inputs_are_safe, requests_have_an_object};
 use crate::opening::parse_opened;
 use crate::parsed::ParsedArguments;
+use cmdlines_base::byte_tree::ByteTree;
 use cmdlines_base::command::SingleCompileCommand;
 use cmdlines_tables::compiler::CCompilerKind;
-use cmdlines_tables::compiler_tables::CCompilerTables;
+use cmdlines_tables::compiler_tables::compiler_tree;
+use cmdlines_tables::value::ArgData;
 use os_files::files::Files;
 use os_files::listed::Listed;
 use os_files::os_bytes::OsBytes;
@@ -41,21 +43,20 @@ pub struct FoundCompiler<K: HasKind> {
     plusplus: bool,
     version: Option<String>,
     assembler_digest: Option<String>,
-    tables: CCompilerTables,
+    tree: ByteTree<ArgData>,
     kind: PhantomData<K>,
 }
 
 impl<K: HasKind> Model for FoundCompiler<K> {
     ghost use Rattle.std.specs.Prelude.{◌≡◌};
     ghost use Rattle.cmdlines.specs.Compilers.{Traits, traits_of};
-    ghost use Rattle.cmdlines_tables.specs.Search.{tables_in};
     ghost use Rattle.cmdlines_tables.specs.Tables.{tables_of};
 
     ghost Value = { Traits };
 
     ghost view = { λ a. traits_of a.plusplus a.version a.assembler_digest };
 
-    ghost invariant = { λ a. tables_in a.tables ≡ tables_of K.kind };
+    ghost invariant = { λ a. a.tree ≡ tables_of K.kind };
 }
 
 impl<K: HasKind> FoundCompiler<K> {
@@ -71,7 +72,7 @@ impl<K: HasKind> FoundCompiler<K> {
             plusplus,
             version,
             assembler_digest,
-            tables: CCompilerTables::new(alloc, K::kind())?,
+            tree: compiler_tree(alloc, K::kind())?,
             kind: PhantomData,
         })
     }
@@ -104,9 +105,14 @@ impl<K: HasKind> FoundCompiler<K> {
         dir: &OsBytes,
         files: &mut F,
     ) -> Result<CompilerArguments<ParsedArguments>, ParseFault>
-        ensures decision { IfOk result (λ answer. decision_of answer ≡ parse_of K.kind (opened_words K.kind dir.now (F.tree files.old) words.now)) }
-        ensures cause { IfErr result (CauseOf (FailsOn F.tree F.failed F.fails_on files.old files.new)) }
-        ensures input { IfOk result (λ answer. HasSafeInputIn K.kind (opened_words K.kind dir.now (F.tree files.old) words.now) (decision_of answer)) }
+        ensures decision { IfOk result
+            (λ answer. decision_of answer
+            ≡ parse_of K.kind (opened_words K.kind dir.now (F.tree files.old) words.now)) }
+        ensures cause { IfErr result
+            (CauseOf (FailsOn F.tree F.failed F.fails_on files.old files.new)) }
+        ensures input { IfOk result
+            (λ answer. HasSafeInputIn K.kind
+            (opened_words K.kind dir.now (F.tree files.old) words.now) (decision_of answer)) }
         ensures object { IfOk result (λ answer. HasObjectIn (decision_of answer)) }
         ensures tree { F.tree files.new ≡ F.tree files.old }
         ensures steady { OnOk result (F.failed files.new ≡ F.failed files.old) }
@@ -116,7 +122,7 @@ impl<K: HasKind> FoundCompiler<K> {
         // Laws, which cost nothing: what follows from them is said above.
         inputs_are_safe();
         requests_have_an_object();
-        parse_opened(alloc, K::kind(), &self.tables, dir, words, files)
+        parse_opened(alloc, K::kind(), &self.tree, dir, words, files)
     }
 
     /// The words of the preprocess command.
@@ -140,7 +146,10 @@ impl<K: HasKind> FoundCompiler<K> {
         dir: &OsBytes,
         env: &[(OsBytes, OsBytes)],
     ) -> Result<(SingleCompileCommand, Cacheable), CommandError>
-        ensures command { IfOk result (λ made. made.0 ≡ command_at executable.now (compile_words K.kind parsed.now (output_path parsed.now)) env.now dir.now) }
+        ensures command { IfOk result
+            (λ made. made.0
+            ≡ command_at executable.now (compile_words K.kind parsed.now (output_path parsed.now))
+            env.now dir.now) }
         ensures cacheable { IfOk result (λ made. made.1 ≡ Cacheable.Yes) }
         ensures missing { IsErrOf result CommandError.NoObjOutput ↔ (object_path parsed.now ≡ None) }
         ensures again { IfOk result (λ made. ReadsAsCompile K.kind parsed.now made.0.arguments) }

@@ -17,7 +17,8 @@ use cmdlines_tables::value::ArgData;
 /// Whatever words ask for, its input can stand where it's written: it is loose, or stands behind double dashes that end the
 /// options. Only an input that an option of Msvc gave need not.
 pub fn inputs_are_safe()
-    ensures { (kind : CCompilerKind) (words : List Bytes) → HasSafeInputIn kind words (parse_of kind words) }
+    ensures { (kind : CCompilerKind) (words : List Bytes)
+        → HasSafeInputIn kind words (parse_of kind words) }
 {
     // A law, which costs nothing: what follows from it is said above.
     only_msvc_gives_inputs_by_options();

@@ -104,7 +104,8 @@ impl Lists {
         list: OptionList,
         option: &Argument<ArgData>,
     ) -> Result<(), AllocError>
-        ensures { OnOk result (self.new ≡ with_words self.old list (argument_words word_in option.now)) }
+        ensures { OnOk result
+            (self.new ≡ with_words self.old list (argument_words word_in option.now)) }
     {
         match list {
             OptionList::Preprocessor => push_words(alloc, &mut self.preprocessor, option),

@@ -42,7 +42,10 @@ pub(crate) fn parse_opened<S: SearchableArgInfo<ArgData>, F: Files>(
     words: &[OsBytes],
     files: &mut F,
 ) -> Result<CompilerArguments<ParsedArguments>, ParseFault>
-    ensures decision { IfOk result (λ answer. decision_of answer ≡ decision_by kind (all_entries (S.tables table.now)) (opened_words kind dir.now (F.tree files.old) words.now)) }
+    ensures decision { IfOk result
+        (λ answer. decision_of answer
+        ≡ decision_by kind (all_entries (S.tables table.now))
+        (opened_words kind dir.now (F.tree files.old) words.now)) }
     ensures cause { IfErr result (CauseOf (FailsOn F.tree F.failed F.fails_on files.old files.new)) }
     ensures tree { F.tree files.new ≡ F.tree files.old }
     ensures steady { OnOk result (F.failed files.new ≡ F.failed files.old) }

@@ -91,7 +91,8 @@ impl ParsedArguments {
 
     /// The architectures that the options name: each once, in the order in which they appear first.
     pub fn archs(&self, alloc: Global) -> Result<Vec<&[u8]>, AllocError>
-        ensures { IfOk result (λ archs. map (λ arch. arch.now) archs.items ≡ archs_of self.now.arch_args) }
+        ensures { IfOk result
+            (λ archs. map (λ arch. arch.now) archs.items ≡ archs_of self.now.arch_args) }
     {
         let mut seen = BTreeSet::new(alloc);
         let mut archs = Vec::new(alloc);
@@ -118,7 +119,9 @@ impl ParsedArguments {
 
     /// Whether a word names another architecture than that one.
     fn names_other(&self, first: &OsBytes) -> bool
-        ensures { result ≡ list_any (λ word. differs_from arch_flag word && differs_from first.now word) self.now.arch_args }
+        ensures { result
+            ≡ list_any (λ word. differs_from arch_flag word && differs_from first.now word)
+            self.now.arch_args }
     {
         self.arch_args
             .as_slice()

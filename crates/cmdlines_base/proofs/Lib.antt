@@ -6,3 +6,4 @@ pub mod StepLemmas
 pub mod AgainLemmas
 pub mod ClearLemmas
 pub mod NodeLemmas
+pub mod ReachLemmas

@@ -3,7 +3,8 @@ use Rattle.std.proofs.Common.{◌≡◌, ◌≢◌, ◌+◌, ◌-◌, ◌⊎◌,
 use Rattle.std.proofs.lemmas.List.{append-nil, take-append-drop, get_or-take, get_or-drop, length-take, length-drop, length-map, map-append, get_or-map}
 use Rattle.std.proofs.lemmas.List.Elements.{All-append, All-cons, All-nil, All-head, All-tail, All-weaker, All-map, All-from_all_within, All-get_or}
 use Rattle.std.proofs.Math.Seq.{take-length}
-use Rattle.std.specs.List.{AllWithin}
+use Rattle.std.proofs.lemmas.Option.{get_or_from_slice_get}
+use Rattle.std.specs.List.{AllWithin, slice_get}
 use Rattle.std.specs.List.Sorted.{IsPartitionPoint, IsNonDecreasingBy}
 use Rattle.cmdlines_base.specs.declared.table.ArgInfo.{ArgInfo}
 use Rattle.cmdlines_base.specs.Table.{behind, longer, longest_fit, Entry, entry_of, entries_of, fits, may_follow, has_ascii, is_table, rises_to}
@@ -47,6 +48,21 @@ module _ {T K : Type 0} (depth byte : ℕ) (xs : List (ArgInfo T K)) (start end 
         have = All-map (HasByte depth byte) entry_of (take end rest) (All-weaker (λ y. (nat_le (At y) byte ≡ true) × (nat_lt (At y) byte ≡ false)) (λ y. HasByte depth byte (entry_of y)) (λ y h. let l = leb-true (At y) byte h.0 in let m = ltb-false (At y) byte h.1 in omega arith) (take end rest) mid);
         behind = All-map (LacksByte depth byte) entry_of (drop end rest) (All-weaker (λ y. nat_le (At y) byte ≡ false) (λ y. LacksByte depth byte (entry_of y)) (λ y h e. let l = leb-false (At y) byte h in omega arith) (drop end rest) high);
       }
+
+-- where bytes rise, the first one and the last one tell of all
+pub ends_tell : {T K : Type 0} (d byte : ℕ) (xs : List (ArgInfo T K)) (a b : ArgInfo T K) → IsNonDecreasingBy (λ y. byte_at d (entry_of y)) xs
+    → slice_get xs 0 ≡ Some a → slice_get xs (length xs - 1) ≡ Some b
+    → byte_at d (entry_of a) ≡ byte → byte_at d (entry_of b) ≡ byte → All (HasByte d byte) (entries_of xs)
+ends_tell d byte xs a b rising one two low high = All-map (HasByte d byte) entry_of xs (λ k y lt.
+    let first = ap (λ z. byte_at d (entry_of z)) (get_or_from_slice_get xs 0 a y one) in
+    let last = ap (λ z. byte_at d (entry_of z)) (get_or_from_slice_get xs (length xs - 1) b y two) in
+    let up = rising 0 k y (omega arith) lt in
+    let down = rising k (length xs - 1) y (omega (arith, lt)) (omega (arith, lt)) in
+    omega (arith, first, last, up, down, low, high))
+
+-- entries of which all have that byte are what is picked of them
+pub whole_picked : {K : Type 0} (d byte : ℕ) (es : List (Entry K)) → All (HasByte d byte) es → IsPicked d byte es es
+whole_picked d byte es have = record { front = []; back = []; whole = sym (append-nil es); before = All-nil (LacksByte d byte); have = have; behind = All-nil (LacksByte d byte) }
 
 pub drop_whole : {X : Type 0} (i : ℕ) (xs : List X) → take (length xs - i) (drop i xs) ≡ drop i xs
 drop_whole i xs = ap (λ n. take n (drop i xs)) (sym (length-drop i xs)) ∙ take-length (drop i xs)
@@ -162,15 +178,15 @@ table_back [] fs h = h
 table_back (e ∷ es) fs h = table_back es fs (table_behind e (es ++ fs) h)
 
 -- what holds of all and also holds of all; of the front of a list; of its back
-all_both : {X : Type 0} (P Q : X → Type 0) (xs : List X) → All P xs → All Q xs → All (λ x. P x × Q x) xs
+pub all_both : {X : Type 0} (P Q : X → Type 0) (xs : List X) → All P xs → All Q xs → All (λ x. P x × Q x) xs
 all_both P Q [] p q = All-nil (λ x. P x × Q x)
 all_both P Q (x ∷ xs) p q = All-cons (λ x. P x × Q x) x xs (All-head P x xs p, All-head Q x xs q) (all_both P Q xs (All-tail P x xs p) (All-tail Q x xs q))
 
-all_front : {X : Type 0} (P : X → Type 0) (xs ys : List X) → All P (xs ++ ys) → All P xs
+pub all_front : {X : Type 0} (P : X → Type 0) (xs ys : List X) → All P (xs ++ ys) → All P xs
 all_front P [] ys h = All-nil P
 all_front P (x ∷ xs) ys h = All-cons P x xs (All-head P x (xs ++ ys) h) (all_front P xs ys (All-tail P x (xs ++ ys) h))
 
-all_back : {X : Type 0} (P : X → Type 0) (xs ys : List X) → All P (xs ++ ys) → All P ys
+pub all_back : {X : Type 0} (P : X → Type 0) (xs ys : List X) → All P (xs ++ ys) → All P ys
 all_back P [] ys h = h
 all_back P (x ∷ xs) ys h = all_back P xs ys (All-tail P x (xs ++ ys) h)
 
@@ -226,3 +242,11 @@ all_on d word e es h on = All-cons (GoesOn d) e es on (ends_once d word e es h.r
 pub none_fits : {T K : Type 0} (word : List ℕ) (xs : List (ArgInfo T K)) → length xs ≡ 0 → longest_fit (entries_of xs) word ≡ None
 none_fits word [] h = refl
 none_fits word (x ∷ xs) h = absurd (omega (arith, h))
+
+-- the root of a table: no byte is looked at
+pub root : {K : Type 0} (word : List ℕ) (es : List (Entry K)) → is_table es ≡ true → IsNode 0 word es
+root word es rise = record { begin = from_start es; rise = rise }
+  where
+    from_start : {K : Type 0} (fs : List (Entry K)) → All (Begins 0 word) fs
+    from_start [] = All-nil (Begins 0 word)
+    from_start (f ∷ fs) = All-cons (Begins 0 word) f fs (record { long = omega arith; alike = refl }) (from_start fs)

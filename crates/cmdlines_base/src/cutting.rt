@@ -26,7 +26,8 @@ pub enum First<T: ArgumentValue> {
 
 /// A word that fits no entry.
 fn loose<T: ArgumentValue>(alloc: Global, word: &[u8]) -> Result<Argument<T>, AllocError>
-    ensures { IfOk result (λ argument. IsOf (values_by T.flag_value T.word_value T.refusal) (loose word.now) argument) }
+    ensures { IfOk result
+        (λ argument. IsOf (values_by T.flag_value T.word_value T.refusal) (loose word.now) argument) }
 {
     let bytes = OsBytes::from_slice(alloc, word)?;
     if word.first().copied() == Some(b'-') {
@@ -57,7 +58,9 @@ fn with_value<T: ArgumentValue>(
     word: &[u8],
     disposition: ArgDisposition,
 ) -> ArgParseResult<Argument<T>>
-    ensures value { IfOk result (IsOf (values_by T.flag_value T.word_value T.refusal) (valued flag.entry.now kind word.now disposition)) }
+    ensures value { IfOk result
+        (IsOf (values_by T.flag_value T.word_value T.refusal)
+        (valued flag.entry.now kind word.now disposition)) }
     ensures accepted { OnOk result (T.refusal kind word.now ≡ None) }
     ensures refused { IfErr result (IsErrorOf (T.refusal kind word.now) word.now) }
 {
@@ -71,8 +74,12 @@ fn first_by<T: ArgumentValue>(
     entry: Option<&ArgInfo<T>>,
     word: &[u8],
 ) -> ArgParseResult<First<T>>
-    ensures first { IfOk result (IsFirst (values_by T.flag_value T.word_value T.refusal) (first_by (entry_at entry.entry) word.now)) }
-    ensures refused { IfErr result (IsRefused (values_by T.flag_value T.word_value T.refusal) (first_by (entry_at entry.entry) word.now)) }
+    ensures first { IfOk result
+        (IsFirst (values_by T.flag_value T.word_value T.refusal)
+        (first_by (entry_at entry.entry) word.now)) }
+    ensures refused { IfErr result
+        (IsRefused (values_by T.flag_value T.word_value T.refusal)
+        (first_by (entry_at entry.entry) word.now)) }
 {
     match entry {
         None => Ok(First::Whole(loose(alloc, word)?)),
@@ -110,9 +117,13 @@ fn first_argument<'a, T: ArgumentValue>(
     word: &[u8],
     rest: &'a [OsBytes],
 ) -> ArgParseResult<(Argument<T>, &'a [OsBytes])>
-    ensures takes { IfOk result (λ found. Takes (values_by T.flag_value T.word_value T.refusal) (first_by (entry_at entry.entry) word.now) rest.now found.0 found.1.now) }
+    ensures takes { IfOk result
+        (λ found. Takes (values_by T.flag_value T.word_value T.refusal)
+        (first_by (entry_at entry.entry) word.now) rest.now found.0 found.1.now) }
     ensures fewer { IfOk result (λ found. length found.1.now ≤ length rest.now) }
-    ensures fails { IfErr result (FailsToTake (values_by T.flag_value T.word_value T.refusal) (first_by (entry_at entry.entry) word.now) rest.now) }
+    ensures fails { IfErr result
+        (FailsToTake (values_by T.flag_value T.word_value T.refusal)
+        (first_by (entry_at entry.entry) word.now) rest.now) }
 {
     match first_by(alloc, entry, word)? {
         First::Whole(argument) => Ok((argument, rest)),
@@ -239,6 +250,9 @@ impl<'a, T: ArgumentValue, S: SearchableArgInfo<T>> Iterator for ArgsIter<'a, T,
 
 /// Each list of words has exactly one reading by a table: the one that `reading` computes.
 pub fn words_have_one_reading<T: ArgumentValue>()
-    ensures is { (dashes : Bool) (table : List (Entry T.Kind)) (words : List Bytes) → Reads dashes table words (reading dashes table words) }
-    ensures only { (dashes : Bool) (table : List (Entry T.Kind)) (words : List Bytes) (r : Reading T.Kind) → Reads dashes table words r → r ≡ reading dashes table words }
+    ensures is { (dashes : Bool) (table : List (Entry T.Kind)) (words : List Bytes)
+        → Reads dashes table words (reading dashes table words) }
+    ensures only { (dashes : Bool) (table : List (Entry T.Kind)) (words : List Bytes)
+        (r : Reading T.Kind)
+        → Reads dashes table words r → r ≡ reading dashes table words }
 {}

@@ -3,6 +3,7 @@
 
 pub mod argument;
 pub mod argument_error;
+pub mod byte_tree;
 pub mod command;
 pub mod cutting;
 pub mod printing;

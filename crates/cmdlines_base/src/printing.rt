@@ -66,7 +66,8 @@ impl<'a, T: IntoArg> Piece<'a, T> {
         path_transformer: &mut F,
     ) -> ArgToStringResult
         requires { F.IsAlwaysCallable path_transformer.old }
-        ensures text { PartText F.FnMut T.word T.path (part_of self.now) path_transformer.old result path_transformer.new }
+        ensures text { PartText F.FnMut T.word T.path (part_of self.now) path_transformer.old result
+            path_transformer.new }
         ensures callable { F.IsAlwaysCallable path_transformer.new }
     {
         match self {
@@ -221,10 +222,13 @@ impl<T: IntoArg> Argument<T> {
 
 /// An argument prints two words where its value stands apart, and else one.
 pub fn arguments_print_one_or_two_words<T: IntoArg>()
-    ensures { (argument : Argument T) → length (argument_words T.word argument) ≡ (if stands_apart argument then 2 else 1) }
+    ensures { (argument : Argument T)
+        → length (argument_words T.word argument) ≡ (if stands_apart argument then 2 else 1) }
 {}
 
 /// The argument that was made of an item prints the words of that item, where its kind prints what it reads.
 pub fn arguments_print_what_was_read<T: ArgumentValue>()
-    ensures { (item : Item T.Kind) (argument : Argument T) → IsOf (values_by T.flag_value T.word_value T.refusal) item argument → is_given_back T.gives_back item ≡ true → argument_words T.word argument ≡ printed item }
+    ensures { (item : Item T.Kind) (argument : Argument T)
+        → IsOf (values_by T.flag_value T.word_value T.refusal) item argument
+        → is_given_back T.gives_back item ≡ true → argument_words T.word argument ≡ printed item }
 {}

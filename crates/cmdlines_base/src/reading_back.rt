@@ -12,10 +12,14 @@ use crate::value::ArgumentValue;
 /// alike, unless it stands behind double dashes or is an empty value of an option whose value may stand either way.
 /// Where double dashes end the options, no entry of the table may fit them.
 pub fn items_read_again<T: ArgumentValue>()
-    ensures { (dashes : Bool) (table : List (Entry T.Kind)) → is_clear table ≡ true → lets_dashes dashes table ≡ true → (words : List Bytes) → AllReadAgainUnlessEmpty dashes table (reading dashes table words).items }
+    ensures { (dashes : Bool) (table : List (Entry T.Kind)) → is_clear table ≡ true
+        → lets_dashes dashes table ≡ true → (words : List Bytes)
+        → AllReadAgainUnlessEmpty dashes table (reading dashes table words).items }
 {}
 
 /// Items that are read again one by one are read again together, whatever words follow.
 pub fn items_read_together<T: ArgumentValue>()
-    ensures { (dashes : Bool) (table : List (Entry T.Kind)) (items : List (Item T.Kind)) → AllReadAgain dashes table items → (rest : List Bytes) → ReadsTogether dashes table items rest }
+    ensures { (dashes : Bool) (table : List (Entry T.Kind)) (items : List (Item T.Kind))
+        → AllReadAgain dashes table items → (rest : List Bytes)
+        → ReadsTogether dashes table items rest }
 {}

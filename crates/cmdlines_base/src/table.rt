@@ -1,11 +1,12 @@
 //! Tables of options, and the search for the longest flag that fits a word.
 
-ghost use Rattle.std.specs.Prelude.{◌≡◌, All, List, [], ◌∷◌, ◌++◌, if◌then◌else◌, nat_le, nat_lt};
+ghost use Rattle.std.specs.Prelude.{◌≡◌, true, All, List, [], ◌∷◌, ◌++◌, if◌then◌else◌, nat_le, nat_lt, max, IsTrue};
 ghost use Rattle.std.specs.List.{list_all};
 ghost use Rattle.std.specs.List.Sorted.{IsNonDecreasingBy};
-ghost use Rattle.cmdlines_base.specs.Nodes.{GoesOn, IsNode, IsPicked, byte_at};
+ghost use Rattle.cmdlines_base.specs.Nodes.{GoesOn, HasByte, IsNode, IsPicked, byte_at};
 ghost use Rattle.std.specs.Option.{option_copied};
 ghost use Rattle.os_files.specs.Bytes.{Bytes};
+ghost use Rattle.cmdlines_base.specs.Reach.{reach};
 ghost use Rattle.cmdlines_base.specs.Table.{Entry, entry_of, entry_at, entries_of, fits, joins_by, has_ascii, rises_to, is_table, longer, all_entries, longest_fit, IsEntryOf, behind};
 
 use crate::argument::{ArgDisposition, Delimiter};
@@ -97,7 +98,7 @@ impl<T: ArgumentValue> ArgInfo<T> {
 }
 
 /// The entry with the longer flag, and the second where they are as long.
-fn longer<'a, T: ArgumentValue>(
+pub(crate) fn longer<'a, T: ArgumentValue>(
     a: Option<&'a ArgInfo<T>>,
     b: Option<&'a ArgInfo<T>>,
 ) -> Option<&'a ArgInfo<T>>
@@ -111,16 +112,19 @@ fn longer<'a, T: ArgumentValue>(
 }
 
 /// Of a node's entries, the best with the one whose flag ends there, where it fits; and the others.
-fn past_ended<'a, T: ArgumentValue>(
+pub(crate) fn past_ended<'a, T: ArgumentValue>(
     best: Option<&'a ArgInfo<T>>,
     node: &'a [ArgInfo<T>],
     depth: usize,
     word: &[u8],
 ) -> (Option<&'a ArgInfo<T>>, &'a [ArgInfo<T>])
     requires node { IsNode depth word.now (entries_of node.now) }
-    ensures fit { longer (entry_at result.0) (longest_fit (entries_of result.1.now) word.now) ≡ longer (entry_at best.entry) (longest_fit (entries_of node.now) word.now) }
+    ensures fit { longer (entry_at result.0) (longest_fit (entries_of result.1.now) word.now)
+        ≡ longer (entry_at best.entry) (longest_fit (entries_of node.now) word.now) }
     ensures node { IsNode depth word.now (entries_of result.1.now) }
     ensures on { All (GoesOn depth) (entries_of result.1.now) }
+    ensures reach { max depth (reach (entries_of result.1.now) word.now)
+        ≡ max depth (reach (entries_of node.now) word.now) }
 {
     match node.split_first() {
         Some((entry, others)) if entry.flag().len() <= depth => {
@@ -135,8 +139,19 @@ fn past_ended<'a, T: ArgumentValue>(
     }
 }
 
+/// Whether all of these entries, whose bytes behind that many rise, have that byte: the first and the last one tell.
+fn all_have<T: ArgumentValue>(entries: &[ArgInfo<T>], depth: usize, byte: u8) -> bool
+    requires rising { IsNonDecreasingBy (λ e. byte_at depth (entry_of e)) entries.now }
+    ensures { result ≡ true → All (HasByte depth byte) (entries_of entries.now) }
+{
+    match (entries.first(), entries.last()) {
+        (Some(first), Some(last)) => { first.byte_at(depth) == byte && last.byte_at(depth) == byte }
+        _ => false,
+    }
+}
+
 /// Of entries whose bytes behind that many rise, those with that byte.
-fn picked<'a, T: ArgumentValue>(
+pub(crate) fn picked<'a, T: ArgumentValue>(
     entries: &'a [ArgInfo<T>],
     depth: usize,
     byte: u8,
@@ -144,6 +159,10 @@ fn picked<'a, T: ArgumentValue>(
     requires rising { IsNonDecreasingBy (λ e. byte_at depth (entry_of e)) entries.now }
     ensures { IsPicked depth byte (entries_of entries.now) (entries_of result.now) }
 {
+    // Most of a table's stretches have one byte more in common.
+    if all_have(entries, depth, byte) {
+        return entries;
+    }
     let start = entries.partition_point(
         |entry: &ArgInfo<T>| -> bool
             ensures { result ≡ nat_lt (byte_at depth (entry_of entry.now)) byte }
@@ -192,13 +211,22 @@ impl<T: ArgumentValue> Model for Table<T> {
 impl<T: ArgumentValue> Table<T> {
     /// The table of these entries; None where their flags don't rise strictly or a delimiter isn't ASCII.
     pub fn new(entries: Vec<ArgInfo<T>>) -> Option<Table<T>>
-        ensures { result ≡ (if is_table (entries_of entries.items) then Some (entries_of entries.items) else None) }
+        ensures { result
+            ≡ (if is_table (entries_of entries.items) then Some (entries_of entries.items) else None) }
     {
         if is_table(entries.as_slice()) {
             Some(Table { entries })
         } else {
             None
         }
+    }
+
+    /// Its entries, whose flags rise.
+    pub(crate) fn entries(&self) -> &[ArgInfo<T>]
+        ensures value { entries_of result.now ≡ self.now }
+        ensures rise { IsTrue (is_table self.now) }
+    {
+        self.entries.as_slice()
     }
 }
 
@@ -260,5 +288,6 @@ impl<T: ArgumentValue, A: SearchableArgInfo<T>, B: SearchableArgInfo<T>> Searcha
 /// The entry of a word in the words of the subject: it stands in one of the tables and fits, no fitting entry has a
 /// longer flag, and none of a later table has the same; and there is none only where nothing fits.
 pub fn entry_has_the_longest_flag<T: ArgumentValue>()
-    ensures { (tables : List (List (Entry T.Kind))) (word : Bytes) → IsEntryOf tables word (longest_fit (all_entries tables) word) }
+    ensures { (tables : List (List (Entry T.Kind))) (word : Bytes)
+        → IsEntryOf tables word (longest_fit (all_entries tables) word) }
 {}

@@ -45,7 +45,8 @@ pub trait IntoArg: Drop {
         path_transformer: &mut F,
     ) -> ArgToStringResult
         requires { F.IsAlwaysCallable path_transformer.old }
-        ensures text { ValueText F.FnMut (path self.now) (word self.now) path_transformer.old result path_transformer.new }
+        ensures text { ValueText F.FnMut (path self.now) (word self.now) path_transformer.old result
+            path_transformer.new }
         ensures callable { F.IsAlwaysCallable path_transformer.new };
 }
 
@@ -109,7 +110,8 @@ pub fn path_to_string<F: FnMut(&[u8]) -> Option<String>>(
     path_transformer: &mut F,
 ) -> ArgToStringResult
     requires { F.IsAlwaysCallable path_transformer.old }
-    ensures text { PathText F.FnMut front.now path.now path_transformer.old result path_transformer.new }
+    ensures text { PathText F.FnMut front.now path.now path_transformer.old result
+        path_transformer.new }
     ensures callable { F.IsAlwaysCallable path_transformer.new }
 {
     let Some(text) = path_transformer(path) else {

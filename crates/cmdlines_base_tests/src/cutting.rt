@@ -9,6 +9,7 @@ use os_files::os_bytes::OsBytes;
 use std::alloc::{AllocError, Global};
 use std::fmt::Write;
 use std::test::Fail;
+use test_kit::texts::is_that;
 
 fn write_argument(text: &mut String, argument: &Argument<Value>) -> Result<(), AllocError> {
     match argument {
@@ -53,77 +54,86 @@ fn cut(alloc: Global, line: &[u8]) -> Result<String, Fail> {
     Ok(written(alloc, ArgsIter::new(alloc, list.as_slice(), &table))?)
 }
 
+/// What stands before and behind the arrow of a row.
+fn parts(row: &str) -> Result<(&str, &str), Fail> {
+    Ok(row.split_once(" => ").ok_or("no arrow")?)
+}
+
+/// Words, and what they are cut into.
+const CUT: &str = "\
+-I inc => -I <inc> CanBeConcatenated(None); \n\
+-Iinc => -I <inc> CanBeSeparated(None); \n\
+-I -c => -I <-c> CanBeConcatenated(None); \n\
+-c -I => -c; -I <> Concatenated(None); \n\
+--sysroot=/s => --sysroot </s> CanBeSeparated(Some(61)); \n\
+--sysroot /s -c => --sysroot </s> CanBeConcatenated(Some(61)); -c; \n\
+--sysroot= => --sysroot <> CanBeSeparated(Some(61)); \n\
+-c --sysroot => -c; cut short; \n\
+--sysroot => cut short; \n\
+--sysroots => unknown <--sysroots>; \n\
+-o a.o => -o <a.o> Separated; \n\
+-oa.o => unknown <-oa.o>; \n\
+-o => cut short; \n\
+-stdlib=libc++ => -stdlib <libc++> Concatenated(Some(61)); \n\
+-stdlib -c => -stdlib <> Concatenated(Some(61)); -c; \n\
+-stdlibc => unknown <-stdlibc>; \n\
+-std= => -std <> Concatenated(Some(61)); \n\
+-std=c99 => -std <c99> Concatenated(Some(61)); \n\
+-O -O2 => -O <> Concatenated(None); -O <2> Concatenated(None); \n\
+-cc - x.c => unknown <-cc>; unknown <->; raw <x.c>; \n\
+\x20=> raw <>; \n\
+-c -- -c => -c; unknown <-->; -c; \n\
+-x c => -x <c> CanBeConcatenated(None); \n\
+-c -x => -c; refused as empty; \n\
+-x  -c => refused as empty; ";
+
 #[test]
 fn words_by_example(rt: HostRuntime) -> Result<(), Fail> {
-    let alloc = rt.alloc();
-    for (line, want) in [
-        ("-I inc", "-I <inc> CanBeConcatenated(None); "),
-        ("-Iinc", "-I <inc> CanBeSeparated(None); "),
-        ("-I -c", "-I <-c> CanBeConcatenated(None); "),
-        ("-c -I", "-c; -I <> Concatenated(None); "),
-        ("--sysroot=/s", "--sysroot </s> CanBeSeparated(Some(61)); "),
-        (
-            "--sysroot /s -c",
-            "--sysroot </s> CanBeConcatenated(Some(61)); -c; ",
-        ),
-        ("--sysroot=", "--sysroot <> CanBeSeparated(Some(61)); "),
-        ("-c --sysroot", "-c; cut short; "),
-        ("--sysroot", "cut short; "),
-        ("--sysroots", "unknown <--sysroots>; "),
-        ("-o a.o", "-o <a.o> Separated; "),
-        ("-oa.o", "unknown <-oa.o>; "),
-        ("-o", "cut short; "),
-        (
-            "-stdlib=libc++",
-            "-stdlib <libc++> Concatenated(Some(61)); ",
-        ),
-        ("-stdlib -c", "-stdlib <> Concatenated(Some(61)); -c; "),
-        ("-stdlibc", "unknown <-stdlibc>; "),
-        ("-std=", "-std <> Concatenated(Some(61)); "),
-        ("-std=c99", "-std <c99> Concatenated(Some(61)); "),
-        (
-            "-O -O2",
-            "-O <> Concatenated(None); -O <2> Concatenated(None); ",
-        ),
-        ("-cc - x.c", "unknown <-cc>; unknown <->; raw <x.c>; "),
-        ("", "raw <>; "),
-        ("-c -- -c", "-c; unknown <-->; -c; "),
-        ("-x c", "-x <c> CanBeConcatenated(None); "),
-        ("-c -x", "-c; refused as empty; "),
-        ("-x  -c", "refused as empty; "),
-    ] {
-        let text = cut(alloc, line.as_bytes())?;
-        assert_eq!(rt; text.as_str(), want, "{line:?}");
-    }
-    for line in [b"-x \xff -c".as_slice(), b"-x\xff -c".as_slice()] {
-        let text = cut(alloc, line)?;
-        assert_eq!(rt; text.as_str(), "no text <\u{fffd}>; ");
+    for row in CUT.lines() {
+        let (line, want) = parts(row)?;
+        is_that(cut(rt.alloc(), line.as_bytes())?.as_str(), want, line)?;
     }
     Ok(())
 }
 
 #[test]
-fn double_dashes_end_the_options(rt: HostRuntime) -> Result<(), Fail> {
-    let alloc = rt.alloc();
+fn words_that_are_no_text_are_told(rt: HostRuntime) -> Result<(), Fail> {
+    for line in [b"-x \xff -c".as_slice(), b"-x\xff -c".as_slice()] {
+        let text = cut(rt.alloc(), line)?;
+        is_that(text.as_str(), "no text <\u{fffd}>; ", "-x and no text")?;
+    }
+    Ok(())
+}
+
+/// Words, what they are cut into where double dashes end the options, and whether such were seen.
+const CUT_TO_DASHES: &str = "\
+-c -- -odd.c => -c; raw <-odd.c>; true\n\
+-- -- -c => raw <-->; raw <-c>; true\n\
+-o -- -- a.c => -o <--> Separated; raw <a.c>; true\n\
+-c -- => -c; true\n\
+-o -- => -o <--> Separated; false\n\
+--c a.c => unknown <--c>; raw <a.c>; false";
+
+/// What words are cut into where double dashes end the options, and whether such were seen.
+fn cut_to_dashes(alloc: Global, line: &str) -> Result<String, Fail> {
     let table = table(alloc)?;
-    for (line, want, seen) in [
-        ("-c -- -odd.c", "-c; raw <-odd.c>; ", true),
-        ("-- -- -c", "raw <-->; raw <-c>; ", true),
-        ("-o -- -- a.c", "-o <--> Separated; raw <a.c>; ", true),
-        ("-c --", "-c; ", true),
-        ("-o --", "-o <--> Separated; ", false),
-        ("--c a.c", "unknown <--c>; raw <a.c>; ", false),
-    ] {
-        let list = words(alloc, line.as_bytes())?;
-        let text = written(
-            alloc,
-            ArgsIter::new(alloc, list.as_slice(), &table).with_double_dashes(),
-        )?;
-        assert_eq!(rt; text.as_str(), want, "{line:?}");
-        let mut arguments = ArgsIter::new(alloc, list.as_slice(), &table).with_double_dashes();
-        assert!(rt; !arguments.seen_double_dashes());
-        while arguments.next().is_some() {}
-        assert_eq!(rt; arguments.seen_double_dashes(), seen, "{line:?}");
+    let list = words(alloc, line.as_bytes())?;
+    let arguments = ArgsIter::new(alloc, list.as_slice(), &table).with_double_dashes();
+    let text = written(alloc, arguments)?;
+    let mut arguments = ArgsIter::new(alloc, list.as_slice(), &table).with_double_dashes();
+    if arguments.seen_double_dashes() {
+        return Err("double dashes before the first word".into());
+    }
+    while arguments.next().is_some() {}
+    let seen = arguments.seen_double_dashes();
+    Ok(format!(in alloc; "{text}{seen}")?)
+}
+
+#[test]
+fn double_dashes_end_the_options(rt: HostRuntime) -> Result<(), Fail> {
+    for row in CUT_TO_DASHES.lines() {
+        let (line, want) = parts(row)?;
+        is_that(cut_to_dashes(rt.alloc(), line)?.as_str(), want, line)?;
     }
     Ok(())
 }
@@ -134,9 +144,12 @@ fn an_error_is_the_end(rt: HostRuntime) -> Result<(), Fail> {
     let table = table(alloc)?;
     let list = words(alloc, b"-x  -c")?;
     let mut arguments = ArgsIter::new(alloc, list.as_slice(), &table);
-    assert!(rt; matches!(arguments.next(), Some(Err(ArgParseError::Other("empty")))));
-    assert!(rt; arguments.next().is_none());
-    assert!(rt; arguments.next().is_none());
+    if !matches!(arguments.next(), Some(Err(ArgParseError::Other("empty")))) {
+        return Err("not refused".into());
+    }
+    if arguments.next().is_some() || arguments.next().is_some() {
+        return Err("words behind an error".into());
+    }
     Ok(())
 }
 
@@ -170,29 +183,43 @@ fn pair(alloc: Global) -> Result<(Table<Value>, Table<Value>), Fail> {
     Ok((table(alloc)?, Table::new(second).ok_or("no table")?))
 }
 
+/// Words, and what they are cut into by both tables.
+const CUT_BY_TWO: &str = "\
+-Ixy => -Ix <y> Concatenated(None); \n\
+-Iy => -I <y> CanBeSeparated(None); \n\
+-std=c99 => -std <c99> Concatenated(Some(61)); \n\
+-stdc99 => -st <dc99> Concatenated(None); \n\
+-O => -O; \n\
+-O2 => -O <2> Concatenated(None); \n\
+-c a => -c <a> Separated; \n\
+-cc => unknown <-cc>; ";
+
+/// The second table's on equal flags, and the first's where the second's doesn't fit.
 #[test]
 fn of_two_tables_the_longer_flag_is_found(rt: HostRuntime) -> Result<(), Fail> {
     let alloc = rt.alloc();
     let pair = pair(alloc)?;
-    assert!(rt; pair.check());
-    for (line, want) in [
-        ("-Ixy", "-Ix <y> Concatenated(None); "),
-        ("-Iy", "-I <y> CanBeSeparated(None); "),
-        ("-std=c99", "-std <c99> Concatenated(Some(61)); "),
-        ("-stdc99", "-st <dc99> Concatenated(None); "),
-        // The second table's on equal flags, and the first's where the second's doesn't fit.
-        ("-O", "-O; "),
-        ("-O2", "-O <2> Concatenated(None); "),
-        ("-c a", "-c <a> Separated; "),
-        ("-cc", "unknown <-cc>; "),
-    ] {
+    for row in CUT_BY_TWO.lines() {
+        let (line, want) = parts(row)?;
         let list = words(alloc, line.as_bytes())?;
         let text = written(alloc, ArgsIter::new(alloc, list.as_slice(), &pair))?;
-        assert_eq!(rt; text.as_str(), want, "{line:?}");
+        is_that(text.as_str(), want, line)?;
     }
-    let none = pair.search(b"x.c");
-    assert!(rt; none.is_none());
-    assert_eq!(rt; pair.0.search(b"-Iy").map(|entry| entry.flag()), Some("-I"));
+    Ok(())
+}
+
+#[test]
+fn a_pair_of_tables_is_searched(rt: HostRuntime) -> Result<(), Fail> {
+    let pair = pair(rt.alloc())?;
+    if !pair.check() {
+        return Err("a table isn't in order".into());
+    }
+    if pair.search(b"x.c").is_some() {
+        return Err("an entry of no flag".into());
+    }
+    if pair.0.search(b"-Iy").map(|entry| entry.flag()) != Some("-I") {
+        return Err("another entry".into());
+    }
     Ok(())
 }
 

@@ -5,4 +5,3 @@ pub mod Tables
 pub mod OwnWords
 pub mod MsvcTable
 pub mod EmbeddedTables
-pub mod Search

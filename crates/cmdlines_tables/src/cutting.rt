@@ -21,7 +21,8 @@ pub fn arguments_of<'a, S: SearchableArgInfo<ArgData>>(
     table: &'a S,
     words: &'a [OsBytes],
 ) -> ArgsIter<'a, ArgData, S>
-    ensures reading { (entries : List (Entry ArgKind)) → reading_at entries (place_of result) ≡ reading (ends_options kind) entries words.now }
+    ensures reading { (entries : List (Entry ArgKind))
+        → reading_at entries (place_of result) ≡ reading (ends_options kind) entries words.now }
     ensures table { table_in result ≡ table.now }
 {
     let arguments = ArgsIter::new(alloc, words, table);

@@ -24,8 +24,10 @@ pub fn own_words_are_read()
 
 /// No flag stands in both tables of Clang, nor in both of Msvc.
 pub fn tables_share_no_flag()
-    ensures clang { (d e : Entry ArgKind) → Contains gnu_entries d → Contains clang_entries e → d.flag ≡ e.flag → ⊥ }
-    ensures msvc { (d e : Entry ArgKind) → Contains msvc_dash_entries d → Contains msvc_slash_entries e → d.flag ≡ e.flag → ⊥ }
+    ensures clang { (d e : Entry ArgKind) → Contains gnu_entries d → Contains clang_entries e
+        → d.flag ≡ e.flag → ⊥ }
+    ensures msvc { (d e : Entry ArgKind) → Contains msvc_dash_entries d
+        → Contains msvc_slash_entries e → d.flag ≡ e.flag → ⊥ }
 {}
 
 /// How many options the tables have.
@@ -40,10 +42,14 @@ pub fn options_are_counted()
 
 /// Only Msvc has options that give the input.
 pub fn only_msvc_gives_inputs_by_options()
-    ensures { (kind : CCompilerKind) → list_any (λ (e : Entry ArgKind). gives_input e.kind) (entries_of kind) ≡ true → kind ≡ CCompilerKind.Msvc }
+    ensures { (kind : CCompilerKind)
+        → list_any (λ (e : Entry ArgKind). gives_input e.kind) (entries_of kind) ≡ true
+        → kind ≡ CCompilerKind.Msvc }
 {}
 
 /// An argument that was cut, in its place, is its item.
 pub fn arguments_are_their_items()
-    ensures { (item : Item ArgKind) (argument : Argument ArgData) (seen : Bool) → IsOf (values_by IsFlag IsValue never) item argument → is_behind item ≡ seen → placed seen argument ≡ item }
+    ensures { (item : Item ArgKind) (argument : Argument ArgData) (seen : Bool)
+        → IsOf (values_by IsFlag IsValue never) item argument → is_behind item ≡ seen
+        → placed seen argument ≡ item }
 {}

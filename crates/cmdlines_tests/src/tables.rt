@@ -3,7 +3,7 @@
 use cmdlines_base::table::{ArgInfo, SearchableArgInfo};
 use cmdlines_base::value::{ArgumentValue, IntoArg};
 use cmdlines_tables::compiler::CCompilerKind;
-use cmdlines_tables::compiler_tables::CCompilerTables;
+use cmdlines_tables::compiler_tables::compiler_tree;
 use cmdlines_tables::embedded_tables::{diab_table, tasking_vx_table};
 use cmdlines_tables::kind::{ArgKind, OptionList};
 use cmdlines_tables::language::Language;
@@ -81,7 +81,7 @@ fn tables_of_all_compilers(rt: HostRuntime) -> Result<(), Fail> {
         CCompilerKind::Msvc,
         CCompilerKind::TaskingVX,
     ] {
-        let tables = CCompilerTables::new(rt.alloc(), kind)?;
+        let tables = compiler_tree(rt.alloc(), kind)?;
         assert!(rt; tables.check(), "{kind:?}");
         assert!(rt; tables.search(b"-c").is_some(), "{kind:?}");
         assert!(rt; tables.search(b"foo.c").is_none(), "{kind:?}");
@@ -120,7 +120,7 @@ fn what_is_found(rt: HostRuntime) -> Result<(), Fail> {
     let (gnu, own, both) = (
         gnu_table(alloc)?,
         clang_table(alloc)?,
-        CCompilerTables::new(alloc, CCompilerKind::Clang)?,
+        compiler_tree(alloc, CCompilerKind::Clang)?,
     );
     assert!(rt; gnu.check());
     assert!(rt; own.check());
@@ -142,6 +142,23 @@ fn what_is_found(rt: HostRuntime) -> Result<(), Fail> {
         assert_eq!(rt; gnu.search(bytes).map(ArgInfo::flag), by_gnu, "{word}");
         assert_eq!(rt; own.search(bytes).map(ArgInfo::flag), by_own, "{word}");
         assert_eq!(rt; both.search(bytes).map(ArgInfo::flag), by_both, "{word}");
+    }
+    Ok(())
+}
+
+/// One step for the root, and one for each byte of the longest beginning that begins a flag.
+#[test]
+fn nodes_that_are_looked_at(rt: HostRuntime) -> Result<(), Fail> {
+    for (kind, word, flag, steps) in [
+        (CCompilerKind::Msvc, "/MP4", Some("/MP"), 4),
+        (CCompilerKind::Msvc, "", None, 1),
+        (CCompilerKind::Gcc, "-stdlib=libc++", Some("-stdlib"), 8),
+        (CCompilerKind::Gcc, "foo.c", None, 1),
+    ] {
+        let tree = compiler_tree(rt.alloc(), kind)?;
+        let (found, counted) = tree.search_counted(word.as_bytes());
+        assert_eq!(rt; found.map(ArgInfo::flag), flag, "{word}");
+        assert_eq!(rt; counted, steps, "{word}");
     }
     Ok(())
 }

@@ -115,7 +115,8 @@ pub fn includes_of<H: HashState, F: Files>(
     names: &[OsBytes],
     files: &mut F,
 ) -> Result<Option<Listed<IncludeEntry>>, ParseFault>
-    ensures includes { let place = place_with dir.now (F.tree files.old) (local_day zone.now moment) in
+    ensures includes { let place = place_with dir.now (F.tree files.old) (local_day zone.now moment)
+        in
         IfOk result (λ list. list ≡ includes_of place H.digest_of names.now) }
     ensures cause { IfErr result (CauseOf (FailsOn F.tree F.failed F.fails_on files.old files.new)) }
     ensures tree { F.tree files.new ≡ F.tree files.old }

@@ -114,7 +114,8 @@ impl PreprocessorCacheEntry {
     ///
     /// `UnknownFormat` where another byte stands first, and `Deserialization` where behind it stands what is written for no record.
     pub fn read(alloc: Global, bytes: &[u8]) -> Result<PreprocessorCacheEntry, Error>
-        ensures found { IfOk result (λ entry. IsRecord entry.results
+        ensures found { IfOk result
+            (λ entry. IsRecord entry.results
             × ((bytes.now ≡ record_bytes entry.results) ⊎ ((bytes.now ≡ []) × (entry.results ≡ [])))) }
         ensures only { (results : List CachedResult) → IsRecord results →
             bytes.now ≡ record_bytes results →

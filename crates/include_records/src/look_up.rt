@@ -31,11 +31,14 @@ impl PreprocessorCacheEntry {
         zone: &Zone,
         files: &mut F,
     ) -> Result<Option<KeyText>, ParseFault>
-        ensures last { let place = place_with dir.now (F.tree files.old) (local_day zone.now moment) in
+        ensures last { let place = place_with dir.now (F.tree files.old) (local_day zone.now moment)
+            in
             IfOk result (λ key. key ≡ last_there H.digest_of place self.now.results) }
-        ensures found { let place = place_with dir.now (F.tree files.old) (local_day zone.now moment) in
+        ensures found { let place = place_with dir.now (F.tree files.old)
+            (local_day zone.now moment) in
             IfOk result (LooksUp H.digest_of place self.now.results) }
-        ensures cause { IfErr result (CauseOf (FailsOn F.tree F.failed F.fails_on files.old files.new)) }
+        ensures cause { IfErr result
+            (CauseOf (FailsOn F.tree F.failed F.fails_on files.old files.new)) }
         ensures tree { F.tree files.new ≡ F.tree files.old }
         ensures steady { OnOk result (F.failed files.new ≡ F.failed files.old) }
         ensures memory { IsErrOf result ParseFault.Memory →
@@ -54,7 +57,8 @@ impl PreprocessorCacheEntry {
     ) -> Result<Option<KeyText>, ParseFault>
         ensures last { let place = place_with dir.now (F.tree files.old) day in
             IfOk result (λ key. key ≡ last_there H.digest_of place self.now.results) }
-        ensures cause { IfErr result (CauseOf (FailsOn F.tree F.failed F.fails_on files.old files.new)) }
+        ensures cause { IfErr result
+            (CauseOf (FailsOn F.tree F.failed F.fails_on files.old files.new)) }
         ensures tree { F.tree files.new ≡ F.tree files.old }
         ensures steady { OnOk result (F.failed files.new ≡ F.failed files.old) }
         ensures memory { IsErrOf result ParseFault.Memory →

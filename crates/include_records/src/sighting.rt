@@ -124,7 +124,8 @@ impl Sightings {
         ensures there { let place = place_with dir.now (F.tree files.old) day in
             IfOk result (λ there. there ≡ is_there place H.digest_of include.now) }
         ensures seen { AreTrue H.digest_of (place_with dir.now (F.tree files.old) day) self.new }
-        ensures cause { IfErr result (CauseOf (FailsOn F.tree F.failed F.fails_on files.old files.new)) }
+        ensures cause { IfErr result
+            (CauseOf (FailsOn F.tree F.failed F.fails_on files.old files.new)) }
         ensures tree { F.tree files.new ≡ F.tree files.old }
         ensures steady { OnOk result (F.failed files.new ≡ F.failed files.old) }
         ensures memory { IsErrOf result ParseFault.Memory →
@@ -152,7 +153,8 @@ impl Sightings {
         ensures there { let place = place_with dir.now (F.tree files.old) day in
             IfOk result (λ there. there ≡ are_there place H.digest_of includes.now) }
         ensures seen { AreTrue H.digest_of (place_with dir.now (F.tree files.old) day) self.new }
-        ensures cause { IfErr result (CauseOf (FailsOn F.tree F.failed F.fails_on files.old files.new)) }
+        ensures cause { IfErr result
+            (CauseOf (FailsOn F.tree F.failed F.fails_on files.old files.new)) }
         ensures tree { F.tree files.new ≡ F.tree files.old }
         ensures steady { OnOk result (F.failed files.new ≡ F.failed files.old) }
         ensures memory { IsErrOf result ParseFault.Memory →

@@ -14,7 +14,8 @@ impl FileTime {
     /// This moment, and `None` where the nanoseconds make up a second or more.
     pub fn new(seconds: i64, nanoseconds: u32) -> Option<FileTime>
         ensures is_some { IsSome result ↔ (nanoseconds < 1000000000) }
-        ensures value { IfSome result (λ time. (time.seconds ≡ seconds) × (time.nanoseconds ≡ nanoseconds)) }
+        ensures value { IfSome result
+            (λ time. (time.seconds ≡ seconds) × (time.nanoseconds ≡ nanoseconds)) }
     {
         if nanoseconds < 1_000_000_000 {
             Some(FileTime {

@@ -54,42 +54,48 @@ pub trait Files {
     fn read(&mut self, alloc: Global, path: &OsBytes) -> Result<Option<OsBytes>, FileFail>
         ensures answer { IfOk result (λ found. found ≡ contents_at (tree self.old) path.now) }
         ensures tree { tree self.new ≡ tree self.old }
-        ensures device { IsErrOf result FileFail.Device → (failed self.new ≡ ticked (failed self.old)) × fails_on self.old path.now self.new }
+        ensures device { IsErrOf result FileFail.Device
+            → (failed self.new ≡ ticked (failed self.old)) × fails_on self.old path.now self.new }
         ensures steady { (IsErrOf result FileFail.Device → ⊥) → failed self.new ≡ failed self.old };
 
     /// Whether a regular file is there.
     fn is_file(&mut self, alloc: Global, path: &OsBytes) -> Result<bool, FileFail>
         ensures answer { IfOk result (λ found. found ≡ is_file_at (tree self.old) path.now) }
         ensures tree { tree self.new ≡ tree self.old }
-        ensures device { IsErrOf result FileFail.Device → (failed self.new ≡ ticked (failed self.old)) × fails_on self.old path.now self.new }
+        ensures device { IsErrOf result FileFail.Device
+            → (failed self.new ≡ ticked (failed self.old)) × fails_on self.old path.now self.new }
         ensures steady { (IsErrOf result FileFail.Device → ⊥) → failed self.new ≡ failed self.old };
 
     /// Whether a folder is there.
     fn is_dir(&mut self, alloc: Global, path: &OsBytes) -> Result<bool, FileFail>
         ensures answer { IfOk result (λ found. found ≡ is_dir_at (tree self.old) path.now) }
         ensures tree { tree self.new ≡ tree self.old }
-        ensures device { IsErrOf result FileFail.Device → (failed self.new ≡ ticked (failed self.old)) × fails_on self.old path.now self.new }
+        ensures device { IsErrOf result FileFail.Device
+            → (failed self.new ≡ ticked (failed self.old)) × fails_on self.old path.now self.new }
         ensures steady { (IsErrOf result FileFail.Device → ⊥) → failed self.new ≡ failed self.old };
 
     /// Whether anything is there.
     fn exists(&mut self, alloc: Global, path: &OsBytes) -> Result<bool, FileFail>
         ensures answer { IfOk result (λ found. found ≡ exists_at (tree self.old) path.now) }
         ensures tree { tree self.new ≡ tree self.old }
-        ensures device { IsErrOf result FileFail.Device → (failed self.new ≡ ticked (failed self.old)) × fails_on self.old path.now self.new }
+        ensures device { IsErrOf result FileFail.Device
+            → (failed self.new ≡ ticked (failed self.old)) × fails_on self.old path.now self.new }
         ensures steady { (IsErrOf result FileFail.Device → ⊥) → failed self.new ≡ failed self.old };
 
     /// The canonical name of what is there, and `None` where nothing is.
     fn canonical(&mut self, alloc: Global, path: &OsBytes) -> Result<Option<OsBytes>, FileFail>
         ensures answer { IfOk result (λ found. found ≡ canonical_at (tree self.old) path.now) }
         ensures tree { tree self.new ≡ tree self.old }
-        ensures device { IsErrOf result FileFail.Device → (failed self.new ≡ ticked (failed self.old)) × fails_on self.old path.now self.new }
+        ensures device { IsErrOf result FileFail.Device
+            → (failed self.new ≡ ticked (failed self.old)) × fails_on self.old path.now self.new }
         ensures steady { (IsErrOf result FileFail.Device → ⊥) → failed self.new ≡ failed self.old };
 
     /// The metadata of what is there, and `None` where nothing is.
     fn metadata(&mut self, alloc: Global, path: &OsBytes) -> Result<Option<Metadata>, FileFail>
         ensures answer { IfOk result (λ found. found ≡ metadata_at (tree self.old) path.now) }
         ensures tree { tree self.new ≡ tree self.old }
-        ensures device { IsErrOf result FileFail.Device → (failed self.new ≡ ticked (failed self.old)) × fails_on self.old path.now self.new }
+        ensures device { IsErrOf result FileFail.Device
+            → (failed self.new ≡ ticked (failed self.old)) × fails_on self.old path.now self.new }
         ensures steady { (IsErrOf result FileFail.Device → ⊥) → failed self.new ≡ failed self.old };
 
     /// The failure tick.

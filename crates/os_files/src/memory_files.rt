@@ -64,7 +64,10 @@ impl MemoryFiles {
     /// Keeps this file under this name, in the place of what the name had.
     pub fn insert(&mut self, path: OsBytes, file: MemoryFile) -> Result<(), AllocError>
         ensures ok { OnOk result (self.new ≡ with_file self.old path file) }
-        ensures found { OnOk result ((name : Bytes) → node_at self.new name ≡ (if bytes_eq path name then Some (node_of path file) else node_at self.old name)) }
+        ensures found { OnOk result
+            ((name : Bytes)
+            → node_at self.new name
+            ≡ (if bytes_eq path name then Some (node_of path file) else node_at self.old name)) }
         ensures err { OnErr result (self.new ≡ self.old) }
     {
         self.files.insert(path, file)?;

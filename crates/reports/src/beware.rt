@@ -1,9 +1,9 @@
 //! Options that the tables don't know, and under which a kept output may be incomplete or wrong. docs/REPORT.md tells what each does.
 
-use crate::deciding::Verdict;
 use cmdlines::compiler_arguments::CompilerArguments;
 use cmdlines_tables::compiler::CCompilerKind;
 use os_files::os_bytes::OsBytes;
+use recorded_builds::deciding::Verdict;
 use std::alloc::{AllocError, Global};
 
 /// Options that stand alone.
@@ -18,7 +18,7 @@ const WHOLE: [&str; 7] = [
 ];
 
 /// What options begin with that go on.
-const FRONTS: [&str; 11] = [
+const FRONTS: [&str; 14] = [
     "-save-temps=",
     "-gsplit-dwarf=",
     "-fcallgraph-info=",
@@ -30,10 +30,20 @@ const FRONTS: [&str; 11] = [
     "-fpass-plugin=",
     "-fcs-profile-use=",
     "-fprofile-instrument-use-path=",
+    "-foptimization-record-file=",
+    "-aux-info=",
+    "-MJ",
 ];
+
+/// What options begin with that write a file where they name one behind `=`.
+const NAMING_FRONT: &str = "-fopt-info";
 
 /// The option that a word is, as the table writes it, where it is one to beware of.
 fn option_of(word: &[u8]) -> Option<&'static str> {
+    // Most words of a command line are definitions and folders.
+    if word.starts_with(b"-D") || word.starts_with(b"-I") {
+        return None;
+    }
     for option in WHOLE {
         if word == option.as_bytes() {
             return Some(option);
@@ -43,6 +53,9 @@ fn option_of(word: &[u8]) -> Option<&'static str> {
         if word.starts_with(front.as_bytes()) {
             return Some(front);
         }
+    }
+    if word.starts_with(NAMING_FRONT.as_bytes()) && word.contains(&b'=') {
+        return Some(NAMING_FRONT);
     }
     None
 }

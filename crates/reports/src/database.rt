@@ -6,11 +6,11 @@
 //!
 //! All other members are passed over unread, and of a repeated member the last one counts.
 
-use crate::entry::Entry;
-use crate::executables::{compiler_of, is_wrapper};
 use crate::fault::ReportFault;
 use os_files::listed::Listed;
 use os_files::os_bytes::OsBytes;
+use recorded_builds::entry::Entry;
+use recorded_builds::executables::{compiler_of, is_wrapper};
 use response_texts::gnu::split_gnu_response_file_args;
 use serde_json::{Map, Value};
 use std::alloc::{AllocError, Global};

@@ -1,13 +1,13 @@
 //! The files that command lines name, read from the disk once, before anything is decided.
 
-use crate::deciding::Compilers;
-use crate::entry::Entry;
-use crate::executables::EntryCompiler;
 use crate::fault::ReportFault;
-use crate::snapshot::Asked;
 use os_files::file_time::FileTime;
 use os_files::memory_files::MemoryFile;
 use os_files::os_bytes::OsBytes;
+use recorded_builds::deciding::Compilers;
+use recorded_builds::entry::Entry;
+use recorded_builds::executables::EntryCompiler;
+use recorded_builds::snapshot::Asked;
 use std::alloc::Global;
 use std::io::{ErrorKind, Read};
 use std::rt::Files;

@@ -3,16 +3,12 @@
 
 mod beware;
 mod database;
-pub mod deciding;
 mod disk;
-pub mod entry;
-pub mod executables;
 mod fault;
 mod lines;
 pub mod program;
 mod report;
 mod request_texts;
-pub mod snapshot;
 mod tally;
 mod texts;
 mod usage;

@@ -1,15 +1,16 @@
 //! Command lines as text, one a line.
 
-use crate::deciding::Compilers;
-use crate::entry::Entry;
-use crate::executables::EntryCompiler;
 use crate::fault::ReportFault;
-use crate::request_texts::{Detail, reason_of, write_compile, write_kept, write_preprocess};
+use crate::request_texts::{Detail, write_compile, write_kept, write_preprocess};
 use crate::usage::Shown;
 use os_files::file_time::FileTime;
 use os_files::listed::Listed;
 use os_files::memory_files::{MemoryFile, MemoryFiles};
 use os_files::os_bytes::OsBytes;
+use recorded_builds::deciding::Compilers;
+use recorded_builds::entry::Entry;
+use recorded_builds::executables::EntryCompiler;
+use recorded_builds::reasons::reason_of;
 use response_texts::gnu::split_gnu_response_file_args;
 use std::alloc::{AllocError, Global};
 

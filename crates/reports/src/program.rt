@@ -1,7 +1,6 @@
 //! The program: it reads command lines, and prints what each comes to.
 
 use crate::database::read_database;
-use crate::deciding::{Compilers, decide_all};
 use crate::disk::snapshot_for;
 pub use crate::fault::ReportFault;
 use crate::fault::fault_of;
@@ -9,6 +8,7 @@ use crate::lines::text_of_lines;
 use crate::report::{Shape, report_text};
 use crate::request_texts::Detail;
 use crate::usage::{HELP, Usage, usage_of};
+use recorded_builds::deciding::{Compilers, decide_all};
 use std::alloc::Global;
 use std::io::{Read, Write};
 use std::rt::Files;

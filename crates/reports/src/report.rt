@@ -1,12 +1,14 @@
 //! The report on a database: a line for each entry, and a summary.
 
 use crate::beware::options_to_beware_of;
-use crate::deciding::{Compilers, Decided, Verdict};
-use crate::entry::Entry;
 use crate::fault::ReportFault;
-use crate::request_texts::{Detail, reason_of, write_compile, write_kept, write_preprocess};
+use crate::request_texts::{Detail, write_compile, write_kept, write_preprocess};
 use crate::tally::Tally;
 use cmdlines::compiler_arguments::CompilerArguments;
+use recorded_builds::counting::count_of_kept;
+use recorded_builds::deciding::{Compilers, Decided, Verdict};
+use recorded_builds::entry::Entry;
+use recorded_builds::reasons::reason_of;
 use std::alloc::{AllocError, Global};
 use std::fmt::Write;
 
@@ -18,11 +20,9 @@ pub(crate) struct Shape {
     pub(crate) commands: bool,
 }
 
-/// What is counted of the entries.
+/// What is noted of the entries.
 #[derive(Drop)]
 struct Summary {
-    entries: u64,
-    kept: u64,
     reasons: Tally,
     blockers: Tally,
     beware: Tally,
@@ -41,16 +41,14 @@ fn blocker_of(alloc: Global, verdict: &Verdict) -> Result<Option<String>, AllocE
 impl Summary {
     fn new(alloc: Global) -> Summary {
         Summary {
-            entries: 0,
-            kept: 0,
             reasons: Tally::new(alloc),
             blockers: Tally::new(alloc),
             beware: Tally::new(alloc),
         }
     }
 
-    /// Counts the entry of this number.
-    fn count(
+    /// Notes the entry of this number.
+    fn note(
         &mut self,
         alloc: Global,
         number: u64,
@@ -58,10 +56,8 @@ impl Summary {
         reason: &Option<String>,
         beware: &[&'static str],
     ) -> Result<(), AllocError> {
-        self.entries = self.entries.saturating_add(1);
-        match reason {
-            Some(reason) => self.reasons.note(reason.as_str(), number)?,
-            None => self.kept = self.kept.saturating_add(1),
+        if let Some(reason) = reason {
+            self.reasons.note(reason.as_str(), number)?;
         }
         if let Some(flag) = blocker_of(alloc, verdict)? {
             self.blockers.note(flag.as_str(), number)?;
@@ -72,8 +68,9 @@ impl Summary {
         Ok(())
     }
 
-    fn write(&self, text: &mut String) -> Result<(), AllocError> {
-        let (entries, kept) = (self.entries, self.kept);
+    /// Adds the summary of what was decided on the entries.
+    fn write(&self, text: &mut String, decided: &[Decided]) -> Result<(), AllocError> {
+        let (entries, kept) = (decided.len(), count_of_kept(decided));
         write!(text, "\nentries {entries}\nkept {kept}\n")?;
         self.reasons.write(text, "passed through")?;
         self.blockers.write(text, "without direct mode")?;
@@ -121,7 +118,7 @@ fn write_marks(
     text.push('\n')
 }
 
-/// Adds the lines of the entry of this number, and counts it.
+/// Adds the lines of the entry of this number, and notes it.
 fn write_entry(
     alloc: Global,
     text: &mut String,
@@ -146,7 +143,7 @@ fn write_entry(
     if shape.commands {
         write_commands(alloc, text, compilers, verdict)?;
     }
-    summary.count(alloc, number, verdict, &reason, beware.as_slice())?;
+    summary.note(alloc, number, verdict, &reason, beware.as_slice())?;
     Ok(())
 }
 
@@ -172,6 +169,6 @@ pub(crate) fn report_text(
             decided,
         )?;
     }
-    summary.write(&mut text)?;
+    summary.write(&mut text, decided)?;
     Ok(text)
 }

@@ -1,6 +1,5 @@
-//! What words come to, as text: why they are passed through, or what they ask for.
+//! What words that are kept ask for, as text.
 
-use crate::deciding::{Compilers, Verdict};
 use crate::fault::ReportFault;
 use crate::texts::{write_list, write_words};
 use cmdlines::compiler_arguments::CompilerArguments;
@@ -10,6 +9,7 @@ use cmdlines_base::argument::Argument;
 use cmdlines_tables::compiler::{CCompilerKind, ColorMode};
 use os_files::listed::Listed;
 use os_files::os_bytes::OsBytes;
+use recorded_builds::deciding::{Compilers, Verdict};
 use rustc_options::data::ArgData;
 use rustkeys_base::parsed as rust;
 use std::alloc::{AllocError, Global};
@@ -128,40 +128,6 @@ fn write_rust_request(
         write_rust_lists(text, parsed)?;
     }
     Ok(())
-}
-
-/// Why words are passed through.
-fn pass_text(
-    alloc: Global,
-    reason: &'static str,
-    more: &Option<String>,
-) -> Result<String, AllocError> {
-    match more {
-        None => String::from_str(alloc, reason),
-        Some(more) => format!(in alloc; "{reason}: {more}"),
-    }
-}
-
-/// Why the words of a verdict are passed through, and nothing where what they ask for is kept.
-pub(crate) fn reason_of(
-    alloc: Global,
-    verdict: &Verdict,
-    executable: &OsBytes,
-) -> Result<Option<String>, AllocError> {
-    match verdict {
-        Verdict::C(_, CompilerArguments::Ok(_)) | Verdict::Rustc(CompilerArguments::Ok(_)) => Ok(
-            None,
-        ),
-        Verdict::C(_, CompilerArguments::NotCompilation)
-        | Verdict::Rustc(CompilerArguments::NotCompilation) => {
-            Ok(Some(String::from_str(alloc, "not a compilation")?))
-        }
-        Verdict::C(_, CompilerArguments::CannotCache(reason, more))
-        | Verdict::Rustc(CompilerArguments::CannotCache(reason, more)) => {
-            Ok(Some(pass_text(alloc, reason, more)?))
-        }
-        Verdict::Unknown => Ok(Some(format!(in alloc; "unknown compiler {executable}")?)),
-    }
 }
 
 /// Adds what the words of a verdict ask for, where that is kept.

@@ -34,8 +34,11 @@ impl Chain {
 
     /// Opens the file of that name.
     pub(crate) fn open(&mut self, name: &OsBytes) -> Result<(), AllocError>
-        ensures opened { OnOk result ((other : Bytes) → is_open self.new other ≡ (bytes_eq name.now other || is_open self.old other)) }
-        ensures unchanged { OnErr result ((other : Bytes) → is_open self.new other ≡ is_open self.old other) }
+        ensures opened { OnOk result
+            ((other : Bytes)
+            → is_open self.new other ≡ (bytes_eq name.now other || is_open self.old other)) }
+        ensures unchanged { OnErr result
+            ((other : Bytes) → is_open self.new other ≡ is_open self.old other) }
     {
         let name = name.clone()?;
         self.open.insert(name)?;
@@ -44,7 +47,8 @@ impl Chain {
 
     /// Closes it again.
     pub(crate) fn close(&mut self, name: &OsBytes)
-        ensures { (other : Bytes) → is_open self.new other ≡ (not (bytes_eq name.now other) && is_open self.old other) }
+        ensures { (other : Bytes)
+            → is_open self.new other ≡ (not (bytes_eq name.now other) && is_open self.old other) }
     {
         self.open.remove(name);
     }

@@ -27,7 +27,10 @@ fn expand_onto<F: Files>(
     words: &[OsBytes],
     out: &mut Vec<OsBytes>,
 ) -> Result<(), ParseFault>
-    ensures words { OnOk result (out.new.items ≡ out.old.items ++ expanded style dir.now (closed_in (is_open chain.old) (F.tree files.old)) words.now) }
+    ensures words { OnOk result
+        (out.new.items
+        ≡ out.old.items ++ expanded style dir.now (closed_in (is_open chain.old) (F.tree files.old))
+        words.now) }
     ensures chain { OnOk result ((name : Bytes) → is_open chain.new name ≡ is_open chain.old name) }
     ensures cause { IfErr result (CauseOf (FailsOn F.tree F.failed F.fails_on files.old files.new)) }
     ensures tree { F.tree files.new ≡ F.tree files.old }

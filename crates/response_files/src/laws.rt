@@ -16,5 +16,6 @@ pub fn expansion_is_recursion()
 
 /// Words of which none names a file of words stay as they are.
 pub fn other_words_stay()
-    ensures { (style : Style) (dir : Bytes) (files : Tree) (words : List Bytes) → list_any (names_file style) words ≡ false → expanded style dir files words ≡ words }
+    ensures { (style : Style) (dir : Bytes) (files : Tree) (words : List Bytes)
+        → list_any (names_file style) words ≡ false → expanded style dir files words ≡ words }
 {}

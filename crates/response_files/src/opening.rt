@@ -31,7 +31,9 @@ pub(crate) fn opened_by<F: Files>(
     files: &mut F,
     word: &OsBytes,
 ) -> Result<Option<Opened>, ParseFault>
-    ensures opened { IfOk result (λ found. found ≡ opened_by style dir.now (closed_in (is_open chain.now) (F.tree files.old)) word.now) }
+    ensures opened { IfOk result
+        (λ found. found
+        ≡ opened_by style dir.now (closed_in (is_open chain.now) (F.tree files.old)) word.now) }
     ensures cause { IfErr result (CauseOf (FailsOn F.tree F.failed F.fails_on files.old files.new)) }
     ensures tree { F.tree files.new ≡ F.tree files.old }
     ensures steady { OnOk result (F.failed files.new ≡ F.failed files.old) }

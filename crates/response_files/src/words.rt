@@ -42,7 +42,9 @@ impl<S: Opens> ExpandedWords<S> {
         words: &[OsBytes],
         files: &mut F,
     ) -> ExpandedWords<S>
-        ensures gives { Gives (items_left result) (expanded S.style dir.now (F.tree files.old) words.now) (FailsOn F.tree F.failed F.fails_on files.old files.new) }
+        ensures gives { Gives (items_left result)
+            (expanded S.style dir.now (F.tree files.old) words.now)
+            (FailsOn F.tree F.failed F.fails_on files.old files.new) }
         ensures tree { F.tree files.new ≡ F.tree files.old }
         // No device failed where words come, nor where memory was refused.
         ensures steady { AllByRecursion IsOk (items_left result) →

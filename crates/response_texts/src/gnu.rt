@@ -40,7 +40,9 @@ struct Scanner {
 impl Scanner {
     /// The argument ends here, if one has begun.
     fn end_argument(&mut self, alloc: Global) -> Result<(), AllocError>
-        ensures arguments { OnOk result (self.new.arguments.items ≡ self.old.arguments.items ++ option_to_list (begun_by self.old.current.items)) }
+        ensures arguments { OnOk result
+            (self.new.arguments.items
+            ≡ self.old.arguments.items ++ option_to_list (begun_by self.old.current.items)) }
         ensures current { OnOk result (self.new.current.items ≡ []) }
         ensures quote { self.new.quote ≡ self.old.quote }
         ensures escaped { self.new.escaped ≡ self.old.escaped }
@@ -54,9 +56,12 @@ impl Scanner {
 
     /// Takes the next byte of the text.
     fn feed(&mut self, alloc: Global, byte: u8) -> Result<(), AllocError>
-        ensures { OnOk result ((rest : Bytes) →
-            arguments_with self.new.arguments.items self.new.current.items (gnu_marks self.new.escaped self.new.quote rest)
-            ≡ arguments_with self.old.arguments.items self.old.current.items (gnu_marks self.old.escaped self.old.quote (byte ∷ rest))) }
+        ensures { OnOk result
+            ((rest : Bytes)
+            → arguments_with self.new.arguments.items self.new.current.items
+            (gnu_marks self.new.escaped self.new.quote rest)
+            ≡ arguments_with self.old.arguments.items self.old.current.items
+            (gnu_marks self.old.escaped self.old.quote (byte ∷ rest))) }
     {
         if self.escaped {
             self.escaped = false;
@@ -93,7 +98,8 @@ impl Scanner {
 /// next byte as it is. None of them is empty.
 pub fn split_gnu_response_file_args(alloc: Global, text: &[u8]) -> Result<Vec<OsBytes>, AllocError>
     ensures arguments { IfOk result (λ arguments. IsGnuText text.now arguments.items) }
-    ensures full { IfOk result (λ arguments. AllByRecursion (λ (argument : Bytes). 0 < length argument) arguments.items) }
+    ensures full { IfOk result
+        (λ arguments. AllByRecursion (λ (argument : Bytes). 0 < length argument) arguments.items) }
     ensures value { IfOk result (λ arguments. arguments.items ≡ gnu_arguments text.now) }
 {
     // A law, which costs nothing: what follows from it is said above.

@@ -30,7 +30,8 @@ fn push_backslashes(bytes: &mut Vec<u8>, count: usize) -> Result<(), AllocError>
 fn first_argument(alloc: Global, text: &[u8]) -> Result<Option<(OsBytes, &[u8])>, AllocError>
     ensures argument { IfOk result (λ found. MatchOption found (msvc_arguments text.now ≡ [])
         (λ first. msvc_arguments text.now ≡ first.0 ∷ msvc_arguments first.1.now)) }
-    ensures shorter { IfOk result (λ found. MatchOption found (Unit {0}) (λ first. length first.1.now < length text.now)) }
+    ensures shorter { IfOk result
+        (λ found. MatchOption found (Unit {0}) (λ first. length first.1.now < length text.now)) }
 {
     let mut argument = Vec::new(alloc);
     let mut begun = false;

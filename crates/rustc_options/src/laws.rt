@@ -17,16 +17,24 @@ ghost use Rattle.rustc_options.specs.declared.kind.ArgKind.TheVariants.{CrateTyp
 /// kind that is meant where the word names none, and crate types each once, in the order of their bytes, and `rlib` for
 /// `lib`.
 pub fn words_are_printed_again()
-    ensures word { (kind : ArgKind) (word : Bytes) → prints_its_word kind ≡ true → refusal kind word ≡ None → word_of (data_of kind word) ≡ word }
-    ensures library { (word back : Bytes) → behind_equals word ≡ Some back → word_of (data_of LinkLibrary word) ≡ word }
-    ensures bare_library { (word : Bytes) → behind_equals word ≡ None → word_of (data_of LinkLibrary word) ≡ codes "dylib=" ++ word }
-    ensures path { (word back : Bytes) → behind_equals word ≡ Some back → word_of (data_of LinkPath word) ≡ word }
-    ensures bare_path { (word : Bytes) → behind_equals word ≡ None → word_of (data_of LinkPath word) ≡ codes "all=" ++ word }
-    ensures crate_types { (word : Bytes) → word_of (data_of CrateType word) ≡ joined_by_commas (in_order (map printed_type (between_commas word))) }
+    ensures word { (kind : ArgKind) (word : Bytes) → prints_its_word kind ≡ true
+        → refusal kind word ≡ None → word_of (data_of kind word) ≡ word }
+    ensures library { (word back : Bytes) → behind_equals word ≡ Some back
+        → word_of (data_of LinkLibrary word) ≡ word }
+    ensures bare_library { (word : Bytes) → behind_equals word ≡ None
+        → word_of (data_of LinkLibrary word) ≡ codes "dylib=" ++ word }
+    ensures path { (word back : Bytes) → behind_equals word ≡ Some back
+        → word_of (data_of LinkPath word) ≡ word }
+    ensures bare_path { (word : Bytes) → behind_equals word ≡ None
+        → word_of (data_of LinkPath word) ≡ codes "all=" ++ word }
+    ensures crate_types { (word : Bytes)
+        → word_of (data_of CrateType word)
+        ≡ joined_by_commas (in_order (map printed_type (between_commas word))) }
 {}
 
 /// Words in order rise strictly, and they are the words that were given.
 pub fn words_in_order_are_a_set()
     ensures rising { (words : List Bytes) → IsStrictlySortedBy (slice_cmp nat_cmp) (in_order words) }
-    ensures same { (words : List Bytes) (word : Bytes) → list_any (bytes_eq word) (in_order words) ≡ list_any (bytes_eq word) words }
+    ensures same { (words : List Bytes) (word : Bytes)
+        → list_any (bytes_eq word) (in_order words) ≡ list_any (bytes_eq word) words }
 {}

@@ -212,7 +212,8 @@ fn behind_equals_to_string<F: FnMut(&[u8]) -> Option<String>>(
     path_transformer: &mut F,
 ) -> ArgToStringResult
     requires { F.IsAlwaysCallable path_transformer.old }
-    ensures text { PathText F.FnMut (with_equals name.now []) path.now path_transformer.old result path_transformer.new }
+    ensures text { PathText F.FnMut (with_equals name.now []) path.now path_transformer.old result
+        path_transformer.new }
     ensures callable { F.IsAlwaysCallable path_transformer.new }
 {
     let front = with_equals(alloc, name.as_bytes(), &[])?;

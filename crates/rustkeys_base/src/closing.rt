@@ -60,7 +60,9 @@ fn emitted(alloc: Global, facts: &Facts) -> Result<Listed<OsBytes>, AllocError>
 /// Why the arguments ask for nothing that can be cached, if they don't.
 fn refusal(alloc: Global, facts: &Facts, kinds: &[OsBytes]) -> Result<Option<Refusal>, AllocError>
     requires { kinds.now ≡ emitted facts.now }
-    ensures { IfOk result (λ found. MatchOption found (closing facts.now ≡ asks) (λ why. verdict_of why ≡ closing facts.now)) }
+    ensures { IfOk result
+        (λ found. MatchOption found (closing facts.now ≡ asks)
+        (λ why. verdict_of why ≡ closing facts.now)) }
 {
     if facts.input.is_none() {
         return Ok(Some(refused("missing input")));
@@ -165,8 +167,10 @@ fn made_for<F: Files>(
     files: &mut F,
 ) -> Result<Made, ParseFault>
     requires { kinds ≡ emitted facts.now }
-    ensures paths { IfOk result (λ made. made.crate_link_paths ≡ map (join dir.now) facts.now.crate_paths) }
-    ensures libraries { IfOk result (λ made. made.staticlibs ≡ static_libraries dir.now (F.tree files.old) facts.now) }
+    ensures paths { IfOk result
+        (λ made. made.crate_link_paths ≡ map (join dir.now) facts.now.crate_paths) }
+    ensures libraries { IfOk result
+        (λ made. made.staticlibs ≡ static_libraries dir.now (F.tree files.old) facts.now) }
     ensures dep_info { IfOk result (λ made. made.dep_info ≡ dep_info facts.now) }
     ensures gcno { IfOk result (λ made. made.gcno ≡ gcno facts.now) }
     ensures emit { IfOk result (λ made. made.emit ≡ in_order (emitted facts.now)) }

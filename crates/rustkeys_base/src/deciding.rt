@@ -90,7 +90,8 @@ fn is_unsure<F: Files>(
     target: &ArgTarget,
     files: &mut F,
 ) -> Result<bool, ParseFault>
-    ensures answer { IfOk result (λ unsure. unsure ≡ is_unsure dir.now (F.tree files.old) target.now) }
+    ensures answer { IfOk result
+        (λ unsure. unsure ≡ is_unsure dir.now (F.tree files.old) target.now) }
     ensures cause { IfErr result (CauseOf (FailsOn F.tree F.failed F.fails_on files.old files.new)) }
     ensures tree { F.tree files.new ≡ F.tree files.old }
     ensures steady { OnOk result (F.failed files.new ≡ F.failed files.old) }
@@ -120,7 +121,9 @@ fn option_decides<F: Files>(
     value: &ArgData,
     files: &mut F,
 ) -> Result<Option<Refusal>, ParseFault>
-    ensures answer { IfOk result (λ why. option_map verdict_of why ≡ option_decides dir.now (F.tree files.old) so_far.now flag.now value.now) }
+    ensures answer { IfOk result
+        (λ why. option_map verdict_of why
+        ≡ option_decides dir.now (F.tree files.old) so_far.now flag.now value.now) }
     ensures cause { IfErr result (CauseOf (FailsOn F.tree F.failed F.fails_on files.old files.new)) }
     ensures tree { F.tree files.new ≡ F.tree files.old }
     ensures steady { OnOk result (F.failed files.new ≡ F.failed files.old) }
@@ -153,7 +156,9 @@ pub(crate) fn decides<F: Files>(
     argument: &Argument<ArgData>,
     files: &mut F,
 ) -> Result<Option<Refusal>, ParseFault>
-    ensures answer { IfOk result (λ why. option_map verdict_of why ≡ decides dir.now (F.tree files.old) so_far.now (token_in argument.now)) }
+    ensures answer { IfOk result
+        (λ why. option_map verdict_of why
+        ≡ decides dir.now (F.tree files.old) so_far.now (token_in argument.now)) }
     ensures cause { IfErr result (CauseOf (FailsOn F.tree F.failed F.fails_on files.old files.new)) }
     ensures tree { F.tree files.new ≡ F.tree files.old }
     ensures steady { OnOk result (F.failed files.new ≡ F.failed files.old) }

@@ -82,7 +82,8 @@ pub fn expand_rustc<F: Files>(
     words: &[OsBytes],
     files: &mut F,
 ) -> Result<Listed<OsBytes>, ParseFault>
-    ensures words { IfOk result (λ list. list ≡ expanded_by_rustc dir.now (F.tree files.old) words.now) }
+    ensures words { IfOk result
+        (λ list. list ≡ expanded_by_rustc dir.now (F.tree files.old) words.now) }
     ensures cause { IfErr result (CauseOf (FailsOn F.tree F.failed F.fails_on files.old files.new)) }
     ensures tree { F.tree files.new ≡ F.tree files.old }
     ensures steady { OnOk result (F.failed files.new ≡ F.failed files.old) }
@@ -114,11 +115,15 @@ impl ExpandResponseFile {
         words: &[OsBytes],
         files: &mut F,
     ) -> ExpandResponseFile
-        ensures gives { Gives (items_left result) (expanded_by_rustc dir.now (F.tree files.old) words.now) (FailsOn F.tree F.failed F.fails_on files.old files.new) }
+        ensures gives { Gives (items_left result)
+            (expanded_by_rustc dir.now (F.tree files.old) words.now)
+            (FailsOn F.tree F.failed F.fails_on files.old files.new) }
         ensures tree { F.tree files.new ≡ F.tree files.old }
         // No device failed where words are all that comes, nor where want of memory is.
-        ensures steady { (given : List Bytes) → items_left result ≡ map Ok given → F.failed files.new ≡ F.failed files.old }
-        ensures memory { items_left result ≡ Err ParseFault.Memory ∷ [] → F.failed files.new ≡ F.failed files.old }
+        ensures steady { (given : List Bytes) → items_left result ≡ map Ok given
+            → F.failed files.new ≡ F.failed files.old }
+        ensures memory { items_left result ≡ Err ParseFault.Memory ∷ []
+            → F.failed files.new ≡ F.failed files.old }
     {
         match expand_rustc(alloc, dir, words, files) {
             Ok(words) => ExpandResponseFile {
@@ -151,6 +156,9 @@ impl Iterator for ExpandResponseFile {
 /// Each file of words is opened once, in the place of its own word: words of which none names one stay as they are, and words in a row
 /// become in a row what they become apart. A call of it does nothing.
 pub fn files_of_words_open_once()
-    ensures others_stay { (dir : Bytes) (tree : Tree) (words : List Bytes) → list_any names_file words ≡ false → expanded_by_rustc dir tree words ≡ words }
-    ensures apart { (dir : Bytes) (tree : Tree) (words more : List Bytes) → expanded_by_rustc dir tree (words ++ more) ≡ expanded_by_rustc dir tree words ++ expanded_by_rustc dir tree more }
+    ensures others_stay { (dir : Bytes) (tree : Tree) (words : List Bytes)
+        → list_any names_file words ≡ false → expanded_by_rustc dir tree words ≡ words }
+    ensures apart { (dir : Bytes) (tree : Tree) (words more : List Bytes)
+        → expanded_by_rustc dir tree (words ++ more)
+        ≡ expanded_by_rustc dir tree words ++ expanded_by_rustc dir tree more }
 {}

@@ -106,7 +106,8 @@ impl Facts {
 
     /// Notes what an option says.
     fn note_data(&mut self, value: &ArgData) -> Result<(), AllocError>
-        ensures { OnOk result ((flag : Bytes) → self.new ≡ facts_with self.old (says flag value.now ∷ [])) }
+        ensures { OnOk result
+            ((flag : Bytes) → self.new ≡ facts_with self.old (says flag value.now ∷ [])) }
     {
         match value {
             ArgData::Emit(kinds) => {
@@ -135,7 +136,9 @@ impl Facts {
 
     /// Notes the name of a static library.
     fn note_library(&mut self, library: &ArgLinkLibrary) -> Result<(), AllocError>
-        ensures { OnOk result ((flag : Bytes) → self.new ≡ facts_with self.old (says flag (LinkLibrary library.now) ∷ [])) }
+        ensures { OnOk result
+            ((flag : Bytes)
+            → self.new ≡ facts_with self.old (says flag (LinkLibrary library.now) ∷ [])) }
     {
         if library.kind.as_bytes() == b"static".as_slice() {
             self.static_libraries.push(library.name.clone()?)?;
@@ -145,7 +148,8 @@ impl Facts {
 
     /// Notes a folder of crates, of static libraries, or of both.
     fn note_folder(&mut self, folder: &ArgLinkPath) -> Result<(), AllocError>
-        ensures { OnOk result ((flag : Bytes) → self.new ≡ facts_with self.old (says flag (LinkPath folder.now) ∷ [])) }
+        ensures { OnOk result
+            ((flag : Bytes) → self.new ≡ facts_with self.old (says flag (LinkPath folder.now) ∷ [])) }
     {
         let kind = folder.kind.as_bytes();
         if holds_crates(kind) {
@@ -159,7 +163,8 @@ impl Facts {
 
     /// Notes an option of code generation.
     fn note_codegen(&mut self, option: &ArgOption) -> Result<(), AllocError>
-        ensures { OnOk result ((flag : Bytes) → self.new ≡ facts_with self.old (says flag (CodeGen option.now) ∷ [])) }
+        ensures { OnOk result
+            ((flag : Bytes) → self.new ≡ facts_with self.old (says flag (CodeGen option.now) ∷ [])) }
     {
         let name = option.opt.as_bytes();
         if let Some(value) = &option.value {
@@ -174,7 +179,8 @@ impl Facts {
 
     /// Notes an option that only some releases of rustc have.
     fn note_unstable(&mut self, option: &ArgOption)
-        ensures { (flag : Bytes) → self.new ≡ facts_with self.old (says flag (Unstable option.now) ∷ []) }
+        ensures { (flag : Bytes)
+            → self.new ≡ facts_with self.old (says flag (Unstable option.now) ∷ []) }
     {
         if option.opt.as_bytes() == b"profile".as_slice() && is_on(option.value.as_ref()) {
             self.asks_gcno = true;

@@ -13,11 +13,12 @@ ghost use Rattle.rustkeys_base.specs.Verdict.{Verdict, asks, closing, not_parsed
 /// The first item that decides does, and one whose value is refused decides too; where none does, words that are cut short do, and
 /// else the closing rules. Something is asked for only where no item decides, the words are whole, and the closing rules ask for it.
 pub fn first_that_decides_does()
-    ensures item { (dir : Bytes) (files : Tree) (earlier later : List (Item ArgKind)) (item : Item ArgKind)
-        → (cut_short : Bool) (verdict : Verdict)
-        → NoneDecides dir files earlier
+    ensures item { (dir : Bytes) (files : Tree) (earlier later : List (Item ArgKind))
+        (item : Item ArgKind)
+        → (cut_short : Bool) (verdict : Verdict) → NoneDecides dir files earlier
         → decides_behind dir files earlier item ≡ Some verdict
-        → verdict_on dir files (record { items = earlier ++ item ∷ later; cut_short = cut_short }) ≡ verdict }
+        → verdict_on dir files (record { items = earlier ++ item ∷ later; cut_short = cut_short })
+        ≡ verdict }
     ensures cut_short { (dir : Bytes) (files : Tree) (items : List (Item ArgKind))
         → NoneDecides dir files items
         → verdict_on dir files (record { items = items; cut_short = true }) ≡ not_parsed }

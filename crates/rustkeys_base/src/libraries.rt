@@ -101,7 +101,8 @@ fn library_in<F: Files>(
     name: &OsBytes,
     files: &mut F,
 ) -> Result<Option<OsBytes>, ParseFault>
-    ensures answer { IfOk result (λ found. found ≡ library_in (F.tree files.old) folders.now name.now) }
+    ensures answer { IfOk result
+        (λ found. found ≡ library_in (F.tree files.old) folders.now name.now) }
     ensures cause { IfErr result (CauseOf (FailsOn F.tree F.failed F.fails_on files.old files.new)) }
     ensures tree { F.tree files.new ≡ F.tree files.old }
     ensures steady { OnOk result (F.failed files.new ≡ F.failed files.old) }
@@ -126,7 +127,8 @@ pub(crate) fn libraries_in<F: Files>(
     names: &[OsBytes],
     files: &mut F,
 ) -> Result<Listed<OsBytes>, ParseFault>
-    ensures answer { IfOk result (λ found. found ≡ filter_map (library_in (F.tree files.old) folders.now) names.now) }
+    ensures answer { IfOk result
+        (λ found. found ≡ filter_map (library_in (F.tree files.old) folders.now) names.now) }
     ensures cause { IfErr result (CauseOf (FailsOn F.tree F.failed F.fails_on files.old files.new)) }
     ensures tree { F.tree files.new ≡ F.tree files.old }
     ensures steady { OnOk result (F.failed files.new ≡ F.failed files.old) }

@@ -19,8 +19,8 @@ use crate::parsed::ParsedArguments;
 use cmdlines::compiler_arguments::{CompilerArguments, ParseFault};
 use cmdlines_base::argument::{Argument, NormalizedDisposition};
 use cmdlines_base::argument_error::ArgParseError;
+use cmdlines_base::byte_tree::ByteTree;
 use cmdlines_base::cutting::ArgsIter;
-use cmdlines_base::table::Table;
 use os_files::files::Files;
 use os_files::listed::Listed;
 use os_files::os_bytes::OsBytes;
@@ -72,8 +72,12 @@ fn note<F: Files>(
     argument: &Argument<ArgData>,
     files: &mut F,
 ) -> Result<Option<Refusal>, ParseFault>
-    ensures decides { IfOk result (λ why. option_map verdict_of why ≡ decides dir.now (F.tree files.old) facts.old (token_in argument.now)) }
-    ensures noted { IfOk result (λ why. MatchOption why (facts.new ≡ facts_with facts.old (token_in argument.now ∷ [])) (λ decided. Unit {0})) }
+    ensures decides { IfOk result
+        (λ why. option_map verdict_of why
+        ≡ decides dir.now (F.tree files.old) facts.old (token_in argument.now)) }
+    ensures noted { IfOk result
+        (λ why. MatchOption why (facts.new ≡ facts_with facts.old (token_in argument.now ∷ []))
+        (λ decided. Unit {0})) }
     ensures cause { IfErr result (CauseOf (FailsOn F.tree F.failed F.fails_on files.old files.new)) }
     ensures tree { F.tree files.new ≡ F.tree files.old }
     ensures steady { OnOk result (F.failed files.new ≡ F.failed files.old) }
@@ -95,9 +99,14 @@ fn take<F: Files>(
     argument: Argument<ArgData>,
     files: &mut F,
 ) -> Result<Option<Refusal>, ParseFault>
-    ensures decides { IfOk result (λ why. option_map verdict_of why ≡ decides dir.now (F.tree files.old) facts.old (token_in argument)) }
-    ensures noted { IfOk result (λ why. MatchOption why (facts.new ≡ facts_with facts.old (token_in argument ∷ [])) (λ decided. Unit {0})) }
-    ensures kept { IfOk result (λ why. MatchOption why (kept.new ≡ kept_with kept.old argument) (λ decided. Unit {0})) }
+    ensures decides { IfOk result
+        (λ why. option_map verdict_of why
+        ≡ decides dir.now (F.tree files.old) facts.old (token_in argument)) }
+    ensures noted { IfOk result
+        (λ why. MatchOption why (facts.new ≡ facts_with facts.old (token_in argument ∷ []))
+        (λ decided. Unit {0})) }
+    ensures kept { IfOk result
+        (λ why. MatchOption why (kept.new ≡ kept_with kept.old argument) (λ decided. Unit {0})) }
     ensures cause { IfErr result (CauseOf (FailsOn F.tree F.failed F.fails_on files.old files.new)) }
     ensures tree { F.tree files.new ≡ F.tree files.old }
     ensures steady { OnOk result (F.failed files.new ≡ F.failed files.old) }
@@ -114,23 +123,24 @@ fn take<F: Files>(
 /// Gathers what the words say, as far as none decides by itself.
 fn gather<F: Files>(
     alloc: Global,
-    table: &Table<ArgData>,
+    tree: &ByteTree<ArgData>,
     words: &[OsBytes],
     dir: &OsBytes,
     facts: &mut Facts,
     kept: &mut Listed<Argument<ArgData>>,
     files: &mut F,
 ) -> Result<Option<Refusal>, ParseFault>
-    requires table { table.now ≡ rustc_entries }
+    requires tree { tree.now ≡ rustc_entries ∷ [] }
     requires facts { facts.old ≡ no_facts }
     requires kept { kept.old ≡ [] }
-    ensures gathered { IfOk result (Gathers dir.now (F.tree files.old) (rustc_reading words.now) facts.new kept.new) }
+    ensures gathered { IfOk result
+        (Gathers dir.now (F.tree files.old) (rustc_reading words.now) facts.new kept.new) }
     ensures cause { IfErr result (CauseOf (FailsOn F.tree F.failed F.fails_on files.old files.new)) }
     ensures tree { F.tree files.new ≡ F.tree files.old }
     ensures steady { OnOk result (F.failed files.new ≡ F.failed files.old) }
     ensures memory { IsErrOf result ParseFault.Memory → F.failed files.new ≡ F.failed files.old }
 {
-    let mut arguments = ArgsIter::new(alloc, words, table);
+    let mut arguments = ArgsIter::new(alloc, words, tree);
     while let Some(next) = arguments.next() {
         match next {
             Err(error) => return Ok(Some(not_cut(error)?)),
@@ -152,18 +162,21 @@ fn parse<F: Files>(
     dir: &OsBytes,
     files: &mut F,
 ) -> Result<CompilerArguments<ParsedArguments>, ParseFault>
-    ensures verdict { IfOk result (λ answer. verdict_in answer ≡ verdict_on dir.now (F.tree files.old) (request_reading words.now)) }
-    ensures asked { IfOk result (IsAsked dir.now (F.tree files.old) (request_reading words.now).items) }
+    ensures verdict { IfOk result
+        (λ answer. verdict_in answer
+        ≡ verdict_on dir.now (F.tree files.old) (request_reading words.now)) }
+    ensures asked { IfOk result
+        (IsAsked dir.now (F.tree files.old) (request_reading words.now).items) }
     ensures cause { IfErr result (CauseOf (FailsOn F.tree F.failed F.fails_on files.old files.new)) }
     ensures tree { F.tree files.new ≡ F.tree files.old }
     ensures steady { OnOk result (F.failed files.new ≡ F.failed files.old) }
     ensures memory { IsErrOf result ParseFault.Memory → F.failed files.new ≡ F.failed files.old }
 {
-    let table = rustc_table(alloc)?;
+    let tree = ByteTree::of_one(rustc_table(alloc)?);
     let words = behind_rustc(words);
     let mut facts = Facts::new(alloc);
     let mut kept = Listed::new(alloc);
-    match gather(alloc, &table, words, dir, &mut facts, &mut kept, files)? {
+    match gather(alloc, &tree, words, dir, &mut facts, &mut kept, files)? {
         Some(why) => Ok(why.into_answer()),
         None => close(alloc, dir, facts, kept, files),
     }
@@ -177,8 +190,13 @@ pub fn parse_arguments<F: Files>(
     dir: &OsBytes,
     files: &mut F,
 ) -> Result<CompilerArguments<ParsedArguments>, ParseFault>
-    ensures verdict { IfOk result (λ answer. verdict_in answer ≡ verdict_on dir.now (F.tree files.old) (request_reading (expanded_by_rustc dir.now (F.tree files.old) words.now))) }
-    ensures asked { IfOk result (IsAsked dir.now (F.tree files.old) (request_reading (expanded_by_rustc dir.now (F.tree files.old) words.now)).items) }
+    ensures verdict { IfOk result
+        (λ answer. verdict_in answer
+        ≡ verdict_on dir.now (F.tree files.old)
+        (request_reading (expanded_by_rustc dir.now (F.tree files.old) words.now))) }
+    ensures asked { IfOk result
+        (IsAsked dir.now (F.tree files.old)
+        (request_reading (expanded_by_rustc dir.now (F.tree files.old) words.now)).items) }
     ensures cause { IfErr result (CauseOf (FailsOn F.tree F.failed F.fails_on files.old files.new)) }
     ensures tree { F.tree files.new ≡ F.tree files.old }
     ensures steady { OnOk result (F.failed files.new ≡ F.failed files.old) }

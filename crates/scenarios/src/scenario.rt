@@ -32,7 +32,7 @@ use os_files::file_time::FileTime;
 use os_files::listed::Listed;
 use os_files::memory_files::{MemoryFile, MemoryFiles};
 use os_files::os_bytes::OsBytes;
-use serde_json::Value;
+use serde_json::{Map, Value};
 use std::alloc::{AllocError, AllocFailed, Global};
 use time_macros::zone::{Zone, ZoneError};
 use wrap_base::request::Request;
@@ -152,19 +152,27 @@ fn read_calls(alloc: Global, requests: Value) -> Result<Vec<ScenarioCall>, Scena
     Ok(calls)
 }
 
+/// The request that these members tell. Its compiler is read last: it would be dropped at each failure behind it.
+fn read_request(alloc: Global, members: &mut Map<String, Value>) -> Result<Request, ScenarioFault> {
+    let words = read_byte_texts(alloc, required(members.remove("words"))?)?;
+    let dir = read_dir(alloc, members.remove("dir"))?;
+    let env = read_env(alloc, members.remove("env"))?;
+    let moment = read_whole(members.remove("moment"), DEFAULT_MOMENT)?;
+    Ok(Request {
+        compiler: read_compiler(alloc, members)?,
+        words,
+        dir,
+        env,
+        moment,
+    })
+}
+
 fn read_call(alloc: Global, value: Value) -> Result<ScenarioCall, ScenarioFault> {
     let mut members = into_object(value)?;
-    let request = Request {
-        compiler: read_compiler(alloc, &mut members)?,
-        words: read_byte_texts(alloc, required(members.remove("words"))?)?,
-        dir: read_dir(alloc, members.remove("dir"))?,
-        env: read_env(alloc, members.remove("env"))?,
-        moment: read_whole(members.remove("moment"), DEFAULT_MOMENT)?,
-    };
     let files = read_files(alloc, members.remove("files"))?;
     let forget = read_truth(members.remove("forget"))?;
     Ok(ScenarioCall {
-        request,
+        request: read_request(alloc, &mut members)?,
         files,
         forget,
     })

@@ -11,7 +11,8 @@ use std::alloc::AllocError;
 /// The first line, with its line end, and what stands behind it.
 pub fn split_line(text: &[u8]) -> Option<(&[u8], &[u8])>
     ensures { MatchOption result (lines text.now ≡ [])
-        (λ found. (lines text.now ≡ found.0.now ∷ lines found.1.now) × (length found.1.now < length text.now)) }
+        (λ found. (lines text.now ≡ found.0.now ∷ lines found.1.now)
+        × (length found.1.now < length text.now)) }
 {
     if text.is_empty() {
         return None;

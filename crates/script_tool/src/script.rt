@@ -50,10 +50,17 @@ impl ScriptTool {
         command: &SingleCompileCommand,
         files: &mut F,
     ) -> Result<Option<OsBytes>, ToolFail>
-        ensures text { (moment : ℤ) → IfOk result (λ text. text ≡ text_of step (scene_of command.now (F.tree files.old) moment) (source_in (reading_of kind command.now.arguments))) }
+        ensures text { (moment : ℤ)
+            → IfOk result
+            (λ text. text
+            ≡ text_of step (scene_of command.now (F.tree files.old) moment)
+            (source_in (reading_of kind command.now.arguments))) }
         ensures tree { F.tree files.new ≡ F.tree files.old }
-        ensures device { IsErrOf result ToolFail.Device → (self.new.failed ≡ ticked self.old.failed) × (F.failed files.new ≡ ticked (F.failed files.old)) }
-        ensures steady { (IsErrOf result ToolFail.Device → ⊥) → (self.new.failed ≡ self.old.failed) × (F.failed files.new ≡ F.failed files.old) }
+        ensures device { IsErrOf result ToolFail.Device
+            → (self.new.failed ≡ ticked self.old.failed)
+            × (F.failed files.new ≡ ticked (F.failed files.old)) }
+        ensures steady { (IsErrOf result ToolFail.Device → ⊥)
+            → (self.new.failed ≡ self.old.failed) × (F.failed files.new ≡ F.failed files.old) }
         ensures config { self.new.config ≡ self.old.config }
         ensures preprocessed { self.new.preprocessed ≡ self.old.preprocessed }
         ensures compiled { self.new.compiled ≡ self.old.compiled }

@@ -40,7 +40,8 @@ fn push_inclusion(
     contents: &[u8],
     text: &mut Vec<u8>,
 ) -> Result<(), AllocError>
-    ensures { OnOk result (text.new.items ≡ text.old.items ++ inclusion path.now file.now contents.now) }
+    ensures { OnOk result
+        (text.new.items ≡ text.old.items ++ inclusion path.now file.now contents.now) }
 {
     push_marker(file, text)?;
     push_with_end(contents, text)?;
@@ -56,9 +57,13 @@ fn push_line<F: Files>(
     files: &mut F,
     text: &mut Vec<u8>,
 ) -> Result<bool, FileFail>
-    ensures text { IfOk result (λ is_there. (if is_there then Some text.new.items else None) ≡ option_map (λ part. text.old.items ++ part) (replaced (F.tree files.old) dir.now path.now line.now)) }
+    ensures text { IfOk result
+        (λ is_there. (if is_there then Some text.new.items else None)
+        ≡ option_map (λ part. text.old.items ++ part)
+        (replaced (F.tree files.old) dir.now path.now line.now)) }
     ensures tree { F.tree files.new ≡ F.tree files.old }
-    ensures device { IsErrOf result FileFail.Device → F.failed files.new ≡ ticked (F.failed files.old) }
+    ensures device { IsErrOf result FileFail.Device
+        → F.failed files.new ≡ ticked (F.failed files.old) }
     ensures steady { (IsErrOf result FileFail.Device → ⊥) → F.failed files.new ≡ F.failed files.old }
 {
     let Some(name) = included(line) else {
@@ -83,9 +88,13 @@ fn push_lines<F: Files>(
     files: &mut F,
     text: &mut Vec<u8>,
 ) -> Result<bool, FileFail>
-    ensures text { IfOk result (λ is_there. (if is_there then Some text.new.items else None) ≡ option_map (λ part. text.old.items ++ part) (whole (map (replaced (F.tree files.old) dir.now path.now) (lines contents.now)))) }
+    ensures text { IfOk result
+        (λ is_there. (if is_there then Some text.new.items else None)
+        ≡ option_map (λ part. text.old.items ++ part)
+        (whole (map (replaced (F.tree files.old) dir.now path.now) (lines contents.now)))) }
     ensures tree { F.tree files.new ≡ F.tree files.old }
-    ensures device { IsErrOf result FileFail.Device → F.failed files.new ≡ ticked (F.failed files.old) }
+    ensures device { IsErrOf result FileFail.Device
+        → F.failed files.new ≡ ticked (F.failed files.old) }
     ensures steady { (IsErrOf result FileFail.Device → ⊥) → F.failed files.new ≡ F.failed files.old }
 {
     let mut rest = contents;
@@ -107,7 +116,8 @@ fn text_at<F: Files>(
 ) -> Result<Option<OsBytes>, FileFail>
     ensures text { IfOk result (λ text. text ≡ text_at (F.tree files.old) dir.now path.now) }
     ensures tree { F.tree files.new ≡ F.tree files.old }
-    ensures device { IsErrOf result FileFail.Device → F.failed files.new ≡ ticked (F.failed files.old) }
+    ensures device { IsErrOf result FileFail.Device
+        → F.failed files.new ≡ ticked (F.failed files.old) }
     ensures steady { (IsErrOf result FileFail.Device → ⊥) → F.failed files.new ≡ F.failed files.old }
 {
     let Some(contents) = files.read(alloc, path)? else {
@@ -137,9 +147,14 @@ pub fn text_of<F: Files>(
     command: &SingleCompileCommand,
     files: &mut F,
 ) -> Result<Option<OsBytes>, FileFail>
-    ensures text { (moment : ℤ) → IfOk result (λ text. text ≡ text_of step (scene_of command.now (F.tree files.old) moment) (source_in (reading_of kind command.now.arguments))) }
+    ensures text { (moment : ℤ)
+        → IfOk result
+        (λ text. text
+        ≡ text_of step (scene_of command.now (F.tree files.old) moment)
+        (source_in (reading_of kind command.now.arguments))) }
     ensures tree { F.tree files.new ≡ F.tree files.old }
-    ensures device { IsErrOf result FileFail.Device → F.failed files.new ≡ ticked (F.failed files.old) }
+    ensures device { IsErrOf result FileFail.Device
+        → F.failed files.new ≡ ticked (F.failed files.old) }
     ensures steady { (IsErrOf result FileFail.Device → ⊥) → F.failed files.new ≡ F.failed files.old }
 {
     let source = source_of(alloc, kind, command.arguments.as_slice())?;
@@ -197,7 +212,9 @@ pub fn compiled(
     folders: &[OsBytes],
     outputs: &[(OsBytes, ArtifactDescriptor)],
 ) -> Result<Compiled, AllocError>
-    ensures { IfOk result (λ result. made_of result.status result.files ≡ compiled (without folders.now text) (names_of outputs.now)) }
+    ensures { IfOk result
+        (λ result. made_of result.status result.files
+        ≡ compiled (without folders.now text) (names_of outputs.now)) }
 {
     let Some(text) = text else {
         return Ok(failed(alloc));

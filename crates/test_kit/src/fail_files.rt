@@ -43,7 +43,9 @@ impl<F> FailFiles<F> {
         ensures files { self.new.files ≡ self.old.files }
         ensures counted { self.new.calls_left ≡ self.old.calls_left - 1 }
         ensures fails { self.old.calls_left ≡ 0 → self.old.failed_name ≡ None → OnOk result ⊥ }
-        ensures device { IsErrOf result FileFail.Device → (self.old.calls_left ≡ 0) × (self.old.failed_name ≡ None) × (self.new.failed ≡ ticked self.old.failed) × (self.new.failed_name ≡ Some path.now) }
+        ensures device { IsErrOf result FileFail.Device
+            → (self.old.calls_left ≡ 0) × (self.old.failed_name ≡ None)
+            × (self.new.failed ≡ ticked self.old.failed) × (self.new.failed_name ≡ Some path.now) }
         ensures steady { (IsErrOf result FileFail.Device → ⊥) → self.new.failed ≡ self.old.failed }
         ensures memory { IsErrOf result FileFail.Memory → self.new ≡ self.old }
     {

@@ -9,7 +9,7 @@ use Rattle.ckeys_base.specs.Shelf.{Shelf, Asks, Puts, Forgotten}
 use Rattle.ckeys.specs.Calls.{KeyCause, PrintedCall, key_fault_by, needs_preprocessing}
 use Rattle.ckeys.specs.Causes.{ByStage, no_file, no_step, stage_of}
 use Rattle.ckeys.specs.Entries.{Held}
-use Rattle.ckeys.specs.EntryTurns.{IsSpared, KeyFine, KeyRecorded, KeyRuns}
+use Rattle.ckeys.specs.EntryTurns.{AtMostOnce, IsSpared, KeyFine, KeyRecorded, KeyRuns, RunsUntil, RunsUntilKey}
 use Rattle.ckeys.specs.Keys.{key_of}
 use Rattle.ckeys.specs.Meaning.{Meaning, FailsIn}
 use Rattle.ckeys.specs.Records.{AreTold}
@@ -18,9 +18,10 @@ use Rattle.include_records.specs.Records.{Record}
 use Rattle.ckeys.specs.declared.fault.Fault.{Fault}
 use Rattle.ckeys.specs.declared.fault.Fault.TheVariants.{Memory, Read, Tool, PreprocessFailed, CompileFailed, MissingOutput}
 use Rattle.ckeys.specs.declared.step.Step.{Step}
+use Rattle.ckeys.specs.declared.step.Step.TheVariants.{Preprocess, Compile}
 use Rattle.wrap.specs.Account.{Account, passed, worked, Work, Pairs, IsSuccess, compile_fault_of, direct_of, placed}
 use Rattle.wrap.specs.Answers.{EarlyCause, GoesOn, GoesOnWith, Placed, SaysBy, SaysWorkedBy}
-use Rattle.wrap.specs.Asking.{AskedTurn, AskedUnder, EntriesBy, EntriesTurn, HowFrom, RecordsAreTrue, Shelves, WorkKeyFrom}
+use Rattle.wrap.specs.Asking.{AskedTurn, AskedUnder, EntriesBy, EntriesTurn, HowFrom, RecordsAreTrue, RunsOf, Shelves, WorkKeyFrom}
 use Rattle.wrap.specs.StoreKeys.{store_key_with}
 use Rattle.wrap.specs.Turn.{KeyedTurn, PutsBy, StoreTurn, own_text_key, StillKept, StoredTurn, MissTurn, Told, ToldBy}
 use Rattle.wrap.specs.Verdicts.{Why}
@@ -285,11 +286,46 @@ pub own_turn : (digest_of : Bytes → Bytes) (a : Account) (old new : Shelves) (
 own_turn digest_of (passed why) old new printed printed_new compiled compiled_new result are_true asked = record { gains = asked.objects.gains; faulted = asked.objects.faulted; unrefused = asked.objects.unrefused; kept = asked.objects.kept; cleared = asked.objects.cleared; put = asked.objects.put; told = asked.objects.told }
 own_turn digest_of (worked w) old new printed printed_new compiled compiled_new result are_true asked = subst (λ k. KeyedTurn digest_of k (worked w) old.objects new.objects compiled compiled_new result) (own_key digest_of w old.entries.held asked.from asked.text_key are_true asked.is_key) asked.objects
 
+-- a key's run of the preprocessor is one at most
+pub runs_most : (from : Bool) (before after : ℕ) → KeyRuns from before after → AtMostOnce before after
+runs_most true before after h = inl h
+runs_most false before after h = inr h
+
+-- before a fault of the key
+pub key_until : (from : Bool) (before after : ℕ) (fault : Fault) → RunsUntilKey before after fault → RunsUntil fault (KeyRuns from before after) before after
+key_until from before after Memory h = h
+key_until from before after (Read name) h = h
+key_until from before after (Tool Preprocess) h = h
+key_until from before after (Tool Compile) h = absurd h
+key_until from before after (PreprocessFailed status) h = h
+key_until from before after (CompileFailed status) h = absurd h
+key_until from before after (MissingOutput name) h = absurd h
+
+-- before a fault of the compile
+pub compile_until : (w : Work) (device_in : Step → Type 0) (from : Bool) (before after : ℕ) (fault : Fault) → CompileCause w device_in fault → KeyRuns from before after → RunsUntil fault (KeyRuns from before after) before after
+compile_until w device_in from before after Memory cause h = runs_most from before after h
+compile_until w device_in from before after (Read name) cause h = absurd cause
+compile_until w device_in from before after (Tool Preprocess) cause h = absurd cause
+compile_until w device_in from before after (Tool Compile) cause h = h
+compile_until w device_in from before after (PreprocessFailed status) cause h = absurd cause
+compile_until w device_in from before after (CompileFailed status) cause h = h
+compile_until w device_in from before after (MissingOutput name) cause h = h
+
+-- before there is a verdict
+pub early_runs : (a : Account) (on_file : Bytes → Type 0) (n : ℕ) (fault : Fault) → EarlyCause on_file fault → RunsOf a false (Err fault) n n
+early_runs (passed why) on_file n fault cause = refl
+early_runs (worked w) on_file n Memory cause = (λ h. refl, λ h. inl refl)
+early_runs (worked w) on_file n (Read name) cause = (λ h. refl, λ h. inl refl)
+early_runs (worked w) on_file n (Tool step) cause = absurd cause
+early_runs (worked w) on_file n (PreprocessFailed status) cause = cc
+early_runs (worked w) on_file n (CompileFailed status) cause = cc
+early_runs (worked w) on_file n (MissingOutput name) cause = cc
+
 -- a call that ends with a fault
-pub asked_fault : (digest_of : Bytes → Bytes) (a : Account) (old new : Shelves) (printed printed_new compiled compiled_new : ℕ) (result : Result Answer Fault) (fault : Fault) → IsErrAnd result (λ f. f ≡ fault) → (from : Bool) (text_key : Bytes) → AskedUnder digest_of a old.entries.held from text_key → KeyedTurn digest_of text_key a old.objects new.objects compiled compiled_new result → AskedTurn digest_of a old new printed printed_new compiled compiled_new result
-asked_fault digest_of a old new printed printed_new compiled compiled_new (Ok answer) fault err from text_key is_key turn = absurd err
-asked_fault digest_of (passed why) old new printed printed_new compiled compiled_new (Err f) fault err from text_key is_key turn = record { from = from; text_key = text_key; is_key = is_key; how = tt; fine = tt; runs = tt; recorded = tt; objects = turn }
-asked_fault digest_of (worked w) old new printed printed_new compiled compiled_new (Err f) fault err from text_key is_key turn = record { from = from; text_key = text_key; is_key = is_key; how = tt; fine = tt; runs = tt; recorded = tt; objects = turn }
+pub asked_fault : (digest_of : Bytes → Bytes) (a : Account) (old new : Shelves) (printed printed_new compiled compiled_new : ℕ) (result : Result Answer Fault) (fault : Fault) → IsErrAnd result (λ f. f ≡ fault) → (from : Bool) (text_key : Bytes) → AskedUnder digest_of a old.entries.held from text_key → RunsOf a from (Err fault) printed printed_new → KeyedTurn digest_of text_key a old.objects new.objects compiled compiled_new result → AskedTurn digest_of a old new printed printed_new compiled compiled_new result
+asked_fault digest_of a old new printed printed_new compiled compiled_new (Ok answer) fault err from text_key is_key runs turn = absurd err
+asked_fault digest_of (passed why) old new printed printed_new compiled compiled_new (Err f) fault err from text_key is_key runs turn = record { from = from; text_key = text_key; is_key = is_key; how = tt; fine = tt; runs = runs; recorded = tt; objects = turn }
+asked_fault digest_of (worked w) old new printed printed_new compiled compiled_new (Err f) fault err from text_key is_key runs turn = record { from = from; text_key = text_key; is_key = is_key; how = tt; fine = tt; runs = subst (λ (e : Fault). RunsOf (worked w) from (Err e) printed printed_new) (sym err) runs; recorded = tt; objects = turn }
 
 -- a hit
 pub how_kept : (from : Bool) (map : List Output) → HowFrom from (Ok (Outputs map (kept_how from) None))
@@ -301,7 +337,7 @@ has_direct digest_of w held true text_key k h = rw k.has refl
 has_direct digest_of w held false text_key k h = cc
 
 module _ (digest_of : Bytes → Bytes) (w : Work) (old new : Shelves) (printed printed_new compiled compiled_new : ℕ) (from : Bool) (text_key : Bytes) (is_key : WorkKeyFrom digest_of w old.entries.held from text_key)
-    (fine : from ≡ false → w.fault ≡ None) (runs : needs_preprocessing w.rec.language ≡ true → KeyRuns from printed printed_new) (recorded : (p : PrintedCall) → w.direct ≡ Some p → KeyRecorded digest_of p old.entries new.entries from text_key) where
+    (fine : from ≡ false → w.fault ≡ None) (runs : (needs_preprocessing w.rec.language ≡ false → printed_new ≡ printed) × (needs_preprocessing w.rec.language ≡ true → KeyRuns from printed printed_new)) (recorded : (p : PrintedCall) → w.direct ≡ Some p → KeyRecorded digest_of p old.entries new.entries from text_key) where
   pub asked_hit : (map : List Output) → KeyedTurn digest_of text_key (worked w) old.objects new.objects compiled compiled_new (Ok (Outputs map (kept_how from) None)) → AskedTurn digest_of (worked w) old new printed printed_new compiled compiled_new (Ok (Outputs map (kept_how from) None))
   asked_hit map turn = record { from = from; text_key = text_key; is_key = is_key; how = how_kept from map; fine = fine; runs = runs; recorded = recorded; objects = turn }
 
@@ -328,7 +364,7 @@ passed_asked digest_of why a old printed compiled reason is = subst (λ (b : Acc
   is_key = tt;
   how = tt;
   fine = tt;
-  runs = tt;
+  runs = refl;
   recorded = tt;
   objects = record { gains = λ k v h. inl h; faulted = tt; unrefused = tt; kept = λ h. record { was = h; keys = λ k s. s; steady = refl }; cleared = refl; put = refl; told = (refl, refl) };
 })

@@ -4,7 +4,7 @@ use Rattle.os_files.specs.Bytes.{Bytes}
 use Rattle.ckeys_base.specs.Shelf.{Shelf}
 use Rattle.ckeys.specs.Calls.{PrintedCall, key_fault_by, needs_preprocessing, record_by}
 use Rattle.ckeys.specs.Entries.{HasMatch, Held, IsFramed}
-use Rattle.ckeys.specs.EntryTurns.{EntryTurn, KeyRecorded, KeyRuns}
+use Rattle.ckeys.specs.EntryTurns.{EntryTurn, KeyRecorded, KeyRuns, RunsUntil}
 use Rattle.ckeys.specs.Folders.{Settings}
 use Rattle.ckeys.specs.Keys.{key_of}
 use Rattle.entry_keys.specs.declared.entry_key.EntryKey.{EntryKey}
@@ -77,14 +77,24 @@ OnOutputs (worked w) (Ok (Pass reason)) P = Unit {0}
 OnOutputs (worked w) (Ok (Outputs map how dep_info)) P = P w
 OnOutputs (worked w) (Err fault) P = Unit {0}
 
--- One call: under which key it asks the object store and what it does to that, whatever the records hold. After outputs the preprocessor ran exactly if the key came from the text, and then the call has no fault before the store is asked; and a text that is recorded is found under this key again.
+-- how often the preprocessor ran in a call whose key came from there, before its outputs or before its fault
+abbrev pub RunsIn : Bool → Result Answer Fault → ℕ → ℕ → Type 0
+RunsIn from (Ok answer) before after = KeyRuns from before after
+RunsIn from (Err fault) before after = RunsUntil fault (KeyRuns from before after) before after
+
+-- How often the preprocessor ran: not where the request is passed through, nor where the input's language isn't preprocessed; and else once, unless a record gave the key or a fault came before it.
+abbrev pub RunsOf : Account → Bool → Result Answer Fault → ℕ → ℕ → Type 0
+RunsOf (passed why) from result before after = after ≡ before
+RunsOf (worked w) from result before after = (needs_preprocessing w.rec.language ≡ false → after ≡ before) × (needs_preprocessing w.rec.language ≡ true → RunsIn from result before after)
+
+-- One call: under which key it asks the object store and what it does to that, whatever the records hold; and how often the preprocessor ran. Where the key came from the text and outputs are answered, the call has no fault before the store is asked; and a text that is recorded is found under this key again.
 pub record AskedTurn (digest_of : Bytes → Bytes) (a : Account) (old new : Shelves) (printed printed_new compiled compiled_new : ℕ) (result : Result Answer Fault) : Type 0 where
   pub from : Bool
   pub text_key : Bytes
   pub is_key : AskedUnder digest_of a old.entries.held from text_key
   pub how : HowFrom from result
   pub fine : OnOutputs a result (λ w. from ≡ false → w.fault ≡ None)
-  pub runs : OnOutputs a result (λ w. needs_preprocessing w.rec.language ≡ true → KeyRuns from printed printed_new)
+  pub runs : RunsOf a from result printed printed_new
   pub recorded : OnOutputs a result (λ w. (p : PrintedCall) → w.direct ≡ Some p → KeyRecorded digest_of p old.entries new.entries from text_key)
   pub objects : KeyedTurn digest_of text_key a old.objects new.objects compiled compiled_new result
 

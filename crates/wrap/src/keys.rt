@@ -1,10 +1,10 @@
 //! The key under which a request's outputs are kept.
 
-ghost use Rattle.std.specs.Prelude.{◌≡◌, true, None, Some, IfOk, IfErr, OnOk, IsErrOf};
+ghost use Rattle.std.specs.Prelude.{◌≡◌, false, true, None, Some, IfOk, IfErr, OnOk, IsErrOf};
 ghost use Rattle.std.specs.List.{AllByRecursion};
 ghost use Rattle.os_files.specs.Fails.{FailsOn};
 ghost use Rattle.ckeys.specs.Calls.{KeyCause, PrintedCall, needs_preprocessing, printed_call};
-ghost use Rattle.ckeys.specs.EntryTurns.{KeyFine, KeyRecorded, KeyRuns};
+ghost use Rattle.ckeys.specs.EntryTurns.{KeyFine, KeyRecorded, KeyRuns, RunsUntilKey};
 ghost use Rattle.ckeys.specs.Meaning.{AreSteady, FailsIn, names_of};
 ghost use Rattle.ckeys.specs.Records.{FitsLength};
 ghost use Rattle.wrap.specs.Account.{call_at, work_at, worked};
@@ -70,14 +70,41 @@ pub fn store_key<H: HashState, E: Store<EntryKey, PreprocessorCacheEntry>, F: Fi
     files: &mut F,
     tool: &mut T,
 ) -> Result<(StoreKey, bool), Fault>
-    ensures key { let w = work_at (T.meaning tool.old) (call_at request.now (F.tree files.old) config.now plan.now.parsed) in IfOk result (λ made. made.0 ≡ store_key_with H.digest_of w made.0.digest) }
-    ensures from { let w = work_at (T.meaning tool.old) (call_at request.now (F.tree files.old) config.now plan.now.parsed) in IfOk result (λ made. WorkKeyFrom H.digest_of w (E.shelf entries.old).held made.1 made.0.digest) }
-    ensures fine { let p = printed_call (T.meaning tool.old) (call_at request.now (F.tree files.old) config.now plan.now.parsed) in IfOk result (λ made. KeyFine p made.1) }
-    ensures fit { let w = work_at (T.meaning tool.old) (call_at request.now (F.tree files.old) config.now plan.now.parsed) in OnOk result (AllByRecursion FitsLength w.rec.variables) }
-    ensures cause { let w = work_at (T.meaning tool.old) (call_at request.now (F.tree files.old) config.now plan.now.parsed) in IfErr result (KeyCause w.fault (FailsOn F.tree F.failed F.fails_on files.old files.new) (FailsIn T.meaning T.failed T.fails_in tool.old tool.new)) }
-    ensures entries { let w = work_at (T.meaning tool.old) (call_at request.now (F.tree files.old) config.now plan.now.parsed) in EntriesTurn H.digest_of (worked w) (E.shelf entries.old) (E.shelf entries.new) (T.preprocessed tool.old) (T.preprocessed tool.new) }
-    ensures recorded { let w = work_at (T.meaning tool.old) (call_at request.now (F.tree files.old) config.now plan.now.parsed) in IfOk result (λ made. (p : PrintedCall) → w.direct ≡ Some p → KeyRecorded H.digest_of p (E.shelf entries.old) (E.shelf entries.new) made.1 made.0.digest) }
-    ensures runs { let w = work_at (T.meaning tool.old) (call_at request.now (F.tree files.old) config.now plan.now.parsed) in needs_preprocessing w.rec.language ≡ true → IfOk result (λ made. KeyRuns made.1 (T.preprocessed tool.old) (T.preprocessed tool.new)) }
+    ensures key { let w = work_at (T.meaning tool.old)
+        (call_at request.now (F.tree files.old) config.now plan.now.parsed) in
+        IfOk result (λ made. made.0 ≡ store_key_with H.digest_of w made.0.digest) }
+    ensures from { let w = work_at (T.meaning tool.old)
+        (call_at request.now (F.tree files.old) config.now plan.now.parsed) in
+        IfOk result
+        (λ made. WorkKeyFrom H.digest_of w (E.shelf entries.old).held made.1 made.0.digest) }
+    ensures fine { let p = printed_call (T.meaning tool.old)
+        (call_at request.now (F.tree files.old) config.now plan.now.parsed) in
+        IfOk result (λ made. KeyFine p made.1) }
+    ensures fit { let w = work_at (T.meaning tool.old)
+        (call_at request.now (F.tree files.old) config.now plan.now.parsed) in
+        OnOk result (AllByRecursion FitsLength w.rec.variables) }
+    ensures cause { let w = work_at (T.meaning tool.old)
+        (call_at request.now (F.tree files.old) config.now plan.now.parsed) in
+        IfErr result
+        (KeyCause w.fault (FailsOn F.tree F.failed F.fails_on files.old files.new)
+        (FailsIn T.meaning T.failed T.fails_in tool.old tool.new)) }
+    ensures entries { let w = work_at (T.meaning tool.old)
+        (call_at request.now (F.tree files.old) config.now plan.now.parsed) in
+        EntriesTurn H.digest_of (worked w) (E.shelf entries.old) (E.shelf entries.new)
+        (T.preprocessed tool.old) (T.preprocessed tool.new) }
+    ensures recorded { let w = work_at (T.meaning tool.old)
+        (call_at request.now (F.tree files.old) config.now plan.now.parsed) in
+        IfOk result
+        (λ made. (p : PrintedCall) → w.direct ≡ Some p
+        → KeyRecorded H.digest_of p (E.shelf entries.old) (E.shelf entries.new) made.1 made.0.digest) }
+    ensures runs { let w = work_at (T.meaning tool.old)
+        (call_at request.now (F.tree files.old) config.now plan.now.parsed) in
+        needs_preprocessing w.rec.language ≡ true
+        → IfOk result (λ made. KeyRuns made.1 (T.preprocessed tool.old) (T.preprocessed tool.new)) }
+    ensures until { needs_preprocessing plan.now.parsed.language ≡ true →
+        IfErr result (RunsUntilKey (T.preprocessed tool.old) (T.preprocessed tool.new)) }
+    ensures idle { needs_preprocessing plan.now.parsed.language ≡ false →
+        T.preprocessed tool.new ≡ T.preprocessed tool.old }
     ensures tree { F.tree files.new ≡ F.tree files.old }
     ensures meaning { T.meaning tool.new ≡ T.meaning tool.old }
     ensures steady { OnOk result

@@ -31,18 +31,22 @@ use ckeys_base::hash_state::HashState;
 /// with outputs.
 pub fn two_runs_agree<H: HashState>()
     ensures { (one two : List Served) (one_old one_new two_old two_new : Shelf StoreKey Pairs)
-        → Run H.digest_of one_old one one_new → Run H.digest_of two_old two two_new → IsEmpty one_old → IsEmpty two_old
-        → accounts_of one ≡ accounts_of two → Premises H.digest_of (accounts_of one) → SameOutputs one two }
+        → Run H.digest_of one_old one one_new → Run H.digest_of two_old two two_new
+        → IsEmpty one_old → IsEmpty two_old → accounts_of one ≡ accounts_of two
+        → Premises H.digest_of (accounts_of one) → SameOutputs one two }
 {
     keys_tell_records::<H>();
 }
 
 /// Likewise of two runs over both stores, from empty ones: their include records may give keys or forget as they like.
 pub fn two_direct_runs_agree<H: HashState>()
-    ensures { (settings : Settings) (one two : List Served) (one_old one_new two_old two_new : Shelves)
-        → BothRun H.digest_of settings one_old one one_new → BothRun H.digest_of settings two_old two two_new
-        → IsEmpty one_old.entries → IsEmpty two_old.entries → IsEmpty one_old.objects → IsEmpty two_old.objects
-        → accounts_of one ≡ accounts_of two → Premises H.digest_of (accounts_of one) → SameOutputs one two }
+    ensures { (settings : Settings) (one two : List Served)
+        (one_old one_new two_old two_new : Shelves)
+        → BothRun H.digest_of settings one_old one one_new
+        → BothRun H.digest_of settings two_old two two_new → IsEmpty one_old.entries
+        → IsEmpty two_old.entries → IsEmpty one_old.objects → IsEmpty two_old.objects
+        → accounts_of one ≡ accounts_of two → Premises H.digest_of (accounts_of one)
+        → SameOutputs one two }
 {
     keys_tell_records::<H>();
     records_are_true::<H>();
@@ -51,17 +55,22 @@ pub fn two_direct_runs_agree<H: HashState>()
 /// Where no include records are kept, those that a store may hold are true of each call, so that all that `serve` says of such
 /// holds with no premise; and no call changes that store.
 pub fn records_that_are_not_kept_change_nothing<H: HashState>()
-    ensures are_true { (meaning : Meaning) (tree : Tree) (settings : Settings) (request : Request) (held : Held)
-        → settings.direct ≡ false → RecordsAreTrue H.digest_of (account_at meaning tree settings request) held }
+    ensures are_true { (meaning : Meaning) (tree : Tree) (settings : Settings) (request : Request)
+        (held : Held)
+        → settings.direct ≡ false
+        → RecordsAreTrue H.digest_of (account_at meaning tree settings request) held }
     ensures untouched { (meaning : Meaning) (tree : Tree) (settings : Settings) (request : Request)
-        (old new : Shelf EntryKey Record) (printed printed_new : ℕ) → settings.direct ≡ false
-        → EntriesTurn H.digest_of (account_at meaning tree settings request) old new printed printed_new
+        (old new : Shelf EntryKey Record) (printed printed_new : ℕ)
+        → settings.direct ≡ false
+        → EntriesTurn H.digest_of (account_at meaning tree settings request) old new printed
+        printed_new
         → new ≡ old }
 {}
 
 /// Under distinct digests store keys are equal exactly if the records are, names of outputs with their marks included.
 pub fn store_keys_tell_records<H: HashState>()
-    ensures { (one other : Work) → AreTold one.rec.words one.rec.variables → AreTold other.rec.words other.rec.variables → AreDistinct H.digest_of one.rec other.rec
+    ensures { (one other : Work) → AreTold one.rec.words one.rec.variables
+        → AreTold other.rec.words other.rec.variables → AreDistinct H.digest_of one.rec other.rec
         → (store_key_of H.digest_of one ≡ store_key_of H.digest_of other) ↔ SameRecord one other }
 {
     keys_tell_records::<H>();
@@ -84,8 +93,9 @@ pub fn premises_can_be_met_over_records()
     ensures recorded { (about : Metadata) (zone : ZoneRule) (moment : ℤ) →
         includes_by first_byte_digest (call_on about zone moment) printed_text
         ≡ Some (header_include about zone ∷ []) }
-    ensures found { (about : Metadata) (zone : ZoneRule) (one other : ℤ) (held : Held) →
-        held (entry_key_by first_byte_digest (call_on about zone one)) ≡ Some (record_on about zone one)
+    ensures found { (about : Metadata) (zone : ZoneRule) (one other : ℤ) (held : Held)
+        → held (entry_key_by first_byte_digest (call_on about zone one))
+        ≡ Some (record_on about zone one)
         → HasMatch first_byte_digest (call_on about zone other) held (text_key_on about zone one) }
     ensures long { (bytes : Bytes) → length (first_byte_digest bytes) ≡ 32 }
 {}
@@ -95,5 +105,6 @@ pub fn premises_can_be_met_over_records()
 pub fn folders_do_not_count_in_store_keys()
     ensures { (digest_of : Bytes → Bytes) (meaning : Meaning) (one other : KeyCall)
         → AreSameWithoutFolders meaning one other
-        → store_key_of digest_of (work_at meaning one) ≡ store_key_of digest_of (work_at meaning other) }
+        → store_key_of digest_of (work_at meaning one)
+        ≡ store_key_of digest_of (work_at meaning other) }
 {}

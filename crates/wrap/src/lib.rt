@@ -1,4 +1,4 @@
-//! The session that answers requests.
+//! The session that answers requests, and with it all that a caller of it names.
 #![tactic(auto)]
 
 mod compile;
@@ -8,3 +8,34 @@ mod outputs;
 pub mod session;
 mod stored;
 pub mod verdict;
+
+pub use ckeys::compiler::CCompiler;
+pub use ckeys::config::{ConfigError, KeyConfig};
+pub use ckeys::fault::Fault;
+pub use ckeys::preprocessor::{Preprocessor, Printed, Ticks, ToolFail};
+pub use ckeys::step::Step;
+pub use ckeys::{EntryKey, PreprocessorCacheEntry};
+pub use ckeys_base::hash_state::HashState;
+pub use ckeys_base::store::Store;
+pub use cmdlines::clang::Clang;
+pub use cmdlines::diab::Diab;
+pub use cmdlines::gcc::Gcc;
+pub use cmdlines::msvc::Msvc;
+pub use cmdlines::tasking_vx::TaskingVX;
+pub use cmdlines_base::command::{ArtifactDescriptor, SingleCompileCommand};
+pub use cmdlines_tables::compiler::CCompilerKind;
+pub use os_files::file_time::FileTime;
+pub use os_files::files::{FileFail, Files, Metadata};
+pub use os_files::listed::Listed;
+pub use os_files::memory_files::{MemoryFile, MemoryFiles};
+pub use os_files::os_bytes::OsBytes;
+pub use session::Session;
+pub use time_macros::zone::{Zone, ZoneError};
+pub use wrap_base::answer::{Answer, How, Output};
+pub use wrap_base::call::Call;
+pub use wrap_base::compiler::Compiler;
+pub use wrap_base::map_store::MapStore;
+pub use wrap_base::reason::Reason;
+pub use wrap_base::request::Request;
+pub use wrap_base::store_key::{Family, StoreKey};
+pub use wrap_base::tool::{Compiled, Tool};

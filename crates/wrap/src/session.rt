@@ -108,37 +108,84 @@ impl<
         tool: &mut T,
     ) -> Result<Answer, Fault>
         // It is passed through exactly where the verdict says, unless memory was refused first; a fault has its cause.
-        ensures says { let a = account_at (T.meaning tool.old) (F.tree files.old) self.old.settings request.now in SaysBy GoesOn a (FailsOn F.tree F.failed F.fails_on files.old files.new) (FailsIn T.meaning T.failed T.fails_in tool.old tool.new) result }
+        ensures says { let a = account_at (T.meaning tool.old) (F.tree files.old) self.old.settings
+            request.now in
+            SaysBy GoesOn a (FailsOn F.tree F.failed F.fails_on files.old files.new)
+            (FailsIn T.meaning T.failed T.fails_in tool.old tool.new) result }
 
         // A pass moves no tick.
-        ensures quiet { OnPass result ((T.preprocessed tool.new ≡ T.preprocessed tool.old) × (T.compiled tool.new ≡ T.compiled tool.old) × (T.failed tool.new ≡ T.failed tool.old)) }
+        ensures quiet { OnPass result
+            ((T.preprocessed tool.new ≡ T.preprocessed tool.old)
+            × (T.compiled tool.new ≡ T.compiled tool.old) × (T.failed tool.new ≡ T.failed tool.old)) }
 
         // Under which key it asks the store of outputs, and what it does to that, whatever the records hold.
-        ensures asked { let a = account_at (T.meaning tool.old) (F.tree files.old) self.old.settings request.now in AskedTurn H.digest_of a (shelves_of (E.shelf self.old.entries) (O.shelf self.old.objects)) (shelves_of (E.shelf self.new.entries) (O.shelf self.new.objects)) (T.preprocessed tool.old) (T.preprocessed tool.new) (T.compiled tool.old) (T.compiled tool.new) result }
+        ensures asked { let a = account_at (T.meaning tool.old) (F.tree files.old) self.old.settings
+            request.now in
+            AskedTurn H.digest_of a
+            (shelves_of (E.shelf self.old.entries) (O.shelf self.old.objects))
+            (shelves_of (E.shelf self.new.entries) (O.shelf self.new.objects))
+            (T.preprocessed tool.old) (T.preprocessed tool.new) (T.compiled tool.old)
+            (T.compiled tool.new) result }
 
         // What it does to the records, and to the preprocessor's tick.
-        ensures entries { let a = account_at (T.meaning tool.old) (F.tree files.old) self.old.settings request.now in EntriesTurn H.digest_of a (E.shelf self.old.entries) (E.shelf self.new.entries) (T.preprocessed tool.old) (T.preprocessed tool.new) }
+        ensures entries { let a = account_at (T.meaning tool.old) (F.tree files.old)
+            self.old.settings request.now in
+            EntriesTurn H.digest_of a (E.shelf self.old.entries) (E.shelf self.new.entries)
+            (T.preprocessed tool.old) (T.preprocessed tool.new) }
 
         // Whatever list of earlier calls meets the invariant of the records, that list followed by this call meets it at the end.
-        ensures records { let a = account_at (T.meaning tool.old) (F.tree files.old) self.old.settings request.now in (earlier : List Account) → EntryInvariant H.digest_of self.old.settings (direct_calls earlier) (E.shelf self.old.entries).held → EntryInvariant H.digest_of self.old.settings (direct_calls (earlier ++ a ∷ [])) (E.shelf self.new.entries).held }
+        ensures records { let a = account_at (T.meaning tool.old) (F.tree files.old)
+            self.old.settings request.now in
+            (earlier : List Account)
+            → EntryInvariant H.digest_of self.old.settings (direct_calls earlier)
+            (E.shelf self.old.entries).held
+            → EntryInvariant H.digest_of self.old.settings (direct_calls (earlier ++ a ∷ []))
+            (E.shelf self.new.entries).held }
 
         // Then they are true of this call, where digests are distinct and texts are printed again; and so they are where none are kept.
-        ensures agree { let a = account_at (T.meaning tool.old) (F.tree files.old) self.old.settings request.now in (earlier : List Account) → (self.old.settings.direct ≡ true → EntryInvariant H.digest_of self.old.settings (direct_calls earlier) (E.shelf self.old.entries).held × EntryPremises H.digest_of (direct_calls (earlier ++ a ∷ []))) → RecordsAreTrue H.digest_of a (E.shelf self.old.entries).held }
+        ensures agree { let a = account_at (T.meaning tool.old) (F.tree files.old) self.old.settings
+            request.now in
+            (earlier : List Account)
+            → (self.old.settings.direct ≡ true
+            → EntryInvariant H.digest_of self.old.settings (direct_calls earlier)
+            (E.shelf self.old.entries).held
+            × EntryPremises H.digest_of (direct_calls (earlier ++ a ∷ [])))
+            → RecordsAreTrue H.digest_of a (E.shelf self.old.entries).held }
 
         // Where they are, outputs mean that the call has no fault before the store is asked.
-        ensures goes_on { let a = account_at (T.meaning tool.old) (F.tree files.old) self.old.settings request.now in RecordsAreTrue H.digest_of a (E.shelf self.old.entries).held → Says a (FailsOn F.tree F.failed F.fails_on files.old files.new) (FailsIn T.meaning T.failed T.fails_in tool.old tool.new) result }
+        ensures goes_on { let a = account_at (T.meaning tool.old) (F.tree files.old)
+            self.old.settings request.now in
+            RecordsAreTrue H.digest_of a (E.shelf self.old.entries).held
+            → Says a (FailsOn F.tree F.failed F.fails_on files.old files.new)
+            (FailsIn T.meaning T.failed T.fails_in tool.old tool.new) result }
 
         // Then, where no growth is refused and no device fails, what is said before the compile is the account's alone.
-        ensures exact { let a = account_at (T.meaning tool.old) (F.tree files.old) self.old.settings request.now in RecordsAreTrue H.digest_of a (E.shelf self.old.entries).held → (IsErrOf result Fault.Memory → ⊥) → F.failed files.new ≡ F.failed files.old → T.failed tool.new ≡ T.failed tool.old → settled_by result ≡ settled a }
+        ensures exact { let a = account_at (T.meaning tool.old) (F.tree files.old) self.old.settings
+            request.now in
+            RecordsAreTrue H.digest_of a (E.shelf self.old.entries).held
+            → (IsErrOf result Fault.Memory → ⊥) → F.failed files.new ≡ F.failed files.old
+            → T.failed tool.new ≡ T.failed tool.old → settled_by result ≡ settled a }
 
         // Then, what it does to the store of outputs under its own key, and what the answer tells of the store and of the compiler's runs.
-        ensures store { let a = account_at (T.meaning tool.old) (F.tree files.old) self.old.settings request.now in RecordsAreTrue H.digest_of a (E.shelf self.old.entries).held → StoreTurn H.digest_of a (O.shelf self.old.objects) (O.shelf self.new.objects) (T.compiled tool.old) (T.compiled tool.new) result }
+        ensures store { let a = account_at (T.meaning tool.old) (F.tree files.old) self.old.settings
+            request.now in
+            RecordsAreTrue H.digest_of a (E.shelf self.old.entries).held
+            → StoreTurn H.digest_of a (O.shelf self.old.objects) (O.shelf self.new.objects)
+            (T.compiled tool.old) (T.compiled tool.new) result }
 
         // Then, whatever list of earlier calls meets the invariant, that list followed by this call meets it at the end.
-        ensures invariant { let a = account_at (T.meaning tool.old) (F.tree files.old) self.old.settings request.now in RecordsAreTrue H.digest_of a (E.shelf self.old.entries).held → (earlier : List Account) → Invariant H.digest_of earlier (O.shelf self.old.objects).held → Invariant H.digest_of (earlier ++ a ∷ []) (O.shelf self.new.objects).held }
+        ensures invariant { let a = account_at (T.meaning tool.old) (F.tree files.old)
+            self.old.settings request.now in
+            RecordsAreTrue H.digest_of a (E.shelf self.old.entries).held → (earlier : List Account)
+            → Invariant H.digest_of earlier (O.shelf self.old.objects).held
+            → Invariant H.digest_of (earlier ++ a ∷ []) (O.shelf self.new.objects).held }
 
         // Then, outputs are those that the compiler gives afresh.
-        ensures outputs { let a = account_at (T.meaning tool.old) (F.tree files.old) self.old.settings request.now in RecordsAreTrue H.digest_of a (E.shelf self.old.entries).held → (earlier : List Account) → Invariant H.digest_of earlier (O.shelf self.old.objects).held → Premises H.digest_of (earlier ++ a ∷ []) → Answers a result }
+        ensures outputs { let a = account_at (T.meaning tool.old) (F.tree files.old)
+            self.old.settings request.now in
+            RecordsAreTrue H.digest_of a (E.shelf self.old.entries).held → (earlier : List Account)
+            → Invariant H.digest_of earlier (O.shelf self.old.objects).held
+            → Premises H.digest_of (earlier ++ a ∷ []) → Answers a result }
 
         ensures settings { self.new.settings ≡ self.old.settings }
         ensures meaning { T.meaning tool.new ≡ T.meaning tool.old }
@@ -163,25 +210,64 @@ impl<
         ensures length { IfOk result (λ answers. length answers.items ≡ length calls.old) }
 
         // Each answer is one call's, in order, as `serve` says; and nothing else is done to the stores.
-        ensures run { IfOk result (λ answers. SessionRun H.digest_of self.old.settings (shelves_of (E.shelf self.old.entries) (O.shelf self.old.objects)) (served_at self.old.settings (files_view F.tree F.failed) (tool_view T.meaning T.preprocessed T.compiled T.failed) calls.old calls.new answers.items) (shelves_of (E.shelf self.new.entries) (O.shelf self.new.objects))) }
+        ensures run { IfOk result
+            (λ answers. SessionRun H.digest_of self.old.settings
+            (shelves_of (E.shelf self.old.entries) (O.shelf self.old.objects))
+            (served_at self.old.settings (files_view F.tree F.failed)
+            (tool_view T.meaning T.preprocessed T.compiled T.failed) calls.old calls.new
+            answers.items)
+            (shelves_of (E.shelf self.new.entries) (O.shelf self.new.objects))) }
 
         // Where no records are kept, or from an empty store of them where digests are distinct and texts are printed again, each call is one over the store of outputs alone, under its own key.
-        ensures own { (self.old.settings.direct ≡ true → IsEmpty (E.shelf self.old.entries) × EntryPremises H.digest_of (direct_calls (accounts_at self.old.settings (files_view F.tree F.failed) (tool_view T.meaning T.preprocessed T.compiled T.failed) calls.old)))
-            → IfOk result (λ answers. Run H.digest_of (O.shelf self.old.objects) (served_at self.old.settings (files_view F.tree F.failed) (tool_view T.meaning T.preprocessed T.compiled T.failed) calls.old calls.new answers.items) (O.shelf self.new.objects)) }
+        ensures own { (self.old.settings.direct ≡ true
+            → IsEmpty (E.shelf self.old.entries)
+            × EntryPremises H.digest_of
+            (direct_calls
+            (accounts_at self.old.settings (files_view F.tree F.failed)
+            (tool_view T.meaning T.preprocessed T.compiled T.failed) calls.old)))
+            → IfOk result
+            (λ answers. Run H.digest_of (O.shelf self.old.objects)
+            (served_at self.old.settings (files_view F.tree F.failed)
+            (tool_view T.meaning T.preprocessed T.compiled T.failed) calls.old calls.new
+            answers.items)
+            (O.shelf self.new.objects)) }
 
         // Each is passed through exactly where the verdict says, and a fault has its cause, as `serve` says.
-        ensures says { IfOk result (λ answers. Each (IsAnswered self.old.settings F.tree F.failed F.fails_on T.meaning T.failed T.fails_in) calls.old calls.new answers.items) }
+        ensures says { IfOk result
+            (λ answers. Each
+            (IsAnswered self.old.settings F.tree F.failed F.fails_on T.meaning T.failed T.fails_in)
+            calls.old calls.new answers.items) }
 
         // From empty stores all outputs are those that the compilers give afresh on each call's files.
-        ensures outputs { (self.old.settings.direct ≡ true → IsEmpty (E.shelf self.old.entries)) → IsEmpty (O.shelf self.old.objects) → Premises H.digest_of (accounts_at self.old.settings (files_view F.tree F.failed) (tool_view T.meaning T.preprocessed T.compiled T.failed) calls.old)
-            → IfOk result (λ answers. AllAnswer (served_at self.old.settings (files_view F.tree F.failed) (tool_view T.meaning T.preprocessed T.compiled T.failed) calls.old calls.new answers.items)) }
+        ensures outputs { (self.old.settings.direct ≡ true → IsEmpty (E.shelf self.old.entries))
+            → IsEmpty (O.shelf self.old.objects)
+            → Premises H.digest_of
+            (accounts_at self.old.settings (files_view F.tree F.failed)
+            (tool_view T.meaning T.preprocessed T.compiled T.failed) calls.old)
+            → IfOk result
+            (λ answers. AllAnswer
+            (served_at self.old.settings (files_view F.tree F.failed)
+            (tool_view T.meaning T.preprocessed T.compiled T.failed) calls.old calls.new
+            answers.items)) }
 
         // With nothing forgotten or refused, equal records get at most one fresh answer.
-        ensures once { (self.old.settings.direct ≡ true → IsEmpty (E.shelf self.old.entries) × EntryPremises H.digest_of (direct_calls (accounts_at self.old.settings (files_view F.tree F.failed) (tool_view T.meaning T.preprocessed T.compiled T.failed) calls.old))) → (O.shelf self.new.objects).kept ≡ true
-            → IfOk result (λ answers. OneFresh (served_at self.old.settings (files_view F.tree F.failed) (tool_view T.meaning T.preprocessed T.compiled T.failed) calls.old calls.new answers.items)) }
+        ensures once { (self.old.settings.direct ≡ true
+            → IsEmpty (E.shelf self.old.entries)
+            × EntryPremises H.digest_of
+            (direct_calls
+            (accounts_at self.old.settings (files_view F.tree F.failed)
+            (tool_view T.meaning T.preprocessed T.compiled T.failed) calls.old)))
+            → (O.shelf self.new.objects).kept ≡ true
+            → IfOk result
+            (λ answers. OneFresh
+            (served_at self.old.settings (files_view F.tree F.failed)
+            (tool_view T.meaning T.preprocessed T.compiled T.failed) calls.old calls.new
+            answers.items)) }
 
         ensures settings { self.new.settings ≡ self.old.settings }
-        ensures unchanged { OnErr result ((calls.new ≡ calls.old) × (E.shelf self.new.entries ≡ E.shelf self.old.entries) × (O.shelf self.new.objects ≡ O.shelf self.old.objects)) }
+        ensures unchanged { OnErr result
+            ((calls.new ≡ calls.old) × (E.shelf self.new.entries ≡ E.shelf self.old.entries)
+            × (O.shelf self.new.objects ≡ O.shelf self.old.objects)) }
     {
         keys_tell_records::<H>();
         records_are_true::<H>();
@@ -193,10 +279,21 @@ impl<
         calls: &mut [Call<F, T>],
     ) -> Result<Vec<Result<Answer, Fault>>, AllocError>
         ensures length { IfOk result (λ answers. length answers.items ≡ length calls.old) }
-        ensures run { IfOk result (λ answers. SessionRun H.digest_of self.old.settings (shelves_of (E.shelf self.old.entries) (O.shelf self.old.objects)) (served_at self.old.settings (files_view F.tree F.failed) (tool_view T.meaning T.preprocessed T.compiled T.failed) calls.old calls.new answers.items) (shelves_of (E.shelf self.new.entries) (O.shelf self.new.objects))) }
-        ensures says { IfOk result (λ answers. Each (IsAnswered self.old.settings F.tree F.failed F.fails_on T.meaning T.failed T.fails_in) calls.old calls.new answers.items) }
+        ensures run { IfOk result
+            (λ answers. SessionRun H.digest_of self.old.settings
+            (shelves_of (E.shelf self.old.entries) (O.shelf self.old.objects))
+            (served_at self.old.settings (files_view F.tree F.failed)
+            (tool_view T.meaning T.preprocessed T.compiled T.failed) calls.old calls.new
+            answers.items)
+            (shelves_of (E.shelf self.new.entries) (O.shelf self.new.objects))) }
+        ensures says { IfOk result
+            (λ answers. Each
+            (IsAnswered self.old.settings F.tree F.failed F.fails_on T.meaning T.failed T.fails_in)
+            calls.old calls.new answers.items) }
         ensures settings { self.new.settings ≡ self.old.settings }
-        ensures unchanged { OnErr result ((calls.new ≡ calls.old) × (E.shelf self.new.entries ≡ E.shelf self.old.entries) × (O.shelf self.new.objects ≡ O.shelf self.old.objects)) }
+        ensures unchanged { OnErr result
+            ((calls.new ≡ calls.old) × (E.shelf self.new.entries ≡ E.shelf self.old.entries)
+            × (O.shelf self.new.objects ≡ O.shelf self.old.objects)) }
     {
         let mut answers = Vec::with_capacity(self.alloc, calls.len())?;
         for call in calls.iter_mut() {
@@ -212,11 +309,29 @@ impl<
         files: &mut F,
         tool: &mut T,
     ) -> Result<Answer, Fault>
-        ensures says { let a = account_at (T.meaning tool.old) (F.tree files.old) self.old.settings request.now in SaysBy GoesOn a (FailsOn F.tree F.failed F.fails_on files.old files.new) (FailsIn T.meaning T.failed T.fails_in tool.old tool.new) result }
-        ensures goes_on { let a = account_at (T.meaning tool.old) (F.tree files.old) self.old.settings request.now in RecordsAreTrue H.digest_of a (E.shelf self.old.entries).held → Says a (FailsOn F.tree F.failed F.fails_on files.old files.new) (FailsIn T.meaning T.failed T.fails_in tool.old tool.new) result }
-        ensures quiet { OnPass result ((T.preprocessed tool.new ≡ T.preprocessed tool.old) × (T.compiled tool.new ≡ T.compiled tool.old) × (T.failed tool.new ≡ T.failed tool.old)) }
-        ensures asked { let a = account_at (T.meaning tool.old) (F.tree files.old) self.old.settings request.now in AskedTurn H.digest_of a (shelves_of (E.shelf self.old.entries) (O.shelf self.old.objects)) (shelves_of (E.shelf self.new.entries) (O.shelf self.new.objects)) (T.preprocessed tool.old) (T.preprocessed tool.new) (T.compiled tool.old) (T.compiled tool.new) result }
-        ensures entries { let a = account_at (T.meaning tool.old) (F.tree files.old) self.old.settings request.now in EntriesTurn H.digest_of a (E.shelf self.old.entries) (E.shelf self.new.entries) (T.preprocessed tool.old) (T.preprocessed tool.new) }
+        ensures says { let a = account_at (T.meaning tool.old) (F.tree files.old) self.old.settings
+            request.now in
+            SaysBy GoesOn a (FailsOn F.tree F.failed F.fails_on files.old files.new)
+            (FailsIn T.meaning T.failed T.fails_in tool.old tool.new) result }
+        ensures goes_on { let a = account_at (T.meaning tool.old) (F.tree files.old)
+            self.old.settings request.now in
+            RecordsAreTrue H.digest_of a (E.shelf self.old.entries).held
+            → Says a (FailsOn F.tree F.failed F.fails_on files.old files.new)
+            (FailsIn T.meaning T.failed T.fails_in tool.old tool.new) result }
+        ensures quiet { OnPass result
+            ((T.preprocessed tool.new ≡ T.preprocessed tool.old)
+            × (T.compiled tool.new ≡ T.compiled tool.old) × (T.failed tool.new ≡ T.failed tool.old)) }
+        ensures asked { let a = account_at (T.meaning tool.old) (F.tree files.old) self.old.settings
+            request.now in
+            AskedTurn H.digest_of a
+            (shelves_of (E.shelf self.old.entries) (O.shelf self.old.objects))
+            (shelves_of (E.shelf self.new.entries) (O.shelf self.new.objects))
+            (T.preprocessed tool.old) (T.preprocessed tool.new) (T.compiled tool.old)
+            (T.compiled tool.new) result }
+        ensures entries { let a = account_at (T.meaning tool.old) (F.tree files.old)
+            self.old.settings request.now in
+            EntriesTurn H.digest_of a (E.shelf self.old.entries) (E.shelf self.new.entries)
+            (T.preprocessed tool.old) (T.preprocessed tool.new) }
         ensures settings { self.new.settings ≡ self.old.settings }
         ensures meaning { T.meaning tool.new ≡ T.meaning tool.old }
         ensures tree { F.tree files.new ≡ F.tree files.old }
@@ -271,10 +386,24 @@ fn answer<
     tool: &mut T,
 ) -> Result<Answer, Fault>
     requires plan { IsPlanOf request.now plan.now }
-    ensures says { let w = work_at (T.meaning tool.old) (call_at request.now (F.tree files.old) config.now plan.now.parsed) in SaysWorkedBy (GoesOn w) w (FailsOn F.tree F.failed F.fails_on files.old files.new) (FailsIn T.meaning T.failed T.fails_in tool.old tool.new) result }
-    ensures goes_on { let w = work_at (T.meaning tool.old) (call_at request.now (F.tree files.old) config.now plan.now.parsed) in RecordsAreTrue H.digest_of (worked w) (E.shelf entries.old).held → SaysWorked w (FailsOn F.tree F.failed F.fails_on files.old files.new) (FailsIn T.meaning T.failed T.fails_in tool.old tool.new) result }
-    ensures asked { let w = work_at (T.meaning tool.old) (call_at request.now (F.tree files.old) config.now plan.now.parsed) in AskedTurn H.digest_of (worked w) (shelves_of (E.shelf entries.old) (O.shelf objects.old)) (shelves_of (E.shelf entries.new) (O.shelf objects.new)) (T.preprocessed tool.old) (T.preprocessed tool.new) (T.compiled tool.old) (T.compiled tool.new) result }
-    ensures entries { let w = work_at (T.meaning tool.old) (call_at request.now (F.tree files.old) config.now plan.now.parsed) in EntriesTurn H.digest_of (worked w) (E.shelf entries.old) (E.shelf entries.new) (T.preprocessed tool.old) (T.preprocessed tool.new) }
+    ensures says { let w = work_at (T.meaning tool.old)
+        (call_at request.now (F.tree files.old) config.now plan.now.parsed) in
+        SaysWorkedBy (GoesOn w) w (FailsOn F.tree F.failed F.fails_on files.old files.new)
+        (FailsIn T.meaning T.failed T.fails_in tool.old tool.new) result }
+    ensures goes_on { let w = work_at (T.meaning tool.old)
+        (call_at request.now (F.tree files.old) config.now plan.now.parsed) in
+        RecordsAreTrue H.digest_of (worked w) (E.shelf entries.old).held
+        → SaysWorked w (FailsOn F.tree F.failed F.fails_on files.old files.new)
+        (FailsIn T.meaning T.failed T.fails_in tool.old tool.new) result }
+    ensures asked { let w = work_at (T.meaning tool.old)
+        (call_at request.now (F.tree files.old) config.now plan.now.parsed) in
+        AskedTurn H.digest_of (worked w) (shelves_of (E.shelf entries.old) (O.shelf objects.old))
+        (shelves_of (E.shelf entries.new) (O.shelf objects.new)) (T.preprocessed tool.old)
+        (T.preprocessed tool.new) (T.compiled tool.old) (T.compiled tool.new) result }
+    ensures entries { let w = work_at (T.meaning tool.old)
+        (call_at request.now (F.tree files.old) config.now plan.now.parsed) in
+        EntriesTurn H.digest_of (worked w) (E.shelf entries.old) (E.shelf entries.new)
+        (T.preprocessed tool.old) (T.preprocessed tool.new) }
     ensures unpassed { OnPass result ⊥ }
     ensures meaning { T.meaning tool.new ≡ T.meaning tool.old }
     ensures tree { F.tree files.new ≡ F.tree files.old }

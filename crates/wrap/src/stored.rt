@@ -21,8 +21,10 @@ pub fn ask<O: Store<StoreKey, Listed<(OsBytes, OsBytes)>>>(
     key: &StoreKey,
     outputs: &[(OsBytes, ArtifactDescriptor)],
 ) -> Result<Option<Listed<Output>>, AllocError>
-    ensures asks { Asks (O.shelf objects.old) (O.shelf objects.new) key.now ((O.shelf objects.new).held key.now) }
-    ensures found { IfOk result (λ found. found ≡ option_map (placed outputs.now) ((O.shelf objects.new).held key.now)) }
+    ensures asks { Asks (O.shelf objects.old) (O.shelf objects.new) key.now
+        ((O.shelf objects.new).held key.now) }
+    ensures found { IfOk result
+        (λ found. found ≡ option_map (placed outputs.now) ((O.shelf objects.new).held key.now)) }
 {
     match objects.get(key) {
         Some(pairs) => Ok(Some(placed(alloc, outputs, pairs.as_slice())?)),
@@ -36,7 +38,8 @@ pub fn keep<O: Store<StoreKey, Listed<(OsBytes, OsBytes)>>>(
     key: StoreKey,
     pairs: Listed<(OsBytes, OsBytes)>,
 ) -> Result<(), (StoreKey, Listed<(OsBytes, OsBytes)>)>
-    ensures { Puts ⟦<StoreKey as PartialEq>⟧.eq (O.shelf objects.old) (O.shelf objects.new) key pairs result }
+    ensures { Puts ⟦<StoreKey as PartialEq>⟧.eq (O.shelf objects.old) (O.shelf objects.new) key
+        pairs result }
 {
     objects.put(key, pairs)
 }

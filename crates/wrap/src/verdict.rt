@@ -43,7 +43,8 @@ fn plan_of(alloc: Global, request: &Request, parsed: ParsedArguments) -> Result<
     requires object { is_some (object_path parsed) ≡ true }
     ensures parsed { IfOk result (λ plan. plan.parsed ≡ parsed) }
     ensures command { IfOk result (λ plan. plan.compile ≡ compile_command_of request.now parsed) }
-    ensures compile { IfOk result (λ plan. ReadsAsCompile (kind_of request.now.compiler) parsed plan.compile.arguments) }
+    ensures compile { IfOk result
+        (λ plan. ReadsAsCompile (kind_of request.now.compiler) parsed plan.compile.arguments) }
 {
     let compiler = &request.compiler;
     let executable = compiler.executable();
@@ -63,10 +64,16 @@ fn after_hazards(
     parsed: ParsedArguments,
 ) -> Result<Verdict, AllocError>
     requires object { is_some (object_path parsed) ≡ true }
-    ensures verdict { IfOk result (λ verdict. decision_of verdict ≡ with_hazards (kind_of request.now.compiler) (parsing.asks parsed)) }
+    ensures verdict { IfOk result
+        (λ verdict. decision_of verdict
+        ≡ with_hazards (kind_of request.now.compiler) (parsing.asks parsed)) }
     ensures plan { IfOk result (λ verdict. OnAsks verdict (IsPlanOf request.now)) }
-    ensures again { (words : List Bytes) → parsing.parse_of (kind_of request.now.compiler) words ≡ parsing.asks parsed → parsing.HasSafeInput (kind_of request.now.compiler) parsed → IfOk result (λ verdict. OnAsks verdict (IsReadAgain request.now words)) }
-    ensures safe { (words : List Bytes) → parsing.parse_of (kind_of request.now.compiler) words ≡ parsing.asks parsed
+    ensures again { (words : List Bytes)
+        → parsing.parse_of (kind_of request.now.compiler) words ≡ parsing.asks parsed
+        → parsing.HasSafeInput (kind_of request.now.compiler) parsed
+        → IfOk result (λ verdict. OnAsks verdict (IsReadAgain request.now words)) }
+    ensures safe { (words : List Bytes)
+        → parsing.parse_of (kind_of request.now.compiler) words ≡ parsing.asks parsed
         → IfOk result (λ verdict. OnAsks verdict (IsReadAgainWhereSafe request.now words)) }
 {
     if empty_value(&parsed) {
@@ -90,13 +97,20 @@ fn after_hazards(
 
 /// The verdict on a request, with the files of words that it names opened.
 pub fn judge<F: Files>(alloc: Global, request: &Request, files: &mut F) -> Result<Verdict, Fault>
-    ensures verdict { IfOk result (λ verdict. decision_of verdict ≡ verdict_of (kind_of request.now.compiler) (words_at request.now (F.tree files.old))) }
+    ensures verdict { IfOk result
+        (λ verdict. decision_of verdict
+        ≡ verdict_of (kind_of request.now.compiler) (words_at request.now (F.tree files.old))) }
     // The commands are those of the request, and its compiler reads them again as what was wanted, unless an option of Msvc gave an
     // input that can't stand where it's written.
     ensures plan { IfOk result (λ verdict. OnAsks verdict (IsPlanOf request.now)) }
-    ensures again { IfOk result (λ verdict. OnAsks verdict (IsReadAgainUnlessGiven request.now (words_at request.now (F.tree files.old)))) }
-    ensures safe { IfOk result (λ verdict. OnAsks verdict (IsReadAgainWhereSafe request.now (words_at request.now (F.tree files.old)))) }
-    ensures cause { IfErr result (EarlyCause (FailsOn F.tree F.failed F.fails_on files.old files.new)) }
+    ensures again { IfOk result
+        (λ verdict. OnAsks verdict
+        (IsReadAgainUnlessGiven request.now (words_at request.now (F.tree files.old)))) }
+    ensures safe { IfOk result
+        (λ verdict. OnAsks verdict
+        (IsReadAgainWhereSafe request.now (words_at request.now (F.tree files.old)))) }
+    ensures cause { IfErr result
+        (EarlyCause (FailsOn F.tree F.failed F.fails_on files.old files.new)) }
     ensures tree { F.tree files.new ≡ F.tree files.old }
     ensures steady { OnOk result (F.failed files.new ≡ F.failed files.old) }
     ensures memory { IsErrOf result Fault.Memory → F.failed files.new ≡ F.failed files.old }

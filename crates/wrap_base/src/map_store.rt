@@ -31,7 +31,8 @@ impl<K: Eq + Hash + Drop, V: Drop> MapStore<K, V> {
         ensures empty { (key : K) → (shelf_of K.eq result).held key ≡ None }
         ensures count { count_of result ≡ 0 }
         ensures kept { (shelf_of K.eq result).kept ≡ true }
-        ensures ticks { ((shelf_of K.eq result).forgets ≡ 0) × ((shelf_of K.eq result).clears ≡ 0) × ((shelf_of K.eq result).puts ≡ 0) }
+        ensures ticks { ((shelf_of K.eq result).forgets ≡ 0) × ((shelf_of K.eq result).clears ≡ 0)
+            × ((shelf_of K.eq result).puts ≡ 0) }
     {
         MapStore {
             map: HashMap::new(alloc),
@@ -44,7 +45,9 @@ impl<K: Eq + Hash + Drop, V: Drop> MapStore<K, V> {
     /// Drops all pairs.
     fn drop_all(&mut self)
         ensures gone { (q : K) → get K.eq self.new.map q ≡ None }
-        ensures kept { (self.new.kept ≡ true) ↔ ((self.old.kept ≡ true) × KeepsKeys (λ q. get K.eq self.old.map q) (λ q. get K.eq self.new.map q)) }
+        ensures kept { (self.new.kept ≡ true)
+            ↔ ((self.old.kept ≡ true)
+            × KeepsKeys (λ q. get K.eq self.old.map q) (λ q. get K.eq self.new.map q)) }
         ensures count { count_of self.new ≡ 0 }
         ensures cleared { self.new.cleared ≡ self.old.cleared }
         ensures puts { self.new.puts ≡ self.old.puts }
@@ -69,15 +72,14 @@ impl<K: Eq + Hash + Drop, V: Drop> Store<K, V> for MapStore<K, V> {
 
     fn get(&mut self, key: &K) -> Option<&V>
         // It changes nothing, whatever was refused or dropped before.
-        ensures* after_borrow { sem 𝓛 (Rests (the_row K.row V.row K.PartialEq (record { hash_input = K.hash_input })) self.entry (λ new.
-            Asks (shelf_of K.eq self.old) (shelf_of K.eq new) key.now (option_copied result)
-            × (new ≡ self.old))) }
+        ensures* after_borrow { sem 𝓛 (Rests (the_row K.row V.row K.PartialEq (record { hash_input = K.hash_input })) self.entry (λ new. Asks (shelf_of K.eq self.old) (shelf_of K.eq new) key.now (option_copied result) × (new ≡ self.old))) }
     {
         self.map.get(key)
     }
 
     fn put(&mut self, key: K, value: V) -> Result<(), (K, V)>
-        ensures stored { Puts K.eq (shelf_of K.eq self.old) (shelf_of K.eq self.new) key value result }
+        ensures stored { Puts K.eq (shelf_of K.eq self.old) (shelf_of K.eq self.new) key value
+            result }
         ensures alone { PutsAlone K.eq self.old self.new key value result }
     {
         self.puts = self.puts.wrapping_add(1);

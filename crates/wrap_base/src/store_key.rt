@@ -31,16 +31,20 @@ pub struct StoreKey {
 /// Keys are equal exactly if their fields are, and so they are in order. They are ordered by the family, then the shape, then the
 /// names, then the digest, and what is hashed of one is what is hashed of these, in this order.
 pub fn keys_are_their_fields()
-    ensures equal { (one other : StoreKey) → (⟦<StoreKey as PartialEq>⟧.eq one other ≡ true) ↔ (one ≡ other) }
-    ensures tied { (one other : StoreKey) → (⟦<StoreKey as Ord>⟧.cmp one other ≡ Equal) ↔ (one ≡ other) }
+    ensures equal { (one other : StoreKey)
+        → (⟦<StoreKey as PartialEq>⟧.eq one other ≡ true) ↔ (one ≡ other) }
+    ensures tied { (one other : StoreKey)
+        → (⟦<StoreKey as Ord>⟧.cmp one other ≡ Equal) ↔ (one ≡ other) }
     ensures ordered { (one other : StoreKey) → ⟦<StoreKey as Ord>⟧.cmp one other
         ≡ ordering_then (⟦<Family as Ord>⟧.cmp one.family other.family)
         (ordering_then (⟦<CShape as Ord>⟧.cmp one.shape other.shape)
         (ordering_then (⟦<Listed<OutputName> as Ord>⟧.cmp one.names other.names)
         (⟦<OsBytes as Ord>⟧.cmp one.digest other.digest))) }
-    ensures hashed { (key : StoreKey) → ⟦<StoreKey as Hash>⟧.hash_input key
+    ensures hashed { (key : StoreKey)
+        → ⟦<StoreKey as Hash>⟧.hash_input key
         ≡ ⟦<Family as Hash>⟧.hash_input key.family ++ ⟦<CShape as Hash>⟧.hash_input key.shape
-        ++ ⟦<Listed<OutputName> as Hash>⟧.hash_input key.names ++ ⟦<OsBytes as Hash>⟧.hash_input key.digest }
+        ++ ⟦<Listed<OutputName> as Hash>⟧.hash_input key.names ++ ⟦<OsBytes as Hash>⟧.hash_input
+        key.digest }
 {
     ties_are_equal::<StoreKey>();
 }

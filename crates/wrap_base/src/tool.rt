@@ -34,12 +34,21 @@ pub trait Tool: Preprocessor {
         files: &mut F,
         moment: i64,
     ) -> Result<Compiled, ToolFail>
-        ensures answer { IfOk result (λ made. made_of made.status made.files ≡ Self.meaning self.old Step.Compile (reading_of kind command.now.arguments) (names_of outputs.now) (scene_of command.now (F.tree files.old) moment)) }
+        ensures answer { IfOk result
+            (λ made. made_of made.status made.files
+            ≡ Self.meaning self.old Step.Compile (reading_of kind command.now.arguments)
+            (names_of outputs.now) (scene_of command.now (F.tree files.old) moment)) }
         ensures meaning { Self.meaning self.new ≡ Self.meaning self.old }
         ensures tree { F.tree files.new ≡ F.tree files.old }
-        ensures device { IsErrOf result ToolFail.Device → (Self.failed self.new ≡ ticked (Self.failed self.old)) × Self.fails_in self.old Step.Compile self.new }
-        ensures files_device { IsErrOf result ToolFail.Device → (F.failed files.new ≡ F.failed files.old) ⊎ (F.failed files.new ≡ ticked (F.failed files.old)) }
-        ensures steady { (IsErrOf result ToolFail.Device → ⊥) → (Self.failed self.new ≡ Self.failed self.old) × (F.failed files.new ≡ F.failed files.old) }
+        ensures device { IsErrOf result ToolFail.Device
+            → (Self.failed self.new ≡ ticked (Self.failed self.old))
+            × Self.fails_in self.old Step.Compile self.new }
+        ensures files_device { IsErrOf result ToolFail.Device
+            → (F.failed files.new ≡ F.failed files.old)
+            ⊎ (F.failed files.new ≡ ticked (F.failed files.old)) }
+        ensures steady { (IsErrOf result ToolFail.Device → ⊥)
+            → (Self.failed self.new ≡ Self.failed self.old)
+            × (F.failed files.new ≡ F.failed files.old) }
         ensures runs { Self.compiled self.new ≡ ticked (Self.compiled self.old) }
         ensures preprocesses { Self.preprocessed self.new ≡ Self.preprocessed self.old };
 }

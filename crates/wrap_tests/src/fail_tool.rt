@@ -52,9 +52,13 @@ impl<T> FailTool<T> {
         ensures fails { self.old.calls_left ≡ 0 → self.old.failed_step ≡ None → OnOk result ⊥ }
         ensures ok { OnOk result (self.new.own ≡ self.old.own) }
         ensures device { IfErr result (λ e. e ≡ ToolFail.Device) }
-        ensures due { OnErr result ((self.old.calls_left ≡ 0) × (self.old.failed_step ≡ None) × (self.new.failed_step ≡ Some step)) }
+        ensures due { OnErr result
+            ((self.old.calls_left ≡ 0) × (self.old.failed_step ≡ None)
+            × (self.new.failed_step ≡ Some step)) }
         ensures failure { OnErr result (self.new.own.failure ≡ ticked self.old.own.failure) }
-        ensures ticks { OnErr result (StepTicks step self.old.own.preprocess self.new.own.preprocess self.old.own.compile self.new.own.compile) }
+        ensures ticks { OnErr result
+            (StepTicks step self.old.own.preprocess self.new.own.preprocess self.old.own.compile
+            self.new.own.compile) }
     {
         if self.calls_left > 0 {
             self.calls_left -= 1;

@@ -43,8 +43,10 @@ impl<'a> Iterator for KeptSlices<'a> {
 pub(super) fn next_place(kind: Kind, folders: &[OsBytes], text: &[u8], from: usize) -> usize
     requires { from ≤ length text.now }
     ensures within { (from ≤ result) × (result ≤ length text.now) }
-    ensures none_before { (k : ℕ) → from ≤ k → k < result → longest (places_of kind) folders.now text.now k ≡ 0 }
-    ensures found { result < length text.now → 0 < longest (places_of kind) folders.now text.now result }
+    ensures none_before { (k : ℕ) → from ≤ k → k < result
+        → longest (places_of kind) folders.now text.now k ≡ 0 }
+    ensures found { result < length text.now
+        → 0 < longest (places_of kind) folders.now text.now result }
 {
     if all_begin_with_slash(folders) {
         next_slash(kind, folders, text, from)
@@ -67,8 +69,10 @@ fn next_slash(kind: Kind, folders: &[OsBytes], text: &[u8], from: usize) -> usiz
     requires start { from ≤ length text.now }
     requires slashes { IsTrue (left.all_begin_with_slash folders.now) }
     ensures within { (from ≤ result) × (result ≤ length text.now) }
-    ensures none_before { (k : ℕ) → from ≤ k → k < result → longest (places_of kind) folders.now text.now k ≡ 0 }
-    ensures found { result < length text.now → 0 < longest (places_of kind) folders.now text.now result }
+    ensures none_before { (k : ℕ) → from ≤ k → k < result
+        → longest (places_of kind) folders.now text.now k ≡ 0 }
+    ensures found { result < length text.now
+        → 0 < longest (places_of kind) folders.now text.now result }
 {
     let mut rest = from;
     while let Some(slash) = memchr(b'/', &text[rest..]) {
@@ -85,8 +89,10 @@ fn next_slash(kind: Kind, folders: &[OsBytes], text: &[u8], from: usize) -> usiz
 fn next_byte(kind: Kind, folders: &[OsBytes], text: &[u8], from: usize) -> usize
     requires { from ≤ length text.now }
     ensures within { (from ≤ result) × (result ≤ length text.now) }
-    ensures none_before { (k : ℕ) → from ≤ k → k < result → longest (places_of kind) folders.now text.now k ≡ 0 }
-    ensures found { result < length text.now → 0 < longest (places_of kind) folders.now text.now result }
+    ensures none_before { (k : ℕ) → from ≤ k → k < result
+        → longest (places_of kind) folders.now text.now k ≡ 0 }
+    ensures found { result < length text.now
+        → 0 < longest (places_of kind) folders.now text.now result }
 {
     for i in from..text.len() {
         if longest_at(kind, folders, text, i) > 0 {
@@ -99,7 +105,8 @@ fn next_byte(kind: Kind, folders: &[OsBytes], text: &[u8], from: usize) -> usize
 /// Where the part behind the folder at this place begins, unless this is the end.
 pub(super) fn next_start(kind: Kind, folders: &[OsBytes], text: &[u8], end: usize) -> Option<usize>
     requires { end ≤ length text.now }
-    ensures value { result ≡ start_after (longest (places_of kind) folders.now text.now) (length text.now) end }
+    ensures value { result
+        ≡ start_after (longest (places_of kind) folders.now text.now) (length text.now) end }
     ensures within { ForSome result (λ i. i ≤ length text.now) }
 {
     if end < text.len() {

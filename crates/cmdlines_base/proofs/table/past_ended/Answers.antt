@@ -1,8 +1,10 @@
-use Rattle.std.proofs.Common.{rules, ◌≡◌, ◌<◌, All, List, [], ◌∷◌, length, sym, subst, ap, arith, ◌∙◌}
+use Rattle.std.proofs.Common.{◌≡◌, ◌<◌, ◌≤◌, max, All, List, [], ◌∷◌, length, sym, subst, ap, arith, ◌∙◌}
 use Rattle.std.proofs.lemmas.List.{length-map}
 use Rattle.cmdlines_base.specs.Nodes.{GoesOn, IsNode}
 use Rattle.cmdlines_base.specs.Table.{entry_of, entries_of}
+use Rattle.cmdlines_base.specs.Reach.{reach}
 use Rattle.cmdlines_base.proofs.NodeLemmas.{all_on, ends_once, node_behind}
+use Rattle.cmdlines_base.proofs.ReachLemmas.{reach-ended}
 use Rattle.cmdlines_base.proofs.table.past_ended.Goals.{in_default-via-in-Some+else-flag-depth, in_default-via-in_default}
 use Rattle.cmdlines_base.proofs.table.past_ended.Goals as goal
 
@@ -30,3 +32,13 @@ returns-in_default-clause-on g c =
           subst (λ xs. All (GoesOn d) (entries_of xs)) (sym w.in-Some.ensures.cases.0) (all_on d word (entry_of w.in-Some.entry.now) (entries_of w.in-Some.others.now) node on)
       | in_default-via-in_default w ↦ λ k e lt. absurd (omega (arith, lt, length-map c.args.node.now entry_of, w.in_default.ensures.cases))
     ]
+
+pub returns-after-fits-clause-reach : goal.returns-after-fits-clause-reach
+returns-after-fits-clause-reach g c =
+    let d = c.args.depth in
+    let word = c.args.word.now in
+    let e = entry_of c.in-Some.entry.now in
+    let es = entries_of c.in-Some.others.now in
+    let node : IsNode d word (e ∷ es) = subst (λ xs. IsNode d word (entries_of xs)) c.in-Some.ensures.cases.0 c.requires.node in
+    let le : length e.flag ≤ d = omega (arith, c.if-flag-depth.true, ap length c.flag.ensures) in
+    reach-ended d word e es node le ∙ ap (λ xs. max d (reach (entries_of xs) word)) (sym c.in-Some.ensures.cases.0)

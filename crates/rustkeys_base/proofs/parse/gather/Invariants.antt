@@ -1,4 +1,4 @@
-use Rattle.std.proofs.Common.{◌≡◌, length, map}
+use Rattle.std.proofs.Common.{◌≡◌, ◌∷◌, [], length, map}
 use Rattle.cmdlines_base.specs.Cutting.{place_of, reading_at, table_in}
 use Rattle.rustc_options.specs.Table.{rustc_entries, rustc_reading}
 use Rattle.rustkeys_base.specs.Facts.{facts_of, facts_with}
@@ -15,7 +15,7 @@ invariant-loop-next g l =
     let left = reading_at rustc_entries (place_of l.arguments) in
     let all = rustc_reading l.fn.words in
     record {
-      table : table_in l.arguments ≡ rustc_entries;
+      table : table_in l.arguments ≡ rustc_entries ∷ [];
       verdict : verdict_at l.fn.dir tree l.facts left ≡ verdict_on l.fn.dir tree all;
       facts : facts_with l.facts (map token_of left.items) ≡ facts_of (map token_of all.items);
       kept : Continues left.items l.kept all.items;

@@ -1,0 +1,148 @@
+//! What the words of entries come to, by the public parse of each compiler.
+
+ghost use Rattle.std.specs.Prelude.{◌≡◌, IfOk, map};
+ghost use Rattle.cmdlines.specs.Opening.{opened_words};
+ghost use Rattle.cmdlines.specs.Parsing.{decision_of, parse_of};
+ghost use Rattle.recorded_builds.specs.Outcomes.{outcome_in, outcome_of, outcome_told};
+
+use crate::entry::Entry;
+use crate::executables::EntryCompiler;
+use crate::snapshot::Asked;
+use cmdlines::clang::Clang;
+use cmdlines::compiler_arguments::{CompilerArguments, ParseFault};
+use cmdlines::diab::Diab;
+use cmdlines::gcc::Gcc;
+use cmdlines::msvc::Msvc;
+use cmdlines::parsed::ParsedArguments;
+use cmdlines::tasking_vx::TaskingVX;
+use cmdlines_tables::compiler::CCompilerKind;
+use os_files::files::Files;
+use os_files::os_bytes::OsBytes;
+use rustkeys_base::{parse, parsed as rust};
+use std::alloc::{AllocError, Global};
+use std::mem;
+
+/// What the words of an entry come to.
+#[derive(Drop)]
+pub enum Verdict {
+    /// By a C compiler of this kind.
+    C(CCompilerKind, CompilerArguments<ParsedArguments>),
+    Rustc(CompilerArguments<rust::ParsedArguments>),
+    /// The executable is none that is known.
+    Unknown,
+}
+
+/// The C compilers, of which nothing more is known.
+#[derive(Drop)]
+pub struct Compilers {
+    pub gcc: Gcc,
+    pub clang: Clang,
+    pub diab: Diab,
+    pub msvc: Msvc,
+    pub tasking_vx: TaskingVX,
+}
+
+impl Compilers {
+    pub fn new(alloc: Global) -> Result<Compilers, AllocError> {
+        Ok(Compilers {
+            gcc: Gcc::new(alloc, false, None, None)?,
+            clang: Clang::new(alloc, false, None, None)?,
+            diab: Diab::new(alloc, false, None, None)?,
+            msvc: Msvc::new(alloc, false, None, None)?,
+            tasking_vx: TaskingVX::new(alloc, false, None, None)?,
+        })
+    }
+
+    /// What words come to by a compiler of that kind.
+    fn parse<F: Files>(
+        &self,
+        alloc: Global,
+        kind: CCompilerKind,
+        words: &[OsBytes],
+        dir: &OsBytes,
+        files: &mut F,
+    ) -> Result<CompilerArguments<ParsedArguments>, ParseFault>
+        ensures decision { IfOk result
+            (λ answer. decision_of answer
+            ≡ parse_of kind (opened_words kind dir.now (F.tree files.old) words.now)) }
+        ensures tree { F.tree files.new ≡ F.tree files.old }
+    {
+        match kind {
+            CCompilerKind::Gcc => self.gcc.parse_arguments(alloc, words, dir, files),
+            CCompilerKind::Clang => self.clang.parse_arguments(alloc, words, dir, files),
+            CCompilerKind::Diab => self.diab.parse_arguments(alloc, words, dir, files),
+            CCompilerKind::Msvc => self.msvc.parse_arguments(alloc, words, dir, files),
+            CCompilerKind::TaskingVX => self.tasking_vx.parse_arguments(alloc, words, dir, files),
+        }
+    }
+
+    /// What the words of an entry come to.
+    pub fn decide<F: Files>(
+        &self,
+        alloc: Global,
+        entry: &Entry,
+        files: &mut F,
+    ) -> Result<Verdict, ParseFault>
+        ensures outcome { IfOk result
+            (λ verdict. outcome_in verdict ≡ outcome_of (F.tree files.old) entry.now) }
+        ensures tree { F.tree files.new ≡ F.tree files.old }
+    {
+        let words = entry.words.as_slice();
+        match entry.compiler {
+            None => Ok(Verdict::Unknown),
+            Some(EntryCompiler::C(kind)) => {
+                let answer = self.parse(alloc, kind, words, &entry.dir, files)?;
+                Ok(Verdict::C(kind, answer))
+            }
+            Some(EntryCompiler::Rustc) => {
+                let answer = parse::parse_arguments(alloc, words, &entry.dir, files)?;
+                Ok(Verdict::Rustc(answer))
+            }
+        }
+    }
+}
+
+/// What is decided on an entry.
+#[derive(Drop)]
+pub struct Decided {
+    pub verdict: Verdict,
+    /// The files that its words name as files of words, and that aren't there.
+    pub missing: Vec<OsBytes>,
+}
+
+/// What is decided on an entry, with these files.
+fn decided_on(
+    alloc: Global,
+    compilers: &Compilers,
+    entry: &Entry,
+    files: &mut Asked,
+) -> Result<Decided, ParseFault>
+    ensures outcome { IfOk result
+        (λ decided. outcome_in decided.verdict ≡ outcome_of files.old.files entry.now) }
+    ensures tree { files.new.files ≡ files.old.files }
+{
+    let verdict = compilers.decide(alloc, entry, files)?;
+    let missing = mem::replace(&mut files.read, Vec::new(alloc));
+    Ok(Decided { verdict, missing })
+}
+
+/// What is decided on each entry, in order, with these files.
+pub fn decide_all(
+    alloc: Global,
+    compilers: &Compilers,
+    entries: &[Entry],
+    files: &mut Asked,
+) -> Result<Vec<Decided>, ParseFault>
+    // Each is what the definitions make of the entry's words.
+    ensures outcomes { IfOk result
+        (λ decided. map outcome_told decided.items ≡ map (outcome_of files.old.files) entries.now) }
+    ensures tree { files.new.files ≡ files.old.files }
+{
+    let mut decided = Vec::new(alloc);
+    let mut rest = entries;
+    while let Some((entry, more)) = rest.split_first() {
+        decided.push(decided_on(alloc, compilers, entry, files)?)?;
+        rest = more;
+    }
+    Ok(decided)
+}

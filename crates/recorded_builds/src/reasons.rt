@@ -1,0 +1,46 @@
+//! Why words are passed through, as text.
+
+ghost use Rattle.std.specs.Prelude.{◌≡◌, IfOk, is_some};
+ghost use Rattle.recorded_builds.specs.Outcomes.{is_passed, outcome_in};
+
+use crate::deciding::Verdict;
+use cmdlines::compiler_arguments::CompilerArguments;
+use os_files::os_bytes::OsBytes;
+use std::alloc::{AllocError, Global};
+
+/// Why words are passed through.
+fn pass_text(
+    alloc: Global,
+    reason: &'static str,
+    more: &Option<String>,
+) -> Result<String, AllocError> {
+    match more {
+        None => String::from_str(alloc, reason),
+        Some(more) => format!(in alloc; "{reason}: {more}"),
+    }
+}
+
+/// Why the words of a verdict are passed through, and nothing where what they ask for is kept.
+pub fn reason_of(
+    alloc: Global,
+    verdict: &Verdict,
+    executable: &OsBytes,
+) -> Result<Option<String>, AllocError>
+    // There is a reason exactly where they are passed through.
+    ensures reason { IfOk result (λ reason. is_some reason ≡ is_passed (outcome_in verdict.now)) }
+{
+    match verdict {
+        Verdict::C(_, CompilerArguments::Ok(_)) | Verdict::Rustc(CompilerArguments::Ok(_)) => Ok(
+            None,
+        ),
+        Verdict::C(_, CompilerArguments::NotCompilation)
+        | Verdict::Rustc(CompilerArguments::NotCompilation) => {
+            Ok(Some(String::from_str(alloc, "not a compilation")?))
+        }
+        Verdict::C(_, CompilerArguments::CannotCache(reason, more))
+        | Verdict::Rustc(CompilerArguments::CannotCache(reason, more)) => {
+            Ok(Some(pass_text(alloc, reason, more)?))
+        }
+        Verdict::Unknown => Ok(Some(format!(in alloc; "unknown compiler {executable}")?)),
+    }
+}

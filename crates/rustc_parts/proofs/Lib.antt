@@ -1,0 +1,4 @@
+pub mod RowReads
+pub mod PieceFormats
+pub mod WholeKeys
+pub mod OneOrder

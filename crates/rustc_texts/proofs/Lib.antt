@@ -1,0 +1,4 @@
+pub mod FirstLines
+pub mod JoinedPieces
+pub mod MoreLines
+pub mod NameLaws

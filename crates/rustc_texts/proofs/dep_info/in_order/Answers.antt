@@ -1,0 +1,13 @@
+use Rattle.std.proofs.Common.{rules, ap, subst, sym}
+use Rattle.std.specs.List.Sorted.{IsSorted}
+use Rattle.std.specs.Ordering.{is_lt}
+use Rattle.std.proofs.lemmas.List.MinMax.{ranks_by}
+use Rattle.std.proofs.lemmas.List.Sorted.{answers_always}
+use Rattle.os_files.specs.Path.{path_cmp}
+use Rattle.rustc_texts.proofs.dep_info.in_order.Goals as goal
+
+pub returns-clause-sorted : goal.returns-clause-sorted
+returns-clause-sorted c =
+    let ranks = ranks_by c.paths_have_one_order.ensures.total (λ path. path) in
+    subst (IsSorted path_cmp) (sym c.from_vec.ensures)
+    (c.sort_unstable_by.ensures.sorted (λ x y. is_lt (path_cmp x y)) ranks (answers_always _ _ _ (λ f a r f' k. ap is_lt (search rules))))

@@ -1,0 +1,4 @@
+pub mod DepInfo
+pub mod EnvDeps
+pub mod Rewriting
+pub mod Variables

@@ -1,0 +1,52 @@
+//! The variables that a source names, as the text on its dependencies tells them.
+
+ghost use Rattle.std.specs.Prelude.{◌≡◌, IfOk, option_copied};
+ghost use Rattle.rustc_texts.specs.EnvDeps.{env_dep_in, env_dep_of, env_deps_of, mark, told_in};
+
+use os_files::listed::Listed;
+use os_files::os_bytes::OsBytes;
+use rustc_options::splitting::split_at_equals;
+use rustc_parts::parts::EnvDep;
+use std::alloc::{AllocError, Global};
+
+/// How a line begins that tells a variable.
+const MARK: &[u8] = b"# env-dep:";
+
+/// What a line tells of a variable, where it tells of one.
+fn told_in(line: &[u8]) -> Option<&[u8]>
+    ensures { option_copied result ≡ told_in line.now }
+{
+    line.strip_prefix(MARK)
+}
+
+/// The variable that is told so.
+fn env_dep_of(alloc: Global, told: &[u8]) -> Result<EnvDep, AllocError>
+    ensures { IfOk result (λ dep. dep ≡ env_dep_of told.now) }
+{
+    let (name, value) = split_at_equals(OsBytes::from_slice(alloc, told)?)?;
+    Ok(EnvDep { name, value })
+}
+
+/// The variable that a line tells, where it tells one.
+fn env_dep_in(alloc: Global, line: &[u8]) -> Result<Option<EnvDep>, AllocError>
+    ensures { IfOk result (λ dep. dep ≡ env_dep_in line.now) }
+{
+    match told_in(line) {
+        None => Ok(None),
+        Some(told) => Ok(Some(env_dep_of(alloc, told)?)),
+    }
+}
+
+/// The variables that a source names while it is compiled, in the order in which the text on its dependencies tells them: each line
+/// `# env-dep:NAME=VALUE` tells one that is set, and `# env-dep:NAME` one that isn't.
+pub fn parse_env_dep_info(alloc: Global, text: &str) -> Result<Listed<EnvDep>, AllocError>
+    ensures { IfOk result (λ deps. deps ≡ env_deps_of text.now) }
+{
+    let mut deps = Vec::new(alloc);
+    for line in text.lines() {
+        if let Some(dep) = env_dep_in(alloc, line.as_bytes())? {
+            deps.push(dep)?;
+        }
+    }
+    Ok(Listed::from_vec(deps))
+}

@@ -1,0 +1,8 @@
+//! The texts in which rustc answers, and what is asked of it, as functions of texts and lists, with no files and no tool.
+#![tactic(auto)]
+
+pub mod dep_info;
+pub mod env_deps;
+pub mod fault;
+pub mod rewriting;
+pub mod variables;

@@ -1,0 +1,4 @@
+//! What one writes over `wrap` alone, and what follows for it.
+#![tactic(auto)]
+
+pub mod build;
