@@ -86,55 +86,6 @@ fn each_part_is_hashed_in_order(rt: HostRuntime) -> Result<(), Fail> {
     Ok(())
 }
 
-/// The key of a request with these words and this text, where these folders don't count.
-fn key_without(
-    alloc: Global,
-    line: &str,
-    text: &[u8],
-    folders: &[OsBytes],
-) -> Result<String, AllocError> {
-    let list = words(alloc, line)?;
-    let alone = HashKeyParams::new("d", Language::C, list.as_slice(), text);
-    let (key, _) = key_of(alloc, &alone.with_basedirs(folders))?;
-    Ok(key)
-}
-
-#[test]
-fn folders_do_not_count(rt: HostRuntime) -> Result<(), Fail> {
-    let alloc = rt.alloc();
-    let folders = words(alloc, "/home/user1/project /home/user2/project")?;
-    let one = b"# 1 \"/home/user1/project/a.c\"\n";
-    let other = b"# 1 \"/home/user2/project/a.c\"\n";
-    let first = key_without(alloc, "-I/home/user1/project/inc", one, &[])?;
-    let second = key_without(alloc, "-I/home/user2/project/inc", other, &[])?;
-    assert!(rt; first.as_str() != second.as_str());
-    let stripped = key_without(alloc, "-I/home/user1/project/inc", one, folders.as_slice())?;
-    let alike = key_without(
-        alloc,
-        "-I/home/user2/project/inc",
-        other,
-        folders.as_slice(),
-    )?;
-    assert_eq!(rt; stripped.as_str(), alike.as_str());
-    Ok(())
-}
-
-#[test]
-fn other_variables_do_not_count(rt: HostRuntime) -> Result<(), Fail> {
-    let alloc = rt.alloc();
-    let path = (
-        OsBytes::from_slice(alloc, b"PATH")?,
-        OsBytes::from_slice(alloc, b"/bin")?,
-    );
-    let variables = vec![in alloc; path]?;
-    let alone = HashKeyParams::new("d", Language::C, &[], b"t");
-    let (key, shape) = key_of(alloc, &alone)?;
-    let (same, same_shape) = key_of(alloc, &alone.with_env_vars(variables.as_slice()))?;
-    assert_eq!(rt; key.as_str(), same.as_str());
-    assert_eq!(rt; (shape.variables, same_shape.variables), (0, 0));
-    Ok(())
-}
-
 #[test]
 fn words_end_with_a_byte_of_their_own(rt: HostRuntime) -> Result<(), Fail> {
     let alloc = rt.alloc();

@@ -1,7 +1,6 @@
-//! For tests: a preprocessor that prints one text, or whose device fails.
+//! For tests: a preprocessor that prints one text.
 
-ghost use Rattle.std.specs.Prelude.{◌≡◌, true, Some, [], ◌∷◌};
-ghost use Rattle.os_files.specs.Bytes.{ticked};
+ghost use Rattle.std.specs.Prelude.{pos, Some, [], ◌∷◌};
 ghost use Rattle.ckeys.specs.Meaning.{made_of};
 
 use ckeys::preprocessor::{Preprocessor, Printed, Ticks, ToolFail};
@@ -11,51 +10,34 @@ use os_files::files::Files;
 use os_files::os_bytes::OsBytes;
 use std::alloc::{AllocError, Global};
 
-/// For tests: whatever the command, it prints this text and ends with this status, or its device fails at each call.
+/// For tests: whatever the command, it prints this text and ends with 0.
 #[derive(Drop)]
 pub(crate) struct PrintTool {
-    status: i32,
     text: OsBytes,
-    fails: bool,
     preprocessed: u64,
-    failed: u64,
 }
 
 impl PrintTool {
-    /// One that prints this text and ends with this status.
-    pub(crate) fn new(alloc: Global, status: i32, text: &[u8]) -> Result<PrintTool, AllocError> {
+    /// One that prints this text.
+    pub(crate) fn new(alloc: Global, text: &[u8]) -> Result<PrintTool, AllocError> {
         Ok(PrintTool {
-            status,
             text: OsBytes::from_slice(alloc, text)?,
-            fails: false,
             preprocessed: 0,
-            failed: 0,
         })
-    }
-
-    /// One whose device fails at each call.
-    pub(crate) fn broken(alloc: Global) -> PrintTool {
-        PrintTool {
-            status: 0,
-            text: OsBytes::empty(alloc),
-            fails: true,
-            preprocessed: 0,
-            failed: 0,
-        }
     }
 }
 
 impl Preprocessor for PrintTool {
-    ghost meaning = { λ t. λ step reading outputs scene. made_of t.status (Some t.text ∷ []) };
+    ghost meaning = { λ t. λ step reading outputs scene. made_of (pos 0) (Some t.text ∷ []) };
 
     ghost preprocessed = { λ t. t.preprocessed };
 
     ghost compiled = { λ _. 0 };
 
-    ghost failed = { λ t. t.failed };
+    ghost failed = { λ _. 0 };
 
-    /// Its device is a broken one, and failed once more.
-    ghost fails_in = { λ t _ u. (t.fails ≡ true) × (u.failed ≡ ticked t.failed) };
+    /// It has no device.
+    ghost fails_in = { λ t _ u. ⊥ };
 
     fn preprocess<F: Files>(
         &mut self,
@@ -66,14 +48,9 @@ impl Preprocessor for PrintTool {
         _moment: i64,
     ) -> Result<Printed, ToolFail> {
         self.preprocessed = self.preprocessed.wrapping_add(1);
-        if self.fails {
-            self.failed = self.failed.wrapping_add(1);
-            return Err(ToolFail::Device);
-        }
-        let text = self.text.clone()?;
         Ok(Printed {
-            status: self.status,
-            text,
+            status: 0,
+            text: self.text.clone()?,
         })
     }
 
@@ -81,7 +58,7 @@ impl Preprocessor for PrintTool {
         Ticks {
             preprocess: self.preprocessed,
             compile: 0,
-            failure: self.failed,
+            failure: 0,
         }
     }
 }

@@ -1,6 +1,6 @@
 //! Keys that come from include records, and keys of many calls.
 
-use crate::calls::{Place, Records, ask, known};
+use crate::calls::{Records, known};
 use crate::compilers::{gcc, parsed};
 use crate::keys::digest_of;
 use crate::print_tool::PrintTool;
@@ -30,13 +30,8 @@ const OTHER_TEXT: &[u8] = b"# 1 \"foo.c\"\n# 1 \"foo.h\" 1\nint y;\n";
 /// What is hashed of `-c foo.c -O2` for the first of these texts.
 const MATERIAL: &[u8] = b"d\x0011c-O2\xff# 1 \"foo.c\"\n# 1 \"foo.h\" 1\nint x;\n";
 
-/// What is hashed of it for the other one.
-const OTHER_MATERIAL: &[u8] = b"d\x0011c-O2\xff# 1 \"foo.c\"\n# 1 \"foo.h\" 1\nint y;\n";
-
-/// The header, and then another one of that name.
+/// The header.
 const HEADER: &[u8] = b"int x;\n";
-
-const OTHER_HEADER: &[u8] = b"int y;\n";
 
 /// `foo.c` and this header in `/w`.
 fn sources(alloc: Global, header: &[u8]) -> Result<MemoryFiles, AllocError> {
@@ -45,69 +40,6 @@ fn sources(alloc: Global, header: &[u8]) -> Result<MemoryFiles, AllocError> {
         ("/w/foo.h", header),
     ];
     files_of(alloc, &rows)
-}
-
-/// A call of `-c foo.c -O2` over these records, with this header and where the preprocessor prints this text: its key, whether a record
-/// gave it, and how often the preprocessor ran.
-fn key_over(
-    alloc: Global,
-    direct: bool,
-    records: &mut Records,
-    header: &[u8],
-    text: &[u8],
-) -> Result<(String, bool, u64), Fail> {
-    let compiler = known(alloc, gcc(alloc, false, None)?)?;
-    let place = Place {
-        dir: "/w",
-        env: &[],
-        folders: &[],
-        direct,
-    };
-    let mut files = sources(alloc, header)?;
-    let mut tool = PrintTool::new(alloc, 0, text)?;
-    let line = "-c foo.c -O2";
-    match ask(
-        alloc, &compiler, line, &place, records, &mut files, &mut tool,
-    )? {
-        Ok((key, _, from_record)) => Ok((key, from_record, tool.ticks().preprocess)),
-        Err(fault) => Err(Fail::new(fault)),
-    }
-}
-
-#[test]
-fn a_record_gives_the_key(rt: HostRuntime) -> Result<(), Fail> {
-    let alloc = rt.alloc();
-    let mut records = MapStore::new(alloc);
-    // The header changes, and then it is again what it was.
-    let rows = [
-        (HEADER, TEXT, MATERIAL, false),
-        (HEADER, TEXT, MATERIAL, true),
-        (HEADER, TEXT, MATERIAL, true),
-        (OTHER_HEADER, OTHER_TEXT, OTHER_MATERIAL, false),
-        (HEADER, OTHER_TEXT, MATERIAL, true),
-    ];
-    for (header, text, material, of_record) in rows {
-        let (key, from_record, runs) = key_over(alloc, true, &mut records, header, text)?;
-        assert_eq!(rt; key.as_str(), digest_of(alloc, material)?.as_str());
-        assert_eq!(rt; from_record, of_record);
-        assert_eq!(rt; runs, u64::from(!of_record));
-    }
-    assert_eq!(rt; records.len(), 1);
-    Ok(())
-}
-
-#[test]
-fn no_records_are_kept(rt: HostRuntime) -> Result<(), Fail> {
-    let alloc = rt.alloc();
-    let mut records = MapStore::new(alloc);
-    for _ in 0..2 {
-        let (key, from_record, runs) = key_over(alloc, false, &mut records, HEADER, TEXT)?;
-        assert_eq!(rt; key.as_str(), digest_of(alloc, MATERIAL)?.as_str());
-        assert!(rt; !from_record);
-        assert_eq!(rt; runs, 1);
-    }
-    assert_eq!(rt; records.len(), 0);
-    Ok(())
 }
 
 /// Calls of which keys are made, each on the sources and by a tool that prints its own text.
@@ -150,7 +82,7 @@ fn call_of<'a>(
         env: &[],
         moment: 0,
         files: sources(alloc, HEADER)?,
-        tool: PrintTool::new(alloc, 0, text)?,
+        tool: PrintTool::new(alloc, text)?,
     })
 }
 
@@ -169,7 +101,7 @@ fn two_calls<'a>(
 
 /// What two such calls are answered, and how often the preprocessor ran for each.
 fn asked_twice(alloc: Global) -> Result<(Vec<(String, bool)>, Vec<u64>), Fail> {
-    let compiler = known(alloc, gcc(alloc, false, None)?)?;
+    let compiler = known(alloc, gcc(alloc)?)?;
     let parsed = parsed(alloc, &compiler.compiler, "-c foo.c -O2")?;
     let dir = OsBytes::from_slice(alloc, b"/w")?;
     let mut calls = two_calls(alloc, &compiler, &parsed, &dir)?;

@@ -4,6 +4,7 @@ use cmdlines_base::argument::{ArgDisposition, Argument, NormalizedDisposition};
 use os_files::os_bytes::OsBytes;
 use std::alloc::{AllocError, Global};
 use std::test::Fail;
+use test_kit::texts::is_that;
 
 fn with_value(alloc: Global, disposition: ArgDisposition) -> Result<Argument<OsBytes>, AllocError> {
     let value = OsBytes::from_slice(alloc, b"inc")?;
@@ -54,23 +55,37 @@ fn either_way_stands_as_is_wanted(rt: HostRuntime) -> Result<(), Fail> {
     Ok(())
 }
 
+/// What is seen of an argument: its first word, its flag and its value.
+fn told(alloc: Global, argument: &Argument<OsBytes>) -> Result<String, Fail> {
+    let first = argument.to_os_string(alloc)?;
+    let flag = argument.flag_str().unwrap_or("no flag");
+    let text = match argument.get_data() {
+        Some(value) => format!(in alloc; "{first}; {flag}; {value}"),
+        None => format!(in alloc; "{first}; {flag}; no value"),
+    };
+    Ok(text?)
+}
+
+fn word(alloc: Global, text: &str) -> Result<OsBytes, AllocError> {
+    OsBytes::from_slice(alloc, text.as_bytes())
+}
+
+fn told_of_option(alloc: Global) -> Result<String, Fail> {
+    told(alloc, &with_value(alloc, ArgDisposition::Separated)?)
+}
+
+fn told_of_flag(alloc: Global) -> Result<String, Fail> {
+    told(alloc, &Argument::Flag("-c", word(alloc, "inc")?))
+}
+
+fn told_of_unknown(alloc: Global) -> Result<String, Fail> {
+    told(alloc, &Argument::UnknownFlag(word(alloc, "-u")?))
+}
+
 #[test]
 fn parts_are_looked_at(rt: HostRuntime) -> Result<(), Fail> {
     let alloc = rt.alloc();
-    let value = OsBytes::from_slice(alloc, b"inc")?;
-    let option = with_value(alloc, ArgDisposition::Separated)?;
-    assert_eq!(rt; option.to_os_string(alloc)?.as_bytes(), b"-I".as_slice());
-    assert_eq!(rt; option.flag_str(), Some("-I"));
-    assert!(rt; option.get_data() == Some(&value));
-    let flag = Argument::Flag("-c", value.clone()?);
-    assert_eq!(rt; flag.to_os_string(alloc)?.as_bytes(), b"-c".as_slice());
-    assert_eq!(rt; flag.flag_str(), Some("-c"));
-    assert!(rt; flag.get_data() == Some(&value));
-    let unknown = Argument::<OsBytes>::UnknownFlag(OsBytes::from_slice(alloc, b"-u")?);
-    assert_eq!(rt; unknown.to_os_string(alloc)?.as_bytes(), b"-u".as_slice());
-    assert!(rt; unknown.flag_str().is_none());
-    assert!(rt; unknown.get_data().is_none());
-    assert!(rt; unknown.clone()? == unknown);
-    assert!(rt; unknown != flag);
-    Ok(())
+    is_that(told_of_option(alloc)?.as_str(), "-I; -I; inc", "an option")?;
+    is_that(told_of_flag(alloc)?.as_str(), "-c; -c; inc", "a flag")?;
+    is_that(told_of_unknown(alloc)?.as_str(), "-u; no flag; no value", "an unknown flag")
 }

@@ -14,8 +14,6 @@ mod forgetful;
 #[cfg(test)]
 mod idle_tool;
 #[cfg(test)]
-mod map_store;
-#[cfg(test)]
 mod scene;
 #[cfg(test)]
 mod sessions;

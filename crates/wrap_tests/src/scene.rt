@@ -1,6 +1,6 @@
 //! A request that is served again and again, on files and by a tool whose devices may fail at one call.
 
-use crate::calls::{forget_all, served};
+use crate::calls::served;
 use crate::fail_tool::FailTool;
 use crate::support::{MapSession, request, script_tool, session, told};
 use ckeys::preprocessor::{Preprocessor, Ticks};
@@ -108,11 +108,6 @@ impl Scene {
     /// How many include records and how many requests' outputs are held.
     pub(crate) fn held(&self) -> (usize, usize) {
         (self.session.entries().len(), self.session.objects().len())
-    }
-
-    /// Drops all that the stores hold.
-    pub(crate) fn forget_all(&mut self) {
-        forget_all(&mut self.session);
     }
 
     /// How often the tool's steps ran and failed.

@@ -19,9 +19,6 @@ use wrap::laws::{
 use wrap_base::answer::Answer;
 use wrap_base::call::Call;
 
-/// What is told of `/w/foo.c` compiled afresh.
-const FRESH_FOO: &str = "Fresh obj foo.o # 1 \"/w/foo.c\"\nint x;\n";
-
 /// What the request is answered, twice, which steps ran for that, and how many requests' outputs are held then.
 fn told_twice(alloc: Global, scene: &mut Scene) -> Result<String, Fail> {
     let first = scene.serve()?;
@@ -38,8 +35,18 @@ fn served_twice(alloc: Global, line: &str) -> Result<String, Fail> {
     told_twice(alloc, &mut scene)
 }
 
+/// Laws, which cost nothing: what is seen here of some runs and keys holds of all.
+fn laws<H: HashState>() {
+    two_runs_agree::<H>();
+    two_direct_runs_agree::<H>();
+    records_that_are_not_kept_change_nothing::<H>();
+    store_keys_tell_records::<H>();
+    premises_can_be_met();
+}
+
 #[test]
 fn one_request_twice(rt: HostRuntime) -> Result<(), Fail> {
+    laws::<Sha256>();
     let rows = [
         (
             "-c y.i",
@@ -58,37 +65,6 @@ fn one_request_twice(rt: HostRuntime) -> Result<(), Fail> {
         is_that(served_twice(rt.alloc(), line)?.as_str(), expected, line)?;
     }
     Ok(())
-}
-
-/// Laws, which cost nothing: what is seen here of some runs and keys holds of all.
-fn laws<H: HashState>() {
-    two_runs_agree::<H>();
-    two_direct_runs_agree::<H>();
-    records_that_are_not_kept_change_nothing::<H>();
-    store_keys_tell_records::<H>();
-    premises_can_be_met();
-}
-
-/// Serves the request, drops all, and serves it again: it is compiled each time.
-fn compiles_each_time(scene: &mut Scene) -> Result<(), Fail> {
-    for compiles in [1, 2] {
-        is_that(scene.serve()?.as_str(), FRESH_FOO, "afresh")?;
-        if (scene.ticks().compile, scene.held()) != (compiles, (0, 1)) {
-            return Err("another number of compiles or pairs".into());
-        }
-        scene.forget_all();
-        if scene.held() != (0, 0) {
-            return Err("not all is dropped".into());
-        }
-    }
-    Ok(())
-}
-
-#[test]
-fn all_is_forgotten(rt: HostRuntime) -> Result<(), Fail> {
-    laws::<Sha256>();
-    let mut scene = Scene::new(rt.alloc(), "-c foo.c", false, NO_FAILURE)?;
-    compiles_each_time(&mut scene)
 }
 
 /// The calls of these lines.
@@ -173,9 +149,4 @@ fn calls_over_records(rt: HostRuntime) -> Result<(), Fail> {
         expected,
         (1, 1),
     )
-}
-
-#[test]
-fn no_calls(rt: HostRuntime) -> Result<(), Fail> {
-    calls_tell(rt.alloc(), false, &[], "", (0, 0))
 }

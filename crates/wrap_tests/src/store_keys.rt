@@ -4,7 +4,6 @@ use crate::calls::computed;
 use ckeys::output_name::OutputName;
 use ckeys::params::HashKeyParams;
 use ckeys::shape::CShape;
-use ckeys_base::store::Store;
 use cmdlines_tables::language::Language;
 use os_files::listed::Listed;
 use os_files::os_bytes::OsBytes;
@@ -12,7 +11,6 @@ use sha2::Sha256;
 use std::alloc::{AllocError, Global};
 use std::cmp::Ordering;
 use std::test::Fail;
-use wrap_base::map_store::MapStore;
 use wrap_base::store_key::{Family, StoreKey, keys_are_their_fields};
 
 /// What is hashed: `ab` as the digest of an extra file, or as that of an assembler. The bytes are the same.
@@ -96,21 +94,6 @@ fn keys_of_one_digest(rt: HostRuntime) -> Result<(), Fail> {
         assert_eq!(rt; *key == *first, is_first, "at {place}");
         assert_eq!(rt; key.cmp(first) == Ordering::Equal, is_first, "at {place}");
         assert!(rt; key.cmp(key) == Ordering::Equal, "at {place}");
-    }
-    Ok(())
-}
-
-#[test]
-fn each_key_holds_its_own(rt: HostRuntime) -> Result<(), Fail> {
-    let alloc = rt.alloc();
-    let mut store = MapStore::new(alloc);
-    for (place, key) in alike(alloc)?.into_iter().enumerate() {
-        assert!(rt; store.put(key, place).is_ok(), "at {place}");
-    }
-    // The second key is the first one, whose place it takes.
-    assert_eq!(rt; store.len(), 4);
-    for (key, place) in alike(alloc)?.iter().zip([1, 1, 2, 3, 4]) {
-        assert_eq!(rt; store.get(key).copied(), Some(place));
     }
     Ok(())
 }
