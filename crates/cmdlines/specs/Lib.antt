@@ -10,3 +10,17 @@ pub mod Compilers
 pub mod Hazards
 pub mod Opening
 pub mod KnownLanguages
+pub use Rattle.os_files.specs.Bytes
+pub use Rattle.os_files.specs.Fails
+pub use Rattle.os_files.specs.Path
+pub use Rattle.os_files.specs.Tree
+pub use Rattle.cmdlines_base.specs.Cutting
+pub use Rattle.cmdlines_base.specs.Printing
+pub use Rattle.cmdlines_base.specs.Reading
+pub use Rattle.cmdlines_base.specs.Table
+pub use Rattle.cmdlines_tables.specs.Languages
+pub use Rattle.cmdlines_tables.specs.Tables
+pub use Rattle.response_texts.specs.Gnu
+pub use Rattle.response_texts.specs.Msvc
+pub use Rattle.response_files.specs.Causes
+pub use Rattle.response_files.specs.Expansion
