@@ -8,7 +8,6 @@ use ckeys::fault::Fault;
 use ckeys::preprocessor::Preprocessor;
 use ckeys::{EntryKey, PreprocessorCacheEntry};
 use os_files::listed::Listed;
-use os_files::os_bytes::OsBytes;
 use script_tool::script::ScriptTool;
 use sha2::Sha256;
 use std::alloc::{AllocError, AllocFailed, Global};
@@ -18,13 +17,13 @@ use thiserror::Error;
 use wrap::session::Session;
 use wrap_base::answer::{Answer, How, Output};
 use wrap_base::map_store::MapStore;
-use wrap_base::store_key::StoreKey;
+use wrap_base::store_key::{Pairs, StoreKey};
 
 /// The include records.
 type Entries = MapStore<EntryKey, PreprocessorCacheEntry>;
 
 /// What is kept of requests.
-type Kept = MapStore<StoreKey, Listed<(OsBytes, OsBytes)>>;
+type Kept = MapStore<StoreKey, Pairs>;
 
 /// Why a run stopped.
 #[derive(Debug, Drop, Error)]

@@ -22,6 +22,7 @@ use Rattle.ckeys.specs.declared.step.Step.TheVariants.{Preprocess, Compile}
 use Rattle.wrap.specs.Account.{Account, passed, worked, Work, Pairs, IsSuccess, compile_fault_of, direct_of, placed}
 use Rattle.wrap.specs.Answers.{EarlyCause, GoesOn, GoesOnWith, Placed, SaysBy, SaysWorkedBy}
 use Rattle.wrap.specs.Asking.{AskedTurn, AskedUnder, EntriesBy, EntriesTurn, HowFrom, RecordsAreTrue, RunsOf, Shelves, WorkKeyFrom}
+use Rattle.wrap.specs.Prepared.{SaysFinished}
 use Rattle.wrap.specs.StoreKeys.{store_key_with}
 use Rattle.wrap.specs.Turn.{KeyedTurn, PutsBy, StoreTurn, own_text_key, StillKept, StoredTurn, MissTurn, Told, ToldBy}
 use Rattle.wrap.specs.Verdicts.{Why}
@@ -182,11 +183,19 @@ module _ (digest_of : Bytes → Bytes) (text_key : Bytes) (w : Work) (key : Stor
 pub fails_in_later : {T : Type 0} (meaning : T → Meaning) (failed : T → ℕ) (fails_in : T → Step → T → Type 0) (old mid new : T) → meaning mid ≡ meaning old → failed mid ≡ failed old → (step : Step) → FailsIn meaning failed fails_in mid new step → FailsIn meaning failed fails_in old new step
 fails_in_later meaning failed fails_in old mid new m f step h = record { from = h.from; same = h.same ∙ m; steady = h.steady ∙ f; ticks = h.ticks; leads = h.leads }
 
--- the compile failed
-pub compile_says : (went_on : Type 0) (w : Work) (on_file : Bytes → Type 0) (device_in later_in : Step → Type 0) → ((step : Step) → later_in step → device_in step) → went_on → (fault : Fault) → CompileCause w later_in fault → (result : Result Answer Fault) → IsErrAnd result (λ f. f ≡ fault) → SaysWorkedBy went_on w on_file device_in result
-compile_says went_on w on_file device_in later_in more goes fault cause result err =
-    let p = err_from_is_err_and result err in
-    rw (p.1, p.2) (by_stage (stage_of fault) (λ u. u) (λ n. absurd n) (λ h. (goes, caused_more (compile_fault_of w) (compile_fault_of w) no_file no_file later_in device_in (λ f e. e) (λ name n. n) more fault h)) cause)
+-- once the store is asked, memory can be refused
+pub memory_finishes : (w : Work) (device_in : Step → Type 0) (result : Result Answer Fault) → IsErrAnd result (λ f. f ≡ Memory) → SaysFinished w device_in result
+memory_finishes w device_in result err = let p = err_from_is_err_and result err in rw (p.1, p.2) tt
+
+-- or the compile fails
+pub fault_finishes : (w : Work) (device_in : Step → Type 0) (fault : Fault) → CompileCause w device_in fault → (result : Result Answer Fault) → IsErrAnd result (λ f. f ≡ fault) → SaysFinished w device_in result
+fault_finishes w device_in fault cause result err = let p = err_from_is_err_and result err in rw (p.1, p.2) cause
+
+-- what is said then of the whole call
+pub finished_says : (went_on : Type 0) (w : Work) (on_file : Bytes → Type 0) (device_in later_in : Step → Type 0) → ((step : Step) → later_in step → device_in step) → went_on → (result : Result Answer Fault) → SaysFinished w later_in result → SaysWorkedBy went_on w on_file device_in result
+finished_says went_on w on_file device_in later_in more goes (Ok (Pass reason)) says = says
+finished_says went_on w on_file device_in later_in more goes (Ok (Outputs map how dep_info)) says = (says, goes)
+finished_says went_on w on_file device_in later_in more goes (Err fault) says = by_stage (stage_of fault) (λ u. u) (λ n. absurd n) (λ h. (goes, caused_more (compile_fault_of w) (compile_fault_of w) no_file no_file later_in device_in (λ f e. e) (λ name n. n) more fault h)) says
 
 -- a fault that comes before there is a verdict is none of the compile
 early_stage : (on_file : Bytes → Type 0) (fault : Fault) → EarlyCause on_file fault → ByStage (stage_of fault) (Unit {0}) (EarlyCause on_file fault) ⊥
@@ -242,10 +251,6 @@ key_turn digest_of text_key w first shelf before after same on_file device_in fa
 
 pub key_says : (went_on : Type 0) (w : Work) (on_file : Bytes → Type 0) (device_in : Step → Type 0) (fault : Fault) → KeyCause w.fault on_file device_in fault → (result : Result Answer Fault) → IsErrAnd result (λ f. f ≡ fault) → SaysWorkedBy went_on w on_file device_in result
 key_says went_on w on_file device_in fault cause result err = let p = err_from_is_err_and result err in rw (p.1, p.2) (by_stage (stage_of fault) (λ u. u) (λ c. c) (λ n. absurd n) cause)
-
--- memory was refused
-pub memory_says : (went_on : Type 0) (w : Work) (on_file : Bytes → Type 0) (device_in : Step → Type 0) (result : Result Answer Fault) → IsErrAnd result (λ f. f ≡ Memory) → SaysWorkedBy went_on w on_file device_in result
-memory_says went_on w on_file device_in result err = let p = err_from_is_err_and result err in rw (p.1, p.2) tt
 
 module _ (digest_of : Bytes → Bytes) (w : Work) (p : PrintedCall) (fault_is : w.fault ≡ key_fault_by p) (held : Held) (from : Bool) (text_key : Bytes) (is_key : WorkKeyFrom digest_of w held from text_key) (fine : KeyFine p from) where
   -- a call that has its key goes on
@@ -332,17 +337,20 @@ pub how_kept : (from : Bool) (map : List Output) → HowFrom from (Ok (Outputs m
 how_kept true map = refl
 how_kept false map = refl
 
+pub how_of_fault : (from : Bool) (fault : Fault) (result : Result Answer Fault) → IsErrAnd result (λ f. f ≡ fault) → HowFrom from result
+how_of_fault from fault result err = let p = err_from_is_err_and result err in rw p.1 tt
+
 pub has_direct : (digest_of : Bytes → Bytes) (w : Work) (held : Held) (from : Bool) (text_key : Bytes) → WorkKeyFrom digest_of w held from text_key → from ≡ true → IsSome w.direct
 has_direct digest_of w held true text_key k h = rw k.has refl
 has_direct digest_of w held false text_key k h = cc
 
 module _ (digest_of : Bytes → Bytes) (w : Work) (old new : Shelves) (printed printed_new compiled compiled_new : ℕ) (from : Bool) (text_key : Bytes) (is_key : WorkKeyFrom digest_of w old.entries.held from text_key)
     (fine : from ≡ false → w.fault ≡ None) (runs : (needs_preprocessing w.rec.language ≡ false → printed_new ≡ printed) × (needs_preprocessing w.rec.language ≡ true → KeyRuns from printed printed_new)) (recorded : (p : PrintedCall) → w.direct ≡ Some p → KeyRecorded digest_of p old.entries new.entries from text_key) where
-  pub asked_hit : (map : List Output) → KeyedTurn digest_of text_key (worked w) old.objects new.objects compiled compiled_new (Ok (Outputs map (kept_how from) None)) → AskedTurn digest_of (worked w) old new printed printed_new compiled compiled_new (Ok (Outputs map (kept_how from) None))
-  asked_hit map turn = record { from = from; text_key = text_key; is_key = is_key; how = how_kept from map; fine = fine; runs = runs; recorded = recorded; objects = turn }
-
-  pub asked_fresh : (map : List Output) → KeyedTurn digest_of text_key (worked w) old.objects new.objects compiled compiled_new (Ok (Outputs map Fresh None)) → AskedTurn digest_of (worked w) old new printed printed_new compiled compiled_new (Ok (Outputs map Fresh None))
-  asked_fresh map turn = record { from = from; text_key = text_key; is_key = is_key; how = tt; fine = fine; runs = runs; recorded = recorded; objects = turn }
+  -- however the request is finished
+  pub asked_finished : (device_in : Step → Type 0) (result : Result Answer Fault) → SaysFinished w device_in result → HowFrom from result → KeyedTurn digest_of text_key (worked w) old.objects new.objects compiled compiled_new result → AskedTurn digest_of (worked w) old new printed printed_new compiled compiled_new result
+  asked_finished device_in (Ok (Pass reason)) says how turn = absurd says
+  asked_finished device_in (Ok (Outputs map kept dep_info)) says how turn = record { from = from; text_key = text_key; is_key = is_key; how = how; fine = fine; runs = runs; recorded = recorded; objects = turn }
+  asked_finished device_in (Err fault) says how turn = record { from = from; text_key = text_key; is_key = is_key; how = tt; fine = tt; runs = (runs.0, λ h. compile_until w device_in from _ _ fault says (runs.1 h)); recorded = tt; objects = turn }
 
 -- its own key, where there is no other
 pub own_asked : (digest_of : Bytes → Bytes) (a : Account) (held : Held) → AskedUnder digest_of a held false (own_text_key digest_of a)

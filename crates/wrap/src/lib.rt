@@ -2,9 +2,11 @@
 #![tactic(auto)]
 
 mod compile;
+mod finish;
 mod keys;
 pub mod laws;
 mod outputs;
+pub mod prepared;
 pub mod session;
 mod stored;
 pub mod verdict;
@@ -37,5 +39,5 @@ pub use wrap_base::compiler::Compiler;
 pub use wrap_base::map_store::MapStore;
 pub use wrap_base::reason::Reason;
 pub use wrap_base::request::Request;
-pub use wrap_base::store_key::{Family, StoreKey};
+pub use wrap_base::store_key::{Family, Pairs, StoreKey};
 pub use wrap_base::tool::{Compiled, Tool};

@@ -13,6 +13,7 @@ use os_files::os_bytes::OsBytes;
 use std::alloc::{AllocError, Global};
 use std::vec::IntoIter;
 use wrap_base::answer::Output;
+use wrap_base::store_key::Pairs;
 
 /// Takes the next file, where there is one and it was made.
 fn next_file(rest: &mut IntoIter<Option<OsBytes>>) -> Option<OsBytes>
@@ -28,7 +29,7 @@ pub fn collected(
     alloc: Global,
     outputs: &[(OsBytes, ArtifactDescriptor)],
     files: Listed<Option<OsBytes>>,
-) -> Result<Listed<(OsBytes, OsBytes)>, Fault>
+) -> Result<Pairs, Fault>
     ensures made { IfOk result (λ pairs. collected (names_of outputs.now) files ≡ all pairs) }
     ensures cause { IfErr result (CollectCause (collected (names_of outputs.now) files)) }
 {

@@ -13,29 +13,23 @@ ghost use Rattle.wrap.specs.Turn.{StoreTurn};
 ghost use Rattle.wrap.specs.Whole.{AllAnswer, Each, IsAnswered, OneFresh, Run, SessionRun, accounts_at, files_view, served_at, tool_view};
 ghost use Rattle.wrap.specs.Plans.{IsPlanOf};
 ghost use Rattle.wrap.specs.Sessions.{held_by};
-ghost use Rattle.wrap.specs.Steps.{kept_how};
 
-use crate::compile::compiled_pairs;
-use crate::keys::store_key;
-use crate::outputs::placed;
-use crate::stored::{ask, keep};
+use crate::finish::finish;
+use crate::prepared::prepare;
 use crate::verdict::{Plan, Verdict, judge};
 use ckeys::config::KeyConfig;
 use ckeys::fault::Fault;
 use ckeys::laws::{keys_tell_records, records_are_true};
-use ckeys::word_end::stripped_words_lack_the_end;
 use ckeys::{EntryKey, PreprocessorCacheEntry};
 use ckeys_base::hash_state::HashState;
 use ckeys_base::store::Store;
 use os_files::files::Files;
-use os_files::listed::Listed;
-use os_files::os_bytes::OsBytes;
 use std::alloc::{AllocError, Global};
 use std::marker::{Model, PhantomData};
-use wrap_base::answer::{Answer, How};
+use wrap_base::answer::Answer;
 use wrap_base::call::Call;
 use wrap_base::request::Request;
-use wrap_base::store_key::{StoreKey, keys_are_their_fields};
+use wrap_base::store_key::{Pairs, StoreKey};
 use wrap_base::tool::Tool;
 
 /// Answers requests under one configuration, from a store of include records and one of what was compiled, by one hash
@@ -60,7 +54,7 @@ impl<H, E, O> Model for Session<H, E, O> {
 impl<
     H: HashState,
     E: Store<EntryKey, PreprocessorCacheEntry> + Drop,
-    O: Store<StoreKey, Listed<(OsBytes, OsBytes)>> + Drop,
+    O: Store<StoreKey, Pairs> + Drop,
 > Session<H, E, O> {
     /// A session under that configuration over these stores, whose calls take their memory from the allocator.
     pub fn new(alloc: Global, config: KeyConfig, entries: E, objects: O) -> Session<H, E, O>
@@ -356,23 +350,12 @@ impl<
     }
 }
 
-/// How a hit is told.
-fn kept_how(from_record: bool) -> How
-    ensures { result ≡ kept_how from_record }
-{
-    if from_record {
-        How::Direct
-    } else {
-        How::Stored
-    }
-}
-
 /// Answers a request that isn't passed through: what the store holds under its key, or what one compile makes, which
 /// is kept then.
 fn answer<
     H: HashState,
     E: Store<EntryKey, PreprocessorCacheEntry>,
-    O: Store<StoreKey, Listed<(OsBytes, OsBytes)>>,
+    O: Store<StoreKey, Pairs>,
     F: Files,
     T: Tool,
 >(
@@ -412,26 +395,6 @@ fn answer<
     ensures memory { IsErrOf result Fault.Memory →
         AreSteady T.failed F.failed tool.old files.old tool.new files.new }
 {
-    // Laws, which cost nothing: what follows from them is said above.
-    keys_are_their_fields();
-    stripped_words_lack_the_end();
-    let (key, from_record) = store_key::<H, E, F, T>(
-        alloc, request, plan, config, entries, files, tool,
-    )?;
-    let outputs = plan.parsed.outputs.as_slice();
-    if let Some(map) = ask(alloc, objects, &key, outputs)? {
-        return Ok(Answer::Outputs {
-            map,
-            how: kept_how(from_record),
-            dep_info: None,
-        });
-    }
-    let pairs = compiled_pairs(alloc, request, plan, files, tool)?;
-    let map = placed(alloc, outputs, pairs.as_slice())?;
-    let _ = keep(objects, key, pairs);
-    Ok(Answer::Outputs {
-        map,
-        how: How::Fresh,
-        dep_info: None,
-    })
+    let prepared = prepare::<H, E, F, T>(alloc, request, plan, config, entries, files, tool)?;
+    finish(alloc, objects, prepared, files, tool)
 }

@@ -12,10 +12,10 @@ use os_files::listed::Listed;
 use os_files::os_bytes::OsBytes;
 use std::alloc::{AllocError, Global};
 use wrap_base::answer::Output;
-use wrap_base::store_key::StoreKey;
+use wrap_base::store_key::{Pairs, StoreKey};
 
 /// What the store holds under the key, on a request's own paths.
-pub fn ask<O: Store<StoreKey, Listed<(OsBytes, OsBytes)>>>(
+pub fn ask<O: Store<StoreKey, Pairs>>(
     alloc: Global,
     objects: &mut O,
     key: &StoreKey,
@@ -33,11 +33,11 @@ pub fn ask<O: Store<StoreKey, Listed<(OsBytes, OsBytes)>>>(
 }
 
 /// Puts what a compile made under its key, once, whatever was dropped before; or hands it back where the store refuses it.
-pub fn keep<O: Store<StoreKey, Listed<(OsBytes, OsBytes)>>>(
+pub fn keep<O: Store<StoreKey, Pairs>>(
     objects: &mut O,
     key: StoreKey,
-    pairs: Listed<(OsBytes, OsBytes)>,
-) -> Result<(), (StoreKey, Listed<(OsBytes, OsBytes)>)>
+    pairs: Pairs,
+) -> Result<(), (StoreKey, Pairs)>
     ensures { Puts ⟦<StoreKey as PartialEq>⟧.eq (O.shelf objects.old) (O.shelf objects.new) key
         pairs result }
 {

@@ -28,6 +28,9 @@ pub struct StoreKey {
     pub digest: OsBytes,
 }
 
+/// What is kept under a key: name and contents of each output that was made, in the order in which the request asked for them.
+pub type Pairs = Listed<(OsBytes, OsBytes)>;
+
 /// Keys are equal exactly if their fields are, and so they are in order. They are ordered by the family, then the shape, then the
 /// names, then the digest, and what is hashed of one is what is hashed of these, in this order.
 pub fn keys_are_their_fields()

@@ -8,21 +8,19 @@ use ckeys::{EntryKey, PreprocessorCacheEntry};
 use ckeys_base::hash_state::HashState;
 use ckeys_base::store::Store;
 use os_files::files::Files;
-use os_files::listed::Listed;
-use os_files::os_bytes::OsBytes;
 use std::alloc::{AllocError, Global};
 use wrap::session::Session;
 use wrap_base::answer::Answer;
 use wrap_base::call::Call;
 use wrap_base::request::Request;
-use wrap_base::store_key::StoreKey;
+use wrap_base::store_key::{Pairs, StoreKey};
 use wrap_base::tool::Tool;
 
 /// A session over these stores.
 pub(crate) fn session_over<
     H: HashState,
     E: Store<EntryKey, PreprocessorCacheEntry> + Drop,
-    O: Store<StoreKey, Listed<(OsBytes, OsBytes)>> + Drop,
+    O: Store<StoreKey, Pairs> + Drop,
 >(alloc: Global, config: KeyConfig, entries: E, objects: O) -> Session<H, E, O> {
     Session::new(alloc, config, entries, objects)
 }
@@ -31,7 +29,7 @@ pub(crate) fn session_over<
 pub(crate) fn served<
     H: HashState,
     E: Store<EntryKey, PreprocessorCacheEntry> + Drop,
-    O: Store<StoreKey, Listed<(OsBytes, OsBytes)>> + Drop,
+    O: Store<StoreKey, Pairs> + Drop,
     F: Files,
     T: Tool,
 >(
@@ -47,7 +45,7 @@ pub(crate) fn served<
 pub(crate) fn all_served<
     H: HashState,
     E: Store<EntryKey, PreprocessorCacheEntry> + Drop,
-    O: Store<StoreKey, Listed<(OsBytes, OsBytes)>> + Drop,
+    O: Store<StoreKey, Pairs> + Drop,
     F: Files,
     T: Tool,
 >(
@@ -55,15 +53,6 @@ pub(crate) fn all_served<
     calls: &mut [Call<F, T>],
 ) -> Result<Vec<Result<Answer, Fault>>, AllocError> {
     session.serve_all(calls)
-}
-
-/// Drops all that the session's stores hold.
-pub(crate) fn forget_all<
-    H: HashState,
-    E: Store<EntryKey, PreprocessorCacheEntry> + Drop,
-    O: Store<StoreKey, Listed<(OsBytes, OsBytes)>> + Drop,
->(session: &mut Session<H, E, O>) {
-    session.forget_all();
 }
 
 /// The digest of these parts, and what it doesn't tell.

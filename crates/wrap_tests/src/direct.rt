@@ -7,9 +7,7 @@ use crate::support::{MapSession, config, session, told};
 use ckeys::preprocessor::Preprocessor;
 use ckeys::{EntryKey, PreprocessorCacheEntry};
 use ckeys_base::store::Store;
-use os_files::listed::Listed;
 use os_files::memory_files::MemoryFiles;
-use os_files::os_bytes::OsBytes;
 use script_tool::script::ScriptTool;
 use sha2::Sha256;
 use std::alloc::Global;
@@ -18,7 +16,7 @@ use test_kit::rows::insert;
 use test_kit::texts::is_that;
 use wrap::session::Session;
 use wrap_base::call::Call;
-use wrap_base::store_key::StoreKey;
+use wrap_base::store_key::{Pairs, StoreKey};
 
 /// What the header holds at each request.
 const HEADERS: [&str; 4] = ["A\n", "A\n", "BB\n", "A\n"];
@@ -26,7 +24,7 @@ const HEADERS: [&str; 4] = ["A\n", "A\n", "BB\n", "A\n"];
 /// Serves the call, whose header holds this, and asserts that its outputs are those of a compile, and where they came from.
 fn tells<
     E: Store<EntryKey, PreprocessorCacheEntry> + Drop,
-    O: Store<StoreKey, Listed<(OsBytes, OsBytes)>> + Drop,
+    O: Store<StoreKey, Pairs> + Drop,
 >(
     alloc: Global,
     session: &mut Session<Sha256, E, O>,
@@ -46,7 +44,7 @@ fn tells<
 /// Serves the call once with each header, and asserts how often each step ran.
 fn tells_each<
     E: Store<EntryKey, PreprocessorCacheEntry> + Drop,
-    O: Store<StoreKey, Listed<(OsBytes, OsBytes)>> + Drop,
+    O: Store<StoreKey, Pairs> + Drop,
 >(
     alloc: Global,
     session: &mut Session<Sha256, E, O>,
@@ -67,7 +65,7 @@ fn tells_each<
 /// Likewise for a call of its own.
 fn tells_all<
     E: Store<EntryKey, PreprocessorCacheEntry> + Drop,
-    O: Store<StoreKey, Listed<(OsBytes, OsBytes)>> + Drop,
+    O: Store<StoreKey, Pairs> + Drop,
 >(
     alloc: Global,
     session: &mut Session<Sha256, E, O>,

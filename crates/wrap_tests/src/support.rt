@@ -19,13 +19,13 @@ use wrap_base::answer::Answer;
 use wrap_base::compiler::Compiler;
 use wrap_base::map_store::MapStore;
 use wrap_base::request::Request;
-use wrap_base::store_key::StoreKey;
+use wrap_base::store_key::{Pairs, StoreKey};
 
 /// The include records of requests.
 pub(crate) type Entries = MapStore<EntryKey, PreprocessorCacheEntry>;
 
 /// What is kept of each request.
-pub(crate) type Kept = MapStore<StoreKey, Listed<(OsBytes, OsBytes)>>;
+pub(crate) type Kept = MapStore<StoreKey, Pairs>;
 
 /// The session of most tests.
 pub(crate) type MapSession = Session<Sha256, Entries, Kept>;

@@ -1,1 +1,3 @@
+pub mod Budgets
 pub mod Builds
+pub mod Caps

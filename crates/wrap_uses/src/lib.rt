@@ -1,4 +1,6 @@
 //! What one writes over `wrap` alone, and what follows for it.
 #![tactic(auto)]
 
+pub mod budget;
 pub mod build;
+pub mod capped_tool;

@@ -1,0 +1,25 @@
+use Rattle.std.proofs.Common.{◌≡◌}
+use Rattle.ckeys.specs.Calls.{KeyCause, key_fault_of}
+use Rattle.ckeys.specs.Meaning.{FailsIn}
+use Rattle.ckeys.specs.Records.{AreTold}
+use Rattle.os_files.specs.Fails.{FailsOn}
+use Rattle.wrap.specs.Account.{call_at, work_at}
+use Rattle.wrap.specs.Verdicts.{hashed_words}
+use Rattle.wrap.proofs.KeyLemmas.{on_exit}
+use Rattle.wrap.proofs.StepLemmas.{plan_makes}
+use Rattle.wrap.proofs.TurnLemmas.{has_direct}
+use Rattle.wrap.proofs.prepared.prepare.Goals as goal
+
+pub returns-clause-prepared : goal.returns-clause-prepared
+returns-clause-prepared g c =
+    let meaning = g.T.Preprocessor.meaning c.args.tool.now in
+    let tree = g.F.Files.tree c.args.files.now in
+    let plan = c.args.plan.now in
+    let w = work_at meaning (call_at c.args.request.now tree c.args.config.now plan.parsed) in
+    let k = c.in_ok-key.ensures in
+    record {
+      is_key = k.key;
+      told = record { words = c.stripped_words_lack_the_end.ensures c.args.config.now.basedirs (hashed_words plan.parsed) c.requires.plan.told; variables = k.fit };
+      makes = plan_makes meaning _ tree _ c.args.request.now plan.parsed c.args.config.now _ _ _ c.kind.ensures c.requires.plan.compile c.as_slice.ensures c.store_key.ensures.meaning c.store_key.ensures.tree;
+      direct = has_direct g.H.HashState.digest_of w (g.E.Store.shelf c.args.entries.now).held c.in_ok-key.from_record c.in_ok-key.key.digest k.from;
+    }

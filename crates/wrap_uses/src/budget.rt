@@ -1,0 +1,105 @@
+//! A store with a budget: what would pass it is handed back.
+
+ghost use Rattle.std.specs.Prelude.{◌≡◌, ◌+◌, ◌<◌, ◌&&◌, not, IsErr, false};
+ghost use Rattle.wrap.specs.Shelf.{Clears, Puts};
+ghost use Rattle.wrap_uses.specs.Budgets.{Left, Spends, size_of};
+
+use std::cmp::PartialEq;
+use wrap::{OsBytes, Pairs, Store, StoreKey};
+
+/// Keeps outputs in another store until the contents that it took come to so many bytes; what would pass that is refused. Room
+/// that the other store drops isn't used again before all is forgotten.
+#[derive(Drop)]
+pub struct BudgetStore<O> {
+    inner: O,
+    budget: u64,
+    left: u64,
+    refused: bool,
+    puts: u64,
+}
+
+/// What is left of these bytes behind the contents of these outputs, if they fit.
+fn left_after(pairs: &[(OsBytes, OsBytes)], bytes: u64) -> Option<u64>
+    ensures { Left bytes (size_of pairs.now) result }
+{
+    let mut left = bytes;
+    for (_, contents) in pairs {
+        left = left.checked_sub(contents.as_bytes().len() as u64)?;
+    }
+    Some(left)
+}
+
+impl<O: Store<StoreKey, Pairs>> BudgetStore<O> {
+    /// That store, with a budget of so many bytes.
+    pub fn new(inner: O, budget: u64) -> BudgetStore<O>
+        ensures inner { result.inner ≡ inner }
+        ensures left { result.left ≡ budget }
+    {
+        BudgetStore {
+            inner,
+            budget,
+            left: budget,
+            refused: false,
+            puts: 0,
+        }
+    }
+
+    /// How many bytes may still be kept.
+    pub fn left(&self) -> u64
+        ensures { result ≡ self.now.left }
+    {
+        self.left
+    }
+}
+
+impl<O: Store<StoreKey, Pairs>> Store<StoreKey, Pairs> for BudgetStore<O> {
+    ghost shelf = { λ s. record {
+      held = (O.shelf s.inner).held;
+      kept = (O.shelf s.inner).kept && not s.refused;
+      forgets = (O.shelf s.inner).forgets;
+      clears = (O.shelf s.inner).clears;
+      puts = s.puts;
+    } };
+
+    ghost respects = { λ s a b e. O.respects s.inner a b e };
+
+    fn get(&mut self, key: &StoreKey) -> Option<&Pairs> {
+        self.inner.get(key)
+    }
+
+    fn put(&mut self, key: StoreKey, value: Pairs) -> Result<(), (StoreKey, Pairs)> {
+        self.puts = self.puts.wrapping_add(1);
+        match left_after(value.as_slice(), self.left) {
+            Some(left) => {
+                self.inner.put(key, value)?;
+                self.left = left;
+                Ok(())
+            }
+            None => {
+                self.refused = true;
+                Err((key, value))
+            }
+        }
+    }
+
+    fn forget_all(&mut self) {
+        self.inner.forget_all();
+        self.left = self.budget;
+    }
+
+    fn kept_all(&self) -> bool {
+        self.inner.kept_all() && !self.refused
+    }
+
+    fn forgot(&self) -> u64 {
+        self.inner.forgot()
+    }
+
+    fn cleared(&self) -> u64 {
+        self.inner.cleared()
+    }
+
+    fn puts(&self) -> u64 {
+        self.puts
+    }
+}
