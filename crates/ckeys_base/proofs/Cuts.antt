@@ -1,5 +1,5 @@
 -- There is one stripping, and going from the left finds it.
-use Rattle.std.proofs.Common.{◌≡◌, ℕ, zero, suc, ◌+◌, ◌-◌, ◌<◌, ◌≤◌, true, false, ltb, eqb, List, [], ◌∷◌, ◌++◌, length, take, drop, refl, sym, ap, subst, ◌∙◌, arith, inl, inr}
+use Rattle.std.proofs.Common.{◌≡◌, ℕ, zero, suc, Option, Some, ◌+◌, ◌-◌, ◌<◌, ◌≤◌, true, false, ltb, eqb, List, [], ◌∷◌, ◌++◌, length, take, drop, refl, sym, ap, subst, ◌∙◌, arith, inl, inr}
 use Rattle.std.proofs.lemmas.Bool.{cases_lt, cases_eq, ne_eqb, lt-ltb, le-ltb}
 use Rattle.std.proofs.lemmas.List.{take_all, length-drop, append-nil}
 use Rattle.std.specs.Prelude.{slice_range}
@@ -135,7 +135,14 @@ kept-next width text i e lo hi none found = elim (cases_lt e (length text)) [
       rw (cut, no) (ap (λ (x : List ℕ). x ∷ []) whole)
 ]
 
-from_start : (width : ℕ → ℕ) (n : ℕ) → cuts width 0 0 (n - 0) ≡ cuts width 0 0 n
+-- the parts that are still to come, where the next one begins at place i and ends at e
+pub parts-next : (width : ℕ → ℕ) (text : List ℕ) (next later : Option ℕ) (i e : ℕ) → next ≡ Some i → later ≡ start_after width (length text) e
+    → i ≤ e → e ≤ length text → ((k : ℕ) → i ≤ k → k < e → width k ≡ 0) → (e < length text → 0 < width e)
+    → parts_from width text next ≡ slice_range text i e ∷ parts_from width text later
+parts-next width text next later i e at behind lo hi none found =
+    ap (parts_from width text) at ∙ kept-next width text i e lo hi none found ∙ ap (λ (o : Option ℕ). slice_range text i e ∷ parts_from width text o) (sym behind)
+
+pub from_start : (width : ℕ → ℕ) (n : ℕ) → cuts width 0 0 (n - 0) ≡ cuts width 0 0 n
 from_start width n = let a : n - 0 ≡ n = omega arith in ap (cuts width 0 0) a
 
 -- the one stripping of n bytes

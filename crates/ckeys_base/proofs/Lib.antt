@@ -10,3 +10,6 @@ pub mod EscapeReadings
 pub mod SearchPath
 pub mod Slashes
 pub mod KeptBytes
+pub mod FilledSlices
+pub mod EmptiedShelf
+pub mod Rested

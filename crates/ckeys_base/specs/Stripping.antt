@@ -1,5 +1,5 @@
 -- What goes from a text of n bytes, where `width i` is how much goes at place i, or 0.
-use Rattle.std.specs.Prelude.{◌≡◌, ℕ, ◌+◌, ◌<◌, ◌≤◌, ◌⊎◌, List, [], ◌∷◌, drop, slice_range}
+use Rattle.std.specs.Prelude.{◌≡◌, ℕ, ◌+◌, ◌<◌, ◌≤◌, ◌⊎◌, Bool, false, true, List, [], ◌∷◌, drop, filter, slice_range}
 use Rattle.std.specs.List.{AllByRecursion, flat_map}
 use Rattle.os_files.specs.Bytes.{Bytes}
 
@@ -27,6 +27,15 @@ HasExactlyOne P = (starts : List ℕ) × P starts × ((others : List ℕ) → P 
 unfoldable pub parts : (ℕ → ℕ) → Bytes → ℕ → List ℕ → List Bytes
 parts width text from [] = drop from text ∷ []
 parts width text from (s ∷ ss) = slice_range text from s ∷ parts width text (s + width s) ss
+
+-- there is a byte in it
+abbrev pub is_filled : Bytes → Bool
+is_filled [] = false
+is_filled (byte ∷ bytes) = true
+
+-- those of the parts in which there is a byte
+abbrev pub filled : List Bytes → List Bytes
+filled parts = filter is_filled parts
 
 -- the bytes that stay where these intervals go
 abbrev pub left_by : (ℕ → ℕ) → Bytes → List ℕ → Bytes

@@ -1,19 +1,22 @@
 //! Texts and arguments without the folders that are no part of a key.
 
 ghost use Rattle.std.specs.Prelude.{◌≡◌, ◌↔◌, ◌<◌, ◌≤◌, ℕ, Bool, false, List, [], IfOk, length};
-ghost use Rattle.std.specs.List.{list_any};
+ghost use Rattle.std.specs.List.{AllByRecursion, list_any};
 ghost use Rattle.std.specs.Cow.{cow_slice_items, IsBorrowedSlice};
 ghost use Rattle.os_files.specs.Bytes.{Bytes};
 ghost use Rattle.ckeys_base.specs.FolderPlaces.{Places, text_places, argument_places, longest};
 ghost use Rattle.ckeys_base.specs.FromTheLeft.{places_of, stripped_of};
-ghost use Rattle.ckeys_base.specs.Stripping.{IsStripping, HasExactlyOne, left_by};
+ghost use Rattle.ckeys_base.specs.Feeding.{joined};
+ghost use Rattle.ckeys_base.specs.KeptParts.{slices_left};
+ghost use Rattle.ckeys_base.specs.Stripping.{IsStripping, HasExactlyOne, filled, left_by, parts};
 
-mod kept_slices;
 mod places;
+mod slices;
 
-use kept_slices::{KeptSlices, next_place, next_start};
 use os_files::os_bytes::OsBytes;
 use places::Kind;
+pub use slices::KeptSlices;
+use slices::{next_place, next_start};
 use std::alloc::{AllocError, Global};
 use std::borrow::CowSlice;
 
@@ -40,6 +43,24 @@ pub fn strip_basedirs<'a>(
         (λ cut. cow_slice_items cut ≡ stripped_of text_places folders.now text.now) }
 {
     strip(alloc, Kind::Text, text, folders)
+}
+
+/// The slices of a text that `strip_basedirs` leaves, in their order: joined they are its result. None of them is empty. It takes no
+/// memory, and neither do its items.
+pub fn kept_slices<'a>(text: &'a [u8], folders: &'a [OsBytes]) -> KeptSlices<'a>
+    ensures slices { (starts : List ℕ)
+        → IsStripping (longest text_places folders.now text.now) 0 (length text.now) starts
+        → slices_left result
+        ≡ filled (parts (longest text_places folders.now text.now) text.now 0 starts) }
+    ensures joined { joined (slices_left result) ≡ stripped_of text_places folders.now text.now }
+    ensures full { AllByRecursion (λ slice. 0 < length slice) (slices_left result) }
+{
+    KeptSlices {
+        kind: Kind::Text,
+        folders,
+        text,
+        next: Some(0),
+    }
 }
 
 /// An argument without the folders that count in it: the places are the start, the byte after each
@@ -119,8 +140,8 @@ fn joined(
         text,
         next: next_start(kind, folders, text, first),
     };
-    for part in behind {
-        kept.extend_from_slice(part)?;
+    for slice in behind {
+        kept.extend_from_slice(slice)?;
     }
     Ok(kept)
 }

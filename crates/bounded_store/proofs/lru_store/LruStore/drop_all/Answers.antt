@@ -1,6 +1,7 @@
 use Rattle.std.proofs.Common.{◌≡◌, ◌↔◌, true, length, ap}
 use Rattle.lru.specs.LruCache.{LruCache}
-use Rattle.bounded_store.proofs.EmptiedShelf.{keeps_none, tells_none}
+use Rattle.ckeys_base.proofs.EmptiedShelf.{keeps_none}
+use Rattle.bounded_store.proofs.Emptiness.{tells_none}
 use Rattle.bounded_store.proofs.lru_store.LruStore.drop_all.Goals as goal
 use Rattle.bounded_store.proofs.lru_store.LruStore.drop_all.Goals.{then-self, else-self}
 

@@ -1,6 +1,6 @@
 -- A look-up says what its trait asks, and beside it how the order of use moved.
 use denote.Param.{param}
-use Rattle.bounded_store.proofs.Rested.{given_first}
+use Rattle.ckeys_base.proofs.Rested.{given_first}
 use Rattle.bounded_store.specs.Lent.{store_row}
 use Rattle.bounded_store.proofs.lru_store.LruStoreStore.TheImpl.Goals as goal
 

@@ -4,7 +4,7 @@ use Rattle.std.proofs.lemmas.List.{length-drop, take_rest}
 use Rattle.ckeys_base.specs.FolderPlaces.{longest}
 use Rattle.ckeys_base.specs.FromTheLeft.{places_of}
 use Rattle.ckeys_base.proofs.Slashes.{none-more}
-use Rattle.ckeys_base.proofs.strip.kept_slices.next_slash.Goals as goal
+use Rattle.ckeys_base.proofs.strip.slices.next_slash.Goals as goal
 
 pub returns-then-longest_at-gt0-clause-none_before : goal.returns-then-longest_at-gt0-clause-none_before
 returns-then-longest_at-gt0-clause-none_before c =

@@ -1,4 +1,4 @@
-//! The parts of a text between the folders that go.
+//! The slices of a text between the folders that go.
 
 ghost use Rattle.std.specs.Prelude.{◌≡◌, ◌≤◌, ◌<◌, ℕ, IsTrue, length};
 ghost use Rattle.std.specs.Option.{ForSome};
@@ -10,32 +10,37 @@ use super::places::{Kind, longest_at};
 use memchr::memchr;
 use os_files::os_bytes::OsBytes;
 
-/// The parts of a text between the folders that go, from a place on.
+/// The slices of a text or an argument between the folders that go, from a place on, in their order. None of them is empty. It ends, and
+/// takes no memory.
 #[derive(Drop)]
-pub(super) struct KeptSlices<'a> {
+pub struct KeptSlices<'a> {
     pub(super) kind: Kind,
     pub(super) folders: &'a [OsBytes],
     pub(super) text: &'a [u8],
-    /// Where the next part begins, unless the last one was given.
+    /// Where the next slice begins, which may be an empty one, unless the last one was given.
     pub(super) next: Option<usize>,
     ghost within: { ForSome next (λ i. i ≤ length text.now) },
 }
 
 impl<'a> Iterator for KeptSlices<'a> {
     ghost use Rattle.std.specs.Iterator.{YieldsFirstRef, item_count};
-    ghost use Rattle.ckeys_base.specs.KeptParts.{parts_left};
+    ghost use Rattle.ckeys_base.specs.KeptParts.{slices_left};
 
     type Item = &'a [u8];
 
-    ghost next_gives = { YieldsFirstRef parts_left };
+    ghost next_gives = { YieldsFirstRef slices_left };
 
-    ghost remaining = { item_count parts_left };
+    ghost remaining = { item_count slices_left };
 
     fn next(&mut self) -> Option<&'a [u8]> {
-        let from = self.next?;
-        let end = next_place(self.kind, self.folders, self.text, from);
-        self.next = next_start(self.kind, self.folders, self.text, end);
-        Some(&self.text[from..end])
+        while let Some(from) = self.next {
+            let end = next_place(self.kind, self.folders, self.text, from);
+            self.next = next_start(self.kind, self.folders, self.text, end);
+            if from < end {
+                return Some(&self.text[from..end]);
+            }
+        }
+        None
     }
 }
 
@@ -102,7 +107,7 @@ fn next_byte(kind: Kind, folders: &[OsBytes], text: &[u8], from: usize) -> usize
     text.len()
 }
 
-/// Where the part behind the folder at this place begins, unless this is the end.
+/// Where the slice behind the folder at this place begins, unless this is the end.
 pub(super) fn next_start(kind: Kind, folders: &[OsBytes], text: &[u8], end: usize) -> Option<usize>
     requires { end ≤ length text.now }
     ensures value { result

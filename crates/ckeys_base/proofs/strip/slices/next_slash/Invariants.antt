@@ -1,7 +1,7 @@
 use Rattle.std.proofs.Common.{◌≡◌, ◌≤◌, ◌<◌, ◌-◌, ℕ, length}
 use Rattle.ckeys_base.specs.FolderPlaces.{longest}
 use Rattle.ckeys_base.specs.FromTheLeft.{places_of}
-use Rattle.ckeys_base.proofs.strip.kept_slices.next_slash.Given as goal
+use Rattle.ckeys_base.proofs.strip.slices.next_slash.Given as goal
 
 -- no folder counts at the places so far
 abbrev pub invariant-loop-slash : goal.invariant-loop-slash
