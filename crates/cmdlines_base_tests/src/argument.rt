@@ -87,5 +87,9 @@ fn parts_are_looked_at(rt: HostRuntime) -> Result<(), Fail> {
     let alloc = rt.alloc();
     is_that(told_of_option(alloc)?.as_str(), "-I; -I; inc", "an option")?;
     is_that(told_of_flag(alloc)?.as_str(), "-c; -c; inc", "a flag")?;
-    is_that(told_of_unknown(alloc)?.as_str(), "-u; no flag; no value", "an unknown flag")
+    is_that(
+        told_of_unknown(alloc)?.as_str(),
+        "-u; no flag; no value",
+        "an unknown flag",
+    )
 }

@@ -20,6 +20,7 @@ pub use Rattle.cmdlines_base.specs.Reading
 pub use Rattle.cmdlines_tables.specs.Tables
 pub use Rattle.cmdlines.specs.Parsing
 pub use Rattle.ckeys_base.specs.Shelf
+pub use Rattle.bounded_store.specs.LruStores
 pub use Rattle.ckeys.specs.Calls
 pub use Rattle.ckeys.specs.Causes
 pub use Rattle.ckeys.specs.Entries

@@ -11,6 +11,7 @@ pub mod session;
 mod stored;
 pub mod verdict;
 
+pub use bounded_store::lru_store::LruStore;
 pub use ckeys::compiler::CCompiler;
 pub use ckeys::config::{ConfigError, KeyConfig};
 pub use ckeys::fault::Fault;

@@ -42,13 +42,7 @@ pub struct Prepared<'a> {
 }
 
 /// Prepares a request that asks for this: makes its key, from an include record where one fits.
-pub fn prepare<
-    'a,
-    H: HashState,
-    E: Store<EntryKey, PreprocessorCacheEntry>,
-    F: Files,
-    T: Tool,
->(
+pub fn prepare<'a, H: HashState, E: Store<EntryKey, PreprocessorCacheEntry>, F: Files, T: Tool>(
     alloc: Global,
     request: &Request,
     plan: &'a Plan,

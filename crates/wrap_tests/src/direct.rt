@@ -22,10 +22,7 @@ use wrap_base::store_key::{Pairs, StoreKey};
 const HEADERS: [&str; 4] = ["A\n", "A\n", "BB\n", "A\n"];
 
 /// Serves the call, whose header holds this, and asserts that its outputs are those of a compile, and where they came from.
-fn tells<
-    E: Store<EntryKey, PreprocessorCacheEntry> + Drop,
-    O: Store<StoreKey, Pairs> + Drop,
->(
+fn tells<E: Store<EntryKey, PreprocessorCacheEntry> + Drop, O: Store<StoreKey, Pairs> + Drop>(
     alloc: Global,
     session: &mut Session<Sha256, E, O>,
     call: &mut Call<MemoryFiles, ScriptTool>,
@@ -42,10 +39,7 @@ fn tells<
 }
 
 /// Serves the call once with each header, and asserts how often each step ran.
-fn tells_each<
-    E: Store<EntryKey, PreprocessorCacheEntry> + Drop,
-    O: Store<StoreKey, Pairs> + Drop,
->(
+fn tells_each<E: Store<EntryKey, PreprocessorCacheEntry> + Drop, O: Store<StoreKey, Pairs> + Drop>(
     alloc: Global,
     session: &mut Session<Sha256, E, O>,
     call: &mut Call<MemoryFiles, ScriptTool>,
@@ -63,10 +57,7 @@ fn tells_each<
 }
 
 /// Likewise for a call of its own.
-fn tells_all<
-    E: Store<EntryKey, PreprocessorCacheEntry> + Drop,
-    O: Store<StoreKey, Pairs> + Drop,
->(
+fn tells_all<E: Store<EntryKey, PreprocessorCacheEntry> + Drop, O: Store<StoreKey, Pairs> + Drop>(
     alloc: Global,
     session: &mut Session<Sha256, E, O>,
     hows: &[&str; 4],

@@ -8,8 +8,8 @@ ghost use Rattle.wrap_uses.specs.Caps.{TakesOne};
 
 use std::alloc::Global;
 use wrap::{
-    ArtifactDescriptor, CCompilerKind, Compiled, Files, OsBytes, Preprocessor, Printed, SingleCompileCommand, Step, Ticks, Tool,
-    ToolFail,
+    ArtifactDescriptor, CCompilerKind, Compiled, Files, OsBytes, Preprocessor, Printed,
+    SingleCompileCommand, Step, Ticks, Tool, ToolFail,
 };
 
 /// Runs the steps of another tool, but no more than so many compiles: a further one fails as a device does, and nothing runs.
@@ -118,7 +118,10 @@ impl<T: Tool> Tool for CappedTool<T> {
             return Err(ToolFail::Device);
         }
         self.left -= 1;
-        match self.inner.compile(alloc, kind, command, outputs, files, moment) {
+        match self
+            .inner
+            .compile(alloc, kind, command, outputs, files, moment)
+        {
             Err(ToolFail::Device) => {
                 self.failed = self.failed.wrapping_add(1);
                 Err(ToolFail::Device)
