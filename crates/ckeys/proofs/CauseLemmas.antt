@@ -4,9 +4,9 @@ use Rattle.os_files.specs.Bytes.{Bytes}
 use Rattle.ckeys.specs.Calls.{FileCause}
 use Rattle.ckeys.specs.Causes.{Stage, any_time, before_compile, in_compile, ByStage, IsCaused, stage_of}
 use Rattle.ckeys.specs.declared.fault.Fault.{Fault}
-use Rattle.ckeys.specs.declared.fault.Fault.TheVariants.{Memory, Read, Tool, PreprocessFailed, CompileFailed, MissingOutput}
+use Rattle.ckeys.specs.declared.fault.Fault.TheVariants.{Memory, Read, Tool, PreprocessFailed, CompileFailed, MissingOutput, NoRule, AnswerNotUtf8, BadDigest}
 use Rattle.ckeys.specs.declared.step.Step.{Step}
-use Rattle.ckeys.specs.declared.step.Step.TheVariants.{Preprocess, Compile}
+use Rattle.ckeys.specs.declared.step.Step.TheVariants.{Preprocess, Compile, DepInfo, FileNames, ArchiveDigest}
 
 -- what holds in each stage
 pub by_stage : (stage : Stage) {P Q R A B C : Type 0} → (P → A) → (Q → B) → (R → C) → ByStage stage P Q R → ByStage stage A B C
@@ -23,6 +23,9 @@ caused_more first more later on_file in_later in_step is lift in_more (Tool step
 caused_more first more later on_file in_later in_step is lift in_more (PreprocessFailed status) h = is (PreprocessFailed status) h
 caused_more first more later on_file in_later in_step is lift in_more (CompileFailed status) h = is (CompileFailed status) h
 caused_more first more later on_file in_later in_step is lift in_more (MissingOutput name) h = is (MissingOutput name) h
+caused_more first more later on_file in_later in_step is lift in_more NoRule h = is NoRule h
+caused_more first more later on_file in_later in_step is lift in_more (AnswerNotUtf8 step) h = is (AnswerNotUtf8 step) h
+caused_more first more later on_file in_later in_step is lift in_more (BadDigest path) h = is (BadDigest path) h
 
 -- a file that can't be had is no fault of the compile
 pub file_early : (missing : Option Bytes) (on_file : Bytes → Type 0) (fault : Fault) → FileCause missing on_file fault → ByStage (stage_of fault) (Unit {0}) (FileCause missing on_file fault) ⊥
@@ -34,6 +37,9 @@ file_early None on_file (CompileFailed status) h = cc
 file_early (Some path) on_file (CompileFailed status) h = cc
 file_early None on_file (MissingOutput name) h = cc
 file_early (Some path) on_file (MissingOutput name) h = cc
+file_early missing on_file NoRule h = h
+file_early missing on_file (AnswerNotUtf8 step) h = h
+file_early missing on_file (BadDigest path) h = h
 
 -- only want of memory comes at any time
 pub memory_is : (fault : Fault) → stage_of fault ≡ any_time → fault ≡ Memory
@@ -41,9 +47,15 @@ memory_is Memory e = refl
 memory_is (Read name) e = cc
 memory_is (Tool Preprocess) e = cc
 memory_is (Tool Compile) e = cc
+memory_is (Tool DepInfo) e = cc
+memory_is (Tool FileNames) e = cc
+memory_is (Tool ArchiveDigest) e = cc
 memory_is (PreprocessFailed status) e = cc
 memory_is (CompileFailed status) e = cc
 memory_is (MissingOutput name) e = cc
+memory_is NoRule e = cc
+memory_is (AnswerNotUtf8 step) e = cc
+memory_is (BadDigest path) e = cc
 
 -- a fault that is neither want of memory nor a device's is the first one
 pub first_alone : (first : Option Fault) (on_file : Bytes → Type 0) (in_step : Step → Type 0) (fault : Fault) → (fault ≡ Memory → ⊥) → ((name : Bytes) → on_file name → ⊥) → ((step : Step) → in_step step → ⊥) → IsCaused first on_file in_step fault → first ≡ Some fault
@@ -54,3 +66,6 @@ first_alone first on_file in_step (Tool step) not_memory not_file not_tool h = a
 first_alone first on_file in_step (PreprocessFailed status) not_memory not_file not_tool h = h
 first_alone first on_file in_step (CompileFailed status) not_memory not_file not_tool h = h
 first_alone first on_file in_step (MissingOutput name) not_memory not_file not_tool h = h
+first_alone first on_file in_step NoRule not_memory not_file not_tool h = h
+first_alone first on_file in_step (AnswerNotUtf8 step) not_memory not_file not_tool h = h
+first_alone first on_file in_step (BadDigest path) not_memory not_file not_tool h = h

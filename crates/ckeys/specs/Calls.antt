@@ -8,7 +8,6 @@ use Rattle.os_files.specs.Tree.{Tree, contents_at}
 use Rattle.cmdlines.specs.Commands.{preprocess_words}
 use Rattle.cmdlines.specs.Compilers.{Traits}
 use Rattle.cmdlines.specs.declared.parsed.ParsedArguments.{ParsedArguments}
-use Rattle.cmdlines_tables.specs.Tables.{reading_of}
 use Rattle.cmdlines_tables.specs.declared.compiler.CCompilerKind.{CCompilerKind}
 use Rattle.cmdlines_tables.specs.declared.language.Language.{Language}
 use Rattle.cmdlines_tables.specs.declared.language.Language.TheVariants as languages
@@ -19,7 +18,7 @@ use Rattle.ckeys_base.specs.FromTheLeft.{stripped_of}
 use Rattle.include_records.specs.Surroundings.{contents_in}
 use Rattle.ckeys.specs.Causes.{ByStage, IsCaused, no_step, stage_of}
 use Rattle.ckeys.specs.Folders.{Settings}
-use Rattle.ckeys.specs.Meaning.{Scene, Made, Meaning}
+use Rattle.ckeys.specs.Meaning.{Scene, Made, Meaning, asked_of}
 use Rattle.ckeys.specs.Records.{CRecord}
 use Rattle.ckeys.specs.Params.{is_cached, stripped_words}
 use Rattle.ckeys.specs.declared.fault.Fault.{Fault}
@@ -59,7 +58,7 @@ first_missing tree paths = find (λ path. is_none (contents_at tree path)) paths
 
 -- what the preprocessor gives for what the compiler's tables read of its command
 abbrev pub printed_of : Meaning → KeyCall → Made
-printed_of meaning c = meaning Preprocess (reading_of c.kind (preprocess_words c.kind c.parsed)) [] c.scene
+printed_of meaning c = meaning Preprocess (asked_of c.kind (preprocess_words c.kind c.parsed)) [] c.scene
 
 -- what it printed
 abbrev pub text_in : List (Option Bytes) → Bytes

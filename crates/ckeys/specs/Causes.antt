@@ -2,9 +2,9 @@
 use Rattle.std.specs.Prelude.{◌≡◌, ◌⊎◌, Option, None, Some}
 use Rattle.os_files.specs.Bytes.{Bytes}
 use Rattle.ckeys.specs.declared.fault.Fault.{Fault}
-use Rattle.ckeys.specs.declared.fault.Fault.TheVariants.{Memory, Read, Tool, PreprocessFailed, CompileFailed, MissingOutput}
+use Rattle.ckeys.specs.declared.fault.Fault.TheVariants.{Memory, Read, Tool, PreprocessFailed, CompileFailed, MissingOutput, NoRule, AnswerNotUtf8, BadDigest}
 use Rattle.ckeys.specs.declared.step.Step.{Step}
-use Rattle.ckeys.specs.declared.step.Step.TheVariants.{Preprocess, Compile}
+use Rattle.ckeys.specs.declared.step.Step.TheVariants.{Preprocess, Compile, DepInfo, FileNames, ArchiveDigest}
 
 -- the stages of a call: at any time memory may be refused; then the call comes to its key; and then it is compiled
 pub data Stage : Type 0 where
@@ -15,6 +15,9 @@ pub data Stage : Type 0 where
 abbrev pub stage_in : Step → Stage
 stage_in Preprocess = before_compile
 stage_in Compile = in_compile
+stage_in DepInfo = before_compile
+stage_in FileNames = before_compile
+stage_in ArchiveDigest = before_compile
 
 -- the stage in which a fault comes
 abbrev pub stage_of : Fault → Stage
@@ -24,6 +27,9 @@ stage_of (Tool step) = stage_in step
 stage_of (PreprocessFailed status) = before_compile
 stage_of (CompileFailed status) = in_compile
 stage_of (MissingOutput name) = in_compile
+stage_of NoRule = before_compile
+stage_of (AnswerNotUtf8 step) = before_compile
+stage_of (BadDigest path) = before_compile
 
 -- the step of which a fault is, where it is one's
 abbrev pub step_of : Fault → Option Step
@@ -33,6 +39,9 @@ step_of (Tool step) = Some step
 step_of (PreprocessFailed status) = Some Preprocess
 step_of (CompileFailed status) = Some Compile
 step_of (MissingOutput name) = Some Compile
+step_of NoRule = Some DepInfo
+step_of (AnswerNotUtf8 step) = Some step
+step_of (BadDigest path) = Some ArchiveDigest
 
 -- what holds at any time, before the compile, or in it
 abbrev pub ByStage : Stage → Type 0 → Type 0 → Type 0 → Type 0

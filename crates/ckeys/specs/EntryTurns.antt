@@ -17,9 +17,9 @@ use Rattle.ckeys.specs.Keys.{key_of}
 use Rattle.ckeys.specs.declared.known.Known.{Known}
 use Rattle.ckeys.specs.declared.known.Known.TheVariants.{Found, Missed}
 use Rattle.ckeys.specs.declared.fault.Fault.{Fault}
-use Rattle.ckeys.specs.declared.fault.Fault.TheVariants.{Memory, Read, Tool, PreprocessFailed, CompileFailed, MissingOutput}
+use Rattle.ckeys.specs.declared.fault.Fault.TheVariants.{Memory, Read, Tool, PreprocessFailed, CompileFailed, MissingOutput, NoRule, AnswerNotUtf8, BadDigest}
 use Rattle.ckeys.specs.declared.step.Step.{Step}
-use Rattle.ckeys.specs.declared.step.Step.TheVariants.{Preprocess, Compile}
+use Rattle.ckeys.specs.declared.step.Step.TheVariants.{Preprocess, Compile, DepInfo, FileNames, ArchiveDigest}
 
 -- where the key of a call comes from: a matching result that is held, or its text
 abbrev pub KeyFrom : (Bytes → Bytes) → PrintedCall → Held → Bool → Bytes → Type 0
@@ -35,6 +35,9 @@ IsSpared (Some (Tool step)) = ⊥
 IsSpared (Some (PreprocessFailed status)) = Unit {0}
 IsSpared (Some (CompileFailed status)) = ⊥
 IsSpared (Some (MissingOutput name)) = ⊥
+IsSpared (Some NoRule) = ⊥
+IsSpared (Some (AnswerNotUtf8 step)) = ⊥
+IsSpared (Some (BadDigest path)) = ⊥
 
 abbrev pub KeyFine : PrintedCall → Bool → Type 0
 KeyFine p true = IsSpared (key_fault_by p)
@@ -49,11 +52,14 @@ KeyRuns false before after = after ≡ ticked before
 abbrev pub AtMostOnce : ℕ → ℕ → Type 0
 AtMostOnce before after = (after ≡ before) ⊎ (after ≡ ticked before)
 
--- How often it ran before a fault of that step, or of none: want of memory and a file that can't be had come before it or behind it.
+-- How often it ran before a fault of that step, or of none: want of memory and a file that can't be had come before it or behind it. No C compiler is asked in a step of rustc's.
 abbrev pub RunsUntilStep : Option Step → Type 0 → ℕ → ℕ → Type 0
 RunsUntilStep None in_compile before after = AtMostOnce before after
 RunsUntilStep (Some Preprocess) in_compile before after = after ≡ ticked before
 RunsUntilStep (Some Compile) in_compile before after = in_compile
+RunsUntilStep (Some DepInfo) in_compile before after = ⊥
+RunsUntilStep (Some FileNames) in_compile before after = ⊥
+RunsUntilStep (Some ArchiveDigest) in_compile before after = ⊥
 
 -- how often it ran before that fault, by what is said of one that comes in the compile
 abbrev pub RunsUntil : Fault → Type 0 → ℕ → ℕ → Type 0

@@ -10,10 +10,9 @@ ghost use Rattle.cmdlines.specs.Commands.{object_path, HasObjectIn, preprocess_w
 ghost use Rattle.cmdlines.specs.Compilers.{Traits, text_in};
 ghost use Rattle.cmdlines.specs.Parsing.{decision_of, parse_of, HasSafeInputIn};
 ghost use Rattle.cmdlines.specs.ReadBack.{ReadsAsCompile, ReadsAsPreprocess};
-ghost use Rattle.cmdlines_tables.specs.Tables.{reading_of};
 ghost use Rattle.cmdlines_tables.specs.declared.compiler.CCompilerKind.{CCompilerKind};
 ghost use Rattle.ckeys.specs.EntryTurns.{AtMostOnce};
-ghost use Rattle.ckeys.specs.Meaning.{scene_with, made_of};
+ghost use Rattle.ckeys.specs.Meaning.{scene_with, made_of, asked_of};
 
 use crate::preprocessor::{Preprocessor, Printed, ToolFail};
 use crate::step::Step;
@@ -118,7 +117,7 @@ pub trait CCompilerImpl {
         ensures answer { IfOk result
             (λ p. made_of p.status (Some p.text ∷ [])
             ≡ T.meaning tool.old Step.Preprocess
-            (reading_of (kind_of self.now) (preprocess_words (kind_of self.now) parsed.now)) []
+            (asked_of (kind_of self.now) (preprocess_words (kind_of self.now) parsed.now)) []
             (scene_with executable.now dir.now env.now (F.tree files.old) moment)) }
         ensures meaning { T.meaning tool.new ≡ T.meaning tool.old }
         ensures tree { F.tree files.new ≡ F.tree files.old }

@@ -17,12 +17,18 @@ pub enum Fault {
     Read(OsBytes),
     /// The tool's device failed in that step.
     Tool(Step),
-    /// The preprocessor ended with that status, which isn't 0.
+    /// The preprocessor ended with that status, which isn't 0; or rustc did, asked for its dependencies or the names of its outputs.
     PreprocessFailed(i32),
     /// The compiler ended with that status, which isn't 0.
     CompileFailed(i32),
     /// The compiler ended with status 0, and this is the first demanded output that it didn't make.
     MissingOutput(OsBytes),
+    /// The first line of a text on rustc's dependencies is no rule.
+    NoRule,
+    /// What rustc answered in that step isn't UTF-8.
+    AnswerNotUtf8(Step),
+    /// The digest of the static library of this path isn't one.
+    BadDigest(OsBytes),
 }
 
 impl From<AllocError> for Fault {
@@ -68,6 +74,9 @@ impl fmt::Display for Fault {
             Fault::PreprocessFailed(status) => write!(f, "preprocess {status}"),
             Fault::CompileFailed(status) => write!(f, "compile {status}"),
             Fault::MissingOutput(name) => write!(f, "missing {name}"),
+            Fault::NoRule => write!(f, "rule"),
+            Fault::AnswerNotUtf8(step) => write!(f, "answer {step}"),
+            Fault::BadDigest(path) => write!(f, "digest {path}"),
         }
     }
 }

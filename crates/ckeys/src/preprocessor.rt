@@ -2,8 +2,7 @@
 
 ghost use Rattle.std.specs.Prelude.{◌≡◌, ◌⊎◌, ℕ, [], ◌∷◌, Some, IfOk, IsErrOf};
 ghost use Rattle.os_files.specs.Bytes.{ticked};
-ghost use Rattle.cmdlines_tables.specs.Tables.{reading_of};
-ghost use Rattle.ckeys.specs.Meaning.{Meaning, scene_of, made_of};
+ghost use Rattle.ckeys.specs.Meaning.{Meaning, scene_of, made_of, asked_of};
 ghost use Rattle.ckeys.specs.declared.step.Step.{Step};
 
 use crate::step::Step;
@@ -73,7 +72,7 @@ pub trait Preprocessor {
     ) -> Result<Printed, ToolFail>
         ensures answer { IfOk result
             (λ p. made_of p.status (Some p.text ∷ [])
-            ≡ meaning self.old Step.Preprocess (reading_of kind command.now.arguments) []
+            ≡ meaning self.old Step.Preprocess (asked_of kind command.now.arguments) []
             (scene_of command.now (F.tree files.old) moment)) }
         ensures meaning { meaning self.new ≡ meaning self.old }
         ensures tree { F.tree files.new ≡ F.tree files.old }

@@ -7,6 +7,12 @@ use std::fmt;
 pub enum Step {
     Preprocess,
     Compile,
+    /// What a text on rustc's dependencies is asked by.
+    DepInfo,
+    /// What the names of rustc's outputs are asked by.
+    FileNames,
+    /// What the digest of a static library is asked by.
+    ArchiveDigest,
 }
 
 impl fmt::Display for Step {
@@ -14,6 +20,9 @@ impl fmt::Display for Step {
         match self {
             Step::Preprocess => write!(f, "preprocess"),
             Step::Compile => write!(f, "compile"),
+            Step::DepInfo => write!(f, "dep-info"),
+            Step::FileNames => write!(f, "file-names"),
+            Step::ArchiveDigest => write!(f, "archive-digest"),
         }
     }
 }

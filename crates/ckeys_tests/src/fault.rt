@@ -1,33 +1,41 @@
+//! Faults as they are printed.
+
 use ckeys::fault::Fault;
 use ckeys::step::Step;
 use os_files::os_bytes::OsBytes;
+use std::alloc::{AllocError, Global};
 use std::test::Fail;
+use test_kit::texts::is_that;
+
+/// Faults that hold no word, and what is printed of each.
+const PLAIN: [(Fault, &str); 10] = [
+    (Fault::Memory, "memory"),
+    (Fault::Tool(Step::Preprocess), "tool preprocess"),
+    (Fault::Tool(Step::Compile), "tool compile"),
+    (Fault::Tool(Step::DepInfo), "tool dep-info"),
+    (Fault::Tool(Step::FileNames), "tool file-names"),
+    (Fault::Tool(Step::ArchiveDigest), "tool archive-digest"),
+    (Fault::PreprocessFailed(1), "preprocess 1"),
+    (Fault::CompileFailed(-9), "compile -9"),
+    (Fault::NoRule, "rule"),
+    (Fault::AnswerNotUtf8(Step::FileNames), "answer file-names"),
+];
+
+fn is_printed(alloc: Global, fault: &Fault, text: &str) -> Result<(), Fail> {
+    is_that(format!(in alloc; "{fault}")?.as_str(), text, "a fault")
+}
+
+fn word(alloc: Global, text: &str) -> Result<OsBytes, AllocError> {
+    OsBytes::from_slice(alloc, text.as_bytes())
+}
 
 #[test]
 fn faults_are_printed(rt: HostRuntime) -> Result<(), Fail> {
     let alloc = rt.alloc();
-    let name = OsBytes::from_slice(alloc, b"obj")?;
-    let path = OsBytes::from_slice(alloc, b"/w/p.so")?;
-    let lines = [
-        format!(in alloc; "{}", Fault::Memory)?,
-        format!(in alloc; "{}", Fault::Read(path))?,
-        format!(in alloc; "{}", Fault::Tool(Step::Preprocess))?,
-        format!(in alloc; "{}", Fault::Tool(Step::Compile))?,
-        format!(in alloc; "{}", Fault::PreprocessFailed(1))?,
-        format!(in alloc; "{}", Fault::CompileFailed(-9))?,
-        format!(in alloc; "{}", Fault::MissingOutput(name))?,
-    ];
-    let expected = [
-        "memory",
-        "read /w/p.so",
-        "tool preprocess",
-        "tool compile",
-        "preprocess 1",
-        "compile -9",
-        "missing obj",
-    ];
-    for (line, text) in lines.iter().zip(expected) {
-        assert_eq!(rt; line.as_str(), text);
+    for (fault, text) in PLAIN.iter() {
+        is_printed(alloc, fault, text)?;
     }
-    Ok(())
+    is_printed(alloc, &Fault::Read(word(alloc, "/w/p.so")?), "read /w/p.so")?;
+    is_printed(alloc, &Fault::MissingOutput(word(alloc, "obj")?), "missing obj")?;
+    is_printed(alloc, &Fault::BadDigest(word(alloc, "/w/libz.a")?), "digest /w/libz.a")
 }

@@ -28,7 +28,7 @@ impl PrintTool {
 }
 
 impl Preprocessor for PrintTool {
-    ghost meaning = { λ t. λ step reading outputs scene. made_of (pos 0) (Some t.text ∷ []) };
+    ghost meaning = { λ t. λ step asked outputs scene. made_of (pos 0) (Some t.text ∷ []) };
 
     ghost preprocessed = { λ t. t.preprocessed };
 

@@ -12,7 +12,7 @@ use Rattle.cmdlines_tables.specs.declared.kind.ArgKind.TheVariants.{Language}
 use Rattle.ckeys_base.specs.FolderPlaces.{text_places}
 use Rattle.ckeys_base.specs.FromTheLeft.{stripped_of}
 use Rattle.ckeys.specs.Calls.{needs_preprocessing}
-use Rattle.ckeys.specs.Meaning.{Scene, Made, Meaning, made_of}
+use Rattle.ckeys.specs.Meaning.{Scene, Made, Meaning, made_of, options}
 use Rattle.ckeys.specs.declared.output_name.OutputName.{OutputName}
 use Rattle.ckeys.specs.declared.step.Step.{Step}
 use Rattle.ckeys.specs.declared.step.Step.TheVariants.{Preprocess, Compile}
@@ -50,9 +50,9 @@ is_preprocessed name = option_map_or (λ language. not (needs_preprocessing lang
 
 -- a compile takes an input of such a language as it stands
 abbrev pub takes_as_it_stands : Step → Option Bytes → Bool
-takes_as_it_stands Preprocess language = false
 takes_as_it_stands Compile None = false
 takes_as_it_stands Compile (Some name) = is_preprocessed name
+takes_as_it_stands _ language = false
 
 -- the line that says which file the lines behind it are from
 abbrev pub marker : Bytes → Bytes
@@ -105,7 +105,8 @@ compiled (Some text) outputs =
 abbrev pub without : List Bytes → Option Bytes → Option Bytes
 without folders text = option_map (stripped_of text_places folders) text
 
--- one function of the step, the reading, the outputs asked for and the scene: the preprocessor prints the text, and the compiler makes outputs of what is left of it without the folders
+-- One function of the step, what is asked, the outputs asked for and the scene: the preprocessor prints the text, and the compiler makes outputs of what is left of it without the folders. To all else it answers with status 1.
 abbrev pub scripted : List Bytes → Meaning
-scripted folders Preprocess reading outputs scene = printed (text_of Preprocess scene (source_in reading))
-scripted folders Compile reading outputs scene = compiled (without folders (text_of Compile scene (source_in reading))) outputs
+scripted folders Preprocess (options reading) outputs scene = printed (text_of Preprocess scene (source_in reading))
+scripted folders Compile (options reading) outputs scene = compiled (without folders (text_of Compile scene (source_in reading))) outputs
+scripted folders _ _ outputs scene = made_of (pos 1) []

@@ -9,16 +9,16 @@ use Rattle.ckeys_base.specs.Shelf.{Shelf, Asks, Puts, Forgotten}
 use Rattle.ckeys.specs.Calls.{KeyCause, PrintedCall, key_fault_by, needs_preprocessing}
 use Rattle.ckeys.specs.Causes.{ByStage, no_file, no_step, stage_of}
 use Rattle.ckeys.specs.Entries.{Held}
-use Rattle.ckeys.specs.EntryTurns.{AtMostOnce, IsSpared, KeyFine, KeyRecorded, KeyRuns, RunsUntil, RunsUntilKey}
+use Rattle.ckeys.specs.EntryTurns.{AtMostOnce, IsSpared, KeyFine, KeyRecorded, KeyRuns, RunsUntil, RunsUntilKey, RunsUntilStep}
 use Rattle.ckeys.specs.Keys.{key_of}
 use Rattle.ckeys.specs.Meaning.{Meaning, FailsIn}
 use Rattle.ckeys.specs.Records.{AreTold}
 use Rattle.entry_keys.specs.declared.entry_key.EntryKey.{EntryKey}
 use Rattle.include_records.specs.Records.{Record}
 use Rattle.ckeys.specs.declared.fault.Fault.{Fault}
-use Rattle.ckeys.specs.declared.fault.Fault.TheVariants.{Memory, Read, Tool, PreprocessFailed, CompileFailed, MissingOutput}
+use Rattle.ckeys.specs.declared.fault.Fault.TheVariants.{Memory, Read, Tool, PreprocessFailed, CompileFailed, MissingOutput, NoRule, AnswerNotUtf8, BadDigest}
 use Rattle.ckeys.specs.declared.step.Step.{Step}
-use Rattle.ckeys.specs.declared.step.Step.TheVariants.{Preprocess, Compile}
+use Rattle.ckeys.specs.declared.step.Step.TheVariants.{Preprocess, Compile, DepInfo, FileNames, ArchiveDigest}
 use Rattle.wrap.specs.Account.{Account, passed, worked, Work, Pairs, IsSuccess, compile_fault_of, direct_of, placed}
 use Rattle.wrap.specs.Answers.{EarlyCause, GoesOn, GoesOnWith, Placed, SaysBy, SaysWorkedBy}
 use Rattle.wrap.specs.Asking.{AskedTurn, AskedUnder, EntriesBy, EntriesTurn, HowFrom, RecordsAreTrue, RunsOf, Shelves, WorkKeyFrom}
@@ -277,6 +277,9 @@ module _ (digest_of : Bytes → Bytes) (w : Work) (p : PrintedCall) (fault_is : 
       spared (Some (PreprocessFailed status)) s n = absurd (n status refl)
       spared (Some (CompileFailed status)) s n = absurd s
       spared (Some (MissingOutput name)) s n = absurd s
+      spared (Some NoRule) s n = absurd s
+      spared (Some (AnswerNotUtf8 step)) s n = absurd s
+      spared (Some (BadDigest path)) s n = absurd s
 
       by : (b : Bool) → WorkKeyFrom digest_of w held b text_key → KeyFine p b → w.fault ≡ None
       by true k h = spared w.fault (subst IsSpared (sym fault_is) h) (are_true text_key k).succeeds
@@ -302,9 +305,22 @@ key_until from before after Memory h = h
 key_until from before after (Read name) h = h
 key_until from before after (Tool Preprocess) h = h
 key_until from before after (Tool Compile) h = absurd h
+key_until from before after (Tool DepInfo) h = absurd h
+key_until from before after (Tool FileNames) h = absurd h
+key_until from before after (Tool ArchiveDigest) h = absurd h
 key_until from before after (PreprocessFailed status) h = h
 key_until from before after (CompileFailed status) h = absurd h
 key_until from before after (MissingOutput name) h = absurd h
+key_until from before after NoRule h = absurd h
+key_until from before after (AnswerNotUtf8 step) h = until_step step h
+  where
+    until_step : (s : Step) → RunsUntilStep (Some s) ⊥ before after → RunsUntilStep (Some s) (KeyRuns from before after) before after
+    until_step Preprocess h = h
+    until_step Compile h = absurd h
+    until_step DepInfo h = absurd h
+    until_step FileNames h = absurd h
+    until_step ArchiveDigest h = absurd h
+key_until from before after (BadDigest path) h = absurd h
 
 -- before a fault of the compile
 pub compile_until : (w : Work) (device_in : Step → Type 0) (from : Bool) (before after : ℕ) (fault : Fault) → CompileCause w device_in fault → KeyRuns from before after → RunsUntil fault (KeyRuns from before after) before after
@@ -312,9 +328,15 @@ compile_until w device_in from before after Memory cause h = runs_most from befo
 compile_until w device_in from before after (Read name) cause h = absurd cause
 compile_until w device_in from before after (Tool Preprocess) cause h = absurd cause
 compile_until w device_in from before after (Tool Compile) cause h = h
+compile_until w device_in from before after (Tool DepInfo) cause h = absurd cause
+compile_until w device_in from before after (Tool FileNames) cause h = absurd cause
+compile_until w device_in from before after (Tool ArchiveDigest) cause h = absurd cause
 compile_until w device_in from before after (PreprocessFailed status) cause h = absurd cause
 compile_until w device_in from before after (CompileFailed status) cause h = h
 compile_until w device_in from before after (MissingOutput name) cause h = h
+compile_until w device_in from before after NoRule cause h = absurd cause
+compile_until w device_in from before after (AnswerNotUtf8 step) cause h = absurd cause
+compile_until w device_in from before after (BadDigest path) cause h = absurd cause
 
 -- before there is a verdict
 pub early_runs : (a : Account) (on_file : Bytes → Type 0) (n : ℕ) (fault : Fault) → EarlyCause on_file fault → RunsOf a false (Err fault) n n
@@ -325,6 +347,9 @@ early_runs (worked w) on_file n (Tool step) cause = absurd cause
 early_runs (worked w) on_file n (PreprocessFailed status) cause = cc
 early_runs (worked w) on_file n (CompileFailed status) cause = cc
 early_runs (worked w) on_file n (MissingOutput name) cause = cc
+early_runs (worked w) on_file n NoRule cause = cc
+early_runs (worked w) on_file n (AnswerNotUtf8 step) cause = cc
+early_runs (worked w) on_file n (BadDigest path) cause = cc
 
 -- a call that ends with a fault
 pub asked_fault : (digest_of : Bytes → Bytes) (a : Account) (old new : Shelves) (printed printed_new compiled compiled_new : ℕ) (result : Result Answer Fault) (fault : Fault) → IsErrAnd result (λ f. f ≡ fault) → (from : Bool) (text_key : Bytes) → AskedUnder digest_of a old.entries.held from text_key → RunsOf a from (Err fault) printed printed_new → KeyedTurn digest_of text_key a old.objects new.objects compiled compiled_new result → AskedTurn digest_of a old new printed printed_new compiled compiled_new result

@@ -16,7 +16,7 @@ use Rattle.ckeys.specs.Calls.{KeyCall, PrintedCall, printed_call, record_by}
 use Rattle.ckeys.specs.Folders.{settings_with}
 use Rattle.ckeys.specs.Keys.{key_of}
 use Rattle.ckeys.specs.Meaning.{Meaning, made_of, scene_with}
-use Rattle.ckeys.specs.declared.step.Step.TheVariants.{Preprocess, Compile}
+use Rattle.ckeys.specs.declared.step.Step.TheVariants.{Preprocess}
 use Rattle.wrap.specs.Account.{Account, Work, work_at, worked}
 
 -- Each digest has 32 bytes, which tell the first byte.
@@ -35,8 +35,8 @@ printed_text = codes "# 1 " ++ 34 ∷ codes "h.h" ++ 34 ∷ 10 ∷ header
 
 -- a compiler that prints this whatever it is asked, and makes this object
 abbrev pub one_meaning : Meaning
-one_meaning Preprocess reading outputs scene = made_of (pos 0) (Some printed_text ∷ [])
-one_meaning Compile reading outputs scene = made_of (pos 0) (Some (codes "object") ∷ [])
+one_meaning Preprocess asked outputs scene = made_of (pos 0) (Some printed_text ∷ [])
+one_meaning _ asked outputs scene = made_of (pos 0) (Some (codes "object") ∷ [])
 
 abbrev pub asked_words : ParsedArguments
 asked_words = record {

@@ -4,9 +4,8 @@ use Rattle.os_files.specs.Bytes.{Bytes}
 use Rattle.os_files.specs.Tree.{Tree}
 use Rattle.cmdlines.specs.Parsing.{Artifacts}
 use Rattle.cmdlines_base.specs.declared.command.SingleCompileCommand.{SingleCompileCommand}
-use Rattle.cmdlines_tables.specs.Tables.{reading_of}
 use Rattle.cmdlines_tables.specs.declared.compiler.CCompilerKind.{CCompilerKind}
-use Rattle.ckeys.specs.Meaning.{Meaning, names_of, scene_of}
+use Rattle.ckeys.specs.Meaning.{Meaning, names_of, scene_of, asked_of}
 use Rattle.ckeys.specs.Records.{AreTold}
 use Rattle.ckeys.specs.declared.fault.Fault.{Fault}
 use Rattle.ckeys.specs.declared.step.Step.{Step}
@@ -21,7 +20,7 @@ use Rattle.wrap_base.specs.declared.answer.Answer.TheVariants.{Pass, Outputs}
 -- the command, run on these files at that moment, makes the work's outputs afresh
 pub record Makes (meaning : Meaning) (tree : Tree) (kind : CCompilerKind) (command : SingleCompileCommand) (artifacts : Artifacts) (moment : ℤ) (w : Work) : Type 0 where
   pub outputs : artifacts ≡ w.outputs
-  pub fresh : meaning Compile (reading_of kind command.arguments) (names_of artifacts) (scene_of command tree moment) ≡ w.fresh
+  pub fresh : meaning Compile (asked_of kind command.arguments) (names_of artifacts) (scene_of command tree moment) ≡ w.fresh
 
 -- The request has the work's key, but for where the digest comes from; the record's words can be told apart; and its command makes the work's outputs. A record gave the key only where the work asks for one.
 pub record IsPrepared (digest_of : Bytes → Bytes) (meaning : Meaning) (tree : Tree) (w : Work) (p : Prepared) : Type 0 where

@@ -2,8 +2,7 @@
 
 ghost use Rattle.std.specs.Prelude.{◌≡◌, ◌⊎◌, IfOk, IsErrOf};
 ghost use Rattle.os_files.specs.Bytes.{ticked};
-ghost use Rattle.cmdlines_tables.specs.Tables.{reading_of};
-ghost use Rattle.ckeys.specs.Meaning.{scene_of, made_of, names_of};
+ghost use Rattle.ckeys.specs.Meaning.{scene_of, made_of, names_of, asked_of};
 
 use ckeys::preprocessor::{Preprocessor, ToolFail};
 use ckeys::step::Step;
@@ -36,7 +35,7 @@ pub trait Tool: Preprocessor {
     ) -> Result<Compiled, ToolFail>
         ensures answer { IfOk result
             (λ made. made_of made.status made.files
-            ≡ Self.meaning self.old Step.Compile (reading_of kind command.now.arguments)
+            ≡ Self.meaning self.old Step.Compile (asked_of kind command.now.arguments)
             (names_of outputs.now) (scene_of command.now (F.tree files.old) moment)) }
         ensures meaning { Self.meaning self.new ≡ Self.meaning self.old }
         ensures tree { F.tree files.new ≡ F.tree files.old }

@@ -1,8 +1,8 @@
 -- For tests: what a tool means that prints nothing, makes nothing, and ends with status 0.
 use Rattle.std.specs.Prelude.{pos, [], ◌∷◌, None, Some}
 use Rattle.ckeys.specs.Meaning.{Meaning, made_of}
-use Rattle.ckeys.specs.declared.step.Step.TheVariants.{Preprocess, Compile}
+use Rattle.ckeys.specs.declared.step.Step.TheVariants.{Compile}
 
 abbrev pub idle : Meaning
-idle Preprocess reading outputs scene = made_of (pos 0) (Some [] ∷ [])
-idle Compile reading outputs scene = made_of (pos 0) (None ∷ [])
+idle Compile asked outputs scene = made_of (pos 0) (None ∷ [])
+idle _ asked outputs scene = made_of (pos 0) (Some [] ∷ [])

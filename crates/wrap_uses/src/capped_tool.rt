@@ -2,8 +2,7 @@
 
 ghost use Rattle.std.specs.Prelude.{◌≡◌, ◌+◌, ◌⊎◌, ℕ, IfOk, IsErrOf};
 ghost use Rattle.wrap.specs.Bytes.{ticked};
-ghost use Rattle.wrap.specs.Tables.{reading_of};
-ghost use Rattle.wrap.specs.Meaning.{made_of, names_of, scene_of};
+ghost use Rattle.wrap.specs.Meaning.{made_of, names_of, scene_of, asked_of};
 ghost use Rattle.wrap_uses.specs.Caps.{TakesOne};
 
 use std::alloc::Global;
@@ -92,7 +91,7 @@ impl<T: Tool> Tool for CappedTool<T> {
     ) -> Result<Compiled, ToolFail>
         ensures answer { IfOk result
             (λ made. made_of made.status made.files
-            ≡ Self.meaning self.old Step.Compile (reading_of kind command.now.arguments)
+            ≡ Self.meaning self.old Step.Compile (asked_of kind command.now.arguments)
             (names_of outputs.now) (scene_of command.now (F.tree files.old) moment)) }
         ensures meaning { Self.meaning self.new ≡ Self.meaning self.old }
         ensures tree { F.tree files.new ≡ F.tree files.old }
