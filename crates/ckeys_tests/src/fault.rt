@@ -36,6 +36,14 @@ fn faults_are_printed(rt: HostRuntime) -> Result<(), Fail> {
         is_printed(alloc, fault, text)?;
     }
     is_printed(alloc, &Fault::Read(word(alloc, "/w/p.so")?), "read /w/p.so")?;
-    is_printed(alloc, &Fault::MissingOutput(word(alloc, "obj")?), "missing obj")?;
-    is_printed(alloc, &Fault::BadDigest(word(alloc, "/w/libz.a")?), "digest /w/libz.a")
+    is_printed(
+        alloc,
+        &Fault::MissingOutput(word(alloc, "obj")?),
+        "missing obj",
+    )?;
+    is_printed(
+        alloc,
+        &Fault::BadDigest(word(alloc, "/w/libz.a")?),
+        "digest /w/libz.a",
+    )
 }

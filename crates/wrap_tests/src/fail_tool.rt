@@ -70,7 +70,10 @@ impl<T> FailTool<T> {
         match step {
             Step::Preprocess => self.own.preprocess = self.own.preprocess.wrapping_add(1),
             Step::Compile => self.own.compile = self.own.compile.wrapping_add(1),
-            Step::DepInfo | Step::FileNames => self.own.preprocess = self.own.preprocess.wrapping_add(1),
+            Step::DepInfo | Step::FileNames => self.own.preprocess = self
+                .own
+                .preprocess
+                .wrapping_add(1),
             Step::ArchiveDigest => {}
         }
         self.own.failure = self.own.failure.wrapping_add(1);
