@@ -51,38 +51,38 @@ pub fn prepare<'a, H: HashState, E: Store<EntryKey, PreprocessorCacheEntry>, F: 
     files: &mut F,
     tool: &mut T,
 ) -> Result<Prepared<'a>, Fault>
-    requires plan { IsPlanOf request.now plan.entry.now }
+    requires plan { IsPlanOf request.now plan.now }
     ensures prepared { let w = work_at (T.meaning tool.old)
-        (call_at request.now (F.tree files.old) config.now plan.entry.now.parsed) in
+        (call_at request.now (F.tree files.old) config.now plan.now.parsed) in
         IfOk result (IsPrepared H.digest_of (T.meaning tool.new) (F.tree files.new) w) }
     ensures from { let w = work_at (T.meaning tool.old)
-        (call_at request.now (F.tree files.old) config.now plan.entry.now.parsed) in
+        (call_at request.now (F.tree files.old) config.now plan.now.parsed) in
         IfOk result
         (λ p. WorkKeyFrom H.digest_of w (E.shelf entries.old).held p.from_record p.key.digest) }
     ensures fine { let printed = printed_call (T.meaning tool.old)
-        (call_at request.now (F.tree files.old) config.now plan.entry.now.parsed) in
+        (call_at request.now (F.tree files.old) config.now plan.now.parsed) in
         IfOk result (λ p. KeyFine printed p.from_record) }
     ensures cause { let w = work_at (T.meaning tool.old)
-        (call_at request.now (F.tree files.old) config.now plan.entry.now.parsed) in
+        (call_at request.now (F.tree files.old) config.now plan.now.parsed) in
         IfErr result
         (KeyCause w.fault (FailsOn F.tree F.failed F.fails_on files.old files.new)
         (FailsIn T.meaning T.failed T.fails_in tool.old tool.new)) }
     ensures entries { let w = work_at (T.meaning tool.old)
-        (call_at request.now (F.tree files.old) config.now plan.entry.now.parsed) in
+        (call_at request.now (F.tree files.old) config.now plan.now.parsed) in
         EntriesTurn H.digest_of (worked w) (E.shelf entries.old) (E.shelf entries.new)
         (T.preprocessed tool.old) (T.preprocessed tool.new) }
     ensures recorded { let w = work_at (T.meaning tool.old)
-        (call_at request.now (F.tree files.old) config.now plan.entry.now.parsed) in
+        (call_at request.now (F.tree files.old) config.now plan.now.parsed) in
         IfOk result
         (λ p. (printed : PrintedCall) → w.direct ≡ Some printed
         → KeyRecorded H.digest_of printed (E.shelf entries.old) (E.shelf entries.new)
         p.from_record p.key.digest) }
-    ensures runs { needs_preprocessing plan.entry.now.parsed.language ≡ true
+    ensures runs { needs_preprocessing plan.now.parsed.language ≡ true
         → IfOk result
         (λ p. KeyRuns p.from_record (T.preprocessed tool.old) (T.preprocessed tool.new)) }
-    ensures until { needs_preprocessing plan.entry.now.parsed.language ≡ true →
+    ensures until { needs_preprocessing plan.now.parsed.language ≡ true →
         IfErr result (RunsUntilKey (T.preprocessed tool.old) (T.preprocessed tool.new)) }
-    ensures idle { needs_preprocessing plan.entry.now.parsed.language ≡ false →
+    ensures idle { needs_preprocessing plan.now.parsed.language ≡ false →
         T.preprocessed tool.new ≡ T.preprocessed tool.old }
     ensures tree { F.tree files.new ≡ F.tree files.old }
     ensures meaning { T.meaning tool.new ≡ T.meaning tool.old }
