@@ -27,7 +27,7 @@ pub use ckeys_base::normalize::{normalize_path, normalize_win_path};
 pub use ckeys_base::os_str_ext::OsStrExt;
 pub use ckeys_base::path_bytes::{decode_path, encode_path};
 pub use ckeys_base::store::Store;
-pub use ckeys_base::strip::{strip_basedirs, strip_basedirs_from_arg};
+pub use ckeys_base::strip::{KeptSlices, kept_slices, strip_basedirs, strip_basedirs_from_arg};
 pub use ckeys_base::unescape::{UnescapeError, ascii_unescape_default};
 pub use ckeys_base::wrapper::resolve_compiler_avoiding_wrapper;
 pub use cmdlines::parsed::ParsedArguments;
