@@ -1,3 +1,1 @@
 pub mod KeyEquality
-pub mod EmptiedShelf
-pub mod Looking
