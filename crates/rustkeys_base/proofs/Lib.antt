@@ -6,3 +6,4 @@ pub mod ItemLemmas
 pub mod VerdictLemmas
 pub mod DeciderLaws
 mod HeldWords
+pub mod AskLemmas

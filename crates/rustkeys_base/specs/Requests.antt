@@ -1,7 +1,6 @@
 -- What a request that can be cached asks for.
-use Rattle.std.specs.Prelude.{◌≡◌, IsPermutation, Bool, true, false, not, ◌&&◌, List, [], ◌∷◌, ◌++◌, Option, None, Some, unwrap_or, codes, map, find, filter, filter_map, if◌then◌else◌}
+use Rattle.std.specs.Prelude.{◌≡◌, Bool, true, false, not, ◌&&◌, List, [], ◌∷◌, ◌++◌, Option, None, Some, unwrap_or, codes, map, find, filter, filter_map, if◌then◌else◌}
 use Rattle.std.specs.List.{flat_map, AllZip}
-use Rattle.std.specs.List.Sorted.{IsSorted}
 use Rattle.std.specs.Option.{option_map_or}
 use Rattle.std.specs.Str.{bytes_eq}
 use Rattle.os_files.specs.Bytes.{Bytes}
@@ -25,6 +24,7 @@ use Rattle.rustc_options.specs.declared.data.ArgData.TheVariants as values
 use Rattle.rustc_options.specs.declared.kind.ArgKind.{ArgKind}
 use Rattle.rustkeys_base.specs.Facts.{facts_of}
 use Rattle.rustkeys_base.specs.Saying.{Token, if_data, token_in, token_of}
+use Rattle.rustkeys_base.specs.Sorted.{sorted_by}
 use Rattle.rustkeys_base.specs.Verdict.{closing, emitted, has_kind, verdict_of, verdict_on}
 use Rattle.rustkeys_base.specs.declared.closing.Made.{Made}
 use Rattle.rustkeys_base.specs.declared.deciding.Refusal.{Refusal}
@@ -94,8 +94,7 @@ static_libraries dir files f = filter_map (library_in files (map (join dir) f.st
 -- What is asked for, from this directory, with these files.
 pub record IsParsed (dir : Bytes) (files : Tree) (f : Facts) (p : ParsedArguments) : Type 0 where
   pub output_dir : Some p.output_dir ≡ f.output_dir
-  pub externs : IsPermutation f.externs p.externs
-  pub sorted : IsSorted path_cmp p.externs
+  pub externs : p.externs ≡ sorted_by path_cmp f.externs
   pub crate_link_paths : p.crate_link_paths ≡ map (join dir) f.crate_paths
   pub staticlibs : p.staticlibs ≡ static_libraries dir files f
   pub crate_name : Some p.crate_name ≡ f.crate_name
@@ -103,20 +102,22 @@ pub record IsParsed (dir : Bytes) (files : Tree) (f : Facts) (p : ParsedArgument
   pub dep_info : p.dep_info ≡ dep_info f
   pub profile : p.profile ≡ profile f
   pub gcno : p.gcno ≡ gcno f
+  pub profile_use : p.profile_use ≡ f.profile_use
   pub emit : p.emit ≡ in_order (emitted f)
   pub color_mode : p.color_mode ≡ color_mode f
   pub has_json : p.has_json ≡ f.has_json
   pub target_json : p.target_json ≡ f.target_json
 
 -- what is asked for is made of what is known and of what was made for it
-pub record IsMadeOf (f : Facts) (m : Made) (links : Bool) (kept : List (Argument ArgData)) (p : ParsedArguments) : Type 0 where
+pub record IsMadeOf (f : Facts) (m : Made) (kept : List (Argument ArgData)) (p : ParsedArguments) : Type 0 where
   pub arguments : p.arguments ≡ kept
   pub crate_link_paths : p.crate_link_paths ≡ m.crate_link_paths
   pub staticlibs : p.staticlibs ≡ m.staticlibs
   pub crate_types : p.crate_types ≡ record { rlib = f.rlib; staticlib = f.staticlib }
   pub dep_info : p.dep_info ≡ m.dep_info
-  pub profile : p.profile ≡ (if links then f.profile_use else None)
+  pub profile : p.profile ≡ m.profile
   pub gcno : p.gcno ≡ m.gcno
+  pub profile_use : p.profile_use ≡ f.profile_use
   pub emit : p.emit ≡ m.emit
   pub color_mode : p.color_mode ≡ color_mode f
   pub has_json : p.has_json ≡ f.has_json

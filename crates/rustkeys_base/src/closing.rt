@@ -1,14 +1,14 @@
 //! What all arguments of a request come to, once none of them decides by itself.
 
-ghost use Rattle.std.specs.Prelude.{◌≡◌, Some, map, IfOk, IfErr, IsErrOf, OnOk, MatchOption, IsPermutation};
+ghost use Rattle.std.specs.Prelude.{◌≡◌, Some, map, IfOk, IfErr, IsErrOf, OnOk, MatchOption, codes};
 ghost use Rattle.std.specs.List.{list_any};
-ghost use Rattle.std.specs.List.Sorted.{IsSorted};
 ghost use Rattle.os_files.specs.Fails.{FailsOn};
 ghost use Rattle.cmdlines.specs.Wanted.{when};
 ghost use Rattle.os_files.specs.Path.{join, path_cmp};
 ghost use Rattle.rustc_options.specs.Sets.{in_order};
 ghost use Rattle.response_files.specs.Causes.{CauseOf};
-ghost use Rattle.rustkeys_base.specs.Requests.{IsAskedBy, IsMadeOf, color_mode, named_by_crate, dep_info, gcno, static_libraries};
+ghost use Rattle.rustkeys_base.specs.Requests.{IsAskedBy, IsMadeOf, color_mode, named_by_crate, emits, dep_info, gcno, profile, static_libraries};
+ghost use Rattle.rustkeys_base.specs.Sorted.{sorted_by};
 ghost use Rattle.rustkeys_base.specs.Verdict.{asks, closing, emitted, has_kind, is_supported, is_unsupported, verdict_in, verdict_of};
 
 use crate::deciding::{Refusal, refused};
@@ -136,10 +136,20 @@ fn named_if(
     }
 }
 
+/// The profile that code generation uses, where something is linked.
+fn profile(facts: &Facts, links: bool) -> Result<Option<OsBytes>, AllocError>
+    requires { links ≡ emits facts.now (codes "link") }
+    ensures { IfOk result (λ name. name ≡ profile facts.now) }
+{
+    match &facts.profile_use {
+        Some(name) if links => Ok(Some(name.clone()?)),
+        _ => Ok(None),
+    }
+}
+
 /// The paths in order.
 fn sorted(paths: Listed<OsBytes>) -> Listed<OsBytes>
-    ensures same { IsPermutation paths result }
-    ensures sorted { IsSorted path_cmp result }
+    ensures { result ≡ sorted_by path_cmp paths }
 {
     // A law, which costs nothing: what follows from it is said above.
     paths_have_one_order();
@@ -154,6 +164,7 @@ struct Made {
     crate_link_paths: Listed<OsBytes>,
     staticlibs: Listed<OsBytes>,
     dep_info: Option<OsBytes>,
+    profile: Option<OsBytes>,
     gcno: Option<OsBytes>,
     emit: Listed<OsBytes>,
 }
@@ -172,6 +183,7 @@ fn made_for<F: Files>(
     ensures libraries { IfOk result
         (λ made. made.staticlibs ≡ static_libraries dir.now (F.tree files.old) facts.now) }
     ensures dep_info { IfOk result (λ made. made.dep_info ≡ dep_info facts.now) }
+    ensures profile { IfOk result (λ made. made.profile ≡ profile facts.now) }
     ensures gcno { IfOk result (λ made. made.gcno ≡ gcno facts.now) }
     ensures emit { IfOk result (λ made. made.emit ≡ in_order (emitted facts.now)) }
     ensures cause { IfErr result (CauseOf (FailsOn F.tree F.failed F.fails_on files.old files.new)) }
@@ -191,27 +203,21 @@ fn made_for<F: Files>(
         crate_link_paths,
         staticlibs,
         dep_info,
+        profile: profile(facts, links)?,
         gcno,
         emit: in_order(alloc, kinds)?,
     })
 }
 
 /// What these arguments ask for, where they ask for something.
-fn parsed(
-    facts: Facts,
-    made: Made,
-    links: bool,
-    arguments: Listed<Argument<ArgData>>,
-) -> ParsedArguments
+fn parsed(facts: Facts, made: Made, arguments: Listed<Argument<ArgData>>) -> ParsedArguments
     requires asks { closing facts ≡ asks }
     ensures output_dir { Some result.output_dir ≡ facts.output_dir }
-    ensures externs { IsPermutation facts.externs result.externs }
-    ensures sorted { IsSorted path_cmp result.externs }
+    ensures externs { result.externs ≡ sorted_by path_cmp facts.externs }
     ensures crate_name { Some result.crate_name ≡ facts.crate_name }
-    ensures rest { IsMadeOf facts made links arguments result }
+    ensures rest { IsMadeOf facts made arguments result }
 {
     let color_mode = color_mode(&facts);
-    let profile_use = facts.profile_use;
     ParsedArguments {
         arguments,
         color_mode,
@@ -225,8 +231,9 @@ fn parsed(
             staticlib: facts.staticlib,
         },
         dep_info: made.dep_info,
-        profile: if links { profile_use } else { None },
+        profile: made.profile,
         gcno: made.gcno,
+        profile_use: facts.profile_use,
         emit: made.emit,
         has_json: facts.has_json,
         target_json: facts.target_json,
@@ -252,7 +259,6 @@ pub(crate) fn close<F: Files>(
     if let Some(why) = refusal(alloc, &facts, kinds.as_slice())? {
         return Ok(why.into_answer());
     }
-    let links = has_kind(b"link", kinds.as_slice());
     let made = made_for(alloc, dir, &facts, kinds, files)?;
-    Ok(CompilerArguments::Ok(parsed(facts, made, links, arguments)))
+    Ok(CompilerArguments::Ok(parsed(facts, made, arguments)))
 }

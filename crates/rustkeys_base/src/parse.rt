@@ -6,6 +6,7 @@ ghost use Rattle.response_files.specs.Causes.{CauseOf};
 ghost use Rattle.rustkeys_base.specs.Expansion.{expanded_by_rustc};
 ghost use Rattle.std.specs.Option.{option_map};
 ghost use Rattle.rustc_options.specs.Table.{rustc_entries, rustc_reading};
+ghost use Rattle.rustkeys_base.specs.Asks.{AsksFor, asks_of};
 ghost use Rattle.rustkeys_base.specs.Facts.{no_facts, facts_with};
 ghost use Rattle.rustkeys_base.specs.Requests.{Gathers, IsAsked, kept_with};
 ghost use Rattle.rustkeys_base.specs.Saying.{token_in};
@@ -197,6 +198,9 @@ pub fn parse_arguments<F: Files>(
     ensures asked { IfOk result
         (IsAsked dir.now (F.tree files.old)
         (request_reading (expanded_by_rustc dir.now (F.tree files.old) words.now)).items) }
+    ensures asks { IfOk result
+        (AsksFor (asks_of dir.now (F.tree files.old)
+        (request_reading (expanded_by_rustc dir.now (F.tree files.old) words.now)).items)) }
     ensures cause { IfErr result (CauseOf (FailsOn F.tree F.failed F.fails_on files.old files.new)) }
     ensures tree { F.tree files.new ≡ F.tree files.old }
     ensures steady { OnOk result (F.failed files.new ≡ F.failed files.old) }

@@ -34,6 +34,8 @@ pub struct ParsedArguments {
     pub profile: Option<OsBytes>,
     /// The name of the file of notes for coverage, where one is written.
     pub gcno: Option<OsBytes>,
+    /// The profile that code generation uses, whether something is linked or not.
+    pub profile_use: Option<OsBytes>,
     /// What is written, each kind once, in the order of their bytes.
     pub emit: Listed<OsBytes>,
     /// Whether messages are coloured.
