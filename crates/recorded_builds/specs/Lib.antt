@@ -1,1 +1,5 @@
+pub mod Beware
 pub mod Outcomes
+pub mod Reasons
+pub mod Summaries
+pub mod Tallies

@@ -7,7 +7,6 @@ use Rattle.cmdlines.specs.Parsing.{Decision, asks, not_compilation, cannot_cache
 use Rattle.cmdlines_tables.specs.declared.compiler.CCompilerKind.{CCompilerKind}
 use Rattle.rustkeys_base.specs.Expansion.{expanded_by_rustc}
 use Rattle.rustkeys_base.specs.Verdict as rust
-use Rattle.recorded_builds.specs.declared.deciding.Decided.{Decided}
 use Rattle.recorded_builds.specs.declared.deciding.Verdict.{Verdict}
 use Rattle.recorded_builds.specs.declared.deciding.Verdict.TheVariants as verdicts
 use Rattle.recorded_builds.specs.declared.entry.Entry.{Entry}
@@ -34,9 +33,6 @@ abbrev pub outcome_in : Verdict → Outcome
 outcome_in (verdicts.C kind answer) = by_c kind (decision_of answer)
 outcome_in (verdicts.Rustc answer) = by_rustc (rust.verdict_in answer)
 outcome_in verdicts.Unknown = unknown
-
-abbrev pub outcome_told : Decided → Outcome
-outcome_told decided = outcome_in decided.verdict
 
 -- whether the compiler runs as if there were no cache
 abbrev pub is_passed : Outcome → Bool

@@ -1,13 +1,12 @@
 //! What the words of entries come to, by the public parse of each compiler.
 
-ghost use Rattle.std.specs.Prelude.{◌≡◌, IfOk, map};
+ghost use Rattle.std.specs.Prelude.{◌≡◌, IfOk};
 ghost use Rattle.cmdlines.specs.Opening.{opened_words};
 ghost use Rattle.cmdlines.specs.Parsing.{decision_of, parse_of};
-ghost use Rattle.recorded_builds.specs.Outcomes.{outcome_in, outcome_of, outcome_told};
+ghost use Rattle.recorded_builds.specs.Outcomes.{outcome_in, outcome_of};
 
 use crate::entry::Entry;
 use crate::executables::EntryCompiler;
-use crate::snapshot::Asked;
 use cmdlines::clang::Clang;
 use cmdlines::compiler_arguments::{CompilerArguments, ParseFault};
 use cmdlines::diab::Diab;
@@ -20,7 +19,6 @@ use os_files::files::Files;
 use os_files::os_bytes::OsBytes;
 use rustkeys_base::{parse, parsed as rust};
 use std::alloc::{AllocError, Global};
-use std::mem;
 
 /// What the words of an entry come to.
 #[derive(Drop)]
@@ -100,49 +98,4 @@ impl Compilers {
             }
         }
     }
-}
-
-/// What is decided on an entry.
-#[derive(Drop)]
-pub struct Decided {
-    pub verdict: Verdict,
-    /// The files that its words name as files of words, and that aren't there.
-    pub missing: Vec<OsBytes>,
-}
-
-/// What is decided on an entry, with these files.
-fn decided_on(
-    alloc: Global,
-    compilers: &Compilers,
-    entry: &Entry,
-    files: &mut Asked,
-) -> Result<Decided, ParseFault>
-    ensures outcome { IfOk result
-        (λ decided. outcome_in decided.verdict ≡ outcome_of files.old.files entry.now) }
-    ensures tree { files.new.files ≡ files.old.files }
-{
-    let verdict = compilers.decide(alloc, entry, files)?;
-    let missing = mem::replace(&mut files.read, Vec::new(alloc));
-    Ok(Decided { verdict, missing })
-}
-
-/// What is decided on each entry, in order, with these files.
-pub fn decide_all(
-    alloc: Global,
-    compilers: &Compilers,
-    entries: &[Entry],
-    files: &mut Asked,
-) -> Result<Vec<Decided>, ParseFault>
-    // Each is what the definitions make of the entry's words.
-    ensures outcomes { IfOk result
-        (λ decided. map outcome_told decided.items ≡ map (outcome_of files.old.files) entries.now) }
-    ensures tree { files.new.files ≡ files.old.files }
-{
-    let mut decided = Vec::new(alloc);
-    let mut rest = entries;
-    while let Some((entry, more)) = rest.split_first() {
-        decided.push(decided_on(alloc, compilers, entry, files)?)?;
-        rest = more;
-    }
-    Ok(decided)
 }

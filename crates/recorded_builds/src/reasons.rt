@@ -1,19 +1,24 @@
 //! Why words are passed through, as text.
 
-ghost use Rattle.std.specs.Prelude.{◌≡◌, IfOk, is_some};
+ghost use Rattle.std.specs.Prelude.{◌≡◌, IfOk, is_some, string_bytes};
+ghost use Rattle.std.specs.Option.{option_map};
 ghost use Rattle.recorded_builds.specs.Outcomes.{is_passed, outcome_in};
+ghost use Rattle.recorded_builds.specs.Reasons.{reason_for, reason_with};
 
 use crate::deciding::Verdict;
 use cmdlines::compiler_arguments::CompilerArguments;
 use os_files::os_bytes::OsBytes;
 use std::alloc::{AllocError, Global};
 
-/// Why words are passed through.
+/// A reason, with more text or none.
 fn pass_text(
     alloc: Global,
     reason: &'static str,
     more: &Option<String>,
-) -> Result<String, AllocError> {
+) -> Result<String, AllocError>
+    ensures { IfOk result (λ text. string_bytes text
+        ≡ reason_with reason.now (option_map string_bytes more.now)) }
+{
     match more {
         None => String::from_str(alloc, reason),
         Some(more) => format!(in alloc; "{reason}: {more}"),
@@ -26,6 +31,9 @@ pub fn reason_of(
     verdict: &Verdict,
     executable: &OsBytes,
 ) -> Result<Option<String>, AllocError>
+    ensures text { IfOk result (λ reason. option_map string_bytes reason
+        ≡ reason_for executable.now (outcome_in verdict.now)) }
+
     // There is a reason exactly where they are passed through.
     ensures reason { IfOk result (λ reason. is_some reason ≡ is_passed (outcome_in verdict.now)) }
 {

@@ -26,6 +26,14 @@ impl Asked {
         }
     }
 
+    /// Forgets what was noted.
+    pub fn forget(&mut self)
+        ensures { self.new.files ≡ self.old.files }
+    {
+        self.read.clear();
+        self.looked_for.clear();
+    }
+
     /// Notes that the contents of this file were asked for.
     fn note_read(&mut self, path: &OsBytes) -> Result<(), AllocError>
         ensures { self.new.files ≡ self.old.files }

@@ -1,0 +1,3 @@
+pub mod Summed
+pub mod Tallied
+pub mod Texts

@@ -1,0 +1,107 @@
+//! The summary of a recorded build.
+
+ghost use Rattle.std.specs.Prelude.{◌≡◌, ◌+◌, ◌^◌, ◌<◌, [], ◌∷◌, ◌++◌, IfOk, OnOk, if◌then◌else◌, string_bytes};
+ghost use Rattle.std.specs.Option.{option_map};
+ghost use Rattle.recorded_builds.specs.Beware.{AreOnce, is_among, is_named};
+ghost use Rattle.recorded_builds.specs.Outcomes.{is_kept, outcome_in};
+ghost use Rattle.recorded_builds.specs.Tallies.{AreRowsOf, numbers_in};
+
+use crate::deciding::Verdict;
+use crate::tally::{Row, Tally};
+use crate::told::Told;
+use cmdlines::compiler_arguments::CompilerArguments;
+use std::alloc::{AllocError, Global};
+
+/// The summary of a recorded build.
+#[derive(Drop)]
+pub struct Summary {
+    /// How many entries are kept.
+    pub kept: u64,
+    /// Why entries are passed through.
+    pub reasons: Vec<Row>,
+    /// What keeps direct mode from being used.
+    pub blockers: Vec<Row>,
+    /// Options to beware of.
+    pub beware: Vec<Row>,
+}
+
+/// What was noted for a summary.
+#[derive(Drop)]
+pub(crate) struct Noted {
+    pub(crate) kept: u64,
+    pub(crate) reasons: Tally,
+    pub(crate) blockers: Tally,
+    pub(crate) beware: Tally,
+}
+
+/// Whether a verdict is that the outputs are kept.
+fn keeps(verdict: &Verdict) -> bool
+    ensures { result ≡ is_kept (outcome_in verdict.now) }
+{
+    matches!(
+        verdict,
+        Verdict::C(_, CompilerArguments::Ok(_)) | Verdict::Rustc(CompilerArguments::Ok(_))
+    )
+}
+
+/// One more where a verdict is that the outputs are kept.
+fn kept_with(kept: u64, verdict: &Verdict) -> u64
+    requires { kept + 1 < 2 ^ 64 }
+    ensures { result ≡ kept + (if is_kept (outcome_in verdict.now) then 1 else 0) }
+{
+    if keeps(verdict) { kept + 1 } else { kept }
+}
+
+impl Noted {
+    pub(crate) fn new(alloc: Global) -> Noted
+        ensures kept { result.kept ≡ 0 }
+        ensures reasons { (name : _) → numbers_in result.reasons name ≡ [] }
+        ensures blockers { (name : _) → numbers_in result.blockers name ≡ [] }
+        ensures beware { (name : _) → numbers_in result.beware name ≡ [] }
+    {
+        Noted {
+            kept: 0,
+            reasons: Tally::new(alloc),
+            blockers: Tally::new(alloc),
+            beware: Tally::new(alloc),
+        }
+    }
+
+    /// Notes what is told of the entry of this number.
+    pub(crate) fn note(&mut self, alloc: Global, number: u64, told: Told) -> Result<(), AllocError>
+        requires room { self.old.kept + 1 < 2 ^ 64 }
+        requires once { AreOnce told.beware.items }
+        ensures kept { OnOk result (self.new.kept
+            ≡ self.old.kept + (if is_kept (outcome_in told.verdict) then 1 else 0)) }
+        ensures reasons { OnOk result ((name : _) → numbers_in self.new.reasons name
+            ≡ numbers_in self.old.reasons name
+            ++ (if is_named name (option_map string_bytes told.reason) then number ∷ [] else [])) }
+        ensures blockers { OnOk result ((name : _) → numbers_in self.new.blockers name
+            ≡ numbers_in self.old.blockers name
+            ++ (if is_named name (option_map string_bytes told.blocker) then number ∷ [] else [])) }
+        ensures beware { OnOk result ((name : _) → numbers_in self.new.beware name
+            ≡ numbers_in self.old.beware name
+            ++ (if is_among name told.beware.items then number ∷ [] else [])) }
+    {
+        self.kept = kept_with(self.kept, &told.verdict);
+        self.beware
+            .note_each(alloc, told.beware.as_slice(), number)?;
+        self.reasons.note_some(told.reason, number)?;
+        self.blockers.note_some(told.blocker, number)
+    }
+
+    /// The summary of what was noted.
+    pub(crate) fn into_summary(self, alloc: Global) -> Result<Summary, AllocError>
+        ensures kept { IfOk result (λ summary. summary.kept ≡ self.kept) }
+        ensures reasons { IfOk result (λ summary. AreRowsOf self.reasons summary.reasons.items) }
+        ensures blockers { IfOk result (λ summary. AreRowsOf self.blockers summary.blockers.items) }
+        ensures beware { IfOk result (λ summary. AreRowsOf self.beware summary.beware.items) }
+    {
+        Ok(Summary {
+            kept: self.kept,
+            reasons: self.reasons.into_rows(alloc)?,
+            blockers: self.blockers.into_rows(alloc)?,
+            beware: self.beware.into_rows(alloc)?,
+        })
+    }
+}

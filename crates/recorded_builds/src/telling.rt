@@ -1,0 +1,97 @@
+//! All entries of a recorded build, each decided and told, and their summary.
+
+ghost use Rattle.std.specs.Prelude.{◌≡◌, ◌+◌, ◌^◌, ◌<◌, [], ◌∷◌, ◌++◌, IfOk, OnOk, if◌then◌else◌};
+ghost use Rattle.recorded_builds.specs.Outcomes.{is_kept, outcome_of};
+ghost use Rattle.recorded_builds.specs.Reasons.{Tells, holds, is_blocked_by, is_passed_for};
+ghost use Rattle.recorded_builds.specs.Summaries.{IsSummaryOf};
+ghost use Rattle.recorded_builds.specs.Tallies.{numbers_in};
+
+use crate::deciding::Compilers;
+use crate::entry::Entry;
+use crate::snapshot::Asked;
+use crate::summary::{Noted, Summary};
+use crate::told::Told;
+use cmdlines::compiler_arguments::ParseFault;
+use std::alloc::{AllocError, Global};
+
+/// Where entries are told.
+pub trait Lines {
+    /// Tells the entry of this number. `files` has noted the files of words that it names and that aren't there.
+    fn tell(
+        &mut self,
+        number: u64,
+        entry: &Entry,
+        told: &Told,
+        files: &Asked,
+    ) -> Result<(), AllocError>
+        // What is told is what the definitions make of the entry's words.
+        requires { Tells entry.now.executable (outcome_of files.now.files entry.now) told.now };
+}
+
+/// What is told of an entry, with these files.
+fn told_of(
+    alloc: Global,
+    compilers: &Compilers,
+    entry: &Entry,
+    files: &mut Asked,
+) -> Result<Told, ParseFault>
+    ensures told { IfOk result
+        (Tells entry.now.executable (outcome_of files.old.files entry.now)) }
+    ensures tree { files.new.files ≡ files.old.files }
+{
+    let verdict = compilers.decide(alloc, entry, files)?;
+    Ok(Told::new(alloc, verdict, &entry.executable)?)
+}
+
+/// Decides, tells and notes the entry of this number.
+fn tell<L: Lines>(
+    alloc: Global,
+    compilers: &Compilers,
+    number: u64,
+    entry: &Entry,
+    files: &mut Asked,
+    lines: &mut L,
+    noted: &mut Noted,
+) -> Result<(), ParseFault>
+    requires { noted.old.kept + 1 < 2 ^ 64 }
+    ensures kept { OnOk result (noted.new.kept ≡ noted.old.kept
+        + (if is_kept (outcome_of files.old.files entry.now) then 1 else 0)) }
+    ensures reasons { OnOk result ((name : _) → numbers_in noted.new.reasons name
+        ≡ numbers_in noted.old.reasons name
+        ++ (if is_passed_for files.old.files name entry.now then number ∷ [] else [])) }
+    ensures blockers { OnOk result ((name : _) → numbers_in noted.new.blockers name
+        ≡ numbers_in noted.old.blockers name
+        ++ (if is_blocked_by files.old.files name entry.now then number ∷ [] else [])) }
+    ensures beware { OnOk result ((name : _) → numbers_in noted.new.beware name
+        ≡ numbers_in noted.old.beware name
+        ++ (if holds files.old.files name entry.now then number ∷ [] else [])) }
+    ensures tree { files.new.files ≡ files.old.files }
+{
+    let told = told_of(alloc, compilers, entry, files)?;
+    lines.tell(number, entry, &told, files)?;
+    files.forget();
+    noted.note(alloc, number, told)?;
+    Ok(())
+}
+
+/// Decides and tells each entry, in order, with these files, and gives their summary.
+pub fn tell_all<L: Lines>(
+    alloc: Global,
+    compilers: &Compilers,
+    entries: &[Entry],
+    files: &mut Asked,
+    lines: &mut L,
+) -> Result<Summary, ParseFault>
+    ensures summary { IfOk result (IsSummaryOf files.old.files entries.now) }
+    ensures tree { files.new.files ≡ files.old.files }
+{
+    let mut noted = Noted::new(alloc);
+    let mut number = 0;
+    let mut rest = entries;
+    while let Some((entry, more)) = rest.split_first() {
+        number += 1;
+        tell(alloc, compilers, number, entry, files, lines, &mut noted)?;
+        rest = more;
+    }
+    Ok(noted.into_summary(alloc)?)
+}

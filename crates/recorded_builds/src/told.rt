@@ -1,0 +1,80 @@
+//! What is told of an entry.
+
+ghost use Rattle.std.specs.Prelude.{◌≡◌, Bool, List, IfOk, string_bytes};
+ghost use Rattle.std.specs.List.{list_any};
+ghost use Rattle.std.specs.Option.{option_map};
+ghost use Rattle.recorded_builds.specs.Beware.{AreOnce, is_among, is_option};
+ghost use Rattle.recorded_builds.specs.Outcomes.{outcome_in};
+ghost use Rattle.recorded_builds.specs.Reasons.{Tells, blocker_in, holds_option};
+
+use crate::beware::options_in;
+use crate::deciding::Verdict;
+use crate::reasons::reason_of;
+use cmdlines::compiler_arguments::CompilerArguments;
+use cmdlines_tables::compiler::CCompilerKind;
+use os_files::os_bytes::OsBytes;
+use std::alloc::{AllocError, Global};
+
+/// What is told of an entry.
+#[derive(Drop)]
+pub struct Told {
+    pub verdict: Verdict,
+    /// Why it is passed through.
+    pub reason: Option<String>,
+    /// The option that keeps direct mode from being used.
+    pub blocker: Option<String>,
+    /// The options to beware of, each once.
+    pub beware: Vec<&'static str>,
+}
+
+/// The option that keeps direct mode from being used.
+fn blocker_of(alloc: Global, verdict: &Verdict) -> Result<Option<String>, AllocError>
+    ensures { IfOk result
+        (λ blocker. option_map string_bytes blocker ≡ blocker_in (outcome_in verdict.now)) }
+{
+    let Verdict::C(_, CompilerArguments::Ok(parsed)) = verdict else {
+        return Ok(None);
+    };
+    match &parsed.too_hard_for_preprocessor_cache_mode {
+        Some(flag) => Ok(Some(format!(in alloc; "{flag}")?)),
+        None => Ok(None),
+    }
+}
+
+/// The options to beware of in what Gcc and Clang keep, each once.
+fn options_to_beware_of(alloc: Global, verdict: &Verdict) -> Result<Vec<&'static str>, AllocError>
+    ensures once { IfOk result (λ found. AreOnce found.items) }
+    ensures held { IfOk result (λ found. (option : _) →
+        is_among option found.items ≡ holds_option option (outcome_in verdict.now)) }
+{
+    match verdict {
+        Verdict::C(CCompilerKind::Gcc, CompilerArguments::Ok(parsed)) => options_in(
+            alloc,
+            parsed.preprocessor_args.as_slice(),
+            parsed.common_args.as_slice(),
+        ),
+        Verdict::C(CCompilerKind::Clang, CompilerArguments::Ok(parsed)) => options_in(
+            alloc,
+            parsed.preprocessor_args.as_slice(),
+            parsed.common_args.as_slice(),
+        ),
+        _ => Ok(Vec::new(alloc)),
+    }
+}
+
+impl Told {
+    /// What is told of the words of that executable, which come to this verdict.
+    pub fn new(alloc: Global, verdict: Verdict, executable: &OsBytes) -> Result<Told, AllocError>
+        ensures { IfOk result (Tells executable.now (outcome_in verdict)) }
+    {
+        let reason = reason_of(alloc, &verdict, executable)?;
+        let blocker = blocker_of(alloc, &verdict)?;
+        let beware = options_to_beware_of(alloc, &verdict)?;
+        Ok(Told {
+            verdict,
+            reason,
+            blocker,
+            beware,
+        })
+    }
+}
