@@ -20,7 +20,7 @@ use Rattle.ckeys.specs.declared.fault.Fault.TheVariants.{Memory, Read, Tool, Pre
 use Rattle.ckeys.specs.declared.step.Step.{Step}
 use Rattle.ckeys.specs.declared.step.Step.TheVariants.{Preprocess, Compile, DepInfo, FileNames, ArchiveDigest}
 use Rattle.wrap.specs.Account.{Account, passed, worked, Work, Pairs, IsSuccess, compile_fault_of, direct_of, placed}
-use Rattle.wrap.specs.Answers.{EarlyCause, GoesOn, GoesOnWith, Placed, SaysBy, SaysWorkedBy}
+use Rattle.wrap.specs.Answers.{EarlyCause, GoesOn, GoesOnWith, OnPass, Placed, SaysBy, SaysWorkedBy}
 use Rattle.wrap.specs.Asking.{AskedTurn, AskedUnder, EntriesBy, EntriesTurn, HowFrom, RecordsAreTrue, RunsOf, Shelves, WorkKeyFrom}
 use Rattle.wrap.specs.Prepared.{SaysFinished}
 use Rattle.wrap.specs.StoreKeys.{store_key_with}
@@ -190,6 +190,12 @@ memory_finishes w device_in result err = let p = err_from_is_err_and result err 
 -- or the compile fails
 pub fault_finishes : (w : Work) (device_in : Step → Type 0) (fault : Fault) → CompileCause w device_in fault → (result : Result Answer Fault) → IsErrAnd result (λ f. f ≡ fault) → SaysFinished w device_in result
 fault_finishes w device_in fault cause result err = let p = err_from_is_err_and result err in rw (p.1, p.2) cause
+
+-- the request isn't passed through any more
+pub finished_unpassed : (w : Work) (device_in : Step → Type 0) (result : Result Answer Fault) → SaysFinished w device_in result → OnPass result ⊥
+finished_unpassed w device_in (Ok (Pass reason)) says = says
+finished_unpassed w device_in (Ok (Outputs map how dep_info)) says = tt
+finished_unpassed w device_in (Err fault) says = tt
 
 -- what is said then of the whole call
 pub finished_says : (went_on : Type 0) (w : Work) (on_file : Bytes → Type 0) (device_in later_in : Step → Type 0) → ((step : Step) → later_in step → device_in step) → went_on → (result : Result Answer Fault) → SaysFinished w later_in result → SaysWorkedBy went_on w on_file device_in result

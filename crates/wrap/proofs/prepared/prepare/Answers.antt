@@ -1,4 +1,4 @@
-use Rattle.std.proofs.Common.{◌≡◌}
+use Rattle.std.proofs.Common.{◌≡◌, rules, to_z, of_z, w64}
 use Rattle.ckeys.specs.Calls.{KeyCause, key_fault_of}
 use Rattle.ckeys.specs.Meaning.{FailsIn}
 use Rattle.ckeys.specs.Records.{AreTold}
@@ -6,7 +6,7 @@ use Rattle.os_files.specs.Fails.{FailsOn}
 use Rattle.wrap.specs.Account.{call_at, work_at}
 use Rattle.wrap.specs.Verdicts.{hashed_words}
 use Rattle.wrap.proofs.KeyLemmas.{on_exit}
-use Rattle.wrap.proofs.StepLemmas.{plan_makes}
+use Rattle.wrap.proofs.StepLemmas.{makes_then, plan_makes}
 use Rattle.wrap.proofs.TurnLemmas.{has_direct}
 use Rattle.wrap.proofs.prepared.prepare.Goals as goal
 
@@ -17,9 +17,10 @@ returns-clause-prepared g c =
     let plan = c.args.plan.now in
     let w = work_at meaning (call_at c.args.request.now tree c.args.config.now plan.parsed) in
     let k = c.in_ok-key.ensures in
+    let moment : to_z w64 (of_z w64 c.args.request.now.moment) ≡ c.args.request.now.moment = search rules in
     record {
       is_key = k.key;
       told = record { words = c.stripped_words_lack_the_end.ensures c.args.config.now.basedirs (hashed_words plan.parsed) c.requires.plan.told; variables = k.fit };
-      makes = plan_makes meaning _ tree _ c.args.request.now plan.parsed c.args.config.now _ _ _ c.kind.ensures c.requires.plan.compile c.as_slice.ensures c.store_key.ensures.meaning c.store_key.ensures.tree;
+      makes = makes_then _ _ _ _ _ _ _ w moment (plan_makes meaning _ tree _ c.args.request.now plan.parsed c.args.config.now _ _ _ c.kind.ensures c.requires.plan.compile c.as_slice.ensures c.store_key.ensures.meaning c.store_key.ensures.tree);
       direct = has_direct g.H.HashState.digest_of w (g.E.Store.shelf c.args.entries.now).held c.in_ok-key.from_record c.in_ok-key.key.digest k.from;
     }
