@@ -1,4 +1,7 @@
+pub mod EachOnce
 pub mod FirstLines
 pub mod JoinedPieces
 pub mod MoreLines
+pub mod MetadataLaws
 pub mod NameLaws
+pub mod WordLaws

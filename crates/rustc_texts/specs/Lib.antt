@@ -2,3 +2,5 @@ pub mod DepInfo
 pub mod EnvDeps
 pub mod Rewriting
 pub mod Variables
+pub mod Outputs
+pub mod Words

@@ -4,5 +4,9 @@
 pub mod dep_info;
 pub mod env_deps;
 pub mod fault;
+pub mod laws;
+pub mod output_names;
+pub mod outputs;
 pub mod rewriting;
 pub mod variables;
+pub mod words;

@@ -1,0 +1,7 @@
+use Rattle.std.proofs.Common.{◌≡◌, map}
+use Rattle.rustc_texts.specs.Outputs.{each_once}
+use Rattle.rustc_texts.proofs.output_names.named.Given as goal
+
+-- those of the lines so far
+abbrev pub invariant-loop-line : goal.invariant-loop-line
+invariant-loop-line l = l.names.items ≡ each_once (map (λ line. line.now) l.yielded)
