@@ -23,6 +23,16 @@ def run(words, variables=None, folder=None, source=os.devnull):
         return usage.ru_utime + usage.ru_stime, output.read().decode()
 
 
+def peak_memory(words):
+    """Runs a command, and gives the most memory that it had at once, in kilobytes."""
+    child = subprocess.Popen(words, stdin=subprocess.DEVNULL, stdout=subprocess.DEVNULL)
+    _, status, usage = os.wait4(child.pid, 0)
+    child.returncode = os.waitstatus_to_exitcode(status)
+    if child.returncode != 0:
+        stop(f"{' '.join(words[:4])} ended with status {child.returncode}")
+    return usage.ru_maxrss
+
+
 def in_turn(timers, rounds, chosen):
     """The time of each, by its name: all of them are timed in turn, some rounds, and one time is chosen of them."""
     times = {name: [] for name in timers}

@@ -1,7 +1,7 @@
 //! The program that `bench/run` times. On a file it copies the bytes, strips folders from them, splits them into words,
 //! walks over their markers or digests them; words in a file it cuts by a compiler's tree or tables, parses or copies; on a chain
 //! of files in memory, each of which names the next one, it opens the chain or copies it; and it makes trees, and looks into include
-//! records: as often as it is told. It prints one line of what the last call gave.
+//! records, makes keys, and looks into stores: as often as it is told. It prints one line of what the last call gave.
 #![tactic(auto)]
 
 ghost use Rattle.std.specs.Prelude.{◌≡◌, IfOk, length};
@@ -9,12 +9,16 @@ ghost use Rattle.ckeys_base.specs.FolderPlaces.{text_places};
 ghost use Rattle.ckeys_base.specs.FromTheLeft.{stripped_of};
 
 mod commands;
+mod keys;
 mod recorded;
+mod stores;
 mod walking;
 mod words;
 
 use crate::commands::{kind_named, parses, table_cuttings, tree_cuttings, trees, word_copies};
+use crate::keys::{copy_digests, keys, text_digests};
 use crate::recorded::{file_digests, look_ups};
+use crate::stores::{bounded_turns, map_turns};
 use crate::walking::{byte_searches, marker_tallies, walks};
 use crate::words::{Tally, chain_copies, gnu_splittings, msvc_splittings, openings};
 use ckeys_base::digest;
@@ -39,7 +43,7 @@ const FAILED: u8 = 2;
 #[derive(Debug, Drop, Error)]
 enum Fault {
     /// The words aren't those that are wanted.
-    #[error("bench_calls: wanted are a work, a number of repeats, a file, a number of files or results, or a compiler, and folders, a file of names or a compiler")]
+    #[error("bench_calls: wanted are a work, a number of repeats, a file, a number of files, results or pairs, or a compiler, and folders, a file of names or a compiler")]
     Words,
     /// The file can't be read.
     #[error("bench_calls: the file cannot be read")]
@@ -136,10 +140,8 @@ fn line_for<R: Files + AllocGlobal>(
     let alloc = rt.alloc();
     let line = match work.as_str() {
         "copy" => line_of(alloc, copies(alloc, &bytes_of(rt, given)?, repeats)?)?,
-        "strip" => {
-            let folders = list_of(alloc, others)?;
-            let text = bytes_of(rt, given)?;
-            line_of(alloc, strippings(alloc, &text, &folders, repeats)?)?
+        "strip" | "key" | "digest_text" | "digest_copy" => {
+            text_line(rt, work, repeats, given, others)?
         }
         "digest" => digests(rt, given, repeats)?,
         "macros" => macro_digests(rt, given, repeats)?,
@@ -165,6 +167,9 @@ fn line_for<R: Files + AllocGlobal>(
         "look_up" => tally_line(alloc, look_ups(alloc, number_of(given)?, repeats)?)?,
         "file_digests" => tally_line(alloc, file_digests(alloc, repeats)?)?,
         "copy_chain" => tally_line(alloc, chain_copies(alloc, number_of(given)?, repeats)?)?,
+        "bounded_hits" | "bounded_misses" | "map_hits" | "map_misses" => {
+            tally_line(alloc, store_tally(alloc, work, repeats, number_of(given)?)?)?
+        }
         "make_tree" => tally_line(alloc, trees(alloc, kind_of(given)?, repeats)?)?,
         "by_tree" | "by_table" | "parse" | "copy_words" => {
             tally_line(alloc, word_tally(rt, work, repeats, given, others)?)?
@@ -172,6 +177,39 @@ fn line_for<R: Files + AllocGlobal>(
         _ => return Err(Fault::Words),
     };
     Ok(line)
+}
+
+/// Does the work so often on the text in the file of that name, perhaps without these folders.
+fn text_line<R: Files + AllocGlobal>(
+    rt: &R,
+    work: &String,
+    repeats: u32,
+    given: &String,
+    folders: &[String],
+) -> Result<String, Fault> {
+    let alloc = rt.alloc();
+    let folders = list_of(alloc, folders)?;
+    let text = bytes_of(rt, given)?;
+    let line = match work.as_str() {
+        "strip" => line_of(alloc, strippings(alloc, &text, &folders, repeats)?)?,
+        "key" => keys(alloc, &text, &folders, repeats)?,
+        "digest_text" => text_digests(alloc, &text, repeats)?,
+        "digest_copy" => copy_digests(alloc, &text, &folders, repeats)?,
+        _ => return Err(Fault::Words),
+    };
+    Ok(line)
+}
+
+/// Does the work so often on a store of so many pairs.
+fn store_tally(alloc: Global, work: &String, repeats: u32, pairs: u32) -> Result<Tally, Fault> {
+    let tally = match work.as_str() {
+        "bounded_hits" => bounded_turns(alloc, true, pairs, repeats)?,
+        "bounded_misses" => bounded_turns(alloc, false, pairs, repeats)?,
+        "map_hits" => map_turns(alloc, true, pairs, repeats),
+        "map_misses" => map_turns(alloc, false, pairs, repeats),
+        _ => return Err(Fault::Words),
+    };
+    Ok(tally)
 }
 
 /// Does the work so often on the words in the file of that name, by the compiler that the other word names where it cuts them.

@@ -2,6 +2,7 @@
 
 use crate::scenario::ScenarioFault;
 use serde_json::{Map, Value};
+use std::num::NonZeroUsize;
 
 /// A member that has to be there.
 pub(crate) fn required(member: Option<Value>) -> Result<Value, ScenarioFault> {
@@ -42,5 +43,16 @@ pub(crate) fn read_whole(member: Option<Value>, default: i64) -> Result<i64, Sce
     match member {
         Some(number) => number.as_i64().ok_or(ScenarioFault::Unreadable),
         None => Ok(default),
+    }
+}
+
+/// A whole number of 64 bits without a sign, and none where it is 0 or the member isn't there.
+pub(crate) fn read_capacity(member: Option<Value>) -> Result<Option<NonZeroUsize>, ScenarioFault> {
+    match member {
+        Some(number) => {
+            let capacity = number.as_u64().ok_or(ScenarioFault::Unreadable)?;
+            Ok(NonZeroUsize::new(capacity as usize))
+        }
+        None => Ok(None),
     }
 }

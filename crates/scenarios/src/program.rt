@@ -4,9 +4,10 @@ ghost use Rattle.std.specs.Prelude.{◌≡◌, ◌⊎◌, ◌<◌, ◌↔◌, le
 ghost use Rattle.std.specs.Io.KnownBytes.{IsAtEnd};
 
 use crate::scenario::{Scenario, ScenarioCall, ScenarioFault, read_scenario};
+use bounded_store::lru_store::LruStore;
 use ckeys::fault::Fault;
 use ckeys::preprocessor::Preprocessor;
-use ckeys::{EntryKey, PreprocessorCacheEntry};
+use ckeys::{EntryKey, PreprocessorCacheEntry, Store};
 use os_files::listed::Listed;
 use script_tool::script::ScriptTool;
 use sha2::Sha256;
@@ -21,9 +22,6 @@ use wrap_base::store_key::{Pairs, StoreKey};
 
 /// The include records.
 type Entries = MapStore<EntryKey, PreprocessorCacheEntry>;
-
-/// What is kept of requests.
-type Kept = MapStore<StoreKey, Pairs>;
 
 /// Why a run stopped.
 #[derive(Debug, Drop, Error)]
@@ -95,7 +93,7 @@ pub fn run<R: Read, W: Write>(
         return Err(RunFault::Arguments);
     }
     let scenario = whole_scenario(alloc, reader)?;
-    serve_calls(alloc, scenario, writer)
+    serve_scenario(alloc, scenario, writer)
 }
 
 /// The scenario that the reader gives to its end.
@@ -110,21 +108,39 @@ fn whole_scenario<R: Read>(alloc: Global, reader: &mut R) -> Result<Scenario, Ru
     Ok(read_scenario(alloc, bytes.as_slice())?)
 }
 
-/// Serves the calls in order, and writes a line for each and then how often a compiler ran.
-fn serve_calls<W: Write>(alloc: Global, scenario: Scenario, writer: &mut W) -> Result<(), RunFault>
+/// Serves the calls over a store of objects that is bounded where the scenario says so.
+fn serve_scenario<W: Write>(
+    alloc: Global,
+    scenario: Scenario,
+    writer: &mut W,
+) -> Result<(), RunFault>
+    ensures fault { IfErr result (λ f. (f ≡ RunFault.Output) ⊎ (f ≡ RunFault.Memory)) }
+{
+    match scenario.capacity {
+        None => serve_calls(alloc, scenario, MapStore::new(alloc), writer),
+        Some(capacity) => {
+            let objects = LruStore::new(alloc, capacity)?;
+            serve_calls(alloc, scenario, objects, writer)
+        }
+    }
+}
+
+/// Serves the calls in order over that store of objects, and writes a line for each and then how often a compiler ran.
+fn serve_calls<O: Store<StoreKey, Pairs> + Drop, W: Write>(
+    alloc: Global,
+    scenario: Scenario,
+    objects: O,
+    writer: &mut W,
+) -> Result<(), RunFault>
     ensures fault { IfErr result (λ f. (f ≡ RunFault.Output) ⊎ (f ≡ RunFault.Memory)) }
 {
     let Scenario {
         session_config,
         tool_config,
+        capacity: _,
         calls,
     } = scenario;
-    let mut session = Session::new(
-        alloc,
-        session_config,
-        MapStore::new(alloc),
-        MapStore::new(alloc),
-    );
+    let mut session = Session::new(alloc, session_config, MapStore::new(alloc), objects);
     let mut tool = ScriptTool::new(tool_config);
     for (number, call) in (1u64..).zip(calls) {
         let answer = answered(call, &mut session, &mut tool);
@@ -138,9 +154,9 @@ fn serve_calls<W: Write>(alloc: Global, scenario: Scenario, writer: &mut W) -> R
 }
 
 /// What a call is answered, before which all that both stores hold is dropped where the call says so.
-fn answered(
+fn answered<O: Store<StoreKey, Pairs> + Drop>(
     call: ScenarioCall,
-    session: &mut Session<Sha256, Entries, Kept>,
+    session: &mut Session<Sha256, Entries, O>,
     tool: &mut ScriptTool,
 ) -> Result<Answer, Fault> {
     let ScenarioCall {

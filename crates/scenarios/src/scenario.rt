@@ -4,7 +4,8 @@
 //!
 //! - `basedirs`: a list of byte texts, else empty: the folders that don't count. Each is absolute and not only slashes;
 //! - `zone`: a text, the rule of POSIX for the zone in which days are told, else `UTC0`;
-//! - `direct`: a truth value, whether include records are kept, else false.
+//! - `direct`: a truth value, whether include records are kept, else false;
+//! - `capacity`: a whole number of 64 bits without a sign, how many objects are kept at most, else 0, by which all are.
 //!
 //! A request is an object with these members, of which `compiler` and `words` are required:
 //!
@@ -26,7 +27,9 @@ ghost use Rattle.std.specs.Prelude.{◌≡◌};
 
 use crate::byte_text::{read_byte_text, read_byte_texts, read_hex};
 use crate::compilers::read_compiler;
-use crate::members::{into_list, into_object, into_text, read_truth, read_whole, required};
+use crate::members::{
+    into_list, into_object, into_text, read_capacity, read_truth, read_whole, required,
+};
 use ckeys::config::{ConfigError, KeyConfig};
 use os_files::file_time::FileTime;
 use os_files::listed::Listed;
@@ -34,6 +37,7 @@ use os_files::memory_files::{MemoryFile, MemoryFiles};
 use os_files::os_bytes::OsBytes;
 use serde_json::{Map, Value};
 use std::alloc::{AllocError, AllocFailed, Global};
+use std::num::NonZeroUsize;
 use time_macros::zone::{Zone, ZoneError};
 use wrap_base::request::Request;
 
@@ -50,6 +54,8 @@ pub(crate) struct Scenario {
     pub(crate) session_config: KeyConfig,
     /// The same, of whose folders the tool's compiler strips texts.
     pub(crate) tool_config: KeyConfig,
+    /// How many objects are kept at most, or all.
+    pub(crate) capacity: Option<NonZeroUsize>,
     pub(crate) calls: Vec<ScenarioCall>,
 }
 
@@ -123,9 +129,11 @@ pub(crate) fn read_scenario(alloc: Global, bytes: &[u8]) -> Result<Scenario, Sce
     let folders = folders.as_slice();
     let zone = read_zone(members.remove("zone"))?;
     let direct = read_truth(members.remove("direct"))?;
+    let capacity = read_capacity(members.remove("capacity"))?;
     Ok(Scenario {
         session_config: KeyConfig::new(alloc, folders, zone, direct)?,
         tool_config: KeyConfig::new(alloc, folders, zone, direct)?,
+        capacity,
         calls: read_calls(alloc, required(members.remove("requests"))?)?,
     })
 }

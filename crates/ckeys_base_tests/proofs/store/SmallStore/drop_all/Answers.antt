@@ -2,7 +2,7 @@ use Rattle.std.proofs.Common.{◌≡◌, ◌↔◌, ℕ, true, length, refl, sym
 use Rattle.std.specs.Ordering.{nat_cmp, is_eq}
 use Rattle.std.specs.declared.cmp.Ordering.TheVariants.{Equal}
 use Rattle.std.specs.Cmp.{nat_cmp_is}
-use Rattle.ckeys_base_tests.proofs.EmptiedShelf.{keeps_none}
+use Rattle.ckeys_base.proofs.EmptiedShelf.{keeps_none}
 use Rattle.ckeys_base_tests.proofs.store.SmallStore.drop_all.Goals as goal
 use Rattle.ckeys_base_tests.proofs.store.SmallStore.drop_all.Goals.{then-self, else-self}
 

@@ -1,5 +1,5 @@
 use Rattle.std.proofs.Common.{◌≡◌, ◌↔◌, true, length}
-use Rattle.wrap_base.proofs.EmptiedShelf.{keeps_none}
+use Rattle.ckeys_base.proofs.EmptiedShelf.{keeps_none}
 use Rattle.wrap_tests.proofs.forgetful.Forgetful.drop_all.Goals as goal
 use Rattle.wrap_tests.proofs.forgetful.Forgetful.drop_all.Goals.{then-self, else-self}
 
