@@ -6,13 +6,15 @@
 //!
 //! All other members are passed over unread, and of a repeated member the last one counts.
 
+ghost use Rattle.std.specs.Prelude.{◌<◌, OnOk, length};
+
 use crate::fault::ReportFault;
+use json::{MAX_DEPTH, Reader, Scratch, Token, Value, is_valid};
 use os_files::listed::Listed;
 use os_files::os_bytes::OsBytes;
 use recorded_builds::entry::Entry;
 use recorded_builds::executables::{compiler_of, is_wrapper};
 use response_texts::gnu::split_gnu_response_file_args;
-use serde_json::{Map, Value};
 use std::alloc::{AllocError, Global};
 
 /// Why an entry can't be read.
@@ -29,35 +31,24 @@ impl From<AllocError> for EntryFault {
     }
 }
 
-/// The value of a text in JSON.
-fn read_value(alloc: Global, text: &[u8]) -> Result<Value, ReportFault> {
-    match Value::from_slice(alloc, text) {
-        Ok(value) => Ok(value),
-        Err(error) if error.is_memory() => Err(ReportFault::Memory),
-        Err(_) => Err(ReportFault::NotJson),
-    }
-}
-
 /// The words of a list of texts.
-fn words_of_list(alloc: Global, items: Vec<Value>) -> Result<Vec<OsBytes>, EntryFault> {
-    let mut words = Vec::new(alloc);
+fn words_of_list(alloc: Global, items: &[Value<'_>]) -> Result<Vec<OsBytes>, EntryFault> {
+    let mut words = Vec::with_capacity(alloc, items.len())?;
     for item in items {
-        match item {
-            Value::String(text) => {
-                words
-                    .push(OsBytes::from_vec(text.into_bytes()))
-                    .map_err(|_| EntryFault::Memory)?;
-            }
-            _ => return Err(EntryFault::Wrong("an argument is not a text")),
-        }
+        let Value::String(text) = item else {
+            return Err(EntryFault::Wrong("an argument is not a text"));
+        };
+        words
+            .push(OsBytes::from_slice(alloc, text.as_bytes())?)
+            .map_err(|_| EntryFault::Memory)?;
     }
     Ok(words)
 }
 
 /// The executable and its words.
-fn read_words(alloc: Global, members: &mut Map<String, Value>) -> Result<Vec<OsBytes>, EntryFault> {
-    match (members.remove("arguments"), members.remove("command")) {
-        (Some(Value::Array(items)), _) => words_of_list(alloc, items),
+fn read_words(alloc: Global, entry: &Value<'_>) -> Result<Vec<OsBytes>, EntryFault> {
+    match (entry.get("arguments"), entry.get("command")) {
+        (Some(Value::Array(items)), _) => words_of_list(alloc, items.as_slice()),
         (Some(_), _) => Err(EntryFault::Wrong("arguments is not a list")),
         (None, Some(Value::String(text))) => {
             Ok(split_gnu_response_file_args(alloc, text.as_bytes())?)
@@ -68,9 +59,9 @@ fn read_words(alloc: Global, members: &mut Map<String, Value>) -> Result<Vec<OsB
 }
 
 /// The folder in which the command is run.
-fn read_dir(members: &mut Map<String, Value>) -> Result<OsBytes, EntryFault> {
-    match members.remove("directory") {
-        Some(Value::String(text)) => Ok(OsBytes::from_vec(text.into_bytes())),
+fn read_dir(alloc: Global, entry: &Value<'_>) -> Result<OsBytes, EntryFault> {
+    match entry.get("directory") {
+        Some(Value::String(text)) => Ok(OsBytes::from_slice(alloc, text.as_bytes())?),
         Some(_) => Err(EntryFault::Wrong("directory is not a text")),
         None => Err(EntryFault::Wrong("directory is not there")),
     }
@@ -83,43 +74,97 @@ fn entry_of(alloc: Global, dir: OsBytes, words: Vec<OsBytes>) -> Result<Entry, E
         .take_while(|word| is_wrapper(word.as_bytes()))
         .count()
         .min(words.len().saturating_sub(1));
+    let mut rest = Vec::with_capacity(alloc, words.len())?;
     let mut words = words.into_iter().skip(wrappers);
     let Some(executable) = words.next() else {
         return Err(EntryFault::Wrong("it has no words"));
     };
-    let mut rest = Listed::new(alloc);
     for word in words {
-        rest.push(word)?;
+        rest.push(word).map_err(|_| EntryFault::Memory)?;
     }
     Ok(Entry {
         compiler: compiler_of(executable.as_bytes()),
         executable,
-        words: rest,
+        words: Listed::from_vec(rest),
         dir,
     })
 }
 
 /// The entry that a value is.
-fn read_entry(alloc: Global, value: Value) -> Result<Entry, EntryFault> {
-    let Value::Object(mut members) = value else {
+fn read_entry(alloc: Global, value: &Value<'_>) -> Result<Entry, EntryFault> {
+    let Value::Object(_) = value else {
         return Err(EntryFault::Wrong("it is not an object"));
     };
-    let dir = read_dir(&mut members)?;
-    entry_of(alloc, dir, read_words(alloc, &mut members)?)
+    let dir = read_dir(alloc, value)?;
+    entry_of(alloc, dir, read_words(alloc, value)?)
+}
+
+/// The entries of a list so far, and what is wrong with the first value that is none.
+#[derive(Drop)]
+struct Entries {
+    entries: Vec<Entry>,
+    wrong: Option<&'static str>,
+}
+
+impl Entries {
+    /// Adds what a value was read as, unless one before was none.
+    fn add(&mut self, read: Result<Entry, EntryFault>) -> Result<(), ReportFault> {
+        match read {
+            Ok(entry) => self.entries.push(entry)?,
+            Err(EntryFault::Wrong(what)) => self.wrong = Some(what),
+            Err(EntryFault::Memory) => return Err(ReportFault::Memory),
+        }
+        Ok(())
+    }
+
+    /// Reads the next value of the list.
+    fn read_next(&mut self, alloc: Global, reader: &mut Reader<'_>) -> Result<(), ReportFault>
+        ensures { OnOk result (length reader.new < length reader.old) }
+    {
+        let value = Value::read(alloc, reader, MAX_DEPTH - 1)?;
+        if self.wrong.is_some() {
+            return Ok(());
+        }
+        self.add(read_entry(alloc, &value))
+    }
+}
+
+/// Reads the values of a list up to its end, each as an entry. The first that is none is told once all is known to be JSON.
+fn read_entries(alloc: Global, reader: &mut Reader<'_>) -> Result<Vec<Entry>, ReportFault> {
+    let mut read = Entries {
+        entries: Vec::new(alloc),
+        wrong: None,
+    };
+    while !reader.take_end_array() {
+        read.read_next(alloc, reader)?;
+    }
+    if reader.next().is_some() {
+        return Err(ReportFault::NotJson);
+    }
+    match read.wrong {
+        Some(what) => Err(ReportFault::Entry((read.entries.len() as u64).saturating_add(1), what)),
+        None => Ok(read.entries),
+    }
+}
+
+/// What a text that is no list is.
+fn fault_of_text(alloc: Global, text: &str) -> ReportFault {
+    match is_valid(text, &mut Scratch::new(alloc)) {
+        Ok(true) => ReportFault::NotAList,
+        Ok(false) => ReportFault::NotJson,
+        Err(_) => ReportFault::Memory,
+    }
 }
 
 /// The entries of a compilation database, in order.
 pub(crate) fn read_database(alloc: Global, text: &[u8]) -> Result<Vec<Entry>, ReportFault> {
-    let Value::Array(items) = read_value(alloc, text)? else {
-        return Err(ReportFault::NotAList);
+    let Ok(text) = str::from_utf8(text) else {
+        return Err(ReportFault::NotJson);
     };
-    let mut entries = Vec::new(alloc);
-    for (number, item) in (1u64..).zip(items) {
-        match read_entry(alloc, item) {
-            Ok(entry) => entries.push(entry)?,
-            Err(EntryFault::Wrong(what)) => return Err(ReportFault::Entry(number, what)),
-            Err(EntryFault::Memory) => return Err(ReportFault::Memory),
-        }
+    let mut scratch = Scratch::new(alloc);
+    let mut reader = Reader::new(text, &mut scratch)?;
+    match reader.next() {
+        Some(Token::BeginArray) => read_entries(alloc, &mut reader),
+        _ => Err(fault_of_text(alloc, text)),
     }
-    Ok(entries)
 }

@@ -1,6 +1,5 @@
 //! Why a report stopped.
 
-use cmdlines::command::CommandError;
 use response_files::fault::ParseFault;
 use std::alloc::{AllocError, AllocFailed};
 use std::io;
@@ -45,9 +44,14 @@ impl<T: Drop> From<AllocFailed<T>> for ReportFault {
     }
 }
 
-impl From<CommandError> for ReportFault {
-    fn from(_error: CommandError) -> ReportFault {
-        ReportFault::Memory
+impl From<json::Error> for ReportFault {
+    fn from(error: json::Error) -> ReportFault {
+        match error {
+            json::Error::OutOfMemory => ReportFault::Memory,
+            json::Error::Invalid | json::Error::TooLong | json::Error::DuplicateKey => {
+                ReportFault::NotJson
+            }
+        }
     }
 }
 

@@ -1,7 +1,6 @@
 //! Reports on recorded builds: what a cache would keep of each command line, and why it would pass the others through.
 #![tactic(auto)]
 
-mod beware;
 mod database;
 mod disk;
 mod fault;

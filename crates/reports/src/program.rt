@@ -8,7 +8,7 @@ use crate::lines::text_of_lines;
 use crate::report::{Shape, report_text};
 use crate::request_texts::Detail;
 use crate::usage::{HELP, Usage, usage_of};
-use recorded_builds::deciding::{Compilers, decide_all};
+use recorded_builds::deciding::Compilers;
 use std::alloc::Global;
 use std::io::{Read, Write};
 use std::rt::Files;
@@ -51,14 +51,7 @@ fn text_of_report<D: Files>(
     let entries = read_database(alloc, database)?;
     let compilers = Compilers::new(alloc)?;
     let mut files = snapshot_for(alloc, disk, &compilers, entries.as_slice())?;
-    let decided = decide_all(alloc, &compilers, entries.as_slice(), &mut files)?;
-    report_text(
-        alloc,
-        &compilers,
-        shape,
-        entries.as_slice(),
-        decided.as_slice(),
-    )
+    Ok(report_text(alloc, &compilers, shape, entries.as_slice(), &mut files)?)
 }
 
 /// What the reader gives to its end.

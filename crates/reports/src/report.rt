@@ -1,14 +1,15 @@
 //! The report on a database: a line for each entry, and a summary.
 
-use crate::beware::options_to_beware_of;
-use crate::fault::ReportFault;
 use crate::request_texts::{Detail, write_compile, write_kept, write_preprocess};
-use crate::tally::Tally;
-use cmdlines::compiler_arguments::CompilerArguments;
-use recorded_builds::counting::count_of_kept;
-use recorded_builds::deciding::{Compilers, Decided, Verdict};
+use crate::tally::write_rows;
+use cmdlines::compiler_arguments::{CompilerArguments, ParseFault};
+use os_files::os_bytes::OsBytes;
+use recorded_builds::deciding::{Compilers, Verdict};
 use recorded_builds::entry::Entry;
-use recorded_builds::reasons::reason_of;
+use recorded_builds::snapshot::Asked;
+use recorded_builds::summary::Summary;
+use recorded_builds::telling::{Lines, tell_all};
+use recorded_builds::told::Told;
 use std::alloc::{AllocError, Global};
 use std::fmt::Write;
 
@@ -20,62 +21,13 @@ pub(crate) struct Shape {
     pub(crate) commands: bool,
 }
 
-/// What is noted of the entries.
+/// The lines of a report so far.
 #[derive(Drop)]
-struct Summary {
-    reasons: Tally,
-    blockers: Tally,
-    beware: Tally,
-}
-
-/// The option that keeps direct mode from being used.
-fn blocker_of(alloc: Global, verdict: &Verdict) -> Result<Option<String>, AllocError> {
-    if let Verdict::C(_, CompilerArguments::Ok(parsed)) = verdict {
-        if let Some(flag) = &parsed.too_hard_for_preprocessor_cache_mode {
-            return Ok(Some(format!(in alloc; "{flag}")?));
-        }
-    }
-    Ok(None)
-}
-
-impl Summary {
-    fn new(alloc: Global) -> Summary {
-        Summary {
-            reasons: Tally::new(alloc),
-            blockers: Tally::new(alloc),
-            beware: Tally::new(alloc),
-        }
-    }
-
-    /// Notes the entry of this number.
-    fn note(
-        &mut self,
-        alloc: Global,
-        number: u64,
-        verdict: &Verdict,
-        reason: &Option<String>,
-        beware: &[&'static str],
-    ) -> Result<(), AllocError> {
-        if let Some(reason) = reason {
-            self.reasons.note(reason.as_str(), number)?;
-        }
-        if let Some(flag) = blocker_of(alloc, verdict)? {
-            self.blockers.note(flag.as_str(), number)?;
-        }
-        for option in beware {
-            self.beware.note(option, number)?;
-        }
-        Ok(())
-    }
-
-    /// Adds the summary of what was decided on the entries.
-    fn write(&self, text: &mut String, decided: &[Decided]) -> Result<(), AllocError> {
-        let (entries, kept) = (decided.len(), count_of_kept(decided));
-        write!(text, "\nentries {entries}\nkept {kept}\n")?;
-        self.reasons.write(text, "passed through")?;
-        self.blockers.write(text, "without direct mode")?;
-        self.beware.write(text, "beware")
-    }
+struct ReportLines<'a> {
+    alloc: Global,
+    compilers: &'a Compilers,
+    shape: Shape,
+    text: String,
 }
 
 /// Adds the words of the commands of an entry that is kept, a line each.
@@ -84,7 +36,7 @@ fn write_commands(
     text: &mut String,
     compilers: &Compilers,
     verdict: &Verdict,
-) -> Result<(), ReportFault> {
+) -> Result<(), AllocError> {
     match verdict {
         Verdict::C(_, CompilerArguments::Ok(_)) => {
             text.push_str("  compile")?;
@@ -106,10 +58,10 @@ fn write_commands(
 /// Adds what follows what is kept or why not: files of words that aren't there, and options to beware of.
 fn write_marks(
     text: &mut String,
-    decided: &Decided,
+    missing: &[OsBytes],
     beware: &[&'static str],
 ) -> Result<(), AllocError> {
-    for path in decided.missing.as_slice() {
+    for path in missing {
         write!(text, "; no file {path}")?;
     }
     for option in beware {
@@ -118,57 +70,55 @@ fn write_marks(
     text.push('\n')
 }
 
-/// Adds the lines of the entry of this number, and notes it.
-fn write_entry(
-    alloc: Global,
-    text: &mut String,
-    summary: &mut Summary,
-    compilers: &Compilers,
-    shape: Shape,
-    number: u64,
-    entry: &Entry,
-    decided: &Decided,
-) -> Result<(), ReportFault> {
-    let verdict = &decided.verdict;
-    let reason = reason_of(alloc, verdict, &entry.executable)?;
-    let beware = options_to_beware_of(alloc, verdict)?;
-    match &reason {
-        Some(reason) => write!(text, "{number} pass {reason}")?,
-        None => {
-            write!(text, "{number} keeps ")?;
-            write_kept(text, verdict, shape.detail)?;
+impl<'a> Lines for ReportLines<'a> {
+    fn tell(
+        &mut self,
+        number: u64,
+        _entry: &Entry,
+        told: &Told,
+        files: &Asked,
+    ) -> Result<(), AllocError> {
+        let text = &mut self.text;
+        match &told.reason {
+            Some(reason) => write!(text, "{number} pass {reason}")?,
+            None => {
+                write!(text, "{number} keeps ")?;
+                write_kept(text, &told.verdict, self.shape.detail)?;
+            }
         }
+        write_marks(text, files.read.as_slice(), told.beware.as_slice())?;
+        if self.shape.commands {
+            write_commands(self.alloc, text, self.compilers, &told.verdict)?;
+        }
+        Ok(())
     }
-    write_marks(text, decided, beware.as_slice())?;
-    if shape.commands {
-        write_commands(alloc, text, compilers, verdict)?;
-    }
-    summary.note(alloc, number, verdict, &reason, beware.as_slice())?;
-    Ok(())
 }
 
-/// The report on these entries, each with what was decided on it.
+/// Adds the summary of so many entries.
+fn write_summary(text: &mut String, entries: usize, summary: &Summary) -> Result<(), AllocError> {
+    let kept = summary.kept;
+    write!(text, "\nentries {entries}\nkept {kept}\n")?;
+    write_rows(text, "passed through", summary.reasons.as_slice())?;
+    write_rows(text, "without direct mode", summary.blockers.as_slice())?;
+    write_rows(text, "beware", summary.beware.as_slice())
+}
+
+/// The report on these entries, with these files of words.
 pub(crate) fn report_text(
     alloc: Global,
     compilers: &Compilers,
     shape: Shape,
     entries: &[Entry],
-    decided: &[Decided],
-) -> Result<String, ReportFault> {
-    let mut text = String::new(alloc);
-    let mut summary = Summary::new(alloc);
-    for (number, (entry, decided)) in (1u64..).zip(entries.iter().zip(decided.iter())) {
-        write_entry(
-            alloc,
-            &mut text,
-            &mut summary,
-            compilers,
-            shape,
-            number,
-            entry,
-            decided,
-        )?;
-    }
-    summary.write(&mut text, decided)?;
+    files: &mut Asked,
+) -> Result<String, ParseFault> {
+    let mut lines = ReportLines {
+        alloc,
+        compilers,
+        shape,
+        text: String::new(alloc),
+    };
+    let summary = tell_all(alloc, compilers, entries, files, &mut lines)?;
+    let ReportLines { mut text, .. } = lines;
+    write_summary(&mut text, entries.len(), &summary)?;
     Ok(text)
 }

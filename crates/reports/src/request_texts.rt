@@ -1,6 +1,5 @@
 //! What words that are kept ask for, as text.
 
-use crate::fault::ReportFault;
 use crate::texts::{write_list, write_words};
 use cmdlines::compiler_arguments::CompilerArguments;
 use cmdlines::found::{FoundCompiler, HasKind};
@@ -148,10 +147,12 @@ fn compile_words_of<K: HasKind>(
     alloc: Global,
     compiler: &FoundCompiler<K>,
     parsed: &ParsedArguments,
-) -> Result<Listed<OsBytes>, ReportFault> {
+) -> Result<Listed<OsBytes>, AllocError> {
     let none = OsBytes::empty(alloc);
-    let (command, _) = compiler.generate_compile_commands(alloc, &none, parsed, &none, &[])?;
-    Ok(command.arguments)
+    match compiler.generate_compile_commands(alloc, &none, parsed, &none, &[]) {
+        Ok((command, _)) => Ok(command.arguments),
+        Err(_) => Err(AllocError),
+    }
 }
 
 /// The words of the compile command of a request.
@@ -160,7 +161,7 @@ fn compile_words(
     compilers: &Compilers,
     kind: CCompilerKind,
     parsed: &ParsedArguments,
-) -> Result<Listed<OsBytes>, ReportFault> {
+) -> Result<Listed<OsBytes>, AllocError> {
     match kind {
         CCompilerKind::Gcc => compile_words_of(alloc, &compilers.gcc, parsed),
         CCompilerKind::Clang => compile_words_of(alloc, &compilers.clang, parsed),
@@ -223,7 +224,7 @@ pub(crate) fn write_compile(
     text: &mut String,
     compilers: &Compilers,
     verdict: &Verdict,
-) -> Result<(), ReportFault> {
+) -> Result<(), AllocError> {
     match verdict {
         Verdict::C(kind, CompilerArguments::Ok(parsed)) => {
             let words = compile_words(alloc, compilers, *kind, parsed)?;
@@ -243,7 +244,7 @@ pub(crate) fn write_preprocess(
     text: &mut String,
     compilers: &Compilers,
     verdict: &Verdict,
-) -> Result<(), ReportFault> {
+) -> Result<(), AllocError> {
     if let Verdict::C(kind, CompilerArguments::Ok(parsed)) = verdict {
         let words = preprocess_words(alloc, compilers, *kind, parsed)?;
         write_words(text, words.as_slice())?;
