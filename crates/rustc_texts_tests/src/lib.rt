@@ -1,6 +1,8 @@
-//! Tests of rustc's texts, by example and with what rustc itself writes.
+//! Tests of rustc's texts and keys, by example and with what rustc itself writes.
 #![tactic(auto)]
 
+#[cfg(test)]
+mod dep_info;
 #[cfg(test)]
 mod env_deps;
 #[cfg(test)]
