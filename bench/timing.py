@@ -23,14 +23,18 @@ def run(words, variables=None, folder=None, source=os.devnull):
         return usage.ru_utime + usage.ru_stime, output.read().decode()
 
 
+# A command's peak counts what the process had that started it, so that a small one starts it.
+STARTER = """
+import resource, subprocess, sys
+subprocess.run(sys.argv[1:], stdout=subprocess.DEVNULL, check=True)
+print(resource.getrusage(resource.RUSAGE_CHILDREN).ru_maxrss)
+"""
+
+
 def peak_memory(words):
     """Runs a command, and gives the most memory that it had at once, in kilobytes."""
-    child = subprocess.Popen(words, stdin=subprocess.DEVNULL, stdout=subprocess.DEVNULL)
-    _, status, usage = os.wait4(child.pid, 0)
-    child.returncode = os.waitstatus_to_exitcode(status)
-    if child.returncode != 0:
-        stop(f"{' '.join(words[:4])} ended with status {child.returncode}")
-    return usage.ru_maxrss
+    _, printed = run([sys.executable, "-c", STARTER, *words])
+    return int(printed)
 
 
 def in_turn(timers, rounds, chosen):

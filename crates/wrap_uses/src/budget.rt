@@ -1,10 +1,9 @@
 //! A store with a budget: what would pass it is handed back.
 
-ghost use Rattle.std.specs.Prelude.{◌≡◌, ◌+◌, ◌<◌, ◌&&◌, not, IsErr, false};
-ghost use Rattle.wrap.specs.Shelf.{Clears, Puts};
-ghost use Rattle.wrap_uses.specs.Budgets.{Left, Spends, size_of};
+ghost use Rattle.std.specs.Prelude.{◌≡◌};
+ghost use Rattle.wrap.specs.Shelf.{Puts};
+ghost use Rattle.wrap_uses.specs.Budgets.{Left, Spends, shelf_of, size_of};
 
-use std::cmp::PartialEq;
 use wrap::{OsBytes, Pairs, Store, StoreKey};
 
 /// Keeps outputs in another store until the contents that it took come to so many bytes; what would pass that is refused. Room
@@ -53,13 +52,7 @@ impl<O: Store<StoreKey, Pairs>> BudgetStore<O> {
 }
 
 impl<O: Store<StoreKey, Pairs>> Store<StoreKey, Pairs> for BudgetStore<O> {
-    ghost shelf = { λ s. record {
-      held = (O.shelf s.inner).held;
-      kept = (O.shelf s.inner).kept && not s.refused;
-      forgets = (O.shelf s.inner).forgets;
-      clears = (O.shelf s.inner).clears;
-      puts = s.puts;
-    } };
+    ghost shelf = { shelf_of O.shelf };
 
     ghost respects = { λ s a b e. O.respects s.inner a b e };
 
@@ -67,7 +60,12 @@ impl<O: Store<StoreKey, Pairs>> Store<StoreKey, Pairs> for BudgetStore<O> {
         self.inner.get(key)
     }
 
-    fn put(&mut self, key: StoreKey, value: Pairs) -> Result<(), (StoreKey, Pairs)> {
+    fn put(&mut self, key: StoreKey, value: Pairs) -> Result<(), (StoreKey, Pairs)>
+        ensures stored { Puts ⟦<StoreKey as PartialEq>⟧.eq (shelf_of O.shelf self.old)
+            (shelf_of O.shelf self.new) key value result }
+        // What is kept takes its size from what is left, so that it never passes the budget.
+        ensures spent { Spends (size_of value) self.old.left self.new.left result }
+    {
         self.puts = self.puts.wrapping_add(1);
         match left_after(value.as_slice(), self.left) {
             Some(left) => {

@@ -1,6 +1,6 @@
 //! A tool that compiles at most so many times: how a build runner stops a build.
 
-ghost use Rattle.std.specs.Prelude.{◌≡◌, ◌+◌, ◌⊎◌, ℕ, IfOk, IsErrOf};
+ghost use Rattle.std.specs.Prelude.{◌≡◌, ◌⊎◌, IfOk, IsErrOf};
 ghost use Rattle.wrap.specs.Bytes.{ticked};
 ghost use Rattle.wrap.specs.Meaning.{made_of, names_of, scene_of, asked_of};
 ghost use Rattle.wrap_uses.specs.Caps.{TakesOne};
@@ -91,21 +91,21 @@ impl<T: Tool> Tool for CappedTool<T> {
     ) -> Result<Compiled, ToolFail>
         ensures answer { IfOk result
             (λ made. made_of made.status made.files
-            ≡ Self.meaning self.old Step.Compile (asked_of kind command.now.arguments)
+            ≡ T.meaning self.old.inner Step.Compile (asked_of kind command.now.arguments)
             (names_of outputs.now) (scene_of command.now (F.tree files.old) moment)) }
-        ensures meaning { Self.meaning self.new ≡ Self.meaning self.old }
+        ensures meaning { T.meaning self.new.inner ≡ T.meaning self.old.inner }
         ensures tree { F.tree files.new ≡ F.tree files.old }
         ensures device { IsErrOf result ToolFail.Device
-            → (Self.failed self.new ≡ ticked (Self.failed self.old))
-            × Self.fails_in self.old Step.Compile self.new }
+            → (self.new.failed ≡ ticked self.old.failed)
+            × (T.fails_in self.old.inner Step.Compile self.new.inner ⊎ (self.old.left ≡ 0)) }
         ensures files_device { IsErrOf result ToolFail.Device
             → (F.failed files.new ≡ F.failed files.old)
             ⊎ (F.failed files.new ≡ ticked (F.failed files.old)) }
         ensures steady { (IsErrOf result ToolFail.Device → ⊥)
-            → (Self.failed self.new ≡ Self.failed self.old)
+            → (self.new.failed ≡ self.old.failed)
             × (F.failed files.new ≡ F.failed files.old) }
-        ensures runs { Self.compiled self.new ≡ ticked (Self.compiled self.old) }
-        ensures preprocesses { Self.preprocessed self.new ≡ Self.preprocessed self.old }
+        ensures runs { self.new.compiled ≡ ticked self.old.compiled }
+        ensures preprocesses { T.preprocessed self.new.inner ≡ T.preprocessed self.old.inner }
 
         // Each compile of the other tool takes one from what is left, and with nothing left none runs.
         ensures capped { TakesOne self.old.left self.new.left
