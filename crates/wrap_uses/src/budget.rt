@@ -22,8 +22,14 @@ fn left_after(pairs: &[(OsBytes, OsBytes)], bytes: u64) -> Option<u64>
     ensures { Left bytes (size_of pairs.now) result }
 {
     let mut left = bytes;
-    for (_, contents) in pairs {
-        left = left.checked_sub(contents.as_bytes().len() as u64)?;
+    let mut rest = pairs;
+    while let Some((first, others)) = rest.split_first() {
+        let size = first.1.as_bytes().len() as u64;
+        if left < size {
+            return None;
+        }
+        left -= size;
+        rest = others;
     }
     Some(left)
 }
