@@ -1,7 +1,6 @@
 //! Keys of rustc's requests that were recorded, and the pieces that they are of.
 
-ghost use Rattle.std.specs.Prelude.{◌≡◌, None, IfOk};
-ghost use Rattle.std.specs.List.{AllZip};
+ghost use Rattle.std.specs.Prelude.{IfOk};
 ghost use Rattle.rustkeys_uses.specs.RecordedKeys.{IsReadAs};
 
 use os_files::os_bytes::OsBytes;
@@ -21,15 +20,4 @@ pub fn pieces_of_key(alloc: Global, key: &RecordedKey) -> Result<Option<Parts>, 
     ensures { IfOk result (IsReadAs key.now) }
 {
     read_key_bytes(alloc, key.bytes.as_bytes(), &key.shape)
-}
-
-/// The pieces of each of the keys, in their order.
-pub fn pieces_of_keys(alloc: Global, keys: &[RecordedKey]) -> Result<Vec<Option<Parts>>, AllocError>
-    ensures { IfOk result (λ found. AllZip IsReadAs keys.now found.items) }
-{
-    let mut found = Vec::with_capacity(alloc, keys.len())?;
-    for key in keys {
-        found.push(pieces_of_key(alloc, key)?)?;
-    }
-    Ok(found)
 }
