@@ -1,0 +1,2 @@
+pub mod Compiler
+pub mod Causes

@@ -1,0 +1,60 @@
+//! The digests of files that a toolchain needs.
+
+ghost use Rattle.std.specs.Prelude.{◌≡◌, Some, true, IfOk, IfErr, IsErrOf, OnOk};
+ghost use Rattle.os_files.specs.Fails.{FailsOn};
+ghost use Rattle.ckeys_base.specs.FileDigests.{file_digest, file_digests};
+ghost use Rattle.rustc_compiler.specs.Causes.{CauseOf, FileCause};
+
+use crate::fault::RustFault;
+use ckeys_base::digest::Digest;
+use ckeys_base::hash_state::HashState;
+use os_files::files::{FileFail, Files};
+use os_files::listed::Listed;
+use os_files::os_bytes::OsBytes;
+use std::alloc::Global;
+
+/// The digest of a file that is needed, as text.
+fn digest_of<H: HashState, F: Files>(
+    alloc: Global,
+    path: &OsBytes,
+    files: &mut F,
+) -> Result<OsBytes, RustFault>
+    ensures digest { IfOk result
+        (λ digest. Some digest ≡ file_digest H.digest_of (F.tree files.old) path.now) }
+    ensures cause { IfErr result
+        (FileCause (F.tree files.old) path.now
+        (FailsOn F.tree F.failed F.fails_on files.old files.new)) }
+    ensures tree { F.tree files.new ≡ F.tree files.old }
+    ensures steady { OnOk result (F.failed files.new ≡ F.failed files.old) }
+    ensures memory { IsErrOf result RustFault.Memory → F.failed files.new ≡ F.failed files.old }
+{
+    // Before the file is touched, so that no device's failure is answered as want of memory.
+    let name = path.clone()?;
+    match Digest::<H>::file(alloc, path, files) {
+        Ok(Some(digest)) => Ok(OsBytes::from_vec(digest.into_bytes())),
+        Ok(None) | Err(FileFail::Device) => Err(RustFault::Read(name)),
+        Err(FileFail::Memory) => Err(RustFault::Memory),
+    }
+}
+
+/// The digests of files that are needed, as texts, in their order.
+pub(crate) fn digests_of<H: HashState, F: Files>(
+    alloc: Global,
+    paths: &[OsBytes],
+    files: &mut F,
+) -> Result<Listed<OsBytes>, RustFault>
+    ensures digests { IfOk result
+        (λ digests. Some digests ≡ file_digests H.digest_of (F.tree files.old) paths.now) }
+    ensures cause { IfErr result
+        (CauseOf true (F.tree files.old) paths.now
+        (FailsOn F.tree F.failed F.fails_on files.old files.new)) }
+    ensures tree { F.tree files.new ≡ F.tree files.old }
+    ensures steady { OnOk result (F.failed files.new ≡ F.failed files.old) }
+    ensures memory { IsErrOf result RustFault.Memory → F.failed files.new ≡ F.failed files.old }
+{
+    let mut digests = Vec::with_capacity(alloc, paths.len())?;
+    for path in paths {
+        digests.push(digest_of::<H, F>(alloc, path, files)?)?;
+    }
+    Ok(Listed::from_vec(digests))
+}
