@@ -1,0 +1,146 @@
+//! The bytes of keys, and what they don't tell.
+
+use os_files::listed::Listed;
+use os_files::os_bytes::OsBytes;
+use rustc_parts::parts::{EnvDep, Parts};
+use rustc_parts::reading::read_key_bytes;
+use rustc_parts::writing::key_bytes;
+use std::alloc::{AllocError, Global};
+use std::test::Fail;
+use test_kit::rows::words;
+
+/// No pieces at all.
+fn no_parts(alloc: Global) -> Parts {
+    Parts {
+        toolchain: Listed::new(alloc),
+        version: OsBytes::empty(alloc),
+        words: Listed::new(alloc),
+        sources: Listed::new(alloc),
+        externs: Listed::new(alloc),
+        archives: Listed::new(alloc),
+        target: None,
+        env_deps: Listed::new(alloc),
+        variables: Listed::new(alloc),
+        dir: OsBytes::empty(alloc),
+    }
+}
+
+/// Pieces of these words, and no others.
+fn of_words(alloc: Global, line: &str) -> Result<Parts, AllocError> {
+    let mut parts = no_parts(alloc);
+    parts.words = Listed::from_vec(words(alloc, line)?);
+    Ok(parts)
+}
+
+/// A digest for each byte, which consists of that byte alone.
+fn digests(alloc: Global, bytes: &[u8]) -> Result<Listed<OsBytes>, AllocError> {
+    let mut list = Listed::new(alloc);
+    for byte in bytes {
+        list.push(OsBytes::from_slice(alloc, [*byte; 64].as_slice())?)?;
+    }
+    Ok(list)
+}
+
+/// Pieces of these sources and externs, and no others.
+fn of_files(alloc: Global, sources: &[u8], externs: &[u8]) -> Result<Parts, AllocError> {
+    let mut parts = no_parts(alloc);
+    parts.sources = digests(alloc, sources)?;
+    parts.externs = digests(alloc, externs)?;
+    Ok(parts)
+}
+
+/// Pieces of the variable `FOO` with that value, and no others.
+fn of_variable(alloc: Global, value: Option<OsBytes>) -> Result<Parts, AllocError> {
+    let name = OsBytes::from_slice(alloc, b"FOO")?;
+    let mut parts = no_parts(alloc);
+    parts.env_deps.push(EnvDep { name, value })?;
+    Ok(parts)
+}
+
+/// Whether the bytes of these pieces are those.
+fn are_written_as(alloc: Global, parts: &Parts, want: &[u8]) -> Result<bool, AllocError> {
+    let bytes = key_bytes(alloc, parts)?;
+    Ok(bytes.as_slice() == want)
+}
+
+#[test]
+fn words_are_written_in_a_row(rt: HostRuntime) -> Result<(), Fail> {
+    let want = b"7\x03\0\0\0\0\0\0\0abc\0\0\0\0\0\0\0\0\xff";
+    let parts = of_words(rt.alloc(), "ab c")?;
+    assert!(rt; are_written_as(rt.alloc(), &parts, want.as_slice())?);
+    Ok(())
+}
+
+#[test]
+fn unset_variables_are_written_as_empty_ones(rt: HostRuntime) -> Result<(), Fail> {
+    let want = b"7\0\0\0\0\0\0\0\0\x03\0\0\0\0\0\0\0FOO=\0\0\0\0\0\0\0\0\0\0\0\0\0\0\0\0\xff";
+    let parts = of_variable(rt.alloc(), None)?;
+    assert!(rt; are_written_as(rt.alloc(), &parts, want.as_slice())?);
+    Ok(())
+}
+
+/// Whether the bytes of the two are equal.
+fn same_bytes(alloc: Global, one: &Parts, other: &Parts) -> Result<bool, AllocError> {
+    let bytes = key_bytes(alloc, one)?;
+    are_written_as(alloc, other, bytes.as_slice())
+}
+
+/// Whether the shapes of the two are equal.
+fn same_shape(alloc: Global, one: &Parts, other: &Parts) -> Result<bool, AllocError> {
+    let shape = one.shape(alloc)?;
+    Ok(other.shape(alloc)? == shape)
+}
+
+/// Whether the shapes alone tell the two.
+fn shapes_tell(alloc: Global, one: &Parts, other: &Parts) -> Result<bool, AllocError> {
+    Ok(same_bytes(alloc, one, other)? && !same_shape(alloc, one, other)?)
+}
+
+#[test]
+fn lengths_of_words_are_told_by_the_shape(rt: HostRuntime) -> Result<(), Fail> {
+    let one = of_words(rt.alloc(), "ab c")?;
+    let other = of_words(rt.alloc(), "a bc")?;
+    assert!(rt; shapes_tell(rt.alloc(), &one, &other)?);
+    Ok(())
+}
+
+#[test]
+fn counts_of_files_are_told_by_the_shape(rt: HostRuntime) -> Result<(), Fail> {
+    let one = of_files(rt.alloc(), b"ab", b"c")?;
+    let other = of_files(rt.alloc(), b"a", b"bc")?;
+    assert!(rt; shapes_tell(rt.alloc(), &one, &other)?);
+    Ok(())
+}
+
+#[test]
+fn unset_variables_are_told_by_the_shape(rt: HostRuntime) -> Result<(), Fail> {
+    let one = of_variable(rt.alloc(), None)?;
+    let other = of_variable(rt.alloc(), Some(OsBytes::empty(rt.alloc())))?;
+    assert!(rt; shapes_tell(rt.alloc(), &one, &other)?);
+    Ok(())
+}
+
+/// Whether bytes are read, under the shape of these pieces.
+fn are_read(alloc: Global, parts: &Parts, bytes: &[u8]) -> Result<bool, AllocError> {
+    let shape = parts.shape(alloc)?;
+    Ok(read_key_bytes(alloc, bytes, &shape)?.is_some())
+}
+
+#[test]
+fn no_byte_is_left_out(rt: HostRuntime) -> Result<(), Fail> {
+    let parts = of_files(rt.alloc(), b"ab", b"c")?;
+    let mut bytes = key_bytes(rt.alloc(), &parts)?;
+    assert!(rt; are_read(rt.alloc(), &parts, bytes.as_slice())?);
+    bytes.pop();
+    assert!(rt; !are_read(rt.alloc(), &parts, bytes.as_slice())?);
+    Ok(())
+}
+
+#[test]
+fn no_byte_is_added(rt: HostRuntime) -> Result<(), Fail> {
+    let parts = of_files(rt.alloc(), b"ab", b"c")?;
+    let mut bytes = key_bytes(rt.alloc(), &parts)?;
+    bytes.push(b'f')?;
+    assert!(rt; !are_read(rt.alloc(), &parts, bytes.as_slice())?);
+    Ok(())
+}

@@ -1,0 +1,92 @@
+//! The names of what requests write, and where it goes.
+
+use crate::requests::{barred, parsed};
+use os_files::os_bytes::OsBytes;
+use rustc_texts::output_names::output_names;
+use rustc_texts::outputs::{Output, outputs, targets};
+use std::alloc::{AllocError, Global};
+use std::fmt::Write;
+use std::test::Fail;
+use test_kit::rows::words;
+use test_kit::texts::is_that;
+
+/// The names that a request writes which asks for these kinds, by rustc's answer.
+fn names_of(alloc: Global, emit: &str, text: &str) -> Result<String, AllocError> {
+    let kinds = words(alloc, emit)?;
+    let names = output_names(alloc, kinds.as_slice(), text)?;
+    barred(alloc, names.as_slice())
+}
+
+#[test]
+fn names_are_told(rt: HostRuntime) -> Result<(), Fail> {
+    for (emit, text, want) in [
+        (
+            "link metadata",
+            "foo.rlib\nfoo.a\n",
+            "|foo.rlib|foo.a|foo.rmeta",
+        ),
+        ("link", "foo.rlib\r\nfoo.a\nfoo.rlib\n", "|foo.rlib|foo.a"),
+        ("dep-info metadata", "foo\nfoo.rlib\n", "|foo.rmeta"),
+        (
+            "metadata",
+            "a.rmeta.rlib\na.rlib.rlib\n",
+            "|a.rmeta.rmeta|a.rmeta.rlib",
+        ),
+        ("metadata", "a.rlib.rlib\na.rmeta.rlib\n", "|a.rmeta.rmeta"),
+        ("link", "", ""),
+    ] {
+        let names = names_of(rt.alloc(), emit, text)?;
+        is_that(names.as_str(), want, text)?;
+    }
+    Ok(())
+}
+
+/// A request for a profile, a file of notes and a text on dependencies.
+const WHOLE: &str =
+    "--emit link,dep-info -C profile-use=/p.profdata -Z profile foo.rs --out-dir out --crate-name foo --crate-type lib";
+
+/// The outputs, each behind a bar, with a mark where it may be left out.
+fn written(alloc: Global, outputs: &[Output]) -> Result<String, AllocError> {
+    let mut text = String::new(alloc);
+    for (name, output) in outputs {
+        let mark = if output.optional { "?" } else { "" };
+        write!(text, "|{name} {}{mark}", output.path)?;
+    }
+    Ok(text)
+}
+
+/// The outputs of that request, where these are its names.
+fn outputs_of(alloc: Global, names: &[OsBytes]) -> Result<String, Fail> {
+    let parsed = parsed(alloc, WHOLE)?;
+    let outputs = outputs(alloc, &parsed, names)?;
+    Ok(written(alloc, outputs.as_slice())?)
+}
+
+#[test]
+fn outputs_go_to_their_folder(rt: HostRuntime) -> Result<(), Fail> {
+    let names = words(rt.alloc(), "foo.gcno foo.rlib")?;
+    let text = outputs_of(rt.alloc(), names.as_slice())?;
+    is_that(
+        text.as_str(),
+        "|foo.gcno out/foo.gcno?|foo.rlib out/foo.rlib|/p.profdata /p.profdata?",
+        "outputs",
+    )
+}
+
+/// The targets of the text on dependencies of that request, where these are its names.
+fn targets_of(alloc: Global, names: &[OsBytes]) -> Result<String, Fail> {
+    let parsed = parsed(alloc, WHOLE)?;
+    let targets = targets(alloc, &parsed, names)?;
+    Ok(barred(alloc, targets.as_slice())?)
+}
+
+#[test]
+fn targets_are_the_names_that_are_told(rt: HostRuntime) -> Result<(), Fail> {
+    let names = words(rt.alloc(), "foo.gcno foo.rlib")?;
+    let text = targets_of(rt.alloc(), names.as_slice())?;
+    is_that(
+        text.as_str(),
+        "|out/foo.d|out/foo.gcno|out/foo.rlib",
+        "targets",
+    )
+}
