@@ -7,6 +7,7 @@ use cmdlines::compiler_arguments::CompilerArguments;
 use cmdlines::gcc::GccKind;
 use cmdlines::hazards::{empty_value, opens_file};
 use cmdlines::laws::{inputs_are_safe, requests_have_an_object};
+use cmdlines::parsed::ParsedArguments;
 use cmdlines_base::argument::Argument;
 use cmdlines_tables::compiler::CCompilerKind;
 use cmdlines_tables::cutting::arguments_of;
@@ -15,6 +16,8 @@ use cmdlines_tables::tables::gnu_table;
 use os_files::listed::Listed;
 use os_files::memory_files::MemoryFiles;
 use os_files::os_bytes::OsBytes;
+use std::alloc::Global;
+use std::process::Abort;
 use std::test::Fail;
 use test_kit::rows::words;
 
@@ -60,27 +63,49 @@ fn without_an_object_there_is_no_name(rt: HostRuntime) -> Result<(), Fail> {
     Ok(())
 }
 
+/// The found words are the wanted ones, in order.
+fn are_those(rt: &impl Abort, found: &[&[u8]], wanted: &[OsBytes], line: &str) {
+    assert_eq!(rt; found.len(), wanted.len(), "{line}");
+    for (word, other) in found.iter().zip(wanted.iter()) {
+        assert_eq!(rt; *word, other.as_bytes(), "{line}");
+    }
+}
+
+/// The request has these architectures.
+fn are_its_architectures(
+    rt: &impl Abort,
+    alloc: Global,
+    request: &ParsedArguments,
+    architectures: &str,
+) -> Result<(), Fail> {
+    let wanted = words(alloc, architectures)?;
+    assert_eq!(rt; request.is_multiarch(), wanted.len() > 1, "{architectures}");
+    let found = request.archs(alloc)?;
+    are_those(rt, found.as_slice(), wanted.as_slice(), architectures);
+    Ok(())
+}
+
+/// A request with these architecture words has these architectures.
+fn has_architectures(
+    rt: &impl Abort,
+    alloc: Global,
+    line: &str,
+    architectures: &str,
+) -> Result<(), Fail> {
+    let list = Listed::from_vec(words(alloc, line)?);
+    let mut request = parsed_by_gcc(alloc, "-c foo.c")?;
+    request.arch_args = list;
+    are_its_architectures(rt, alloc, &request, architectures)
+}
+
 #[test]
 fn architectures_are_listed_once(rt: HostRuntime) -> Result<(), Fail> {
     let alloc = rt.alloc();
-    let mut request = parsed_by_gcc(alloc, "-c foo.c")?;
-    for (line, archs, several) in [
-        ("", "", false),
-        ("-arch a", "a", false),
-        ("-arch a -arch a", "a", false),
-        ("-arch b -arch a -arch b", "b a", true),
-        ("-arch -arch", "", false),
-    ] {
-        request.arch_args = Listed::from_vec(words(alloc, line)?);
-        let expected = words(alloc, archs)?;
-        let found = request.archs(alloc)?;
-        assert_eq!(rt; found.len(), expected.len(), "{line}");
-        for (arch, wanted) in found.iter().zip(expected.iter()) {
-            assert_eq!(rt; *arch, wanted.as_bytes(), "{line}");
-        }
-        assert_eq!(rt; request.is_multiarch(), several, "{line}");
-    }
-    Ok(())
+    has_architectures(&rt, alloc, "", "")?;
+    has_architectures(&rt, alloc, "-arch a", "a")?;
+    has_architectures(&rt, alloc, "-arch a -arch a", "a")?;
+    has_architectures(&rt, alloc, "-arch b -arch a -arch b", "b a")?;
+    has_architectures(&rt, alloc, "-arch -arch", "")
 }
 
 #[test]

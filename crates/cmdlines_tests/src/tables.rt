@@ -14,6 +14,7 @@ use cmdlines_tables::laws::{
 use cmdlines_tables::msvc_table::{msvc_dash_table, msvc_slash_table};
 use cmdlines_tables::tables::{clang_table, gnu_table};
 use cmdlines_tables::value::ArgData;
+use std::process::Abort;
 use std::test::Fail;
 
 #[test]
@@ -114,35 +115,66 @@ fn kinds(rt: HostRuntime) {
     }
 }
 
-#[test]
-fn what_is_found(rt: HostRuntime) -> Result<(), Fail> {
-    let alloc = rt.alloc();
-    let (gnu, own, both) = (
-        gnu_table(alloc)?,
-        clang_table(alloc)?,
-        compiler_tree(alloc, CCompilerKind::Clang)?,
-    );
-    assert!(rt; gnu.check());
-    assert!(rt; own.check());
-    assert!(rt; both.check());
-    for (word, by_gnu, by_own, by_both) in [
-        (
-            "-include-pch",
-            Some("-include"),
-            Some("-include-pch"),
-            Some("-include-pch"),
-        ),
-        ("-includex", Some("-include"), None, Some("-include")),
-        ("-stdlib=a", Some("-stdlib"), None, Some("-stdlib")),
-        ("--target=a", None, Some("--target"), Some("--target")),
-        ("-O2", None, None, None),
-        ("foo.c", None, None, None),
-    ] {
-        let bytes = word.as_bytes();
-        assert_eq!(rt; gnu.search(bytes).map(ArgInfo::flag), by_gnu, "{word}");
-        assert_eq!(rt; own.search(bytes).map(ArgInfo::flag), by_own, "{word}");
-        assert_eq!(rt; both.search(bytes).map(ArgInfo::flag), by_both, "{word}");
+/// The table or tree is well formed, and finds of each row's word the entry with that flag.
+fn finds<S: SearchableArgInfo<ArgData>>(
+    rt: &impl Abort,
+    table: &S,
+    rows: &[(&str, Option<&'static str>)],
+) {
+    assert!(rt; table.check());
+    for (word, flag) in rows {
+        assert_eq!(rt;
+            table.search(word.as_bytes()).map(ArgInfo::flag),
+            *flag,
+            "{word}"
+        );
     }
+}
+
+#[test]
+fn what_is_found_for_gcc(rt: HostRuntime) -> Result<(), Fail> {
+    let rows = [
+        ("-include-pch", Some("-include")),
+        ("-includex", Some("-include")),
+        ("-stdlib=a", Some("-stdlib")),
+        ("--target=a", None),
+        ("-O2", None),
+        ("foo.c", None),
+    ];
+    finds(&rt, &gnu_table(rt.alloc())?, &rows);
+    Ok(())
+}
+
+/// Of two tables the entry with the longer flag is found.
+#[test]
+fn what_is_found_for_clang(rt: HostRuntime) -> Result<(), Fail> {
+    let rows = [
+        ("-include-pch", Some("-include-pch")),
+        ("-includex", Some("-include")),
+        ("-stdlib=a", Some("-stdlib")),
+        ("--target=a", Some("--target")),
+        ("-O2", None),
+        ("foo.c", None),
+    ];
+    finds(
+        &rt,
+        &compiler_tree(rt.alloc(), CCompilerKind::Clang)?,
+        &rows,
+    );
+    Ok(())
+}
+
+#[test]
+fn what_is_found_in_clangs_own_table(rt: HostRuntime) -> Result<(), Fail> {
+    let rows = [
+        ("-include-pch", Some("-include-pch")),
+        ("-includex", None),
+        ("-stdlib=a", None),
+        ("--target=a", Some("--target")),
+        ("-O2", None),
+        ("foo.c", None),
+    ];
+    finds(&rt, &clang_table(rt.alloc())?, &rows);
     Ok(())
 }
 
@@ -164,50 +196,59 @@ fn nodes_that_are_looked_at(rt: HostRuntime) -> Result<(), Fail> {
 }
 
 #[test]
-fn what_is_found_for_msvc(rt: HostRuntime) -> Result<(), Fail> {
-    let (dash, slash) = (msvc_dash_table(rt.alloc())?, msvc_slash_table(rt.alloc())?);
-    assert!(rt; dash.check());
-    assert!(rt; slash.check());
-    for (word, by_dash, by_slash) in [
-        ("-MP4", Some("-MP"), None),
-        ("/MP4", None, Some("/MP")),
-        ("-MD", Some("-M"), None),
-        ("/EHsc", None, Some("/EH")),
-        ("/EP", None, Some("/EP")),
-        ("/Ex", None, None),
-        ("-external:Ia", Some("-external:I"), None),
-        ("/external:W0", None, None),
-        ("foo.c", None, None),
-    ] {
-        let bytes = word.as_bytes();
-        assert_eq!(rt; dash.search(bytes).map(ArgInfo::flag), by_dash, "{word}");
-        assert_eq!(rt; slash.search(bytes).map(ArgInfo::flag), by_slash, "{word}");
-    }
+fn what_is_found_for_msvc_by_a_dash(rt: HostRuntime) -> Result<(), Fail> {
+    let rows = [
+        ("-MP4", Some("-MP")),
+        ("/MP4", None),
+        ("-MD", Some("-M")),
+        ("-external:Ia", Some("-external:I")),
+        ("foo.c", None),
+    ];
+    finds(&rt, &msvc_dash_table(rt.alloc())?, &rows);
     Ok(())
 }
 
 #[test]
-fn what_is_found_for_diab_and_tasking_vx(rt: HostRuntime) -> Result<(), Fail> {
-    let (diab, tasking) = (diab_table(rt.alloc())?, tasking_vx_table(rt.alloc())?);
-    assert!(rt; diab.check());
-    assert!(rt; tasking.check());
-    for (word, by_diab, by_tasking) in [
-        ("-VV", Some("-VV"), None),
-        ("-V", Some("-V"), Some("-V")),
-        ("-@a", Some("-@"), None),
-        ("--define=a", None, Some("--define")),
-        ("--definea", None, None),
-        ("-oa", Some("-o"), Some("-o")),
-        ("foo.c", None, None),
-    ] {
-        let bytes = word.as_bytes();
-        assert_eq!(rt; diab.search(bytes).map(ArgInfo::flag), by_diab, "{word}");
-        assert_eq!(rt;
-            tasking.search(bytes).map(ArgInfo::flag),
-            by_tasking,
-            "{word}"
-        );
-    }
+fn what_is_found_for_msvc_by_a_slash(rt: HostRuntime) -> Result<(), Fail> {
+    let rows = [
+        ("-MP4", None),
+        ("/MP4", Some("/MP")),
+        ("/EHsc", Some("/EH")),
+        ("/EP", Some("/EP")),
+        ("/Ex", None),
+        ("/external:W0", None),
+        ("foo.c", None),
+    ];
+    finds(&rt, &msvc_slash_table(rt.alloc())?, &rows);
+    Ok(())
+}
+
+#[test]
+fn what_is_found_for_diab(rt: HostRuntime) -> Result<(), Fail> {
+    let rows = [
+        ("-VV", Some("-VV")),
+        ("-V", Some("-V")),
+        ("-@a", Some("-@")),
+        ("--define=a", None),
+        ("-oa", Some("-o")),
+        ("foo.c", None),
+    ];
+    finds(&rt, &diab_table(rt.alloc())?, &rows);
+    Ok(())
+}
+
+#[test]
+fn what_is_found_for_tasking_vx(rt: HostRuntime) -> Result<(), Fail> {
+    let rows = [
+        ("-VV", None),
+        ("-V", Some("-V")),
+        ("-@a", None),
+        ("--define=a", Some("--define")),
+        ("--definea", None),
+        ("-oa", Some("-o")),
+        ("foo.c", None),
+    ];
+    finds(&rt, &tasking_vx_table(rt.alloc())?, &rows);
     Ok(())
 }
 
