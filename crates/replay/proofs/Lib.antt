@@ -1,0 +1,4 @@
+mod Answering
+mod AskedAlike
+mod SnapshotLookups
+mod WorldSteps

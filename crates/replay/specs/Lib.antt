@@ -1,0 +1,4 @@
+pub mod SameAsked
+pub mod Recorded
+pub mod Snapshots
+pub mod Worlds

@@ -1,0 +1,7 @@
+//! A tool, files and a store that answer from what was recorded and remember what they lack, and a session's answers over them.
+#![tactic(auto)]
+
+pub mod asked_store;
+pub mod replay_tool;
+pub mod replayed;
+pub mod snapshot_files;

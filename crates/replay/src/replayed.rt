@@ -1,0 +1,56 @@
+//! One call of a session over recorded answers: what it answers holds of every world that gives them.
+
+ghost use Rattle.std.specs.Prelude.{◌≡◌, List, [], ◌∷◌, ◌++◌, OnOk, OnErr, IsErrOf};
+ghost use Rattle.ckeys.specs.Meaning.{Meaning};
+ghost use Rattle.wrap.specs.Account.{Account, account_at, scene_at};
+ghost use Rattle.wrap.specs.Answers.{Answers};
+ghost use Rattle.wrap.specs.Asking.{RecordsAreTrue};
+ghost use Rattle.wrap.specs.StoreKeys.{Invariant, Premises};
+ghost use Rattle.replay.specs.Worlds.{Gives};
+
+use crate::replay_tool::ReplayTool;
+use wrap::laws::store_keys_tell_records;
+use wrap::{
+    Answer, EntryKey, Fault, Files, HashState, Pairs, PreprocessorCacheEntry, Request, Session,
+    Store, StoreKey,
+};
+
+/// Answers one request by recorded answers. A fault of the tool in a step comes with the command that it lacks.
+///
+/// The tool knows no more than what was recorded, so that where an output is kept the compile's outcome is unknown to it. What is
+/// said is therefore said of every world that gives the recorded answers, whatever else that compiler means.
+pub fn replayed<
+    H: HashState,
+    E: Store<EntryKey, PreprocessorCacheEntry> + Drop,
+    O: Store<StoreKey, Pairs> + Drop,
+    F: Files,
+>(
+    session: &mut Session<H, E, O>,
+    request: &Request,
+    files: &mut F,
+    tool: &mut ReplayTool,
+) -> Result<Answer, Fault>
+    // Outputs are those that the world's compiler gives afresh, if what the store holds is of earlier calls in that world.
+    ensures outputs { (world : Meaning) → let tree = F.tree files.old in
+        let a = account_at world tree session.old.settings request.now in
+        Gives tool.old.text tool.old.outputs (scene_at request.now tree) world
+        → RecordsAreTrue H.digest_of a (E.shelf session.old.entries).held
+        → (earlier : List Account)
+        → Invariant H.digest_of earlier (O.shelf session.old.objects).held
+        → Premises H.digest_of (earlier ++ a ∷ []) → Answers a result }
+
+    // And what it holds then is of them and of this call.
+    ensures invariant { (world : Meaning) → let tree = F.tree files.old in
+        let a = account_at world tree session.old.settings request.now in
+        Gives tool.old.text tool.old.outputs (scene_at request.now tree) world
+        → RecordsAreTrue H.digest_of a (E.shelf session.old.entries).held
+        → (earlier : List Account)
+        → Invariant H.digest_of earlier (O.shelf session.old.objects).held
+        → Invariant H.digest_of (earlier ++ a ∷ []) (O.shelf session.new.objects).held }
+
+    ensures settings { session.new.settings ≡ session.old.settings }
+    ensures tree { F.tree files.new ≡ F.tree files.old }
+{
+    store_keys_tell_records::<H>();
+    session.serve(request, files, tool)
+}
