@@ -22,7 +22,7 @@ has-among name other apart (n ∷ names) = by (bytes_eq name n) refl (has-among 
         more ∙ ap (λ b. b || has_name names other) (sym not_it)
     by false h more = ap (λ b. bytes_eq other n || b) more
 
-differs-back : (one other : Bytes) → bytes_eq one other ≡ false → bytes_eq other one ≡ false
+pub differs-back : (one other : Bytes) → bytes_eq one other ≡ false → bytes_eq other one ≡ false
 differs-back one other h = by (bytes_eq other one) refl
   where
     by : (b : Bool) → bytes_eq other one ≡ b → bytes_eq other one ≡ false

@@ -5,3 +5,4 @@ pub mod MoreLines
 pub mod MetadataLaws
 pub mod NameLaws
 pub mod WordLaws
+mod ToldNames

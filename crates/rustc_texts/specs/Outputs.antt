@@ -1,5 +1,8 @@
 -- What a request writes: the names that rustc tells, and where each goes.
 use Rattle.std.specs.Prelude.{◌≡◌, nat_eq, Bool, true, false, not, ◌==◌, ◌&&◌, ◌||◌, List, [], ◌∷◌, ◌++◌, length, drop, map, filter, fold, codes, Option, None, Some, if◌then◌else◌}
+use Rattle.std.specs.BTreeSet.{BTreeSet, contains}
+use Rattle.std.specs.Cmp.Lexicographic.{slice_cmp}
+use Rattle.std.specs.Ordering.{nat_cmp}
 use Rattle.std.specs.List.{ends_with, list_all, list_any, starts_with}
 use Rattle.std.specs.Option.{option_to_list}
 use Rattle.std.specs.Str.{bytes_eq}
@@ -18,6 +21,10 @@ has_name names name = list_any (bytes_eq name) names
 abbrev pub each_once : List Bytes → List Bytes
 each_once [] = []
 each_once (name ∷ names) = name ∷ filter (λ other. not (bytes_eq name other)) (each_once names)
+
+-- a set has exactly these names
+abbrev pub Tells : BTreeSet Bytes → List Bytes → Type 0
+Tells told names = (name : Bytes) → contains (slice_cmp nat_cmp) told name ≡ has_name names name
 
 -- The names that rustc tells: the lines of its answer.
 abbrev pub named : Bytes → List Bytes

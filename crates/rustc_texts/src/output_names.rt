@@ -1,12 +1,13 @@
 //! The names of what a request writes: those that rustc tells, less what isn't written, and with the metadata that it doesn't tell.
 
-ghost use Rattle.std.specs.Prelude.{◌≡◌, IfOk, filter};
+ghost use Rattle.std.specs.Prelude.{◌≡◌, IfOk, OnOk, filter};
 ghost use Rattle.std.specs.List.{list_all};
-ghost use Rattle.rustc_texts.specs.Outputs.{each_once, has_name, is_no_binary, is_of_crate, is_rlib, metadata_name, named, output_names, with_metadata, with_metadata_of, with_name, without_binaries, without_name, writes_no_binary};
+ghost use Rattle.rustc_texts.specs.Outputs.{Tells, each_once, has_name, is_no_binary, is_of_crate, is_rlib, metadata_name, named, output_names, with_metadata, with_metadata_of, with_name, without_binaries, without_name, writes_no_binary};
 
 use os_files::listed::Listed;
 use os_files::os_bytes::OsBytes;
 use std::alloc::{AllocError, Global};
+use std::collections::BTreeSet;
 
 /// Whether one of the names is that name.
 fn has_name(names: &[OsBytes], name: &[u8]) -> bool
@@ -39,13 +40,31 @@ fn without_name(alloc: Global, names: Vec<OsBytes>, name: &[u8]) -> Result<Vec<O
     Ok(kept)
 }
 
+/// Adds a name, unless it's there, which a set of the names tells.
+fn add_name(
+    names: &mut Vec<OsBytes>,
+    told: &mut BTreeSet<OsBytes>,
+    name: OsBytes,
+) -> Result<(), AllocError>
+    requires { Tells told.old names.old.items }
+    ensures names { OnOk result (names.new.items ≡ with_name names.old.items name) }
+    ensures told { OnOk result (Tells told.new names.new.items) }
+{
+    if told.insert(name.clone()?)? {
+        names.push(name)?;
+    }
+    Ok(())
+}
+
 /// The names that rustc tells: the lines of its answer, each once, where it stands first.
 fn named(alloc: Global, text: &str) -> Result<Vec<OsBytes>, AllocError>
     ensures { IfOk result (λ names. names.items ≡ named text.now) }
 {
     let mut names = Vec::new(alloc);
+    let mut told = BTreeSet::new(alloc);
     for line in text.lines() {
-        names = with_name(alloc, names, line.as_bytes())?;
+        let name = OsBytes::from_slice(alloc, line.as_bytes())?;
+        add_name(&mut names, &mut told, name)?;
     }
     Ok(names)
 }

@@ -11,11 +11,15 @@ use Rattle.rustc_texts.proofs.output_names.named.Goals as goal
 pub loop-line-preserved : goal.loop-line-preserved
 loop-line-preserved c =
     let seen = λ (line : Bor (List ℕ)). line.now in
-    c.in_ok-names.ensures
-    ∙ ap (λ (names : List Bytes). with_name names c.as_bytes.result.now) c.loop-line.invariant
-    ∙ ap (with_name (each_once (map seen c.loop-line.yielded))) c.as_bytes.ensures.value
-    ∙ sym (once-more (map seen c.loop-line.yielded) c.in-Some.line.now)
-    ∙ ap each_once (sym (map_push seen c.loop-line.yielded c.in-Some.line))
+    record {
+      names =
+          c.in_ok-add_name.ensures.names
+          ∙ ap (λ (names : List Bytes). with_name names c.in_ok-name.name) c.loop-line.invariant.names
+          ∙ ap (with_name (each_once (map seen c.loop-line.yielded))) (c.in_ok-name.ensures ∙ c.as_bytes.ensures.value)
+          ∙ sym (once-more (map seen c.loop-line.yielded) c.in-Some.line.now)
+          ∙ ap each_once (sym (map_push seen c.loop-line.yielded c.in-Some.line));
+      told = c.in_ok-add_name.ensures.told;
+    }
 
 pub returns : goal.returns
 returns c =
@@ -24,4 +28,4 @@ returns c =
     (YieldsList-at c.into_iter-line-iterator.ensures.into_iter_gives
     (YieldsList-from_lines c.args.text.now c.lines-line-items.ensures.rest))
     c.loop-line.yielded _ c.loop-line.yielded_by _ _ c.in-None.is c.next.ensures.steps in
-    c.loop-line.invariant ∙ ap each_once done.0
+    c.loop-line.invariant.names ∙ ap each_once done.0

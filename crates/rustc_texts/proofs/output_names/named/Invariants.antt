@@ -1,7 +1,10 @@
 use Rattle.std.proofs.Common.{◌≡◌, map}
-use Rattle.rustc_texts.specs.Outputs.{each_once}
+use Rattle.rustc_texts.specs.Outputs.{Tells, each_once}
 use Rattle.rustc_texts.proofs.output_names.named.Given as goal
 
--- those of the lines so far
+-- those of the lines so far, which the set tells
 abbrev pub invariant-loop-line : goal.invariant-loop-line
-invariant-loop-line l = l.names.items ≡ each_once (map (λ line. line.now) l.yielded)
+invariant-loop-line l = record {
+  names : l.names.items ≡ each_once (map (λ line. line.now) l.yielded);
+  told : Tells l.told l.names.items;
+}
