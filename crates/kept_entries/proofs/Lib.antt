@@ -1,0 +1,2 @@
+mod PartsInRow
+mod Sealing

@@ -1,0 +1,94 @@
+-- The bytes of an entry.
+use Rattle.std.specs.Prelude.{◌≡◌, ℕ, Bool, ◌==◌, ◌++◌, List, length, Option, None, Some, if◌then◌else◌}
+use Rattle.os_files.specs.Bytes.{Bytes}
+use Rattle.byte_formats.specs.Reading.{Read, ◌>>=◌, both_at, counted_at, framed_at, made_at, number_at, optional_at}
+use Rattle.byte_formats.specs.Spelling.{BothFit, CountFits, FitsFrame, FitsNumber, IfFits, both, counted, framed, number, optional}
+use Rattle.cmdlines_tables.specs.declared.language.Language.{Language}
+use Rattle.kept_entries.specs.Codes.{coded, coded_at, flag_code, flag_of, language_code, language_of}
+use Rattle.kept_entries.specs.declared.entry.KeptEntry.{KeptEntry}
+use Rattle.kept_entries.specs.declared.entry.KeptName.{KeptName}
+use Rattle.kept_entries.specs.declared.entry.KeptOutput.{KeptOutput}
+use Rattle.kept_entries.specs.declared.entry.KeptShape.{KeptShape}
+
+-- their fields, in order
+abbrev pub name_fields : KeptName → Bytes × Bool
+name_fields n = (n.name, n.optional)
+
+abbrev pub name_from : Bytes × Bool → KeptName
+name_from f = record { name = f.0; optional = f.1 }
+
+abbrev pub output_fields : KeptOutput → Bytes × Bytes
+output_fields o = (o.name, o.contents)
+
+abbrev pub output_from : Bytes × Bytes → KeptOutput
+output_from f = record { name = f.0; contents = f.1 }
+
+abbrev pub ShapeFields : Type 0
+ShapeFields = Language × (ℕ × (ℕ × (List ℕ × (Option ℕ × ℕ))))
+
+abbrev pub shape_fields : KeptShape → ShapeFields
+shape_fields s = (s.language, (s.compiler_digest, (s.words, (s.extra_hashes, (s.assembler_digest, s.variables)))))
+
+abbrev pub shape_from : ShapeFields → KeptShape
+shape_from f = record { language = f.0; compiler_digest = f.1.0; words = f.1.1.0; extra_hashes = f.1.1.1.0; assembler_digest = f.1.1.1.1.0; variables = f.1.1.1.1.1 }
+
+abbrev pub EntryFields : Type 0
+EntryFields = KeptShape × (List KeptName × (Bytes × List KeptOutput))
+
+abbrev pub entry_fields : KeptEntry → EntryFields
+entry_fields e = (e.shape, (e.names, (e.digest, e.outputs)))
+
+abbrev pub entry_from : EntryFields → KeptEntry
+entry_from f = record { shape = f.0; names = f.1.0; digest = f.1.1.0; outputs = f.1.1.1 }
+
+-- how they are spelled
+abbrev pub name_bytes : KeptName → Bytes
+name_bytes n = both framed (coded flag_code) (name_fields n)
+
+abbrev pub output_bytes : KeptOutput → Bytes
+output_bytes o = both framed framed (output_fields o)
+
+abbrev pub shape_bytes : KeptShape → Bytes
+shape_bytes s = both (coded language_code) (both number (both number (both (counted number) (both (optional number) number)))) (shape_fields s)
+
+abbrev pub contents_bytes : KeptEntry → Bytes
+contents_bytes e = both shape_bytes (both (counted name_bytes) (both framed (counted output_bytes))) (entry_fields e)
+
+-- each length, count and number fits its eight bytes
+abbrev pub AnyFits : {X : Type 0} → X → Type 0
+AnyFits x = Unit {0}
+
+abbrev pub NameFits : KeptName → Type 0
+NameFits n = BothFit FitsFrame AnyFits (name_fields n)
+
+abbrev pub OutputFits : KeptOutput → Type 0
+OutputFits o = BothFit FitsFrame FitsFrame (output_fields o)
+
+abbrev pub ShapeFits : KeptShape → Type 0
+ShapeFits s = BothFit AnyFits (BothFit FitsNumber (BothFit FitsNumber (BothFit (CountFits FitsNumber) (BothFit (IfFits FitsNumber) FitsNumber)))) (shape_fields s)
+
+abbrev pub EntryFits : KeptEntry → Type 0
+EntryFits e = BothFit ShapeFits (BothFit (CountFits NameFits) (BothFit FitsFrame (CountFits OutputFits))) (entry_fields e)
+
+-- reading them
+unfoldable pub name_at : Bytes → Read KeptName
+name_at = made_at name_from (both_at framed_at (coded_at flag_of))
+
+unfoldable pub output_at : Bytes → Read KeptOutput
+output_at = made_at output_from (both_at framed_at framed_at)
+
+unfoldable pub shape_at : Bytes → Read KeptShape
+shape_at = made_at shape_from (both_at (coded_at language_of) (both_at number_at (both_at number_at (both_at (counted_at number_at) (both_at (optional_at number_at) number_at)))))
+
+unfoldable pub contents_at : Bytes → Read KeptEntry
+contents_at = made_at entry_from (both_at shape_at (both_at (counted_at name_at) (both_at framed_at (counted_at output_at))))
+
+-- all of them, and nothing behind
+unfoldable pub whole_at : Bytes → Option KeptEntry
+whole_at bytes = do
+  entry ← contents_at bytes
+  if length entry.1 == 0 then Some entry.0 else None
+
+-- an entry's bytes: its contents, and the digest of these
+abbrev pub entry_bytes : (Bytes → Bytes) → KeptEntry → Bytes
+entry_bytes digest_of e = contents_bytes e ++ digest_of (contents_bytes e)
