@@ -5,10 +5,13 @@ use crate::keys::digest_of;
 use crate::print_tool::PrintTool;
 use ckeys::compiler::CCompiler;
 use ckeys::config::KeyConfig;
-use ckeys::hasher::needs_c_preprocessing;
+use ckeys::fault::Fault;
+use ckeys::hasher::{CCompilerHasher, needs_c_preprocessing};
 use ckeys::place::CallPlace;
 use ckeys::preprocessor::Preprocessor;
+use ckeys::shape::CShape;
 use ckeys::{EntryKey, PreprocessorCacheEntry};
+use cmdlines::gcc::Gcc;
 use cmdlines_tables::language::Language;
 use os_files::memory_files::MemoryFiles;
 use os_files::os_bytes::OsBytes;
@@ -29,6 +32,39 @@ pub(crate) fn known<I: Drop>(alloc: Global, compiler: I) -> Result<CCompiler<I>,
     Ok(CCompiler::with_digest(compiler, executable, String::from_str(alloc, "d")?))
 }
 
+/// What is answered of the key of this call of gcc from an empty store of records.
+fn key_by(
+    alloc: Global,
+    hasher: &CCompilerHasher<'_, Gcc>,
+    dir: &OsBytes,
+    config: &KeyConfig,
+    files: &mut MemoryFiles,
+    tool: &mut PrintTool,
+) -> Result<(String, CShape, bool), Fault> {
+    let mut records: Records = MapStore::new(alloc);
+    let at = CallPlace {
+        dir,
+        env: &[],
+        moment: 0,
+        config,
+    };
+    hasher.generate_hash_key::<Sha256, Records, MemoryFiles, PrintTool>(
+        alloc,
+        &at,
+        &mut records,
+        files,
+        tool,
+    )
+}
+
+/// The key, or the fault as text.
+fn told(alloc: Global, answer: Result<(String, CShape, bool), Fault>) -> Result<String, Fail> {
+    match answer {
+        Ok((key, _, _)) => Ok(key),
+        Err(fault) => Ok(format!(in alloc; "{fault}")?),
+    }
+}
+
 /// The key of this line of gcc in `/w` on these files, or the fault as text.
 fn key_on(
     alloc: Global,
@@ -36,28 +72,12 @@ fn key_on(
     files: &mut MemoryFiles,
     tool: &mut PrintTool,
 ) -> Result<String, Fail> {
-    let compiler = known(alloc, gcc(alloc)?)?;
-    let parsed = parsed(alloc, &compiler.compiler, line)?;
     let dir = OsBytes::from_slice(alloc, b"/w")?;
     let config = KeyConfig::new(alloc, &[], Zone::utc(), false)?;
-    let mut records: Records = MapStore::new(alloc);
-    let at = CallPlace {
-        dir: &dir,
-        env: &[],
-        moment: 0,
-        config: &config,
-    };
+    let compiler = known(alloc, gcc(alloc)?)?;
+    let parsed = parsed(alloc, &compiler.compiler, line)?;
     let hasher = compiler.hasher(&parsed);
-    match hasher.generate_hash_key::<Sha256, Records, MemoryFiles, PrintTool>(
-        alloc,
-        &at,
-        &mut records,
-        files,
-        tool,
-    ) {
-        Ok((key, _, _)) => Ok(key),
-        Err(fault) => Ok(format!(in alloc; "{fault}")?),
-    }
+    told(alloc, key_by(alloc, &hasher, &dir, &config, files, tool))
 }
 
 /// A request of gcc on one file, the bytes that are hashed of it, and how often its preprocessor runs, which prints `int x;`.

@@ -34,50 +34,78 @@ fn key_of(alloc: Global, params: &HashKeyParams<'_>) -> Result<(String, CShape),
     params.compute::<Sha256>(alloc)
 }
 
+/// These texts.
+fn texts(alloc: Global, list: &[&str]) -> Result<Vec<String>, AllocError> {
+    let mut made = Vec::new(alloc);
+    for text in list {
+        made.push(String::from_str(alloc, text)?)?;
+    }
+    Ok(made)
+}
+
+/// The key of a text with a file whose digest is `ab`.
+fn key_with_a_file(alloc: Global) -> Result<(String, CShape), AllocError> {
+    let extra = texts(alloc, &["ab"])?;
+    let params = HashKeyParams::new("cc", Language::C, &[], b"t");
+    key_of(alloc, &params.with_extra_hashes(extra.as_slice()))
+}
+
+/// The key of that text with an assembler whose digest is `ab`.
+fn key_with_an_assembler(alloc: Global) -> Result<(String, CShape), AllocError> {
+    let params = HashKeyParams::new("cc", Language::C, &[], b"t");
+    key_of(alloc, &params.with_assembler_digest(Some("ab")))
+}
+
+/// The digest of the bytes of both.
+fn digest_of_both(alloc: Global) -> Result<String, AllocError> {
+    digest_of(alloc, b"\x63\x63\x00\x31\x31\x63\x61\x62\x74")
+}
+
 #[test]
-fn shapes_tell_what_bytes_do_not(rt: HostRuntime) -> Result<(), Fail> {
-    let alloc = rt.alloc();
-    let extra = vec![in alloc; String::from_str(alloc, "ab")?]?;
-    let of_file = HashKeyParams::new("cc", Language::C, &[], b"t").with_extra_hashes(
-        extra.as_slice(),
-    );
-    let of_assembler = HashKeyParams::new("cc", Language::C, &[], b"t").with_assembler_digest(Some(
-        "ab",
-    ));
-    let (first, of_one) = key_of(alloc, &of_file)?;
-    let (second, of_other) = key_of(alloc, &of_assembler)?;
-    let material = digest_of(alloc, b"\x63\x63\x00\x31\x31\x63\x61\x62\x74")?;
-    assert_eq!(rt; first.as_str(), material.as_str());
-    assert_eq!(rt; second.as_str(), material.as_str());
-    assert_eq!(rt; of_one.extra_hashes.as_slice(), [2_usize].as_slice());
-    assert_eq!(rt; of_one.assembler_digest, None);
-    assert_eq!(rt; of_other.assembler_digest, Some(2));
-    assert!(rt; of_other.extra_hashes.is_empty());
+fn shapes_tell_of_files_what_bytes_do_not(rt: HostRuntime) -> Result<(), Fail> {
+    let (key, shape) = key_with_a_file(rt.alloc())?;
+    assert_eq!(rt; key.as_str(), digest_of_both(rt.alloc())?.as_str());
+    assert_eq!(rt; shape.extra_hashes.as_slice(), [2_usize].as_slice());
+    assert_eq!(rt; shape.assembler_digest, None);
     Ok(())
 }
 
 #[test]
-fn each_part_is_hashed_in_order(rt: HostRuntime) -> Result<(), Fail> {
-    let alloc = rt.alloc();
-    let list = words(alloc, "-O2 -g")?;
-    let extra = vec![in alloc;
-        String::from_str(alloc, "e1")?,
-        String::from_str(alloc, "e2")?,
-    ]?;
+fn shapes_tell_of_assemblers_what_bytes_do_not(rt: HostRuntime) -> Result<(), Fail> {
+    let (key, shape) = key_with_an_assembler(rt.alloc())?;
+    assert_eq!(rt; key.as_str(), digest_of_both(rt.alloc())?.as_str());
+    assert_eq!(rt; shape.assembler_digest, Some(2));
+    assert!(rt; shape.extra_hashes.is_empty());
+    Ok(())
+}
+
+/// A variable that is hashed.
+fn target_variable(alloc: Global) -> Result<(OsBytes, OsBytes), AllocError> {
     let name = OsBytes::from_slice(alloc, b"MACOSX_DEPLOYMENT_TARGET")?;
-    let variables = vec![in alloc; (name, OsBytes::from_slice(alloc, b"11")?)]?;
+    Ok((name, OsBytes::from_slice(alloc, b"11")?))
+}
+
+/// The key of a request that has each part.
+fn key_of_each_part(alloc: Global) -> Result<(String, CShape), AllocError> {
+    let list = words(alloc, "-O2 -g")?;
+    let extra = texts(alloc, &["e1", "e2"])?;
+    let mut variables = Vec::new(alloc);
+    variables.push(target_variable(alloc)?)?;
     let params = HashKeyParams::new("d", Language::Cxx, list.as_slice(), b"int x;")
         .with_extra_hashes(extra.as_slice())
         .with_env_vars(variables.as_slice())
         .with_plusplus(true)
         .with_assembler_digest(Some("as"));
-    let (key, shape) = key_of(alloc, &params)?;
+    key_of(alloc, &params)
+}
+
+#[test]
+fn each_part_is_hashed_in_order(rt: HostRuntime) -> Result<(), Fail> {
     let material =
         b"d\x0111c++-O2\xff-g\xffe1e2as\x18\0\0\0\0\0\0\0MACOSX_DEPLOYMENT_TARGET=\x02\0\0\0\0\0\0\011int x;";
-    assert_eq!(rt;
-        key.as_str(),
-        digest_of(alloc, material.as_slice())?.as_str()
-    );
+    let expected = digest_of(rt.alloc(), material.as_slice())?;
+    let (key, shape) = key_of_each_part(rt.alloc())?;
+    assert_eq!(rt; key.as_str(), expected.as_str());
     assert_eq!(rt;
         (shape.compiler_digest, shape.words, shape.variables),
         (1, 2, 1)

@@ -99,14 +99,10 @@ fn two_calls<'a>(
     Ok(calls)
 }
 
-/// What two such calls are answered, and how often the preprocessor ran for each.
-fn asked_twice(alloc: Global) -> Result<(Vec<(String, bool)>, Vec<u64>), Fail> {
-    let compiler = known(alloc, gcc(alloc)?)?;
-    let parsed = parsed(alloc, &compiler.compiler, "-c foo.c -O2")?;
-    let dir = OsBytes::from_slice(alloc, b"/w")?;
-    let mut calls = two_calls(alloc, &compiler, &parsed, &dir)?;
+/// The keys that are answered of these calls, and how often the preprocessor ran for each.
+fn told_of(alloc: Global, calls: &mut Calls<'_>) -> Result<(Vec<(String, bool)>, Vec<u64>), Fail> {
     let mut keys = Vec::new(alloc);
-    for answer in answers_of(alloc, &mut calls)? {
+    for answer in answers_of(alloc, calls)? {
         keys.push(key_in(answer)?)?;
     }
     let runs = calls
@@ -114,6 +110,15 @@ fn asked_twice(alloc: Global) -> Result<(Vec<(String, bool)>, Vec<u64>), Fail> {
         .map(|call| call.tool.ticks().preprocess)
         .collect(alloc)?;
     Ok((keys, runs))
+}
+
+/// What two such calls are answered, and how often the preprocessor ran for each.
+fn asked_twice(alloc: Global) -> Result<(Vec<(String, bool)>, Vec<u64>), Fail> {
+    let dir = OsBytes::from_slice(alloc, b"/w")?;
+    let compiler = known(alloc, gcc(alloc)?)?;
+    let parsed = parsed(alloc, &compiler.compiler, "-c foo.c -O2")?;
+    let mut calls = two_calls(alloc, &compiler, &parsed, &dir)?;
+    told_of(alloc, &mut calls)
 }
 
 #[test]
