@@ -1,0 +1,5 @@
+pub mod SortLemmas
+pub mod TextLemmas
+pub mod CauseLemmas
+pub mod ArchiveLemmas
+pub mod KeyLemmas

@@ -1,0 +1,25 @@
+-- Texts that are UTF-8, and others.
+use Rattle.std.proofs.Common.{◌≡◌, ℤ, pos, Bool, true, false, None, Some, [], ◌∷◌, if◌then◌else◌, refl, ap}
+use Rattle.std.specs.Ordering.{int_eq}
+use Rattle.std.specs.Str.{IsUtf8, is_utf8}
+use Rattle.std.proofs.lemmas.Str.{IsUtf8-from_is_utf8, is_utf8-from_IsUtf8}
+use Rattle.os_files.specs.Bytes.{Bytes}
+use Rattle.ckeys.specs.Calls.{or_else}
+use Rattle.ckeys.specs.Meaning.{made_of}
+use Rattle.ckeys.specs.declared.fault.Fault.TheVariants.{AnswerNotUtf8, PreprocessFailed}
+use Rattle.ckeys.specs.declared.step.Step.{Step}
+use Rattle.rustkeys.specs.Calls.{answer_fault_of, utf8_fault_of}
+
+pub utf8_fine : (step : Step) (text : Bytes) → IsUtf8 text → utf8_fault_of step text ≡ None
+utf8_fine step text h = rw (is_utf8-from_IsUtf8 text h) refl
+
+pub utf8_fault : (step : Step) (text : Bytes) → (IsUtf8 text → ⊥) → utf8_fault_of step text ≡ Some (AnswerNotUtf8 step)
+utf8_fault step text h = by (is_utf8 text) refl
+  where
+    by : (b : Bool) → is_utf8 text ≡ b → utf8_fault_of step text ≡ Some (AnswerNotUtf8 step)
+    by true e = absurd (h (IsUtf8-from_is_utf8 text e))
+    by false e = rw e refl
+
+-- with status 0 the fault is the text's
+pub text_alone : (step : Step) (status : ℤ) (text : Bytes) → status ≡ pos 0 → answer_fault_of step (made_of status (Some text ∷ [])) ≡ utf8_fault_of step text
+text_alone step status text zero = ap (λ (s : ℤ). or_else (if int_eq s (pos 0) then None else Some (PreprocessFailed s)) (utf8_fault_of step text)) zero

@@ -1,0 +1,23 @@
+-- The call that a key is made of.
+use Rattle.std.specs.Prelude.{ℤ}
+use Rattle.os_files.specs.Bytes.{Bytes}
+use Rattle.os_files.specs.Tree.{Tree}
+use Rattle.ckeys.specs.Meaning.{Variables, scene_with}
+use Rattle.rustc_compiler.specs.Compiler.{Rustc}
+use Rattle.rustkeys_base.specs.Asks.{asks_in}
+use Rattle.rustkeys.specs.Calls.{RustCall, RustKnown}
+use Rattle.rustkeys.specs.declared.hasher.RustHasher.{RustHasher}
+
+-- what is known of a compiler that counts
+abbrev pub known_of : Rustc → RustKnown
+known_of rust = record { toolchain = rust.toolchain; version = rust.version; archive = rust.archive }
+
+-- what the hasher's compiler is and its request asks for, in that directory, under these variables, on these files, at that moment
+abbrev pub call_of : RustHasher → Bytes → Variables → Tree → ℤ → RustCall
+call_of hasher dir env files moment = record {
+  known = known_of hasher.compiler.now;
+  question = record {
+    asks = asks_in hasher.parsed.now;
+    scene = scene_with hasher.compiler.now.executable dir env files moment;
+  };
+}

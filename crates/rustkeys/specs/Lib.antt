@@ -1,0 +1,7 @@
+pub mod Questions
+pub mod Records
+pub mod Calls
+pub mod Collected
+pub mod Fresh
+pub mod Finished
+pub mod Hashers

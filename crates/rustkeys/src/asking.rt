@@ -1,0 +1,171 @@
+//! What rustc is asked before a request has its key, a step at a time.
+
+ghost use Rattle.std.specs.Prelude.{◌≡◌, ℤ, [], ◌∷◌, Some, None, true, map, string_bytes, IfOk, IfErr, OnOk, IsErrOf};
+ghost use Rattle.os_files.specs.Bytes.{ticked};
+ghost use Rattle.ckeys.specs.Calls.{KeyCause, text_in};
+ghost use Rattle.ckeys.specs.Causes.{no_file, no_step};
+ghost use Rattle.ckeys.specs.Meaning.{AreSteady, FailsIn, made_of};
+ghost use Rattle.rustkeys.specs.Calls.{answer_fault_of, utf8_fault_of};
+ghost use Rattle.rustkeys.specs.Questions.{dep_info_of, file_names_of, question_of};
+
+use crate::answers::RustcAnswers;
+use crate::place::RustPlace;
+use ckeys::fault::Fault;
+use ckeys::preprocessor::{Printed, ToolFail};
+use ckeys::step::Step;
+use cmdlines::command::command_at;
+use os_files::files::Files;
+use os_files::os_bytes::OsBytes;
+use rustc_texts::words::{dep_info_words, file_names_words};
+use std::alloc::Global;
+
+/// The text of an answer, which is UTF-8.
+#[tactic(auto, using(crate::proofs::TextLemmas::utf8_fine, crate::proofs::TextLemmas::utf8_fault))]
+fn utf8_text(bytes: OsBytes, step: Step) -> Result<String, Fault>
+    ensures text { IfOk result (λ text. string_bytes text ≡ bytes) }
+    ensures fine { OnOk result (utf8_fault_of step bytes ≡ None) }
+    ensures cause { IfErr result (KeyCause (utf8_fault_of step bytes) no_file no_step) }
+    ensures memory { IsErrOf result Fault.Memory → ⊥ }
+{
+    match String::from_utf8(bytes.into_vec()) {
+        Ok(text) => Ok(text),
+        Err(_) => Err(Fault::AnswerNotUtf8(step)),
+    }
+}
+
+/// The text of an answer, whose status is 0 and which is UTF-8.
+fn answered_text(printed: Printed, step: Step) -> Result<String, Fault>
+    ensures text { IfOk result (λ text. string_bytes text ≡ printed.text) }
+    ensures fine { let made = made_of printed.status (Some printed.text ∷ []) in
+        OnOk result (answer_fault_of step made ≡ None) }
+    ensures cause { let made = made_of printed.status (Some printed.text ∷ []) in
+        IfErr result (KeyCause (answer_fault_of step made) no_file no_step) }
+    ensures memory { IsErrOf result Fault.Memory → ⊥ }
+{
+    if printed.status != 0 {
+        return Err(Fault::PreprocessFailed(printed.status));
+    }
+    utf8_text(printed.text, step)
+}
+
+impl<'a> RustPlace<'a> {
+    /// Asks rustc what the crate depends on.
+    fn ask_dep_info<F: Files, A: RustcAnswers>(
+        &self,
+        alloc: Global,
+        files: &mut F,
+        answers: &mut A,
+    ) -> Result<Printed, Fault>
+        ensures answer { (moment : ℤ) → let q = question_of self.now (F.tree files.old) moment in
+            IfOk result (λ p. made_of p.status (Some p.text ∷ [])
+            ≡ dep_info_of (A.meaning answers.old) q) }
+        ensures cause { IfErr result
+            (KeyCause None no_file (FailsIn A.meaning A.failed A.fails_in answers.old answers.new)) }
+        ensures tree { F.tree files.new ≡ F.tree files.old }
+        ensures meaning { A.meaning answers.new ≡ A.meaning answers.old }
+        ensures steady { OnOk result
+            (AreSteady A.failed F.failed answers.old files.old answers.new files.new) }
+        ensures memory { IsErrOf result Fault.Memory →
+            AreSteady A.failed F.failed answers.old files.old answers.new files.new }
+        ensures runs { OnOk result (A.preprocessed answers.new ≡ ticked (A.preprocessed answers.old)) }
+        ensures compiles { A.compiled answers.new ≡ A.compiled answers.old }
+    {
+        let words = dep_info_words(alloc, self.parsed)?;
+        let command = command_at(alloc, self.executable, words, self.env, self.dir)?;
+        match answers.dep_info(alloc, &command, files) {
+            Ok(printed) => Ok(printed),
+            Err(ToolFail::Memory) => Err(Fault::Memory),
+            Err(ToolFail::Device) => Err(Fault::Tool(Step::DepInfo)),
+        }
+    }
+
+    /// Asks rustc for the names of what it writes.
+    fn ask_file_names<F: Files, A: RustcAnswers>(
+        &self,
+        alloc: Global,
+        files: &mut F,
+        answers: &mut A,
+    ) -> Result<Printed, Fault>
+        ensures answer { (moment : ℤ) → let q = question_of self.now (F.tree files.old) moment in
+            IfOk result (λ p. made_of p.status (Some p.text ∷ [])
+            ≡ file_names_of (A.meaning answers.old) q) }
+        ensures cause { IfErr result
+            (KeyCause None no_file (FailsIn A.meaning A.failed A.fails_in answers.old answers.new)) }
+        ensures tree { F.tree files.new ≡ F.tree files.old }
+        ensures meaning { A.meaning answers.new ≡ A.meaning answers.old }
+        ensures steady { OnOk result
+            (AreSteady A.failed F.failed answers.old files.old answers.new files.new) }
+        ensures memory { IsErrOf result Fault.Memory →
+            AreSteady A.failed F.failed answers.old files.old answers.new files.new }
+        ensures runs { OnOk result (A.preprocessed answers.new ≡ ticked (A.preprocessed answers.old)) }
+        ensures compiles { A.compiled answers.new ≡ A.compiled answers.old }
+    {
+        let words = file_names_words(alloc, self.parsed)?;
+        let command = command_at(alloc, self.executable, words, self.env, self.dir)?;
+        match answers.file_names(alloc, &command, files) {
+            Ok(printed) => Ok(printed),
+            Err(ToolFail::Memory) => Err(Fault::Memory),
+            Err(ToolFail::Device) => Err(Fault::Tool(Step::FileNames)),
+        }
+    }
+
+    /// The text in which rustc tells what the crate depends on.
+    pub(crate) fn dep_info_text<F: Files, A: RustcAnswers>(
+        &self,
+        alloc: Global,
+        files: &mut F,
+        answers: &mut A,
+    ) -> Result<String, Fault>
+        ensures text { (moment : ℤ) → let q = question_of self.now (F.tree files.old) moment in
+            let made = dep_info_of (A.meaning answers.old) q in
+            IfOk result (λ text. string_bytes text ≡ text_in made.files) }
+        ensures fine { (moment : ℤ) → let q = question_of self.now (F.tree files.old) moment in
+            let made = dep_info_of (A.meaning answers.old) q in
+            OnOk result (answer_fault_of Step.DepInfo made ≡ None) }
+        ensures cause { (moment : ℤ) → let q = question_of self.now (F.tree files.old) moment in
+            let made = dep_info_of (A.meaning answers.old) q in
+            IfErr result (KeyCause (answer_fault_of Step.DepInfo made) no_file
+            (FailsIn A.meaning A.failed A.fails_in answers.old answers.new)) }
+        ensures tree { F.tree files.new ≡ F.tree files.old }
+        ensures meaning { A.meaning answers.new ≡ A.meaning answers.old }
+        ensures steady { OnOk result
+            (AreSteady A.failed F.failed answers.old files.old answers.new files.new) }
+        ensures memory { IsErrOf result Fault.Memory →
+            AreSteady A.failed F.failed answers.old files.old answers.new files.new }
+        ensures runs { OnOk result (A.preprocessed answers.new ≡ ticked (A.preprocessed answers.old)) }
+        ensures compiles { A.compiled answers.new ≡ A.compiled answers.old }
+    {
+        let printed = self.ask_dep_info(alloc, files, answers)?;
+        answered_text(printed, Step::DepInfo)
+    }
+
+    /// The text in which rustc tells the names of what it writes.
+    pub(crate) fn file_names_text<F: Files, A: RustcAnswers>(
+        &self,
+        alloc: Global,
+        files: &mut F,
+        answers: &mut A,
+    ) -> Result<String, Fault>
+        ensures text { (moment : ℤ) → let q = question_of self.now (F.tree files.old) moment in
+            let made = file_names_of (A.meaning answers.old) q in
+            IfOk result (λ text. string_bytes text ≡ text_in made.files) }
+        ensures fine { (moment : ℤ) → let q = question_of self.now (F.tree files.old) moment in
+            let made = file_names_of (A.meaning answers.old) q in
+            OnOk result (answer_fault_of Step.FileNames made ≡ None) }
+        ensures cause { (moment : ℤ) → let q = question_of self.now (F.tree files.old) moment in
+            let made = file_names_of (A.meaning answers.old) q in
+            IfErr result (KeyCause (answer_fault_of Step.FileNames made) no_file
+            (FailsIn A.meaning A.failed A.fails_in answers.old answers.new)) }
+        ensures tree { F.tree files.new ≡ F.tree files.old }
+        ensures meaning { A.meaning answers.new ≡ A.meaning answers.old }
+        ensures steady { OnOk result
+            (AreSteady A.failed F.failed answers.old files.old answers.new files.new) }
+        ensures memory { IsErrOf result Fault.Memory →
+            AreSteady A.failed F.failed answers.old files.old answers.new files.new }
+        ensures runs { OnOk result (A.preprocessed answers.new ≡ ticked (A.preprocessed answers.old)) }
+        ensures compiles { A.compiled answers.new ≡ A.compiled answers.old }
+    {
+        let printed = self.ask_file_names(alloc, files, answers)?;
+        answered_text(printed, Step::FileNames)
+    }
+}

@@ -1,0 +1,197 @@
+//! All that rustc and the files tell before a request has its key, in the order in which they are asked.
+
+ghost use Rattle.std.specs.Prelude.{◌≡◌, ℤ, None, map, string_bytes, IfOk, IfErr, OnOk, IsErrOf};
+ghost use Rattle.std.specs.List.{AllByRecursion};
+ghost use Rattle.os_files.specs.Bytes.{ticked};
+ghost use Rattle.os_files.specs.Fails.{FailsOn};
+ghost use Rattle.ckeys.specs.Calls.{KeyCause, text_in};
+ghost use Rattle.ckeys.specs.Causes.{no_step};
+ghost use Rattle.ckeys.specs.Meaning.{AreSteady, FailsIn};
+ghost use Rattle.rustc_parts.specs.Formed.{IsDigest, digest_digits};
+ghost use Rattle.rustkeys.specs.Calls.{dep_info_fault_of, files_fault_of, key_fault_with, sources_fault_of};
+ghost use Rattle.rustkeys.specs.Questions.{answers_of, dep_info_of, digested, file_names_of, question_of};
+ghost use Rattle.rustkeys.specs.Collected.{files_with, source_digests};
+
+use crate::answers::RustcAnswers;
+use crate::archives::archive_digests;
+use crate::digests::{needed_digests, needed_in, needed_where_named};
+use crate::place::RustPlace;
+use crate::sorting::sources_in;
+use ckeys::fault::Fault;
+use ckeys_base::hash_state::HashState;
+use os_files::files::Files;
+use os_files::listed::Listed;
+use os_files::os_bytes::OsBytes;
+use std::alloc::Global;
+
+/// The text in which rustc tells what the crate depends on, and the digests of its sources.
+#[derive(Drop)]
+pub(crate) struct Sources {
+    pub text: String,
+    pub digests: Listed<OsBytes>,
+}
+
+/// The digests of other files: of the crates that are named, of static libraries, and of the target's file.
+#[derive(Drop)]
+pub(crate) struct OtherFiles {
+    pub externs: Listed<OsBytes>,
+    pub archives: Listed<OsBytes>,
+    pub target: Option<OsBytes>,
+}
+
+/// All of it, with the text in which rustc tells the names of what it writes.
+#[derive(Drop)]
+pub(crate) struct Collected {
+    pub sources: Sources,
+    pub names: String,
+    pub files: OtherFiles,
+}
+
+impl<'a> RustPlace<'a> {
+    /// The digests of the sources that a text on dependencies names.
+    fn sources<H: HashState, F: Files>(
+        &self,
+        alloc: Global,
+        text: &str,
+        files: &mut F,
+    ) -> Result<Listed<OsBytes>, Fault>
+        ensures digests { let wanted = source_digests H.digest_of (F.tree files.old)
+            self.now.dir.now text.now in
+            IfOk result (λ digests. digests ≡ wanted) }
+        ensures fine { let fault = sources_fault_of (F.tree files.old) self.now.dir.now text.now in
+            OnOk result (fault ≡ None) }
+        ensures cause { let fault = sources_fault_of (F.tree files.old) self.now.dir.now text.now in
+            IfErr result (KeyCause fault (FailsOn F.tree F.failed F.fails_on files.old files.new)
+            no_step) }
+        ensures tree { F.tree files.new ≡ F.tree files.old }
+        ensures steady { OnOk result (F.failed files.new ≡ F.failed files.old) }
+        ensures memory { IsErrOf result Fault.Memory → F.failed files.new ≡ F.failed files.old }
+    {
+        let paths = sources_in(alloc, self.dir, text)?;
+        needed_digests::<H, F>(alloc, paths.as_slice(), files)
+    }
+
+    /// What rustc tells of dependencies, with the digests of the sources.
+    fn dep_info<H: HashState, F: Files, A: RustcAnswers>(
+        &self,
+        alloc: Global,
+        files: &mut F,
+        answers: &mut A,
+    ) -> Result<Sources, Fault>
+        ensures text { (moment : ℤ) → let q = question_of self.now (F.tree files.old) moment in
+            let text = text_in (dep_info_of (A.meaning answers.old) q).files in
+            IfOk result (λ sources. string_bytes sources.text ≡ text) }
+        ensures digests { IfOk result (λ sources. sources.digests
+            ≡ source_digests H.digest_of (F.tree files.old) self.now.dir.now
+            (string_bytes sources.text)) }
+        ensures fine { (moment : ℤ) → let q = question_of self.now (F.tree files.old) moment in
+            let made = dep_info_of (A.meaning answers.old) q in
+            OnOk result (dep_info_fault_of q made ≡ None) }
+        ensures cause { (moment : ℤ) → let q = question_of self.now (F.tree files.old) moment in
+            let made = dep_info_of (A.meaning answers.old) q in
+            IfErr result (KeyCause (dep_info_fault_of q made)
+            (FailsOn F.tree F.failed F.fails_on files.old files.new)
+            (FailsIn A.meaning A.failed A.fails_in answers.old answers.new)) }
+        ensures tree { F.tree files.new ≡ F.tree files.old }
+        ensures meaning { A.meaning answers.new ≡ A.meaning answers.old }
+        ensures steady { OnOk result
+            (AreSteady A.failed F.failed answers.old files.old answers.new files.new) }
+        ensures memory { IsErrOf result Fault.Memory →
+            AreSteady A.failed F.failed answers.old files.old answers.new files.new }
+        ensures runs { OnOk result (A.preprocessed answers.new ≡ ticked (A.preprocessed answers.old)) }
+        ensures compiles { A.compiled answers.new ≡ A.compiled answers.old }
+    {
+        let text = self.dep_info_text(alloc, files, answers)?;
+        let digests = self.sources::<H, F>(alloc, text.as_str(), files)?;
+        Ok(Sources { text, digests })
+    }
+
+    /// The digests of the other files.
+    fn other_files<H: HashState, F: Files, A: RustcAnswers>(
+        &self,
+        alloc: Global,
+        files: &mut F,
+        answers: &mut A,
+    ) -> Result<OtherFiles, Fault>
+        ensures digests { (moment : ℤ) → let q = question_of self.now (F.tree files.old) moment in
+            let archives = digested (A.meaning answers.old) q.scene q.asks.staticlibs in
+            IfOk result (λ found. found ≡ files_with H.digest_of q archives) }
+        ensures formed { IfOk result
+            (λ found. AllByRecursion (IsDigest digest_digits) found.archives) }
+        ensures fine { (moment : ℤ) → let q = question_of self.now (F.tree files.old) moment in
+            let archives = digested (A.meaning answers.old) q.scene q.asks.staticlibs in
+            OnOk result (files_fault_of q archives ≡ None) }
+        ensures cause { (moment : ℤ) → let q = question_of self.now (F.tree files.old) moment in
+            let archives = digested (A.meaning answers.old) q.scene q.asks.staticlibs in
+            IfErr result (KeyCause (files_fault_of q archives)
+            (FailsOn F.tree F.failed F.fails_on files.old files.new)
+            (FailsIn A.meaning A.failed A.fails_in answers.old answers.new)) }
+        ensures tree { F.tree files.new ≡ F.tree files.old }
+        ensures meaning { A.meaning answers.new ≡ A.meaning answers.old }
+        ensures steady { OnOk result
+            (AreSteady A.failed F.failed answers.old files.old answers.new files.new) }
+        ensures memory { IsErrOf result Fault.Memory →
+            AreSteady A.failed F.failed answers.old files.old answers.new files.new }
+        ensures runs { A.preprocessed answers.new ≡ A.preprocessed answers.old }
+        ensures compiles { A.compiled answers.new ≡ A.compiled answers.old }
+    {
+        let externs = needed_in::<H, F>(alloc, self.dir, self.parsed.externs.as_slice(), files)?;
+        let archives = archive_digests(alloc, self.parsed.staticlibs.as_slice(), files, answers)?;
+        let target = needed_where_named::<H, F>(alloc, self.dir, &self.parsed.target_json, files)?;
+        Ok(OtherFiles {
+            externs,
+            archives,
+            target,
+        })
+    }
+
+    /// All that is told before a request has its key: what rustc tells of dependencies, the sources, the names of what it writes, and
+    /// then the other files.
+    pub(crate) fn collect<H: HashState, F: Files, A: RustcAnswers>(
+        &self,
+        alloc: Global,
+        files: &mut F,
+        answers: &mut A,
+    ) -> Result<Collected, Fault>
+        ensures text { (moment : ℤ) → let q = question_of self.now (F.tree files.old) moment in
+            let text = text_in (dep_info_of (A.meaning answers.old) q).files in
+            IfOk result (λ found. string_bytes found.sources.text ≡ text) }
+        ensures sources { IfOk result (λ found. found.sources.digests
+            ≡ source_digests H.digest_of (F.tree files.old) self.now.dir.now
+            (string_bytes found.sources.text)) }
+        ensures names { (moment : ℤ) → let q = question_of self.now (F.tree files.old) moment in
+            let text = text_in (file_names_of (A.meaning answers.old) q).files in
+            IfOk result (λ found. string_bytes found.names ≡ text) }
+        ensures files { (moment : ℤ) → let q = question_of self.now (F.tree files.old) moment in
+            let archives = digested (A.meaning answers.old) q.scene q.asks.staticlibs in
+            IfOk result (λ found. found.files ≡ files_with H.digest_of q archives) }
+        ensures formed { IfOk result
+            (λ found. AllByRecursion (IsDigest digest_digits) found.files.archives) }
+        ensures fine { (moment : ℤ) → let q = question_of self.now (F.tree files.old) moment in
+            let told = answers_of (A.meaning answers.old) q in
+            OnOk result (key_fault_with q told ≡ None) }
+        ensures cause { (moment : ℤ) → let q = question_of self.now (F.tree files.old) moment in
+            let told = answers_of (A.meaning answers.old) q in
+            IfErr result (KeyCause (key_fault_with q told)
+            (FailsOn F.tree F.failed F.fails_on files.old files.new)
+            (FailsIn A.meaning A.failed A.fails_in answers.old answers.new)) }
+        ensures tree { F.tree files.new ≡ F.tree files.old }
+        ensures meaning { A.meaning answers.new ≡ A.meaning answers.old }
+        ensures steady { OnOk result
+            (AreSteady A.failed F.failed answers.old files.old answers.new files.new) }
+        ensures memory { IsErrOf result Fault.Memory →
+            AreSteady A.failed F.failed answers.old files.old answers.new files.new }
+        ensures runs { OnOk result
+            (A.preprocessed answers.new ≡ ticked (ticked (A.preprocessed answers.old))) }
+        ensures compiles { A.compiled answers.new ≡ A.compiled answers.old }
+    {
+        let sources = self.dep_info::<H, F, A>(alloc, files, answers)?;
+        let names = self.file_names_text(alloc, files, answers)?;
+        let files = self.other_files::<H, F, A>(alloc, files, answers)?;
+        Ok(Collected {
+            sources,
+            names,
+            files,
+        })
+    }
+}

@@ -1,0 +1,103 @@
+//! What a compile of a request runs and writes, and the pieces of its key.
+
+ghost use Rattle.std.specs.Prelude.{◌≡◌, IfOk};
+ghost use Rattle.cmdlines.specs.Commands.{command_at};
+ghost use Rattle.rustc_texts.specs.Outputs.{outputs_with};
+ghost use Rattle.rustc_texts.specs.Words.{compile_words};
+ghost use Rattle.rustkeys_base.specs.Asks.{asks_in};
+ghost use Rattle.rustkeys.specs.Questions.{compile_env_of};
+
+use crate::place::RustPlace;
+use crate::sorting::compile_env_of;
+use cmdlines::command::{Cacheable, command_at};
+use cmdlines_base::command::SingleCompileCommand;
+use os_files::listed::Listed;
+use os_files::os_bytes::OsBytes;
+use rustc_parts::parts::Parts;
+use rustc_texts::outputs::{Output, outputs};
+use rustc_texts::words::compile_words;
+use std::alloc::{AllocError, Global};
+
+/// A compile of a request.
+#[derive(Drop)]
+pub struct RustCompilation {
+    /// The command that is run for it.
+    pub command: SingleCompileCommand,
+    /// What it writes, and where each goes.
+    pub outputs: Listed<Output>,
+    /// The pieces whose bytes were hashed for its key.
+    pub parts: Parts,
+}
+
+/// Copies of the words.
+pub(crate) fn copied(alloc: Global, words: &[OsBytes]) -> Result<Listed<OsBytes>, AllocError>
+    ensures { IfOk result (λ copies. copies ≡ words.now) }
+{
+    let mut copies = Vec::with_capacity(alloc, words.len())?;
+    for word in words {
+        copies.push(word.clone()?)?;
+    }
+    Ok(Listed::from_vec(copies))
+}
+
+impl RustCompilation {
+    /// The compile command, whose outputs may be kept.
+    pub fn generate_compile_commands(
+        &self,
+        alloc: Global,
+    ) -> Result<(SingleCompileCommand, Cacheable), AllocError>
+        ensures command { IfOk result (λ made. made.0 ≡ self.now.command) }
+        ensures cacheable { IfOk result (λ made. made.1 ≡ Cacheable.Yes) }
+    {
+        let words = copied(alloc, self.command.arguments.as_slice())?;
+        let env = self.command.env_vars.as_slice();
+        let command = command_at(
+            alloc,
+            &self.command.executable,
+            words,
+            env,
+            &self.command.cwd,
+        )?;
+        Ok((command, Cacheable::Yes))
+    }
+
+    /// What it writes, in order.
+    pub fn outputs(&self) -> &[Output]
+        ensures { result.now ≡ self.now.outputs }
+    {
+        self.outputs.as_slice()
+    }
+
+    /// The pieces whose bytes were hashed for its key.
+    pub fn parts(&self) -> &Parts
+        ensures { result.now ≡ self.now.parts }
+    {
+        &self.parts
+    }
+}
+
+/// The compile of a request that writes these names.
+pub(crate) fn compilation(
+    alloc: Global,
+    place: &RustPlace,
+    names: &[OsBytes],
+    parts: Parts,
+) -> Result<RustCompilation, AllocError>
+    ensures command { let words = compile_words (asks_in place.now.parsed.now) in
+        let env = compile_env_of place.now.env.now in
+        IfOk result (λ made. made.command
+        ≡ command_at place.now.executable.now words env place.now.dir.now) }
+    ensures outputs { IfOk result
+        (λ made. made.outputs ≡ outputs_with (asks_in place.now.parsed.now) names.now) }
+    ensures parts { IfOk result (λ made. made.parts ≡ parts) }
+{
+    let outputs = outputs(alloc, place.parsed, names)?;
+    let words = compile_words(alloc, place.parsed)?;
+    let env = compile_env_of(alloc, place.env)?;
+    let command = command_at(alloc, place.executable, words, env.as_slice(), place.dir)?;
+    Ok(RustCompilation {
+        command,
+        outputs,
+        parts,
+    })
+}

@@ -1,0 +1,162 @@
+//! What is made of all that rustc and the files told: the key, its shape, the compile, and the text on dependencies.
+
+ghost use Rattle.std.specs.Prelude.{◌≡◌, string_bytes, IfOk, OnOk};
+ghost use Rattle.std.specs.Option.{option_copied, option_to_list};
+ghost use Rattle.byte_formats.specs.Spelling.{FitsFrame};
+ghost use Rattle.cmdlines.specs.Commands.{command_at};
+ghost use Rattle.rustc_parts.specs.Material.{material_of};
+ghost use Rattle.rustc_parts.specs.Shapes.{shape_of};
+ghost use Rattle.rustc_texts.specs.Outputs.{output_names, outputs_of};
+ghost use Rattle.rustc_texts.specs.Words.{compile_words};
+ghost use Rattle.rustkeys_base.specs.Asks.{asks_in};
+ghost use Rattle.rustkeys.specs.Finished.{known_in, parts_with};
+ghost use Rattle.rustkeys.specs.Fresh.{dep_info_by};
+ghost use Rattle.rustkeys.specs.Questions.{compile_env_of};
+ghost use Rattle.rustkeys.specs.Records.{digest_text};
+
+use crate::collecting::{Collected, OtherFiles, Sources};
+use crate::compilation::{RustCompilation, compilation, copied};
+use crate::place::{KnownRust, RustPlace};
+use crate::sorting::{counted_in, env_deps_in};
+use ckeys_base::digest::Digest;
+use ckeys_base::hash_state::HashState;
+use os_files::listed::Listed;
+use os_files::os_bytes::OsBytes;
+use rustc_parts::parts::{Parts, RShape};
+use rustc_parts::writing::key_bytes;
+use rustc_texts::fault::TextFault;
+use rustc_texts::output_names::output_names;
+use rustc_texts::outputs::targets;
+use rustc_texts::rewriting::dep_info_with_targets;
+use rustc_texts::words::kept_words;
+use rustkeys_base::parsed::ParsedArguments;
+use std::alloc::{AllocError, Global};
+
+/// The pieces of the key.
+fn parts_by(
+    alloc: Global,
+    known: &KnownRust,
+    place: &RustPlace,
+    text: &str,
+    sources: Listed<OsBytes>,
+    files: OtherFiles,
+) -> Result<Parts, AllocError>
+    ensures { IfOk result
+        (λ parts. parts ≡ parts_with (known_in known.now) place.now text.now sources files) }
+{
+    Ok(Parts {
+        toolchain: copied(alloc, known.toolchain)?,
+        version: known.version.clone()?,
+        words: kept_words(alloc, place.parsed)?,
+        sources,
+        externs: files.externs,
+        archives: files.archives,
+        target: files.target,
+        env_deps: env_deps_in(alloc, text)?,
+        variables: counted_in(alloc, place.env)?,
+        dir: place.dir.clone()?,
+    })
+}
+
+/// A slice has a length. A call of it does nothing.
+fn has_a_length(bytes: &[u8])
+    ensures { FitsFrame bytes.now }
+{
+    let _length = bytes.len();
+}
+
+/// The key of these pieces, and its shape.
+fn key_of_parts<H: HashState>(alloc: Global, parts: &Parts) -> Result<(String, RShape), AllocError>
+    ensures key { let wanted = digest_text H.digest_of (material_of parts.now) in
+        IfOk result (λ made. string_bytes made.0 ≡ wanted) }
+    ensures shape { IfOk result (λ made. made.1 ≡ shape_of parts.now) }
+    ensures fits { OnOk result (FitsFrame (material_of parts.now)) }
+{
+    let bytes = key_bytes(alloc, parts)?;
+    has_a_length(&bytes);
+    let mut digest: Digest<H> = Digest::new();
+    digest.update(&bytes);
+    let key = digest.finish(alloc)?;
+    Ok((key, parts.shape(alloc)?))
+}
+
+/// The path alone, where there is one.
+fn listed(alloc: Global, path: Option<&OsBytes>) -> Result<Listed<OsBytes>, AllocError>
+    ensures { IfOk result (λ paths. paths ≡ option_to_list (option_copied path.entry)) }
+{
+    let mut paths = Listed::new(alloc);
+    if let Some(path) = path {
+        paths.push(path.clone()?)?;
+    }
+    Ok(paths)
+}
+
+/// The text on dependencies for the targets of a request that writes these names, where it is asked for.
+fn dep_info_for(
+    alloc: Global,
+    parsed: &ParsedArguments,
+    archive: Option<&OsBytes>,
+    text: &str,
+    names: &[OsBytes],
+) -> Result<Option<OsBytes>, AllocError>
+    ensures { IfOk result (λ made. made
+        ≡ dep_info_by (asks_in parsed.now) (option_copied archive.entry) text.now names.now) }
+{
+    if parsed.dep_info.is_none() {
+        return Ok(None);
+    }
+    let targets = targets(alloc, parsed, names)?;
+    let extras = listed(alloc, archive)?;
+    match dep_info_with_targets(alloc, text, targets.as_slice(), extras.as_slice()) {
+        Ok(text) => Ok(Some(text)),
+        Err(TextFault::NoRule) => Ok(None),
+        Err(TextFault::Memory) => Err(AllocError),
+    }
+}
+
+/// All of it.
+pub(crate) fn finish<H: HashState>(
+    alloc: Global,
+    known: &KnownRust,
+    place: &RustPlace,
+    found: Collected,
+) -> Result<(RustCompilation, String, RShape, Option<OsBytes>), AllocError>
+    ensures key { let parts = parts_with (known_in known.now) place.now
+        (string_bytes found.sources.text) found.sources.digests found.files in
+        IfOk result
+        (λ made. string_bytes made.1 ≡ digest_text H.digest_of (material_of parts)) }
+    ensures shape { let parts = parts_with (known_in known.now) place.now
+        (string_bytes found.sources.text) found.sources.digests found.files in
+        IfOk result (λ made. made.2 ≡ shape_of parts) }
+    ensures parts { let parts = parts_with (known_in known.now) place.now
+        (string_bytes found.sources.text) found.sources.digests found.files in
+        IfOk result (λ made. made.0.parts ≡ parts) }
+    ensures fits { let parts = parts_with (known_in known.now) place.now
+        (string_bytes found.sources.text) found.sources.digests found.files in
+        OnOk result (FitsFrame (material_of parts)) }
+    ensures command { let words = compile_words (asks_in place.now.parsed.now) in
+        let env = compile_env_of place.now.env.now in
+        IfOk result (λ made. made.0.command
+        ≡ command_at place.now.executable.now words env place.now.dir.now) }
+    ensures outputs { let asks = asks_in place.now.parsed.now in
+        IfOk result (λ made. made.0.outputs ≡ outputs_of asks (string_bytes found.names)) }
+    ensures dep_info { let asks = asks_in place.now.parsed.now in
+        IfOk result (λ made. made.3
+        ≡ dep_info_by asks (known_in known.now).archive (string_bytes found.sources.text)
+        (output_names asks.emit (string_bytes found.names))) }
+{
+    let Collected {
+        sources,
+        names,
+        files,
+    } = found;
+    let names = output_names(alloc, place.parsed.emit.as_slice(), names.as_str())?;
+    let names = names.as_slice();
+    let Sources { text, digests } = sources;
+    let text = text.as_str();
+    let dep_info = dep_info_for(alloc, place.parsed, known.archive, text, names)?;
+    let parts = parts_by(alloc, known, place, text, digests, files)?;
+    let (key, shape) = key_of_parts::<H>(alloc, &parts)?;
+    let made = compilation(alloc, place, names, parts)?;
+    Ok((made, key, shape, dep_info))
+}

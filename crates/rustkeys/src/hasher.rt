@@ -1,0 +1,158 @@
+//! The key of a request to rustc, on the files that are there when it is asked.
+
+ghost use Rattle.std.specs.Prelude.{◌≡◌, ℤ, None, string_bytes, IfOk, IfErr, OnOk, IsErrOf};
+ghost use Rattle.std.specs.List.{AllByRecursion};
+ghost use Rattle.std.specs.Str.Lossy.{utf8_lossy};
+ghost use Rattle.os_files.specs.Bytes.{ticked};
+ghost use Rattle.os_files.specs.Fails.{FailsOn};
+ghost use Rattle.ckeys.specs.Calls.{KeyCause};
+ghost use Rattle.ckeys.specs.Meaning.{AreSteady, FailsIn};
+ghost use Rattle.cmdlines.specs.Commands.{command_at};
+ghost use Rattle.rustc_parts.specs.Formed.{IsDigest, digest_digits};
+ghost use Rattle.rustc_texts.specs.Words.{compile_words};
+ghost use Rattle.rustkeys_base.specs.Asks.{asks_in};
+ghost use Rattle.rustkeys.specs.Calls.{key_fault_of, record_of};
+ghost use Rattle.rustkeys.specs.Finished.{known_in};
+ghost use Rattle.rustkeys.specs.Fresh.{call_outputs, dep_info_text_of};
+ghost use Rattle.rustkeys.specs.Hashers.{call_of, known_of};
+ghost use Rattle.rustkeys.specs.Questions.{compile_env_of, question_of};
+ghost use Rattle.rustkeys.specs.Records.{IsTold, key_of, parts_of, record_shape};
+
+use crate::answers::RustcAnswers;
+use crate::compilation::RustCompilation;
+use crate::finishing::finish;
+use crate::place::{KnownRust, RustPlace};
+use ckeys::fault::Fault;
+use ckeys_base::hash_state::HashState;
+use cmdlines_tables::compiler::ColorMode;
+use cmdlines_tables::language::Language;
+use os_files::files::Files;
+use os_files::os_bytes::OsBytes;
+use rustc_compiler::rust::Rust;
+use rustc_parts::parts::RShape;
+use rustkeys_base::parsed::ParsedArguments;
+use std::alloc::{AllocError, Global};
+
+/// What a request asks for, and of which rustc.
+#[derive(Drop)]
+pub struct RustHasher<'a> {
+    pub compiler: &'a Rust,
+    pub parsed: &'a ParsedArguments,
+}
+
+/// What counts of a compiler, whose toolchain's digests have the form that they have in keys.
+fn known(rust: &Rust) -> KnownRust<'_>
+    ensures known { known_in result ≡ known_of rust.now }
+    ensures formed { AllByRecursion (IsDigest digest_digits) rust.now.toolchain }
+{
+    KnownRust {
+        toolchain: rust.toolchain_digests(),
+        version: rust.version(),
+        archive: rust.archive(),
+    }
+}
+
+impl<'a> RustHasher<'a> {
+    /// Whether messages are coloured.
+    pub fn color_mode(&self) -> ColorMode
+        ensures { result ≡ self.now.parsed.now.color_mode }
+    {
+        self.parsed.color_mode
+    }
+
+    /// The crate's name, for printing: U+FFFD stands in it for what isn't UTF-8.
+    pub fn output_pretty(&self, alloc: Global) -> Result<String, AllocError>
+        ensures { IfOk result
+            (λ name. string_bytes name ≡ utf8_lossy self.now.parsed.now.crate_name) }
+    {
+        String::from_utf8_lossy(alloc, self.parsed.crate_name.as_bytes())
+    }
+
+    /// The language.
+    pub fn language(&self) -> Language
+        ensures { result ≡ Language.Rust }
+    {
+        Language::Rust
+    }
+
+    /// Where the request is asked.
+    fn place<'b>(&'b self, dir: &'b OsBytes, env: &'b [(OsBytes, OsBytes)]) -> RustPlace<'b>
+        ensures executable { result.executable.now ≡ self.now.compiler.now.executable }
+        ensures parsed { result.parsed.now ≡ self.now.parsed.now }
+        ensures dir { result.dir.now ≡ dir.entry.now }
+        ensures env { result.env.now ≡ env.entry.now }
+    {
+        RustPlace {
+            executable: self.compiler.executable(),
+            parsed: self.parsed,
+            dir,
+            env,
+        }
+    }
+
+    /// The key of this request in that directory, under these variables, on these files: the compile that it stands for, the digest
+    /// of its record's material as text, its shape, and the text on dependencies for its own targets, where that is asked for.
+    ///
+    /// Refused, by the first that comes in this order: with `PreprocessFailed` where rustc ends with another status than 0, asked
+    /// for dependencies, with `AnswerNotUtf8`, with `NoRule`, with `Read` of a source that isn't there; the same of the names of
+    /// outputs; with `Read` of a crate that is named, with `BadDigest` of a static library, with `Read` of the target's file. `Read`
+    /// and `Tool` also say that a device failed.
+    pub fn generate_hash_key<H: HashState, F: Files, A: RustcAnswers>(
+        &self,
+        alloc: Global,
+        dir: &OsBytes,
+        env: &[(OsBytes, OsBytes)],
+        files: &mut F,
+        answers: &mut A,
+    ) -> Result<(RustCompilation, String, RShape, Option<OsBytes>), Fault>
+        ensures key { (moment : ℤ)
+            → let c = call_of self.now dir.now env.now (F.tree files.old) moment in
+            let r = record_of (A.meaning answers.old) c in
+            IfOk result (λ made. string_bytes made.1 ≡ key_of H.digest_of r) }
+        ensures shape { (moment : ℤ)
+            → let c = call_of self.now dir.now env.now (F.tree files.old) moment in
+            let r = record_of (A.meaning answers.old) c in
+            IfOk result (λ made. made.2 ≡ record_shape H.digest_of r) }
+        ensures parts { (moment : ℤ)
+            → let c = call_of self.now dir.now env.now (F.tree files.old) moment in
+            let r = record_of (A.meaning answers.old) c in
+            IfOk result (λ made. made.0.parts ≡ parts_of H.digest_of r) }
+        ensures outputs { (moment : ℤ)
+            → let c = call_of self.now dir.now env.now (F.tree files.old) moment in
+            IfOk result (λ made. made.0.outputs ≡ call_outputs (A.meaning answers.old) c) }
+        ensures command { let words = compile_words (asks_in self.now.parsed.now) in
+            let executable = self.now.compiler.now.executable in
+            IfOk result (λ made. made.0.command
+            ≡ command_at executable words (compile_env_of env.now) dir.now) }
+        ensures dep_info { (moment : ℤ)
+            → let c = call_of self.now dir.now env.now (F.tree files.old) moment in
+            IfOk result (λ made. made.3 ≡ dep_info_text_of (A.meaning answers.old) c) }
+        // Its digests are digits, and what is hashed can be counted, which the law on keys and records asks for.
+        ensures told { (moment : ℤ)
+            → let c = call_of self.now dir.now env.now (F.tree files.old) moment in
+            let r = record_of (A.meaning answers.old) c in
+            OnOk result (IsTold H.digest_of r) }
+        ensures fine { (moment : ℤ)
+            → let c = call_of self.now dir.now env.now (F.tree files.old) moment in
+            OnOk result (key_fault_of (A.meaning answers.old) c ≡ None) }
+        ensures cause { (moment : ℤ)
+            → let c = call_of self.now dir.now env.now (F.tree files.old) moment in
+            IfErr result (KeyCause (key_fault_of (A.meaning answers.old) c)
+            (FailsOn F.tree F.failed F.fails_on files.old files.new)
+            (FailsIn A.meaning A.failed A.fails_in answers.old answers.new)) }
+        ensures tree { F.tree files.new ≡ F.tree files.old }
+        ensures meaning { A.meaning answers.new ≡ A.meaning answers.old }
+        ensures steady { OnOk result
+            (AreSteady A.failed F.failed answers.old files.old answers.new files.new) }
+        ensures memory { IsErrOf result Fault.Memory →
+            AreSteady A.failed F.failed answers.old files.old answers.new files.new }
+        ensures runs { OnOk result
+            (A.preprocessed answers.new ≡ ticked (ticked (A.preprocessed answers.old))) }
+        ensures compiles { A.compiled answers.new ≡ A.compiled answers.old }
+    {
+        let known = known(self.compiler);
+        let place = self.place(dir, env);
+        let found = place.collect::<H, F, A>(alloc, files, answers)?;
+        Ok(finish::<H>(alloc, &known, &place, found)?)
+    }
+}

@@ -1,0 +1,77 @@
+//! Lists in their orders.
+
+ghost use Rattle.std.specs.Prelude.{◌≡◌, None, IfOk, IfErr, OnOk, filter};
+ghost use Rattle.rustc_parts.specs.Orders.{env_dep_cmp};
+ghost use Rattle.rustkeys_base.specs.Sorted.{sorted_by};
+ghost use Rattle.ckeys.specs.Calls.{KeyCause};
+ghost use Rattle.ckeys.specs.Causes.{no_file, no_step};
+ghost use Rattle.rustkeys.specs.Questions.{compile_env_of, counted_in, env_deps_in, sources_in};
+ghost use Rattle.rustkeys.specs.Calls.{rule_fault_of};
+
+use ckeys::fault::Fault;
+use os_files::listed::Listed;
+use os_files::os_bytes::OsBytes;
+use os_files::path::paths_have_one_order;
+use rustc_parts::laws::variables_have_one_order;
+use rustc_parts::order::compare_env_deps;
+use rustc_parts::parts::EnvDep;
+use rustc_texts::dep_info::parse_dep_info;
+use rustc_texts::env_deps::parse_env_dep_info;
+use rustc_texts::fault::TextFault;
+use rustc_texts::variables::{compile_env, hashed_variables};
+use std::alloc::{AllocError, Global};
+
+/// The sources that a text on dependencies names, in order.
+pub(crate) fn sources_in(alloc: Global, dir: &OsBytes, text: &str) -> Result<Listed<OsBytes>, Fault>
+    ensures sources { IfOk result (λ sources. sources ≡ sources_in dir.now text.now) }
+    ensures fine { OnOk result (rule_fault_of text.now ≡ None) }
+    ensures cause { IfErr result (KeyCause (rule_fault_of text.now) no_file no_step) }
+{
+    // A law, which costs nothing: what follows from it is said above.
+    paths_have_one_order();
+    match parse_dep_info(alloc, text, dir.as_bytes()) {
+        Ok(sources) => Ok(sources),
+        Err(TextFault::Memory) => Err(Fault::Memory),
+        Err(TextFault::NoRule) => Err(Fault::NoRule),
+    }
+}
+
+/// The variables in order.
+fn in_order(deps: Listed<EnvDep>) -> Listed<EnvDep>
+    ensures { result ≡ sorted_by env_dep_cmp deps }
+{
+    // A law, which costs nothing: what follows from it is said above.
+    variables_have_one_order();
+    let mut deps = deps.into_vec();
+    deps.sort_unstable_by(|left, right| compare_env_deps(left, right));
+    Listed::from_vec(deps)
+}
+
+/// The variables that a text on dependencies tells, in order.
+pub(crate) fn env_deps_in(alloc: Global, text: &str) -> Result<Listed<EnvDep>, AllocError>
+    ensures { IfOk result (λ deps. deps ≡ env_deps_in text.now) }
+{
+    Ok(in_order(parse_env_dep_info(alloc, text)?))
+}
+
+/// The variables of a call that count, in order.
+pub(crate) fn counted_in(
+    alloc: Global,
+    env: &[(OsBytes, OsBytes)],
+) -> Result<Listed<(OsBytes, OsBytes)>, AllocError>
+    ensures { IfOk result (λ pairs. pairs ≡ counted_in env.now) }
+{
+    variables_have_one_order();
+    hashed_variables(alloc, env)
+}
+
+/// The variables with which a call is compiled, in order.
+pub(crate) fn compile_env_of(
+    alloc: Global,
+    env: &[(OsBytes, OsBytes)],
+) -> Result<Listed<(OsBytes, OsBytes)>, AllocError>
+    ensures { IfOk result (λ pairs. pairs ≡ compile_env_of env.now) }
+{
+    variables_have_one_order();
+    compile_env(alloc, env)
+}
