@@ -9,6 +9,7 @@ use rustc_options::kind::ArgKind;
 use rustc_options::sets::{between_commas, in_order, joined_by_commas};
 use rustc_options::splitting::{maybe_with_equals, split_at_equals, with_equals};
 use std::alloc::{AllocError, Global};
+use std::process::Abort;
 use std::test::Fail;
 
 /// The value of an option of that kind.
@@ -114,9 +115,25 @@ fn listed(alloc: Global, words: &Listed<OsBytes>) -> Result<String, AllocError> 
     Ok(text)
 }
 
+/// A word is cut at its commas into these words, which are so in order, each once.
+fn is_cut(
+    rt: &impl Abort,
+    alloc: Global,
+    word: &str,
+    between: &str,
+    ordered: &str,
+) -> Result<(), Fail> {
+    let words = between_commas(alloc, word.as_bytes())?;
+    assert_eq!(rt; listed(alloc, &words)?.as_str(), between, "{word}");
+    let joined = joined_by_commas(alloc, words.as_slice())?;
+    assert_eq!(rt; joined.as_bytes(), word.as_bytes());
+    let set = in_order(alloc, words)?;
+    assert_eq!(rt; listed(alloc, &set)?.as_str(), ordered, "{word}");
+    Ok(())
+}
+
 #[test]
 fn words_between_commas(rt: HostRuntime) -> Result<(), Fail> {
-    let alloc = rt.alloc();
     for (word, between, ordered) in [
         ("b,a,b", "b|a|b|", "a|b|"),
         ("a", "a|", "a|"),
@@ -125,20 +142,31 @@ fn words_between_commas(rt: HostRuntime) -> Result<(), Fail> {
         (",,", "|||", "|"),
         ("ab,a,B", "ab|a|B|", "B|a|ab|"),
     ] {
-        let words = between_commas(alloc, word.as_bytes())?;
-        assert_eq!(rt; listed(alloc, &words)?.as_str(), between, "{word}");
-        let joined = joined_by_commas(alloc, words.as_slice())?;
-        assert_eq!(rt; joined.as_bytes(), word.as_bytes());
-        let set = in_order(alloc, words)?;
-        assert_eq!(rt; listed(alloc, &set)?.as_str(), ordered, "{word}");
+        is_cut(&rt, rt.alloc(), word, between, ordered)?;
     }
-    assert!(rt; joined_by_commas(alloc, &[])?.as_bytes().is_empty());
+    assert!(rt; joined_by_commas(rt.alloc(), &[])?.as_bytes().is_empty());
+    Ok(())
+}
+
+/// A word is cut at its first equals sign, where it has one, and is made of its halves again.
+fn is_halved(
+    rt: &impl Abort,
+    alloc: Global,
+    word: &str,
+    front: &str,
+    back: Option<&str>,
+) -> Result<(), Fail> {
+    let (before, behind) = split_at_equals(OsBytes::from_slice(alloc, word.as_bytes())?)?;
+    assert_eq!(rt; before.as_bytes(), front.as_bytes(), "{word}");
+    let found = behind.as_ref().map(OsBytes::as_bytes);
+    assert_eq!(rt; found, back.map(str::as_bytes), "{word}");
+    let again = maybe_with_equals(alloc, before.as_bytes(), &behind)?;
+    assert_eq!(rt; again.as_bytes(), word.as_bytes());
     Ok(())
 }
 
 #[test]
 fn words_around_equals(rt: HostRuntime) -> Result<(), Fail> {
-    let alloc = rt.alloc();
     for (word, front, back) in [
         ("a=b=c", "a", Some("b=c")),
         ("a=", "a", Some("")),
@@ -146,14 +174,9 @@ fn words_around_equals(rt: HostRuntime) -> Result<(), Fail> {
         ("a", "a", None),
         ("", "", None),
     ] {
-        let (before, behind) = split_at_equals(OsBytes::from_slice(alloc, word.as_bytes())?)?;
-        assert_eq!(rt; before.as_bytes(), front.as_bytes(), "{word}");
-        let found = behind.as_ref().map(OsBytes::as_bytes);
-        assert_eq!(rt; found, back.map(str::as_bytes), "{word}");
-        let again = maybe_with_equals(alloc, before.as_bytes(), &behind)?;
-        assert_eq!(rt; again.as_bytes(), word.as_bytes());
+        is_halved(&rt, rt.alloc(), word, front, back)?;
     }
-    let joined = with_equals(alloc, b"a", b"b")?;
+    let joined = with_equals(rt.alloc(), b"a", b"b")?;
     assert_eq!(rt; joined.as_bytes(), b"a=b".as_slice());
     Ok(())
 }

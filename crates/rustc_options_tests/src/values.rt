@@ -195,11 +195,17 @@ fn refuse(_path: &[u8]) -> Option<String> {
 #[test]
 fn a_refused_path_has_no_text(rt: HostRuntime) -> Result<(), Fail> {
     let alloc = rt.alloc();
-    let path = value::<ArgTarget>(alloc, "t.json")?;
     let failed = ArgToStringError::FailedPathTransform(word(alloc, "t.json")?);
+    let path = value::<ArgTarget>(alloc, "t.json")?;
     assert!(rt; path.into_arg_string(alloc, &mut refuse) == Err(failed));
-    let name = value::<ArgTarget>(alloc, "t")?;
+    Ok(())
+}
+
+#[test]
+fn a_name_is_no_path_that_is_refused(rt: HostRuntime) -> Result<(), Fail> {
+    let alloc = rt.alloc();
     let text = String::from_str(alloc, "t")?;
+    let name = value::<ArgTarget>(alloc, "t")?;
     assert!(rt; name.into_arg_string(alloc, &mut refuse) == Ok(text));
     Ok(())
 }
@@ -215,7 +221,7 @@ fn an_extern_has_a_path(rt: HostRuntime) -> Result<(), Fail> {
 }
 
 #[test]
-fn words_are_cut_at_the_first_equals(rt: HostRuntime) -> Result<(), Fail> {
+fn options_are_cut_at_the_first_equals(rt: HostRuntime) -> Result<(), Fail> {
     let alloc = rt.alloc();
     let option = ArgOption {
         opt: word(alloc, "a")?,
@@ -223,16 +229,26 @@ fn words_are_cut_at_the_first_equals(rt: HostRuntime) -> Result<(), Fail> {
     };
     assert!(rt; value::<ArgOption>(alloc, "a=b=c")? == option);
     assert!(rt; option.clone()? == option);
-    let library = ArgLinkLibrary {
-        kind: word(alloc, "a")?,
-        name: word(alloc, "b=c")?,
-    };
+    Ok(())
+}
+
+#[test]
+fn libraries_are_cut_at_the_first_equals(rt: HostRuntime) -> Result<(), Fail> {
+    let alloc = rt.alloc();
+    let kind = word(alloc, "a")?;
+    let name = word(alloc, "b=c")?;
+    let library = ArgLinkLibrary { kind, name };
     assert!(rt; value::<ArgLinkLibrary>(alloc, "a=b=c")? == library);
     assert!(rt; library.clone()? == library);
-    let folder = ArgLinkPath {
-        kind: word(alloc, "a")?,
-        path: word(alloc, "b=c")?,
-    };
+    Ok(())
+}
+
+#[test]
+fn folders_are_cut_at_the_first_equals(rt: HostRuntime) -> Result<(), Fail> {
+    let alloc = rt.alloc();
+    let kind = word(alloc, "a")?;
+    let path = word(alloc, "b=c")?;
+    let folder = ArgLinkPath { kind, path };
     assert!(rt; value::<ArgLinkPath>(alloc, "a=b=c")? == folder);
     assert!(rt; folder.clone()? == folder);
     Ok(())

@@ -72,7 +72,10 @@ impl<K: Eq + Hash + Drop, V: Drop> Store<K, V> for MapStore<K, V> {
 
     fn get(&mut self, key: &K) -> Option<&V>
         // It changes nothing, whatever was refused or dropped before.
-        ensures* after_borrow { sem 𝓛 (Rests (the_row K.row V.row K.PartialEq (record { hash_input = K.hash_input })) self.entry (λ new. Asks (shelf_of K.eq self.old) (shelf_of K.eq new) key.now (option_copied result) × (new ≡ self.old))) }
+        ensures* after_borrow { sem 𝓛 (Rests
+            (the_row K.row V.row K.PartialEq (record { hash_input = K.hash_input })) self.entry
+            (λ new. Asks (shelf_of K.eq self.old) (shelf_of K.eq new) key.now (option_copied result)
+            × (new ≡ self.old))) }
     {
         self.map.get(key)
     }
