@@ -1,10 +1,9 @@
 -- What is read of an entry's fields was written, and what was written is read.
-use Rattle.std.proofs.Common.{◌≡◌, ℕ, suc, ◌==◌, Bool, true, false, [], ◌∷◌, ◌++◌, Option, None, Some, refl, sym, ap, subst, ◌∙◌, if◌then◌else◌}
+use Rattle.std.proofs.Common.{◌≡◌, ℕ, suc, ◌==◌, Bool, true, false, [], ◌∷◌, ◌++◌, Option, Some, refl, sym, ap, subst, ◌∙◌, if◌then◌else◌}
 use Rattle.std.proofs.lemmas.Bool.{eqb-true}
 use Rattle.os_files.specs.Bytes.{Bytes}
 use Rattle.byte_formats.specs.FieldFormats.{bind_some, both_format, counted_format, framed_format, made_format, number_format, optional_format, some_is}
 use Rattle.byte_formats.specs.Formats.{IsBytes, IsFormat, Takes}
-use Rattle.byte_formats.specs.Reading.{Read, ◌>>=◌}
 use Rattle.cmdlines_tables.specs.declared.language.Language.{Language}
 use Rattle.cmdlines_tables.specs.declared.language.Language.TheVariants.{C, Cxx, CPreprocessed, CxxPreprocessed, Assembler, AssemblerToPreprocess, Rust}
 use Rattle.kept_entries.specs.Codes.{coded, coded_at, flag_code, flag_of, language_code, language_of}

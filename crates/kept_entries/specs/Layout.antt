@@ -1,5 +1,5 @@
 -- The bytes of an entry.
-use Rattle.std.specs.Prelude.{◌≡◌, ℕ, Bool, ◌==◌, ◌++◌, List, length, Option, None, Some, if◌then◌else◌}
+use Rattle.std.specs.Prelude.{ℕ, Bool, ◌==◌, ◌++◌, List, length, Option, None, Some, if◌then◌else◌}
 use Rattle.os_files.specs.Bytes.{Bytes}
 use Rattle.byte_formats.specs.Reading.{Read, ◌>>=◌, both_at, counted_at, framed_at, made_at, number_at, optional_at}
 use Rattle.byte_formats.specs.Spelling.{BothFit, CountFits, FitsFrame, FitsNumber, IfFits, both, counted, framed, number, optional}

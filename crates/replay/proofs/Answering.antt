@@ -1,11 +1,11 @@
 -- A recorded answer is what a replaying tool means.
-use Rattle.std.proofs.Common.{◌≡◌, Bool, true, ◌&&◌, List, [], ◌∷◌, Option, None, Some, refl, sym, ap, subst, ◌∙◌, if◌then◌else◌}
+use Rattle.std.proofs.Common.{◌≡◌, Bool, true, ◌&&◌, List, [], ◌∷◌, Option, Some, refl, sym, ap, ◌∙◌, if◌then◌else◌}
 use Rattle.std.proofs.lemmas.Bool.{and_from}
 use Rattle.os_files.specs.Bytes.{Bytes}
 use Rattle.cmdlines.specs.Parsing.{Artifacts}
 use Rattle.cmdlines_tables.specs.Tables.{reading_of}
 use Rattle.cmdlines_tables.specs.declared.compiler.CCompilerKind.{CCompilerKind}
-use Rattle.ckeys.specs.Meaning.{Asked, Made, asked_of, made_of, names_of}
+use Rattle.ckeys.specs.Meaning.{Made, asked_of, made_of, names_of}
 use Rattle.ckeys.specs.declared.preprocessor.Printed.{Printed}
 use Rattle.wrap_base.specs.declared.tool.Compiled.{Compiled}
 use Rattle.replay.specs.Recorded.{made_for, made_in, printed_for, printed_in, same_outputs, unmade}

@@ -1,5 +1,5 @@
 -- Two tools are asked the same exactly where it's one question.
-use Rattle.std.proofs.Common.{◌≡◌, ℕ, Bool, true, false, ◌&&◌, ◌==◌, List, [], ◌∷◌, Option, None, Some, refl, ap}
+use Rattle.std.proofs.Common.{◌≡◌, ℕ, Bool, true, false, ◌&&◌, List, [], ◌∷◌, Option, None, Some, refl, ap}
 use Rattle.std.specs.Cmp.Lexicographic.{pointwise}
 use Rattle.std.specs.Prelude.{nat_eq}
 use Rattle.std.specs.Str.{bytes_eq}
@@ -13,7 +13,7 @@ use Rattle.cmdlines_tables.specs.contracts.kind.ArgKind.{the_type}
 use Rattle.cmdlines_tables.specs.declared.kind.ArgKind.{ArgKind}
 use Rattle.ckeys.specs.Meaning.{Asked, options, words, archive}
 use Rattle.ckeys.specs.declared.output_name.OutputName.{OutputName}
-use Rattle.replay.specs.SameAsked.{same_kind, same_delimiter, same_way, same_item, same_list, same_flag, same_reading, same_asked, same_name}
+use Rattle.replay.specs.SameAsked.{same_kind, same_delimiter, same_way, same_item, same_list, same_flag, same_asked, same_name}
 use denote.Enum.Bare.{same_true, true_same}
 
 bytes_is : (v w : Bytes) → bytes_eq v w ≡ true → v ≡ w

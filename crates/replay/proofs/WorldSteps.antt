@@ -1,5 +1,5 @@
 -- From the recorded answers to a world that gives them.
-use Rattle.std.proofs.Common.{◌≡◌, ℕ, ℤ, pos, Bool, true, false, ◌&&◌, List, [], ◌∷◌, ◌++◌, Option, None, Some, Result, Ok, Err, ◌⊎◌, inl, inr, ◌↔◌, refl, sym, ap, subst, ◌∙◌, if◌then◌else◌}
+use Rattle.std.proofs.Common.{◌≡◌, ℕ, ℤ, pos, Bool, true, false, ◌&&◌, List, [], ◌∷◌, ◌++◌, Option, None, Some, Result, Ok, Err, ◌⊎◌, inl, inr, ◌↔◌, refl, sym, ap, ◌∙◌, if◌then◌else◌}
 use Rattle.std.specs.List.{Contains}
 use Rattle.std.specs.Ordering.{int_eq}
 use Rattle.std.proofs.lemmas.Bool.{and_parts}
@@ -7,9 +7,6 @@ use Rattle.std.proofs.lemmas.Bool.Decides.{Decides-int_eq}
 use Rattle.std.proofs.lemmas.List.Elements.{Contains-append_left, Contains-push}
 use Rattle.os_files.specs.Bytes.{Bytes}
 use Rattle.os_files.specs.Tree.{Tree}
-use Rattle.ckeys_base.specs.FolderPlaces.{text_places}
-use Rattle.ckeys_base.specs.FromTheLeft.{stripped_of}
-use Rattle.ckeys_base.specs.Shelf.{Shelf}
 use Rattle.cmdlines.specs.Commands.{compile_words, output_path, preprocess_words}
 use Rattle.ckeys.specs.Calls.{KeyCall, PrintedCall, extra_paths, input_path, key_fault_by, missing_input, needs_preprocessing, or_else, preprocess_fault_of, printed_call, printed_of, read_fault_of, record_by, record_with, text_by, text_in}
 use Rattle.include_records.specs.Surroundings.{contents_in}
@@ -19,23 +16,20 @@ use Rattle.ckeys.specs.EntryTurns.{IsSpared}
 use Rattle.ckeys.specs.Folders.{Settings}
 use Rattle.ckeys.specs.Keys.{AreDistinct, IsHashedFor, key_of, record_shape}
 use Rattle.ckeys.specs.Meaning.{Asked, Made, Meaning, Scene, asked_of, names_of}
-use Rattle.ckeys.specs.Records.{AreTold, CRecord}
+use Rattle.ckeys.specs.Records.{AreTold}
 use Rattle.ckeys.specs.declared.fault.Fault.{Fault}
 use Rattle.ckeys.specs.declared.fault.Fault.TheVariants.{Memory, Read, Tool, PreprocessFailed, CompileFailed, MissingOutput, NoRule, AnswerNotUtf8, BadDigest}
 use Rattle.ckeys.specs.declared.output_name.OutputName.{OutputName}
 use Rattle.ckeys.specs.declared.step.Step.{Step}
 use Rattle.ckeys.specs.declared.step.Step.TheVariants.{Preprocess, Compile}
-use Rattle.wrap.specs.Account.{Account, passed, worked, Work, Pairs, IsSuccess, account_by, call_at, collected, direct_at, scene_at, work_at}
+use Rattle.wrap.specs.Account.{Account, passed, worked, Work, Pairs, IsSuccess, account_by, call_at, collected, scene_at, work_at}
 use Rattle.wrap.specs.Answers.{Answers, GoesOn, GoesOnWith, SaysBy}
-use Rattle.wrap.specs.Asking.{AskedTurn, MatchesFor, RecordsAreTrue, Shelves, TrueFor, WorkKeyFrom}
+use Rattle.wrap.specs.Asking.{AskedTurn, MatchesFor, RecordsAreTrue, Shelves, WorkKeyFrom}
 use Rattle.wrap.specs.StoreKeys.{HasRecord, Invariant, IsHashedIn, IsOf, Premises, SameRecord, store_key_of, store_key_with}
-use Rattle.wrap.specs.Turn.{IsOwn}
 use Rattle.wrap.specs.Verdicts.{Decision, passes, asks}
 use Rattle.wrap_base.specs.declared.answer.Answer.{Answer}
 use Rattle.wrap_base.specs.declared.answer.Answer.TheVariants.{Pass, Outputs}
-use Rattle.wrap_base.specs.declared.answer.How.{How}
 use Rattle.wrap_base.specs.declared.answer.How.TheVariants.{Direct, Stored, Fresh}
-use Rattle.wrap_base.specs.declared.answer.Output.{Output}
 use Rattle.wrap_base.specs.declared.request.Request.{Request}
 use Rattle.wrap_base.specs.declared.store_key.Family.TheVariants.{C}
 use Rattle.wrap_base.specs.declared.store_key.StoreKey.{StoreKey}

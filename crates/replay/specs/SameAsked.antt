@@ -1,13 +1,12 @@
 -- When two tools are asked the same.
 use Rattle.std.specs.Prelude.{ℕ, Bool, true, false, ◌&&◌, ◌==◌, List, [], ◌∷◌, Option, None, Some}
 use Rattle.std.specs.Str.{bytes_eq}
-use Rattle.os_files.specs.Bytes.{Bytes}
 use Rattle.cmdlines_base.specs.Reading.{Item, raw, unknown, flag, valued, behind_dashes, Reading}
 use Rattle.cmdlines_base.specs.declared.argument.ArgDisposition.{ArgDisposition}
 use Rattle.cmdlines_base.specs.declared.argument.ArgDisposition.TheVariants.{Separated, CanBeConcatenated, CanBeSeparated, Concatenated}
 use Rattle.cmdlines_tables.specs.contracts.kind.ArgKind.{the_type}
 use Rattle.cmdlines_tables.specs.declared.kind.ArgKind.{ArgKind}
-use Rattle.ckeys.specs.Meaning.{Asked, options, words, archive}
+use Rattle.ckeys.specs.Meaning.{Asked, options}
 use Rattle.ckeys.specs.declared.output_name.OutputName.{OutputName}
 use denote.Enum.Bare.{sameb}
 

@@ -1,7 +1,4 @@
-use Rattle.os_files.specs.Fails.{FailsOn}
-use Rattle.ckeys.specs.Meaning.{FailsIn}
 use Rattle.wrap_base.specs.Commands.{kind_of, words_at}
-use Rattle.wrap.specs.Asking.{shelves_of}
 use Rattle.wrap.specs.Verdicts.{verdict_of}
 use Rattle.replay.proofs.WorldSteps.{answers_by, grows_by}
 use Rattle.replay.proofs.replayed.replayed.Goals as goal
