@@ -20,36 +20,6 @@ fn value(alloc: Global, kind: ArgKind, word: &str) -> Result<ArgData, Fail> {
     }
 }
 
-/// Each kind with a word, and the word that its value prints.
-const WORDS: [(ArgKind, &str, &str); 15] = [
-    (ArgKind::TooHardPath, "/s", "/s"),
-    (ArgKind::NotCompilation, "E1", "E1"),
-    (ArgKind::LinkLibrary, "bar", "dylib=bar"),
-    (ArgKind::LinkPath, "p", "all=p"),
-    (ArgKind::Emit, "link,asm", "link,asm"),
-    (ArgKind::Extern, "a=b", "a=b"),
-    (ArgKind::Color, "always", "always"),
-    (ArgKind::Json, "artifacts", "artifacts"),
-    (ArgKind::CrateName, "foo", "foo"),
-    (ArgKind::CrateType, "staticlib,lib", "rlib,staticlib"),
-    (ArgKind::OutDir, "out", "out"),
-    (ArgKind::CodeGen, "debug", "debug"),
-    (ArgKind::PassThrough, "a=b", "a=b"),
-    (ArgKind::Target, "x", "x"),
-    (ArgKind::Unstable, "a=b", "a=b"),
-];
-
-#[test]
-fn values_print_their_words(rt: HostRuntime) -> Result<(), Fail> {
-    let alloc = rt.alloc();
-    for (kind, word, want) in WORDS {
-        let value = value(alloc, kind, word)?;
-        let printed = value.into_arg_os_string(alloc)?;
-        assert_eq!(rt; printed.as_bytes(), want.as_bytes(), "{kind:?}");
-    }
-    Ok(())
-}
-
 fn elsewhere(alloc: Global) -> Option<String> {
     String::from_str(alloc, "/there").ok()
 }

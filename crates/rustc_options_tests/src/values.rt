@@ -68,50 +68,6 @@ fn each_reads<T: FromArg + IntoArg>(
 }
 
 #[test]
-fn options_print_what_was_read(rt: HostRuntime) -> Result<(), Fail> {
-    words_are_printed_again();
-    words_in_order_are_a_set();
-    let alloc = rt.alloc();
-    let codegen = [
-        ("opt-level=1", "opt-level=1"),
-        ("debug", "debug"),
-        ("incremental=a=b", "incremental=a=b"),
-        ("opt=", "opt="),
-        ("=v", "=v"),
-        ("", ""),
-    ];
-    each_prints::<ArgCodegen>(&rt, alloc, &codegen)?;
-    each_reads::<ArgCodegen>(&rt, alloc, &codegen)?;
-    let unstable = [("profile=y", "profile=y"), ("profile", "profile")];
-    each_prints::<ArgUnstable>(&rt, alloc, &unstable)?;
-    each_reads::<ArgUnstable>(&rt, alloc, &unstable)
-}
-
-#[test]
-fn libraries_print_the_kind_that_is_meant(rt: HostRuntime) -> Result<(), Fail> {
-    let rows = [
-        ("bar", "dylib=bar"),
-        ("static=x", "static=x"),
-        ("a=b=c", "a=b=c"),
-        ("=x", "=x"),
-        ("", "dylib="),
-    ];
-    each_prints::<ArgLinkLibrary>(&rt, rt.alloc(), &rows)?;
-    each_reads::<ArgLinkLibrary>(&rt, rt.alloc(), &rows)
-}
-
-#[test]
-fn folders_print_the_kind_that_is_meant(rt: HostRuntime) -> Result<(), Fail> {
-    let rows = [
-        ("p", "all=p"),
-        ("native=/o/p", "native=/o/p"),
-        ("a=b=c", "a=b=c"),
-        ("", "all="),
-    ];
-    each_prints::<ArgLinkPath>(&rt, rt.alloc(), &rows)
-}
-
-#[test]
 fn crate_types_are_printed_in_order(rt: HostRuntime) -> Result<(), Fail> {
     let rows = [
         ("lib", "rlib"),
@@ -125,14 +81,6 @@ fn crate_types_are_printed_in_order(rt: HostRuntime) -> Result<(), Fail> {
     ];
     each_prints::<ArgCrateTypes>(&rt, rt.alloc(), &rows)?;
     each_reads::<ArgCrateTypes>(&rt, rt.alloc(), &rows)
-}
-
-#[test]
-fn externs_and_targets_print_what_was_read(rt: HostRuntime) -> Result<(), Fail> {
-    let externs = [("a=b=c", "a=b=c"), ("a=", "a="), ("priv:a=b", "priv:a=b")];
-    each_prints::<ArgExtern>(&rt, rt.alloc(), &externs)?;
-    let targets = [("x", "x"), ("t.json", "t.json"), ("a/b", "a/b"), ("", "")];
-    each_prints::<ArgTarget>(&rt, rt.alloc(), &targets)
 }
 
 /// A target's path is moved, its name isn't.
@@ -176,6 +124,8 @@ fn text_in_place<T: FromArg + IntoArg>(alloc: Global, word: &str) -> Result<Stri
 
 #[test]
 fn where_paths_stay_texts_are_words(rt: HostRuntime) -> Result<(), Fail> {
+    words_are_printed_again();
+    words_in_order_are_a_set();
     let alloc = rt.alloc();
     for word in ["native=/o/p", "a=b=c"] {
         assert_eq!(rt; text_in_place::<ArgLinkPath>(alloc, word)?.as_str(), word);
@@ -265,23 +215,6 @@ fn externs_are_a_name_and_a_path(rt: HostRuntime) -> Result<(), Fail> {
     assert!(rt; named.clone()? == named);
     let bare = value::<ArgOption>(alloc, "a")?;
     assert!(rt; bare.value.is_none());
-    Ok(())
-}
-
-#[test]
-fn the_extension_makes_a_target_a_path(rt: HostRuntime) -> Result<(), Fail> {
-    let alloc = rt.alloc();
-    for text in ["t.json", "a/t.json", "/t.json", "a.b.json", "..json"] {
-        let path = ArgTarget::Path(word(alloc, text)?);
-        assert!(rt; value::<ArgTarget>(alloc, text)? == path, "{text}");
-        assert!(rt; path.clone()? == path);
-    }
-    for text in [
-        "x", "", "json", ".json", "a/.json", "t.JSON", "t.json5", "t.json.x",
-    ] {
-        let name = ArgTarget::Name(word(alloc, text)?);
-        assert!(rt; value::<ArgTarget>(alloc, text)? == name, "{text}");
-    }
     Ok(())
 }
 
