@@ -1,5 +1,4 @@
 pub mod Verdicts
-pub mod CallRecords
 pub mod Account
 pub mod StoreKeys
 pub mod SameCalls
