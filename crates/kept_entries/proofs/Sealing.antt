@@ -8,7 +8,7 @@ use Rattle.os_files.specs.Bytes.{Bytes}
 use Rattle.byte_formats.specs.FieldFormats.{bind_some, if_some, some_is}
 use Rattle.byte_formats.specs.Formats.{IsBytes}
 use Rattle.kept_entries.specs.EntryFormats.{contents_format}
-use Rattle.kept_entries.specs.Layout.{EntryFits, contents_at, contents_bytes, entry_bytes, whole_at}
+use Rattle.kept_entries.specs.Layout.{EntryFits, contents_at, contents_bytes, entry_bytes, fields_at, layout_version, versioned_bytes, whole_at}
 use Rattle.kept_entries.specs.declared.entry.KeptEntry.{KeptEntry}
 
 front_is_bytes : (n : ℕ) (bytes : Bytes) → IsBytes bytes → IsBytes (take n bytes)
@@ -41,15 +41,15 @@ told xs ys t is h same =
     let no_test : true ≡ false = sym h ∙ is ∙ not_from_true (pointwise nat_eq xs ys) alike in
     cc
 
--- the contents are put, and then their digest
-pub put_sealed : (digest_of : Bytes → Bytes) (contents start put lent digest end whole : Bytes) → start ≡ [] → put ≡ start ++ contents → lent ≡ put → digest ≡ digest_of lent → end ≡ digest → whole ≡ put ++ end → whole ≡ contents ++ digest_of contents
-put_sealed digest_of contents start put lent digest end whole none added lends is ends all =
-    let p : put ≡ contents = added ∙ ap (λ (s : Bytes). s ++ contents) none in
-    all ∙ ap (λ (x : Bytes). put ++ x) (ends ∙ is ∙ ap digest_of (lends ∙ p)) ∙ ap (λ (x : Bytes). x ++ digest_of contents) p
+-- the version and the contents are put, and then their digest
+pub put_sealed : (digest_of : Bytes → Bytes) (contents start begun put lent digest end whole : Bytes) → start ≡ [] → begun ≡ start ++ layout_version ∷ [] → put ≡ begun ++ contents → lent ≡ put → digest ≡ digest_of lent → end ≡ digest → whole ≡ put ++ end → whole ≡ (layout_version ∷ contents) ++ digest_of (layout_version ∷ contents)
+put_sealed digest_of contents start begun put lent digest end whole none first added lends is ends all =
+    let p : put ≡ layout_version ∷ contents = added ∙ ap (λ (s : Bytes). s ++ contents) (first ∙ ap (λ (s : Bytes). s ++ layout_version ∷ []) none) in
+    all ∙ ap (λ (x : Bytes). put ++ x) (ends ∙ is ∙ ap digest_of (lends ∙ p)) ∙ ap (λ (x : Bytes). x ++ digest_of (layout_version ∷ contents)) p
 
-pub whole_takes : (bytes : Bytes) (e : KeptEntry) → IsBytes bytes → whole_at bytes ≡ Some e → EntryFits e × (bytes ≡ contents_bytes e)
-unfolding whole_at
-whole_takes bytes e fits h =
+fields_takes : (bytes : Bytes) (e : KeptEntry) → IsBytes bytes → fields_at bytes ≡ Some e → EntryFits e × (bytes ≡ contents_bytes e)
+unfolding fields_at
+fields_takes bytes e fits h =
     let b = bind_some (contents_at bytes) (λ r. cond (eqb (length r.1) 0) (Some r.0) None) e h in
     let g = if_some (eqb (length b.0.1) 0) (Some b.0.0) e b.2 in
     let t = contents_format.takes bytes b.0 fits b.1 in
@@ -57,11 +57,24 @@ whole_takes bytes e fits h =
     let whole : bytes ≡ contents_bytes b.0.0 = t.0.parts ∙ ap (λ (r : Bytes). contents_bytes b.0.0 ++ r) none ∙ append-nil (contents_bytes b.0.0) in
     subst (λ (v : KeptEntry). EntryFits v × (bytes ≡ contents_bytes v)) (some_is b.0.0 e g.1) (t.1, whole)
 
-pub whole_again : (e : KeptEntry) → EntryFits e → whole_at (contents_bytes e) ≡ Some e
-unfolding whole_at
-whole_again e fits =
+fields_again : (e : KeptEntry) → EntryFits e → fields_at (contents_bytes e) ≡ Some e
+unfolding fields_at
+fields_again e fits =
     let read : contents_at (contents_bytes e) ≡ Some (e, []) = ap contents_at (sym (append-nil (contents_bytes e))) ∙ contents_format.again e [] fits in
     rw read refl
+
+pub whole_takes : (bytes : Bytes) (e : KeptEntry) → IsBytes bytes → whole_at bytes ≡ Some e → EntryFits e × (bytes ≡ versioned_bytes e)
+unfolding whole_at
+whole_takes [] e fits h = absurd cc
+whole_takes (b ∷ bytes) e fits h =
+    let g = if_some (eqb b layout_version) (fields_at bytes) e h in
+    let t = fields_takes bytes e (λ i. fits (suc i)) g.1 in
+    let first : b ≡ layout_version = eqb-true _ _ g.0 in
+    (t.0, λ i. first i ∷ t.1 i)
+
+pub whole_again : (e : KeptEntry) → EntryFits e → whole_at (versioned_bytes e) ≡ Some e
+unfolding whole_at
+whole_again e fits = fields_again e fits
 
 module _ (digest_of : Bytes → Bytes) (len : ℕ) (digests : (bytes : Bytes) → length (digest_of bytes) ≡ len) (bytes front end : Bytes) (n : ℕ) (at : n + len ≡ length bytes) (front_is : front ≡ take n bytes) (end_is : end ≡ drop n bytes) where
   -- bytes that end with the digest of an entry's contents are its bytes
@@ -72,11 +85,11 @@ module _ (digest_of : Bytes → Bytes) (len : ℕ) (digests : (bytes : Bytes) �
       (t.0, parts ∙ ap (λ (x : Bytes). front ++ x) (sym same) ∙ ap (λ (x : Bytes). x ++ digest_of x) t.1)
 
   -- an entry's bytes are its contents and their digest
-  pub unsealed : (e : KeptEntry) → bytes ≡ entry_bytes digest_of e → (front ≡ contents_bytes e) × (end ≡ digest_of front)
+  pub unsealed : (e : KeptEntry) → bytes ≡ entry_bytes digest_of e → (front ≡ versioned_bytes e) × (end ≡ digest_of front)
   unsealed e is =
-      let long : n ≡ length (contents_bytes e) = omega (arith, at, ap length is, length-append (contents_bytes e) (digest_of (contents_bytes e)), digests (contents_bytes e)) in
-      let first : front ≡ contents_bytes e = front_is ∙ ap (take n) is ∙ take_at (contents_bytes e) (digest_of (contents_bytes e)) n (sym long) in
-      (first, end_is ∙ ap (drop n) is ∙ drop_at (contents_bytes e) (digest_of (contents_bytes e)) n (sym long) ∙ ap digest_of (sym first))
+      let long : n ≡ length (versioned_bytes e) = omega (arith, at, ap length is, length-append (versioned_bytes e) (digest_of (versioned_bytes e)), digests (versioned_bytes e)) in
+      let first : front ≡ versioned_bytes e = front_is ∙ ap (take n) is ∙ take_at (versioned_bytes e) (digest_of (versioned_bytes e)) n (sym long) in
+      (first, end_is ∙ ap (drop n) is ∙ drop_at (versioned_bytes e) (digest_of (versioned_bytes e)) n (sym long) ∙ ap digest_of (sym first))
 
   pub only_this : (e found : KeptEntry) → EntryFits e → bytes ≡ entry_bytes digest_of e → whole_at front ≡ Some found → found ≡ e
   only_this e found fits is h = some_is found e (sym h ∙ ap whole_at (unsealed e is).0 ∙ whole_again e fits)

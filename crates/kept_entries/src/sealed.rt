@@ -2,7 +2,7 @@
 
 ghost use Rattle.std.specs.Prelude.{◌≡◌, IfOk, IfSome, OnOk, Some};
 ghost use Rattle.byte_formats.specs.Reading.{Gives};
-ghost use Rattle.kept_entries.specs.Layout.{EntryFits, contents_bytes, entry_bytes, whole_at};
+ghost use Rattle.kept_entries.specs.Layout.{EntryFits, entry_bytes, fields_at, whole_at};
 ghost use Rattle.kept_entries.specs.declared.entry.KeptEntry.{KeptEntry};
 
 use crate::entry::KeptEntry;
@@ -10,6 +10,9 @@ use byte_formats::fault::ReadFault;
 use byte_formats::field::Field;
 use ckeys_base::hash_state::HashState;
 use std::alloc::{AllocError, Global};
+
+/// The version of the layout, which each entry begins with.
+const VERSION: u8 = 1;
 
 /// The digest of these bytes.
 fn digest_of<H: HashState>(alloc: Global, bytes: &[u8]) -> Result<Vec<u8>, AllocError>
@@ -20,12 +23,13 @@ fn digest_of<H: HashState>(alloc: Global, bytes: &[u8]) -> Result<Vec<u8>, Alloc
     state.digest(alloc)
 }
 
-/// The bytes of an entry: its fields, and the digest of these.
+/// The bytes of an entry: the version of their layout, its fields, and the digest of these.
 pub fn entry_bytes<H: HashState>(alloc: Global, entry: &KeptEntry) -> Result<Vec<u8>, AllocError>
     ensures bytes { IfOk result (λ bytes. bytes.items ≡ entry_bytes H.digest_of entry.now) }
     ensures fits { OnOk result (EntryFits entry.now) }
 {
     let mut bytes = Vec::new(alloc);
+    bytes.push(VERSION)?;
     entry.put(&mut bytes)?;
     let digest = digest_of::<H>(alloc, &bytes)?;
     bytes.extend_from_slice(&digest)?;
@@ -33,9 +37,9 @@ pub fn entry_bytes<H: HashState>(alloc: Global, entry: &KeptEntry) -> Result<Vec
 }
 
 /// The entry whose fields these bytes are.
-#[tactic(auto, unfolding(crate::specs::Layout::whole_at))]
-fn read_whole(alloc: Global, bytes: &[u8]) -> Result<KeptEntry, ReadFault>
-    ensures { Gives (λ entry. entry) result (whole_at bytes.now) }
+#[tactic(auto, unfolding(crate::specs::Layout::fields_at))]
+fn read_fields(alloc: Global, bytes: &[u8]) -> Result<KeptEntry, ReadFault>
+    ensures { Gives (λ entry. entry) result (fields_at bytes.now) }
 {
     let (entry, rest) = KeptEntry::read(alloc, bytes)?;
     if !rest.is_empty() {
@@ -44,7 +48,22 @@ fn read_whole(alloc: Global, bytes: &[u8]) -> Result<KeptEntry, ReadFault>
     Ok(entry)
 }
 
-/// The entry whose bytes these are. `None` where they are those of none, as where one was cut short or a byte of it was changed.
+/// The entry whose fields stand behind the version in these bytes.
+#[tactic(auto, unfolding(crate::specs::Layout::whole_at))]
+fn read_whole(alloc: Global, bytes: &[u8]) -> Result<KeptEntry, ReadFault>
+    ensures { Gives (λ entry. entry) result (whole_at bytes.now) }
+{
+    let Some((version, rest)) = bytes.split_first() else {
+        return Err(ReadFault::Unfit);
+    };
+    if *version != VERSION {
+        return Err(ReadFault::Unfit);
+    }
+    read_fields(alloc, rest)
+}
+
+/// The entry whose bytes these are. `None` where they are those of none, as where one was cut short, a byte of it was changed or
+/// its layout is of another version.
 pub fn read_entry<H: HashState>(
     alloc: Global,
     bytes: &[u8],
