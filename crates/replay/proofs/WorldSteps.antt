@@ -14,9 +14,7 @@ use Rattle.std.specs.Option.{option_map}
 use Rattle.ckeys.specs.Entries.{Held, has_entry_key}
 use Rattle.ckeys.specs.EntryTurns.{IsSpared}
 use Rattle.ckeys.specs.Folders.{Settings}
-use Rattle.ckeys.specs.Keys.{AreDistinct, IsHashedFor, key_of, record_shape}
 use Rattle.ckeys.specs.Meaning.{Asked, Made, Meaning, Scene, asked_of, names_of}
-use Rattle.ckeys.specs.Records.{AreTold}
 use Rattle.ckeys.specs.declared.fault.Fault.{Fault}
 use Rattle.ckeys.specs.declared.fault.Fault.TheVariants.{Memory, Read, Tool, PreprocessFailed, CompileFailed, MissingOutput, NoRule, AnswerNotUtf8, BadDigest}
 use Rattle.ckeys.specs.declared.output_name.OutputName.{OutputName}
@@ -24,6 +22,7 @@ use Rattle.ckeys.specs.declared.step.Step.{Step}
 use Rattle.ckeys.specs.declared.step.Step.TheVariants.{Preprocess, Compile}
 use Rattle.wrap.specs.Account.{Account, passed, worked, Work, Pairs, IsSuccess, account_by, call_at, collected, scene_at, work_at}
 use Rattle.wrap.specs.Answers.{Answers, GoesOn, GoesOnWith, SaysBy}
+use Rattle.wrap.specs.CallRecords.{AreDistinct, IsHashedFor, IsTold, family_of, key_of, of_c, record_shape}
 use Rattle.wrap.specs.Asking.{AskedTurn, MatchesFor, RecordsAreTrue, Shelves, WorkKeyFrom}
 use Rattle.wrap.specs.StoreKeys.{HasRecord, Invariant, IsHashedIn, IsOf, Premises, SameRecord, store_key_of, store_key_with}
 use Rattle.wrap.specs.Verdicts.{Decision, passes, asks}
@@ -31,7 +30,6 @@ use Rattle.wrap_base.specs.declared.answer.Answer.{Answer}
 use Rattle.wrap_base.specs.declared.answer.Answer.TheVariants.{Pass, Outputs}
 use Rattle.wrap_base.specs.declared.answer.How.TheVariants.{Direct, Stored, Fresh}
 use Rattle.wrap_base.specs.declared.request.Request.{Request}
-use Rattle.wrap_base.specs.declared.store_key.Family.TheVariants.{C}
 use Rattle.wrap_base.specs.declared.store_key.StoreKey.{StoreKey}
 use Rattle.replay.specs.Recorded.{made_for, made_in, printed_for, printed_in, recorded, unmade}
 use Rattle.replay.specs.SameAsked.{same_asked, same_list, same_name}
@@ -157,9 +155,9 @@ matches digest_of told world c held text_key m =
 
 -- keys of outputs tell records
 abbrev pub Tells : (Bytes → Bytes) → Type 0
-Tells digest_of = (one other : Work) → AreTold one.rec.words one.rec.variables → AreTold other.rec.words other.rec.variables → AreDistinct digest_of one.rec other.rec → (store_key_of digest_of one ≡ store_key_of digest_of other) ↔ SameRecord one other
+Tells digest_of = (one other : Work) → IsTold digest_of one.rec → IsTold digest_of other.rec → AreDistinct digest_of one.rec other.rec → (store_key_of digest_of one ≡ store_key_of digest_of other) ↔ SameRecord one other
 
-module _ (digest_of : Bytes → Bytes) (tells : Tells digest_of) (w v : Work) (run : List Account) (here : Contains run (worked w)) (there : Contains run (worked v)) (premises : Premises digest_of run) (fine : HasRecord w) (also : HasRecord v) (told : AreTold w.rec.words w.rec.variables) (told_also : AreTold v.rec.words v.rec.variables) (is_key : store_key_of digest_of w ≡ store_key_of digest_of v) where
+module _ (digest_of : Bytes → Bytes) (tells : Tells digest_of) (w v : Work) (run : List Account) (here : Contains run (worked w)) (there : Contains run (worked v)) (premises : Premises digest_of run) (fine : HasRecord w) (also : HasRecord v) (told : IsTold digest_of w.rec) (told_also : IsTold digest_of v.rec) (is_key : store_key_of digest_of w ≡ store_key_of digest_of v) where
   hashed : (bytes : Bytes) → IsHashedFor digest_of w.rec bytes ⊎ IsHashedFor digest_of v.rec bytes → IsHashedIn digest_of run bytes
   hashed bytes (inl h) = record { call = w; among = here; is = inl (fine, h) }
   hashed bytes (inr h) = record { call = v; among = there; is = inl (also, h) }
@@ -171,7 +169,7 @@ module _ (digest_of : Bytes → Bytes) (tells : Tells digest_of) (w v : Work) (r
       record { succeeded = ap (λ (m : Made). m.status) fresh ∙ s.succeeded; made = (λ i. collected (same.names i) (fresh i).files) ∙ s.made }
 
 -- what is held under a call's key is what its compiler gives afresh
-held_is : (digest_of : Bytes → Bytes) → Tells digest_of → (w : Work) → HasRecord w → AreTold w.rec.words w.rec.variables → (held : StoreKey → Option Pairs) (pairs : Pairs) → held (store_key_of digest_of w) ≡ Some pairs → (earlier : List Account) → Invariant digest_of earlier held → Premises digest_of (earlier ++ worked w ∷ []) → IsSuccess w pairs
+held_is : (digest_of : Bytes → Bytes) → Tells digest_of → (w : Work) → HasRecord w → IsTold digest_of w.rec → (held : StoreKey → Option Pairs) (pairs : Pairs) → held (store_key_of digest_of w) ≡ Some pairs → (earlier : List Account) → Invariant digest_of earlier held → Premises digest_of (earlier ++ worked w ∷ []) → IsSuccess w pairs
 held_is digest_of tells w fine told held pairs h earlier inv premises =
     let it = inv (store_key_of digest_of w) pairs h in
     one_success digest_of tells w it.0 (earlier ++ worked w ∷ []) (Contains-push earlier (worked w)) (Contains-append_left earlier (worked w ∷ []) (worked it.0) it.1) premises fine it.2.0 told it.2.1.told it.2.1.is_key pairs it.2.1.made
@@ -196,7 +194,7 @@ module _ (digest_of : Bytes → Bytes) (text : Option RecordedText) (outputs : O
   by_text : (text_key : Bytes) → text_key ≡ key_of digest_of told_work.rec → told_work.fault ≡ None → IsWorlds text_key
   by_text text_key is_key fine =
       let it = fine_text c (printed_of (recorded text outputs) c) (printed_of world c) (printed_is world c.scene text (asked_of c.kind (preprocess_words c.kind c.parsed)) gives.printed) fine in
-      (it.1, λ i. record { family = C; shape = record_shape digest_of (it.0 i); names = names_of c.parsed.outputs; digest = (is_key ∙ ap (key_of digest_of) it.0) i })
+      (it.1, λ i. record { family = family_of (of_c (it.0 i)); shape = record_shape digest_of (of_c (it.0 i)); names = names_of c.parsed.outputs; digest = (is_key ∙ ap (λ r. key_of digest_of (of_c r)) it.0) i })
 
   spared_at : (o : Option PrintedCall) (p : PrintedCall) → o ≡ Some p → GoesOnWith o told_work.fault → IsSpared told_work.fault
   spared_at None p e goes = cc
@@ -206,7 +204,7 @@ module _ (digest_of : Bytes → Bytes) (text : Option RecordedText) (outputs : O
   by_record text_key m goes are_true =
       let it = are_true text_key (matches digest_of (recorded text outputs) world c held text_key m) in
       let fault = spared c (printed_of (recorded text outputs) c) (printed_of world c) (spared_at told_work.direct m.p m.has goes) in
-      (spared_none world_work.fault fault it.succeeds, λ i. record { family = C; shape = record_shape digest_of world_work.rec; names = names_of c.parsed.outputs; digest = it.is_key i })
+      (spared_none world_work.fault fault it.succeeds, λ i. record { family = family_of world_work.rec; shape = record_shape digest_of world_work.rec; names = names_of c.parsed.outputs; digest = it.is_key i })
 
   key_is : (from : Bool) (text_key : Bytes) → WorkKeyFrom digest_of told_work held from text_key → (from ≡ false → told_work.fault ≡ None) → GoesOn told_work → RecordsAreTrue digest_of (worked world_work) held → IsWorlds text_key
   key_is true text_key is_key fine goes are_true = by_record text_key is_key goes are_true

@@ -5,8 +5,9 @@ ghost use Rattle.std.specs.Option.{option_copied};
 
 use ckeys::output_name::OutputName;
 use ckeys::shape::CShape;
+use rustc_parts::parts::RShape;
 use std::alloc::{AllocError, Global};
-use wrap::{Listed, Pairs, Store, StoreKey};
+use wrap::{Listed, Pairs, Shape, Store, StoreKey};
 
 /// Keeps outputs in another store, and remembers the key of the last look-up.
 #[derive(Drop)]
@@ -27,8 +28,8 @@ fn sizes_again(alloc: Global, sizes: &[usize]) -> Result<Listed<usize>, AllocErr
     Ok(Listed::from_vec(copy))
 }
 
-/// A copy of a shape.
-fn shape_again(alloc: Global, shape: &CShape) -> Result<CShape, AllocError>
+/// A copy of the shape of a C compiler's request.
+fn c_shape_again(alloc: Global, shape: &CShape) -> Result<CShape, AllocError>
     ensures { IfOk result (λ copy. copy ≡ shape.now) }
 {
     Ok(CShape {
@@ -39,6 +40,43 @@ fn shape_again(alloc: Global, shape: &CShape) -> Result<CShape, AllocError>
         assembler_digest: shape.assembler_digest,
         variables: shape.variables,
     })
+}
+
+/// Copies of marks.
+fn marks_again(alloc: Global, marks: &[bool]) -> Result<Listed<bool>, AllocError>
+    ensures { IfOk result (λ copy. copy ≡ marks.now) }
+{
+    let mut copy = Vec::with_capacity(alloc, marks.len())?;
+    for mark in marks {
+        copy.push(*mark)?;
+    }
+    Ok(Listed::from_vec(copy))
+}
+
+/// A copy of the shape of a request to rustc.
+fn rustc_shape_again(alloc: Global, shape: &RShape) -> Result<RShape, AllocError>
+    ensures { IfOk result (λ copy. copy ≡ shape.now) }
+{
+    Ok(RShape {
+        toolchain: shape.toolchain,
+        words: sizes_again(alloc, shape.words.as_slice())?,
+        sources: shape.sources,
+        externs: shape.externs,
+        archives: shape.archives,
+        has_target: shape.has_target,
+        env_deps: marks_again(alloc, shape.env_deps.as_slice())?,
+        variables: shape.variables,
+    })
+}
+
+/// A copy of a shape.
+fn shape_again(alloc: Global, shape: &Shape) -> Result<Shape, AllocError>
+    ensures { IfOk result (λ copy. copy ≡ shape.now) }
+{
+    match shape {
+        Shape::C(shape) => Ok(Shape::C(c_shape_again(alloc, shape)?)),
+        Shape::Rustc(shape) => Ok(Shape::Rustc(rustc_shape_again(alloc, shape)?)),
+    }
 }
 
 /// Copies of names.
