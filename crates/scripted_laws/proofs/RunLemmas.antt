@@ -17,7 +17,7 @@ use Rattle.wrap.specs.Whole.{FilesView, ToolView, accounts_at}
 use Rattle.wrap_base.specs.Commands.{kind_of, words_at}
 use Rattle.wrap_base.specs.declared.call.Call.{Call}
 use Rattle.wrap_base.specs.declared.request.Request.{Request}
-use Rattle.scripted_laws.specs.ScriptedCalls.{HasSafeSource, IsScripted, IsScriptedCall}
+use Rattle.scripted_laws.specs.ScriptedCalls.{HasSafeSource, IsScripted, IsScriptedCall, text_of}
 use Rattle.scripted_laws.proofs.OutcomeLemmas.{MakeOfRecords}
 
 abbrev pub AreEqual : Type 0
@@ -26,8 +26,8 @@ AreEqual = (one other : Settings) (a b : Work) → IsScripted one (worked a) →
 pub outcomes_equal : MakeOfRecords → AreEqual
 outcomes_equal make one other a b of_one of_other fine fine_too same =
     make one a of_one fine
-    ∙ ap (λ r. compiled (Some r.text) (names_of a.outputs)) same.parts
-    ∙ ap (compiled (Some b.rec.text)) same.names
+    ∙ ap (λ r. compiled (text_of r) (names_of a.outputs)) same.parts
+    ∙ ap (compiled (text_of b.rec)) same.names
     ∙ sym (make other b of_other fine_too)
 
 pub source_safe : ((kind : CCompilerKind) (words : List Bytes) → HasSafeInputIn kind words (parse_of kind words)) → (tree : Tree) (request : Request) → (IsGivenByOption (kind_of request.compiler) (words_at request tree) → ⊥) → HasSafeSource tree request

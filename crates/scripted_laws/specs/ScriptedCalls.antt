@@ -1,5 +1,6 @@
 -- Calls of the scripted tool whose folders are the configuration's.
-use Rattle.std.specs.Prelude.{◌≡◌, Some}
+use Rattle.std.specs.Prelude.{◌≡◌, Option, None, Some}
+use Rattle.os_files.specs.Bytes.{Bytes}
 use Rattle.os_files.specs.Tree.{Tree}
 use Rattle.cmdlines.specs.Parsing.{HasSafeInput, parse_of}
 use Rattle.cmdlines.specs.Parsing as parsing
@@ -7,6 +8,7 @@ use Rattle.cmdlines.specs.declared.parsed.ParsedArguments.{ParsedArguments}
 use Rattle.ckeys.specs.Folders.{Settings}
 use Rattle.ckeys.specs.Meaning.{names_of}
 use Rattle.script_tool.specs.Scripted.{compiled, scripted}
+use Rattle.wrap.specs.CallRecords.{CallRecord, of_c, of_rustc}
 use Rattle.wrap.specs.Account.{Account, Work, account_at}
 use Rattle.wrap.specs.Whole.{FilesView, ToolView}
 use Rattle.wrap_base.specs.Commands.{kind_of, words_at}
@@ -24,9 +26,14 @@ pub record IsScripted (settings : Settings) (a : Account) : Type 0 where
   pub is : account_at (scripted settings.basedirs) tree settings request ≡ a
   pub safe : HasSafeSource tree request
 
+-- the text of a record, where it is one of a C compiler
+abbrev pub text_of : CallRecord → Option Bytes
+text_of (of_c r) = Some r.text
+text_of (of_rustc r) = None
+
 -- the fresh outcome is what the scripted compiler makes of the record's text
 abbrev pub IsMadeOfRecord : Work → Type 0
-IsMadeOfRecord w = w.fresh ≡ compiled (Some w.rec.text) (names_of w.outputs)
+IsMadeOfRecord w = w.fresh ≡ compiled (text_of w.rec) (names_of w.outputs)
 
 -- a call of such a request by such a tool
 abbrev pub IsScriptedCall : {F T : Type 0} → Settings → FilesView F → ToolView T → Call F T → Type 0

@@ -13,10 +13,11 @@ use Rattle.include_records.specs.Records.{result_with}
 use Rattle.entry_keys.specs.Identity.{identity_material}
 use Rattle.entry_keys.specs.Sights.{sight_material}
 use Rattle.entry_keys.specs.Telling.{entry_key_with}
-use Rattle.ckeys.specs.Calls.{PrintedCall}
+use Rattle.ckeys.specs.Calls.{PrintedCall, record_by}
 use Rattle.ckeys.specs.Entries.{HasMatch, Held, IsHashedBy, entry_key_by, good_text, has_entry_key, identity_by, includes_by, sights_by}
 use Rattle.ckeys.specs.Entries.IsHashedBy.{of_identity, of_sights, of_extra_file, of_file}
-use Rattle.ckeys.specs.Keys.{IsHashedFor, record_material}
+use Rattle.ckeys.specs.Keys.{record_material}
+use Rattle.wrap.specs.CallRecords.{IsHashedFor}
 use Rattle.ckeys.specs.Meaning.{made_of}
 use Rattle.wrap.specs.Account.{Work, direct_calls, worked}
 use Rattle.wrap.specs.StoreKeys.{HasRecord, IsHashedDirect, IsHashedIn, Premises}
@@ -58,7 +59,7 @@ module _ (about : Metadata) (zone : ZoneRule) where
 
   -- the strings that are hashed, whatever the moment is
   abbrev pub text_string : Bytes
-  text_string = record_material first_byte_digest (work_on about zone (pos 0)).rec
+  text_string = record_material first_byte_digest (record_by (printed_on about zone (pos 0)))
 
   abbrev pub identity_string : Bytes
   identity_string = identity_material (identity_by (call_on about zone (pos 0)))

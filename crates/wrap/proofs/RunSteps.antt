@@ -15,7 +15,7 @@ use Rattle.ckeys.specs.Calls.{KeyCall, PrintedCall, printed_call, extra_paths, f
 use Rattle.ckeys.specs.Entries.{AreTrue, EntryInvariant, EntryPremises, Held, IsHashedAmong, asking, has_entry_key, is_told}
 use Rattle.ckeys.specs.EntryTurns.{EntryTurn}
 use Rattle.ckeys.specs.Folders.{Settings}
-use Rattle.ckeys.specs.Keys.{key_of}
+use Rattle.wrap.specs.CallRecords.{key_of}
 use Rattle.ckeys.specs.Meaning.{Meaning, names_of}
 use Rattle.entry_keys.specs.declared.entry_key.EntryKey.{EntryKey}
 use Rattle.include_records.specs.Records.{Record}

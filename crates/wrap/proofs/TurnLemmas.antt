@@ -10,9 +10,8 @@ use Rattle.ckeys.specs.Calls.{KeyCause, PrintedCall, key_fault_by, needs_preproc
 use Rattle.ckeys.specs.Causes.{ByStage, no_file, no_step, stage_of}
 use Rattle.ckeys.specs.Entries.{Held}
 use Rattle.ckeys.specs.EntryTurns.{AtMostOnce, IsSpared, KeyFine, KeyRecorded, KeyRuns, RunsUntil, RunsUntilKey, RunsUntilStep}
-use Rattle.ckeys.specs.Keys.{key_of}
+use Rattle.wrap.specs.CallRecords.{CallRecord, IsTold, key_of, of_c, of_rustc}
 use Rattle.ckeys.specs.Meaning.{Meaning, FailsIn}
-use Rattle.ckeys.specs.Records.{AreTold}
 use Rattle.entry_keys.specs.declared.entry_key.EntryKey.{EntryKey}
 use Rattle.include_records.specs.Records.{Record}
 use Rattle.ckeys.specs.declared.fault.Fault.{Fault}
@@ -21,7 +20,7 @@ use Rattle.ckeys.specs.declared.step.Step.{Step}
 use Rattle.ckeys.specs.declared.step.Step.TheVariants.{Preprocess, Compile, DepInfo, FileNames, ArchiveDigest}
 use Rattle.wrap.specs.Account.{Account, passed, worked, Work, Pairs, IsSuccess, compile_fault_of, direct_of, placed}
 use Rattle.wrap.specs.Answers.{EarlyCause, GoesOn, GoesOnWith, OnPass, Placed, SaysBy, SaysWorkedBy}
-use Rattle.wrap.specs.Asking.{AskedTurn, AskedUnder, EntriesBy, EntriesTurn, HowFrom, RecordsAreTrue, RunsOf, Shelves, WorkKeyFrom}
+use Rattle.wrap.specs.Asking.{AskedTurn, AskedUnder, EntriesBy, EntriesTurn, HowFrom, RanForKey, RecordsAreTrue, RunsIn, RunsOf, RunsOfRecord, Shelves, WorkKeyFrom}
 use Rattle.wrap.specs.Prepared.{SaysFinished}
 use Rattle.wrap.specs.StoreKeys.{store_key_with}
 use Rattle.wrap.specs.Turn.{KeyedTurn, PutsBy, StoreTurn, own_text_key, StillKept, StoredTurn, MissTurn, Told, ToldBy}
@@ -80,7 +79,7 @@ module _ (digest_of : Bytes → Bytes) (text_key : Bytes) (w : Work) (key : Stor
       })
 
   -- what the look-up found is answered
-  pub turn_stored : (from : Bool) → (from ≡ true → IsSome w.direct) → (before after : ℕ) → after ≡ before → AreTold w.rec.words w.rec.variables → (found : List Output) → Some found ≡ option_map (placed w.outputs) answer → KeyedTurn digest_of text_key (worked w) old asked before after (Ok (Outputs found (kept_how from) None))
+  pub turn_stored : (from : Bool) → (from ≡ true → IsSome w.direct) → (before after : ℕ) → after ≡ before → IsTold digest_of w.rec → (found : List Output) → Some found ≡ option_map (placed w.outputs) answer → KeyedTurn digest_of text_key (worked w) old asked before after (Ok (Outputs found (kept_how from) None))
   turn_stored from direct before after same told found e =
       let it = some_pairs (placed w.outputs) found answer e in
       record {
@@ -156,7 +155,7 @@ module _ (digest_of : Bytes → Bytes) (text_key : Bytes) (w : Work) (key : Stor
         })
 
     -- a fresh output is put, and answered
-    pub turn_fresh : after ≡ ticked mid → AreTold w.rec.words w.rec.variables → (eq : StoreKey → StoreKey → Bool) → ((a b : StoreKey) → eq a b ≡ true → a ≡ b)
+    pub turn_fresh : after ≡ ticked mid → IsTold digest_of w.rec → (eq : StoreKey → StoreKey → Bool) → ((a b : StoreKey) → eq a b ≡ true → a ≡ b)
         → (new : Shelf StoreKey Pairs) (value : Pairs) (map : List Output) (put : Result (Unit {0}) (StoreKey × Pairs)) → Puts eq asked new key value put → IsSuccess w value → map ≡ placed w.outputs value → KeyedTurn digest_of text_key (worked w) old new before after (Ok (Outputs map Fresh None))
     turn_fresh ran told eq equal new value map put puts made same = record {
       gains = λ k v h. elim (puts.gains k v h) [
@@ -344,11 +343,16 @@ compile_until w device_in from before after NoRule cause h = absurd cause
 compile_until w device_in from before after (AnswerNotUtf8 step) cause h = absurd cause
 compile_until w device_in from before after (BadDigest path) cause h = absurd cause
 
+-- nothing ran
+none_ran : (r : CallRecord) (n : ℕ) (fault : Fault) → (RunsIn false (Err fault) n n) → RunsOfRecord r false (Err fault) n n
+none_ran (of_c r) n fault idle = (λ h. refl, λ h. idle)
+none_ran (of_rustc r) n fault idle = inl refl
+
 -- before there is a verdict
 pub early_runs : (a : Account) (on_file : Bytes → Type 0) (n : ℕ) (fault : Fault) → EarlyCause on_file fault → RunsOf a false (Err fault) n n
 early_runs (passed why) on_file n fault cause = refl
-early_runs (worked w) on_file n Memory cause = (λ h. refl, λ h. inl refl)
-early_runs (worked w) on_file n (Read name) cause = (λ h. refl, λ h. inl refl)
+early_runs (worked w) on_file n Memory cause = none_ran w.rec n Memory (inl refl)
+early_runs (worked w) on_file n (Read name) cause = none_ran w.rec n (Read name) (inl refl)
 early_runs (worked w) on_file n (Tool step) cause = absurd cause
 early_runs (worked w) on_file n (PreprocessFailed status) cause = cc
 early_runs (worked w) on_file n (CompileFailed status) cause = cc
@@ -375,13 +379,22 @@ pub has_direct : (digest_of : Bytes → Bytes) (w : Work) (held : Held) (from : 
 has_direct digest_of w held true text_key k h = rw k.has refl
 has_direct digest_of w held false text_key k h = cc
 
+-- so often it ran where outputs are answered, and where the compile has a fault
+ran_with : (r : CallRecord) (answer : Answer) (from : Bool) (before after : ℕ) → RanForKey r from before after → RunsOfRecord r from (Ok answer) before after
+ran_with (of_c r) answer from before after ran = ran
+ran_with (of_rustc r) answer from before after ran = ran
+
+ran_until : (r : CallRecord) (from : Bool) (before after : ℕ) (fault : Fault) → (KeyRuns from before after → RunsUntil fault (KeyRuns from before after) before after) → RanForKey r from before after → RunsOfRecord r from (Err fault) before after
+ran_until (of_c r) from before after fault until ran = (ran.0, λ h. until (ran.1 h))
+ran_until (of_rustc r) from before after fault until ran = inr (inr ran)
+
 module _ (digest_of : Bytes → Bytes) (w : Work) (old new : Shelves) (printed printed_new compiled compiled_new : ℕ) (from : Bool) (text_key : Bytes) (is_key : WorkKeyFrom digest_of w old.entries.held from text_key)
-    (fine : from ≡ false → w.fault ≡ None) (runs : (needs_preprocessing w.rec.language ≡ false → printed_new ≡ printed) × (needs_preprocessing w.rec.language ≡ true → KeyRuns from printed printed_new)) (recorded : (p : PrintedCall) → w.direct ≡ Some p → KeyRecorded digest_of p old.entries new.entries from text_key) where
+    (fine : from ≡ false → w.fault ≡ None) (runs : RanForKey w.rec from printed printed_new) (recorded : (p : PrintedCall) → w.direct ≡ Some p → KeyRecorded digest_of p old.entries new.entries from text_key) where
   -- however the request is finished
   pub asked_finished : (device_in : Step → Type 0) (result : Result Answer Fault) → SaysFinished w device_in result → HowFrom from result → KeyedTurn digest_of text_key (worked w) old.objects new.objects compiled compiled_new result → AskedTurn digest_of (worked w) old new printed printed_new compiled compiled_new result
   asked_finished device_in (Ok (Pass reason)) says how turn = absurd says
-  asked_finished device_in (Ok (Outputs map kept dep_info)) says how turn = record { from = from; text_key = text_key; is_key = is_key; how = how; fine = fine; runs = runs; recorded = recorded; objects = turn }
-  asked_finished device_in (Err fault) says how turn = record { from = from; text_key = text_key; is_key = is_key; how = tt; fine = tt; runs = (runs.0, λ h. compile_until w device_in from _ _ fault says (runs.1 h)); recorded = tt; objects = turn }
+  asked_finished device_in (Ok (Outputs map kept dep_info)) says how turn = record { from = from; text_key = text_key; is_key = is_key; how = how; fine = fine; runs = ran_with w.rec _ from _ _ runs; recorded = recorded; objects = turn }
+  asked_finished device_in (Err fault) says how turn = record { from = from; text_key = text_key; is_key = is_key; how = tt; fine = tt; runs = ran_until w.rec from _ _ fault (compile_until w device_in from _ _ fault says) runs; recorded = tt; objects = turn }
 
 -- its own key, where there is no other
 pub own_asked : (digest_of : Bytes → Bytes) (a : Account) (held : Held) → AskedUnder digest_of a held false (own_text_key digest_of a)

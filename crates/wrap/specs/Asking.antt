@@ -1,16 +1,16 @@
 -- One call of a session over both stores: under which key it asks, and what it does to the include records.
-use Rattle.std.specs.Prelude.{◌≡◌, ℕ, ℤ, Bool, true, false, Option, None, Some, Result, Ok, Err}
-use Rattle.os_files.specs.Bytes.{Bytes}
+use Rattle.std.specs.Prelude.{◌≡◌, ◌⊎◌, ℕ, ℤ, Bool, true, false, Option, None, Some, Result, Ok, Err}
+use Rattle.os_files.specs.Bytes.{Bytes, ticked}
 use Rattle.ckeys_base.specs.Shelf.{Shelf}
 use Rattle.ckeys.specs.Calls.{PrintedCall, key_fault_by, needs_preprocessing, record_by}
 use Rattle.ckeys.specs.Entries.{HasMatch, Held, IsFramed}
 use Rattle.ckeys.specs.EntryTurns.{EntryTurn, KeyRecorded, KeyRuns, RunsUntil}
 use Rattle.ckeys.specs.Folders.{Settings}
-use Rattle.ckeys.specs.Keys.{key_of}
 use Rattle.entry_keys.specs.declared.entry_key.EntryKey.{EntryKey}
 use Rattle.include_records.specs.Records.{Record}
 use Rattle.ckeys.specs.declared.fault.Fault.{Fault}
 use Rattle.ckeys.specs.declared.fault.Fault.TheVariants.{PreprocessFailed}
+use Rattle.wrap.specs.CallRecords.{CallRecord, key_of, of_c, of_rustc}
 use Rattle.wrap.specs.Account.{Account, passed, worked, Work, Pairs, direct_of}
 use Rattle.wrap.specs.Turn.{KeyedTurn}
 use Rattle.wrap_base.specs.declared.answer.Answer.{Answer}
@@ -46,7 +46,7 @@ RecordsAreTrue digest_of (worked w) held = (text_key : Bytes) → MatchesFor dig
 -- what a work says of include records is of its own call, under this configuration
 pub record IsOfCall (settings : Settings) (w : Work) (p : PrintedCall) : Type 0 where
   pub settled : p.call.settings ≡ settings
-  pub rec : w.rec ≡ record_by p
+  pub rec : w.rec ≡ of_c (record_by p)
   pub fault : w.fault ≡ key_fault_by p
 
 abbrev pub IsOfOneCall : Settings → Account → Type 0
@@ -82,10 +82,25 @@ abbrev pub RunsIn : Bool → Result Answer Fault → ℕ → ℕ → Type 0
 RunsIn from (Ok answer) before after = KeyRuns from before after
 RunsIn from (Err fault) before after = RunsUntil fault (KeyRuns from before after) before after
 
--- How often the preprocessor ran: not where the request is passed through, nor where the input's language isn't preprocessed; and else once, unless a record gave the key or a fault came before it.
+-- how often rustc was asked: twice before its outputs, and at most that before a fault
+abbrev pub IsAskedTwice : Result Answer Fault → ℕ → ℕ → Type 0
+IsAskedTwice (Ok answer) before after = after ≡ ticked (ticked before)
+IsAskedTwice (Err fault) before after = (after ≡ before) ⊎ ((after ≡ ticked before) ⊎ (after ≡ ticked (ticked before)))
+
+-- how often the preprocessor ran in a call of that record: not where the input's language isn't preprocessed, and else once, unless a record gave the key or a fault came before it; of rustc, how often it was asked
+abbrev pub RunsOfRecord : CallRecord → Bool → Result Answer Fault → ℕ → ℕ → Type 0
+RunsOfRecord (of_c r) from result before after = (needs_preprocessing r.language ≡ false → after ≡ before) × (needs_preprocessing r.language ≡ true → RunsIn from result before after)
+RunsOfRecord (of_rustc r) from result before after = IsAskedTwice result before after
+
+-- how often it ran before the store of outputs is asked, where the call has its key
+abbrev pub RanForKey : CallRecord → Bool → ℕ → ℕ → Type 0
+RanForKey (of_c r) from before after = (needs_preprocessing r.language ≡ false → after ≡ before) × (needs_preprocessing r.language ≡ true → KeyRuns from before after)
+RanForKey (of_rustc r) from before after = after ≡ ticked (ticked before)
+
+-- How often it ran: not where the request is passed through.
 abbrev pub RunsOf : Account → Bool → Result Answer Fault → ℕ → ℕ → Type 0
 RunsOf (passed why) from result before after = after ≡ before
-RunsOf (worked w) from result before after = (needs_preprocessing w.rec.language ≡ false → after ≡ before) × (needs_preprocessing w.rec.language ≡ true → RunsIn from result before after)
+RunsOf (worked w) from result before after = RunsOfRecord w.rec from result before after
 
 -- One call: under which key it asks the object store and what it does to that, whatever the records hold; and how often the preprocessor ran. Where the key came from the text and outputs are answered, the call has no fault before the store is asked; and a text that is recorded is found under this key again.
 pub record AskedTurn (digest_of : Bytes → Bytes) (a : Account) (old new : Shelves) (printed printed_new compiled compiled_new : ℕ) (result : Result Answer Fault) : Type 0 where

@@ -1,4 +1,5 @@
 pub mod Verdicts
+pub mod CallRecords
 pub mod Account
 pub mod StoreKeys
 pub mod SameCalls

@@ -6,10 +6,10 @@ use Rattle.cmdlines.specs.Parsing.{Artifacts}
 use Rattle.cmdlines_base.specs.declared.command.SingleCompileCommand.{SingleCompileCommand}
 use Rattle.cmdlines_tables.specs.declared.compiler.CCompilerKind.{CCompilerKind}
 use Rattle.ckeys.specs.Meaning.{Meaning, names_of, scene_of, asked_of}
-use Rattle.ckeys.specs.Records.{AreTold}
 use Rattle.ckeys.specs.declared.fault.Fault.{Fault}
 use Rattle.ckeys.specs.declared.step.Step.{Step}
 use Rattle.ckeys.specs.declared.step.Step.TheVariants.{Compile}
+use Rattle.wrap.specs.CallRecords.{IsTold}
 use Rattle.wrap.specs.Account.{Work}
 use Rattle.wrap.specs.Steps.{CompileCause}
 use Rattle.wrap.specs.StoreKeys.{store_key_with}
@@ -25,7 +25,7 @@ pub record Makes (meaning : Meaning) (tree : Tree) (kind : CCompilerKind) (comma
 -- The request has the work's key, but for where the digest comes from; the record's words can be told apart; and its command makes the work's outputs. A record gave the key only where the work asks for one.
 pub record IsPrepared (digest_of : Bytes → Bytes) (meaning : Meaning) (tree : Tree) (w : Work) (p : Prepared) : Type 0 where
   pub is_key : p.key ≡ store_key_with digest_of w p.key.digest
-  pub told : AreTold w.rec.words w.rec.variables
+  pub told : IsTold digest_of w.rec
   pub makes : Makes meaning tree p.kind p.command.now p.outputs.now p.moment w
   pub direct : p.from_record ≡ true → IsSome w.direct
 

@@ -3,7 +3,7 @@
 ghost use Rattle.std.specs.Prelude.{◌≡◌, false, true, None, Some, IfOk, IfErr, OnOk, IsErrOf};
 ghost use Rattle.std.specs.List.{AllByRecursion};
 ghost use Rattle.os_files.specs.Fails.{FailsOn};
-ghost use Rattle.ckeys.specs.Calls.{KeyCause, PrintedCall, needs_preprocessing, printed_call};
+ghost use Rattle.ckeys.specs.Calls.{KeyCause, PrintedCall, needs_preprocessing, printed_call, record_of};
 ghost use Rattle.ckeys.specs.EntryTurns.{KeyFine, KeyRecorded, KeyRuns, RunsUntilKey};
 ghost use Rattle.ckeys.specs.Meaning.{AreSteady, FailsIn, names_of};
 ghost use Rattle.ckeys.specs.Records.{FitsLength};
@@ -25,7 +25,7 @@ use os_files::listed::Listed;
 use os_files::os_bytes::OsBytes;
 use std::alloc::{AllocError, Global};
 use wrap_base::request::Request;
-use wrap_base::store_key::{Family, StoreKey};
+use wrap_base::store_key::{Family, Shape, StoreKey};
 use wrap_base::tool::Tool;
 
 /// The names of outputs, with their marks.
@@ -80,9 +80,8 @@ pub fn store_key<H: HashState, E: Store<EntryKey, PreprocessorCacheEntry>, F: Fi
     ensures fine { let p = printed_call (T.meaning tool.old)
         (call_at request.now (F.tree files.old) config.now plan.now.parsed) in
         IfOk result (λ made. KeyFine p made.1) }
-    ensures fit { let w = work_at (T.meaning tool.old)
-        (call_at request.now (F.tree files.old) config.now plan.now.parsed) in
-        OnOk result (AllByRecursion FitsLength w.rec.variables) }
+    ensures fit { let call = call_at request.now (F.tree files.old) config.now plan.now.parsed in
+        OnOk result (AllByRecursion FitsLength (record_of (T.meaning tool.old) call).variables) }
     ensures cause { let w = work_at (T.meaning tool.old)
         (call_at request.now (F.tree files.old) config.now plan.now.parsed) in
         IfErr result
@@ -97,9 +96,7 @@ pub fn store_key<H: HashState, E: Store<EntryKey, PreprocessorCacheEntry>, F: Fi
         IfOk result
         (λ made. (p : PrintedCall) → w.direct ≡ Some p
         → KeyRecorded H.digest_of p (E.shelf entries.old) (E.shelf entries.new) made.1 made.0.digest) }
-    ensures runs { let w = work_at (T.meaning tool.old)
-        (call_at request.now (F.tree files.old) config.now plan.now.parsed) in
-        needs_preprocessing w.rec.language ≡ true
+    ensures runs { needs_preprocessing plan.now.parsed.language ≡ true
         → IfOk result (λ made. KeyRuns made.1 (T.preprocessed tool.old) (T.preprocessed tool.new)) }
     ensures until { needs_preprocessing plan.now.parsed.language ≡ true →
         IfErr result (RunsUntilKey (T.preprocessed tool.old) (T.preprocessed tool.new)) }
@@ -122,7 +119,7 @@ pub fn store_key<H: HashState, E: Store<EntryKey, PreprocessorCacheEntry>, F: Fi
     let digest = OsBytes::from_vec(digest.into_bytes());
     let key = StoreKey {
         family: Family::C,
-        shape,
+        shape: Shape::C(shape),
         names,
         digest,
     };

@@ -12,8 +12,7 @@ ghost use Rattle.ckeys.specs.Calls.{KeyCall};
 ghost use Rattle.ckeys.specs.Meaning.{Meaning};
 ghost use Rattle.os_files.specs.Bytes.{Bytes};
 ghost use Rattle.ckeys_base.specs.Shelf.{IsEmpty, Shelf};
-ghost use Rattle.ckeys.specs.Keys.{AreDistinct};
-ghost use Rattle.ckeys.specs.Records.{AreTold};
+ghost use Rattle.wrap.specs.CallRecords.{AreDistinct, CallRecord, IsTold, key_of, record_shape};
 ghost use Rattle.wrap.specs.Account.{Pairs, Work, account_at, work_at};
 ghost use Rattle.wrap.specs.SameCalls.{AreSameWithoutFolders};
 ghost use Rattle.ckeys.specs.Folders.{Settings};
@@ -26,6 +25,7 @@ ghost use Rattle.wrap.specs.Example.{compile_of, telling_digest, two_compiles};
 
 use ckeys::laws::{keys_tell_records, records_are_true};
 use ckeys_base::hash_state::HashState;
+use rustkeys::laws::rustc_keys_tell_records;
 
 /// Two runs of one list of calls, over stores that forget and refuse as they like, give equal outputs wherever both answer
 /// with outputs.
@@ -35,7 +35,7 @@ pub fn two_runs_agree<H: HashState>()
         → IsEmpty one_old → IsEmpty two_old → accounts_of one ≡ accounts_of two
         → Premises H.digest_of (accounts_of one) → SameOutputs one two }
 {
-    keys_tell_records::<H>();
+    call_keys_tell_records::<H>();
 }
 
 /// Likewise of two runs over both stores, from empty ones: their include records may give keys or forget as they like.
@@ -48,7 +48,7 @@ pub fn two_direct_runs_agree<H: HashState>()
         → accounts_of one ≡ accounts_of two → Premises H.digest_of (accounts_of one)
         → SameOutputs one two }
 {
-    keys_tell_records::<H>();
+    call_keys_tell_records::<H>();
     records_are_true::<H>();
 }
 
@@ -67,13 +67,25 @@ pub fn records_that_are_not_kept_change_nothing<H: HashState>()
         → new ≡ old }
 {}
 
-/// Under distinct digests store keys are equal exactly if the records are, names of outputs with their marks included.
-pub fn store_keys_tell_records<H: HashState>()
-    ensures { (one other : Work) → AreTold one.rec.words one.rec.variables
-        → AreTold other.rec.words other.rec.variables → AreDistinct H.digest_of one.rec other.rec
-        → (store_key_of H.digest_of one ≡ store_key_of H.digest_of other) ↔ SameRecord one other }
+/// Under distinct digests keys with their shapes are equal exactly if the records are, of whichever families.
+pub fn call_keys_tell_records<H: HashState>()
+    ensures { (one other : CallRecord) → IsTold H.digest_of one → IsTold H.digest_of other
+        → AreDistinct H.digest_of one other
+        → ((key_of H.digest_of one ≡ key_of H.digest_of other)
+        × (record_shape H.digest_of one ≡ record_shape H.digest_of other))
+        ↔ (one ≡ other) }
 {
     keys_tell_records::<H>();
+    rustc_keys_tell_records::<H>();
+}
+
+/// Under distinct digests store keys are equal exactly if the records are, names of outputs with their marks included.
+pub fn store_keys_tell_records<H: HashState>()
+    ensures { (one other : Work) → IsTold H.digest_of one.rec → IsTold H.digest_of other.rec
+        → AreDistinct H.digest_of one.rec other.rec
+        → (store_key_of H.digest_of one ≡ store_key_of H.digest_of other) ↔ SameRecord one other }
+{
+    call_keys_tell_records::<H>();
 }
 
 /// What is assumed of runs can be met: two calls whose records differ meet it under a digest of 32 bytes.

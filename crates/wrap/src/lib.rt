@@ -40,5 +40,5 @@ pub use wrap_base::compiler::Compiler;
 pub use wrap_base::map_store::MapStore;
 pub use wrap_base::reason::Reason;
 pub use wrap_base::request::Request;
-pub use wrap_base::store_key::{Family, Pairs, StoreKey};
+pub use wrap_base::store_key::{Family, Pairs, Shape, StoreKey};
 pub use wrap_base::tool::{Compiled, Tool};

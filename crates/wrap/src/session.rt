@@ -15,11 +15,12 @@ ghost use Rattle.wrap.specs.Plans.{IsPlanOf};
 ghost use Rattle.wrap.specs.Sessions.{held_by};
 
 use crate::finish::finish;
+use crate::laws::call_keys_tell_records;
 use crate::prepared::prepare;
 use crate::verdict::{Plan, Verdict, judge};
 use ckeys::config::KeyConfig;
 use ckeys::fault::Fault;
-use ckeys::laws::{keys_tell_records, records_are_true};
+use ckeys::laws::records_are_true;
 use ckeys::{EntryKey, PreprocessorCacheEntry};
 use ckeys_base::hash_state::HashState;
 use ckeys_base::store::Store;
@@ -191,7 +192,7 @@ impl<
         ensures memory { IsErrOf result Fault.Memory →
             AreSteady T.failed F.failed tool.old files.old tool.new files.new }
     {
-        keys_tell_records::<H>();
+        call_keys_tell_records::<H>();
         records_are_true::<H>();
         self.turn(request, files, tool)
     }
@@ -263,7 +264,7 @@ impl<
             ((calls.new ≡ calls.old) × (E.shelf self.new.entries ≡ E.shelf self.old.entries)
             × (O.shelf self.new.objects ≡ O.shelf self.old.objects)) }
     {
-        keys_tell_records::<H>();
+        call_keys_tell_records::<H>();
         records_are_true::<H>();
         self.run_all(calls)
     }

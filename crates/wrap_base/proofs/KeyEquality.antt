@@ -8,13 +8,18 @@ use Rattle.cmdlines_tables.specs.declared.language.Language.{Language}
 use Rattle.cmdlines_tables.specs.declared.language.Language.TheVariants.{C, Cxx, CPreprocessed, CxxPreprocessed, Assembler, AssemblerToPreprocess, Rust}
 use Rattle.cmdlines_tables.specs.contracts.language.LanguagePartialEq.TheImpl as language_eq
 use Rattle.ckeys.specs.contracts.output_name.OutputNamePartialEq.TheImpl as name_eq
-use Rattle.ckeys.specs.contracts.shape.CShapePartialEq.TheImpl as shape_eq
+use Rattle.ckeys.specs.contracts.shape.CShapePartialEq.TheImpl as c_shape_eq
+use Rattle.rustc_parts.specs.contracts.parts.RShapePartialEq.TheImpl as rustc_shape_eq
+use Rattle.rustc_parts.specs.declared.parts.RShape.{RShape}
 use Rattle.ckeys.specs.declared.output_name.OutputName.{OutputName}
 use Rattle.ckeys.specs.declared.shape.CShape.{CShape}
 use Rattle.wrap_base.specs.contracts.store_key.FamilyPartialEq.TheImpl as family_eq
+use Rattle.wrap_base.specs.contracts.store_key.ShapePartialEq.TheImpl as shape_eq
 use Rattle.wrap_base.specs.contracts.store_key.StoreKeyPartialEq.TheImpl as key_eq
 use Rattle.wrap_base.specs.declared.store_key.Family.{Family}
 use Rattle.wrap_base.specs.declared.store_key.Family.TheVariants as families
+use Rattle.wrap_base.specs.declared.store_key.Shape.{Shape}
+use Rattle.wrap_base.specs.declared.store_key.Shape.TheVariants as shapes
 use Rattle.wrap_base.specs.declared.store_key.StoreKey.{StoreKey}
 
 both : {P Q : Type 0} (s t : Bool) → Decides s P → Decides t Q → Decides (s && t) (P × Q)
@@ -92,12 +97,25 @@ lengths_are None (Some y) = (λ h. cc, λ e. cc)
 lengths_are (Some x) None = (λ h. cc, λ e. cc)
 lengths_are (Some x) (Some y) = (λ h. ap Some ((unsigned_Decides x y).0 h), λ e. (unsigned_Decides x y).1 (cc))
 
-shapes_are : (a b : CShape) → Decides (shape_eq.ghosts.eq a b) (a ≡ b)
-shapes_are a b =
+c_shapes_are : (a b : CShape) → Decides (c_shape_eq.ghosts.eq a b) (a ≡ b)
+c_shapes_are a b =
     let parts = both _ _ (languages_are a.language b.language) (both _ _ (unsigned_Decides a.compiler_digest b.compiler_digest) (both _ _ (unsigned_Decides a.words b.words) (both _ _ (lists nat_eq unsigned_Decides a.extra_hashes b.extra_hashes) (both _ _ (lengths_are a.assembler_digest b.assembler_digest) (unsigned_Decides a.variables b.variables))))) in (
       (λ h. let p = parts.0 h in λ i. record { language = p.0 i; compiler_digest = p.1.0 i; words = p.1.1.0 i; extra_hashes = p.1.1.1.0 i; assembler_digest = p.1.1.1.1.0 i; variables = p.1.1.1.1.1 i }),
       (λ e. parts.1 (ap (λ (c : CShape). c.language) e, (ap (λ (c : CShape). c.compiler_digest) e, (ap (λ (c : CShape). c.words) e, (ap (λ (c : CShape). c.extra_hashes) e, (ap (λ (c : CShape). c.assembler_digest) e, ap (λ (c : CShape). c.variables) e)))))),
     )
+
+rustc_shapes_are : (a b : RShape) → Decides (rustc_shape_eq.ghosts.eq a b) (a ≡ b)
+rustc_shapes_are a b =
+    let parts = both _ _ (unsigned_Decides a.toolchain b.toolchain) (both _ _ (lists nat_eq unsigned_Decides a.words b.words) (both _ _ (unsigned_Decides a.sources b.sources) (both _ _ (unsigned_Decides a.externs b.externs) (both _ _ (unsigned_Decides a.archives b.archives) (both _ _ (booleans_Decides a.has_target b.has_target) (both _ _ (lists _ booleans_Decides a.env_deps b.env_deps) (unsigned_Decides a.variables b.variables))))))) in (
+      (λ h. let p = parts.0 h in λ i. record { toolchain = p.0 i; words = p.1.0 i; sources = p.1.1.0 i; externs = p.1.1.1.0 i; archives = p.1.1.1.1.0 i; has_target = p.1.1.1.1.1.0 i; env_deps = p.1.1.1.1.1.1.0 i; variables = p.1.1.1.1.1.1.1 i }),
+      (λ e. parts.1 (ap (λ (c : RShape). c.toolchain) e, (ap (λ (c : RShape). c.words) e, (ap (λ (c : RShape). c.sources) e, (ap (λ (c : RShape). c.externs) e, (ap (λ (c : RShape). c.archives) e, (ap (λ (c : RShape). c.has_target) e, (ap (λ (c : RShape). c.env_deps) e, ap (λ (c : RShape). c.variables) e)))))))),
+    )
+
+shapes_are : (a b : Shape) → Decides (shape_eq.ghosts.eq a b) (a ≡ b)
+shapes_are (shapes.C a) (shapes.C b) = (λ h. ap shapes.C ((c_shapes_are a b).0 h), λ e. (c_shapes_are a b).1 (cc))
+shapes_are (shapes.C a) (shapes.Rustc b) = (λ h. cc, λ e. cc)
+shapes_are (shapes.Rustc a) (shapes.C b) = (λ h. cc, λ e. cc)
+shapes_are (shapes.Rustc a) (shapes.Rustc b) = (λ h. ap shapes.Rustc ((rustc_shapes_are a b).0 h), λ e. (rustc_shapes_are a b).1 (cc))
 
 names_are : (a b : OutputName) → Decides (name_eq.ghosts.eq a b) (a ≡ b)
 names_are a b =

@@ -9,6 +9,7 @@ use ckeys::output_name::OutputName;
 use ckeys::shape::CShape;
 use os_files::listed::Listed;
 use os_files::os_bytes::OsBytes;
+use rustc_parts::parts::RShape;
 use std::hash::Hash;
 
 /// Whose requests a key is of.
@@ -18,12 +19,19 @@ pub enum Family {
     Rustc,
 }
 
+/// What the hashed bytes of a request don't tell, by its family.
+#[derive(Drop, PartialEq, Eq, Hash, PartialOrd, Ord)]
+pub enum Shape {
+    C(CShape),
+    Rustc(RShape),
+}
+
 /// What a request's outputs are kept under: the family, the shape, the outputs' names with their marks, and the digest.
 /// Keys are compared and hashed by these fields, in this order.
 #[derive(Drop, PartialEq, Eq, PartialOrd, Ord, Hash)]
 pub struct StoreKey {
     pub family: Family,
-    pub shape: CShape,
+    pub shape: Shape,
     pub names: Listed<OutputName>,
     pub digest: OsBytes,
 }
@@ -40,12 +48,12 @@ pub fn keys_are_their_fields()
         → (⟦<StoreKey as Ord>⟧.cmp one other ≡ Equal) ↔ (one ≡ other) }
     ensures ordered { (one other : StoreKey) → ⟦<StoreKey as Ord>⟧.cmp one other
         ≡ ordering_then (⟦<Family as Ord>⟧.cmp one.family other.family)
-        (ordering_then (⟦<CShape as Ord>⟧.cmp one.shape other.shape)
+        (ordering_then (⟦<Shape as Ord>⟧.cmp one.shape other.shape)
         (ordering_then (⟦<Listed<OutputName> as Ord>⟧.cmp one.names other.names)
         (⟦<OsBytes as Ord>⟧.cmp one.digest other.digest))) }
     ensures hashed { (key : StoreKey)
         → ⟦<StoreKey as Hash>⟧.hash_input key
-        ≡ ⟦<Family as Hash>⟧.hash_input key.family ++ ⟦<CShape as Hash>⟧.hash_input key.shape
+        ≡ ⟦<Family as Hash>⟧.hash_input key.family ++ ⟦<Shape as Hash>⟧.hash_input key.shape
         ++ ⟦<Listed<OutputName> as Hash>⟧.hash_input key.names ++ ⟦<OsBytes as Hash>⟧.hash_input
         key.digest }
 {

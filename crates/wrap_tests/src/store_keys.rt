@@ -11,7 +11,7 @@ use sha2::Sha256;
 use std::alloc::{AllocError, Global};
 use std::cmp::Ordering;
 use std::test::Fail;
-use wrap_base::store_key::{Family, StoreKey, keys_are_their_fields};
+use wrap_base::store_key::{Family, Shape, StoreKey, keys_are_their_fields};
 
 /// What is hashed: `ab` as the digest of an extra file, or as that of an assembler. The bytes are the same.
 #[derive(Clone, Copy)]
@@ -63,6 +63,7 @@ fn key_of(
 ) -> Result<StoreKey, AllocError> {
     let names = names_of(alloc, optional)?;
     let (digest, shape) = hashed_of(alloc, hashed)?;
+    let shape = Shape::C(shape);
     Ok(StoreKey {
         family,
         shape,

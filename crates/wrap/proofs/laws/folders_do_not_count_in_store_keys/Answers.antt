@@ -1,6 +1,7 @@
 use Rattle.std.proofs.Common.{◌≡◌}
 use Rattle.ckeys.specs.Calls.{KeyCall, record_of}
-use Rattle.ckeys.specs.Keys.{key_of, record_shape}
+use Rattle.ckeys.specs.Keys as keys
+use Rattle.wrap_base.specs.declared.store_key.Shape.TheVariants as shapes
 use Rattle.ckeys.specs.Meaning.{Meaning}
 use Rattle.wrap.specs.SameCalls.{AreSameWithoutFolders}
 use Rattle.wrap_base.specs.declared.store_key.Family.TheVariants.{C}
@@ -22,4 +23,4 @@ one_record meaning one other same = λ i. record {
 pub returns : goal.returns
 returns c digest_of meaning one other same =
     let records = one_record meaning one other same in
-    λ i. record { family = C; shape = record_shape digest_of (records i); names = same.names i; digest = key_of digest_of (records i) }
+    λ i. record { family = C; shape = shapes.C (keys.record_shape digest_of (records i)); names = same.names i; digest = keys.key_of digest_of (records i) }

@@ -1,7 +1,6 @@
 use Rattle.std.proofs.Common.{◌≡◌, rules, to_z, of_z, w64}
 use Rattle.ckeys.specs.Calls.{KeyCause, key_fault_of}
 use Rattle.ckeys.specs.Meaning.{FailsIn}
-use Rattle.ckeys.specs.Records.{AreTold}
 use Rattle.os_files.specs.Fails.{FailsOn}
 use Rattle.wrap.specs.Account.{call_at, work_at}
 use Rattle.wrap.specs.Verdicts.{hashed_words}
