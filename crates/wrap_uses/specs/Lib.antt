@@ -1,3 +1,4 @@
 pub mod Budgets
 pub mod Builds
 pub mod Caps
+pub mod Steps

@@ -4,3 +4,4 @@
 pub mod budget;
 pub mod build;
 pub mod capped_tool;
+pub mod step;
