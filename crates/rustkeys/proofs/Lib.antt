@@ -3,3 +3,4 @@ pub mod TextLemmas
 pub mod CauseLemmas
 pub mod ArchiveLemmas
 pub mod KeyLemmas
+mod RuleLemmas

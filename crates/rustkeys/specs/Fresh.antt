@@ -1,15 +1,18 @@
 -- What a compile of a request gives, and the text on dependencies beside it.
-use Rattle.std.specs.Prelude.{List, Option, option_and_then}
+use Rattle.std.specs.Prelude.{◌≡◌, Bool, List, Option, codes, option_and_then}
 use Rattle.std.specs.Option.{option_to_list}
 use Rattle.os_files.specs.Bytes.{Bytes}
+use Rattle.os_files.specs.Tree.{Tree}
 use Rattle.cmdlines.specs.Parsing.{Artifacts}
+use Rattle.cmdlines_base.specs.Reading.{Item}
 use Rattle.ckeys.specs.Calls.{text_in}
 use Rattle.ckeys.specs.Meaning.{Made, Meaning, names_of, scene_with, words}
 use Rattle.ckeys.specs.declared.step.Step.TheVariants.{Compile}
-use Rattle.rustc_texts.specs.Outputs.{output_names, outputs_of, targets_with}
+use Rattle.rustc_options.specs.declared.kind.ArgKind.{ArgKind}
+use Rattle.rustc_texts.specs.Outputs.{has_name, output_names, outputs_of, targets_with}
 use Rattle.rustc_texts.specs.Rewriting.{rewritten_of}
 use Rattle.rustc_texts.specs.Words.{compile_words}
-use Rattle.rustkeys_base.specs.Asks.{RustAsks}
+use Rattle.rustkeys_base.specs.Asks.{RustAsks, asks_of}
 use Rattle.rustkeys.specs.Questions.{compile_env_of, dep_info_of, file_names_of}
 use Rattle.rustkeys.specs.Calls.{RustCall}
 
@@ -31,3 +34,14 @@ abbrev pub dep_info_text_of : Meaning → RustCall → Option Bytes
 dep_info_text_of meaning c =
     let asks = c.question.asks in
     dep_info_by asks c.known.archive (text_in (dep_info_of meaning c.question).files) (output_names asks.emit (text_in (file_names_of meaning c.question).files))
+
+-- what a request asks for is what words come to, in some directory with some files
+pub record ComesOfWords (asks : RustAsks) : Type 0 where
+  pub dir : Bytes
+  pub tree : Tree
+  pub items : List (Item ArgKind)
+  pub is : asks ≡ asks_of dir tree items
+
+-- whether the text on dependencies is among what a request emits
+abbrev pub emits_dep_info : RustAsks → Bool
+emits_dep_info asks = has_name asks.emit (codes "dep-info")

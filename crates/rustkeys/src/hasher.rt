@@ -1,6 +1,6 @@
 //! The key of a request to rustc, on the files that are there when it is asked.
 
-ghost use Rattle.std.specs.Prelude.{◌≡◌, ℤ, None, string_bytes, IfOk, IfErr, OnOk, IsErrOf};
+ghost use Rattle.std.specs.Prelude.{◌≡◌, ℤ, None, is_some, string_bytes, IfOk, IfErr, OnOk, IsErrOf};
 ghost use Rattle.std.specs.List.{AllByRecursion};
 ghost use Rattle.std.specs.Str.Lossy.{utf8_lossy};
 ghost use Rattle.os_files.specs.Bytes.{ticked};
@@ -13,7 +13,7 @@ ghost use Rattle.rustc_texts.specs.Words.{compile_words};
 ghost use Rattle.rustkeys_base.specs.Asks.{asks_in};
 ghost use Rattle.rustkeys.specs.Calls.{key_fault_of, record_of};
 ghost use Rattle.rustkeys.specs.Finished.{known_in};
-ghost use Rattle.rustkeys.specs.Fresh.{call_outputs, dep_info_text_of};
+ghost use Rattle.rustkeys.specs.Fresh.{ComesOfWords, call_outputs, dep_info_text_of, emits_dep_info};
 ghost use Rattle.rustkeys.specs.Hashers.{call_of, known_of};
 ghost use Rattle.rustkeys.specs.Questions.{compile_env_of, question_of};
 ghost use Rattle.rustkeys.specs.Records.{IsTold, key_of, parts_of, record_shape};
@@ -29,6 +29,7 @@ use cmdlines_tables::language::Language;
 use os_files::files::Files;
 use os_files::os_bytes::OsBytes;
 use rustc_compiler::rust::Rust;
+use rustc_options::laws::words_in_order_are_a_set;
 use rustc_parts::parts::RShape;
 use rustkeys_base::parsed::ParsedArguments;
 use std::alloc::{AllocError, Global};
@@ -127,6 +128,11 @@ impl<'a> RustHasher<'a> {
         ensures dep_info { (moment : ℤ)
             → let c = call_of self.now dir.now env.now (F.tree files.old) moment in
             IfOk result (λ made. made.3 ≡ dep_info_text_of (A.meaning answers.old) c) }
+        // A call without a fault has a rule, so that text is there exactly where it's asked for: for a request of words, where they emit it.
+        ensures asked { IfOk result
+            (λ made. is_some made.3 ≡ is_some self.now.parsed.now.dep_info) }
+        ensures emitted { let asks = asks_in self.now.parsed.now in ComesOfWords asks
+            → IfOk result (λ made. is_some made.3 ≡ emits_dep_info asks) }
         // Its digests are digits, and what is hashed can be counted, which the law on keys and records asks for.
         ensures told { (moment : ℤ)
             → let c = call_of self.now dir.now env.now (F.tree files.old) moment in
@@ -150,6 +156,8 @@ impl<'a> RustHasher<'a> {
             (A.preprocessed answers.new ≡ ticked (ticked (A.preprocessed answers.old))) }
         ensures compiles { A.compiled answers.new ≡ A.compiled answers.old }
     {
+        // A law, which costs nothing: what follows from it is said above.
+        words_in_order_are_a_set();
         let known = known(self.compiler);
         let place = self.place(dir, env);
         let found = place.collect::<H, F, A>(alloc, files, answers)?;

@@ -1,9 +1,12 @@
-use Rattle.std.proofs.Common.{◌∙◌}
+use Rattle.std.proofs.Common.{◌≡◌, ◌∙◌, None, ap, is_some, pos, string_bytes, subst}
 use Rattle.ckeys.specs.Meaning.{scene_with}
 use Rattle.rustc_texts.specs.Outputs.{output_names}
 use Rattle.rustkeys_base.specs.Asks.{asks_in}
+use Rattle.rustkeys.specs.Calls.{rule_fault_of}
 use Rattle.rustkeys.specs.Finished.{known_in}
 use Rattle.rustkeys.specs.Fresh.{dep_info_by, dep_info_text_of}
+use Rattle.rustkeys.specs.Questions.{answers_of, question_of}
+use Rattle.rustkeys.proofs.RuleLemmas.{asked_where_emitted, rule_fine, told_where_asked}
 use Rattle.rustkeys.proofs.hasher.RustHasher.generate_hash_key.Goals as goal
 
 pub returns-clause-dep_info : goal.returns-clause-dep_info
@@ -22,3 +25,20 @@ returns-clause-dep_info g c = λ moment.
         scene = scene_with (place.executable i) (place.dir i) (place.env i) tree moment;
       };
     }))
+
+told_as_asked : goal.returns-clause-asked
+told_as_asked g c =
+    let q = question_of c.place-place.result (g.F.Files.tree c.args.files.now) (pos 0) in
+    let asks = asks_in c.place-place.result.parsed.now in
+    let told = c.in_ok-found.ensures.text (pos 0) in
+    let fine : rule_fault_of (string_bytes c.in_ok-found.found.sources.text) ≡ None =
+    ap rule_fault_of told ∙ rule_fine q (answers_of (g.A.Preprocessor.meaning c.args.answers.now) q) (c.in_ok-found.ensures.fine (pos 0)) in
+    ap is_some c.in_ok-finish.ensures.dep_info
+    ∙ told_where_asked asks (known_in c.known-known.result).archive (string_bytes c.in_ok-found.found.sources.text) (output_names asks.emit (string_bytes c.in_ok-found.found.names)) fine
+    ∙ (λ i. is_some (c.place-place.ensures.parsed i).dep_info)
+
+pub returns-clause-asked : goal.returns-clause-asked
+returns-clause-asked g c = told_as_asked g c
+
+pub returns-clause-emitted : goal.returns-clause-emitted
+returns-clause-emitted g c = λ comes. told_as_asked g c ∙ asked_where_emitted c.words_in_order_are_a_set.ensures.same _ comes

@@ -1,0 +1,150 @@
+//! Requests to rustc, and what comes of their keys.
+
+use crate::answer_tool::{AnswerTool, RustTexts};
+use ckeys::fault::Fault;
+use ckeys_base::digest::Digest;
+use cmdlines::compiler_arguments::CompilerArguments;
+use os_files::files::Files;
+use os_files::listed::Listed;
+use os_files::memory_files::MemoryFiles;
+use os_files::os_bytes::OsBytes;
+use rustkeys::compilation::RustCompilation;
+use rustkeys::hasher::RustHasher;
+use rustkeys::{ParsedArguments, RShape, Rust, parse_arguments};
+use sha2::Sha256;
+use std::alloc::{AllocError, Global};
+use std::test::Fail;
+use test_kit::rows::{files_of, words};
+
+/// A request for a library of a crate `foo`.
+pub(crate) const FIRST: &str =
+    "--emit link -C opt-level=1 foo.rs --out-dir out --crate-name foo --crate-type lib";
+
+/// The same in other words, into another folder.
+pub(crate) const SECOND: &str =
+    "--emit=link -Copt-level=1 foo.rs --out-dir=out2 --crate-name=foo --crate-type=lib";
+
+/// What the source holds.
+pub(crate) const SOURCE: &[u8] = b"pub fn f() {}\n";
+
+/// The digest of nothing, the low half of each byte first.
+pub(crate) const OF_NOTHING: &str =
+    "3e0b4c2489cfc141a9bf4f8c99f69b4272ea144e46b939c44a5999b187258b55";
+
+/// The files of each request.
+const FILES: [(&str, &[u8]); 4] = [
+    ("/w/foo.rs", SOURCE),
+    ("/w/a.rlib", b"a"),
+    ("/w/b.rlib", b"b"),
+    ("/w/lib/libz.a", b""),
+];
+
+/// What rustc tells of what the crate depends on.
+pub(crate) const DEPENDENCIES: &[u8] = b"deps.d: foo.rs\n\nfoo.rs:\n";
+
+/// A key, and what comes with it.
+pub(crate) type Made = (RustCompilation, String, RShape, Option<OsBytes>);
+
+/// The files of each request.
+pub(crate) fn all_files(alloc: Global) -> Result<MemoryFiles, AllocError> {
+    files_of(alloc, &FILES)
+}
+
+/// A tool that tells these texts, and of which no call fails.
+pub(crate) fn tool(
+    alloc: Global,
+    dep_info: &[u8],
+    file_names: &[u8],
+    digest: &[u8],
+) -> Result<AnswerTool, AllocError> {
+    let texts = RustTexts::new(alloc, dep_info, file_names, digest)?;
+    Ok(AnswerTool::new(texts, u64::MAX))
+}
+
+/// The digest of these pieces, one behind the other.
+pub(crate) fn digest_of_all(alloc: Global, pieces: &[&[u8]]) -> Result<String, AllocError> {
+    let mut digest: Digest<Sha256> = Digest::new();
+    for piece in pieces {
+        digest.update(piece);
+    }
+    digest.finish(alloc)
+}
+
+/// A rustc with these libraries, and without an archive.
+pub(crate) fn rust_with(
+    alloc: Global,
+    libraries: Vec<OsBytes>,
+    files: &mut MemoryFiles,
+) -> Result<Rust, Fail> {
+    let executable = OsBytes::from_slice(alloc, b"rustc")?;
+    let version = OsBytes::from_slice(alloc, b"host: x")?;
+    let sysroot = OsBytes::from_slice(alloc, b"/s")?;
+    let libraries = Listed::from_vec(libraries);
+    Ok(Rust::new::<Sha256, MemoryFiles>(
+        alloc, executable, version, sysroot, libraries, None, files,
+    )?)
+}
+
+/// A rustc without libraries.
+pub(crate) fn rust(alloc: Global) -> Result<Rust, Fail> {
+    rust_with(alloc, Vec::new(alloc), &mut MemoryFiles::new(alloc))
+}
+
+/// What the words of a line ask for, in `/w`.
+pub(crate) fn parsed(alloc: Global, line: &str) -> Result<ParsedArguments, Fail> {
+    let dir = OsBytes::from_slice(alloc, b"/w")?;
+    let list = words(alloc, line)?;
+    match parse_arguments(alloc, list.as_slice(), &dir, &mut all_files(alloc)?)? {
+        CompilerArguments::Ok(parsed) => Ok(parsed),
+        CompilerArguments::NotCompilation | CompilerArguments::CannotCache(_, _) => {
+            Err("no request".into())
+        }
+    }
+}
+
+/// What is answered of the key of a request to this rustc, in that directory, under these variables.
+pub(crate) fn asked_at<F: Files>(
+    alloc: Global,
+    hasher: &RustHasher<'_>,
+    dir: &str,
+    env: &[(OsBytes, OsBytes)],
+    files: &mut F,
+    tool: &mut AnswerTool,
+) -> Result<Made, Fault> {
+    let dir = OsBytes::from_slice(alloc, dir.as_bytes())?;
+    hasher.generate_hash_key::<Sha256, F, AnswerTool>(alloc, &dir, env, files, tool)
+}
+
+/// What is answered of the key of a line's request, in `/w`.
+pub(crate) fn asked<F: Files>(
+    alloc: Global,
+    line: &str,
+    files: &mut F,
+    tool: &mut AnswerTool,
+) -> Result<Result<Made, Fault>, Fail> {
+    let compiler = rust(alloc)?;
+    let parsed = parsed(alloc, line)?;
+    let hasher = RustHasher {
+        compiler: &compiler,
+        parsed: &parsed,
+    };
+    Ok(asked_at(alloc, &hasher, "/w", &[], files, tool))
+}
+
+/// The key, or the fault.
+pub(crate) fn told(alloc: Global, made: Result<Made, Fault>) -> Result<String, Fail> {
+    match made {
+        Ok((_, key, _, _)) => Ok(key),
+        Err(fault) => Ok(format!(in alloc; "fault {fault}")?),
+    }
+}
+
+/// The key of a line's request on these files, or the fault.
+pub(crate) fn told_on<F: Files>(
+    alloc: Global,
+    line: &str,
+    files: &mut F,
+    tool: &mut AnswerTool,
+) -> Result<String, Fail> {
+    told(alloc, asked(alloc, line, files, tool)?)
+}

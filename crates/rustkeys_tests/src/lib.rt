@@ -1,0 +1,13 @@
+//! Tests of rustc's keys of what no clause says: what is hashed of a request, by bytes written down here, and each refusal in turn.
+#![tactic(auto)]
+
+#[cfg(test)]
+mod answer_tool;
+#[cfg(test)]
+mod asking;
+#[cfg(test)]
+mod faults;
+#[cfg(test)]
+mod keys;
+#[cfg(test)]
+mod refusals;
