@@ -48,5 +48,6 @@ rows_noted tally rows has entries rest number none noted made =
     record {
       numbers = All-weaker (λ (row : Row). row.1.items ≡ numbers_in tally (string_bytes row.0)) (λ (row : Row). row.1.items ≡ numbers_where (has (string_bytes row.0)) 1 entries) (λ row is. is ∙ same (string_bytes row.0)) rows made.numbers;
       complete = λ name some. made.complete name (λ none. some (sym (same name) ∙ none));
+      apart = made.apart;
       order = made.order;
     }

@@ -1,19 +1,22 @@
 -- What a tally's entries tell of the numbers at which a name was noted.
-use Rattle.std.proofs.Common.{◌≡◌, refl, ℕ, ◌≢◌, List, [], Option, None, Some, Vec, ap, sym, ◌∙◌, All, Contains, string_bytes}
+use Rattle.std.proofs.Common.{◌≡◌, refl, ℕ, ◌≢◌, List, [], Option, None, Some, Vec, ap, sym, ◌∙◌, map, All, Contains, string_bytes}
 use Rattle.std.specs.BTreeMap.{IsOrdered, get, get_by_text}
 use Rattle.std.specs.Cmp.Lexicographic.{bytes_decides}
 use Rattle.std.specs.List.Sorted.{IsPermutation}
 use Rattle.std.specs.Option.{option_map_or}
+use Rattle.std.specs.Ordering.{eq_by_cmp}
 use Rattle.std.specs.String.{string_cmp, string_cmp_total}
 use Rattle.std.specs.declared.alloc.Global.{Global}
 use Rattle.std.proofs.lemmas.List.Elements.{All-weaker}
-use Rattle.std.proofs.lemmas.List.Sorted.{All-permutation, Contains-permutation}
+use Rattle.std.proofs.lemmas.Cmp.{eq_by_cmp_equiv}
+use Rattle.std.proofs.lemmas.List.Sorted.{All-permutation, Contains-permutation, IsPermutation-map}
 use Rattle.std.proofs.lemmas.Map.Entries.{place_from_lookup}
+use Rattle.std.proofs.lemmas.Map.Keys.{IsDistinct-IsPermutation, IsDistinct-from_sorted}
 use Rattle.std.proofs.lemmas.Map.Text.{is_eq-slice_cmp, text_cmp}
 use Rattle.std.proofs.lemmas.Map.Views.{All-found}
 use Rattle.std.proofs.lemmas.Option.{slice_get_within, get_or_from_slice_get}
 use Rattle.std.specs.BTreeMap.{is_at}
-use Rattle.recorded_builds.specs.Tallies.{Row, numbers_in}
+use Rattle.recorded_builds.specs.Tallies.{HaveNamesApart, Row, numbers_in}
 use Rattle.recorded_builds.specs.declared.tally.Tally.{Tally}
 
 module _ (tally : Tally) where
@@ -30,6 +33,13 @@ module _ (tally : Tally) where
   -- and so has each in another order
   pub rows_told : IsOrdered string_cmp tally.names → (rows : List Row) → IsPermutation tally.names.entries rows → All IsTold rows
   rows_told ordered rows moved = All-permutation IsTold tally.names.entries rows moved (told ordered)
+
+  -- no two entries have one name, in whatever order
+  pub names_apart : IsOrdered string_cmp tally.names → (rows : List Row) → IsPermutation tally.names.entries rows → HaveNamesApart rows
+  names_apart ordered rows moved =
+      let name = λ (row : Row). row.0 in
+      let entries = tally.names.entries in
+      IsDistinct-IsPermutation (eq_by_cmp string_cmp) (eq_by_cmp_equiv string_cmp_total).symm (map name entries) (map name rows) (IsPermutation-map name entries rows moved) (IsDistinct-from_sorted string_cmp (map name entries) ordered)
 
   found_in : (o : Option (Vec ℕ Global)) → option_map_or (λ numbers. numbers.items) o [] ≢ [] → (numbers : Vec ℕ Global) × (o ≡ Some numbers)
   found_in None some = absurd (some refl)

@@ -135,7 +135,7 @@ fn note_options(found: &mut Vec<&'static str>, words: &[OsBytes]) -> Result<(), 
 }
 
 /// The options to beware of among these words and those, each once.
-pub(crate) fn options_in(
+pub fn options_in(
     alloc: Global,
     words: &[OsBytes],
     more: &[OsBytes],
