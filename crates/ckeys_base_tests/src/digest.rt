@@ -13,9 +13,11 @@ use os_files::memory_files::{MemoryFile, MemoryFiles};
 use os_files::os_bytes::OsBytes;
 use sha2::{Sha256, Sha512};
 use std::alloc::{AllocError, Global};
+use std::fmt::Write;
 use std::io;
 use std::io::Read;
 use std::test::Fail;
+use test_kit::texts::is_that;
 
 /// The digest of nothing, the low half of each byte first.
 const OF_NOTHING: &str = "3e0b4c2489cfc141a9bf4f8c99f69b4272ea144e46b939c44a5999b187258b55";
@@ -102,52 +104,46 @@ fn in_pieces(alloc: Global, bytes: &[u8], size: usize) -> Result<String, AllocEr
     digest.finish(alloc)
 }
 
+/// The digest of these bytes, of which a reader gives one a read.
+fn read_in_sips(alloc: Global, bytes: &[u8]) -> Result<String, Error> {
+    let sips = Sips {
+        rest: bytes,
+        most: 1,
+        fails: false,
+    };
+    Digest::<Sha256>::reader_sync(alloc, sips)
+}
+
 #[test]
 fn prints_the_digests_of_the_standard(rt: HostRuntime) -> Result<(), Fail> {
-    let alloc = rt.alloc();
     for (bytes, text) in [
         (b"".as_slice(), OF_NOTHING),
         (b"abc".as_slice(), OF_ABC),
         (TWO_BLOCKS, OF_TWO_BLOCKS),
     ] {
-        assert_eq!(rt; in_pieces(alloc, bytes, 5)?.as_str(), text);
-        assert_eq!(rt; Digest::<Sha256>::reader_sync(alloc, bytes)?.as_str(), text);
-        let sips = Sips {
-            rest: bytes,
-            most: 1,
-            fails: false,
-        };
-        assert_eq!(rt; Digest::<Sha256>::reader_sync(alloc, sips)?.as_str(), text);
+        is_that(in_pieces(rt.alloc(), bytes, 5)?.as_str(), text, "pieces")?;
+        is_that(read_in_sips(rt.alloc(), bytes)?.as_str(), text, "a reader")?;
     }
-    assert_eq!(rt; <Sha256 as HashState>::LEN, 32);
     texts_tell_digests::<Sha256>();
     Ok(())
 }
 
 #[test]
 fn another_hash_has_a_longer_text(rt: HostRuntime) -> Result<(), Fail> {
-    let alloc = rt.alloc();
-    let sips = Sips {
-        rest: b"abc",
-        most: 2,
-        fails: false,
-    };
-    assert_eq!(rt;
-        Digest::<Wide>::reader_sync(alloc, sips)?.as_str(),
-        OF_ABC_WIDE
-    );
-    Ok(())
+    let text = Digest::<Wide>::reader_sync(rt.alloc(), b"abc".as_slice())?;
+    is_that(text.as_str(), OF_ABC_WIDE, "abc")
 }
 
 #[test]
 fn reads_past_its_buffer(rt: HostRuntime) -> Result<(), Fail> {
-    let alloc = rt.alloc();
-    assert_eq!(rt; HASH_BUFFER_SIZE, 131_072);
-    let long = vec![in alloc; b'a'; 1_000_000]?;
-    assert_eq!(rt; in_pieces(alloc, &long, 999)?.as_str(), OF_A_MILLION);
-    let read = Digest::<Sha256>::reader_sync(alloc, long.as_slice())?;
-    assert_eq!(rt; read.as_str(), OF_A_MILLION);
-    Ok(())
+    let long = vec![in rt.alloc(); b'a'; 1_000_000]?;
+    is_that(
+        in_pieces(rt.alloc(), &long, 999)?.as_str(),
+        OF_A_MILLION,
+        "pieces",
+    )?;
+    let read = Digest::<Sha256>::reader_sync(rt.alloc(), long.as_slice())?;
+    is_that(read.as_str(), OF_A_MILLION, "a reader")
 }
 
 #[test]
@@ -162,32 +158,36 @@ fn shows_each_piece_in_order(rt: HostRuntime) -> Result<(), Fail> {
         let first = piece.first().copied().unwrap_or(0);
         shown = shown.wrapping_mul(256).wrapping_add(u64::from(first));
     })?;
-    assert_eq!(rt; text.as_str(), OF_ABC);
     assert_eq!(rt; shown, 0x61_62_63);
-    Ok(())
+    is_that(text.as_str(), OF_ABC, "abc")
 }
 
 #[test]
 fn a_failed_read_is_told(rt: HostRuntime) -> Result<(), Fail> {
-    let alloc = rt.alloc();
     let sips = Sips {
         rest: b"abc",
         most: 2,
         fails: true,
     };
-    assert_eq!(rt;
-        Digest::<Sha256>::reader_sync(alloc, sips).err(),
-        Some(Error::Io)
-    );
-    assert_eq!(rt;
+    match Digest::<Sha256>::reader_sync(rt.alloc(), sips) {
+        Err(Error::Io) => Ok(()),
+        _ => Err("no failure of the reader".into()),
+    }
+}
+
+#[test]
+fn errors_are_printed(rt: HostRuntime) -> Result<(), Fail> {
+    let alloc = rt.alloc();
+    is_that(
         format!(in alloc; "{}", Error::Io)?.as_str(),
-        "the bytes cannot be read"
-    );
-    assert_eq!(rt;
+        "the bytes cannot be read",
+        "a reader",
+    )?;
+    is_that(
         format!(in alloc; "{}", Error::Memory)?.as_str(),
-        "out of memory"
-    );
-    Ok(())
+        "out of memory",
+        "memory",
+    )
 }
 
 #[test]
@@ -198,8 +198,7 @@ fn a_delimiter_is_its_bytes(rt: HostRuntime) -> Result<(), Fail> {
     digest.delimiter(b"env");
     let text = digest.finish(alloc)?;
     let whole = in_pieces(alloc, b"a\0SCCACHE\0env\0", 100)?;
-    assert_eq!(rt; text.as_str(), whole.as_str());
-    Ok(())
+    is_that(text.as_str(), whole.as_str(), "a delimiter")
 }
 
 /// A file of `abc` and an empty one.
@@ -215,21 +214,49 @@ fn files(alloc: Global, abc: &OsBytes, empty: &OsBytes) -> Result<MemoryFiles, A
     Ok(files)
 }
 
-#[test]
-fn files_are_digested_in_order(rt: HostRuntime) -> Result<(), Fail> {
-    let alloc = rt.alloc();
+/// The digests of the first of these files, each behind a bar: one of `abc`, an empty one, and one that isn't there.
+fn digests_of_files(alloc: Global, count: usize) -> Result<String, Fail> {
     let abc = OsBytes::from_slice(alloc, b"/w/abc")?;
     let empty = OsBytes::from_slice(alloc, b"/w/empty")?;
     let missing = OsBytes::from_slice(alloc, b"/w/missing")?;
     let mut files = files(alloc, &abc, &empty)?;
-    let text = Digest::<Sha256>::file(alloc, &abc, &mut files)?.ok_or("not there")?;
-    assert_eq!(rt; text.as_str(), OF_ABC);
-    assert!(rt; Digest::<Sha256>::file(alloc, &missing, &mut files)?.is_none());
     let names = [abc, empty, missing];
-    let all = Digest::<Sha256>::hash_all(alloc, &names[..2], &mut files)?.ok_or("not there")?;
-    assert_eq!(rt; all.len(), 2);
-    assert_eq!(rt; all.first().map(|text| text.as_str()), Some(OF_ABC));
-    assert_eq!(rt; all.last().map(|text| text.as_str()), Some(OF_NOTHING));
-    assert!(rt; Digest::<Sha256>::hash_all(alloc, &names, &mut files)?.is_none());
-    Ok(())
+    match Digest::<Sha256>::hash_all(alloc, &names[..count.min(3)], &mut files)? {
+        Some(all) => Ok(barred(alloc, all.as_slice())?),
+        None => Ok(String::from_str(alloc, "not there")?),
+    }
+}
+
+/// The texts, each behind a bar.
+fn barred(alloc: Global, texts: &[String]) -> Result<String, AllocError> {
+    let mut all = String::new(alloc);
+    for text in texts {
+        write!(all, "|{text}")?;
+    }
+    Ok(all)
+}
+
+#[test]
+fn files_are_digested_in_order(rt: HostRuntime) -> Result<(), Fail> {
+    let alloc = rt.alloc();
+    let want = format!(in alloc; "|{OF_ABC}|{OF_NOTHING}")?;
+    is_that(
+        digests_of_files(alloc, 2)?.as_str(),
+        want.as_str(),
+        "two files",
+    )?;
+    is_that(
+        digests_of_files(alloc, 3)?.as_str(),
+        "not there",
+        "three files",
+    )
+}
+
+#[test]
+fn a_file_is_digested(rt: HostRuntime) -> Result<(), Fail> {
+    let alloc = rt.alloc();
+    let abc = OsBytes::from_slice(alloc, b"/w/abc")?;
+    let mut files = files(alloc, &abc, &OsBytes::empty(alloc))?;
+    let text = Digest::<Sha256>::file(alloc, &abc, &mut files)?.ok_or("not there")?;
+    is_that(text.as_str(), OF_ABC, "a file")
 }

@@ -1,4 +1,4 @@
-//! Tests of what keys stand on, by example: digests, stripping, stores, and the small calls.
+//! Tests of what keys stand on, by example: digests, stripping, and the small calls.
 #![tactic(auto)]
 
 #[cfg(test)]
@@ -13,8 +13,6 @@ mod normalize;
 mod os_str_ext;
 #[cfg(test)]
 mod path_bytes;
-#[cfg(test)]
-mod store;
 #[cfg(test)]
 mod strip;
 #[cfg(test)]

@@ -2,6 +2,7 @@
 
 use ckeys_base::normalize::{normalize_path, normalize_win_path};
 use std::test::Fail;
+use test_kit::texts::is_that;
 
 #[test]
 fn normal_paths_by_example(rt: HostRuntime) -> Result<(), Fail> {
@@ -15,7 +16,7 @@ fn normal_paths_by_example(rt: HostRuntime) -> Result<(), Fail> {
         ("a/../..", ""),
     ] {
         let normal = normalize_path(alloc, path.as_bytes())?;
-        assert_eq!(rt; normal.as_bytes(), want.as_bytes(), "{path:?}");
+        is_that(format!(in alloc; "{normal}")?.as_str(), want, path)?;
     }
     Ok(())
 }

@@ -3,6 +3,7 @@
 use crate::compilers::{gcc, parsed};
 use crate::keys::digest_of;
 use crate::print_tool::PrintTool;
+use bounded_store::lru_store::LruStore;
 use ckeys::compiler::CCompiler;
 use ckeys::config::KeyConfig;
 use ckeys::fault::Fault;
@@ -17,14 +18,14 @@ use os_files::memory_files::MemoryFiles;
 use os_files::os_bytes::OsBytes;
 use sha2::Sha256;
 use std::alloc::{AllocError, Global};
+use std::num::NonZeroUsize;
 use std::test::Fail;
 use test_kit::rows::files_of;
 use test_kit::texts::is_that;
 use time_macros::zone::Zone;
-use wrap_base::map_store::MapStore;
 
 /// The include records of earlier calls.
-pub(crate) type Records = MapStore<EntryKey, PreprocessorCacheEntry>;
+pub(crate) type Records = LruStore<EntryKey, PreprocessorCacheEntry>;
 
 /// This compiler at `/usr/bin/gcc` with the digest `d`.
 pub(crate) fn known<I: Drop>(alloc: Global, compiler: I) -> Result<CCompiler<I>, AllocError> {
@@ -41,7 +42,7 @@ fn key_by(
     files: &mut MemoryFiles,
     tool: &mut PrintTool,
 ) -> Result<(String, CShape, bool), Fault> {
-    let mut records: Records = MapStore::new(alloc);
+    let mut records: Records = LruStore::new(alloc, NonZeroUsize::MIN)?;
     let at = CallPlace {
         dir,
         env: &[],

@@ -4,6 +4,7 @@ use crate::calls::{Records, known};
 use crate::compilers::{gcc, parsed};
 use crate::keys::digest_of;
 use crate::print_tool::PrintTool;
+use bounded_store::lru_store::LruStore;
 use ckeys::compiler::CCompiler;
 use ckeys::config::KeyConfig;
 use ckeys::fault::Fault;
@@ -16,10 +17,10 @@ use os_files::memory_files::MemoryFiles;
 use os_files::os_bytes::OsBytes;
 use sha2::Sha256;
 use std::alloc::{AllocError, Global};
+use std::num::NonZeroUsize;
 use std::test::Fail;
 use test_kit::rows::files_of;
 use time_macros::zone::Zone;
-use wrap_base::map_store::MapStore;
 
 /// What the preprocessor prints of `foo.c`, which includes `foo.h`.
 const TEXT: &[u8] = b"# 1 \"foo.c\"\n# 1 \"foo.h\" 1\nint x;\n";
@@ -51,7 +52,7 @@ fn answers_of(
     calls: &mut Calls<'_>,
 ) -> Result<Vec<Result<(String, CShape, bool), Fault>>, Fail> {
     let config = KeyConfig::new(alloc, &[], Zone::utc(), true)?;
-    let mut records: Records = MapStore::new(alloc);
+    let mut records: Records = LruStore::new(alloc, NonZeroUsize::MIN)?;
     Ok(hash_keys::<Sha256, Gcc, Records, MemoryFiles, PrintTool>(
         alloc,
         calls.as_mut_slice(),

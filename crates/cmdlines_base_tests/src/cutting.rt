@@ -217,10 +217,10 @@ fn a_pair_of_tables_is_searched(rt: HostRuntime) -> Result<(), Fail> {
     if pair.search(b"x.c").is_some() {
         return Err("an entry of no flag".into());
     }
-    if pair.0.search(b"-Iy").map(|entry| entry.flag()) != Some("-I") {
-        return Err("another entry".into());
+    match pair.0.search(b"-Iy") {
+        Some(entry) if entry.flag() == "-I" => Ok(()),
+        _ => Err("another entry".into()),
     }
-    Ok(())
 }
 
 #[test]

@@ -7,42 +7,44 @@ use os_files::os_bytes::OsBytes;
 use std::alloc::{AllocError, Global};
 use std::fmt::Write;
 use std::test::Fail;
+use test_kit::texts::is_that;
 
-/// The words of a line, cut and printed again, between spaces.
-fn printed_again(alloc: Global, line: &[u8]) -> Result<String, Fail> {
+/// The words that an argument prints, each behind a space.
+fn printed(alloc: Global, argument: &Argument<Value>) -> Result<String, AllocError> {
+    let mut text = String::new(alloc);
+    for word in argument.iter_os_strings(alloc) {
+        write!(text, " {}", word?)?;
+    }
+    Ok(text)
+}
+
+/// The words of a line, cut and printed again, each behind a space.
+fn printed_again(alloc: Global, line: &str) -> Result<String, Fail> {
     let table = table(alloc)?;
-    let list = words(alloc, line)?;
+    let list = words(alloc, line.as_bytes())?;
     let mut text = String::new(alloc);
     for argument in ArgsIter::new(alloc, list.as_slice(), &table) {
-        let Ok(argument) = argument else {
-            return Err("not cut".into());
-        };
-        for word in argument.iter_os_strings(alloc) {
-            if !text.is_empty() {
-                text.push(' ')?;
-            }
-            text.push_str(format!(in alloc; "{}", word?)?.as_str())?;
+        match argument {
+            Ok(argument) => text.push_str(printed(alloc, &argument)?.as_str())?,
+            Err(_) => return Err("not cut".into()),
         }
     }
     Ok(text)
 }
 
+/// Lines, and what is printed of them again. A delimiter before nothing is dropped.
+const PRINTED: &str = "\
+-c a.c -o a.o -Iinc -I inc -u -O2 -O => -c a.c -o a.o -Iinc -I inc -u -O2 -O\n\
+--sysroot=/s --sysroot /s -stdlib=libc++ -std -xc => --sysroot=/s --sysroot /s -stdlib=libc++ -std -xc\n\
+-std= => -std\n\
+--sysroot= -c => --sysroot -c\n\
+-I => -I";
+
 #[test]
 fn words_are_printed_as_they_stood(rt: HostRuntime) -> Result<(), Fail> {
-    let alloc = rt.alloc();
-    for line in [
-        "-c a.c -o a.o -Iinc -I inc -u -O2 -O",
-        "--sysroot=/s --sysroot /s -stdlib=libc++ -std -xc",
-    ] {
-        assert_eq!(rt; printed_again(alloc, line.as_bytes())?.as_str(), line);
-    }
-    // A delimiter before nothing is dropped.
-    for (line, want) in [
-        ("-std=", "-std"),
-        ("--sysroot= -c", "--sysroot -c"),
-        ("-I", "-I"),
-    ] {
-        assert_eq!(rt; printed_again(alloc, line.as_bytes())?.as_str(), want);
+    for row in PRINTED.lines() {
+        let (line, want) = row.split_once(" =>").ok_or("no arrow")?;
+        is_that(printed_again(rt.alloc(), line)?.as_str(), want, line)?;
     }
     Ok(())
 }

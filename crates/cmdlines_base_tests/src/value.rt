@@ -5,11 +5,12 @@ use cmdlines_base::value::{ArgumentValue, FromArg, IntoArg};
 use os_files::os_bytes::OsBytes;
 use std::alloc::Global;
 use std::test::Fail;
+use test_kit::texts::is_that;
 
 /// The word that a value of a word prints.
-fn printed_again<T: FromArg + IntoArg>(alloc: Global, word: &[u8]) -> Result<OsBytes, Fail> {
-    match T::process(OsBytes::from_slice(alloc, word)?) {
-        Ok(value) => Ok(value.into_arg_os_string(alloc)?),
+fn printed_again<T: FromArg + IntoArg>(alloc: Global, word: &str) -> Result<String, Fail> {
+    match T::process(OsBytes::from_slice(alloc, word.as_bytes())?) {
+        Ok(value) => Ok(format!(in alloc; "{}", value.into_arg_os_string(alloc)?)?),
         Err(_) => Err("no value".into()),
     }
 }
@@ -19,8 +20,8 @@ fn refuse(_path: &[u8]) -> Option<String> {
 }
 
 /// The text of an option's value.
-fn text_of<T: ArgumentValue<Kind = ()>>(alloc: Global, word: &[u8]) -> Result<String, Fail> {
-    match T::of_word(alloc, (), word) {
+fn text_of<T: ArgumentValue<Kind = ()>>(alloc: Global, word: &str) -> Result<String, Fail> {
+    match T::of_word(alloc, (), word.as_bytes()) {
         Ok(value) => match value.into_arg_string(alloc, &mut refuse) {
             Ok(text) => Ok(text),
             Err(_) => Err("no text".into()),
@@ -32,17 +33,27 @@ fn text_of<T: ArgumentValue<Kind = ()>>(alloc: Global, word: &[u8]) -> Result<St
 #[test]
 fn values_print_what_they_read(rt: HostRuntime) -> Result<(), Fail> {
     let alloc = rt.alloc();
-    let word = "a b\u{e9}".as_bytes();
-    assert_eq!(rt; printed_again::<OsBytes>(alloc, word)?.as_bytes(), word);
-    assert_eq!(rt; printed_again::<String>(alloc, word)?.as_bytes(), word);
-    assert_eq!(rt;
-        printed_again::<()>(alloc, word)?.as_bytes(),
-        b"".as_slice()
-    );
-    assert_eq!(rt; text_of::<OsBytes>(alloc, word)?.as_str(), "a b\u{e9}");
-    assert_eq!(rt; text_of::<String>(alloc, word)?.as_str(), "a b\u{e9}");
-    assert_eq!(rt; text_of::<()>(alloc, word)?.as_str(), "");
-    Ok(())
+    let word = "a b\u{e9}";
+    is_that(
+        printed_again::<OsBytes>(alloc, word)?.as_str(),
+        word,
+        "bytes",
+    )?;
+    is_that(
+        printed_again::<String>(alloc, word)?.as_str(),
+        word,
+        "a text",
+    )?;
+    is_that(printed_again::<()>(alloc, word)?.as_str(), "", "a flag")
+}
+
+#[test]
+fn values_have_the_text_that_they_read(rt: HostRuntime) -> Result<(), Fail> {
+    let alloc = rt.alloc();
+    let word = "a b\u{e9}";
+    is_that(text_of::<OsBytes>(alloc, word)?.as_str(), word, "bytes")?;
+    is_that(text_of::<String>(alloc, word)?.as_str(), word, "a text")?;
+    is_that(text_of::<()>(alloc, word)?.as_str(), "", "a flag")
 }
 
 #[test]

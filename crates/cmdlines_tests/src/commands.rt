@@ -13,6 +13,7 @@ use cmdlines_base::command::SingleCompileCommand;
 use os_files::listed::Listed;
 use os_files::os_bytes::OsBytes;
 use std::alloc::{AllocError, Global};
+use std::process::Abort;
 use std::test::Fail;
 
 /// A variable of that name with that value.
@@ -34,42 +35,27 @@ fn command_for(
     Ok(compiler.generate_compile_commands(alloc, &program, request, &dir, variables)?)
 }
 
-/// What Gcc runs for a request with these variables, which can be kept.
-fn run_of_gcc(
-    alloc: Global,
+/// The command runs Gcc in its folder with these variables, and can be kept.
+fn runs_with(
+    rt: &impl Abort,
+    (command, cacheable): &(SingleCompileCommand, Cacheable),
     variables: &[(OsBytes, OsBytes)],
-) -> Result<SingleCompileCommand, Fail> {
-    let request = parsed_by_gcc(alloc, "-c foo.c")?;
-    match command_for(alloc, &request, variables)? {
-        (command, Cacheable::Yes) => Ok(command),
-        (_, Cacheable::No) => Err("not to be kept".into()),
-    }
+) {
+    assert!(rt; matches!(cacheable, Cacheable::Yes));
+    assert_eq!(rt; command.executable.as_bytes(), b"/opt/bin/cc".as_slice());
+    assert_eq!(rt; command.cwd.as_bytes(), b"/some/dir".as_slice());
+    assert_eq!(rt; command.env_vars.as_slice(), variables);
 }
 
 #[test]
-fn what_is_run(rt: HostRuntime) -> Result<(), Fail> {
-    let alloc = rt.alloc();
-    let program = run_of_gcc(alloc, &[])?.executable;
-    assert_eq!(rt; program.as_bytes(), b"/opt/bin/cc".as_slice());
-    Ok(())
-}
-
-#[test]
-fn where_it_is_run(rt: HostRuntime) -> Result<(), Fail> {
-    let alloc = rt.alloc();
-    let dir = run_of_gcc(alloc, &[])?.cwd;
-    assert_eq!(rt; dir.as_bytes(), b"/some/dir".as_slice());
-    Ok(())
-}
-
-#[test]
-fn variables_are_those_of_the_request(rt: HostRuntime) -> Result<(), Fail> {
+fn what_is_run_where_and_with_what(rt: HostRuntime) -> Result<(), Fail> {
     let alloc = rt.alloc();
     let mut variables = Vec::new(alloc);
     variables.push(variable(alloc, "LANG", "C")?)?;
     variables.push(variable(alloc, "EMPTY", "")?)?;
-    let run_with = run_of_gcc(alloc, variables.as_slice())?.env_vars;
-    assert_eq!(rt; run_with.as_slice(), variables.as_slice());
+    let request = parsed_by_gcc(alloc, "-c foo.c")?;
+    let command = command_for(alloc, &request, variables.as_slice())?;
+    runs_with(&rt, &command, variables.as_slice());
     Ok(())
 }
 

@@ -6,8 +6,6 @@ mod calls;
 #[cfg(test)]
 mod commands;
 #[cfg(test)]
-mod languages;
-#[cfg(test)]
 mod small;
 #[cfg(test)]
 mod tables;

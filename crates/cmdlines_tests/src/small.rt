@@ -2,7 +2,6 @@
 
 use crate::written::{bare, parsed_by_clang, parsed_by_gcc, parsed_by_msvc};
 use cmdlines::clang::ClangKind;
-use cmdlines::command::command_at;
 use cmdlines::compiler_arguments::CompilerArguments;
 use cmdlines::gcc::GccKind;
 use cmdlines::hazards::{empty_value, opens_file};
@@ -162,19 +161,6 @@ fn double_dashes_end_the_options_of_clang(rt: HostRuntime) -> Result<(), Fail> {
     assert!(rt; matches!(of_gcc.next(), Some(Ok(Argument::UnknownFlag(_)))));
     assert!(rt; matches!(of_gcc.next(), Some(Ok(Argument::Flag("-c", _)))));
     assert!(rt; of_gcc.next().is_none());
-    Ok(())
-}
-
-#[test]
-fn commands_are_what_was_given(rt: HostRuntime) -> Result<(), Fail> {
-    let alloc = rt.alloc();
-    let executable = OsBytes::from_slice(alloc, b"/bin/cc")?;
-    let dir = OsBytes::from_slice(alloc, b"/w")?;
-    let list = Listed::from_vec(words(alloc, "-c a.c")?);
-    let command = command_at(alloc, &executable, list, &[], &dir)?;
-    assert_eq!(rt; command.executable.as_bytes(), b"/bin/cc".as_slice());
-    assert_eq!(rt; command.cwd.as_bytes(), b"/w".as_slice());
-    assert_eq!(rt; (command.arguments.len(), command.env_vars.len()), (2, 0));
     Ok(())
 }
 

@@ -1,5 +1,6 @@
 //! What records tell of files.
 
+use include_records::entry::IncludeEntry;
 use include_records::includes::includes_of;
 use include_records::key_text::KeyText;
 use include_records::record::PreprocessorCacheEntry;
@@ -13,6 +14,7 @@ use sha2::Sha256;
 use std::alloc::{AllocError, Global};
 use std::test::Fail;
 use test_kit::fail_files::FailFiles;
+use test_kit::texts::is_that;
 use time_macros::zone::Zone;
 
 /// 2023-11-14 22:13:20 in UTC, of day 19675; the next day began at 1700006400.
@@ -73,33 +75,52 @@ fn told<F: Files>(
     }
 }
 
-#[test]
-fn what_is_recorded_of_a_file(rt: HostRuntime) -> Result<(), Fail> {
-    let alloc = rt.alloc();
+/// What is recorded of the files `a.h` and `d.h` of `/w` at a moment.
+fn recorded(alloc: Global, moment: i64) -> Result<Option<Listed<IncludeEntry>>, Fail> {
     let mut files = files_with(alloc, &[("a.h", b"abc", 7), ("d.h", DATED, -5)])?;
     let mut list = Vec::new(alloc);
     list.push(OsBytes::from_slice(alloc, b"a.h")?)?;
     list.push(OsBytes::from_slice(alloc, b"d.h")?)?;
     let dir = OsBytes::from_slice(alloc, b"/w")?;
     let zone = Zone::new("UTC0")?;
-    let found = includes_of::<Sha256, _>(alloc, &dir, MOMENT, &zone, list.as_slice(), &mut files)?;
-    let includes = found.unwrap_or(Listed::new(alloc));
-    assert_eq!(rt; includes.len(), 2);
-    for (include, digest, size, day, second) in [
-        (includes.as_slice().first(), Some(OF_ABC), 3, None, None),
-        (includes.as_slice().last(), None, 22, Some(19675), Some(-5)),
-    ] {
-        let Some(include) = include else { continue };
-        assert_eq!(rt; include.size, size);
-        assert_eq!(rt; include.day, day);
-        assert_eq!(rt; include.second, second);
-        if let Some(digest) = digest {
-            assert_eq!(rt; include.digest.as_str(), digest);
-        }
+    Ok(includes_of::<Sha256, _>(alloc, &dir, moment, &zone, list.as_slice(), &mut files)?)
+}
+
+/// A name with the size, the day and the second that are recorded.
+fn shown(alloc: Global, include: &IncludeEntry) -> Result<String, AllocError> {
+    let IncludeEntry {
+        path,
+        size,
+        day,
+        second,
+        ..
+    } = include;
+    format!(in alloc; "{path} {size} {day:?} {second:?}")
+}
+
+#[test]
+fn what_is_recorded_of_a_file(rt: HostRuntime) -> Result<(), Fail> {
+    let alloc = rt.alloc();
+    let includes = recorded(alloc, MOMENT)?.ok_or("nothing is recorded")?;
+    let [plain, dated] = includes.as_slice() else {
+        return Err("other files".into());
+    };
+    is_that(plain.digest.as_str(), OF_ABC, "a digest")?;
+    is_that(
+        shown(alloc, plain)?.as_str(),
+        "a.h 3 None None",
+        "a plain file",
+    )?;
+    let want = "d.h 22 Some(19675) Some(-5)";
+    is_that(shown(alloc, dated)?.as_str(), want, "a file with dates")
+}
+
+#[test]
+fn past_the_calendar_nothing_is_recorded(rt: HostRuntime) -> Result<(), Fail> {
+    match recorded(rt.alloc(), i64::MAX)? {
+        Some(_) => Err("recorded".into()),
+        None => Ok(()),
     }
-    let late = includes_of::<Sha256, _>(alloc, &dir, i64::MAX, &zone, list.as_slice(), &mut files)?;
-    assert!(rt; late.is_none());
-    Ok(())
 }
 
 #[test]
@@ -118,11 +139,18 @@ fn files_are_found_again(rt: HostRuntime) -> Result<(), Fail> {
         (b"abc".as_slice(), 8, i64::MAX, "none"),
     ] {
         let mut now = files_with(alloc, &[("a.h", contents, 0), ("d.h", DATED, second)])?;
-        assert_eq!(rt; told(alloc, &entry, moment, &mut now)?.as_str(), key);
+        is_that(
+            told(alloc, &entry, moment, &mut now)?.as_str(),
+            key,
+            "both files",
+        )?;
     }
     let mut gone = files_with(alloc, &[("d.h", DATED, 8)])?;
-    assert_eq!(rt; told(alloc, &entry, MOMENT, &mut gone)?.as_str(), "none");
-    Ok(())
+    is_that(
+        told(alloc, &entry, MOMENT, &mut gone)?.as_str(),
+        "none",
+        "one file",
+    )
 }
 
 #[test]
@@ -136,10 +164,21 @@ fn the_greatest_key_is_told(rt: HostRuntime) -> Result<(), Fail> {
     record_of(alloc, &mut entry, "c", &["a.h"], &mut files)?;
     record_of(alloc, &mut entry, "a", &[], &mut files)?;
     let mut gone = MemoryFiles::new(alloc);
-    assert_eq!(rt; told(alloc, &entry, MOMENT, &mut files)?.as_str(), "c");
-    assert_eq!(rt; told(alloc, &entry, MOMENT, &mut changed)?.as_str(), "q");
-    assert_eq!(rt; told(alloc, &entry, MOMENT, &mut gone)?.as_str(), "a");
-    Ok(())
+    is_that(
+        told(alloc, &entry, MOMENT, &mut files)?.as_str(),
+        "c",
+        "as it was",
+    )?;
+    is_that(
+        told(alloc, &entry, MOMENT, &mut changed)?.as_str(),
+        "q",
+        "changed",
+    )?;
+    is_that(
+        told(alloc, &entry, MOMENT, &mut gone)?.as_str(),
+        "a",
+        "gone",
+    )
 }
 
 #[test]

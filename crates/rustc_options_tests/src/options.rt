@@ -7,10 +7,10 @@ use os_files::os_bytes::OsBytes;
 use rustc_options::data::ArgData;
 use rustc_options::kind::ArgKind;
 use rustc_options::sets::{between_commas, in_order, joined_by_commas};
-use rustc_options::splitting::{maybe_with_equals, split_at_equals, with_equals};
+use rustc_options::splitting::{maybe_with_equals, split_at_equals};
 use std::alloc::{AllocError, Global};
-use std::process::Abort;
 use std::test::Fail;
+use test_kit::texts::is_that;
 
 /// The value of an option of that kind.
 fn value(alloc: Global, kind: ArgKind, word: &str) -> Result<ArgData, Fail> {
@@ -43,13 +43,19 @@ const TEXTS: [(ArgKind, &str, &str); 15] = [
     (ArgKind::Unstable, "a=b", "a=b"),
 ];
 
+/// The text of the value of an option of that kind, where each path is `/there`.
+fn text_of(alloc: Global, kind: ArgKind, word: &str) -> Result<String, Fail> {
+    let value = value(alloc, kind, word)?;
+    match value.into_arg_string(alloc, &mut |_path: &[u8]| elsewhere(alloc)) {
+        Ok(text) => Ok(text),
+        Err(_) => Err("no text".into()),
+    }
+}
+
 #[test]
 fn values_as_texts(rt: HostRuntime) -> Result<(), Fail> {
-    let alloc = rt.alloc();
     for (kind, word, want) in TEXTS {
-        let value = value(alloc, kind, word)?;
-        let text = value.into_arg_string(alloc, &mut |_path: &[u8]| elsewhere(alloc));
-        assert!(rt; text == Ok(String::from_str(alloc, want)?), "{kind:?}");
+        is_that(text_of(rt.alloc(), kind, word)?.as_str(), want, word)?;
     }
     Ok(())
 }
@@ -85,68 +91,50 @@ fn listed(alloc: Global, words: &Listed<OsBytes>) -> Result<String, AllocError> 
     Ok(text)
 }
 
-/// A word is cut at its commas into these words, which are so in order, each once.
-fn is_cut(
-    rt: &impl Abort,
-    alloc: Global,
-    word: &str,
-    between: &str,
-    ordered: &str,
-) -> Result<(), Fail> {
+/// The words between the commas of a word, which are so in order, each once; they make the word again.
+fn cut(alloc: Global, word: &str) -> Result<String, Fail> {
     let words = between_commas(alloc, word.as_bytes())?;
-    assert_eq!(rt; listed(alloc, &words)?.as_str(), between, "{word}");
-    let joined = joined_by_commas(alloc, words.as_slice())?;
-    assert_eq!(rt; joined.as_bytes(), word.as_bytes());
-    let set = in_order(alloc, words)?;
-    assert_eq!(rt; listed(alloc, &set)?.as_str(), ordered, "{word}");
-    Ok(())
+    let between = listed(alloc, &words)?;
+    let again = joined_by_commas(alloc, words.as_slice())?;
+    let ordered = listed(alloc, &in_order(alloc, words)?)?;
+    Ok(format!(in alloc; "{between} {ordered} {again}")?)
 }
 
 #[test]
 fn words_between_commas(rt: HostRuntime) -> Result<(), Fail> {
-    for (word, between, ordered) in [
-        ("b,a,b", "b|a|b|", "a|b|"),
-        ("a", "a|", "a|"),
-        ("", "|", "|"),
-        ("b,", "b||", "|b|"),
-        (",,", "|||", "|"),
-        ("ab,a,B", "ab|a|B|", "B|a|ab|"),
+    for (word, want) in [
+        ("b,a,b", "b|a|b| a|b| b,a,b"),
+        ("a", "a| a| a"),
+        ("", "| | "),
+        ("b,", "b|| |b| b,"),
+        (",,", "||| | ,,"),
+        ("ab,a,B", "ab|a|B| B|a|ab| ab,a,B"),
     ] {
-        is_cut(&rt, rt.alloc(), word, between, ordered)?;
+        is_that(cut(rt.alloc(), word)?.as_str(), want, word)?;
     }
-    assert!(rt; joined_by_commas(rt.alloc(), &[])?.as_bytes().is_empty());
     Ok(())
 }
 
-/// A word is cut at its first equals sign, where it has one, and is made of its halves again.
-fn is_halved(
-    rt: &impl Abort,
-    alloc: Global,
-    word: &str,
-    front: &str,
-    back: Option<&str>,
-) -> Result<(), Fail> {
-    let (before, behind) = split_at_equals(OsBytes::from_slice(alloc, word.as_bytes())?)?;
-    assert_eq!(rt; before.as_bytes(), front.as_bytes(), "{word}");
-    let found = behind.as_ref().map(OsBytes::as_bytes);
-    assert_eq!(rt; found, back.map(str::as_bytes), "{word}");
-    let again = maybe_with_equals(alloc, before.as_bytes(), &behind)?;
-    assert_eq!(rt; again.as_bytes(), word.as_bytes());
-    Ok(())
+/// The halves of a word around its first equals sign, where it has one, and the word that they make again.
+fn halved(alloc: Global, word: &str) -> Result<String, Fail> {
+    let (front, back) = split_at_equals(OsBytes::from_slice(alloc, word.as_bytes())?)?;
+    let again = maybe_with_equals(alloc, front.as_bytes(), &back)?;
+    match back {
+        Some(back) => Ok(format!(in alloc; "{front}|{back} {again}")?),
+        None => Ok(format!(in alloc; "{front} {again}")?),
+    }
 }
 
 #[test]
 fn words_around_equals(rt: HostRuntime) -> Result<(), Fail> {
-    for (word, front, back) in [
-        ("a=b=c", "a", Some("b=c")),
-        ("a=", "a", Some("")),
-        ("=b", "", Some("b")),
-        ("a", "a", None),
-        ("", "", None),
+    for (word, want) in [
+        ("a=b=c", "a|b=c a=b=c"),
+        ("a=", "a| a="),
+        ("=b", "|b =b"),
+        ("a", "a a"),
+        ("", " "),
     ] {
-        is_halved(&rt, rt.alloc(), word, front, back)?;
+        is_that(halved(rt.alloc(), word)?.as_str(), want, word)?;
     }
-    let joined = with_equals(rt.alloc(), b"a", b"b")?;
-    assert_eq!(rt; joined.as_bytes(), b"a=b".as_slice());
     Ok(())
 }

@@ -2,16 +2,12 @@
 
 use cmdlines_base::argument_error::{ArgParseError, ArgToStringError};
 use cmdlines_base::value::{FromArg, IntoArg};
-use os_files::listed::Listed;
 use os_files::os_bytes::OsBytes;
 use rustc_options::laws::{words_are_printed_again, words_in_order_are_a_set};
-use rustc_options::types::{
-    ArgCodegen, ArgCrateTypes, ArgExtern, ArgLinkLibrary, ArgLinkPath, ArgOption, ArgTarget,
-    ArgUnstable,
-};
+use rustc_options::types::{ArgCrateTypes, ArgExtern, ArgLinkPath, ArgOption, ArgTarget};
 use std::alloc::{AllocError, Global};
-use std::process::Abort;
 use std::test::Fail;
+use test_kit::texts::is_that;
 
 fn word(alloc: Global, text: &str) -> Result<OsBytes, AllocError> {
     OsBytes::from_slice(alloc, text.as_bytes())
@@ -25,16 +21,16 @@ fn value<T: FromArg>(alloc: Global, text: &str) -> Result<T, Fail> {
     }
 }
 
+/// What the value in a word prints.
+fn printed<T: FromArg + IntoArg>(alloc: Global, text: &str) -> Result<String, Fail> {
+    let printed = value::<T>(alloc, text)?.into_arg_os_string(alloc)?;
+    Ok(format!(in alloc; "{printed}")?)
+}
+
 /// Each row: a word, and the word that its value prints.
-fn each_prints<T: FromArg + IntoArg>(
-    rt: &impl Abort,
-    alloc: Global,
-    rows: &[(&str, &str)],
-) -> Result<(), Fail> {
-    for (text, want) in rows.iter() {
-        let value = value::<T>(alloc, text)?;
-        let printed = value.into_arg_os_string(alloc)?;
-        assert_eq!(rt; printed.as_bytes(), want.as_bytes(), "{text}");
+fn each_prints<T: FromArg + IntoArg>(alloc: Global, rows: &[(&str, &str)]) -> Result<(), Fail> {
+    for (text, want) in rows {
+        is_that(printed::<T>(alloc, text)?.as_str(), want, text)?;
     }
     Ok(())
 }
@@ -54,15 +50,13 @@ fn text_of<T: IntoArg>(alloc: Global, value: &T) -> Result<String, Fail> {
 }
 
 /// Each row: a word, and the text of its value, where each path is moved.
-fn each_reads<T: FromArg + IntoArg>(
-    rt: &impl Abort,
-    alloc: Global,
-    rows: &[(&str, &str)],
-) -> Result<(), Fail> {
-    for (text, want) in rows.iter() {
-        let value = value::<T>(alloc, text)?;
-        let read = text_of(alloc, &value)?;
-        assert_eq!(rt; read.as_str(), *want, "{text}");
+fn each_reads<T: FromArg + IntoArg>(alloc: Global, rows: &[(&str, &str)]) -> Result<(), Fail> {
+    for (text, want) in rows {
+        is_that(
+            text_of(alloc, &value::<T>(alloc, text)?)?.as_str(),
+            want,
+            text,
+        )?;
     }
     Ok(())
 }
@@ -79,8 +73,8 @@ fn crate_types_are_printed_in_order(rt: HostRuntime) -> Result<(), Fail> {
         ("lib,", ",rlib"),
         ("sharedlib,lib", "rlib,sharedlib"),
     ];
-    each_prints::<ArgCrateTypes>(&rt, rt.alloc(), &rows)?;
-    each_reads::<ArgCrateTypes>(&rt, rt.alloc(), &rows)
+    each_prints::<ArgCrateTypes>(rt.alloc(), &rows)?;
+    each_reads::<ArgCrateTypes>(rt.alloc(), &rows)
 }
 
 /// A target's path is moved, its name isn't.
@@ -88,14 +82,9 @@ fn crate_types_are_printed_in_order(rt: HostRuntime) -> Result<(), Fail> {
 fn the_path_of_a_target_is_transformed(rt: HostRuntime) -> Result<(), Fail> {
     let alloc = rt.alloc();
     let rows = [("x", "x"), ("t.json", "/there/t.json")];
-    each_reads::<ArgTarget>(&rt, alloc, &rows)?;
+    each_reads::<ArgTarget>(alloc, &rows)?;
     let unsure = ArgTarget::Unsure(word(alloc, "x")?);
-    assert_eq!(rt; text_of(alloc, &unsure)?.as_str(), "x");
-    assert_eq!(rt;
-        unsure.into_arg_os_string(alloc)?.as_bytes(),
-        b"x".as_slice()
-    );
-    Ok(())
+    is_that(text_of(alloc, &unsure)?.as_str(), "x", "a name or a path")
 }
 
 /// A path behind a name or a kind is moved, and what stands before it stays.
@@ -103,8 +92,8 @@ fn the_path_of_a_target_is_transformed(rt: HostRuntime) -> Result<(), Fail> {
 fn paths_behind_names_are_transformed(rt: HostRuntime) -> Result<(), Fail> {
     let alloc = rt.alloc();
     let folders = [("native=o", "native=/there/o"), ("p", "all=/there/p")];
-    each_reads::<ArgLinkPath>(&rt, alloc, &folders)?;
-    each_reads::<ArgExtern>(&rt, alloc, &[("a=b=c", "a=/there/b=c")])
+    each_reads::<ArgLinkPath>(alloc, &folders)?;
+    each_reads::<ArgExtern>(alloc, &[("a=b=c", "a=/there/b=c")])
 }
 
 /// A path as it stands.
@@ -127,15 +116,12 @@ fn where_paths_stay_texts_are_words(rt: HostRuntime) -> Result<(), Fail> {
     words_are_printed_again();
     words_in_order_are_a_set();
     let alloc = rt.alloc();
-    for word in ["native=/o/p", "a=b=c"] {
-        assert_eq!(rt; text_in_place::<ArgLinkPath>(alloc, word)?.as_str(), word);
-        assert_eq!(rt; text_in_place::<ArgExtern>(alloc, word)?.as_str(), word);
-    }
-    assert_eq!(rt;
-        text_in_place::<ArgTarget>(alloc, "a.json")?.as_str(),
-        "a.json"
-    );
-    Ok(())
+    let folder = text_in_place::<ArgLinkPath>(alloc, "native=/o/p")?;
+    is_that(folder.as_str(), "native=/o/p", "a folder")?;
+    let named = text_in_place::<ArgExtern>(alloc, "a=b=c")?;
+    is_that(named.as_str(), "a=b=c", "a crate")?;
+    let target = text_in_place::<ArgTarget>(alloc, "a.json")?;
+    is_that(target.as_str(), "a.json", "a target")
 }
 
 fn refuse(_path: &[u8]) -> Option<String> {
@@ -167,71 +153,6 @@ fn an_extern_has_a_path(rt: HostRuntime) -> Result<(), Fail> {
         let refused = ArgExtern::process(word(alloc, text)?);
         assert!(rt; matches!(&refused, Err(ArgParseError::Other(_))), "{text}");
     }
-    Ok(())
-}
-
-#[test]
-fn options_are_cut_at_the_first_equals(rt: HostRuntime) -> Result<(), Fail> {
-    let alloc = rt.alloc();
-    let option = ArgOption {
-        opt: word(alloc, "a")?,
-        value: Some(word(alloc, "b=c")?),
-    };
-    assert!(rt; value::<ArgOption>(alloc, "a=b=c")? == option);
-    assert!(rt; option.clone()? == option);
-    Ok(())
-}
-
-#[test]
-fn libraries_are_cut_at_the_first_equals(rt: HostRuntime) -> Result<(), Fail> {
-    let alloc = rt.alloc();
-    let kind = word(alloc, "a")?;
-    let name = word(alloc, "b=c")?;
-    let library = ArgLinkLibrary { kind, name };
-    assert!(rt; value::<ArgLinkLibrary>(alloc, "a=b=c")? == library);
-    assert!(rt; library.clone()? == library);
-    Ok(())
-}
-
-#[test]
-fn folders_are_cut_at_the_first_equals(rt: HostRuntime) -> Result<(), Fail> {
-    let alloc = rt.alloc();
-    let kind = word(alloc, "a")?;
-    let path = word(alloc, "b=c")?;
-    let folder = ArgLinkPath { kind, path };
-    assert!(rt; value::<ArgLinkPath>(alloc, "a=b=c")? == folder);
-    assert!(rt; folder.clone()? == folder);
-    Ok(())
-}
-
-#[test]
-fn externs_are_a_name_and_a_path(rt: HostRuntime) -> Result<(), Fail> {
-    let alloc = rt.alloc();
-    let named = ArgExtern {
-        name: word(alloc, "a")?,
-        path: word(alloc, "b=c")?,
-    };
-    assert!(rt; value::<ArgExtern>(alloc, "a=b=c")? == named);
-    assert!(rt; named.clone()? == named);
-    let bare = value::<ArgOption>(alloc, "a")?;
-    assert!(rt; bare.value.is_none());
-    Ok(())
-}
-
-#[test]
-fn crate_types_are_told_apart(rt: HostRuntime) -> Result<(), Fail> {
-    let alloc = rt.alloc();
-    let mut others = Listed::new(alloc);
-    others.push(word(alloc, "bin")?)?;
-    others.push(word(alloc, "dylib")?)?;
-    let types = ArgCrateTypes {
-        rlib: true,
-        staticlib: false,
-        others,
-    };
-    assert!(rt; value::<ArgCrateTypes>(alloc, "dylib,lib,bin,dylib")? == types);
-    assert!(rt; value::<ArgCrateTypes>(alloc, "dylib,bin")? != types);
-    assert!(rt; value::<ArgCrateTypes>(alloc, "dylib,lib")? != types);
     Ok(())
 }
 

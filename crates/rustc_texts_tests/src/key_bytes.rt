@@ -91,33 +91,32 @@ fn same_shape(alloc: Global, one: &Parts, other: &Parts) -> Result<bool, AllocEr
     Ok(other.shape(alloc)? == shape)
 }
 
-/// Whether the shapes alone tell the two.
-fn shapes_tell(alloc: Global, one: &Parts, other: &Parts) -> Result<bool, AllocError> {
-    Ok(same_bytes(alloc, one, other)? && !same_shape(alloc, one, other)?)
+/// The shapes alone tell the two.
+fn are_told(alloc: Global, one: &Parts, other: &Parts, what: &str) -> Result<(), Fail> {
+    if same_bytes(alloc, one, other)? && !same_shape(alloc, one, other)? {
+        return Ok(());
+    }
+    Err(Fail::new(format_args!("{what}")))
 }
 
+/// Lengths of words, counts of files, and whether a variable is set.
 #[test]
-fn lengths_of_words_are_told_by_the_shape(rt: HostRuntime) -> Result<(), Fail> {
-    let one = of_words(rt.alloc(), "ab c")?;
-    let other = of_words(rt.alloc(), "a bc")?;
-    assert!(rt; shapes_tell(rt.alloc(), &one, &other)?);
-    Ok(())
-}
-
-#[test]
-fn counts_of_files_are_told_by_the_shape(rt: HostRuntime) -> Result<(), Fail> {
-    let one = of_files(rt.alloc(), b"ab", b"c")?;
-    let other = of_files(rt.alloc(), b"a", b"bc")?;
-    assert!(rt; shapes_tell(rt.alloc(), &one, &other)?);
-    Ok(())
-}
-
-#[test]
-fn unset_variables_are_told_by_the_shape(rt: HostRuntime) -> Result<(), Fail> {
-    let one = of_variable(rt.alloc(), None)?;
-    let other = of_variable(rt.alloc(), Some(OsBytes::empty(rt.alloc())))?;
-    assert!(rt; shapes_tell(rt.alloc(), &one, &other)?);
-    Ok(())
+fn shapes_tell_what_bytes_do_not(rt: HostRuntime) -> Result<(), Fail> {
+    let alloc = rt.alloc();
+    are_told(
+        alloc,
+        &of_words(alloc, "ab c")?,
+        &of_words(alloc, "a bc")?,
+        "words",
+    )?;
+    are_told(
+        alloc,
+        &of_files(alloc, b"ab", b"c")?,
+        &of_files(alloc, b"a", b"bc")?,
+        "files",
+    )?;
+    let empty = of_variable(alloc, Some(OsBytes::empty(alloc)))?;
+    are_told(alloc, &of_variable(alloc, None)?, &empty, "variables")
 }
 
 /// Whether bytes are read, under the shape of these pieces.
@@ -127,20 +126,14 @@ fn are_read(alloc: Global, parts: &Parts, bytes: &[u8]) -> Result<bool, AllocErr
 }
 
 #[test]
-fn no_byte_is_left_out(rt: HostRuntime) -> Result<(), Fail> {
-    let parts = of_files(rt.alloc(), b"ab", b"c")?;
-    let mut bytes = key_bytes(rt.alloc(), &parts)?;
-    assert!(rt; are_read(rt.alloc(), &parts, bytes.as_slice())?);
-    bytes.pop();
-    assert!(rt; !are_read(rt.alloc(), &parts, bytes.as_slice())?);
-    Ok(())
-}
-
-#[test]
-fn no_byte_is_added(rt: HostRuntime) -> Result<(), Fail> {
-    let parts = of_files(rt.alloc(), b"ab", b"c")?;
-    let mut bytes = key_bytes(rt.alloc(), &parts)?;
+fn no_byte_is_left_out_or_added(rt: HostRuntime) -> Result<(), Fail> {
+    let alloc = rt.alloc();
+    let parts = of_files(alloc, b"ab", b"c")?;
+    let mut bytes = key_bytes(alloc, &parts)?;
+    assert!(rt; are_read(alloc, &parts, bytes.as_slice())?);
     bytes.push(b'f')?;
-    assert!(rt; !are_read(rt.alloc(), &parts, bytes.as_slice())?);
+    assert!(rt; !are_read(alloc, &parts, bytes.as_slice())?);
+    bytes.truncate(bytes.len().saturating_sub(2));
+    assert!(rt; !are_read(alloc, &parts, bytes.as_slice())?);
     Ok(())
 }

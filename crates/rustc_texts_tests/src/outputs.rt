@@ -4,6 +4,7 @@ use crate::requests::{barred, parsed};
 use os_files::os_bytes::OsBytes;
 use rustc_texts::output_names::output_names;
 use rustc_texts::outputs::{Output, outputs, targets};
+use rustkeys_base::parsed::ParsedArguments;
 use std::alloc::{AllocError, Global};
 use std::fmt::Write;
 use std::test::Fail;
@@ -55,38 +56,25 @@ fn written(alloc: Global, outputs: &[Output]) -> Result<String, AllocError> {
     Ok(text)
 }
 
-/// The outputs of that request, where these are its names.
-fn outputs_of(alloc: Global, names: &[OsBytes]) -> Result<String, Fail> {
-    let parsed = parsed(alloc, WHOLE)?;
-    let outputs = outputs(alloc, &parsed, names)?;
-    Ok(written(alloc, outputs.as_slice())?)
+/// The outputs of a request, and the targets of its text on dependencies, where these are its names.
+fn outputs_and_targets(
+    alloc: Global,
+    parsed: &ParsedArguments,
+    names: &[OsBytes],
+) -> Result<String, AllocError> {
+    let outputs = written(alloc, outputs(alloc, parsed, names)?.as_slice())?;
+    let targets = barred(alloc, targets(alloc, parsed, names)?.as_slice())?;
+    format!(in alloc; "{outputs}; {targets}")
 }
 
 #[test]
 fn outputs_go_to_their_folder(rt: HostRuntime) -> Result<(), Fail> {
-    let names = words(rt.alloc(), "foo.gcno foo.rlib")?;
-    let text = outputs_of(rt.alloc(), names.as_slice())?;
-    is_that(
-        text.as_str(),
-        "|foo.gcno out/foo.gcno?|foo.rlib out/foo.rlib|/p.profdata /p.profdata?",
-        "outputs",
-    )
-}
-
-/// The targets of the text on dependencies of that request, where these are its names.
-fn targets_of(alloc: Global, names: &[OsBytes]) -> Result<String, Fail> {
+    let alloc = rt.alloc();
+    let names = words(alloc, "foo.gcno foo.rlib")?;
     let parsed = parsed(alloc, WHOLE)?;
-    let targets = targets(alloc, &parsed, names)?;
-    Ok(barred(alloc, targets.as_slice())?)
-}
-
-#[test]
-fn targets_are_the_names_that_are_told(rt: HostRuntime) -> Result<(), Fail> {
-    let names = words(rt.alloc(), "foo.gcno foo.rlib")?;
-    let text = targets_of(rt.alloc(), names.as_slice())?;
     is_that(
-        text.as_str(),
-        "|out/foo.d|out/foo.gcno|out/foo.rlib",
-        "targets",
+        outputs_and_targets(alloc, &parsed, names.as_slice())?.as_str(),
+        "|foo.gcno out/foo.gcno?|foo.rlib out/foo.rlib|/p.profdata /p.profdata?; |out/foo.d|out/foo.gcno|out/foo.rlib",
+        WHOLE,
     )
 }

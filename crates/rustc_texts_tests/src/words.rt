@@ -3,7 +3,8 @@
 use crate::requests::{barred, parsed};
 use rustc_texts::laws::{cfg_places_do_not_count, commands_open_nothing};
 use rustc_texts::words::{compile_words, dep_info_words, file_names_words, kept_words};
-use std::alloc::Global;
+use rustkeys_base::parsed::ParsedArguments;
+use std::alloc::{AllocError, Global};
 use std::test::Fail;
 use test_kit::texts::is_that;
 
@@ -15,92 +16,52 @@ const PLAIN: &str =
 const JSON: &str =
     "--emit link --json=a foo.rs -L n --out-dir o --crate-name f --crate-type lib -C";
 
-/// The words that count, of a line's request.
-fn kept(alloc: Global, line: &str) -> Result<String, Fail> {
-    let parsed = parsed(alloc, line)?;
-    let words = kept_words(alloc, &parsed)?;
-    Ok(barred(alloc, words.as_slice())?)
+/// One whose definitions stand at two places.
+const PLACES: &str =
+    "--cfg xyz a.rs --emit link --out-dir o --crate-name f --cfg abc --crate-type lib";
+
+/// The words that count, those of the compile, those by which dependencies are asked and those by which names are, a line each.
+fn all_words(alloc: Global, parsed: &ParsedArguments) -> Result<String, AllocError> {
+    let kept = barred(alloc, kept_words(alloc, parsed)?.as_slice())?;
+    let compiled = barred(alloc, compile_words(alloc, parsed)?.as_slice())?;
+    let dependencies = barred(alloc, dep_info_words(alloc, parsed)?.as_slice())?;
+    let names = barred(alloc, file_names_words(alloc, parsed)?.as_slice())?;
+    format!(in alloc; "{kept}\n{compiled}\n{dependencies}\n{names}\n")
 }
 
+/// All words of a line's request.
+fn words_of(alloc: Global, line: &str) -> Result<String, Fail> {
+    let parsed = parsed(alloc, line)?;
+    Ok(all_words(alloc, &parsed)?)
+}
+
+const OF_PLAIN: &str = "\
+|--emit|link|-C|opt-level=1|foo.rs|--crate-name|foo|--crate-type|rlib
+|--emit|link|-C|opt-level=1|foo.rs|--out-dir|out|--crate-name|foo|--crate-type|rlib|--color|always
+|-C|opt-level=1|foo.rs|--crate-name|foo|--crate-type|rlib|--emit|dep-info
+|--emit|link|-C|opt-level=1|foo.rs|--out-dir|out|--crate-name|foo|--crate-type|rlib|--print|file-names
+";
+
+const OF_JSON: &str = "\
+|--emit|link|--json|a|foo.rs|--crate-name|f|--crate-type|rlib|-C
+|--emit|link|--json|a|foo.rs|-L|all=n|--out-dir|o|--crate-name|f|--crate-type|rlib|-C
+|--json|a|foo.rs|-L|all=n|--crate-name|f|--crate-type|rlib|-C|--emit|dep-info
+|--emit|link|--json|a|foo.rs|-L|all=n|--out-dir|o|--crate-name|f|--crate-type|rlib|-C|--print|file-names
+";
+
+const OF_PLACES: &str = "\
+|a.rs|--emit|link|--crate-name|f|--crate-type|rlib|--cfg|abc|--cfg|xyz
+|--cfg|xyz|a.rs|--emit|link|--out-dir|o|--crate-name|f|--cfg|abc|--crate-type|rlib|--color|always
+|--cfg|xyz|a.rs|--crate-name|f|--cfg|abc|--crate-type|rlib|--emit|dep-info
+|--cfg|xyz|a.rs|--emit|link|--out-dir|o|--crate-name|f|--cfg|abc|--crate-type|rlib|--print|file-names
+";
+
 #[test]
-fn words_count_but_for_places(rt: HostRuntime) -> Result<(), Fail> {
+fn requests_have_their_words(rt: HostRuntime) -> Result<(), Fail> {
     cfg_places_do_not_count();
-    for (line, want) in [
-        (
-            PLAIN,
-            "|--emit|link|-C|opt-level=1|foo.rs|--crate-name|foo|--crate-type|rlib",
-        ),
-        (
-            JSON,
-            "|--emit|link|--json|a|foo.rs|--crate-name|f|--crate-type|rlib|-C",
-        ),
-        (
-            "--cfg xyz a.rs --emit link --out-dir o --crate-name f --cfg abc --crate-type lib",
-            "|a.rs|--emit|link|--crate-name|f|--crate-type|rlib|--cfg|abc|--cfg|xyz",
-        ),
-    ] {
-        let text = kept(rt.alloc(), line)?;
-        is_that(text.as_str(), want, line)?;
-    }
-    Ok(())
-}
-
-/// The words of the compile, of a line's request.
-fn compiled(alloc: Global, line: &str) -> Result<String, Fail> {
-    let parsed = parsed(alloc, line)?;
-    let words = compile_words(alloc, &parsed)?;
-    Ok(barred(alloc, words.as_slice())?)
-}
-
-#[test]
-fn compiles_have_their_words(rt: HostRuntime) -> Result<(), Fail> {
     commands_open_nothing();
-    for (line, want) in [
-        (
-            PLAIN,
-            "|--emit|link|-C|opt-level=1|foo.rs|--out-dir|out|--crate-name|foo|--crate-type|rlib|--color|always",
-        ),
-        (
-            JSON,
-            "|--emit|link|--json|a|foo.rs|-L|all=n|--out-dir|o|--crate-name|f|--crate-type|rlib|-C",
-        ),
-    ] {
-        let text = compiled(rt.alloc(), line)?;
-        is_that(text.as_str(), want, line)?;
+    for (line, want) in [(PLAIN, OF_PLAIN), (JSON, OF_JSON), (PLACES, OF_PLACES)] {
+        is_that(words_of(rt.alloc(), line)?.as_str(), want, line)?;
     }
     Ok(())
-}
-
-/// The words by which dependencies are asked, of a line's request.
-fn asked_for_dependencies(alloc: Global, line: &str) -> Result<String, Fail> {
-    let parsed = parsed(alloc, line)?;
-    let words = dep_info_words(alloc, &parsed)?;
-    Ok(barred(alloc, words.as_slice())?)
-}
-
-#[test]
-fn dependencies_are_asked_with_other_words(rt: HostRuntime) -> Result<(), Fail> {
-    let text = asked_for_dependencies(rt.alloc(), PLAIN)?;
-    is_that(
-        text.as_str(),
-        "|-C|opt-level=1|foo.rs|--crate-name|foo|--crate-type|rlib|--emit|dep-info",
-        PLAIN,
-    )
-}
-
-/// The words by which names are asked, of a line's request.
-fn asked_for_names(alloc: Global, line: &str) -> Result<String, Fail> {
-    let parsed = parsed(alloc, line)?;
-    let words = file_names_words(alloc, &parsed)?;
-    Ok(barred(alloc, words.as_slice())?)
-}
-
-#[test]
-fn names_are_asked_with_all_words(rt: HostRuntime) -> Result<(), Fail> {
-    let text = asked_for_names(rt.alloc(), JSON)?;
-    is_that(
-        text.as_str(),
-        "|--emit|link|--json|a|foo.rs|-L|all=n|--out-dir|o|--crate-name|f|--crate-type|rlib|-C|--print|file-names",
-        JSON,
-    )
 }

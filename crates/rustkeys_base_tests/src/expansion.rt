@@ -118,17 +118,20 @@ fn words_are_expanded_at_once(rt: HostRuntime) -> Result<(), Fail> {
         let text = expanded_at_once(rt.alloc(), line)?;
         is_that(text.as_str(), want, line)?;
     }
-    let dir = OsBytes::from_slice(rt.alloc(), b"/w")?;
-    let list = words(rt.alloc(), "a @lines")?;
-    let refused = expand_rustc(rt.alloc(), &dir, list.as_slice(), &mut BrokenFiles::new());
-    let path = OsBytes::from_slice(rt.alloc(), b"/w/lines")?;
-    assert!(rt; refused == Err(ParseFault::Read(path)));
     Ok(())
+}
+
+/// The words that a text holds, each before a bar.
+fn lines_of(alloc: Global, text: &str) -> Result<String, AllocError> {
+    let mut joined = String::new(alloc);
+    for word in split_rust_response_file_args(alloc, text)?.into_vec() {
+        write!(joined, "{word}|")?;
+    }
+    Ok(joined)
 }
 
 #[test]
 fn lines_of_texts(rt: HostRuntime) -> Result<(), Fail> {
-    let alloc = rt.alloc();
     for (text, want) in [
         ("  --emit  \n\tlink\n\nfoo.rs\r", "--emit|link|foo.rs|"),
         (
@@ -142,19 +145,24 @@ fn lines_of_texts(rt: HostRuntime) -> Result<(), Fail> {
         ("\u{a0}a\u{2003}\n\u{b}b\u{c}", "a|b|"),
         ("\u{e9}\n@more", "\u{e9}|@more|"),
     ] {
-        let mut joined = String::new(alloc);
-        for word in split_rust_response_file_args(alloc, text)?.into_vec() {
-            write!(joined, "{word}|")?;
-        }
-        assert_eq!(rt; joined.as_str(), want, "{text:?}");
+        is_that(lines_of(rt.alloc(), text)?.as_str(), want, text)?;
     }
     Ok(())
 }
 
-/// Each row: words before and behind the whole request, and what is said where the device fails at the first file that is asked for.
+/// What is said of the whole request with words before and behind it, where the device fails at the first file that is asked for.
+fn said(alloc: Global, before: &str, more: &str) -> Result<String, Fail> {
+    let line = format!(in alloc; "{before}{WHOLE} {more}")?;
+    let list = words(alloc, line.as_str())?;
+    match answer(alloc, list.as_slice(), &mut BrokenFiles::new()) {
+        Ok(_) => Ok(String::from_str(alloc, "an answer")?),
+        Err(fault) => Ok(format!(in alloc; "{fault}")?),
+    }
+}
+
+/// Each row: words before and behind the whole request, and what is said of it; words that ask for no file have an answer.
 #[test]
 fn requests_by_a_device_that_fails(rt: HostRuntime) -> Result<(), Fail> {
-    let alloc = rt.alloc();
     for (before, more, want) in [
         ("", "--target x", "cannot read /w/x.json"),
         ("", "-L n -l static=s", "cannot read /w/n/libs.a"),
@@ -162,35 +170,14 @@ fn requests_by_a_device_that_fails(rt: HostRuntime) -> Result<(), Fail> {
         ("@args ", "", "cannot read /w/args"),
         ("", "@args", "cannot read /w/args"),
         ("", "-o x @args", "cannot read /w/args"),
+        ("", "-g", "an answer"),
+        ("", "-L p -l bar", "an answer"),
+        ("", "--target x.json", "an answer"),
+        ("", "-L crate=n -l static=s", "an answer"),
+        ("", "-o x --target x", "an answer"),
+        ("", "-L n -l static=s bar.rs", "an answer"),
     ] {
-        let line = format!(in alloc; "{before}{WHOLE} {more}")?;
-        let list = words(alloc, line.as_str())?;
-        let Err(fault) = answer(alloc, list.as_slice(), &mut BrokenFiles::new()) else {
-            return Err("an answer".into());
-        };
-        let text = format!(in alloc; "{fault}")?;
-        is_that(text.as_str(), want, more)?;
-    }
-    Ok(())
-}
-
-/// Each row: words behind the whole request that ask for no file, so that the answer is the one without files.
-#[test]
-fn requests_that_ask_for_no_file(rt: HostRuntime) -> Result<(), Fail> {
-    let alloc = rt.alloc();
-    for more in [
-        "-g",
-        "-L p -l bar",
-        "--target x.json",
-        "-L crate=n -l static=s",
-        "-o x --target x",
-        "-L n -l static=s bar.rs",
-    ] {
-        let line = format!(in alloc; "{WHOLE} {more}")?;
-        let list = words(alloc, line.as_str())?;
-        let broken = answer(alloc, list.as_slice(), &mut BrokenFiles::new())?;
-        let without = answer(alloc, list.as_slice(), &mut MemoryFiles::new(alloc))?;
-        assert!(rt; broken == without, "{more}");
+        is_that(said(rt.alloc(), before, more)?.as_str(), want, more)?;
     }
     Ok(())
 }
