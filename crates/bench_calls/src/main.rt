@@ -1,7 +1,8 @@
 //! The program that `bench/run` times. On a file it copies the bytes, strips folders from them, splits them into words,
 //! walks over their markers or digests them; words in a file it cuts by a compiler's tree or tables, parses or copies; on a chain
 //! of files in memory, each of which names the next one, it opens the chain or copies it; and it makes trees, and looks into include
-//! records, makes keys, and looks into stores: as often as it is told. It prints one line of what the last call gave.
+//! records, makes keys, looks into stores, and reads and writes texts on dependencies and bytes of rustc's keys: as often as it is
+//! told. It prints one line of what the last call gave.
 #![tactic(auto)]
 
 ghost use Rattle.std.specs.Prelude.{◌≡◌, IfOk, length};
@@ -11,6 +12,7 @@ ghost use Rattle.ckeys_base.specs.FromTheLeft.{stripped_of};
 mod commands;
 mod keys;
 mod recorded;
+mod rustc;
 mod stores;
 mod walking;
 mod words;
@@ -18,6 +20,7 @@ mod words;
 use crate::commands::{kind_named, parses, table_cuttings, tree_cuttings, trees, word_copies};
 use crate::keys::{copy_digests, keys, text_digests};
 use crate::recorded::{file_digests, look_ups};
+use crate::rustc::{key_copies, key_readings, key_writings, rewritings, source_readings};
 use crate::stores::{bounded_turns, map_turns};
 use crate::walking::{byte_searches, marker_tallies, walks};
 use crate::words::{Tally, chain_copies, gnu_splittings, msvc_splittings, openings};
@@ -28,6 +31,7 @@ use cmdlines_tables::compiler::CCompilerKind;
 use os_files::os_bytes::OsBytes;
 use response_files::fault::ParseFault;
 use response_texts::gnu::split_gnu_response_file_args;
+use rustc_texts::fault::TextFault;
 use sha2::Sha256;
 use std::alloc::{AllocError, AllocFailed, Global};
 use std::process::ExitCode;
@@ -82,6 +86,15 @@ impl From<ParseFault> for Fault {
         match fault {
             ParseFault::Read(_) => Fault::File,
             ParseFault::Memory => Fault::Memory,
+        }
+    }
+}
+
+impl From<TextFault> for Fault {
+    fn from(fault: TextFault) -> Fault {
+        match fault {
+            TextFault::NoRule => Fault::File,
+            TextFault::Memory => Fault::Memory,
         }
     }
 }
@@ -170,6 +183,10 @@ fn line_for<R: Files + AllocGlobal>(
         "bounded_hits" | "bounded_misses" | "map_hits" | "map_misses" => {
             tally_line(alloc, store_tally(alloc, work, repeats, number_of(given)?)?)?
         }
+        "read_deps" | "rewrite_deps" => tally_line(alloc, text_tally(rt, work, repeats, given)?)?,
+        "write_key" | "read_key" | "copy_key" => {
+            tally_line(alloc, key_tally(alloc, work, repeats, number_of(given)?)?)?
+        }
         "make_tree" => tally_line(alloc, trees(alloc, kind_of(given)?, repeats)?)?,
         "by_tree" | "by_table" | "parse" | "copy_words" => {
             tally_line(alloc, word_tally(rt, work, repeats, given, others)?)?
@@ -208,6 +225,34 @@ fn store_tally(alloc: Global, work: &String, repeats: u32, pairs: u32) -> Result
         "map_hits" => map_turns(alloc, true, pairs, repeats),
         "map_misses" => map_turns(alloc, false, pairs, repeats),
         _ => return Err(Fault::Words),
+    };
+    Ok(tally)
+}
+
+/// Does the work so often on the text on dependencies in the file of that name.
+fn text_tally<R: Files + AllocGlobal>(
+    rt: &R,
+    work: &String,
+    repeats: u32,
+    given: &String,
+) -> Result<Tally, Fault> {
+    let bytes = bytes_of(rt, given)?;
+    let Ok(text) = str::from_utf8(bytes.as_slice()) else {
+        return Err(Fault::File);
+    };
+    if work.as_str() == "read_deps" {
+        Ok(source_readings(rt.alloc(), text, repeats)?)
+    } else {
+        Ok(rewritings(rt.alloc(), text, repeats)?)
+    }
+}
+
+/// Does the work so often on the bytes of a key of so many sources.
+fn key_tally(alloc: Global, work: &String, repeats: u32, sources: u32) -> Result<Tally, Fault> {
+    let tally = match work.as_str() {
+        "write_key" => key_writings(alloc, sources, repeats)?,
+        "read_key" => key_readings(alloc, sources, repeats)?,
+        _ => key_copies(alloc, sources, repeats)?,
     };
     Ok(tally)
 }
