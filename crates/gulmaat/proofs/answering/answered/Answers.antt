@@ -1,0 +1,24 @@
+use Rattle.std.proofs.Common.{sym, ap, ◌∙◌}
+use Rattle.ckeys.specs.Folders.{Settings}
+use Rattle.entry_keys.specs.contracts.entry_key.EntryKeyPartialEq.TheImpl as entry_eq
+use Rattle.replay.specs.contracts.snapshot_files.SnapshotFilesFiles.TheImpl as snapshot
+use Rattle.wrap.specs.Account.{Pairs}
+use Rattle.wrap_base.specs.MapStores.{shelf_of}
+use Rattle.wrap_base.specs.contracts.store_key.StoreKeyPartialEq.TheImpl as key_eq
+use Rattle.wrap_base.specs.declared.map_store.MapStore.{MapStore}
+use Rattle.wrap_base.specs.declared.store_key.StoreKey.{StoreKey}
+use Rattle.gulmaat.proofs.answering.answered.Goals as goal
+
+pub returns : goal.returns
+returns g c =
+    let session = c.new-session.result in
+    let settings = ap (λ s. s.settings) c.new-session.ensures in
+    let store = ap (λ s. s.objects.inner) c.new-session.ensures ∙ c.new-objects.ensures.inner in
+    let tree = snapshot.ghosts.tree c.args.files.now in
+    let records = (shelf_of entry_eq.ghosts.eq session.entries).held in
+    rw (sym settings) (λ world gives earlier is premises.
+    c.replayed-answer.ensures.outputs world gives
+    (c.records_that_are_not_kept_change_nothing.ensures.are_true world tree session.settings c.args.request.now records (ap (λ (s : Settings). s.direct) settings ∙ c.requires))
+    earlier
+    (λ key pairs h. is key pairs (c.store_over.ensures key pairs (ap (λ (m : MapStore StoreKey Pairs). (shelf_of key_eq.ghosts.eq m).held key) (sym store) ∙ h)))
+    premises)

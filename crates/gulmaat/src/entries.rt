@@ -1,0 +1,138 @@
+//! Kept outputs, as the session has them and as they lie on a disk.
+
+use crate::stop::Stop;
+use ckeys::output_name::OutputName;
+use ckeys::shape::CShape;
+use kept_entries::entry::{KeptEntry, KeptName, KeptOutput, KeptShape};
+use os_files::listed::Listed;
+use std::alloc::Global;
+use wrap::{Family, Output, Pairs, Shape, StoreKey};
+
+/// The shape as it is kept.
+fn kept_shape(alloc: Global, shape: &CShape) -> Result<KeptShape, Stop> {
+    let mut extra_hashes = Listed::new(alloc);
+    for length in shape.extra_hashes.as_slice() {
+        extra_hashes.push(*length as u64)?;
+    }
+    Ok(KeptShape {
+        language: shape.language,
+        compiler_digest: shape.compiler_digest as u64,
+        words: shape.words as u64,
+        extra_hashes,
+        assembler_digest: shape.assembler_digest.map(|length| length as u64),
+        variables: shape.variables as u64,
+    })
+}
+
+/// The names as they are kept.
+fn kept_names(alloc: Global, names: &[OutputName]) -> Result<Listed<KeptName>, Stop> {
+    let mut kept = Listed::new(alloc);
+    for output in names {
+        let name = output.name.clone()?;
+        let optional = output.optional;
+        kept.push(KeptName { name, optional })?;
+    }
+    Ok(kept)
+}
+
+/// The outputs as they are kept.
+fn kept_outputs(alloc: Global, outputs: &[Output]) -> Result<Listed<KeptOutput>, Stop> {
+    let mut kept = Listed::new(alloc);
+    for output in outputs {
+        let name = output.name.clone()?;
+        let contents = output.contents.clone()?;
+        kept.push(KeptOutput { name, contents })?;
+    }
+    Ok(kept)
+}
+
+/// The shape that a key is kept with. A key of rustc's isn't kept.
+fn shape_in(alloc: Global, key: &StoreKey) -> Result<KeptShape, Stop> {
+    match (key.family, &key.shape) {
+        (Family::C, Shape::C(shape)) => kept_shape(alloc, shape),
+        _ => Err(Stop::Unreadable),
+    }
+}
+
+/// The entry of these outputs under this key.
+pub fn entry_of(alloc: Global, key: &StoreKey, outputs: &[Output]) -> Result<KeptEntry, Stop> {
+    let shape = shape_in(alloc, key)?;
+    let names = kept_names(alloc, key.names.as_slice())?;
+    let digest = key.digest.clone()?;
+    let outputs = kept_outputs(alloc, outputs)?;
+    Ok(KeptEntry {
+        shape,
+        names,
+        digest,
+        outputs,
+    })
+}
+
+/// A length that was kept.
+fn length_of(kept: u64) -> Result<usize, Stop> {
+    match usize::try_from(kept) {
+        Ok(length) => Ok(length),
+        Err(_) => Err(Stop::Unreadable),
+    }
+}
+
+/// The shape that was kept.
+fn shape_of(alloc: Global, kept: &KeptShape) -> Result<CShape, Stop> {
+    let mut extra_hashes = Listed::new(alloc);
+    for length in kept.extra_hashes.as_slice() {
+        extra_hashes.push(length_of(*length)?)?;
+    }
+    let assembler_digest = match kept.assembler_digest {
+        Some(length) => Some(length_of(length)?),
+        None => None,
+    };
+    Ok(CShape {
+        language: kept.language,
+        compiler_digest: length_of(kept.compiler_digest)?,
+        words: length_of(kept.words)?,
+        extra_hashes,
+        assembler_digest,
+        variables: length_of(kept.variables)?,
+    })
+}
+
+/// The names that were kept.
+fn names_of(alloc: Global, kept: Listed<KeptName>) -> Result<Listed<OutputName>, Stop> {
+    let mut names = Listed::new(alloc);
+    for name in kept.into_vec() {
+        let KeptName { name, optional } = name;
+        names.push(OutputName { name, optional })?;
+    }
+    Ok(names)
+}
+
+/// The outputs that were kept.
+fn pairs_of(alloc: Global, kept: Listed<KeptOutput>) -> Result<Pairs, Stop> {
+    let mut pairs = Listed::new(alloc);
+    for output in kept.into_vec() {
+        let KeptOutput { name, contents } = output;
+        pairs.push((name, contents))?;
+    }
+    Ok(pairs)
+}
+
+/// The key of an entry, and what was kept under it.
+pub fn pair_of(alloc: Global, entry: KeptEntry) -> Result<(StoreKey, Pairs), Stop> {
+    let KeptEntry {
+        shape,
+        names,
+        digest,
+        outputs,
+    } = entry;
+    let shape = Shape::C(shape_of(alloc, &shape)?);
+    let names = names_of(alloc, names)?;
+    let pairs = pairs_of(alloc, outputs)?;
+    let family = Family::C;
+    let key = StoreKey {
+        family,
+        shape,
+        names,
+        digest,
+    };
+    Ok((key, pairs))
+}

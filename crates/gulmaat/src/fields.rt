@@ -1,0 +1,66 @@
+//! The fields of a message, one behind the other.
+
+use crate::stop::Stop;
+use byte_formats::fields::{read_framed, read_number};
+use os_files::listed::Listed;
+use os_files::os_bytes::OsBytes;
+use std::alloc::Global;
+
+/// What is left of a message.
+#[derive(Drop)]
+pub struct Fields<'a> {
+    rest: &'a [u8],
+}
+
+impl<'a> Fields<'a> {
+    /// All of it.
+    pub fn of(message: &'a [u8]) -> Fields<'a> {
+        Fields { rest: message }
+    }
+
+    /// The number that comes next.
+    pub fn number(&mut self) -> Result<u64, Stop> {
+        let (number, rest) = read_number(self.rest)?;
+        self.rest = rest;
+        Ok(number)
+    }
+
+    /// The bytes that come next.
+    pub fn bytes(&mut self, alloc: Global) -> Result<OsBytes, Stop> {
+        let (bytes, rest) = read_framed(self.rest)?;
+        self.rest = rest;
+        Ok(OsBytes::from_slice(alloc, bytes)?)
+    }
+
+    /// The text that comes next.
+    pub fn text(&mut self, alloc: Global) -> Result<String, Stop> {
+        into_text(self.bytes(alloc)?)
+    }
+
+    /// The list that comes next.
+    pub fn words(&mut self, alloc: Global) -> Result<Listed<OsBytes>, Stop> {
+        let mut words = Listed::new(alloc);
+        for _ in 0..self.number()? {
+            words.push(self.bytes(alloc)?)?;
+        }
+        Ok(words)
+    }
+
+    /// The list of pairs that comes next.
+    pub fn pairs(&mut self, alloc: Global) -> Result<Listed<(OsBytes, OsBytes)>, Stop> {
+        let mut pairs = Listed::new(alloc);
+        for _ in 0..self.number()? {
+            let name = self.bytes(alloc)?;
+            pairs.push((name, self.bytes(alloc)?))?;
+        }
+        Ok(pairs)
+    }
+}
+
+/// The bytes as text.
+pub fn into_text(bytes: OsBytes) -> Result<String, Stop> {
+    match String::from_utf8(bytes.into_vec()) {
+        Ok(text) => Ok(text),
+        Err(_) => Err(Stop::Unreadable),
+    }
+}

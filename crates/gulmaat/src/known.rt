@@ -1,0 +1,192 @@
+//! What is known of a request, more from attempt to attempt.
+
+ghost use Rattle.std.specs.Prelude.{◌≡◌, ◌≤◌};
+
+use crate::command_line::CommandLine;
+use crate::fields::into_text;
+use crate::host::Host;
+use crate::outputs::{made_at, regular};
+use crate::passing::takes_files;
+use crate::stop::Stop;
+use ckeys::output_name::OutputName;
+use os_files::file_time::FileTime;
+use os_files::files::Metadata;
+use os_files::listed::Listed;
+use os_files::os_bytes::OsBytes;
+use replay::replay_tool::{RecordedOutputs, RecordedText, ReplayTool, Wanted};
+use replay::snapshot_files::{LoadedFile, SnapshotFiles};
+use std::alloc::Global;
+use std::fs;
+use std::io::Read;
+use std::rt::Files;
+use wrap::{CCompilerKind, Compiled, Pairs, Printed, Step, StoreKey};
+
+/// Files and answers that are known so far.
+#[derive(Drop)]
+pub struct Known {
+    pub kind: CCompilerKind,
+    pub files: SnapshotFiles,
+    pub tool: ReplayTool,
+    /// What a disk keeps that may fit.
+    pub entry: Option<(StoreKey, Pairs)>,
+    /// The digest by which the disk was asked already.
+    pub looked_up: Option<OsBytes>,
+    /// The file that was loaded last.
+    loaded: Option<OsBytes>,
+    /// Whether the compiler ran, and printed nothing beside its outputs.
+    pub silent: bool,
+}
+
+impl Known {
+    /// Nothing is known yet.
+    pub fn new(alloc: Global, kind: CCompilerKind) -> Known {
+        Known {
+            kind,
+            files: SnapshotFiles::new(alloc),
+            tool: ReplayTool::new(),
+            entry: None,
+            looked_up: None,
+            loaded: None,
+            silent: false,
+        }
+    }
+
+    /// Loads the file of that path, as it is there or not. False where it was the last one already.
+    pub fn load<R: Files + AllocGlobal>(&mut self, rt: &R, path: OsBytes) -> Result<bool, Stop> {
+        if self.loaded.as_ref() == Some(&path) {
+            return Ok(false);
+        }
+        self.loaded = Some(path.clone()?);
+        let place = into_text(path.clone()?)?;
+        match regular(rt, place.as_str()) {
+            None => self.files.load_absent(path)?,
+            Some(contents) => {
+                if takes_files(&contents) {
+                    return Err(Stop::TakesFiles);
+                }
+                let canonical = path.clone()?;
+                let time = FileTime::from_seconds(0);
+                let metadata = Metadata {
+                    size: contents.as_bytes().len() as u64,
+                    mtime: time,
+                    ctime: time,
+                };
+                let contents = Some(contents);
+                self.files.load(
+                    path,
+                    LoadedFile {
+                        contents,
+                        canonical,
+                        metadata,
+                    },
+                )?;
+            }
+        }
+        Ok(true)
+    }
+
+    /// Has the host preprocess, and records the text.
+    fn record_text<P: Print + std::rt::Files + AllocGlobal, I: Read>(
+        &mut self,
+        rt: &P,
+        line: &CommandLine,
+        host: &mut Host<I>,
+        words: Listed<OsBytes>,
+    ) -> Result<(), Stop>
+        ensures { host.new.compiled ≡ host.old.compiled }
+    {
+        let ended = host.preprocess(rt, rt.alloc(), words.as_slice())?;
+        let text = OsBytes::from_vec(fs::read(rt, line.text.as_str())?);
+        if takes_files(&text) {
+            return Err(Stop::TakesFiles);
+        }
+        let status = ended.status;
+        self.tool.text = Some(RecordedText {
+            kind: self.kind,
+            words,
+            printed: Printed { status, text },
+        });
+        Ok(())
+    }
+
+    /// Has the host compile, and records what was made of these names at these paths.
+    fn record_outputs<P: Print + std::rt::Files + AllocGlobal, I: Read>(
+        &mut self,
+        rt: &P,
+        host: &mut Host<I>,
+        names: Listed<OutputName>,
+        words: Listed<OsBytes>,
+        paths: &[OsBytes],
+    ) -> Result<(), Stop>
+        requires { host.old.compiled ≡ 0 }
+        ensures { host.new.compiled ≡ 1 }
+    {
+        let ended = host.compile(rt, rt.alloc(), words.as_slice())?;
+        self.silent = ended.silent;
+        let files = made_at(rt, paths)?;
+        let status = ended.status;
+        self.tool.outputs = Some(RecordedOutputs {
+            kind: self.kind,
+            words,
+            names,
+            made: Compiled { status, files },
+        });
+        Ok(())
+    }
+
+    /// Has the host compile where it didn't yet, and records what was made. False where it did.
+    fn record_once<P: Print + std::rt::Files + AllocGlobal, I: Read>(
+        &mut self,
+        rt: &P,
+        host: &mut Host<I>,
+        key: &StoreKey,
+        words: Listed<OsBytes>,
+        paths: &[OsBytes],
+    ) -> Result<bool, Stop>
+        requires { host.old.compiled ≤ 1 }
+        ensures { host.new.compiled ≤ 1 }
+    {
+        let names = names_again(rt.alloc(), key.names.as_slice())?;
+        if host.compiled != 0 {
+            return Ok(false);
+        }
+        self.record_outputs(rt, host, names, words, paths)?;
+        Ok(true)
+    }
+
+    /// Has the host run what the tool lacks. False where it lacks nothing, or would compile once more.
+    pub fn record<P: Print + std::rt::Files + AllocGlobal, I: Read>(
+        &mut self,
+        rt: &P,
+        line: &CommandLine,
+        host: &mut Host<I>,
+        key: Option<&StoreKey>,
+    ) -> Result<bool, Stop>
+        requires { host.old.compiled ≤ 1 }
+        ensures { host.new.compiled ≤ 1 }
+    {
+        let Some(wanted) = self.tool.wanted.take() else {
+            return Ok(false);
+        };
+        let Wanted { step, words, paths } = wanted;
+        match (step, key) {
+            (Step::Preprocess, _) => {
+                self.record_text(rt, line, host, words)?;
+                Ok(true)
+            }
+            (Step::Compile, Some(key)) => self.record_once(rt, host, key, words, paths.as_slice()),
+            (_, _) => Ok(false),
+        }
+    }
+}
+
+/// Copies of the names.
+fn names_again(alloc: Global, names: &[OutputName]) -> Result<Listed<OutputName>, Stop> {
+    let mut copies = Listed::new(alloc);
+    for output in names {
+        let name = output.name.clone()?;
+        let optional = output.optional;
+        copies.push(OutputName { name, optional })?;
+    }
+    Ok(copies)
+}

@@ -1,0 +1,50 @@
+//! Files that the compiler made, and outputs that are written in its place.
+
+use crate::fields::into_text;
+use crate::stop::Stop;
+use os_files::listed::Listed;
+use os_files::os_bytes::OsBytes;
+use std::fs;
+use std::rt::Files;
+use wrap::Output;
+
+/// The contents of the regular file of that path, where it is one.
+pub fn regular<R: Files + AllocGlobal>(rt: &R, path: &str) -> Option<OsBytes> {
+    let metadata = fs::metadata(rt, path).ok()?;
+    if !metadata.is_file() {
+        return None;
+    }
+    Some(OsBytes::from_vec(fs::read(rt, path).ok()?))
+}
+
+/// What was made at each of these paths; what is no regular file wasn't made.
+pub fn made_at<R: Files + AllocGlobal>(
+    rt: &R,
+    paths: &[OsBytes],
+) -> Result<Listed<Option<OsBytes>>, Stop> {
+    let mut files = Listed::new(rt.alloc());
+    for path in paths {
+        let path = into_text(path.clone()?)?;
+        files.push(regular(rt, path.as_str()))?;
+    }
+    Ok(files)
+}
+
+/// Takes away a file or a link of that path, as compilers do, so that no other name of the old file shows the new contents.
+fn make_room<R: Files>(rt: &R, path: &str) {
+    if let Ok(metadata) = fs::symlink_metadata(rt, path) {
+        if metadata.is_file() || metadata.is_symlink() {
+            let _ = fs::remove_file(rt, path);
+        }
+    }
+}
+
+/// Writes each output where the request wants it.
+pub fn write_outputs<R: Files + AllocGlobal>(rt: &R, outputs: &[Output]) -> Result<(), Stop> {
+    for output in outputs {
+        let path = into_text(output.path.clone()?)?;
+        make_room(rt, path.as_str());
+        fs::write(rt, path.as_str(), output.contents.as_bytes())?;
+    }
+    Ok(())
+}

@@ -1,0 +1,93 @@
+//! What is passed through before the session is asked, since neither the compiler's words nor its text would tell what was made.
+//! docs/WRAPPER.md says what each variable and option does.
+
+use crate::command_line::CommandLine;
+use crate::stop::Stop;
+use memchr::memmem;
+use os_files::os_bytes::OsBytes;
+use recorded_builds::beware::options_in;
+use std::alloc::Global;
+
+/// Variables under which a compiler reads or writes something else.
+const VARIABLES: [&str; 13] = [
+    "COMPILER_PATH",
+    "GCC_EXEC_PREFIX",
+    "GCC_COMPARE_DEBUG",
+    "GCC_EXTRA_DIAGNOSTIC_OUTPUT",
+    "DEPENDENCIES_OUTPUT",
+    "SUNPRO_DEPENDENCIES",
+    "CCC_OVERRIDE_OPTIONS",
+    "CC_PRINT_OPTIONS",
+    "CC_PRINT_HEADERS",
+    "CC_LOG_DIAGNOSTICS",
+    "CC_PRINT_PROC_STAT",
+    "LD_PRELOAD",
+    "LD_AUDIT",
+];
+
+/// What words begin with under which the text doesn't tell what is compiled, or by what, or where more is made than the object.
+const FRONTS: [&str; 22] = [
+    "@",
+    "-B",
+    "-specs=",
+    "--specs=",
+    "-wrapper",
+    "-load",
+    "-P",
+    "-Wp,",
+    "-Xpreprocessor",
+    "-fno-working-directory",
+    "-include-pch",
+    "-fmodule",
+    "-fprofile-",
+    "-fauto-profile",
+    "-fbranch-probabilities",
+    "-ftest-coverage",
+    "-fsanitize-ignorelist=",
+    "-fsanitize-coverage-",
+    "-fxray-",
+    "-fthinlto-index=",
+    "-fbasic-block-sections=",
+    "-d",
+];
+
+/// What a text has in it that takes in files as it is assembled.
+const TAKES_FILES: [&str; 2] = [".incbin", ".include"];
+
+/// Whether it is a variable that speaks against keeping.
+fn is_variable(name: &[u8]) -> bool {
+    VARIABLES.iter().any(|variable| name == variable.as_bytes())
+}
+
+/// The front of the word that speaks against keeping.
+fn front_of(word: &[u8]) -> Option<&'static str> {
+    FRONTS
+        .iter()
+        .copied()
+        .find(|front| word.starts_with(front.as_bytes()))
+}
+
+/// The variable that speaks against keeping, or the front of a word, or an option.
+pub fn reason_against(alloc: Global, line: &CommandLine) -> Result<Option<String>, Stop> {
+    for (name, value) in line.env.as_slice() {
+        if is_variable(name.as_bytes()) && !value.as_bytes().is_empty() {
+            let name = name.clone()?;
+            return Ok(Some(format!(in alloc; "{name}")?));
+        }
+    }
+    for word in line.words.as_slice() {
+        if let Some(front) = front_of(word.as_bytes()) {
+            return Ok(Some(String::from_str(alloc, front)?));
+        }
+    }
+    let options = options_in(alloc, line.words.as_slice(), &[])?;
+    match options.first() {
+        Some(option) => Ok(Some(String::from_str(alloc, option)?)),
+        None => Ok(None),
+    }
+}
+
+/// Whether the text takes in files as it is assembled.
+pub fn takes_files(text: &OsBytes) -> bool {
+    TAKES_FILES.iter().any(|word| memmem::find(text.as_bytes(), word.as_bytes()).is_some())
+}

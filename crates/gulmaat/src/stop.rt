@@ -1,0 +1,69 @@
+//! Why no decision is made. The host runs the compiler then.
+
+use byte_formats::fault::ReadFault;
+use ckeys::config::ConfigError;
+use std::alloc::{AllocError, AllocFailed};
+use std::{fmt, io};
+
+/// Why no decision was made.
+#[derive(Drop)]
+pub enum Stop {
+    /// A growth was refused.
+    Memory,
+    /// A file or the host couldn't be read or written.
+    Device,
+    /// What the host says, or a path that must be text, isn't readable.
+    Unreadable,
+    /// The text takes in files as it is assembled.
+    TakesFiles,
+}
+
+impl fmt::Display for Stop {
+    fn fmt<W: fmt::Write>(&self, f: &mut fmt::Formatter<W>) -> fmt::Result {
+        f.write_str(match *self {
+            Stop::Memory => "no memory",
+            Stop::Device => "a file or the host failed",
+            Stop::Unreadable => "a path or a message is no text",
+            Stop::TakesFiles => "the text takes in files",
+        })
+    }
+}
+
+impl From<AllocError> for Stop {
+    fn from(_error: AllocError) -> Stop {
+        Stop::Memory
+    }
+}
+
+impl<T: Drop> From<AllocFailed<T>> for Stop {
+    fn from(_error: AllocFailed<T>) -> Stop {
+        Stop::Memory
+    }
+}
+
+impl From<io::Error> for Stop {
+    fn from(_error: io::Error) -> Stop {
+        Stop::Device
+    }
+}
+
+impl From<fmt::Error> for Stop {
+    fn from(_error: fmt::Error) -> Stop {
+        Stop::Memory
+    }
+}
+
+impl From<ConfigError> for Stop {
+    fn from(_error: ConfigError) -> Stop {
+        Stop::Memory
+    }
+}
+
+impl From<ReadFault> for Stop {
+    fn from(fault: ReadFault) -> Stop {
+        match fault {
+            ReadFault::Memory => Stop::Memory,
+            ReadFault::Unfit => Stop::Unreadable,
+        }
+    }
+}

@@ -1,0 +1,378 @@
+/* The host of gulmaat: it runs the words that the program beside it asks for, and decides nothing itself.
+ *
+ *     gulmaat COMPILER WORD..
+ *
+ * or by a link that is named like the compiler. Whatever goes wrong on this side ends in the compiler being run as if nobody had
+ * asked. Numbers in messages have eight bytes, low byte first; a string stands behind its length; a message behind its own.
+ */
+#define _GNU_SOURCE
+#include <errno.h>
+#include <fcntl.h>
+#include <limits.h>
+#include <signal.h>
+#include <spawn.h>
+#include <stdint.h>
+#include <stdio.h>
+#include <stdlib.h>
+#include <string.h>
+#include <sys/stat.h>
+#include <sys/wait.h>
+#include <unistd.h>
+
+#define DONE 11     /* the status at which the program has put the outputs there */
+
+extern char **environ;
+
+static char **words;                        /* the compiler's own words, its name first */
+static char compiler[PATH_MAX];             /* the file that is run */
+static char self[PATH_MAX];                 /* this host's own file */
+static char kept[PATH_MAX];                 /* the folder of what is kept */
+static char own[PATH_MAX];                  /* this process's folder in it */
+static char text[PATH_MAX], messages[PATH_MAX], printed[PATH_MAX];  /* where a command's output goes */
+static void (*pipe_signal)(int);            /* what the caller does at a broken pipe */
+
+/* ---- A message that grows. */
+
+static unsigned char *message;
+static size_t message_size, message_room;
+
+static void remove_outputs(void) {
+    if (!own[0]) return;
+    unlink(text);
+    unlink(messages);
+    unlink(printed);
+    rmdir(own);
+}
+
+/* Runs the compiler as if nobody had asked. */
+static void pass_through(void) {
+    remove_outputs();
+    signal(SIGPIPE, pipe_signal);
+    execv(compiler, words);
+    perror(compiler);
+    _exit(127);
+}
+
+static void add(const void *bytes, size_t size) {
+    if (message_size + size > message_room) {
+        message_room = (message_size + size) * 2;
+        message = realloc(message, message_room);
+        if (!message) pass_through();
+    }
+    memcpy(message + message_size, bytes, size);
+    message_size += size;
+}
+
+static void add_number(uint64_t number) {
+    unsigned char bytes[8];
+    for (int i = 0; i < 8; i++) bytes[i] = number >> 8 * i;
+    add(bytes, 8);
+}
+
+static uint64_t number_at(const unsigned char *bytes) {
+    uint64_t number = 0;
+    for (int i = 8; i-- > 0;) number = number << 8 | bytes[i];
+    return number;
+}
+
+static void add_bytes(const char *bytes, size_t size) { add_number(size); add(bytes, size); }
+static void add_string(const char *string) { add_bytes(string, strlen(string)); }
+
+static int write_all(int file, const void *bytes, size_t size) {
+    for (const char *at = bytes; size;) {
+        ssize_t written = write(file, at, size);
+        if (written < 0 && errno == EINTR) continue;
+        if (written < 0) return -1;
+        at += written;
+        size -= written;
+    }
+    return 0;
+}
+
+static int read_all(int file, void *bytes, size_t size) {
+    for (char *at = bytes; size;) {
+        ssize_t got = read(file, at, size);
+        if (got < 0 && errno == EINTR) continue;
+        if (got <= 0) return -1;
+        at += got;
+        size -= got;
+    }
+    return 0;
+}
+
+/* ---- What a command printed. */
+
+/* Whether the caller's own words ask for colours. */
+static int asks_for_colours(void) {
+    for (char **word = words + 1; *word; word++)
+        if (!strcmp(*word, "-fdiagnostics-color") || !strcmp(*word, "-fdiagnostics-color=always") ||
+            !strcmp(*word, "-fcolor-diagnostics") || !strcmp(*word, "-fansi-escape-codes")) return 1;
+    return 0;
+}
+
+/* Takes colours out: what stands from an escape and a bracket to an m or a K. Gives the new size; *inside goes from part to part. */
+static size_t without_colours(char *part, size_t size, int *inside) {
+    size_t end = 0;
+    for (size_t i = 0; i < size; i++) {
+        if (*inside == 1) *inside = part[i] == '[' ? 2 : 0;
+        else if (*inside == 2) *inside = part[i] == 'm' || part[i] == 'K' ? 0 : 2;
+        else if (part[i] == 27) *inside = 1;
+        else part[end++] = part[i];
+    }
+    return end;
+}
+
+static void show(const char *path, int to) {
+    char part[65536];
+    ssize_t size;
+    int inside = 0, plain = !isatty(to) && !asks_for_colours();
+    int file = open(path, O_RDONLY | O_CLOEXEC);
+    if (file < 0) return;
+    while ((size = read(file, part, sizeof part)) > 0)
+        write_all(to, part, plain ? without_colours(part, size, &inside) : (size_t)size);
+    close(file);
+}
+
+static int is_empty(const char *path) {
+    struct stat state;
+    return stat(path, &state) || !state.st_size;
+}
+
+/* ---- Commands. */
+
+/* Runs the compiler with these words, and answers its status. */
+static int run(char **line, const char *output, const char *errors) {
+    posix_spawn_file_actions_t actions;
+    posix_spawnattr_t attributes;
+    sigset_t defaults;
+    pid_t child;
+    int status;
+    posix_spawn_file_actions_init(&actions);
+    posix_spawn_file_actions_addopen(&actions, 1, output, O_WRONLY | O_CREAT | O_TRUNC, 0600);
+    posix_spawn_file_actions_addopen(&actions, 2, errors, O_WRONLY | O_CREAT | O_TRUNC, 0600);
+    posix_spawnattr_init(&attributes);
+    sigemptyset(&defaults);
+    sigaddset(&defaults, SIGPIPE);
+    posix_spawnattr_setsigdefault(&attributes, &defaults);
+    if (pipe_signal != SIG_IGN) posix_spawnattr_setflags(&attributes, POSIX_SPAWN_SETSIGDEF);
+    if (posix_spawn(&child, compiler, &actions, &attributes, line, environ)) return 127;
+    while (waitpid(child, &status, 0) < 0)
+        if (errno != EINTR) return 127;
+    return WIFEXITED(status) ? WEXITSTATUS(status) : 128 + WTERMSIG(status);
+}
+
+/* Whether a file is this host under another name. */
+static int is_self(const char *path) {
+    char other[PATH_MAX];
+    return realpath(path, other) && !strcmp(self, other);
+}
+
+/* The file of that name, where it can be run, by the usual search; a link to this host is none, and its name is searched. */
+static int find_compiler(const char *name) {
+    const char *slash = strrchr(name, '/');
+    if (slash && !is_self(name)) {
+        if (snprintf(compiler, sizeof compiler, "%s", name) >= (int)sizeof compiler) return -1;
+        return access(compiler, X_OK);
+    }
+    if (slash) { name = slash + 1; words[0] = compiler; }
+    const char *path = getenv("PATH");
+    if (!path) path = "/usr/bin:/bin";
+    for (; *path; path += strspn(path, ":")) {
+        size_t size = strcspn(path, ":");
+        struct stat state;
+        int length = snprintf(compiler, sizeof compiler, "%.*s/%s", (int)size, path, name);
+        path += size;
+        if (length >= (int)sizeof compiler || access(compiler, X_OK) || stat(compiler, &state)) continue;
+        if (S_ISREG(state.st_mode) && !is_self(compiler)) return 0;
+    }
+    errno = ENOENT;
+    return -1;
+}
+
+/* ---- What the program is told, and what it asks. */
+
+/* The folder of what is kept: GULMAAT_DIR, or gulmaat in the user's cache folder. */
+static int find_kept(void) {
+    const char *dir = getenv("GULMAAT_DIR"), *cache = getenv("XDG_CACHE_HOME"), *home = getenv("HOME");
+    int size;
+    if (dir && *dir) size = snprintf(kept, sizeof kept, "%s", dir);
+    else if (cache && *cache == '/') size = snprintf(kept, sizeof kept, "%s/gulmaat", cache);
+    else if (home && *home == '/') size = snprintf(kept, sizeof kept, "%s/.cache/gulmaat", home);
+    else return -1;
+    return kept[0] == '/' && size < PATH_MAX - 64 ? 0 : -1;
+}
+
+/* Makes a folder, and those above it. */
+static void make_folder(const char *path) {
+    char part[PATH_MAX];
+    snprintf(part, sizeof part, "%s", path);
+    for (char *slash = strchr(part + 1, '/'); slash; slash = strchr(slash + 1, '/')) {
+        *slash = 0;
+        mkdir(part, 0777);
+        *slash = '/';
+    }
+    mkdir(part, 0777);
+}
+
+/* A folder of this process alone, in which commands' outputs go. */
+static int make_own(void) {
+    char folder[PATH_MAX];
+    snprintf(folder, sizeof folder, "%.*s/own", PATH_MAX - 64, kept);
+    make_folder(folder);
+    snprintf(own, sizeof own, "%.*s/XXXXXX", PATH_MAX - 64, folder);
+    if (!mkdtemp(own)) { own[0] = 0; return -1; }
+    snprintf(text, sizeof text, "%.*s/text", PATH_MAX - 64, own);
+    snprintf(messages, sizeof messages, "%.*s/messages", PATH_MAX - 64, own);
+    snprintf(printed, sizeof printed, "%.*s/printed", PATH_MAX - 64, own);
+    return 0;
+}
+
+static void end_by(int number) {
+    remove_outputs();
+    signal(number, SIG_DFL);
+    raise(number);
+}
+
+/* Has nothing left behind where this process is stopped, unless its caller has it go on. */
+static void watch(int number) {
+    if (signal(number, end_by) == SIG_IGN) signal(number, SIG_IGN);
+}
+
+static void tell_command_line(void) {
+    char dir[PATH_MAX];
+    uint64_t count = 0, pairs = 0;
+    if (!getcwd(dir, sizeof dir)) pass_through();
+    add_string(kept);
+    add_string(text);
+    add_string(strrchr(own, '/') + 1);
+    add_string(compiler);
+    add_string(dir);
+    while (words[count + 1]) count++;
+    add_number(count);
+    for (uint64_t i = 1; i <= count; i++) add_string(words[i]);
+    for (char **pair = environ; *pair; pair++) pairs += strchr(*pair, '=') != NULL;
+    add_number(pairs);
+    for (char **pair = environ; *pair; pair++) {
+        char *equals = strchr(*pair, '=');
+        if (!equals) continue;
+        add_bytes(*pair, equals - *pair);
+        add_string(equals + 1);
+    }
+}
+
+static int send_message(int to) {
+    unsigned char size[8];
+    for (int i = 0; i < 8; i++) size[i] = (uint64_t)message_size >> 8 * i;
+    return write_all(to, size, 8) || write_all(to, message, message_size);
+}
+
+/* The words that a question names behind its letter, behind the compiler's own name; none where it isn't well formed. */
+static char **words_of(const unsigned char *question, uint64_t size) {
+    if (size < 16) return NULL;
+    uint64_t count = number_at(question + 8), at = 16;
+    if (count > size / 8) return NULL;
+    char **line = calloc(count + 2, sizeof *line);
+    if (!line) return NULL;
+    line[0] = words[0];
+    for (uint64_t i = 0; i < count; i++) {
+        if (size - at < 8) return NULL;
+        uint64_t length = number_at(question + at);
+        if (length > size - at - 8) return NULL;
+        line[i + 1] = strndup((const char *)question + at + 8, length);
+        if (!line[i + 1]) return NULL;
+        at += 8 + length;
+    }
+    return line;
+}
+
+/* Answers questions until the program ends, and gives the status of a compile that ran, or -1. */
+static int answer_questions(int from, int to) {
+    int compiled = -1;
+    unsigned char head[8];
+    while (!read_all(from, head, 8)) {
+        uint64_t size = number_at(head);
+        unsigned char *question = size < UINT64_C(1) << 28 ? malloc(size + 1) : NULL;
+        if (!question || read_all(from, question, size)) break;
+        char **line = words_of(question, size);
+        if (!line) break;
+        int compile = number_at(question) == 'C';
+        int status = run(line, compile ? printed : text, messages);
+        int silent = is_empty(messages) && (!compile || is_empty(printed));
+        if (compile) {
+            compiled = status;
+            show(printed, 1);
+            show(messages, 2);
+        }
+        free(question);
+        message_size = 0;
+        add_number(status);
+        add_number(silent);
+        if (send_message(to)) break;
+    }
+    return compiled;
+}
+
+/* Starts the program with a pipe to it and one from it. */
+static int start(const char *program, int *to, int *from, pid_t *child) {
+    int in[2], out[2];
+    posix_spawn_file_actions_t actions;
+    char *line[] = {(char *)program, NULL};
+    if (pipe2(in, O_CLOEXEC) || pipe2(out, O_CLOEXEC)) return -1;
+    posix_spawn_file_actions_init(&actions);
+    posix_spawn_file_actions_adddup2(&actions, in[0], 0);
+    posix_spawn_file_actions_adddup2(&actions, out[1], 1);
+    if (posix_spawn(child, program, &actions, NULL, line, environ)) return -1;
+    close(in[0]);
+    close(out[1]);
+    *to = in[1];
+    *from = out[0];
+    return 0;
+}
+
+/* The program that lies beside this host. */
+static const char *program_beside(void) {
+    static char program[PATH_MAX];
+    const char *named = getenv("GULMAAT_BIN"), *slash = strrchr(self, '/');
+    if (named) return named;
+    snprintf(program, sizeof program, "%.*s/gulmaat", slash ? (int)(slash - self) : 0, self);
+    return program;
+}
+
+int main(int count, char **list) {
+    for (int file = 0; file < 3; file++)
+        if (fcntl(file, F_GETFD) < 0 && open("/dev/null", O_RDWR) < 0) return 127;
+    signal(SIGCHLD, SIG_DFL);
+    ssize_t size = readlink("/proc/self/exe", self, sizeof self - 1);
+    self[size < 0 ? 0 : size] = 0;
+    const char *name = strrchr(list[0], '/') ? strrchr(list[0], '/') + 1 : list[0];
+    int is_link = strncmp(name, "gulmaat", 7) != 0;
+    words = is_link ? list : list + 1;
+    if (!is_link && (count < 2 || !strncmp(list[1], "--", 2))) {
+        char *line[] = {"gulmaat", count < 2 ? "--help" : list[1], find_kept() ? NULL : kept, NULL};
+        if (!strcmp(line[1], "--help")) line[2] = NULL;
+        execv(program_beside(), line);
+        perror(program_beside());
+        return 127;
+    }
+    if (find_compiler(is_link ? name : words[0])) { perror(words[0]); return 127; }
+    if (is_link) words[0] = compiler;
+    if (find_kept() || make_own()) pass_through();
+    watch(SIGINT);
+    watch(SIGTERM);
+    watch(SIGHUP);
+    pipe_signal = signal(SIGPIPE, SIG_IGN);
+    tell_command_line();
+
+    int to, from, status = 1 << 8;
+    pid_t child;
+    if (start(program_beside(), &to, &from, &child)) pass_through();
+    int compiled = send_message(to) ? -1 : answer_questions(from, to);
+    close(to);
+    close(from);
+    while (waitpid(child, &status, 0) < 0 && errno == EINTR);
+    if (compiled >= 0) { remove_outputs(); return compiled; }
+    if (!WIFEXITED(status) || WEXITSTATUS(status) != DONE) pass_through();
+    show(messages, 2);
+    remove_outputs();
+    return 0;
+}
