@@ -91,7 +91,8 @@ impl AnswerTool {
 }
 
 impl Preprocessor for AnswerTool {
-    ghost meaning = { λ t. answering t.texts };
+    ghost meaning = { λ t.
+        answering t.texts.status t.texts.dep_info t.texts.file_names t.texts.digest };
 
     ghost preprocessed = { λ t. t.preprocessed };
 
