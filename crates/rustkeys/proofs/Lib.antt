@@ -4,3 +4,4 @@ pub mod CauseLemmas
 pub mod ArchiveLemmas
 pub mod KeyLemmas
 mod RuleLemmas
+pub mod RunLemmas

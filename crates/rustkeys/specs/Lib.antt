@@ -5,3 +5,4 @@ pub mod Collected
 pub mod Fresh
 pub mod Finished
 pub mod Hashers
+pub mod Runs

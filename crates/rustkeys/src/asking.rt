@@ -4,6 +4,7 @@ ghost use Rattle.std.specs.Prelude.{◌≡◌, ℤ, [], ◌∷◌, Some, None, t
 ghost use Rattle.os_files.specs.Bytes.{ticked};
 ghost use Rattle.ckeys.specs.Calls.{KeyCause, text_in};
 ghost use Rattle.ckeys.specs.Causes.{no_file, no_step};
+ghost use Rattle.ckeys.specs.EntryTurns.{AtMostOnce};
 ghost use Rattle.ckeys.specs.Meaning.{AreSteady, FailsIn, made_of};
 ghost use Rattle.rustkeys.specs.Calls.{answer_fault_of, utf8_fault_of};
 ghost use Rattle.rustkeys.specs.Questions.{dep_info_of, file_names_of, question_of};
@@ -68,6 +69,7 @@ impl<'a> RustPlace<'a> {
         ensures memory { IsErrOf result Fault.Memory →
             AreSteady A.failed F.failed answers.old files.old answers.new files.new }
         ensures runs { OnOk result (A.preprocessed answers.new ≡ ticked (A.preprocessed answers.old)) }
+        ensures once { AtMostOnce (A.preprocessed answers.old) (A.preprocessed answers.new) }
         ensures compiles { A.compiled answers.new ≡ A.compiled answers.old }
     {
         let words = dep_info_words(alloc, self.parsed)?;
@@ -98,6 +100,7 @@ impl<'a> RustPlace<'a> {
         ensures memory { IsErrOf result Fault.Memory →
             AreSteady A.failed F.failed answers.old files.old answers.new files.new }
         ensures runs { OnOk result (A.preprocessed answers.new ≡ ticked (A.preprocessed answers.old)) }
+        ensures once { AtMostOnce (A.preprocessed answers.old) (A.preprocessed answers.new) }
         ensures compiles { A.compiled answers.new ≡ A.compiled answers.old }
     {
         let words = file_names_words(alloc, self.parsed)?;
@@ -133,6 +136,7 @@ impl<'a> RustPlace<'a> {
         ensures memory { IsErrOf result Fault.Memory →
             AreSteady A.failed F.failed answers.old files.old answers.new files.new }
         ensures runs { OnOk result (A.preprocessed answers.new ≡ ticked (A.preprocessed answers.old)) }
+        ensures once { AtMostOnce (A.preprocessed answers.old) (A.preprocessed answers.new) }
         ensures compiles { A.compiled answers.new ≡ A.compiled answers.old }
     {
         let printed = self.ask_dep_info(alloc, files, answers)?;
@@ -163,6 +167,7 @@ impl<'a> RustPlace<'a> {
         ensures memory { IsErrOf result Fault.Memory →
             AreSteady A.failed F.failed answers.old files.old answers.new files.new }
         ensures runs { OnOk result (A.preprocessed answers.new ≡ ticked (A.preprocessed answers.old)) }
+        ensures once { AtMostOnce (A.preprocessed answers.old) (A.preprocessed answers.new) }
         ensures compiles { A.compiled answers.new ≡ A.compiled answers.old }
     {
         let printed = self.ask_file_names(alloc, files, answers)?;

@@ -6,11 +6,13 @@ ghost use Rattle.os_files.specs.Bytes.{ticked};
 ghost use Rattle.os_files.specs.Fails.{FailsOn};
 ghost use Rattle.ckeys.specs.Calls.{KeyCause, text_in};
 ghost use Rattle.ckeys.specs.Causes.{no_step};
+ghost use Rattle.ckeys.specs.EntryTurns.{AtMostOnce};
 ghost use Rattle.ckeys.specs.Meaning.{AreSteady, FailsIn};
 ghost use Rattle.rustc_parts.specs.Formed.{IsDigest, digest_digits};
 ghost use Rattle.rustkeys.specs.Calls.{dep_info_fault_of, files_fault_of, key_fault_with, sources_fault_of};
 ghost use Rattle.rustkeys.specs.Questions.{answers_of, dep_info_of, digested, file_names_of, question_of};
 ghost use Rattle.rustkeys.specs.Collected.{files_with, source_digests};
+ghost use Rattle.rustkeys.specs.Runs.{AtMostTwice};
 
 use crate::answers::RustcAnswers;
 use crate::archives::archive_digests;
@@ -99,6 +101,7 @@ impl<'a> RustPlace<'a> {
         ensures memory { IsErrOf result Fault.Memory →
             AreSteady A.failed F.failed answers.old files.old answers.new files.new }
         ensures runs { OnOk result (A.preprocessed answers.new ≡ ticked (A.preprocessed answers.old)) }
+        ensures once { AtMostOnce (A.preprocessed answers.old) (A.preprocessed answers.new) }
         ensures compiles { A.compiled answers.new ≡ A.compiled answers.old }
     {
         let text = self.dep_info_text(alloc, files, answers)?;
@@ -147,6 +150,7 @@ impl<'a> RustPlace<'a> {
 
     /// All that is told before a request has its key: what rustc tells of dependencies, the sources, the names of what it writes, and
     /// then the other files.
+    #[tactic(auto, using(crate::proofs::RunLemmas::once_at_most, crate::proofs::RunLemmas::once_more))]
     pub(crate) fn collect<H: HashState, F: Files, A: RustcAnswers>(
         &self,
         alloc: Global,
@@ -183,6 +187,7 @@ impl<'a> RustPlace<'a> {
             AreSteady A.failed F.failed answers.old files.old answers.new files.new }
         ensures runs { OnOk result
             (A.preprocessed answers.new ≡ ticked (ticked (A.preprocessed answers.old))) }
+        ensures twice { AtMostTwice (A.preprocessed answers.old) (A.preprocessed answers.new) }
         ensures compiles { A.compiled answers.new ≡ A.compiled answers.old }
     {
         let sources = self.dep_info::<H, F, A>(alloc, files, answers)?;

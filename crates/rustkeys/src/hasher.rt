@@ -1,6 +1,6 @@
 //! The key of a request to rustc, on the files that are there when it is asked.
 
-ghost use Rattle.std.specs.Prelude.{◌≡◌, ℤ, None, is_some, string_bytes, IfOk, IfErr, OnOk, IsErrOf};
+ghost use Rattle.std.specs.Prelude.{◌≡◌, ℤ, None, is_some, string_bytes, IfOk, IfErr, OnOk, OnErr, IsErrOf};
 ghost use Rattle.std.specs.List.{AllByRecursion};
 ghost use Rattle.std.specs.Str.Lossy.{utf8_lossy};
 ghost use Rattle.os_files.specs.Bytes.{ticked};
@@ -17,6 +17,7 @@ ghost use Rattle.rustkeys.specs.Fresh.{ComesOfWords, call_outputs, dep_info_text
 ghost use Rattle.rustkeys.specs.Hashers.{call_of, known_of};
 ghost use Rattle.rustkeys.specs.Questions.{compile_env_of, question_of};
 ghost use Rattle.rustkeys.specs.Records.{IsTold, key_of, parts_of, record_shape};
+ghost use Rattle.rustkeys.specs.Runs.{AtMostTwice};
 
 use crate::answers::RustcAnswers;
 use crate::compilation::RustCompilation;
@@ -154,6 +155,9 @@ impl<'a> RustHasher<'a> {
             AreSteady A.failed F.failed answers.old files.old answers.new files.new }
         ensures runs { OnOk result
             (A.preprocessed answers.new ≡ ticked (ticked (A.preprocessed answers.old))) }
+        // How often rustc was asked before a fault.
+        ensures until { OnErr result
+            (AtMostTwice (A.preprocessed answers.old) (A.preprocessed answers.new)) }
         ensures compiles { A.compiled answers.new ≡ A.compiled answers.old }
     {
         // A law, which costs nothing: what follows from it is said above.
