@@ -9,7 +9,6 @@ use ckeys::fault::Fault;
 use ckeys::preprocessor::Preprocessor;
 use ckeys::{EntryKey, PreprocessorCacheEntry, Store};
 use os_files::listed::Listed;
-use script_tool::crates::CrateTexts;
 use script_tool::script::ScriptTool;
 use sha2::Sha256;
 use std::alloc::{AllocError, AllocFailed, Global};
@@ -142,7 +141,7 @@ fn serve_calls<O: Store<StoreKey, Pairs> + Drop, W: Write>(
         calls,
     } = scenario;
     let mut session = Session::new(alloc, session_config, MapStore::new(alloc), objects);
-    let mut tool = ScriptTool::new(tool_config, CrateTexts::empty(alloc));
+    let mut tool = ScriptTool::new(tool_config);
     for (number, call) in (1u64..).zip(calls) {
         let answer = answered(call, &mut session, &mut tool);
         write_line(writer, &line_of(alloc, number, &answer)?)?;

@@ -3,14 +3,14 @@ use Rattle.std.proofs.Common.{◌≡◌, List, ◌∷◌, ◌++◌, map, Option,
 use Rattle.std.specs.Option.{option_map}
 use Rattle.os_files.specs.Bytes.{Bytes}
 use Rattle.script_tool.specs.Lines.{lines}
-use Rattle.script_tool.specs.Texts.{whole}
+use Rattle.script_tool.specs.Scripted.{whole}
 
 appended_twice : (before part : Bytes) (rest : Option Bytes) → option_map (λ body. (before ++ part) ++ body) rest ≡ option_map (λ body. before ++ body) (option_map (λ body. part ++ body) rest)
 appended_twice before part None = refl
 appended_twice before part (Some body) = ap Some (append_assoc before part body)
 
 -- a part that is there, added to what stands before it
-pub whole-step : (before now : Bytes) (part : Option Bytes) (parts : List (Option Bytes)) → Some now ≡ option_map (λ part. before ++ part) part
+whole-step : (before now : Bytes) (part : Option Bytes) (parts : List (Option Bytes)) → Some now ≡ option_map (λ part. before ++ part) part
     → option_map (λ body. now ++ body) (whole parts) ≡ option_map (λ body. before ++ body) (whole (part ∷ parts))
 whole-step before now None parts h = cc
 whole-step before now (Some part) parts h =

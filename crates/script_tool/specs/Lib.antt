@@ -1,4 +1,2 @@
 pub mod Lines
-pub mod Texts
-pub mod ScriptedCrates
 pub mod Scripted

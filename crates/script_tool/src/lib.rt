@@ -1,7 +1,6 @@
 //! The scripted tool, which runs commands over a call's files in place of a compiler.
 #![tactic(auto)]
 
-pub mod crates;
 mod lines;
 pub mod script;
 mod scripting;

@@ -1,13 +1,12 @@
-//! A tool with the behaviour of a short script: its preprocessor prints a text, and its C compiler makes outputs of that text without
-//! the configured folders. Its rustc tells texts, and makes outputs of the sources that they name.
+//! A tool with the behaviour of a short script: its preprocessor prints a text, and its compiler makes outputs of that text without
+//! the configured folders.
 
-ghost use Rattle.std.specs.Prelude.{◌≡◌, ℤ, None, Some, IfOk, IsErrOf};
+ghost use Rattle.std.specs.Prelude.{◌≡◌, ℤ, IfOk, IsErrOf};
 ghost use Rattle.os_files.specs.Bytes.{ticked};
 ghost use Rattle.cmdlines_tables.specs.Tables.{reading_of};
-ghost use Rattle.ckeys.specs.Meaning.{StepTicks, asked_of, made_of, names_of, scene_of, words};
+ghost use Rattle.ckeys.specs.Meaning.{StepTicks, scene_of};
 ghost use Rattle.script_tool.specs.Scripted.{scripted, source_in, text_of};
 
-use crate::crates::{CrateTexts, compiled_crate, crate_text, digest_in};
 use crate::scripting::{compiled, printed, text_of};
 use ckeys::config::KeyConfig;
 use ckeys::preprocessor::{Preprocessor, Printed, Ticks, ToolFail};
@@ -16,7 +15,6 @@ use cmdlines_base::command::{ArtifactDescriptor, SingleCompileCommand};
 use cmdlines_tables::compiler::CCompilerKind;
 use os_files::files::{FileFail, Files};
 use os_files::os_bytes::OsBytes;
-use rustkeys::answers::RustcAnswers;
 use std::alloc::Global;
 use wrap_base::tool::{Compiled, Tool};
 
@@ -25,32 +23,21 @@ use wrap_base::tool::{Compiled, Tool};
 pub struct ScriptTool {
     /// Whose folders its outputs don't show.
     pub config: KeyConfig,
-    /// What rustc tells.
-    pub told: CrateTexts,
     pub preprocessed: u64,
     pub compiled: u64,
     pub failed: u64,
-    /// The step in which a device failed last.
-    pub failed_step: Option<Step>,
 }
 
 impl ScriptTool {
-    /// A tool that has not run yet, whose C compiler strips these folders and whose rustc tells this.
-    pub fn new(config: KeyConfig, told: CrateTexts) -> ScriptTool
-        ensures config { result.config ≡ config }
-        ensures told { result.told ≡ told }
-        ensures preprocessed { result.preprocessed ≡ 0 }
-        ensures compiled { result.compiled ≡ 0 }
-        ensures failed { result.failed ≡ 0 }
-        ensures failed_step { result.failed_step ≡ None }
+    /// A tool that has not run yet, whose compiler strips these folders.
+    pub fn new(config: KeyConfig) -> ScriptTool
+        ensures { result ≡ record { config = config; preprocessed = 0; compiled = 0; failed = 0 } }
     {
         ScriptTool {
             config,
-            told,
             preprocessed: 0,
             compiled: 0,
             failed: 0,
-            failed_step: None,
         }
     }
 
@@ -70,12 +57,11 @@ impl ScriptTool {
             (source_in (reading_of kind command.now.arguments))) }
         ensures tree { F.tree files.new ≡ F.tree files.old }
         ensures device { IsErrOf result ToolFail.Device
-            → (self.new.failed ≡ ticked self.old.failed) × (self.new.failed_step ≡ Some step)
+            → (self.new.failed ≡ ticked self.old.failed)
             × (F.failed files.new ≡ ticked (F.failed files.old)) }
         ensures steady { (IsErrOf result ToolFail.Device → ⊥)
             → (self.new.failed ≡ self.old.failed) × (F.failed files.new ≡ F.failed files.old) }
         ensures config { self.new.config ≡ self.old.config }
-        ensures told { self.new.told ≡ self.old.told }
         ensures preprocessed { self.new.preprocessed ≡ self.old.preprocessed }
         ensures compiled { self.new.compiled ≡ self.old.compiled }
     {
@@ -84,73 +70,6 @@ impl ScriptTool {
             Err(FileFail::Memory) => Err(ToolFail::Memory),
             Err(FileFail::Device) => {
                 self.failed = self.failed.wrapping_add(1);
-                self.failed_step = Some(step);
-                Err(ToolFail::Device)
-            }
-        }
-    }
-
-    /// What a C compiler of that kind makes. A device that fails is counted.
-    fn compile_source<F: Files>(
-        &mut self,
-        alloc: Global,
-        kind: CCompilerKind,
-        command: &SingleCompileCommand,
-        outputs: &[(OsBytes, ArtifactDescriptor)],
-        files: &mut F,
-    ) -> Result<Compiled, ToolFail>
-        ensures answer { (moment : ℤ)
-            → IfOk result
-            (λ made. made_of made.status made.files
-            ≡ scripted self.old.config.basedirs self.old.told Step.Compile
-            (asked_of kind command.now.arguments)
-            (names_of outputs.now) (scene_of command.now (F.tree files.old) moment)) }
-        ensures tree { F.tree files.new ≡ F.tree files.old }
-        ensures device { IsErrOf result ToolFail.Device
-            → (self.new.failed ≡ ticked self.old.failed) × (self.new.failed_step ≡ Some Step.Compile)
-            × (F.failed files.new ≡ ticked (F.failed files.old)) }
-        ensures steady { (IsErrOf result ToolFail.Device → ⊥)
-            → (self.new.failed ≡ self.old.failed) × (F.failed files.new ≡ F.failed files.old) }
-        ensures config { self.new.config ≡ self.old.config }
-        ensures told { self.new.told ≡ self.old.told }
-        ensures preprocessed { self.new.preprocessed ≡ self.old.preprocessed }
-        ensures compiled { self.new.compiled ≡ self.old.compiled }
-    {
-        let text = self.text(alloc, Step::Compile, kind, command, files)?;
-        Ok(compiled(alloc, text, self.config.basedirs(), outputs)?)
-    }
-
-    /// What rustc makes. A device that fails is counted.
-    fn compile_crate<F: Files>(
-        &mut self,
-        alloc: Global,
-        command: &SingleCompileCommand,
-        outputs: &[(OsBytes, ArtifactDescriptor)],
-        files: &mut F,
-    ) -> Result<Compiled, ToolFail>
-        ensures answer { (moment : ℤ)
-            → IfOk result
-            (λ made. made_of made.status made.files
-            ≡ scripted self.old.config.basedirs self.old.told Step.Compile
-            (words command.now.arguments)
-            (names_of outputs.now) (scene_of command.now (F.tree files.old) moment)) }
-        ensures tree { F.tree files.new ≡ F.tree files.old }
-        ensures device { IsErrOf result ToolFail.Device
-            → (self.new.failed ≡ ticked self.old.failed) × (self.new.failed_step ≡ Some Step.Compile)
-            × (F.failed files.new ≡ ticked (F.failed files.old)) }
-        ensures steady { (IsErrOf result ToolFail.Device → ⊥)
-            → (self.new.failed ≡ self.old.failed) × (F.failed files.new ≡ F.failed files.old) }
-        ensures config { self.new.config ≡ self.old.config }
-        ensures told { self.new.told ≡ self.old.told }
-        ensures preprocessed { self.new.preprocessed ≡ self.old.preprocessed }
-        ensures compiled { self.new.compiled ≡ self.old.compiled }
-    {
-        match crate_text(alloc, &self.told.dep_info, command, files) {
-            Ok(text) => Ok(compiled_crate(alloc, text, outputs)?),
-            Err(FileFail::Memory) => Err(ToolFail::Memory),
-            Err(FileFail::Device) => {
-                self.failed = self.failed.wrapping_add(1);
-                self.failed_step = Some(Step::Compile);
                 Err(ToolFail::Device)
             }
         }
@@ -158,7 +77,7 @@ impl ScriptTool {
 }
 
 impl Preprocessor for ScriptTool {
-    ghost meaning = { λ t. scripted t.config.basedirs t.told };
+    ghost meaning = { λ t. scripted t.config.basedirs };
 
     ghost preprocessed = { λ t. t.preprocessed };
 
@@ -166,8 +85,8 @@ impl Preprocessor for ScriptTool {
 
     ghost failed = { λ t. t.failed };
 
-    /// The failure was counted, and so was the one step, which is remembered.
-    ghost fails_in = { λ t step u. (u.failed ≡ ticked t.failed) × (u.failed_step ≡ Some step) × StepTicks step t.preprocessed u.preprocessed t.compiled u.compiled };
+    /// The failure was counted, and so was the one step.
+    ghost fails_in = { λ t step u. (u.failed ≡ ticked t.failed) × StepTicks step t.preprocessed u.preprocessed t.compiled u.compiled };
 
     fn preprocess<F: Files>(
         &mut self,
@@ -191,53 +110,18 @@ impl Preprocessor for ScriptTool {
     }
 }
 
-impl RustcAnswers for ScriptTool {
-    fn dep_info<F: Files>(
-        &mut self,
-        _alloc: Global,
-        _command: &SingleCompileCommand,
-        _files: &mut F,
-    ) -> Result<Printed, ToolFail> {
-        self.preprocessed = self.preprocessed.wrapping_add(1);
-        let text = self.told.dep_info.clone()?;
-        Ok(Printed { status: 0, text })
-    }
-
-    fn file_names<F: Files>(
-        &mut self,
-        _alloc: Global,
-        _command: &SingleCompileCommand,
-        _files: &mut F,
-    ) -> Result<Printed, ToolFail> {
-        self.preprocessed = self.preprocessed.wrapping_add(1);
-        let text = self.told.file_names.clone()?;
-        Ok(Printed { status: 0, text })
-    }
-
-    fn archive_digest<F: Files>(
-        &mut self,
-        alloc: Global,
-        path: &OsBytes,
-        _files: &mut F,
-    ) -> Result<OsBytes, ToolFail> {
-        Ok(digest_in(alloc, self.told.archives.as_slice(), path)?)
-    }
-}
-
 impl Tool for ScriptTool {
     fn compile<F: Files>(
         &mut self,
         alloc: Global,
-        kind: Option<CCompilerKind>,
+        kind: CCompilerKind,
         command: &SingleCompileCommand,
         outputs: &[(OsBytes, ArtifactDescriptor)],
         files: &mut F,
         _moment: i64,
     ) -> Result<Compiled, ToolFail> {
         self.compiled = self.compiled.wrapping_add(1);
-        match kind {
-            Some(kind) => self.compile_source(alloc, kind, command, outputs, files),
-            None => self.compile_crate(alloc, command, outputs, files),
-        }
+        let text = self.text(alloc, Step::Compile, kind, command, files)?;
+        Ok(compiled(alloc, text, self.config.basedirs(), outputs)?)
     }
 }

@@ -6,8 +6,7 @@ ghost use Rattle.os_files.specs.Bytes.{ticked};
 ghost use Rattle.cmdlines_tables.specs.Tables.{reading_of};
 ghost use Rattle.ckeys.specs.Meaning.{names_of, made_of, scene_of};
 ghost use Rattle.script_tool.specs.Lines.{lines};
-ghost use Rattle.script_tool.specs.Scripted.{source_in, marker, inclusion, replaced, text_at, text_of, printed, compiled, without};
-ghost use Rattle.script_tool.specs.Texts.{holds, whole};
+ghost use Rattle.script_tool.specs.Scripted.{source_in, marker, inclusion, replaced, whole, text_at, text_of, holds, printed, compiled, without};
 
 use crate::lines::{included, push_with_end, split_line};
 use crate::source::{source_of, takes_as_it_stands};
@@ -185,7 +184,7 @@ pub fn printed(alloc: Global, text: Option<OsBytes>) -> Printed
 }
 
 /// Whether the text holds `#error`.
-pub fn holds_error(text: &[u8]) -> bool
+fn holds_error(text: &[u8]) -> bool
     ensures { result ≡ holds (codes "#error") text.now }
 {
     memmem::find(text, b"#error").is_some()
@@ -218,11 +217,11 @@ pub fn compiled(
         ≡ compiled (without folders.now text) (names_of outputs.now)) }
 {
     let Some(text) = text else {
-        return Ok(made_nothing(alloc));
+        return Ok(failed(alloc));
     };
     let left = strip_basedirs(alloc, text.as_bytes(), folders)?;
     if holds_error(&left) {
-        return Ok(made_nothing(alloc));
+        return Ok(failed(alloc));
     }
     Ok(Compiled {
         status: 0,
@@ -230,8 +229,8 @@ pub fn compiled(
     })
 }
 
-/// A compile that fails and makes nothing.
-pub fn made_nothing(alloc: Global) -> Compiled
+/// A compile that makes nothing.
+fn failed(alloc: Global) -> Compiled
     ensures { made_of result.status result.files ≡ made_of (pos 1) [] }
 {
     Compiled {
