@@ -99,7 +99,7 @@ impl Field for KeptShape {
     }
 }
 
-/// The shape, the names, the digest and the outputs.
+/// The shape, the names, the digest, the outputs and what was printed.
 impl Field for KeptEntry {
     ghost reads = { contents_at };
 
@@ -115,11 +115,15 @@ impl Field for KeptEntry {
         let (names, rest) = Listed::<KeptName>::read(alloc, rest)?;
         let (digest, rest) = OsBytes::read(alloc, rest)?;
         let (outputs, rest) = Listed::<KeptOutput>::read(alloc, rest)?;
+        let (printed, rest) = OsBytes::read(alloc, rest)?;
+        let (messages, rest) = OsBytes::read(alloc, rest)?;
         let entry = KeptEntry {
             shape,
             names,
             digest,
             outputs,
+            printed,
+            messages,
         };
         Ok((entry, rest))
     }
@@ -129,6 +133,8 @@ impl Field for KeptEntry {
         self.names.put(out)?;
         self.digest.put(out)?;
         self.outputs.put(out)?;
+        self.printed.put(out)?;
+        self.messages.put(out)?;
         Ok(())
     }
 }
