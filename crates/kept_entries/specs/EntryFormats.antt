@@ -76,7 +76,6 @@ shape_format =
 pub contents_format : IsFormat contents_at contents_bytes EntryFits
 unfolding contents_at
 contents_format =
-    let printed = both_format _ _ _ _ _ _ framed_format framed_format in
-    let last = both_format _ _ _ _ _ _ framed_format (both_format _ _ _ _ _ _ (counted_format _ _ _ output_format) printed) in
+    let last = both_format _ _ _ _ _ _ framed_format (counted_format _ _ _ output_format) in
     let fields = both_format _ _ _ _ _ _ shape_format (both_format _ _ _ _ _ _ (counted_format _ _ _ name_format) last) in
     made_format entry_from entry_fields _ _ _ (λ x. refl) (λ y. refl) fields

@@ -33,13 +33,13 @@ abbrev pub shape_from : ShapeFields → KeptShape
 shape_from f = record { language = f.0; compiler_digest = f.1.0; words = f.1.1.0; extra_hashes = f.1.1.1.0; assembler_digest = f.1.1.1.1.0; variables = f.1.1.1.1.1 }
 
 abbrev pub EntryFields : Type 0
-EntryFields = KeptShape × (List KeptName × (Bytes × (List KeptOutput × (Bytes × Bytes))))
+EntryFields = KeptShape × (List KeptName × (Bytes × List KeptOutput))
 
 abbrev pub entry_fields : KeptEntry → EntryFields
-entry_fields e = (e.shape, (e.names, (e.digest, (e.outputs, (e.printed, e.messages)))))
+entry_fields e = (e.shape, (e.names, (e.digest, e.outputs)))
 
 abbrev pub entry_from : EntryFields → KeptEntry
-entry_from f = record { shape = f.0; names = f.1.0; digest = f.1.1.0; outputs = f.1.1.1.0; printed = f.1.1.1.1.0; messages = f.1.1.1.1.1 }
+entry_from f = record { shape = f.0; names = f.1.0; digest = f.1.1.0; outputs = f.1.1.1 }
 
 -- how they are spelled
 abbrev pub name_bytes : KeptName → Bytes
@@ -52,7 +52,7 @@ abbrev pub shape_bytes : KeptShape → Bytes
 shape_bytes s = both (coded language_code) (both number (both number (both (counted number) (both (optional number) number)))) (shape_fields s)
 
 abbrev pub contents_bytes : KeptEntry → Bytes
-contents_bytes e = both shape_bytes (both (counted name_bytes) (both framed (both (counted output_bytes) (both framed framed)))) (entry_fields e)
+contents_bytes e = both shape_bytes (both (counted name_bytes) (both framed (counted output_bytes))) (entry_fields e)
 
 -- each length, count and number fits its eight bytes
 abbrev pub AnyFits : {X : Type 0} → X → Type 0
@@ -68,7 +68,7 @@ abbrev pub ShapeFits : KeptShape → Type 0
 ShapeFits s = BothFit AnyFits (BothFit FitsNumber (BothFit FitsNumber (BothFit (CountFits FitsNumber) (BothFit (IfFits FitsNumber) FitsNumber)))) (shape_fields s)
 
 abbrev pub EntryFits : KeptEntry → Type 0
-EntryFits e = BothFit ShapeFits (BothFit (CountFits NameFits) (BothFit FitsFrame (BothFit (CountFits OutputFits) (BothFit FitsFrame FitsFrame)))) (entry_fields e)
+EntryFits e = BothFit ShapeFits (BothFit (CountFits NameFits) (BothFit FitsFrame (CountFits OutputFits))) (entry_fields e)
 
 -- reading them
 unfoldable pub name_at : Bytes → Read KeptName
@@ -81,7 +81,7 @@ unfoldable pub shape_at : Bytes → Read KeptShape
 shape_at = made_at shape_from (both_at (coded_at language_of) (both_at number_at (both_at number_at (both_at (counted_at number_at) (both_at (optional_at number_at) number_at)))))
 
 unfoldable pub contents_at : Bytes → Read KeptEntry
-contents_at = made_at entry_from (both_at shape_at (both_at (counted_at name_at) (both_at framed_at (both_at (counted_at output_at) (both_at framed_at framed_at)))))
+contents_at = made_at entry_from (both_at shape_at (both_at (counted_at name_at) (both_at framed_at (counted_at output_at))))
 
 -- all of them, and nothing behind
 unfoldable pub fields_at : Bytes → Option KeptEntry
@@ -91,7 +91,7 @@ fields_at bytes = do
 
 -- the version of this layout
 abbrev pub layout_version : ℕ
-layout_version = 2
+layout_version = 1
 
 -- all of them behind the version; an entry of another version is none
 unfoldable pub whole_at : Bytes → Option KeptEntry

@@ -38,8 +38,4 @@ pub struct KeptEntry {
     pub digest: OsBytes,
     /// The outputs that were made.
     pub outputs: Listed<KeptOutput>,
-    /// What the compile printed on its standard output.
-    pub printed: OsBytes,
-    /// What it printed on its standard error.
-    pub messages: OsBytes,
 }

@@ -99,7 +99,7 @@ impl Field for KeptShape {
     }
 }
 
-/// The shape, the names, the digest, the outputs and what was printed.
+/// The shape, the names, the digest and the outputs.
 impl Field for KeptEntry {
     ghost reads = { contents_at };
 
@@ -115,15 +115,11 @@ impl Field for KeptEntry {
         let (names, rest) = Listed::<KeptName>::read(alloc, rest)?;
         let (digest, rest) = OsBytes::read(alloc, rest)?;
         let (outputs, rest) = Listed::<KeptOutput>::read(alloc, rest)?;
-        let (printed, rest) = OsBytes::read(alloc, rest)?;
-        let (messages, rest) = OsBytes::read(alloc, rest)?;
         let entry = KeptEntry {
             shape,
             names,
             digest,
             outputs,
-            printed,
-            messages,
         };
         Ok((entry, rest))
     }
@@ -133,8 +129,6 @@ impl Field for KeptEntry {
         self.names.put(out)?;
         self.digest.put(out)?;
         self.outputs.put(out)?;
-        self.printed.put(out)?;
-        self.messages.put(out)?;
         Ok(())
     }
 }
