@@ -6,5 +6,3 @@ pub mod MetadataLaws
 pub mod NameLaws
 pub mod WordLaws
 mod ToldNames
-mod LastPlaces
-mod InPlace

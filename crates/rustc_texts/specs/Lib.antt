@@ -3,5 +3,4 @@ pub mod EnvDeps
 pub mod Rewriting
 pub mod Variables
 pub mod Outputs
-pub mod Places
 pub mod Words

@@ -10,7 +10,7 @@ use os_files::memory_files::MemoryFiles;
 use os_files::os_bytes::OsBytes;
 use rustkeys::compilation::RustCompilation;
 use rustkeys::hasher::RustHasher;
-use rustkeys::{ParsedArguments, RShape, Rust, RustFault, parse_arguments};
+use rustkeys::{ParsedArguments, RShape, Rust, parse_arguments};
 use sha2::Sha256;
 use std::alloc::{AllocError, Global};
 use std::test::Fail;
@@ -75,18 +75,18 @@ pub(crate) fn rust_with(
     alloc: Global,
     libraries: Vec<OsBytes>,
     files: &mut MemoryFiles,
-) -> Result<Rust, RustFault> {
+) -> Result<Rust, Fail> {
     let executable = OsBytes::from_slice(alloc, b"rustc")?;
     let version = OsBytes::from_slice(alloc, b"host: x")?;
     let sysroot = OsBytes::from_slice(alloc, b"/s")?;
     let libraries = Listed::from_vec(libraries);
-    Rust::new::<Sha256, MemoryFiles>(
+    Ok(Rust::new::<Sha256, MemoryFiles>(
         alloc, executable, version, sysroot, libraries, None, files,
-    )
+    )?)
 }
 
 /// A rustc without libraries.
-pub(crate) fn rust(alloc: Global) -> Result<Rust, RustFault> {
+pub(crate) fn rust(alloc: Global) -> Result<Rust, Fail> {
     rust_with(alloc, Vec::new(alloc), &mut MemoryFiles::new(alloc))
 }
 

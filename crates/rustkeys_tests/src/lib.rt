@@ -10,6 +10,4 @@ mod faults;
 #[cfg(test)]
 mod keys;
 #[cfg(test)]
-mod memory;
-#[cfg(test)]
 mod refusals;

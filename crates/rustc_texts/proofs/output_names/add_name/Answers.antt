@@ -8,7 +8,7 @@ use Rattle.std.proofs.lemmas.Map.Text.{is_eq-slice_cmp}
 use Rattle.os_files.specs.Bytes.{Bytes}
 use Rattle.rustc_texts.specs.Outputs.{has_name}
 use Rattle.rustc_texts.proofs.ToldNames.{has-pushed}
-use Rattle.rustc_texts.proofs.told.add_name.Goals as goal
+use Rattle.rustc_texts.proofs.output_names.add_name.Goals as goal
 
 pub returns-in_ok-push-clause-told : goal.returns-in_ok-push-clause-told
 returns-in_ok-push-clause-told c = λ other.
