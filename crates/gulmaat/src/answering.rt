@@ -3,8 +3,8 @@
 ghost use Rattle.std.specs.Prelude.{◌≡◌, List, [], ◌∷◌, ◌++◌, Some, false};
 ghost use Rattle.ckeys.specs.Meaning.{Meaning};
 ghost use Rattle.gulmaat.specs.Kept.{IsOfEarlier};
-ghost use Rattle.replay.specs.Worlds.{Gives};
-ghost use Rattle.wrap.specs.Account.{Account, Pairs, account_at, scene_at};
+ghost use Rattle.replay.specs.Worlds.{GivesTo};
+ghost use Rattle.wrap.specs.Account.{Account, Pairs, account_at};
 ghost use Rattle.wrap.specs.Answers.{Answers};
 ghost use Rattle.wrap.specs.StoreKeys.{Premises};
 ghost use Rattle.wrap_base.specs.MapStores.{shelf_of};
@@ -65,7 +65,7 @@ pub fn answered<H: HashState>(
     // is of an earlier call there.
     ensures { (world : Meaning) → let tree = ⟦<SnapshotFiles as Files>⟧.tree files.old in
         let a = account_at world tree config request.now in
-        Gives tool.old.text tool.old.outputs (scene_at request.now tree) world
+        GivesTo tool.old.text tool.old.outputs request.now tree world
         → (earlier : List Account)
         → IsOfEarlier H.digest_of earlier entry
         → Premises H.digest_of (earlier ++ a ∷ [])

@@ -7,6 +7,7 @@ use Rattle.cmdlines_tables.specs.Tables.{reading_of}
 use Rattle.cmdlines_tables.specs.declared.compiler.CCompilerKind.{CCompilerKind}
 use Rattle.ckeys.specs.Meaning.{Made, asked_of, made_of, names_of}
 use Rattle.ckeys.specs.declared.preprocessor.Printed.{Printed}
+use Rattle.wrap_base.specs.AskedBy.{asked_by}
 use Rattle.wrap_base.specs.declared.tool.Compiled.{Compiled}
 use Rattle.replay.specs.Recorded.{made_for, made_in, printed_for, printed_in, same_outputs, unmade}
 use Rattle.replay.specs.SameAsked.{same_asked, same_list, same_name}
@@ -25,8 +26,10 @@ prints_again text r kind words p is k w same =
     let whole : made_of p.status (Some p.text ∷ []) ≡ printed_in r = ap (λ (q : Printed). made_of q.status (Some q.text ∷ [])) same in
     whole ∙ taken (same_asked (asked_of kind words) (asked_of r.kind r.words)) (printed_in r) (same_question kind r.kind words r.words k w) ∙ ap (λ t. printed_for t (asked_of kind words)) (sym is)
 
-pub makes_again : (outputs : Option RecordedOutputs) (r : RecordedOutputs) (kind : CCompilerKind) (words : List Bytes) (asked : Artifacts) (m : Compiled) → outputs ≡ Some r → r.kind ≡ kind → r.words ≡ words → same_outputs asked r.names ≡ true → m ≡ r.made → made_of m.status m.files ≡ made_for outputs (asked_of kind words) (names_of asked)
+-- a command to the C compiler of the recorded kind, with the recorded words, for outputs of the recorded names
+pub makes_again : (outputs : Option RecordedOutputs) (r : RecordedOutputs) (kind : Option CCompilerKind) (words : List Bytes) (asked : Artifacts) (m : Compiled) → outputs ≡ Some r → kind ≡ Some r.kind → r.words ≡ words → same_outputs asked r.names ≡ true → m ≡ r.made → made_of m.status m.files ≡ made_for outputs (asked_by kind words) (names_of asked)
 makes_again outputs r kind words asked m is k w names same =
     let whole : made_of m.status m.files ≡ made_in r = ap (λ (q : Compiled). made_of q.status q.files) same in
-    let one = same_question kind r.kind words r.words k w in
-    whole ∙ taken (same_asked (asked_of kind words) (asked_of r.kind r.words) && same_list same_name (names_of asked) r.names) (made_in r) (and_from (same_asked (asked_of kind words) (asked_of r.kind r.words)) (same_list same_name (names_of asked) r.names) one names) ∙ ap (λ o. made_for o (asked_of kind words) (names_of asked)) (sym is)
+    let one = same_question r.kind r.kind words r.words refl w in
+    let own = taken (same_asked (asked_of r.kind words) (asked_of r.kind r.words) && same_list same_name (names_of asked) r.names) (made_in r) (and_from (same_asked (asked_of r.kind words) (asked_of r.kind r.words)) (same_list same_name (names_of asked) r.names) one names) in
+    whole ∙ own ∙ ap (λ k. made_for (Some r) (asked_by k words) (names_of asked)) (sym k) ∙ ap (λ o. made_for o (asked_by kind words) (names_of asked)) (sym is)

@@ -1,5 +1,5 @@
 -- From the recorded answers to a world that gives them.
-use Rattle.std.proofs.Common.{◌≡◌, ℕ, ℤ, pos, Bool, true, false, ◌&&◌, List, [], ◌∷◌, ◌++◌, Option, None, Some, Result, Ok, Err, ◌⊎◌, inl, inr, ◌↔◌, refl, sym, ap, ◌∙◌, if◌then◌else◌}
+use Rattle.std.proofs.Common.{◌≡◌, ℕ, ℤ, pos, Bool, true, false, ◌&&◌, List, [], ◌∷◌, ◌++◌, Option, None, Some, Result, Ok, Err, ◌⊎◌, inl, inr, ◌↔◌, refl, sym, ap, subst, ◌∙◌, if◌then◌else◌}
 use Rattle.std.specs.List.{Contains}
 use Rattle.std.specs.Ordering.{int_eq}
 use Rattle.std.proofs.lemmas.Bool.{and_parts}
@@ -19,13 +19,20 @@ use Rattle.ckeys.specs.declared.fault.Fault.{Fault}
 use Rattle.ckeys.specs.declared.fault.Fault.TheVariants.{Memory, Read, Tool, PreprocessFailed, CompileFailed, MissingOutput, NoRule, AnswerNotUtf8, BadDigest}
 use Rattle.ckeys.specs.declared.output_name.OutputName.{OutputName}
 use Rattle.ckeys.specs.declared.step.Step.{Step}
-use Rattle.ckeys.specs.declared.step.Step.TheVariants.{Preprocess, Compile}
-use Rattle.wrap.specs.Account.{Account, passed, worked, Work, Pairs, IsSuccess, account_by, call_at, collected, scene_at, work_at}
+use Rattle.ckeys.specs.declared.step.Step.TheVariants.{Preprocess, Compile, DepInfo, FileNames}
+use Rattle.rustc_compiler.specs.Compiler.{Rustc}
+use Rattle.rustkeys.specs.Calls.{RustCall, answer_fault_of, dep_info_fault_of, files_fault_of, key_fault_of, sources_fault_of, utf8_fault_of}
+use Rattle.rustkeys.specs.Questions.{answers_of, dep_info_of}
+use Rattle.rustkeys_base.specs.Asks.{RustAsks}
+use Rattle.wrap_base.specs.Commands.{CFound, NamedBy, by_c, by_rustc, words_at}
+use Rattle.wrap.specs.Account.{Account, passed, worked, Work, Pairs, IsSuccess, account_by, account_named, call_at, collected, rust_account_by, rust_call_at, rust_work_at, scene_at, work_at}
+use Rattle.wrap.specs.RustVerdicts as rust_verdicts
+use Rattle.wrap.specs.RustVerdicts.{RustDecision, rust_verdict_of}
 use Rattle.wrap.specs.Answers.{Answers, GoesOn, GoesOnWith, SaysBy}
 use Rattle.wrap.specs.CallRecords.{AreDistinct, IsHashedFor, IsTold, family_of, key_of, of_c, record_shape}
 use Rattle.wrap.specs.Asking.{AskedTurn, MatchesFor, RecordsAreTrue, Shelves, WorkKeyFrom}
 use Rattle.wrap.specs.StoreKeys.{HasRecord, Invariant, IsHashedIn, IsOf, Premises, SameRecord, store_key_of, store_key_with}
-use Rattle.wrap.specs.Verdicts.{Decision, passes, asks}
+use Rattle.wrap.specs.Verdicts.{Decision, passes, asks, verdict_of}
 use Rattle.wrap_base.specs.declared.answer.Answer.{Answer}
 use Rattle.wrap_base.specs.declared.answer.Answer.TheVariants.{Pass, Outputs}
 use Rattle.wrap_base.specs.declared.answer.How.TheVariants.{Direct, Stored, Fresh}
@@ -33,7 +40,7 @@ use Rattle.wrap_base.specs.declared.request.Request.{Request}
 use Rattle.wrap_base.specs.declared.store_key.StoreKey.{StoreKey}
 use Rattle.replay.specs.Recorded.{made_for, made_in, printed_for, printed_in, recorded, unmade}
 use Rattle.replay.specs.SameAsked.{same_asked, same_list, same_name}
-use Rattle.replay.specs.Worlds.{Gives}
+use Rattle.replay.specs.Worlds.{Gives, GivesNamed}
 use Rattle.replay.specs.declared.replay_tool.RecordedOutputs.{RecordedOutputs}
 use Rattle.replay.specs.declared.replay_tool.RecordedText.{RecordedText}
 use Rattle.replay.proofs.AskedAlike.{asked_is, names_are}
@@ -240,17 +247,82 @@ module _ (digest_of : Bytes → Bytes) (tells : Tells digest_of) (text : Option 
         (work_at world c, Contains-push earlier (worked (work_at world c)), (it.0, record { is_key = own.is_key ∙ it.1; made = success digest_of text outputs world c gives old.entries.held pairs own.made; told = own.told })))
   ]
 
-module _ (digest_of : Bytes → Bytes) (tells : Tells digest_of) (text : Option RecordedText) (outputs : Option RecordedOutputs) (world : Meaning) (tree : Tree) (settings : Settings) (request : Request) (gives : Gives text outputs (scene_at request tree) world) (old new : Shelves) (printed printed_new compiled compiled_new : ℕ) (result : Result Answer Fault) (on_file : Bytes → Type 0) (device_in : Step → Type 0) where
-  abbrev pub Told : Decision → Type 0
-  Told d = AskedTurn digest_of (account_by (recorded text outputs) tree settings request d) old new printed printed_new compiled compiled_new result × SaysBy GoesOn (account_by (recorded text outputs) tree settings request d) on_file device_in result
+module _ (digest_of : Bytes → Bytes) (tells : Tells digest_of) (text : Option RecordedText) (outputs : Option RecordedOutputs) (world : Meaning) (tree : Tree) (settings : Settings) (found : CFound) (request : Request) (gives : Gives text outputs (scene_at found.executable request tree) world) (old new : Shelves) (printed printed_new compiled compiled_new : ℕ) (result : Result Answer Fault) (on_file : Bytes → Type 0) (device_in : Step → Type 0) where
+  abbrev Told : Decision → Type 0
+  Told d = AskedTurn digest_of (account_by (recorded text outputs) tree settings found request d) old new printed printed_new compiled compiled_new result × SaysBy GoesOn (account_by (recorded text outputs) tree settings found request d) on_file device_in result
 
-  pub answers_by : (d : Decision) → Told d → RecordsAreTrue digest_of (account_by world tree settings request d) old.entries.held → (earlier : List Account) → Invariant digest_of earlier old.objects.held → Premises digest_of (earlier ++ account_by world tree settings request d ∷ []) → Answers (account_by world tree settings request d) result
+  answers_by : (d : Decision) → Told d → RecordsAreTrue digest_of (account_by world tree settings found request d) old.entries.held → (earlier : List Account) → Invariant digest_of earlier old.objects.held → Premises digest_of (earlier ++ account_by world tree settings found request d ∷ []) → Answers (account_by world tree settings found request d) result
   answers_by (passes why) told are_true earlier inv premises = tt
-  answers_by (asks p) told are_true earlier inv premises = work_answers digest_of tells text outputs world (call_at request tree settings p) gives old new printed printed_new compiled compiled_new are_true earlier inv result told.0 on_file device_in told.1 premises
+  answers_by (asks p) told are_true earlier inv premises = work_answers digest_of tells text outputs world (call_at found request tree settings p) gives old new printed printed_new compiled compiled_new are_true earlier inv result told.0 on_file device_in told.1 premises
 
-  pub grows_by : (d : Decision) → Told d → RecordsAreTrue digest_of (account_by world tree settings request d) old.entries.held → (earlier : List Account) → Invariant digest_of earlier old.objects.held → Invariant digest_of (earlier ++ account_by world tree settings request d ∷ []) new.objects.held
+  grows_by : (d : Decision) → Told d → RecordsAreTrue digest_of (account_by world tree settings found request d) old.entries.held → (earlier : List Account) → Invariant digest_of earlier old.objects.held → Invariant digest_of (earlier ++ account_by world tree settings found request d ∷ []) new.objects.held
   grows_by (passes why) told are_true earlier inv key pairs h = elim (told.0.objects.gains key pairs h) [
     | inl was ↦ (let w = inv key pairs was in (w.0, Contains-append_left earlier (passed why ∷ []) (worked w.0) w.1, w.2))
     | inr own ↦ absurd own
   ]
-  grows_by (asks p) told are_true earlier inv key pairs h = work_grows digest_of tells text outputs world (call_at request tree settings p) gives old new printed printed_new compiled compiled_new are_true earlier inv result told.0 on_file device_in told.1 key pairs h
+  grows_by (asks p) told are_true earlier inv key pairs h = work_grows digest_of tells text outputs world (call_at found request tree settings p) gives old new printed printed_new compiled compiled_new are_true earlier inv result told.0 on_file device_in told.1 key pairs h
+
+or_first : (first second : Option Fault) → or_else first second ≡ None → first ≡ None
+or_first None second h = refl
+or_first (Some fault) second h = cc
+
+-- where rustc tells nothing of dependencies, there is no record
+unanswered : (call : RustCall) (meaning : Meaning) → dep_info_of meaning call.question ≡ unmade → key_fault_of meaning call ≡ None → ⊥
+unanswered call meaning told fine =
+    let q = call.question in
+    let answers = answers_of meaning q in
+    let dep_info : dep_info_fault_of q answers.dep_info ≡ None = or_first (dep_info_fault_of q answers.dep_info) (or_else (answer_fault_of FileNames answers.file_names) (files_fault_of q answers.archives)) fine in
+    let answer : answer_fault_of DepInfo answers.dep_info ≡ None = or_first (answer_fault_of DepInfo answers.dep_info) (sources_fault_of q.scene.files q.scene.dir (text_in answers.dep_info.files)) dep_info in
+    let status : preprocess_fault_of answers.dep_info ≡ None = or_first (preprocess_fault_of answers.dep_info) (utf8_fault_of DepInfo (text_in answers.dep_info.files)) answer in
+    failed_status (subst (λ (m : Made). preprocess_fault_of m ≡ None) told status)
+  where
+    failed_status : preprocess_fault_of unmade ≡ None → ⊥
+    failed_status h = cc
+
+-- Of rustc no answer is recorded, so that no outputs are answered.
+module _ (digest_of : Bytes → Bytes) (text : Option RecordedText) (outputs : Option RecordedOutputs) (world : Meaning) (tree : Tree) (rust : Rustc) (request : Request) (old new : Shelves) (printed printed_new compiled compiled_new : ℕ) (on_file : Bytes → Type 0) (device_in : Step → Type 0) where
+  abbrev told_account : RustDecision → Account
+  told_account d = rust_account_by (recorded text outputs) tree rust request d
+
+  abbrev world_account : RustDecision → Account
+  world_account d = rust_account_by world tree rust request d
+
+  no_record : (asked : RustAsks) → HasRecord (rust_work_at (recorded text outputs) (rust_call_at rust request tree asked)) → ⊥
+  no_record asked h = unanswered (rust_call_at rust request tree asked) (recorded text outputs) refl h
+
+  abbrev RustTold : RustDecision → Result Answer Fault → Type 0
+  RustTold d result = AskedTurn digest_of (told_account d) old new printed printed_new compiled compiled_new result × SaysBy GoesOn (told_account d) on_file device_in result
+
+  pub rust_answers : (d : RustDecision) (result : Result Answer Fault) → RustTold d result → Answers (world_account d) result
+  rust_answers (rust_verdicts.passes why) result told = tt
+  rust_answers (rust_verdicts.asks asked) (Ok (Pass reason)) told = tt
+  rust_answers (rust_verdicts.asks asked) (Ok (Outputs map how dep_info)) told = absurd (no_record asked told.1.1)
+  rust_answers (rust_verdicts.asks asked) (Err fault) told = tt
+
+  pub rust_grows : (d : RustDecision) (result : Result Answer Fault) → RustTold d result → (earlier : List Account) → Invariant digest_of earlier old.objects.held → Invariant digest_of (earlier ++ world_account d ∷ []) new.objects.held
+  rust_grows d result told earlier inv key pairs h = was (by d result told)
+    where
+      was : old.objects.held key ≡ Some pairs → (w : Work) × Contains (earlier ++ world_account d ∷ []) (worked w) × IsOf digest_of w key pairs
+      was held = let w = inv key pairs held in (w.0, Contains-append_left earlier (world_account d ∷ []) (worked w.0) w.1, w.2)
+
+      by : (e : RustDecision) (r : Result Answer Fault) → RustTold e r → old.objects.held key ≡ Some pairs
+      by (rust_verdicts.passes why) r t = elim (t.0.objects.gains key pairs h) [
+        | inl held ↦ held
+        | inr own ↦ absurd own
+      ]
+      by (rust_verdicts.asks asked) (Ok (Pass reason)) t = absurd t.1
+      by (rust_verdicts.asks asked) (Ok (Outputs map how dep_info)) t = absurd (no_record asked t.1.1)
+      by (rust_verdicts.asks asked) (Err fault) t = t.0.objects.faulted key pairs h
+
+-- of whichever compiler
+module _ (digest_of : Bytes → Bytes) (tells : Tells digest_of) (text : Option RecordedText) (outputs : Option RecordedOutputs) (world : Meaning) (tree : Tree) (settings : Settings) (request : Request) (old new : Shelves) (printed printed_new compiled compiled_new : ℕ) (result : Result Answer Fault) (on_file : Bytes → Type 0) (device_in : Step → Type 0) where
+  abbrev NamedTold : NamedBy → Type 0
+  NamedTold n = AskedTurn digest_of (account_named (recorded text outputs) tree settings request n) old new printed printed_new compiled compiled_new result × SaysBy GoesOn (account_named (recorded text outputs) tree settings request n) on_file device_in result
+
+  pub answers_named : (n : NamedBy) → GivesNamed n text outputs request tree world → NamedTold n → RecordsAreTrue digest_of (account_named world tree settings request n) old.entries.held → (earlier : List Account) → Invariant digest_of earlier old.objects.held → Premises digest_of (earlier ++ account_named world tree settings request n ∷ []) → Answers (account_named world tree settings request n) result
+  answers_named (by_c found) gives told are_true earlier inv premises = answers_by digest_of tells text outputs world tree settings found request gives old new printed printed_new compiled compiled_new result on_file device_in (verdict_of found.kind (words_at found request tree)) told are_true earlier inv premises
+  answers_named (by_rustc rust) gives told are_true earlier inv premises = rust_answers digest_of text outputs world tree rust request old new printed printed_new compiled compiled_new on_file device_in (rust_verdict_of request tree) result told
+
+  pub grows_named : (n : NamedBy) → GivesNamed n text outputs request tree world → NamedTold n → RecordsAreTrue digest_of (account_named world tree settings request n) old.entries.held → (earlier : List Account) → Invariant digest_of earlier old.objects.held → Invariant digest_of (earlier ++ account_named world tree settings request n ∷ []) new.objects.held
+  grows_named (by_c found) gives told are_true earlier inv = grows_by digest_of tells text outputs world tree settings found request gives old new printed printed_new compiled compiled_new result on_file device_in (verdict_of found.kind (words_at found request tree)) told are_true earlier inv
+  grows_named (by_rustc rust) gives told are_true earlier inv = rust_grows digest_of text outputs world tree rust request old new printed printed_new compiled compiled_new on_file device_in (rust_verdict_of request tree) result told earlier inv

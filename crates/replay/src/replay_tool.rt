@@ -1,10 +1,11 @@
 //! A tool that runs nothing: it gives recorded answers, and remembers the command of which it has none.
 
-ghost use Rattle.std.specs.Prelude.{◌≡◌, true, Some, None, IfOk};
+ghost use Rattle.std.specs.Prelude.{◌≡◌, true, [], ◌∷◌, Some, None, IfOk};
 ghost use Rattle.os_files.specs.Bytes.{ticked};
 ghost use Rattle.replay.specs.Recorded.{Wants, paths_in, recorded, same_outputs};
 
 use ckeys::output_name::OutputName;
+use rustkeys::answers::RustcAnswers;
 use std::alloc::{AllocError, Global};
 use wrap::{
     ArtifactDescriptor, CCompilerKind, Compiled, Files, Listed, OsBytes, Preprocessor, Printed,
@@ -32,6 +33,7 @@ pub struct RecordedOutputs {
 #[derive(Drop)]
 pub struct Wanted {
     pub step: Step,
+    /// Its words; where the digest of a static library was asked for, the library's path alone.
     pub words: Listed<OsBytes>,
     /// Where the outputs go that it is to make.
     pub paths: Listed<OsBytes>,
@@ -57,6 +59,13 @@ fn copies(alloc: Global, words: &[OsBytes]) -> Result<Listed<OsBytes>, AllocErro
         copy.push(word.clone()?)?;
     }
     Ok(Listed::from_vec(copy))
+}
+
+/// A copy of the word, alone.
+fn one_word(alloc: Global, word: &OsBytes) -> Result<Vec<OsBytes>, AllocError>
+    ensures { IfOk result (λ words. words.items ≡ word.now ∷ []) }
+{
+    Ok(vec![in alloc; word.clone()?]?)
 }
 
 /// Copies of the paths of outputs.
@@ -114,6 +123,16 @@ fn same_words(words: &Listed<OsBytes>, other: &Listed<OsBytes>) -> bool
     *words == *other
 }
 
+/// Whether it is the C compiler of that kind, and not rustc.
+fn is_of(kind: Option<CCompilerKind>, own: CCompilerKind) -> bool
+    ensures { result ≡ true → kind ≡ Some own }
+{
+    match kind {
+        Some(kind) => kind == own,
+        None => false,
+    }
+}
+
 /// Whether the outputs have these names, with their marks.
 fn have_names(outputs: &[(OsBytes, ArtifactDescriptor)], names: &[OutputName]) -> bool
     ensures { result ≡ same_outputs outputs.now names.now }
@@ -146,14 +165,14 @@ impl RecordedOutputs {
     /// Whether it is the answer to these words and outputs.
     fn answers(
         &self,
-        kind: CCompilerKind,
+        kind: Option<CCompilerKind>,
         words: &Listed<OsBytes>,
         outputs: &[(OsBytes, ArtifactDescriptor)],
     ) -> bool
-        ensures { result ≡ true → (self.now.kind ≡ kind) × (self.now.words ≡ words.now)
+        ensures { result ≡ true → (kind ≡ Some self.now.kind) × (self.now.words ≡ words.now)
             × (same_outputs outputs.now self.now.names ≡ true) }
     {
-        self.kind == kind
+        is_of(kind, self.kind)
             && same_words(&self.words, words)
             && have_names(outputs, self.names.as_slice())
     }
@@ -243,11 +262,44 @@ impl Preprocessor for ReplayTool {
     }
 }
 
+/// None of rustc's answers is recorded.
+impl RustcAnswers for ReplayTool {
+    fn dep_info<F: Files>(
+        &mut self,
+        alloc: Global,
+        command: &SingleCompileCommand,
+        _files: &mut F,
+    ) -> Result<Printed, ToolFail> {
+        self.preprocessed = self.preprocessed.wrapping_add(1);
+        Err(self.want(alloc, Step::DepInfo, command.arguments.as_slice(), &[]))
+    }
+
+    fn file_names<F: Files>(
+        &mut self,
+        alloc: Global,
+        command: &SingleCompileCommand,
+        _files: &mut F,
+    ) -> Result<Printed, ToolFail> {
+        self.preprocessed = self.preprocessed.wrapping_add(1);
+        Err(self.want(alloc, Step::FileNames, command.arguments.as_slice(), &[]))
+    }
+
+    fn archive_digest<F: Files>(
+        &mut self,
+        alloc: Global,
+        path: &OsBytes,
+        _files: &mut F,
+    ) -> Result<OsBytes, ToolFail> {
+        let words = one_word(alloc, path)?;
+        Err(self.want(alloc, Step::ArchiveDigest, &words, &[]))
+    }
+}
+
 impl Tool for ReplayTool {
     fn compile<F: Files>(
         &mut self,
         alloc: Global,
-        kind: CCompilerKind,
+        kind: Option<CCompilerKind>,
         command: &SingleCompileCommand,
         outputs: &[(OsBytes, ArtifactDescriptor)],
         _files: &mut F,

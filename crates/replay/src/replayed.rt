@@ -2,11 +2,11 @@
 
 ghost use Rattle.std.specs.Prelude.{◌≡◌, List, [], ◌∷◌, ◌++◌, OnOk, OnErr, IsErrOf};
 ghost use Rattle.ckeys.specs.Meaning.{Meaning};
-ghost use Rattle.wrap.specs.Account.{Account, account_at, scene_at};
+ghost use Rattle.wrap.specs.Account.{Account, account_at};
 ghost use Rattle.wrap.specs.Answers.{Answers};
 ghost use Rattle.wrap.specs.Asking.{RecordsAreTrue};
 ghost use Rattle.wrap.specs.StoreKeys.{Invariant, Premises};
-ghost use Rattle.replay.specs.Worlds.{Gives};
+ghost use Rattle.replay.specs.Worlds.{GivesTo};
 
 use crate::replay_tool::ReplayTool;
 use wrap::laws::store_keys_tell_records;
@@ -33,7 +33,7 @@ pub fn replayed<
     // Outputs are those that the world's compiler gives afresh, if what the store holds is of earlier calls in that world.
     ensures outputs { (world : Meaning) → let tree = F.tree files.old in
         let a = account_at world tree session.old.settings request.now in
-        Gives tool.old.text tool.old.outputs (scene_at request.now tree) world
+        GivesTo tool.old.text tool.old.outputs request.now tree world
         → RecordsAreTrue H.digest_of a (E.shelf session.old.entries).held
         → (earlier : List Account)
         → Invariant H.digest_of earlier (O.shelf session.old.objects).held
@@ -42,7 +42,7 @@ pub fn replayed<
     // And what it holds then is of them and of this call.
     ensures invariant { (world : Meaning) → let tree = F.tree files.old in
         let a = account_at world tree session.old.settings request.now in
-        Gives tool.old.text tool.old.outputs (scene_at request.now tree) world
+        GivesTo tool.old.text tool.old.outputs request.now tree world
         → RecordsAreTrue H.digest_of a (E.shelf session.old.entries).held
         → (earlier : List Account)
         → Invariant H.digest_of earlier (O.shelf session.old.objects).held

@@ -15,7 +15,7 @@ use Rattle.ckeys.specs.Calls.{needs_preprocessing}
 use Rattle.ckeys.specs.Meaning.{Scene, Made, Meaning, made_of, options}
 use Rattle.ckeys.specs.declared.output_name.OutputName.{OutputName}
 use Rattle.ckeys.specs.declared.step.Step.{Step}
-use Rattle.ckeys.specs.declared.step.Step.TheVariants.{Preprocess, Compile}
+use Rattle.ckeys.specs.declared.step.Step.TheVariants.{Preprocess, Compile, DepInfo, FileNames, ArchiveDigest}
 use Rattle.script_tool.specs.Lines.{lines, with_end, included}
 use Rattle.script_tool.specs.declared.source.Source.{Source}
 
@@ -105,8 +105,11 @@ compiled (Some text) outputs =
 abbrev pub without : List Bytes → Option Bytes → Option Bytes
 without folders text = option_map (stripped_of text_places folders) text
 
--- One function of the step, what is asked, the outputs asked for and the scene: the preprocessor prints the text, and the compiler makes outputs of what is left of it without the folders. To all else it answers with status 1.
+-- One function of the step, what is asked, the outputs asked for and the scene: the preprocessor prints the text, and the C compiler makes outputs of what is left of it without the folders. rustc tells empty texts. To all else it answers with status 1.
 abbrev pub scripted : List Bytes → Meaning
 scripted folders Preprocess (options reading) outputs scene = printed (text_of Preprocess scene (source_in reading))
 scripted folders Compile (options reading) outputs scene = compiled (without folders (text_of Compile scene (source_in reading))) outputs
+scripted folders DepInfo asked outputs scene = printed (Some [])
+scripted folders FileNames asked outputs scene = printed (Some [])
+scripted folders ArchiveDigest asked outputs scene = printed (Some [])
 scripted folders _ _ outputs scene = made_of (pos 1) []

@@ -1,13 +1,13 @@
-//! A tool with the behaviour of a short script: its preprocessor prints a text, and its compiler makes outputs of that text without
+//! A tool with the behaviour of a short script: its preprocessor prints a text, and its C compiler makes outputs of that text without
 //! the configured folders.
 
 ghost use Rattle.std.specs.Prelude.{◌≡◌, ℤ, IfOk, IsErrOf};
 ghost use Rattle.os_files.specs.Bytes.{ticked};
 ghost use Rattle.cmdlines_tables.specs.Tables.{reading_of};
-ghost use Rattle.ckeys.specs.Meaning.{StepTicks, scene_of};
+ghost use Rattle.ckeys.specs.Meaning.{StepTicks, asked_of, made_of, names_of, scene_of};
 ghost use Rattle.script_tool.specs.Scripted.{scripted, source_in, text_of};
 
-use crate::scripting::{compiled, printed, text_of};
+use crate::scripting::{compiled, made_nothing, printed, text_of};
 use ckeys::config::KeyConfig;
 use ckeys::preprocessor::{Preprocessor, Printed, Ticks, ToolFail};
 use ckeys::step::Step;
@@ -15,6 +15,7 @@ use cmdlines_base::command::{ArtifactDescriptor, SingleCompileCommand};
 use cmdlines_tables::compiler::CCompilerKind;
 use os_files::files::{FileFail, Files};
 use os_files::os_bytes::OsBytes;
+use rustkeys::answers::RustcAnswers;
 use std::alloc::Global;
 use wrap_base::tool::{Compiled, Tool};
 
@@ -74,6 +75,34 @@ impl ScriptTool {
             }
         }
     }
+
+    /// What a C compiler of that kind makes. A device that fails is counted.
+    fn compile_source<F: Files>(
+        &mut self,
+        alloc: Global,
+        kind: CCompilerKind,
+        command: &SingleCompileCommand,
+        outputs: &[(OsBytes, ArtifactDescriptor)],
+        files: &mut F,
+    ) -> Result<Compiled, ToolFail>
+        ensures answer { (moment : ℤ)
+            → IfOk result
+            (λ made. made_of made.status made.files
+            ≡ scripted self.old.config.basedirs Step.Compile (asked_of kind command.now.arguments)
+            (names_of outputs.now) (scene_of command.now (F.tree files.old) moment)) }
+        ensures tree { F.tree files.new ≡ F.tree files.old }
+        ensures device { IsErrOf result ToolFail.Device
+            → (self.new.failed ≡ ticked self.old.failed)
+            × (F.failed files.new ≡ ticked (F.failed files.old)) }
+        ensures steady { (IsErrOf result ToolFail.Device → ⊥)
+            → (self.new.failed ≡ self.old.failed) × (F.failed files.new ≡ F.failed files.old) }
+        ensures config { self.new.config ≡ self.old.config }
+        ensures preprocessed { self.new.preprocessed ≡ self.old.preprocessed }
+        ensures compiled { self.new.compiled ≡ self.old.compiled }
+    {
+        let text = self.text(alloc, Step::Compile, kind, command, files)?;
+        Ok(compiled(alloc, text, self.config.basedirs(), outputs)?)
+    }
 }
 
 impl Preprocessor for ScriptTool {
@@ -110,18 +139,54 @@ impl Preprocessor for ScriptTool {
     }
 }
 
+/// rustc tells empty texts.
+impl RustcAnswers for ScriptTool {
+    fn dep_info<F: Files>(
+        &mut self,
+        alloc: Global,
+        _command: &SingleCompileCommand,
+        _files: &mut F,
+    ) -> Result<Printed, ToolFail> {
+        self.preprocessed = self.preprocessed.wrapping_add(1);
+        let text = OsBytes::empty(alloc);
+        Ok(Printed { status: 0, text })
+    }
+
+    fn file_names<F: Files>(
+        &mut self,
+        alloc: Global,
+        _command: &SingleCompileCommand,
+        _files: &mut F,
+    ) -> Result<Printed, ToolFail> {
+        self.preprocessed = self.preprocessed.wrapping_add(1);
+        let text = OsBytes::empty(alloc);
+        Ok(Printed { status: 0, text })
+    }
+
+    fn archive_digest<F: Files>(
+        &mut self,
+        alloc: Global,
+        _path: &OsBytes,
+        _files: &mut F,
+    ) -> Result<OsBytes, ToolFail> {
+        Ok(OsBytes::empty(alloc))
+    }
+}
+
 impl Tool for ScriptTool {
     fn compile<F: Files>(
         &mut self,
         alloc: Global,
-        kind: CCompilerKind,
+        kind: Option<CCompilerKind>,
         command: &SingleCompileCommand,
         outputs: &[(OsBytes, ArtifactDescriptor)],
         files: &mut F,
         _moment: i64,
     ) -> Result<Compiled, ToolFail> {
         self.compiled = self.compiled.wrapping_add(1);
-        let text = self.text(alloc, Step::Compile, kind, command, files)?;
-        Ok(compiled(alloc, text, self.config.basedirs(), outputs)?)
+        match kind {
+            Some(kind) => self.compile_source(alloc, kind, command, outputs, files),
+            None => Ok(made_nothing(alloc)),
+        }
     }
 }

@@ -217,11 +217,11 @@ pub fn compiled(
         ≡ compiled (without folders.now text) (names_of outputs.now)) }
 {
     let Some(text) = text else {
-        return Ok(failed(alloc));
+        return Ok(made_nothing(alloc));
     };
     let left = strip_basedirs(alloc, text.as_bytes(), folders)?;
     if holds_error(&left) {
-        return Ok(failed(alloc));
+        return Ok(made_nothing(alloc));
     }
     Ok(Compiled {
         status: 0,
@@ -229,8 +229,8 @@ pub fn compiled(
     })
 }
 
-/// A compile that makes nothing.
-fn failed(alloc: Global) -> Compiled
+/// A compile that fails and makes nothing.
+pub fn made_nothing(alloc: Global) -> Compiled
     ensures { made_of result.status result.files ≡ made_of (pos 1) [] }
 {
     Compiled {

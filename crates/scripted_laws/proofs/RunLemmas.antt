@@ -14,10 +14,10 @@ use Rattle.script_tool.specs.Scripted.{compiled}
 use Rattle.wrap.specs.Account.{Account, Work, account_at, direct_calls, worked}
 use Rattle.wrap.specs.StoreKeys.{HasRecord, IsHashedIn, Premises, SameRecord}
 use Rattle.wrap.specs.Whole.{FilesView, ToolView, accounts_at}
-use Rattle.wrap_base.specs.Commands.{kind_of, words_at}
+use Rattle.wrap_base.specs.Commands.{CFound, NamedBy, by_c, by_rustc, named_by, words_at}
 use Rattle.wrap_base.specs.declared.call.Call.{Call}
 use Rattle.wrap_base.specs.declared.request.Request.{Request}
-use Rattle.scripted_laws.specs.ScriptedCalls.{HasSafeSource, IsScripted, IsScriptedCall, text_of}
+use Rattle.scripted_laws.specs.ScriptedCalls.{HasSafeSource, HasSafeSourceBy, HasSafeSourceFor, IsGivenBy, IsScripted, IsScriptedCall, text_of}
 use Rattle.scripted_laws.proofs.OutcomeLemmas.{MakeOfRecords}
 
 abbrev pub AreEqual : Type 0
@@ -30,12 +30,18 @@ outcomes_equal make one other a b of_one of_other fine fine_too same =
     ∙ ap (compiled (text_of b.rec)) same.names
     ∙ sym (make other b of_other fine_too)
 
-pub source_safe : ((kind : CCompilerKind) (words : List Bytes) → HasSafeInputIn kind words (parse_of kind words)) → (tree : Tree) (request : Request) → (IsGivenByOption (kind_of request.compiler) (words_at request tree) → ⊥) → HasSafeSource tree request
-source_safe safe tree request not_given p h = by (safe (kind_of request.compiler) (words_at request tree) p h)
+pub source_safe : ((kind : CCompilerKind) (words : List Bytes) → HasSafeInputIn kind words (parse_of kind words)) → (tree : Tree) (request : Request) → (IsGivenBy (named_by request.compiler) tree request → ⊥) → HasSafeSource tree request
+source_safe safe tree request not_given = by (named_by request.compiler) not_given
   where
-    by : HasSafeInput (kind_of request.compiler) p ⊎ IsGivenByOption (kind_of request.compiler) (words_at request tree) → HasSafeInput (kind_of request.compiler) p
-    by (inl it_is) = it_is
-    by (inr given) = absurd (not_given given)
+    of_c : (found : CFound) → (IsGivenByOption found.kind (words_at found request tree) → ⊥) → HasSafeSourceFor found tree request
+    of_c found not p h = elim (safe found.kind (words_at found request tree) p h) [
+      | inl it_is ↦ it_is
+      | inr given ↦ absurd (not given)
+    ]
+
+    by : (n : NamedBy) → (IsGivenBy n tree request → ⊥) → HasSafeSourceBy n tree request
+    by (by_c found) not = of_c found not
+    by (by_rustc rust) not = tt
 
 pub run_meets : AreEqual → (digest_of : Bytes → Bytes) (settings : Settings) (run : List Account) → All (IsScripted settings) run → Distinct digest_of (IsHashedIn digest_of run) → AreReprinted (direct_calls run) → Premises digest_of run
 run_meets equal digest_of settings run all distinct reprinted = record {

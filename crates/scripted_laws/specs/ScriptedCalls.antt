@@ -2,7 +2,7 @@
 use Rattle.std.specs.Prelude.{◌≡◌, Option, None, Some}
 use Rattle.os_files.specs.Bytes.{Bytes}
 use Rattle.os_files.specs.Tree.{Tree}
-use Rattle.cmdlines.specs.Parsing.{HasSafeInput, parse_of}
+use Rattle.cmdlines.specs.Parsing.{HasSafeInput, IsGivenByOption, parse_of}
 use Rattle.cmdlines.specs.Parsing as parsing
 use Rattle.cmdlines.specs.declared.parsed.ParsedArguments.{ParsedArguments}
 use Rattle.ckeys.specs.Folders.{Settings}
@@ -11,13 +11,25 @@ use Rattle.script_tool.specs.Scripted.{compiled, scripted}
 use Rattle.wrap.specs.CallRecords.{CallRecord, of_c, of_rustc}
 use Rattle.wrap.specs.Account.{Account, Work, account_at}
 use Rattle.wrap.specs.Whole.{FilesView, ToolView}
-use Rattle.wrap_base.specs.Commands.{kind_of, words_at}
+use Rattle.wrap_base.specs.Commands.{CFound, NamedBy, by_c, by_rustc, named_by, words_at}
 use Rattle.wrap_base.specs.declared.call.Call.{Call}
 use Rattle.wrap_base.specs.declared.request.Request.{Request}
 
--- Where a request asks for something, its input can stand where it's written: the tables read the word there as an input.
+-- Where a request to a C compiler asks for something, its input can stand where it's written: the tables read the word there as an input.
+abbrev pub HasSafeSourceFor : CFound → Tree → Request → Type 0
+HasSafeSourceFor found tree request = (p : ParsedArguments) → parse_of found.kind (words_at found request tree) ≡ parsing.asks p → HasSafeInput found.kind p
+
+abbrev pub HasSafeSourceBy : NamedBy → Tree → Request → Type 0
+HasSafeSourceBy (by_c found) tree request = HasSafeSourceFor found tree request
+HasSafeSourceBy (by_rustc rust) tree request = Unit {0}
+
 abbrev pub HasSafeSource : Tree → Request → Type 0
-HasSafeSource tree request = (p : ParsedArguments) → parse_of (kind_of request.compiler) (words_at request tree) ≡ parsing.asks p → HasSafeInput (kind_of request.compiler) p
+HasSafeSource tree request = HasSafeSourceBy (named_by request.compiler) tree request
+
+-- an option of a C compiler gave the input
+abbrev pub IsGivenBy : NamedBy → Tree → Request → Type 0
+IsGivenBy (by_c found) tree request = IsGivenByOption found.kind (words_at found request tree)
+IsGivenBy (by_rustc rust) tree request = ⊥
 
 -- the account of a request whose input can stand where it's written, over a scripted tool whose folders are the configuration's
 pub record IsScripted (settings : Settings) (a : Account) : Type 0 where

@@ -3,15 +3,14 @@
 ghost use Rattle.std.specs.Prelude.{◌≡◌, All, List};
 ghost use Rattle.os_files.specs.Bytes.{Bytes};
 ghost use Rattle.os_files.specs.Tree.{Tree};
-ghost use Rattle.cmdlines.specs.Parsing.{IsGivenByOption};
 ghost use Rattle.ckeys.specs.Entries.{AreReprinted};
 ghost use Rattle.ckeys.specs.Folders.{Settings};
 ghost use Rattle.ckeys.specs.Keys.{Distinct};
-ghost use Rattle.scripted_laws.specs.ScriptedCalls.{HasSafeSource, IsMadeOfRecord, IsScripted, IsScriptedCall};
+ghost use Rattle.scripted_laws.specs.ScriptedCalls.{HasSafeSource, IsGivenBy, IsMadeOfRecord, IsScripted, IsScriptedCall};
 ghost use Rattle.wrap.specs.Account.{Account, Work, direct_calls, worked};
 ghost use Rattle.wrap.specs.StoreKeys.{HasRecord, IsHashedIn, Premises, SameRecord};
 ghost use Rattle.wrap.specs.Whole.{accounts_at, files_view, tool_view};
-ghost use Rattle.wrap_base.specs.Commands.{kind_of, words_at};
+ghost use Rattle.wrap_base.specs.Commands.{named_by};
 ghost use Rattle.wrap_base.specs.declared.call.Call.{Call};
 ghost use Rattle.wrap_base.specs.declared.request.Request.{Request};
 
@@ -29,7 +28,7 @@ pub fn records_fix_scripted_outcomes()
         → HasRecord a → HasRecord b → SameRecord a b → a.fresh ≡ b.fresh }
     // Only an option of Msvc gives an input that can't stand where it's written.
     ensures safe { (tree : Tree) (request : Request)
-        → (IsGivenByOption (kind_of request.compiler) (words_at request tree) → ⊥)
+        → (IsGivenBy (named_by request.compiler) tree request → ⊥)
         → HasSafeSource tree request }
 {
     // Laws, which cost nothing: what follows from them is said above.

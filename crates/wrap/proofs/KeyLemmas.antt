@@ -17,15 +17,15 @@ use Rattle.ckeys.specs.declared.place.CallPlace.{CallPlace}
 use Rattle.ckeys.specs.declared.hasher.CCompilerHasher.{CCompilerHasher}
 use Rattle.wrap.specs.Account.{call_at, direct_at, work_at, worked}
 use Rattle.wrap.specs.Asking.{EntriesBy, EntriesTurn, WorkKeyFrom}
-use Rattle.wrap_base.specs.Commands.{kind_of, traits_of, executable_of, digest_of}
-use Rattle.wrap_base.specs.declared.compiler.Compiler.{Compiler}
+use Rattle.wrap_base.specs.Commands.{kind_of, traits_of, executable_of, digest_of, found_of}
+use Rattle.wrap_base.specs.declared.compiler.AnyC.{AnyC}
 use Rattle.wrap_base.specs.declared.request.Request.{Request}
 
--- the hasher of a request's compiler makes the key of the request's call
-pub call_is : (request : Request) (tree : Tree) (settings : Settings) (p : ParsedArguments) (hasher : CCompilerHasher Compiler) (place : CallPlace)
-    → hasher.compiler.now ≡ request.compiler → hasher.executable.now ≡ executable_of request.compiler → hasher.executable_digest.now ≡ digest_of request.compiler → hasher.parsed.now ≡ p → place.dir.now ≡ request.dir → place.env.now ≡ request.env → place.moment ≡ request.moment → place.config.now ≡ settings
-    → call_by kind_of traits_of hasher place tree ≡ call_at request tree settings p
-call_is request tree settings p hasher place compiler executable digest parsed dir env moment config = λ i. record {
+-- the hasher of a C compiler makes the key of the request's call to it
+pub call_is : (named : AnyC) (request : Request) (tree : Tree) (settings : Settings) (p : ParsedArguments) (hasher : CCompilerHasher AnyC) (place : CallPlace)
+    → hasher.compiler.now ≡ named → hasher.executable.now ≡ executable_of named → hasher.executable_digest.now ≡ digest_of named → hasher.parsed.now ≡ p → place.dir.now ≡ request.dir → place.env.now ≡ request.env → place.moment ≡ request.moment → place.config.now ≡ settings
+    → call_by kind_of traits_of hasher place tree ≡ call_at (found_of named) request tree settings p
+call_is named request tree settings p hasher place compiler executable digest parsed dir env moment config = λ i. record {
   kind = kind_of (compiler i);
   traits = traits_of (compiler i);
   compiler_digest = digest i;

@@ -3,6 +3,9 @@ pub mod KeyLemmas
 pub mod TurnLemmas
 pub mod CallSteps
 pub mod RunSteps
+pub mod RustLemmas
+pub mod Utf8Lemmas
+pub mod JudgeLemmas
 pub mod GatherLemmas
 pub mod ExampleLemmas
 pub mod DirectExampleLemmas

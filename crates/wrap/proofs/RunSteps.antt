@@ -21,10 +21,13 @@ use Rattle.entry_keys.specs.declared.entry_key.EntryKey.{EntryKey}
 use Rattle.include_records.specs.Records.{Record}
 use Rattle.ckeys.specs.declared.fault.Fault.TheVariants.{PreprocessFailed, Read}
 use Rattle.ckeys.specs.declared.fault.Fault.{Fault}
-use Rattle.wrap_base.specs.Commands.{kind_of, words_at}
+use Rattle.rustc_compiler.specs.Compiler.{Rustc}
+use Rattle.wrap_base.specs.Commands.{CFound, NamedBy, by_c, by_rustc, named_by, words_at}
+use Rattle.wrap.specs.RustVerdicts as rust
+use Rattle.wrap.specs.RustVerdicts.{RustDecision, rust_verdict_of}
 use Rattle.wrap.specs.Verdicts.{Decision, Why, asks, passes, verdict_of}
 use Rattle.wrap_base.specs.declared.request.Request.{Request}
-use Rattle.wrap.specs.Account.{Account, passed, worked, Work, Pairs, account_at, account_by, asked_by, call_at, work_at, collected, all, direct_calls, direct_of, placed, why_passed}
+use Rattle.wrap.specs.Account.{Account, passed, worked, Work, Pairs, account_at, account_by, account_named, asked_by, call_at, rust_account_by, work_at, collected, all, direct_calls, direct_of, placed, why_passed}
 use Rattle.wrap.specs.Answers.{Answers, SaysPassed}
 use Rattle.wrap.specs.Asking.{EntriesBy, EntriesTurn, IsOfCall, IsOfOneCall, RecordsAreTrue, Shelves}
 use Rattle.wrap.specs.StoreKeys.{store_key_of, IsHashedDirect, IsHashedIn, Premises, Invariant}
@@ -431,29 +434,45 @@ not_both b p q = let h = sym p ∙ q in cc
 
 -- what a work says of include records is of its own call
 pub one_call : (meaning : Meaning) (tree : Tree) (settings : Settings) (request : Request) → IsOfOneCall settings (account_at meaning tree settings request)
-one_call meaning tree settings request = by (verdict_of (kind_of request.compiler) (words_at request tree))
+one_call meaning tree settings request = by_named (named_by request.compiler)
   where
     printed : (call : KeyCall) (b : Bool) (p : PrintedCall) → (if b then Some (printed_call meaning call) else None) ≡ Some p → printed_call meaning call ≡ p
     printed call true p h = cc
     printed call false p h = cc
 
-    by : (d : Decision) → IsOfOneCall settings (account_by meaning tree settings request d)
-    by (passes why) = tt
-    by (asks parsed) = λ p h.
-        let call = call_at request tree settings parsed in
+    by : (found : CFound) (d : Decision) → IsOfOneCall settings (account_by meaning tree settings found request d)
+    by found (passes why) = tt
+    by found (asks parsed) = λ p h.
+        let call = call_at found request tree settings parsed in
         let same : printed_call meaning call ≡ p = printed call (has_entry_key call) p h in
         subst (IsOfCall settings (work_at meaning call)) same (record { settled = refl; rec = refl; fault = refl })
 
+    rust_by : (rustc : Rustc) (d : RustDecision) → IsOfOneCall settings (rust_account_by meaning tree rustc request d)
+    rust_by rustc (rust.passes why) = tt
+    rust_by rustc (rust.asks asked) = λ p h. cc
+
+    by_named : (n : NamedBy) → IsOfOneCall settings (account_named meaning tree settings request n)
+    by_named (by_c found) = by found (verdict_of found.kind (words_at found request tree))
+    by_named (by_rustc rustc) = rust_by rustc (rust_verdict_of request tree)
+
 -- where no records are kept no call asks for any
 pub none_asked : (meaning : Meaning) (tree : Tree) (settings : Settings) (request : Request) → settings.direct ≡ false → direct_of (account_at meaning tree settings request) ≡ None
-none_asked meaning tree settings request off = by (verdict_of (kind_of request.compiler) (words_at request tree))
+none_asked meaning tree settings request off = by_named (named_by request.compiler)
   where
-    by : (d : Decision) → direct_of (account_by meaning tree settings request d) ≡ None
-    by (passes why) = refl
-    by (asks parsed) =
-        let call = call_at request tree settings parsed in
+    by : (found : CFound) (d : Decision) → direct_of (account_by meaning tree settings found request d) ≡ None
+    by found (passes why) = refl
+    by found (asks parsed) =
+        let call = call_at found request tree settings parsed in
         let no : has_entry_key call ≡ false = ap (λ b. (b && (needs_preprocessing call.parsed.language && is_none call.parsed.too_hard_for_preprocessor_cache_mode)) && is_told call (contents_at call.scene.files (input_path call))) off in
         ap (λ b. if b then Some (printed_call meaning call) else None) no
+
+    rust_by : (rustc : Rustc) (d : RustDecision) → direct_of (rust_account_by meaning tree rustc request d) ≡ None
+    rust_by rustc (rust.passes why) = refl
+    rust_by rustc (rust.asks asked) = refl
+
+    by_named : (n : NamedBy) → direct_of (account_named meaning tree settings request n) ≡ None
+    by_named (by_c found) = by found (verdict_of found.kind (words_at found request tree))
+    by_named (by_rustc rustc) = rust_by rustc (rust_verdict_of request tree)
 
 -- where no records are kept, those that are held are true of each call
 pub plain_true : (digest_of : Bytes → Bytes) (meaning : Meaning) (tree : Tree) (settings : Settings) (request : Request) (held : Held) → settings.direct ≡ false → RecordsAreTrue digest_of (account_at meaning tree settings request) held

@@ -79,8 +79,8 @@ module _ (digest_of : Bytes → Bytes) (text_key : Bytes) (w : Work) (key : Stor
       })
 
   -- what the look-up found is answered
-  pub turn_stored : (from : Bool) → (from ≡ true → IsSome w.direct) → (before after : ℕ) → after ≡ before → IsTold digest_of w.rec → (found : List Output) → Some found ≡ option_map (placed w.outputs) answer → KeyedTurn digest_of text_key (worked w) old asked before after (Ok (Outputs found (kept_how from) None))
-  turn_stored from direct before after same told found e =
+  pub turn_stored : (dep_info : Option Bytes) (from : Bool) → (from ≡ true → IsSome w.direct) → (before after : ℕ) → after ≡ before → IsTold digest_of w.rec → (found : List Output) → Some found ≡ option_map (placed w.outputs) answer → KeyedTurn digest_of text_key (worked w) old asked before after (Ok (Outputs found (kept_how from) dep_info))
+  turn_stored dep_info from direct before after same told found e =
       let it = some_pairs (placed w.outputs) found answer e in
       record {
         gains = λ k v h. inl (asks.within k v h);
@@ -101,11 +101,11 @@ module _ (digest_of : Bytes → Bytes) (text_key : Bytes) (w : Work) (key : Stor
         );
       }
     where
-      puts_none : (b : Bool) → asked.puts ≡ old.puts → PutsBy (Ok (Outputs found (kept_how b) None)) old asked
+      puts_none : (b : Bool) → asked.puts ≡ old.puts → PutsBy (Ok (Outputs found (kept_how b) dep_info)) old asked
       puts_none true h = h
       puts_none false h = h
 
-      hit : (b : Bool) → (b ≡ true → IsSome w.direct) → Placed w found (StoredTurn digest_of text_key w old asked before after) → Told digest_of text_key w old asked before after (Ok (Outputs found (kept_how b) None))
+      hit : (b : Bool) → (b ≡ true → IsSome w.direct) → Placed w found (StoredTurn digest_of text_key w old asked before after) → Told digest_of text_key w old asked before after (Ok (Outputs found (kept_how b) dep_info))
       hit true direct placed = (direct refl, placed)
       hit false direct placed = placed
 
@@ -155,9 +155,9 @@ module _ (digest_of : Bytes → Bytes) (text_key : Bytes) (w : Work) (key : Stor
         })
 
     -- a fresh output is put, and answered
-    pub turn_fresh : after ≡ ticked mid → IsTold digest_of w.rec → (eq : StoreKey → StoreKey → Bool) → ((a b : StoreKey) → eq a b ≡ true → a ≡ b)
-        → (new : Shelf StoreKey Pairs) (value : Pairs) (map : List Output) (put : Result (Unit {0}) (StoreKey × Pairs)) → Puts eq asked new key value put → IsSuccess w value → map ≡ placed w.outputs value → KeyedTurn digest_of text_key (worked w) old new before after (Ok (Outputs map Fresh None))
-    turn_fresh ran told eq equal new value map put puts made same = record {
+    pub turn_fresh : (dep_info : Option Bytes) → after ≡ ticked mid → IsTold digest_of w.rec → (eq : StoreKey → StoreKey → Bool) → ((a b : StoreKey) → eq a b ≡ true → a ≡ b)
+        → (new : Shelf StoreKey Pairs) (value : Pairs) (map : List Output) (put : Result (Unit {0}) (StoreKey × Pairs)) → Puts eq asked new key value put → IsSuccess w value → map ≡ placed w.outputs value → KeyedTurn digest_of text_key (worked w) old new before after (Ok (Outputs map Fresh dep_info))
+    turn_fresh dep_info ran told eq equal new value map put puts made same = record {
       gains = λ k v h. elim (puts.gains k v h) [
         | inl was ↦ inl (asks.within k v was)
         | inr own ↦ inr (record { is_key = equal k key own.0 ∙ is_key; made = subst (IsSuccess w) (sym own.1) made; told = told })
@@ -361,6 +361,9 @@ early_runs (worked w) on_file n NoRule cause = cc
 early_runs (worked w) on_file n (AnswerNotUtf8 step) cause = cc
 early_runs (worked w) on_file n (BadDigest path) cause = cc
 
+pub early_ran : (a : Account) (on_file : Bytes → Type 0) (n : ℕ) (fault : Fault) → EarlyCause on_file fault → (result : Result Answer Fault) → IsErrAnd result (λ f. f ≡ fault) → RunsOf a false result n n
+early_ran a on_file n fault cause result err = let p = err_from_is_err_and result err in rw (p.1, p.2) (early_runs a on_file n fault cause)
+
 -- a call that ends with a fault
 pub asked_fault : (digest_of : Bytes → Bytes) (a : Account) (old new : Shelves) (printed printed_new compiled compiled_new : ℕ) (result : Result Answer Fault) (fault : Fault) → IsErrAnd result (λ f. f ≡ fault) → (from : Bool) (text_key : Bytes) → AskedUnder digest_of a old.entries.held from text_key → RunsOf a from (Err fault) printed printed_new → KeyedTurn digest_of text_key a old.objects new.objects compiled compiled_new result → AskedTurn digest_of a old new printed printed_new compiled compiled_new result
 asked_fault digest_of a old new printed printed_new compiled compiled_new (Ok answer) fault err from text_key is_key runs turn = absurd err
@@ -368,9 +371,9 @@ asked_fault digest_of (passed why) old new printed printed_new compiled compiled
 asked_fault digest_of (worked w) old new printed printed_new compiled compiled_new (Err f) fault err from text_key is_key runs turn = record { from = from; text_key = text_key; is_key = is_key; how = tt; fine = tt; runs = subst (λ (e : Fault). RunsOf (worked w) from (Err e) printed printed_new) (sym err) runs; recorded = tt; objects = turn }
 
 -- a hit
-pub how_kept : (from : Bool) (map : List Output) → HowFrom from (Ok (Outputs map (kept_how from) None))
-how_kept true map = refl
-how_kept false map = refl
+pub how_kept : (from : Bool) (map : List Output) (dep_info : Option Bytes) → HowFrom from (Ok (Outputs map (kept_how from) dep_info))
+how_kept true map dep_info = refl
+how_kept false map dep_info = refl
 
 pub how_of_fault : (from : Bool) (fault : Fault) (result : Result Answer Fault) → IsErrAnd result (λ f. f ≡ fault) → HowFrom from result
 how_of_fault from fault result err = let p = err_from_is_err_and result err in rw p.1 tt

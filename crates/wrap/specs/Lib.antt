@@ -1,4 +1,5 @@
 pub mod Verdicts
+pub mod RustVerdicts
 pub mod CallRecords
 pub mod Account
 pub mod StoreKeys
@@ -8,7 +9,9 @@ pub mod Turn
 pub mod Asking
 pub mod Whole
 pub mod Plans
+pub mod RustPlans
 pub mod Prepared
+pub mod RustPrepared
 pub mod Sessions
 pub mod Gathering
 pub mod Steps

@@ -1,4 +1,4 @@
--- The verdict on a request's words: why it is passed through, or what it asks for.
+-- The verdict on a request's words to a C compiler: why it is passed through, or what it asks for.
 use Rattle.std.specs.Prelude.{Bool, ◌||◌, List, ◌++◌, Option, if◌then◌else◌, string_bytes}
 use Rattle.std.specs.Option.{option_map}
 use Rattle.os_files.specs.Bytes.{Bytes}
@@ -10,7 +10,7 @@ use Rattle.cmdlines.specs.declared.parsed.ParsedArguments.{ParsedArguments}
 use Rattle.cmdlines_tables.specs.declared.compiler.CCompilerKind.{CCompilerKind}
 use Rattle.ckeys.specs.Records.{hold_end}
 use Rattle.wrap_base.specs.declared.reason.Reason.{Reason}
-use Rattle.wrap_base.specs.declared.reason.Reason.TheVariants.{NotCompilation, CannotCache, EmptyValue, OpensFile, Byte255}
+use Rattle.wrap_base.specs.declared.reason.Reason.TheVariants.{NotCompilation, CannotCache, EmptyValue, OpensFile, Byte255, NotUtf8, ProfileData}
 
 -- why a request is passed through
 pub data Why : Type 0 where
@@ -19,6 +19,8 @@ pub data Why : Type 0 where
   empty_value : Why
   opens_a_file : Why
   byte_255 : Why
+  not_utf8 : Why
+  profile_data : Why
 
 -- a reason without where its text lies in memory
 abbrev pub why_of : Reason → Why
@@ -27,6 +29,8 @@ why_of (CannotCache reason more) = cannot_cache reason.now (option_map string_by
 why_of EmptyValue = empty_value
 why_of OpensFile = opens_a_file
 why_of Byte255 = byte_255
+why_of NotUtf8 = not_utf8
+why_of ProfileData = profile_data
 
 -- a request is passed through, or it asks for this
 pub data Decision : Type 0 where

@@ -64,7 +64,7 @@ pub fn finish<O: Store<StoreKey, Pairs>, F: Files, T: Tool>(
         return Ok(Answer::Outputs {
             map,
             how: kept_how(prepared.from_record),
-            dep_info: None,
+            dep_info: prepared.dep_info,
         });
     }
     let pairs = compiled_pairs(
@@ -77,10 +77,11 @@ pub fn finish<O: Store<StoreKey, Pairs>, F: Files, T: Tool>(
         tool,
     )?;
     let map = placed(alloc, outputs, pairs.as_slice())?;
+    let dep_info = prepared.dep_info;
     let _ = keep(objects, prepared.key, pairs);
     Ok(Answer::Outputs {
         map,
         how: How::Fresh,
-        dep_info: None,
+        dep_info,
     })
 }

@@ -10,6 +10,7 @@ ghost use Rattle.ckeys.specs.Records.{FitsLength};
 ghost use Rattle.wrap.specs.Account.{call_at, work_at, worked};
 ghost use Rattle.wrap.specs.Asking.{EntriesTurn, WorkKeyFrom};
 ghost use Rattle.wrap.specs.StoreKeys.{store_key_with};
+ghost use Rattle.wrap_base.specs.Commands.{found_of};
 
 use crate::verdict::Plan;
 use ckeys::config::KeyConfig;
@@ -24,12 +25,13 @@ use os_files::files::Files;
 use os_files::listed::Listed;
 use os_files::os_bytes::OsBytes;
 use std::alloc::{AllocError, Global};
+use wrap_base::compiler::AnyC;
 use wrap_base::request::Request;
 use wrap_base::store_key::{Family, Shape, StoreKey};
 use wrap_base::tool::Tool;
 
 /// The names of outputs, with their marks.
-fn names_of(
+pub fn names_of(
     alloc: Global,
     outputs: &[(OsBytes, ArtifactDescriptor)],
 ) -> Result<Listed<OutputName>, AllocError>
@@ -63,6 +65,7 @@ fn place_of<'a>(request: &'a Request, config: &'a KeyConfig) -> CallPlace<'a>
 /// The key of a request that asks for this, and whether an include record gave it.
 pub fn store_key<H: HashState, E: Store<EntryKey, PreprocessorCacheEntry>, F: Files, T: Tool>(
     alloc: Global,
+    compiler: AnyC<'_>,
     request: &Request,
     plan: &Plan,
     config: &KeyConfig,
@@ -71,28 +74,28 @@ pub fn store_key<H: HashState, E: Store<EntryKey, PreprocessorCacheEntry>, F: Fi
     tool: &mut T,
 ) -> Result<(StoreKey, bool), Fault>
     ensures key { let w = work_at (T.meaning tool.old)
-        (call_at request.now (F.tree files.old) config.now plan.now.parsed) in
+        (call_at (found_of compiler.entry) request.now (F.tree files.old) config.now plan.now.parsed) in
         IfOk result (λ made. made.0 ≡ store_key_with H.digest_of w made.0.digest) }
     ensures from { let w = work_at (T.meaning tool.old)
-        (call_at request.now (F.tree files.old) config.now plan.now.parsed) in
+        (call_at (found_of compiler.entry) request.now (F.tree files.old) config.now plan.now.parsed) in
         IfOk result
         (λ made. WorkKeyFrom H.digest_of w (E.shelf entries.old).held made.1 made.0.digest) }
     ensures fine { let p = printed_call (T.meaning tool.old)
-        (call_at request.now (F.tree files.old) config.now plan.now.parsed) in
+        (call_at (found_of compiler.entry) request.now (F.tree files.old) config.now plan.now.parsed) in
         IfOk result (λ made. KeyFine p made.1) }
-    ensures fit { let call = call_at request.now (F.tree files.old) config.now plan.now.parsed in
+    ensures fit { let call = call_at (found_of compiler.entry) request.now (F.tree files.old) config.now plan.now.parsed in
         OnOk result (AllByRecursion FitsLength (record_of (T.meaning tool.old) call).variables) }
     ensures cause { let w = work_at (T.meaning tool.old)
-        (call_at request.now (F.tree files.old) config.now plan.now.parsed) in
+        (call_at (found_of compiler.entry) request.now (F.tree files.old) config.now plan.now.parsed) in
         IfErr result
         (KeyCause w.fault (FailsOn F.tree F.failed F.fails_on files.old files.new)
         (FailsIn T.meaning T.failed T.fails_in tool.old tool.new)) }
     ensures entries { let w = work_at (T.meaning tool.old)
-        (call_at request.now (F.tree files.old) config.now plan.now.parsed) in
+        (call_at (found_of compiler.entry) request.now (F.tree files.old) config.now plan.now.parsed) in
         EntriesTurn H.digest_of (worked w) (E.shelf entries.old) (E.shelf entries.new)
         (T.preprocessed tool.old) (T.preprocessed tool.new) }
     ensures recorded { let w = work_at (T.meaning tool.old)
-        (call_at request.now (F.tree files.old) config.now plan.now.parsed) in
+        (call_at (found_of compiler.entry) request.now (F.tree files.old) config.now plan.now.parsed) in
         IfOk result
         (λ made. (p : PrintedCall) → w.direct ≡ Some p
         → KeyRecorded H.digest_of p (E.shelf entries.old) (E.shelf entries.new) made.1 made.0.digest) }
@@ -110,7 +113,7 @@ pub fn store_key<H: HashState, E: Store<EntryKey, PreprocessorCacheEntry>, F: Fi
         AreSteady T.failed F.failed tool.old files.old tool.new files.new }
     ensures compiles { T.compiled tool.new ≡ T.compiled tool.old }
 {
-    let hasher = request.compiler.hasher(&plan.parsed);
+    let hasher = compiler.hasher(&plan.parsed);
     let place = place_of(request, config);
     let (digest, shape, from_record) = hasher.generate_hash_key::<H, E, F, T>(
         alloc, &place, entries, files, tool,

@@ -1,12 +1,15 @@
 //! The session that answers requests, and with it all that a caller of it names.
 #![tactic(auto)]
 
+mod c_calls;
 mod compile;
 mod finish;
 mod keys;
 pub mod laws;
 mod outputs;
 pub mod prepared;
+mod rust_calls;
+pub mod rust_verdict;
 pub mod session;
 mod stored;
 pub mod verdict;
@@ -32,11 +35,13 @@ pub use os_files::files::{FileFail, Files, Metadata};
 pub use os_files::listed::Listed;
 pub use os_files::memory_files::{MemoryFile, MemoryFiles};
 pub use os_files::os_bytes::OsBytes;
+pub use rustc_compiler::rust::Rust;
+pub use rustkeys::answers::RustcAnswers;
 pub use session::Session;
 pub use time_macros::zone::{Zone, ZoneError};
 pub use wrap_base::answer::{Answer, How, Output};
 pub use wrap_base::call::Call;
-pub use wrap_base::compiler::Compiler;
+pub use wrap_base::compiler::{AnyC, Compiler, Named};
 pub use wrap_base::map_store::MapStore;
 pub use wrap_base::reason::Reason;
 pub use wrap_base::request::Request;

@@ -9,6 +9,7 @@ ghost use Rattle.wrap.specs.Account.{call_at, work_at, worked};
 ghost use Rattle.wrap.specs.Asking.{EntriesTurn, WorkKeyFrom};
 ghost use Rattle.wrap.specs.Plans.{IsPlanOf};
 ghost use Rattle.wrap.specs.Prepared.{IsPrepared};
+ghost use Rattle.wrap_base.specs.Commands.{found_of};
 
 use crate::keys::store_key;
 use crate::verdict::Plan;
@@ -24,6 +25,7 @@ use cmdlines_tables::compiler::CCompilerKind;
 use os_files::files::Files;
 use os_files::os_bytes::OsBytes;
 use std::alloc::Global;
+use wrap_base::compiler::AnyC;
 use wrap_base::request::Request;
 use wrap_base::store_key::StoreKey;
 use wrap_base::tool::Tool;
@@ -36,14 +38,18 @@ pub struct Prepared<'a> {
     pub from_record: bool,
     pub outputs: &'a [(OsBytes, ArtifactDescriptor)],
     pub command: &'a SingleCompileCommand,
-    pub kind: CCompilerKind,
+    /// To which C compiler the command is, or to rustc.
+    pub kind: Option<CCompilerKind>,
     /// When it is asked, in seconds since 1970-01-01 UTC.
     pub moment: i64,
+    /// The text on dependencies for its own targets, where rustc is asked for one.
+    pub dep_info: Option<OsBytes>,
 }
 
-/// Prepares a request that asks for this: makes its key, from an include record where one fits.
+/// Prepares a request to this C compiler that asks for this: makes its key, from an include record where one fits.
 pub fn prepare<'a, H: HashState, E: Store<EntryKey, PreprocessorCacheEntry>, F: Files, T: Tool>(
     alloc: Global,
+    compiler: AnyC<'_>,
     request: &Request,
     plan: &'a Plan,
     config: &KeyConfig,
@@ -51,28 +57,28 @@ pub fn prepare<'a, H: HashState, E: Store<EntryKey, PreprocessorCacheEntry>, F: 
     files: &mut F,
     tool: &mut T,
 ) -> Result<Prepared<'a>, Fault>
-    requires plan { IsPlanOf request.now plan.now }
+    requires plan { IsPlanOf (found_of compiler) request.now plan.now }
     ensures prepared { let w = work_at (T.meaning tool.old)
-        (call_at request.now (F.tree files.old) config.now plan.now.parsed) in
+        (call_at (found_of compiler.entry) request.now (F.tree files.old) config.now plan.now.parsed) in
         IfOk result (IsPrepared H.digest_of (T.meaning tool.new) (F.tree files.new) w) }
     ensures from { let w = work_at (T.meaning tool.old)
-        (call_at request.now (F.tree files.old) config.now plan.now.parsed) in
+        (call_at (found_of compiler.entry) request.now (F.tree files.old) config.now plan.now.parsed) in
         IfOk result
         (λ p. WorkKeyFrom H.digest_of w (E.shelf entries.old).held p.from_record p.key.digest) }
     ensures fine { let printed = printed_call (T.meaning tool.old)
-        (call_at request.now (F.tree files.old) config.now plan.now.parsed) in
+        (call_at (found_of compiler.entry) request.now (F.tree files.old) config.now plan.now.parsed) in
         IfOk result (λ p. KeyFine printed p.from_record) }
     ensures cause { let w = work_at (T.meaning tool.old)
-        (call_at request.now (F.tree files.old) config.now plan.now.parsed) in
+        (call_at (found_of compiler.entry) request.now (F.tree files.old) config.now plan.now.parsed) in
         IfErr result
         (KeyCause w.fault (FailsOn F.tree F.failed F.fails_on files.old files.new)
         (FailsIn T.meaning T.failed T.fails_in tool.old tool.new)) }
     ensures entries { let w = work_at (T.meaning tool.old)
-        (call_at request.now (F.tree files.old) config.now plan.now.parsed) in
+        (call_at (found_of compiler.entry) request.now (F.tree files.old) config.now plan.now.parsed) in
         EntriesTurn H.digest_of (worked w) (E.shelf entries.old) (E.shelf entries.new)
         (T.preprocessed tool.old) (T.preprocessed tool.new) }
     ensures recorded { let w = work_at (T.meaning tool.old)
-        (call_at request.now (F.tree files.old) config.now plan.now.parsed) in
+        (call_at (found_of compiler.entry) request.now (F.tree files.old) config.now plan.now.parsed) in
         IfOk result
         (λ p. (printed : PrintedCall) → w.direct ≡ Some printed
         → KeyRecorded H.digest_of printed (E.shelf entries.old) (E.shelf entries.new)
@@ -95,14 +101,15 @@ pub fn prepare<'a, H: HashState, E: Store<EntryKey, PreprocessorCacheEntry>, F: 
     // A law, which costs nothing: words of which none holds the byte that ends one can be told apart without the folders too.
     stripped_words_lack_the_end();
     let (key, from_record) = store_key::<H, E, F, T>(
-        alloc, request, plan, config, entries, files, tool,
+        alloc, compiler, request, plan, config, entries, files, tool,
     )?;
     Ok(Prepared {
         key,
         from_record,
         outputs: plan.parsed.outputs.as_slice(),
         command: &plan.compile,
-        kind: request.compiler.kind(),
+        kind: Some(compiler.kind()),
         moment: request.moment,
+        dep_info: None,
     })
 }

@@ -5,19 +5,17 @@ ghost use Rattle.os_files.specs.Fails.{FailsOn};
 ghost use Rattle.ckeys_base.specs.Shelf.{Clears, IsEmpty};
 ghost use Rattle.ckeys.specs.Entries.{EntryInvariant, EntryPremises};
 ghost use Rattle.ckeys.specs.Meaning.{AreSteady, FailsIn};
-ghost use Rattle.wrap.specs.Account.{Account, account_at, call_at, direct_calls, work_at, worked};
-ghost use Rattle.wrap.specs.Answers.{Answers, GoesOn, OnPass, Says, SaysBy, SaysWorked, SaysWorkedBy, settled, settled_by};
+ghost use Rattle.wrap.specs.Account.{Account, account_at, direct_calls};
+ghost use Rattle.wrap.specs.Answers.{Answers, GoesOn, OnPass, Says, SaysBy, settled, settled_by};
 ghost use Rattle.wrap.specs.Asking.{AskedTurn, EntriesTurn, RecordsAreTrue, shelves_of};
 ghost use Rattle.wrap.specs.StoreKeys.{Invariant, Premises};
 ghost use Rattle.wrap.specs.Turn.{StoreTurn};
 ghost use Rattle.wrap.specs.Whole.{AllAnswer, Each, IsAnswered, OneFresh, Run, SessionRun, accounts_at, files_view, served_at, tool_view};
-ghost use Rattle.wrap.specs.Plans.{IsPlanOf};
 ghost use Rattle.wrap.specs.Sessions.{held_by};
 
-use crate::finish::finish;
+use crate::c_calls::c_turn;
 use crate::laws::call_keys_tell_records;
-use crate::prepared::prepare;
-use crate::verdict::{Plan, Verdict, judge};
+use crate::rust_calls::rust_turn;
 use ckeys::config::KeyConfig;
 use ckeys::fault::Fault;
 use ckeys::laws::records_are_true;
@@ -29,6 +27,7 @@ use std::alloc::{AllocError, Global};
 use std::marker::{Model, PhantomData};
 use wrap_base::answer::Answer;
 use wrap_base::call::Call;
+use wrap_base::compiler::Named;
 use wrap_base::request::Request;
 use wrap_base::store_key::{Pairs, StoreKey};
 use wrap_base::tool::Tool;
@@ -335,67 +334,21 @@ impl<
         ensures memory { IsErrOf result Fault.Memory →
             AreSteady T.failed F.failed tool.old files.old tool.new files.new }
     {
-        match judge(self.alloc, request, files)? {
-            Verdict::Passes(reason) => Ok(Answer::Pass(reason)),
-            Verdict::Asks(plan) => answer::<H, E, O, F, T>(
+        match request.compiler.named() {
+            Named::C(compiler) => c_turn::<H, E, O, F, T>(
                 self.alloc,
                 &self.config,
                 &mut self.entries,
                 &mut self.objects,
+                compiler,
                 request,
-                &plan,
                 files,
                 tool,
             ),
+            Named::Rustc(rust) => {
+                let objects = &mut self.objects;
+                rust_turn::<H, O, F, T>(self.alloc, objects, rust, request, files, tool)
+            }
         }
     }
-}
-
-/// Answers a request that isn't passed through: what the store holds under its key, or what one compile makes, which
-/// is kept then.
-fn answer<
-    H: HashState,
-    E: Store<EntryKey, PreprocessorCacheEntry>,
-    O: Store<StoreKey, Pairs>,
-    F: Files,
-    T: Tool,
->(
-    alloc: Global,
-    config: &KeyConfig,
-    entries: &mut E,
-    objects: &mut O,
-    request: &Request,
-    plan: &Plan,
-    files: &mut F,
-    tool: &mut T,
-) -> Result<Answer, Fault>
-    requires plan { IsPlanOf request.now plan.now }
-    ensures says { let w = work_at (T.meaning tool.old)
-        (call_at request.now (F.tree files.old) config.now plan.now.parsed) in
-        SaysWorkedBy (GoesOn w) w (FailsOn F.tree F.failed F.fails_on files.old files.new)
-        (FailsIn T.meaning T.failed T.fails_in tool.old tool.new) result }
-    ensures goes_on { let w = work_at (T.meaning tool.old)
-        (call_at request.now (F.tree files.old) config.now plan.now.parsed) in
-        RecordsAreTrue H.digest_of (worked w) (E.shelf entries.old).held
-        → SaysWorked w (FailsOn F.tree F.failed F.fails_on files.old files.new)
-        (FailsIn T.meaning T.failed T.fails_in tool.old tool.new) result }
-    ensures asked { let w = work_at (T.meaning tool.old)
-        (call_at request.now (F.tree files.old) config.now plan.now.parsed) in
-        AskedTurn H.digest_of (worked w) (shelves_of (E.shelf entries.old) (O.shelf objects.old))
-        (shelves_of (E.shelf entries.new) (O.shelf objects.new)) (T.preprocessed tool.old)
-        (T.preprocessed tool.new) (T.compiled tool.old) (T.compiled tool.new) result }
-    ensures entries { let w = work_at (T.meaning tool.old)
-        (call_at request.now (F.tree files.old) config.now plan.now.parsed) in
-        EntriesTurn H.digest_of (worked w) (E.shelf entries.old) (E.shelf entries.new)
-        (T.preprocessed tool.old) (T.preprocessed tool.new) }
-    ensures unpassed { OnPass result ⊥ }
-    ensures meaning { T.meaning tool.new ≡ T.meaning tool.old }
-    ensures tree { F.tree files.new ≡ F.tree files.old }
-    ensures steady { OnOk result
-        (AreSteady T.failed F.failed tool.old files.old tool.new files.new) }
-    ensures memory { IsErrOf result Fault.Memory →
-        AreSteady T.failed F.failed tool.old files.old tool.new files.new }
-{
-    let prepared = prepare::<H, E, F, T>(alloc, request, plan, config, entries, files, tool)?;
-    finish(alloc, objects, prepared, files, tool)
 }

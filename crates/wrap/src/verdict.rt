@@ -1,4 +1,4 @@
-//! The verdict on a request's words: it is passed through, or there is a plan of what is run for it.
+//! The verdict on a request's words to a C compiler: it is passed through, or there is a plan of what is run for it.
 
 ghost use Rattle.std.specs.Prelude.{◌≡◌, is_some, true, List, IfOk, IfErr, OnOk, IsErrOf};
 ghost use Rattle.os_files.specs.Bytes.{Bytes};
@@ -6,7 +6,7 @@ ghost use Rattle.os_files.specs.Fails.{FailsOn};
 ghost use Rattle.cmdlines.specs.Commands.{object_path};
 ghost use Rattle.cmdlines.specs.Parsing as parsing;
 ghost use Rattle.cmdlines.specs.ReadBack.{ReadsAsCompile, ReadsAsPreprocess};
-ghost use Rattle.wrap_base.specs.Commands.{compile_command_of, kind_of, words_at};
+ghost use Rattle.wrap_base.specs.Commands.{compile_command_of, found_of, kind_of, words_at};
 ghost use Rattle.wrap.specs.Answers.{EarlyCause};
 ghost use Rattle.wrap.specs.Verdicts.{with_hazards, verdict_of};
 ghost use Rattle.wrap.specs.Plans.{decision_of, IsPlanOf, IsReadAgain, IsReadAgainUnlessGiven, IsReadAgainWhereSafe, OnAsks};
@@ -21,6 +21,7 @@ use cmdlines::parsed::ParsedArguments;
 use cmdlines_base::command::SingleCompileCommand;
 use os_files::files::Files;
 use std::alloc::{AllocError, Global};
+use wrap_base::compiler::AnyC;
 use wrap_base::reason::Reason;
 use wrap_base::request::Request;
 
@@ -39,14 +40,18 @@ pub enum Verdict {
 }
 
 /// The plan of a request that asks for this.
-fn plan_of(alloc: Global, request: &Request, parsed: ParsedArguments) -> Result<Plan, AllocError>
+fn plan_of(
+    alloc: Global,
+    compiler: AnyC<'_>,
+    request: &Request,
+    parsed: ParsedArguments,
+) -> Result<Plan, AllocError>
     requires object { is_some (object_path parsed) ≡ true }
     ensures parsed { IfOk result (λ plan. plan.parsed ≡ parsed) }
-    ensures command { IfOk result (λ plan. plan.compile ≡ compile_command_of request.now parsed) }
+    ensures command { IfOk result (λ plan. plan.compile ≡ compile_command_of (found_of compiler.entry) request.now parsed) }
     ensures compile { IfOk result
-        (λ plan. ReadsAsCompile (kind_of request.now.compiler) parsed plan.compile.arguments) }
+        (λ plan. ReadsAsCompile (kind_of compiler.entry) parsed plan.compile.arguments) }
 {
-    let compiler = &request.compiler;
     let executable = compiler.executable();
     let env = request.env.as_slice();
     match compiler.generate_compile_commands(alloc, executable, &parsed, &request.dir, env) {
@@ -60,28 +65,30 @@ fn plan_of(alloc: Global, request: &Request, parsed: ParsedArguments) -> Result<
 /// of a command would open a file of words, or a hashed word holds the byte that ends one.
 fn after_hazards(
     alloc: Global,
+    compiler: AnyC<'_>,
     request: &Request,
     parsed: ParsedArguments,
 ) -> Result<Verdict, AllocError>
     requires object { is_some (object_path parsed) ≡ true }
     ensures verdict { IfOk result
         (λ verdict. decision_of verdict
-        ≡ with_hazards (kind_of request.now.compiler) (parsing.asks parsed)) }
-    ensures plan { IfOk result (λ verdict. OnAsks verdict (IsPlanOf request.now)) }
+        ≡ with_hazards (kind_of compiler.entry) (parsing.asks parsed)) }
+    ensures plan { IfOk result
+        (λ verdict. OnAsks verdict (IsPlanOf (found_of compiler.entry) request.now)) }
     ensures again { (words : List Bytes)
-        → parsing.parse_of (kind_of request.now.compiler) words ≡ parsing.asks parsed
-        → parsing.HasSafeInput (kind_of request.now.compiler) parsed
-        → IfOk result (λ verdict. OnAsks verdict (IsReadAgain request.now words)) }
+        → parsing.parse_of (kind_of compiler.entry) words ≡ parsing.asks parsed
+        → parsing.HasSafeInput (kind_of compiler.entry) parsed
+        → IfOk result (λ verdict. OnAsks verdict (IsReadAgain (found_of compiler.entry) words)) }
     ensures safe { (words : List Bytes)
-        → parsing.parse_of (kind_of request.now.compiler) words ≡ parsing.asks parsed
-        → IfOk result (λ verdict. OnAsks verdict (IsReadAgainWhereSafe request.now words)) }
+        → parsing.parse_of (kind_of compiler.entry) words ≡ parsing.asks parsed
+        → IfOk result (λ verdict. OnAsks verdict (IsReadAgainWhereSafe (found_of compiler.entry) words)) }
 {
     if empty_value(&parsed) {
         return Ok(Verdict::Passes(Reason::EmptyValue));
     }
-    let kind = request.compiler.kind();
-    let preprocess = request.compiler.preprocess_words(alloc, &parsed)?;
-    let plan = plan_of(alloc, request, parsed)?;
+    let kind = compiler.kind();
+    let preprocess = compiler.preprocess_words(alloc, &parsed)?;
+    let plan = plan_of(alloc, compiler, request, parsed)?;
     if opens_file(plan.compile.arguments.as_slice(), kind)
         || opens_file(preprocess.as_slice(), kind)
     {
@@ -95,20 +102,26 @@ fn after_hazards(
     Ok(Verdict::Asks(plan))
 }
 
-/// The verdict on a request, with the files of words that it names opened.
-pub fn judge<F: Files>(alloc: Global, request: &Request, files: &mut F) -> Result<Verdict, Fault>
-    ensures verdict { IfOk result
+/// The verdict on a request to this C compiler, with the files of words that it names opened.
+pub fn judge<F: Files>(
+    alloc: Global,
+    compiler: AnyC<'_>,
+    request: &Request,
+    files: &mut F,
+) -> Result<Verdict, Fault>
+    ensures verdict { let found = found_of compiler.entry in IfOk result
         (λ verdict. decision_of verdict
-        ≡ verdict_of (kind_of request.now.compiler) (words_at request.now (F.tree files.old))) }
+        ≡ verdict_of found.kind (words_at found request.now (F.tree files.old))) }
     // The commands are those of the request, and its compiler reads them again as what was wanted, unless an option of Msvc gave an
     // input that can't stand where it's written.
-    ensures plan { IfOk result (λ verdict. OnAsks verdict (IsPlanOf request.now)) }
-    ensures again { IfOk result
+    ensures plan { IfOk result
+        (λ verdict. OnAsks verdict (IsPlanOf (found_of compiler.entry) request.now)) }
+    ensures again { let found = found_of compiler.entry in IfOk result
         (λ verdict. OnAsks verdict
-        (IsReadAgainUnlessGiven request.now (words_at request.now (F.tree files.old)))) }
-    ensures safe { IfOk result
+        (IsReadAgainUnlessGiven found (words_at found request.now (F.tree files.old)))) }
+    ensures safe { let found = found_of compiler.entry in IfOk result
         (λ verdict. OnAsks verdict
-        (IsReadAgainWhereSafe request.now (words_at request.now (F.tree files.old)))) }
+        (IsReadAgainWhereSafe found (words_at found request.now (F.tree files.old)))) }
     ensures cause { IfErr result
         (EarlyCause (FailsOn F.tree F.failed F.fails_on files.old files.new)) }
     ensures tree { F.tree files.new ≡ F.tree files.old }
@@ -116,11 +129,8 @@ pub fn judge<F: Files>(alloc: Global, request: &Request, files: &mut F) -> Resul
     ensures memory { IsErrOf result Fault.Memory → F.failed files.new ≡ F.failed files.old }
 {
     let words = request.words.as_slice();
-    match request
-        .compiler
-        .parse_arguments(alloc, words, &request.dir, files)
-    {
-        Ok(CompilerArguments::Ok(parsed)) => Ok(after_hazards(alloc, request, parsed)?),
+    match compiler.parse_arguments(alloc, words, &request.dir, files) {
+        Ok(CompilerArguments::Ok(parsed)) => Ok(after_hazards(alloc, compiler, request, parsed)?),
         Ok(CompilerArguments::NotCompilation) => Ok(Verdict::Passes(Reason::NotCompilation)),
         Ok(CompilerArguments::CannotCache(reason, more)) => {
             Ok(Verdict::Passes(Reason::CannotCache(reason, more)))

@@ -9,47 +9,80 @@ use Rattle.cmdlines.specs.declared.parsed.ParsedArguments.{ParsedArguments}
 use Rattle.cmdlines_base.specs.declared.command.SingleCompileCommand.{SingleCompileCommand}
 use Rattle.cmdlines_tables.specs.declared.compiler.CCompilerKind.{CCompilerKind}
 use Rattle.cmdlines_tables.specs.declared.compiler.CCompilerKind.TheVariants as kinds
+use Rattle.rustc_compiler.specs.Compiler.{Rustc}
+use Rattle.wrap_base.specs.declared.compiler.AnyC.{AnyC}
+use Rattle.wrap_base.specs.declared.compiler.AnyC.TheVariants as lent
 use Rattle.wrap_base.specs.declared.compiler.Compiler.{Compiler}
-use Rattle.wrap_base.specs.declared.compiler.Compiler.TheVariants.{Gcc, Clang, Diab, Msvc, TaskingVX}
+use Rattle.wrap_base.specs.declared.compiler.Compiler.TheVariants.{Gcc, Clang, Diab, Msvc, TaskingVX, Rust}
+use Rattle.wrap_base.specs.declared.compiler.Named.{Named}
+use Rattle.wrap_base.specs.declared.compiler.Named.TheVariants as families
 use Rattle.wrap_base.specs.declared.request.Request.{Request}
 
-abbrev pub kind_of : Compiler → CCompilerKind
-kind_of (Gcc found) = kinds.Gcc
-kind_of (Clang found) = kinds.Clang
-kind_of (Diab found) = kinds.Diab
-kind_of (Msvc found) = kinds.Msvc
-kind_of (TaskingVX found) = kinds.TaskingVX
+abbrev pub kind_of : AnyC → CCompilerKind
+kind_of (lent.Gcc found) = kinds.Gcc
+kind_of (lent.Clang found) = kinds.Clang
+kind_of (lent.Diab found) = kinds.Diab
+kind_of (lent.Msvc found) = kinds.Msvc
+kind_of (lent.TaskingVX found) = kinds.TaskingVX
 
 -- what is known of it
-abbrev pub traits_of : Compiler → Traits
-traits_of (Gcc found) = found.compiler
-traits_of (Clang found) = found.compiler
-traits_of (Diab found) = found.compiler
-traits_of (Msvc found) = found.compiler
-traits_of (TaskingVX found) = found.compiler
+abbrev pub traits_of : AnyC → Traits
+traits_of (lent.Gcc found) = found.now.compiler
+traits_of (lent.Clang found) = found.now.compiler
+traits_of (lent.Diab found) = found.now.compiler
+traits_of (lent.Msvc found) = found.now.compiler
+traits_of (lent.TaskingVX found) = found.now.compiler
 
-abbrev pub executable_of : Compiler → Bytes
-executable_of (Gcc found) = found.executable
-executable_of (Clang found) = found.executable
-executable_of (Diab found) = found.executable
-executable_of (Msvc found) = found.executable
-executable_of (TaskingVX found) = found.executable
+abbrev pub executable_of : AnyC → Bytes
+executable_of (lent.Gcc found) = found.now.executable
+executable_of (lent.Clang found) = found.now.executable
+executable_of (lent.Diab found) = found.now.executable
+executable_of (lent.Msvc found) = found.now.executable
+executable_of (lent.TaskingVX found) = found.now.executable
 
 -- the digest that stands for it
-abbrev pub digest_of : Compiler → Bytes
-digest_of (Gcc found) = string_bytes found.executable_digest
-digest_of (Clang found) = string_bytes found.executable_digest
-digest_of (Diab found) = string_bytes found.executable_digest
-digest_of (Msvc found) = string_bytes found.executable_digest
-digest_of (TaskingVX found) = string_bytes found.executable_digest
+abbrev pub digest_of : AnyC → Bytes
+digest_of (lent.Gcc found) = string_bytes found.now.executable_digest
+digest_of (lent.Clang found) = string_bytes found.now.executable_digest
+digest_of (lent.Diab found) = string_bytes found.now.executable_digest
+digest_of (lent.Msvc found) = string_bytes found.now.executable_digest
+digest_of (lent.TaskingVX found) = string_bytes found.now.executable_digest
 
--- its words, in whose place those of the files stand that its compiler opens
-abbrev pub words_at : Request → Tree → List Bytes
-words_at request tree = opened_words (kind_of request.compiler) request.dir tree request.words
+-- a C compiler as plain values
+pub record CFound : Type 0 where
+  pub kind : CCompilerKind
+  pub traits : Traits
+  pub executable : Bytes
+  pub digest : Bytes
 
--- these words, run as the request says
-abbrev pub command_of : Request → List Bytes → SingleCompileCommand
-command_of request words = command_at (executable_of request.compiler) words request.env request.dir
+abbrev pub found_of : AnyC → CFound
+found_of compiler = record { kind = kind_of compiler; traits = traits_of compiler; executable = executable_of compiler; digest = digest_of compiler }
 
-abbrev pub compile_command_of : Request → ParsedArguments → SingleCompileCommand
-compile_command_of request p = command_of request (compile_words (kind_of request.compiler) p (output_path p))
+-- a compiler as plain values, by its family
+pub data NamedBy : Type 0 where
+  by_c : CFound → NamedBy
+  by_rustc : Rustc → NamedBy
+
+-- the compiler of a request
+abbrev pub named_by : Compiler → NamedBy
+named_by (Gcc found) = by_c (record { kind = kinds.Gcc; traits = found.compiler; executable = found.executable; digest = string_bytes found.executable_digest })
+named_by (Clang found) = by_c (record { kind = kinds.Clang; traits = found.compiler; executable = found.executable; digest = string_bytes found.executable_digest })
+named_by (Diab found) = by_c (record { kind = kinds.Diab; traits = found.compiler; executable = found.executable; digest = string_bytes found.executable_digest })
+named_by (Msvc found) = by_c (record { kind = kinds.Msvc; traits = found.compiler; executable = found.executable; digest = string_bytes found.executable_digest })
+named_by (TaskingVX found) = by_c (record { kind = kinds.TaskingVX; traits = found.compiler; executable = found.executable; digest = string_bytes found.executable_digest })
+named_by (Rust rust) = by_rustc rust
+
+abbrev pub named_in : Named → NamedBy
+named_in (families.C compiler) = by_c (found_of compiler)
+named_in (families.Rustc rust) = by_rustc rust.now
+
+-- a request's words, in whose place those of the files stand that this compiler opens
+abbrev pub words_at : CFound → Request → Tree → List Bytes
+words_at found request tree = opened_words found.kind request.dir tree request.words
+
+-- these words, run by this compiler as the request says
+abbrev pub command_of : CFound → Request → List Bytes → SingleCompileCommand
+command_of found request words = command_at found.executable words request.env request.dir
+
+abbrev pub compile_command_of : CFound → Request → ParsedArguments → SingleCompileCommand
+compile_command_of found request p = command_of found request (compile_words found.kind p (output_path p))

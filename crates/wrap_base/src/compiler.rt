@@ -1,7 +1,7 @@
 //! The compiler of a request, whichever it is.
 
 ghost use Rattle.std.specs.Prelude.{◌≡◌};
-ghost use Rattle.wrap_base.specs.Commands.{digest_of, executable_of, kind_of, traits_of};
+ghost use Rattle.wrap_base.specs.Commands.{digest_of, executable_of, kind_of, named_by, named_in, traits_of};
 
 use ckeys::compiler::CCompiler;
 use ckeys::compiler_impl::CCompilerImpl;
@@ -19,9 +19,10 @@ use cmdlines_tables::compiler::CCompilerKind;
 use os_files::files::Files;
 use os_files::listed::Listed;
 use os_files::os_bytes::OsBytes;
+use rustc_compiler::rust::Rust;
 use std::alloc::{AllocError, Global};
 
-/// Which compiler is asked. It is a C compiler as each of them is.
+/// Which compiler is asked.
 #[derive(Drop)]
 pub enum Compiler {
     Gcc(CCompiler<Gcc>),
@@ -29,18 +30,52 @@ pub enum Compiler {
     Diab(CCompiler<Diab>),
     Msvc(CCompiler<Msvc>),
     TaskingVX(CCompiler<TaskingVX>),
+    Rust(Rust),
+}
+
+/// A C compiler that a request names, lent. It is a C compiler as each of them is.
+#[derive(Clone, Copy)]
+pub enum AnyC<'a> {
+    Gcc(&'a CCompiler<Gcc>),
+    Clang(&'a CCompiler<Clang>),
+    Diab(&'a CCompiler<Diab>),
+    Msvc(&'a CCompiler<Msvc>),
+    TaskingVX(&'a CCompiler<TaskingVX>),
+}
+
+/// The compiler of a request by its family, lent.
+#[derive(Clone, Copy)]
+pub enum Named<'a> {
+    C(AnyC<'a>),
+    Rustc(&'a Rust),
 }
 
 impl Compiler {
+    /// The compiler by its family.
+    pub fn named(&self) -> Named<'_>
+        ensures { named_in result ≡ named_by self.now }
+    {
+        match self {
+            Compiler::Gcc(found) => Named::C(AnyC::Gcc(found)),
+            Compiler::Clang(found) => Named::C(AnyC::Clang(found)),
+            Compiler::Diab(found) => Named::C(AnyC::Diab(found)),
+            Compiler::Msvc(found) => Named::C(AnyC::Msvc(found)),
+            Compiler::TaskingVX(found) => Named::C(AnyC::TaskingVX(found)),
+            Compiler::Rust(rust) => Named::Rustc(rust),
+        }
+    }
+}
+
+impl<'c> AnyC<'c> {
     pub fn executable(&self) -> &OsBytes
         ensures { result.now ≡ executable_of self.now }
     {
         match self {
-            Compiler::Gcc(found) => &found.executable,
-            Compiler::Clang(found) => &found.executable,
-            Compiler::Diab(found) => &found.executable,
-            Compiler::Msvc(found) => &found.executable,
-            Compiler::TaskingVX(found) => &found.executable,
+            AnyC::Gcc(found) => &found.executable,
+            AnyC::Clang(found) => &found.executable,
+            AnyC::Diab(found) => &found.executable,
+            AnyC::Msvc(found) => &found.executable,
+            AnyC::TaskingVX(found) => &found.executable,
         }
     }
 
@@ -49,16 +84,16 @@ impl Compiler {
         ensures { result.now ≡ digest_of self.now }
     {
         match self {
-            Compiler::Gcc(found) => found.executable_digest.as_str(),
-            Compiler::Clang(found) => found.executable_digest.as_str(),
-            Compiler::Diab(found) => found.executable_digest.as_str(),
-            Compiler::Msvc(found) => found.executable_digest.as_str(),
-            Compiler::TaskingVX(found) => found.executable_digest.as_str(),
+            AnyC::Gcc(found) => found.executable_digest.as_str(),
+            AnyC::Clang(found) => found.executable_digest.as_str(),
+            AnyC::Diab(found) => found.executable_digest.as_str(),
+            AnyC::Msvc(found) => found.executable_digest.as_str(),
+            AnyC::TaskingVX(found) => found.executable_digest.as_str(),
         }
     }
 
     /// What makes the keys of requests to it that ask for this. It takes no memory.
-    pub fn hasher<'a>(&'a self, parsed: &'a ParsedArguments) -> CCompilerHasher<'a, Compiler>
+    pub fn hasher<'a>(&'a self, parsed: &'a ParsedArguments) -> CCompilerHasher<'a, AnyC<'c>>
         ensures compiler { result.compiler.now ≡ self.now }
         ensures executable { result.executable.now ≡ executable_of self.now }
         ensures digest { result.executable_digest.now ≡ digest_of self.now }
@@ -73,48 +108,48 @@ impl Compiler {
     }
 }
 
-impl CCompilerImpl for Compiler {
+impl<'c> CCompilerImpl for AnyC<'c> {
     ghost kind_of = { kind_of };
 
     ghost traits = { traits_of };
 
     fn kind(&self) -> CCompilerKind {
         match self {
-            Compiler::Gcc(found) => found.compiler.kind(),
-            Compiler::Clang(found) => found.compiler.kind(),
-            Compiler::Diab(found) => found.compiler.kind(),
-            Compiler::Msvc(found) => found.compiler.kind(),
-            Compiler::TaskingVX(found) => found.compiler.kind(),
+            AnyC::Gcc(found) => found.compiler.kind(),
+            AnyC::Clang(found) => found.compiler.kind(),
+            AnyC::Diab(found) => found.compiler.kind(),
+            AnyC::Msvc(found) => found.compiler.kind(),
+            AnyC::TaskingVX(found) => found.compiler.kind(),
         }
     }
 
     fn plusplus(&self) -> bool {
         match self {
-            Compiler::Gcc(found) => found.compiler.plusplus(),
-            Compiler::Clang(found) => found.compiler.plusplus(),
-            Compiler::Diab(found) => found.compiler.plusplus(),
-            Compiler::Msvc(found) => found.compiler.plusplus(),
-            Compiler::TaskingVX(found) => found.compiler.plusplus(),
+            AnyC::Gcc(found) => found.compiler.plusplus(),
+            AnyC::Clang(found) => found.compiler.plusplus(),
+            AnyC::Diab(found) => found.compiler.plusplus(),
+            AnyC::Msvc(found) => found.compiler.plusplus(),
+            AnyC::TaskingVX(found) => found.compiler.plusplus(),
         }
     }
 
     fn version(&self) -> Option<&str> {
         match self {
-            Compiler::Gcc(found) => found.compiler.version(),
-            Compiler::Clang(found) => found.compiler.version(),
-            Compiler::Diab(found) => found.compiler.version(),
-            Compiler::Msvc(found) => found.compiler.version(),
-            Compiler::TaskingVX(found) => found.compiler.version(),
+            AnyC::Gcc(found) => found.compiler.version(),
+            AnyC::Clang(found) => found.compiler.version(),
+            AnyC::Diab(found) => found.compiler.version(),
+            AnyC::Msvc(found) => found.compiler.version(),
+            AnyC::TaskingVX(found) => found.compiler.version(),
         }
     }
 
     fn assembler_digest(&self) -> Option<&str> {
         match self {
-            Compiler::Gcc(found) => found.compiler.assembler_digest(),
-            Compiler::Clang(found) => found.compiler.assembler_digest(),
-            Compiler::Diab(found) => found.compiler.assembler_digest(),
-            Compiler::Msvc(found) => found.compiler.assembler_digest(),
-            Compiler::TaskingVX(found) => found.compiler.assembler_digest(),
+            AnyC::Gcc(found) => found.compiler.assembler_digest(),
+            AnyC::Clang(found) => found.compiler.assembler_digest(),
+            AnyC::Diab(found) => found.compiler.assembler_digest(),
+            AnyC::Msvc(found) => found.compiler.assembler_digest(),
+            AnyC::TaskingVX(found) => found.compiler.assembler_digest(),
         }
     }
 
@@ -126,11 +161,11 @@ impl CCompilerImpl for Compiler {
         files: &mut F,
     ) -> Result<CompilerArguments<ParsedArguments>, ParseFault> {
         match self {
-            Compiler::Gcc(found) => found.compiler.parse_arguments(alloc, words, dir, files),
-            Compiler::Clang(found) => found.compiler.parse_arguments(alloc, words, dir, files),
-            Compiler::Diab(found) => found.compiler.parse_arguments(alloc, words, dir, files),
-            Compiler::Msvc(found) => found.compiler.parse_arguments(alloc, words, dir, files),
-            Compiler::TaskingVX(found) => found.compiler.parse_arguments(alloc, words, dir, files),
+            AnyC::Gcc(found) => found.compiler.parse_arguments(alloc, words, dir, files),
+            AnyC::Clang(found) => found.compiler.parse_arguments(alloc, words, dir, files),
+            AnyC::Diab(found) => found.compiler.parse_arguments(alloc, words, dir, files),
+            AnyC::Msvc(found) => found.compiler.parse_arguments(alloc, words, dir, files),
+            AnyC::TaskingVX(found) => found.compiler.parse_arguments(alloc, words, dir, files),
         }
     }
 
@@ -140,11 +175,11 @@ impl CCompilerImpl for Compiler {
         parsed: &ParsedArguments,
     ) -> Result<Listed<OsBytes>, AllocError> {
         match self {
-            Compiler::Gcc(found) => found.compiler.preprocess_words(alloc, parsed),
-            Compiler::Clang(found) => found.compiler.preprocess_words(alloc, parsed),
-            Compiler::Diab(found) => found.compiler.preprocess_words(alloc, parsed),
-            Compiler::Msvc(found) => found.compiler.preprocess_words(alloc, parsed),
-            Compiler::TaskingVX(found) => found.compiler.preprocess_words(alloc, parsed),
+            AnyC::Gcc(found) => found.compiler.preprocess_words(alloc, parsed),
+            AnyC::Clang(found) => found.compiler.preprocess_words(alloc, parsed),
+            AnyC::Diab(found) => found.compiler.preprocess_words(alloc, parsed),
+            AnyC::Msvc(found) => found.compiler.preprocess_words(alloc, parsed),
+            AnyC::TaskingVX(found) => found.compiler.preprocess_words(alloc, parsed),
         }
     }
 
@@ -157,27 +192,27 @@ impl CCompilerImpl for Compiler {
         env: &[(OsBytes, OsBytes)],
     ) -> Result<(SingleCompileCommand, Cacheable), CommandError> {
         match self {
-            Compiler::Gcc(found) => {
+            AnyC::Gcc(found) => {
                 found
                     .compiler
                     .generate_compile_commands(alloc, executable, parsed, dir, env)
             }
-            Compiler::Clang(found) => {
+            AnyC::Clang(found) => {
                 found
                     .compiler
                     .generate_compile_commands(alloc, executable, parsed, dir, env)
             }
-            Compiler::Diab(found) => {
+            AnyC::Diab(found) => {
                 found
                     .compiler
                     .generate_compile_commands(alloc, executable, parsed, dir, env)
             }
-            Compiler::Msvc(found) => {
+            AnyC::Msvc(found) => {
                 found
                     .compiler
                     .generate_compile_commands(alloc, executable, parsed, dir, env)
             }
-            Compiler::TaskingVX(found) => {
+            AnyC::TaskingVX(found) => {
                 found
                     .compiler
                     .generate_compile_commands(alloc, executable, parsed, dir, env)

@@ -18,6 +18,10 @@ pub enum Reason {
     OpensFile,
     /// A hashed word holds the byte 255, which ends a word where it is hashed.
     Byte255,
+    /// A word, the directory, or a variable of a request to rustc isn't UTF-8.
+    NotUtf8,
+    /// A request to rustc uses a profile, whose contents no key holds.
+    ProfileData,
 }
 
 impl fmt::Display for Reason {
@@ -29,6 +33,8 @@ impl fmt::Display for Reason {
             Reason::EmptyValue => write!(f, "empty value"),
             Reason::OpensFile => write!(f, "opens file"),
             Reason::Byte255 => write!(f, "byte 255"),
+            Reason::NotUtf8 => write!(f, "not utf-8"),
+            Reason::ProfileData => write!(f, "profile data"),
         }
     }
 }

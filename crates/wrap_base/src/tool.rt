@@ -1,16 +1,18 @@
-//! Tools: a compiler beside its preprocessor.
+//! Tools: a compiler of either family, beside what it answers before a key is there.
 
 ghost use Rattle.std.specs.Prelude.{◌≡◌, ◌⊎◌, IfOk, IsErrOf};
 ghost use Rattle.os_files.specs.Bytes.{ticked};
-ghost use Rattle.ckeys.specs.Meaning.{scene_of, made_of, names_of, asked_of};
+ghost use Rattle.ckeys.specs.Meaning.{scene_of, made_of, names_of};
+ghost use Rattle.wrap_base.specs.AskedBy.{asked_by};
 
-use ckeys::preprocessor::{Preprocessor, ToolFail};
+use ckeys::preprocessor::ToolFail;
 use ckeys::step::Step;
 use cmdlines_base::command::{ArtifactDescriptor, SingleCompileCommand};
 use cmdlines_tables::compiler::CCompilerKind;
 use os_files::files::Files;
 use os_files::listed::Listed;
 use os_files::os_bytes::OsBytes;
+use rustkeys::answers::RustcAnswers;
 use std::alloc::Global;
 
 /// What a compiler made, and its status.
@@ -21,13 +23,14 @@ pub struct Compiled {
     pub files: Listed<Option<OsBytes>>,
 }
 
-/// A compiler and its preprocessor, whose answers are those of one function.
-pub trait Tool: Preprocessor {
-    /// Runs the command and gives the outputs that it made.
+/// A compiler with its preprocessor and what rustc answers, whose answers are those of one function.
+pub trait Tool: RustcAnswers {
+    /// Runs the command and gives the outputs that it made: one to the C compiler of that kind, or to rustc where there is
+    /// none.
     fn compile<F: Files>(
         &mut self,
         alloc: Global,
-        kind: CCompilerKind,
+        kind: Option<CCompilerKind>,
         command: &SingleCompileCommand,
         outputs: &[(OsBytes, ArtifactDescriptor)],
         files: &mut F,
@@ -35,7 +38,7 @@ pub trait Tool: Preprocessor {
     ) -> Result<Compiled, ToolFail>
         ensures answer { IfOk result
             (λ made. made_of made.status made.files
-            ≡ Self.meaning self.old Step.Compile (asked_of kind command.now.arguments)
+            ≡ Self.meaning self.old Step.Compile (asked_by kind command.now.arguments)
             (names_of outputs.now) (scene_of command.now (F.tree files.old) moment)) }
         ensures meaning { Self.meaning self.new ≡ Self.meaning self.old }
         ensures tree { F.tree files.new ≡ F.tree files.old }

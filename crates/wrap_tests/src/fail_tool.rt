@@ -10,6 +10,7 @@ use cmdlines_base::command::{ArtifactDescriptor, SingleCompileCommand};
 use cmdlines_tables::compiler::CCompilerKind;
 use os_files::files::Files;
 use os_files::os_bytes::OsBytes;
+use rustkeys::answers::RustcAnswers;
 use std::alloc::Global;
 use wrap_base::tool::{Compiled, Tool};
 
@@ -116,11 +117,43 @@ impl<T: Preprocessor> Preprocessor for FailTool<T> {
     }
 }
 
+impl<T: RustcAnswers> RustcAnswers for FailTool<T> {
+    fn dep_info<F: Files>(
+        &mut self,
+        alloc: Global,
+        command: &SingleCompileCommand,
+        files: &mut F,
+    ) -> Result<Printed, ToolFail> {
+        self.count(Step::DepInfo)?;
+        self.tool.dep_info(alloc, command, files)
+    }
+
+    fn file_names<F: Files>(
+        &mut self,
+        alloc: Global,
+        command: &SingleCompileCommand,
+        files: &mut F,
+    ) -> Result<Printed, ToolFail> {
+        self.count(Step::FileNames)?;
+        self.tool.file_names(alloc, command, files)
+    }
+
+    fn archive_digest<F: Files>(
+        &mut self,
+        alloc: Global,
+        path: &OsBytes,
+        files: &mut F,
+    ) -> Result<OsBytes, ToolFail> {
+        self.count(Step::ArchiveDigest)?;
+        self.tool.archive_digest(alloc, path, files)
+    }
+}
+
 impl<T: Tool> Tool for FailTool<T> {
     fn compile<F: Files>(
         &mut self,
         alloc: Global,
-        kind: CCompilerKind,
+        kind: Option<CCompilerKind>,
         command: &SingleCompileCommand,
         outputs: &[(OsBytes, ArtifactDescriptor)],
         files: &mut F,

@@ -8,6 +8,7 @@ use cmdlines_tables::compiler::CCompilerKind;
 use os_files::files::Files;
 use os_files::listed::Listed;
 use os_files::os_bytes::OsBytes;
+use rustkeys::answers::RustcAnswers;
 use std::alloc::{AllocError, Global};
 use wrap_base::tool::{Compiled, Tool};
 
@@ -61,11 +62,46 @@ impl Preprocessor for IdleTool {
     }
 }
 
+impl RustcAnswers for IdleTool {
+    fn dep_info<F: Files>(
+        &mut self,
+        alloc: Global,
+        _command: &SingleCompileCommand,
+        _files: &mut F,
+    ) -> Result<Printed, ToolFail> {
+        self.preprocessed = self.preprocessed.wrapping_add(1);
+        let status = 0;
+        let text = OsBytes::empty(alloc);
+        Ok(Printed { status, text })
+    }
+
+    fn file_names<F: Files>(
+        &mut self,
+        alloc: Global,
+        _command: &SingleCompileCommand,
+        _files: &mut F,
+    ) -> Result<Printed, ToolFail> {
+        self.preprocessed = self.preprocessed.wrapping_add(1);
+        let status = 0;
+        let text = OsBytes::empty(alloc);
+        Ok(Printed { status, text })
+    }
+
+    fn archive_digest<F: Files>(
+        &mut self,
+        alloc: Global,
+        _path: &OsBytes,
+        _files: &mut F,
+    ) -> Result<OsBytes, ToolFail> {
+        Ok(OsBytes::empty(alloc))
+    }
+}
+
 impl Tool for IdleTool {
     fn compile<F: Files>(
         &mut self,
         alloc: Global,
-        _kind: CCompilerKind,
+        _kind: Option<CCompilerKind>,
         _command: &SingleCompileCommand,
         _outputs: &[(OsBytes, ArtifactDescriptor)],
         _files: &mut F,

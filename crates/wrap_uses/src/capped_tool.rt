@@ -2,9 +2,11 @@
 
 ghost use Rattle.std.specs.Prelude.{◌≡◌, ◌⊎◌, IfOk, IsErrOf};
 ghost use Rattle.wrap.specs.Bytes.{ticked};
-ghost use Rattle.wrap.specs.Meaning.{made_of, names_of, scene_of, asked_of};
+ghost use Rattle.wrap.specs.Meaning.{made_of, names_of, scene_of};
+ghost use Rattle.wrap_base.specs.AskedBy.{asked_by};
 ghost use Rattle.wrap_uses.specs.Caps.{TakesOne};
 
+use rustkeys::answers::RustcAnswers;
 use std::alloc::Global;
 use wrap::{
     ArtifactDescriptor, CCompilerKind, Compiled, Files, OsBytes, Preprocessor, Printed,
@@ -79,11 +81,58 @@ impl<T: Tool> Preprocessor for CappedTool<T> {
     }
 }
 
+impl<T: Tool> RustcAnswers for CappedTool<T> {
+    fn dep_info<F: Files>(
+        &mut self,
+        alloc: Global,
+        command: &SingleCompileCommand,
+        files: &mut F,
+    ) -> Result<Printed, ToolFail> {
+        match self.inner.dep_info(alloc, command, files) {
+            Err(ToolFail::Device) => {
+                self.failed = self.failed.wrapping_add(1);
+                Err(ToolFail::Device)
+            }
+            told => told,
+        }
+    }
+
+    fn file_names<F: Files>(
+        &mut self,
+        alloc: Global,
+        command: &SingleCompileCommand,
+        files: &mut F,
+    ) -> Result<Printed, ToolFail> {
+        match self.inner.file_names(alloc, command, files) {
+            Err(ToolFail::Device) => {
+                self.failed = self.failed.wrapping_add(1);
+                Err(ToolFail::Device)
+            }
+            told => told,
+        }
+    }
+
+    fn archive_digest<F: Files>(
+        &mut self,
+        alloc: Global,
+        path: &OsBytes,
+        files: &mut F,
+    ) -> Result<OsBytes, ToolFail> {
+        match self.inner.archive_digest(alloc, path, files) {
+            Err(ToolFail::Device) => {
+                self.failed = self.failed.wrapping_add(1);
+                Err(ToolFail::Device)
+            }
+            digest => digest,
+        }
+    }
+}
+
 impl<T: Tool> Tool for CappedTool<T> {
     fn compile<F: Files>(
         &mut self,
         alloc: Global,
-        kind: CCompilerKind,
+        kind: Option<CCompilerKind>,
         command: &SingleCompileCommand,
         outputs: &[(OsBytes, ArtifactDescriptor)],
         files: &mut F,
@@ -91,7 +140,7 @@ impl<T: Tool> Tool for CappedTool<T> {
     ) -> Result<Compiled, ToolFail>
         ensures answer { IfOk result
             (λ made. made_of made.status made.files
-            ≡ T.meaning self.old.inner Step.Compile (asked_of kind command.now.arguments)
+            ≡ T.meaning self.old.inner Step.Compile (asked_by kind command.now.arguments)
             (names_of outputs.now) (scene_of command.now (F.tree files.old) moment)) }
         ensures meaning { T.meaning self.new.inner ≡ T.meaning self.old.inner }
         ensures tree { F.tree files.new ≡ F.tree files.old }

@@ -14,6 +14,9 @@ fn reasons_are_printed(rt: HostRuntime) -> Result<(), Fail> {
         )?,
         format!(in alloc; "{}", Reason::EmptyValue)?,
         format!(in alloc; "{}", Reason::OpensFile)?,
+        format!(in alloc; "{}", Reason::Byte255)?,
+        format!(in alloc; "{}", Reason::NotUtf8)?,
+        format!(in alloc; "{}", Reason::ProfileData)?,
     ];
     let expected = [
         "not a compilation",
@@ -21,6 +24,9 @@ fn reasons_are_printed(rt: HostRuntime) -> Result<(), Fail> {
         "multiple input files: prev = a, next = b",
         "empty value",
         "opens file",
+        "byte 255",
+        "not utf-8",
+        "profile data",
     ];
     for (line, text) in lines.iter().zip(expected) {
         assert_eq!(rt; line.as_str(), text);

@@ -1,4 +1,4 @@
-use Rattle.wrap_base.proofs.compiler.CompilerCCompilerImpl.generate_compile_commands.Goals as goal
+use Rattle.wrap_base.proofs.compiler.AnyCCCompilerImpl.generate_compile_commands.Goals as goal
 
 pub returns-in-Gcc-clause-again : goal.returns-in-Gcc-clause-again
 returns-in-Gcc-clause-again c = rw c.in-Gcc.is c.generate_compile_commands.ensures.again

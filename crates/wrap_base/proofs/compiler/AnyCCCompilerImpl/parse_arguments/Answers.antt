@@ -1,4 +1,4 @@
-use Rattle.wrap_base.proofs.compiler.CompilerCCompilerImpl.parse_arguments.Goals as goal
+use Rattle.wrap_base.proofs.compiler.AnyCCCompilerImpl.parse_arguments.Goals as goal
 
 pub returns-in-Gcc-clause-decision : goal.returns-in-Gcc-clause-decision
 returns-in-Gcc-clause-decision g c = rw c.in-Gcc.is c.parse_arguments.ensures.decision
