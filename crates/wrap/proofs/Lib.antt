@@ -1,11 +1,5 @@
-pub mod StepLemmas
-pub mod KeyLemmas
-pub mod TurnLemmas
 pub mod CallSteps
 pub mod RunSteps
-pub mod RustLemmas
-pub mod Utf8Lemmas
-pub mod JudgeLemmas
-pub mod GatherLemmas
+pub mod RustSteps
 pub mod ExampleLemmas
 pub mod DirectExampleLemmas

@@ -15,7 +15,7 @@ use Rattle.ckeys.specs.Calls.{KeyCall, PrintedCall, printed_call, extra_paths, f
 use Rattle.ckeys.specs.Entries.{AreTrue, EntryInvariant, EntryPremises, Held, IsHashedAmong, asking, has_entry_key, is_told}
 use Rattle.ckeys.specs.EntryTurns.{EntryTurn}
 use Rattle.ckeys.specs.Folders.{Settings}
-use Rattle.wrap.specs.CallRecords.{key_of}
+use Rattle.wrap_turns.specs.CallRecords.{key_of}
 use Rattle.ckeys.specs.Meaning.{Meaning, names_of}
 use Rattle.entry_keys.specs.declared.entry_key.EntryKey.{EntryKey}
 use Rattle.include_records.specs.Records.{Record}
@@ -23,15 +23,15 @@ use Rattle.ckeys.specs.declared.fault.Fault.TheVariants.{PreprocessFailed, Read}
 use Rattle.ckeys.specs.declared.fault.Fault.{Fault}
 use Rattle.rustc_compiler.specs.Compiler.{Rustc}
 use Rattle.wrap_base.specs.Commands.{CFound, NamedBy, by_c, by_rustc, named_by, words_at}
-use Rattle.wrap.specs.RustVerdicts as rust
-use Rattle.wrap.specs.RustVerdicts.{RustDecision, rust_verdict_of}
-use Rattle.wrap.specs.Verdicts.{Decision, Why, asks, passes, verdict_of}
+use Rattle.wrap_turns.specs.RustVerdicts as rust
+use Rattle.wrap_turns.specs.RustVerdicts.{RustDecision, rust_verdict_of}
+use Rattle.wrap_turns.specs.Verdicts.{Decision, Why, asks, passes, verdict_of}
 use Rattle.wrap_base.specs.declared.request.Request.{Request}
-use Rattle.wrap.specs.Account.{Account, passed, worked, Work, Pairs, account_at, account_by, account_named, asked_by, call_at, rust_account_by, work_at, collected, all, direct_calls, direct_of, placed, why_passed}
-use Rattle.wrap.specs.Answers.{Answers, SaysPassed}
-use Rattle.wrap.specs.Asking.{EntriesBy, EntriesTurn, IsOfCall, IsOfOneCall, RecordsAreTrue, Shelves}
-use Rattle.wrap.specs.StoreKeys.{store_key_of, IsHashedDirect, IsHashedIn, Premises, Invariant}
-use Rattle.wrap.specs.Turn.{StoreTurn}
+use Rattle.wrap_turns.specs.Account.{Account, passed, worked, Work, Pairs, account_at, account_by, account_named, asked_by, call_at, rust_account_by, work_at, collected, all, direct_calls, direct_of, placed, why_passed}
+use Rattle.wrap_turns.specs.Answers.{Answers, SaysPassed}
+use Rattle.wrap_turns.specs.Asking.{EntriesBy, EntriesTurn, IsOfCall, IsOfOneCall, RecordsAreTrue, Shelves}
+use Rattle.wrap_turns.specs.StoreKeys.{store_key_of, IsHashedDirect, IsHashedIn, Premises, Invariant}
+use Rattle.wrap_turns.specs.Turn.{StoreTurn}
 use Rattle.wrap.specs.Whole.{Ticks, CallTurn, BothRun, SessionRun, Served, Loses, Run, accounts_of, AllAnswer, IsFresh, HaveOneRecord, OneFresh, outputs_in, Agree, SameOutputs, served, Each, FilesView, ToolView, begin_of, end_of, served_at, accounts_at}
 use Rattle.wrap_base.specs.declared.answer.Answer.{Answer}
 use Rattle.wrap_base.specs.declared.answer.Answer.TheVariants.{Pass, Outputs}

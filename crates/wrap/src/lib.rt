@@ -1,18 +1,8 @@
 //! The session that answers requests, and with it all that a caller of it names.
 #![tactic(auto)]
 
-mod c_calls;
-mod compile;
-mod finish;
-mod keys;
 pub mod laws;
-mod outputs;
-pub mod prepared;
-mod rust_calls;
-pub mod rust_verdict;
 pub mod session;
-mod stored;
-pub mod verdict;
 
 pub use bounded_store::lru_store::LruStore;
 pub use ckeys::compiler::CCompiler;

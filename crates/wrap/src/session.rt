@@ -5,17 +5,15 @@ ghost use Rattle.os_files.specs.Fails.{FailsOn};
 ghost use Rattle.ckeys_base.specs.Shelf.{Clears, IsEmpty};
 ghost use Rattle.ckeys.specs.Entries.{EntryInvariant, EntryPremises};
 ghost use Rattle.ckeys.specs.Meaning.{AreSteady, FailsIn};
-ghost use Rattle.wrap.specs.Account.{Account, account_at, direct_calls};
-ghost use Rattle.wrap.specs.Answers.{Answers, GoesOn, OnPass, Says, SaysBy, settled, settled_by};
-ghost use Rattle.wrap.specs.Asking.{AskedTurn, EntriesTurn, RecordsAreTrue, shelves_of};
-ghost use Rattle.wrap.specs.StoreKeys.{Invariant, Premises};
-ghost use Rattle.wrap.specs.Turn.{StoreTurn};
+ghost use Rattle.wrap_turns.specs.Account.{Account, account_at, direct_calls};
+ghost use Rattle.wrap_turns.specs.Answers.{Answers, GoesOn, OnPass, Says, SaysBy, settled, settled_by};
+ghost use Rattle.wrap_turns.specs.Asking.{AskedTurn, EntriesTurn, RecordsAreTrue, shelves_of};
+ghost use Rattle.wrap_turns.specs.StoreKeys.{Invariant, Premises};
+ghost use Rattle.wrap_turns.specs.Turn.{StoreTurn};
 ghost use Rattle.wrap.specs.Whole.{AllAnswer, Each, IsAnswered, OneFresh, Run, SessionRun, accounts_at, files_view, served_at, tool_view};
 ghost use Rattle.wrap.specs.Sessions.{held_by};
 
-use crate::c_calls::c_turn;
 use crate::laws::call_keys_tell_records;
-use crate::rust_calls::rust_turn;
 use ckeys::config::KeyConfig;
 use ckeys::fault::Fault;
 use ckeys::laws::records_are_true;
@@ -31,6 +29,8 @@ use wrap_base::compiler::Named;
 use wrap_base::request::Request;
 use wrap_base::store_key::{Pairs, StoreKey};
 use wrap_base::tool::Tool;
+use wrap_turns::c_calls::c_turn;
+use wrap_turns::rust_calls::rust_turn;
 
 /// Answers requests under one configuration, from a store of include records and one of what was compiled, by one hash
 /// function. Contracts see what the configuration fixes, and the stores.

@@ -1,0 +1,67 @@
+-- Calls to rustc, which ask for no include records.
+use Rattle.std.proofs.Common.{◌≡◌, ℕ, [], None, Some, true, false, Result, Ok, Err, IsErrAnd, inr, refl, sym, ap, ◌∙◌}
+use Rattle.std.proofs.lemmas.Result.{err_from_is_err_and}
+use Rattle.os_files.specs.Bytes.{Bytes, ticked}
+use Rattle.os_files.specs.Tree.{Tree}
+use Rattle.ckeys_base.specs.Shelf.{Shelf}
+use Rattle.ckeys.specs.Calls.{PrintedCall}
+use Rattle.ckeys.specs.EntryTurns.{KeyRecorded}
+use Rattle.ckeys.specs.Meaning.{Meaning, names_of, scene_of}
+use Rattle.ckeys.specs.declared.fault.Fault.{Fault}
+use Rattle.ckeys.specs.declared.step.Step.{Step}
+use Rattle.ckeys.specs.declared.step.Step.TheVariants.{Compile}
+use Rattle.entry_keys.specs.declared.entry_key.EntryKey.{EntryKey}
+use Rattle.include_records.specs.Records.{Record}
+use Rattle.rustc_compiler.specs.Compiler.{Rustc}
+use Rattle.rustkeys_base.specs.Asks.{RustAsks}
+use Rattle.rustkeys.specs.Runs.{AtMostTwice}
+use Rattle.wrap_turns.specs.Account.{Account, Pairs, Work, rust_account_by, rust_call_at, rust_work_at, worked}
+use Rattle.wrap_turns.specs.Answers.{GoesOn, Says, SaysBy}
+use Rattle.wrap_turns.specs.Asking.{AskedTurn, EntriesTurn, HowFrom, IsAskedTwice, OnOutputs, RunsOf, shelves_of}
+use Rattle.wrap_turns.specs.CallRecords.{key_of}
+use Rattle.wrap_turns.specs.Prepared.{IsPrepared}
+use Rattle.wrap_turns.specs.RustPrepared.{IsRustPrepared, rust_command_of}
+use Rattle.wrap_turns.specs.RustVerdicts.{RustDecision, asks, passes}
+use Rattle.wrap_turns.specs.StoreKeys.{store_key_of, store_key_with}
+use Rattle.wrap_turns.specs.declared.prepared.Prepared.{Prepared}
+use Rattle.wrap_turns.specs.declared.rust_calls.RustPrepared.{RustPrepared}
+use Rattle.wrap_turns.specs.Turn.{StoreTurn}
+use Rattle.wrap_base.specs.AskedBy.{asked_by}
+use Rattle.wrap_base.specs.declared.answer.Answer.{Answer}
+use Rattle.wrap_base.specs.declared.answer.Answer.TheVariants.{Outputs, Pass}
+use Rattle.wrap_base.specs.declared.request.Request.{Request}
+use Rattle.wrap_base.specs.declared.store_key.StoreKey.{StoreKey}
+
+module _ (digest_of : Bytes → Bytes) (meaning : Meaning) (tree : Tree) (rust : Rustc) (request : Request) where
+  abbrev account : RustDecision → Account
+  account d = rust_account_by meaning tree rust request d
+
+  -- to go on is to have no fault
+  pub rust_says : (d : RustDecision) (on_file : Bytes → Type 0) (device_in : Step → Type 0) (result : Result Answer Fault) → Says (account d) on_file device_in result → SaysBy GoesOn (account d) on_file device_in result
+  rust_says (passes why) on_file device_in result says = says
+  rust_says (asks asked) on_file device_in result says = says
+
+  -- the include records stay as they are
+  pub rust_quiet : (d : RustDecision) (s : Shelf EntryKey Record) (before after : ℕ) → EntriesTurn digest_of (account d) s s before after
+  rust_quiet (passes why) s before after = refl
+  rust_quiet (asks asked) s before after = refl
+
+  -- outputs mean that there is no fault
+  fine_by : (w : Work) (on_file : Bytes → Type 0) (device_in : Step → Type 0) (result : Result Answer Fault) → Says (worked w) on_file device_in result → OnOutputs (worked w) result (λ v. false ≡ false → v.fault ≡ None)
+  fine_by w on_file device_in (Ok (Pass reason)) says = tt
+  fine_by w on_file device_in (Ok (Outputs map how dep_info)) says = λ h. says.1
+  fine_by w on_file device_in (Err fault) says = tt
+
+  recorded_by : (w : Work) (entries : Shelf EntryKey Record) (text_key : Bytes) → w.direct ≡ None → (result : Result Answer Fault) → OnOutputs (worked w) result (λ v. (p : PrintedCall) → v.direct ≡ Some p → KeyRecorded digest_of p entries entries false text_key)
+  recorded_by w entries text_key none (Ok (Pass reason)) = tt
+  recorded_by w entries text_key none (Ok (Outputs map how dep_info)) = λ p h. cc
+  recorded_by w entries text_key none (Err fault) = tt
+
+  -- the object store is asked under the call's own key
+  pub rust_asked : (d : RustDecision) (entries : Shelf EntryKey Record) (old new : Shelf StoreKey Pairs) (printed printed_new compiled compiled_new : ℕ) (on_file : Bytes → Type 0) (device_in : Step → Type 0) (result : Result Answer Fault)
+      → Says (account d) on_file device_in result → HowFrom false result → RunsOf (account d) false result printed printed_new → StoreTurn digest_of (account d) old new compiled compiled_new result
+      → AskedTurn digest_of (account d) (shelves_of entries old) (shelves_of entries new) printed printed_new compiled compiled_new result
+  rust_asked (passes why) entries old new printed printed_new compiled compiled_new on_file device_in result says how runs turn = record { from = false; text_key = []; is_key = tt; how = how; fine = tt; runs = runs; recorded = tt; objects = turn }
+  rust_asked (asks asked) entries old new printed printed_new compiled compiled_new on_file device_in result says how runs turn =
+      let w = rust_work_at meaning (rust_call_at rust request tree asked) in
+      record { from = false; text_key = key_of digest_of w.rec; is_key = refl; how = how; fine = fine_by w on_file device_in result says; runs = runs; recorded = recorded_by w entries (key_of digest_of w.rec) refl result; objects = turn }

@@ -1,0 +1,64 @@
+-- Calls to rustc, which ask for no include records.
+use Rattle.std.proofs.Common.{◌≡◌, ℕ, [], None, Some, true, false, Result, Ok, Err, IsErrAnd, inr, refl, sym, ap, ◌∙◌}
+use Rattle.std.proofs.lemmas.Result.{err_from_is_err_and}
+use Rattle.os_files.specs.Bytes.{Bytes, ticked}
+use Rattle.os_files.specs.Tree.{Tree}
+use Rattle.ckeys_base.specs.Shelf.{Shelf}
+use Rattle.ckeys.specs.Calls.{PrintedCall}
+use Rattle.ckeys.specs.EntryTurns.{KeyRecorded}
+use Rattle.ckeys.specs.Meaning.{Meaning, names_of, scene_of}
+use Rattle.ckeys.specs.declared.fault.Fault.{Fault}
+use Rattle.ckeys.specs.declared.step.Step.{Step}
+use Rattle.ckeys.specs.declared.step.Step.TheVariants.{Compile}
+use Rattle.entry_keys.specs.declared.entry_key.EntryKey.{EntryKey}
+use Rattle.include_records.specs.Records.{Record}
+use Rattle.rustc_compiler.specs.Compiler.{Rustc}
+use Rattle.rustkeys_base.specs.Asks.{RustAsks}
+use Rattle.rustkeys.specs.Runs.{AtMostTwice}
+use Rattle.wrap_turns.specs.Account.{Account, Pairs, Work, rust_account_by, rust_call_at, rust_work_at, worked}
+use Rattle.wrap_turns.specs.Answers.{GoesOn, Says, SaysBy}
+use Rattle.wrap_turns.specs.Asking.{AskedTurn, EntriesTurn, HowFrom, IsAskedTwice, OnOutputs, RunsOf, shelves_of}
+use Rattle.wrap_turns.specs.CallRecords.{key_of}
+use Rattle.wrap_turns.specs.Prepared.{IsPrepared}
+use Rattle.wrap_turns.specs.RustPrepared.{IsRustPrepared, rust_command_of}
+use Rattle.wrap_turns.specs.RustVerdicts.{RustDecision, asks, passes}
+use Rattle.wrap_turns.specs.StoreKeys.{store_key_of, store_key_with}
+use Rattle.wrap_turns.specs.declared.prepared.Prepared.{Prepared}
+use Rattle.wrap_turns.specs.declared.rust_calls.RustPrepared.{RustPrepared}
+use Rattle.wrap_turns.specs.Turn.{StoreTurn}
+use Rattle.wrap_base.specs.AskedBy.{asked_by}
+use Rattle.wrap_base.specs.declared.answer.Answer.{Answer}
+use Rattle.wrap_base.specs.declared.answer.Answer.TheVariants.{Outputs, Pass}
+use Rattle.wrap_base.specs.declared.request.Request.{Request}
+use Rattle.wrap_base.specs.declared.store_key.StoreKey.{StoreKey}
+
+-- a request with its key is prepared, also where the tool and the files were asked before
+pub is_prepared : (digest_of : Bytes → Bytes) (meaning later : Meaning) (tree tree_later : Tree) (rust : Rustc) (request : Request) (asked : RustAsks) (made : RustPrepared) (p : Prepared)
+    → IsRustPrepared digest_of rust request asked (rust_work_at meaning (rust_call_at rust request tree asked)) made → later ≡ meaning → tree_later ≡ tree
+    → p.key ≡ made.key → p.from_record ≡ false → p.outputs.now ≡ made.compilation.outputs → p.command.now ≡ made.compilation.command → p.kind ≡ None → p.moment ≡ request.moment → p.dep_info ≡ made.dep_info
+    → IsPrepared digest_of later tree_later (rust_work_at meaning (rust_call_at rust request tree asked)) p
+is_prepared digest_of meaning later tree tree_later rust request asked made p h l t key from outputs command kind moment dep_info =
+    let w = rust_work_at meaning (rust_call_at rust request tree asked) in
+    let own : p.key ≡ store_key_of digest_of w = key ∙ h.is_key in
+    let written = outputs ∙ h.outputs in
+    let run : p.command.now ≡ rust_command_of rust request asked = command ∙ h.command in
+    record {
+      is_key = own ∙ ap (store_key_with digest_of w) (sym (ap (λ (k : StoreKey). k.digest) own));
+      told = h.told;
+      makes = record {
+        outputs = written;
+        fresh = λ i. l i Compile (asked_by (kind i) (run i).arguments) (names_of (written i)) (scene_of (run i) (t i) (moment i));
+      };
+      direct = λ e. let no : true ≡ false = sym e ∙ from in cc;
+      dep_info = dep_info ∙ h.dep_info;
+    }
+
+-- how often rustc was asked, once its answers were there
+pub asked_twice : (result : Result Answer Fault) (before after : ℕ) → after ≡ ticked (ticked before) → IsAskedTwice result before after
+asked_twice (Ok answer) before after h = h
+asked_twice (Err fault) before after h = inr (inr h)
+
+-- and before that
+pub asked_until : (result : Result Answer Fault) (fault : Fault) (before after : ℕ) → IsErrAnd result (λ f. f ≡ fault) → AtMostTwice before after → IsAskedTwice result before after
+asked_until (Ok answer) fault before after err h = absurd err
+asked_until (Err f) fault before after err h = h

@@ -1,0 +1,420 @@
+-- How a call ends, by what the look-up and the put said.
+use Rattle.std.proofs.Common.{◌≡◌, ℕ, ℤ, List, [], Bool, true, false, Option, Some, None, IsSome, IsNone, Result, Ok, Err, ◌⊎◌, inl, inr, refl, sym, ap, subst, ◌∙◌, IsErrAnd}
+use Rattle.std.specs.Option.{option_map}
+use Rattle.std.proofs.lemmas.Result.{err_from_is_err_and}
+use Rattle.os_files.specs.Bytes.{Bytes, ticked}
+use Rattle.os_files.specs.Fails.{FailsOn}
+use Rattle.os_files.specs.Tree.{Tree}
+use Rattle.ckeys_base.specs.Shelf.{Shelf, Asks, Puts, Forgotten}
+use Rattle.ckeys.specs.Calls.{KeyCause, PrintedCall, key_fault_by, needs_preprocessing}
+use Rattle.ckeys.specs.Causes.{ByStage, no_file, no_step, stage_of}
+use Rattle.ckeys.specs.Entries.{Held}
+use Rattle.ckeys.specs.EntryTurns.{AtMostOnce, IsSpared, KeyFine, KeyRecorded, KeyRuns, RunsUntil, RunsUntilKey, RunsUntilStep}
+use Rattle.wrap_turns.specs.CallRecords.{CallRecord, IsTold, key_of, of_c, of_rustc}
+use Rattle.ckeys.specs.Meaning.{Meaning, FailsIn}
+use Rattle.entry_keys.specs.declared.entry_key.EntryKey.{EntryKey}
+use Rattle.include_records.specs.Records.{Record}
+use Rattle.ckeys.specs.declared.fault.Fault.{Fault}
+use Rattle.ckeys.specs.declared.fault.Fault.TheVariants.{Memory, Read, Tool, PreprocessFailed, CompileFailed, MissingOutput, NoRule, AnswerNotUtf8, BadDigest}
+use Rattle.ckeys.specs.declared.step.Step.{Step}
+use Rattle.ckeys.specs.declared.step.Step.TheVariants.{Preprocess, Compile, DepInfo, FileNames, ArchiveDigest}
+use Rattle.wrap_turns.specs.Account.{Account, passed, worked, Work, Pairs, IsSuccess, compile_fault_of, direct_of, placed}
+use Rattle.wrap_turns.specs.Answers.{EarlyCause, GoesOn, GoesOnWith, OnPass, Placed, SaysBy, SaysWorkedBy}
+use Rattle.wrap_turns.specs.Asking.{AskedTurn, AskedUnder, EntriesBy, EntriesTurn, HowFrom, RanForKey, RecordsAreTrue, RunsIn, RunsOf, RunsOfRecord, Shelves, WorkKeyFrom}
+use Rattle.wrap_turns.specs.Prepared.{SaysFinished}
+use Rattle.wrap_turns.specs.StoreKeys.{store_key_with}
+use Rattle.wrap_turns.specs.Turn.{KeyedTurn, PutsBy, StoreTurn, own_text_key, StillKept, StoredTurn, MissTurn, Told, ToldBy}
+use Rattle.wrap_turns.specs.Verdicts.{Why}
+use Rattle.wrap_base.specs.declared.reason.Reason.{Reason}
+use Rattle.wrap_base.specs.declared.answer.Answer.{Answer}
+use Rattle.wrap_base.specs.declared.answer.Answer.TheVariants.{Outputs, Pass}
+use Rattle.wrap_base.specs.declared.answer.How.TheVariants.{Fresh}
+use Rattle.wrap_base.specs.declared.answer.Output.{Output}
+use Rattle.wrap_base.specs.declared.store_key.StoreKey.{StoreKey}
+use Rattle.wrap_turns.specs.Steps.{CompileCause, RanOnce, kept_how}
+use Rattle.ckeys.proofs.CauseLemmas.{by_stage, caused_more, file_early}
+
+some_or_none : {A : Type 0} (o : Option A) → IsSome o ⊎ (o ≡ None)
+some_or_none None = inr refl
+some_or_none (Some x) = inl refl
+
+-- what was found is held, on the paths of the request
+some_pairs : (place : Pairs → List Output) (found : List Output) (answer : Option Pairs) → Some found ≡ option_map place answer → (pairs : Pairs) × (answer ≡ Some pairs) × (found ≡ place pairs)
+some_pairs place found None e = cc
+some_pairs place found (Some pairs) e = (pairs, refl, cc)
+
+-- nothing was found, so nothing is held
+pub nothing : (place : Pairs → List Output) (found : Option (List Output)) (answer : Option Pairs) → found ≡ None → found ≡ option_map place answer → answer ≡ None
+nothing place found None none e = refl
+nothing place found (Some pairs) none e = let h : None ≡ Some (place pairs) = sym none ∙ e in cc
+
+not_forgotten : (before answer : Option Pairs) (pairs : Pairs) → answer ≡ Some pairs → Forgotten before answer → ⊥
+not_forgotten before answer pairs e f = let h = rw e at f.1 in cc
+
+some_is_not_none : (o p : Option Pairs) → o ≡ p → IsSome p → IsNone o → ⊥
+some_is_not_none o p e s n = let h = rw e at n in cc
+
+-- a look-up that dropped nothing forgot nothing
+asks_kept : (old asked : Shelf StoreKey Pairs) (key : StoreKey) (answer : Option Pairs) → Asks old asked key answer → asked.kept ≡ true → StillKept old asked
+asks_kept old asked key answer asks h = record { was = (asks.kept.0 h).0; keys = (asks.kept.0 h).1; steady = asks.steady (λ f. some_is_not_none _ _ asks.value ((asks.kept.0 h).1 key f.0) f.1) }
+
+-- a put that lost nothing holds its pair
+put_holds : (eq : StoreKey → StoreKey → Bool) (new : Shelf StoreKey Pairs) (key : StoreKey) (value : Pairs) (asked : Shelf StoreKey Pairs) (put : Result (Unit {0}) (StoreKey × Pairs)) → Puts eq asked new key value put → new.kept ≡ true → new.held key ≡ Some value
+put_holds eq new key value asked (Ok u) puts kept = puts.outcome
+put_holds eq new key value asked (Err pair) puts kept = let refused = (puts.kept.0 kept).2 in cc
+
+module _ (digest_of : Bytes → Bytes) (text_key : Bytes) (w : Work) (key : StoreKey) (is_key : key ≡ store_key_with digest_of w text_key) (old asked : Shelf StoreKey Pairs) (answer : Option Pairs) (asks : Asks old asked key answer) where
+  -- the look-up failed for memory
+  pub turn_ask_failed : (before after : ℕ) → after ≡ before → (result : Result Answer Fault) → IsErrAnd result (λ f. f ≡ Memory) → KeyedTurn digest_of text_key (worked w) old asked before after result
+  turn_ask_failed before after same result err =
+      let p = err_from_is_err_and result err in
+      rw (p.1, p.2) (record {
+        gains = λ k v h. inl (asks.within k v h);
+        faulted = asks.within;
+        unrefused = λ was keys. asks.kept.1 (was, keys);
+        kept = asks_kept old asked key answer asks;
+        cleared = asks.cleared;
+        put = asks.put;
+        told = inl same;
+      })
+
+  -- what the look-up found is answered
+  pub turn_stored : (dep_info : Option Bytes) (from : Bool) → (from ≡ true → IsSome w.direct) → (before after : ℕ) → after ≡ before → IsTold digest_of w.rec → (found : List Output) → Some found ≡ option_map (placed w.outputs) answer → KeyedTurn digest_of text_key (worked w) old asked before after (Ok (Outputs found (kept_how from) dep_info))
+  turn_stored dep_info from direct before after same told found e =
+      let it = some_pairs (placed w.outputs) found answer e in
+      record {
+        gains = λ k v h. inl (asks.within k v h);
+        faulted = tt;
+        unrefused = tt;
+        kept = asks_kept old asked key answer asks;
+        cleared = asks.cleared;
+        put = puts_none from asks.put;
+        told = hit from direct (
+          it.0,
+          it.2,
+          record {
+            held = ap old.held (sym is_key) ∙ asks.within key it.0 (sym asks.value ∙ it.1);
+            steady = asks.steady (not_forgotten (old.held key) answer it.0 it.1);
+            no_compile = same;
+            told = told;
+          },
+        );
+      }
+    where
+      puts_none : (b : Bool) → asked.puts ≡ old.puts → PutsBy (Ok (Outputs found (kept_how b) dep_info)) old asked
+      puts_none true h = h
+      puts_none false h = h
+
+      hit : (b : Bool) → (b ≡ true → IsSome w.direct) → Placed w found (StoredTurn digest_of text_key w old asked before after) → Told digest_of text_key w old asked before after (Ok (Outputs found (kept_how b) dep_info))
+      hit true direct placed = (direct refl, placed)
+      hit false direct placed = placed
+
+  -- nothing was found
+  lacked : answer ≡ None → (new : Shelf StoreKey Pairs) → new.forgets ≡ asked.forgets → (old.held (store_key_with digest_of w text_key) ≡ None) ⊎ (new.forgets ≡ ticked old.forgets)
+  lacked none new same = elim (some_or_none (old.held key)) [
+    | inl some ↦ inr (same ∙ asks.forgot (some, rw none refl))
+    | inr not ↦ inl (ap old.held (sym is_key) ∙ not)
+  ]
+
+  module _ (none : answer ≡ None) (before mid after : ℕ) (steady : mid ≡ before) where
+    miss : (new : Shelf StoreKey Pairs) → new.forgets ≡ asked.forgets → after ≡ ticked mid → MissTurn digest_of text_key w old new before after
+    miss new same ran = record { lacked = lacked none new same; compile = ran ∙ ap ticked steady }
+
+    told_fault : (fault : Fault) → RanOnce {A = Pairs} (Err fault) mid after → Told digest_of text_key w old asked before after (Err fault)
+    told_fault fault ran = by_stage (stage_of fault) (λ o. elim o [
+      | inl same ↦ inl (same ∙ steady)
+      | inr once ↦ inr (miss asked refl once)
+    ]) (λ n. absurd n) (λ once. miss asked refl once) ran
+
+    -- the compile failed
+    pub turn_compile_failed : (fault : Fault) → RanOnce {A = Pairs} (Err fault) mid after → (result : Result Answer Fault) → IsErrAnd result (λ f. f ≡ fault) → KeyedTurn digest_of text_key (worked w) old asked before after result
+    turn_compile_failed fault ran result err =
+        let p = err_from_is_err_and result err in
+        rw (p.1, p.2) (record {
+          gains = λ k v h. inl (asks.within k v h);
+          faulted = asks.within;
+          unrefused = λ was keys. asks.kept.1 (was, keys);
+          kept = asks_kept old asked key answer asks;
+          cleared = asks.cleared;
+          put = asks.put;
+          told = told_fault fault ran;
+        })
+
+    -- the copy failed for memory
+    pub turn_copy_failed : after ≡ ticked mid → (result : Result Answer Fault) → IsErrAnd result (λ f. f ≡ Memory) → KeyedTurn digest_of text_key (worked w) old asked before after result
+    turn_copy_failed ran result err =
+        let p = err_from_is_err_and result err in
+        rw (p.1, p.2) (record {
+          gains = λ k v h. inl (asks.within k v h);
+          faulted = asks.within;
+          unrefused = λ was keys. asks.kept.1 (was, keys);
+          kept = asks_kept old asked key answer asks;
+          cleared = asks.cleared;
+          put = asks.put;
+          told = inr (miss asked refl ran);
+        })
+
+    -- a fresh output is put, and answered
+    pub turn_fresh : (dep_info : Option Bytes) → after ≡ ticked mid → IsTold digest_of w.rec → (eq : StoreKey → StoreKey → Bool) → ((a b : StoreKey) → eq a b ≡ true → a ≡ b)
+        → (new : Shelf StoreKey Pairs) (value : Pairs) (map : List Output) (put : Result (Unit {0}) (StoreKey × Pairs)) → Puts eq asked new key value put → IsSuccess w value → map ≡ placed w.outputs value → KeyedTurn digest_of text_key (worked w) old new before after (Ok (Outputs map Fresh dep_info))
+    turn_fresh dep_info ran told eq equal new value map put puts made same = record {
+      gains = λ k v h. elim (puts.gains k v h) [
+        | inl was ↦ inl (asks.within k v was)
+        | inr own ↦ inr (record { is_key = equal k key own.0 ∙ is_key; made = subst (IsSuccess w) (sym own.1) made; told = told })
+      ];
+      faulted = tt;
+      unrefused = tt;
+      kept = λ h. let p = puts.kept.0 h in let q = asks_kept old asked key answer asks p.0 in record { was = q.was; keys = λ k s. p.1 k (q.keys k s); steady = puts.steady ∙ q.steady };
+      cleared = puts.cleared ∙ asks.cleared;
+      put = puts.put ∙ ap ticked asks.put;
+      told = (
+        value,
+        same,
+        record {
+          miss = miss new puts.steady ran;
+          made = made;
+          holds = λ h. ap new.held (sym is_key) ∙ put_holds eq new key value asked put puts h;
+        },
+      );
+    }
+
+-- a failure after calls that didn't fail
+pub fails_in_later : {T : Type 0} (meaning : T → Meaning) (failed : T → ℕ) (fails_in : T → Step → T → Type 0) (old mid new : T) → meaning mid ≡ meaning old → failed mid ≡ failed old → (step : Step) → FailsIn meaning failed fails_in mid new step → FailsIn meaning failed fails_in old new step
+fails_in_later meaning failed fails_in old mid new m f step h = record { from = h.from; same = h.same ∙ m; steady = h.steady ∙ f; ticks = h.ticks; leads = h.leads }
+
+-- once the store is asked, memory can be refused
+pub memory_finishes : (w : Work) (device_in : Step → Type 0) (result : Result Answer Fault) → IsErrAnd result (λ f. f ≡ Memory) → SaysFinished w device_in result
+memory_finishes w device_in result err = let p = err_from_is_err_and result err in rw (p.1, p.2) tt
+
+-- or the compile fails
+pub fault_finishes : (w : Work) (device_in : Step → Type 0) (fault : Fault) → CompileCause w device_in fault → (result : Result Answer Fault) → IsErrAnd result (λ f. f ≡ fault) → SaysFinished w device_in result
+fault_finishes w device_in fault cause result err = let p = err_from_is_err_and result err in rw (p.1, p.2) cause
+
+-- the request isn't passed through any more
+pub finished_unpassed : (w : Work) (device_in : Step → Type 0) (result : Result Answer Fault) → SaysFinished w device_in result → OnPass result ⊥
+finished_unpassed w device_in (Ok (Pass reason)) says = says
+finished_unpassed w device_in (Ok (Outputs map how dep_info)) says = tt
+finished_unpassed w device_in (Err fault) says = tt
+
+-- what is said then of the whole call
+pub finished_says : (went_on : Type 0) (w : Work) (on_file : Bytes → Type 0) (device_in later_in : Step → Type 0) → ((step : Step) → later_in step → device_in step) → went_on → (result : Result Answer Fault) → SaysFinished w later_in result → SaysWorkedBy went_on w on_file device_in result
+finished_says went_on w on_file device_in later_in more goes (Ok (Pass reason)) says = says
+finished_says went_on w on_file device_in later_in more goes (Ok (Outputs map how dep_info)) says = (says, goes)
+finished_says went_on w on_file device_in later_in more goes (Err fault) says = by_stage (stage_of fault) (λ u. u) (λ n. absurd n) (λ h. (goes, caused_more (compile_fault_of w) (compile_fault_of w) no_file no_file later_in device_in (λ f e. e) (λ name n. n) more fault h)) says
+
+-- a fault that comes before there is a verdict is none of the compile
+early_stage : (on_file : Bytes → Type 0) (fault : Fault) → EarlyCause on_file fault → ByStage (stage_of fault) (Unit {0}) (EarlyCause on_file fault) ⊥
+early_stage on_file fault h = file_early None on_file fault h
+
+-- a fault that comes before there is a verdict
+pub early_says : (went_on : Work → Type 0) (a : Account) (on_file : Bytes → Type 0) (device_in : Step → Type 0) (fault : Fault) → EarlyCause on_file fault → (result : Result Answer Fault) → IsErrAnd result (λ f. f ≡ fault) → SaysBy went_on a on_file device_in result
+early_says went_on a on_file device_in fault cause result err = let p = err_from_is_err_and result err in rw (p.1, p.2) (says a fault cause)
+  where
+    says : (b : Account) (f : Fault) → EarlyCause on_file f → SaysBy went_on b on_file device_in (Err f)
+    says (passed why) f h = h
+    says (worked w) f h = by_stage (stage_of f) (λ u. u) (caused_more None w.fault on_file on_file no_step device_in (λ g e. cc) (λ name d. d) (λ step n. absurd n) f) (λ n. absurd n) (early_stage on_file f h)
+
+pub early_turn : (digest_of : Bytes → Bytes) (text_key : Bytes) (a : Account) (shelf : Shelf StoreKey Pairs) (count : ℕ) (on_file : Bytes → Type 0) (fault : Fault) → EarlyCause on_file fault → (result : Result Answer Fault) → IsErrAnd result (λ f. f ≡ fault) → KeyedTurn digest_of text_key a shelf shelf count count result
+early_turn digest_of text_key a shelf count on_file fault cause result err = let p = err_from_is_err_and result err in rw (p.1, p.2) (record {
+  gains = λ key pairs h. inl h;
+  faulted = λ key pairs h. h;
+  unrefused = λ was keys. was;
+  kept = λ h. record { was = h; keys = λ key s. s; steady = refl };
+  cleared = refl;
+  put = refl;
+  told = told a fault cause;
+})
+  where
+    told : (b : Account) (f : Fault) → EarlyCause on_file f → ToldBy digest_of text_key b shelf shelf count count (Err f)
+    told (passed why) f h = (refl, refl)
+    told (worked w) f h = by_stage (stage_of f) (λ u. inl refl) (λ c. refl) (λ n. absurd n) (early_stage on_file f h)
+
+-- a file's device failed after calls on which it didn't
+pub fails_on_later : {F : Type 0} (tree : F → Tree) (failed : F → ℕ) (fails_on : F → Bytes → F → Type 0) (old mid new : F) → tree mid ≡ tree old → failed mid ≡ failed old → (name : Bytes) → FailsOn tree failed fails_on mid new name → FailsOn tree failed fails_on old new name
+fails_on_later tree failed fails_on old mid new m f name h = record { from = h.from; same = h.same ∙ m; steady = h.steady ∙ f; ticks = h.ticks; leads = h.leads }
+
+-- what is said of files as they were before
+pub says_later : (went_on : Type 0) (w : Work) (one other : Bytes → Type 0) (device_in : Step → Type 0) → ((name : Bytes) → one name → other name) → (result : Result Answer Fault) → SaysWorkedBy went_on w one device_in result → SaysWorkedBy went_on w other device_in result
+says_later went_on w one other device_in more (Ok (Pass reason)) h = h
+says_later went_on w one other device_in more (Ok (Outputs map how dep_info)) h = h
+says_later went_on w one other device_in more (Err fault) h = by_stage (stage_of fault) (λ u. u) (caused_more w.fault w.fault one other device_in device_in (λ f e. e) more (λ step d. d) fault) (λ c. c) h
+
+-- there is no key
+pub key_turn : (digest_of : Bytes → Bytes) (text_key : Bytes) (w : Work) (first : Option Fault) (shelf : Shelf StoreKey Pairs) (before after : ℕ) → after ≡ before → (on_file : Bytes → Type 0) (device_in : Step → Type 0) (fault : Fault) → KeyCause first on_file device_in fault → (result : Result Answer Fault) → IsErrAnd result (λ f. f ≡ fault) → KeyedTurn digest_of text_key (worked w) shelf shelf before after result
+key_turn digest_of text_key w first shelf before after same on_file device_in fault cause result err = let p = err_from_is_err_and result err in rw (p.1, p.2) (record {
+  gains = λ key pairs h. inl h;
+  faulted = λ key pairs h. h;
+  unrefused = λ was keys. was;
+  kept = λ h. record { was = h; keys = λ key s. s; steady = refl };
+  cleared = refl;
+  put = refl;
+  told = told fault cause;
+})
+  where
+    told : (f : Fault) → KeyCause first on_file device_in f → Told digest_of text_key w shelf shelf before after (Err f)
+    told f h = by_stage (stage_of f) (λ u. inl same) (λ c. same) (λ n. absurd n) h
+
+pub key_says : (went_on : Type 0) (w : Work) (on_file : Bytes → Type 0) (device_in : Step → Type 0) (fault : Fault) → KeyCause w.fault on_file device_in fault → (result : Result Answer Fault) → IsErrAnd result (λ f. f ≡ fault) → SaysWorkedBy went_on w on_file device_in result
+key_says went_on w on_file device_in fault cause result err = let p = err_from_is_err_and result err in rw (p.1, p.2) (by_stage (stage_of fault) (λ u. u) (λ c. c) (λ n. absurd n) cause)
+
+module _ (digest_of : Bytes → Bytes) (w : Work) (p : PrintedCall) (fault_is : w.fault ≡ key_fault_by p) (held : Held) (from : Bool) (text_key : Bytes) (is_key : WorkKeyFrom digest_of w held from text_key) (fine : KeyFine p from) where
+  -- a call that has its key goes on
+  pub goes_on : GoesOn w
+  goes_on = by from is_key fine
+    where
+      none_goes : (o : Option PrintedCall) (f : Option Fault) → f ≡ None → GoesOnWith o f
+      none_goes None f h = h
+      none_goes (Some q) f h = rw h tt
+
+      by : (b : Bool) → WorkKeyFrom digest_of w held b text_key → KeyFine p b → GoesOn w
+      by true k h = rw k.has (subst IsSpared (sym fault_is) h)
+      by false k h = none_goes w.direct w.fault (fault_is ∙ h)
+
+  -- and has no fault, where the records are true of it
+  pub own_goes_on : RecordsAreTrue digest_of (worked w) held → w.fault ≡ None
+  own_goes_on are_true = by from is_key fine
+    where
+      spared : (f : Option Fault) → IsSpared f → ((status : ℤ) → f ≡ Some (PreprocessFailed status) → ⊥) → f ≡ None
+      spared None s n = refl
+      spared (Some Memory) s n = absurd s
+      spared (Some (Read path)) s n = absurd s
+      spared (Some (Tool step)) s n = absurd s
+      spared (Some (PreprocessFailed status)) s n = absurd (n status refl)
+      spared (Some (CompileFailed status)) s n = absurd s
+      spared (Some (MissingOutput name)) s n = absurd s
+      spared (Some NoRule) s n = absurd s
+      spared (Some (AnswerNotUtf8 step)) s n = absurd s
+      spared (Some (BadDigest path)) s n = absurd s
+
+      by : (b : Bool) → WorkKeyFrom digest_of w held b text_key → KeyFine p b → w.fault ≡ None
+      by true k h = spared w.fault (subst IsSpared (sym fault_is) h) (are_true text_key k).succeeds
+      by false k h = fault_is ∙ h
+
+-- a key's run of the preprocessor is one at most
+pub runs_most : (from : Bool) (before after : ℕ) → KeyRuns from before after → AtMostOnce before after
+runs_most true before after h = inl h
+runs_most false before after h = inr h
+
+-- before a fault of the key
+pub key_until : (from : Bool) (before after : ℕ) (fault : Fault) → RunsUntilKey before after fault → RunsUntil fault (KeyRuns from before after) before after
+key_until from before after Memory h = h
+key_until from before after (Read name) h = h
+key_until from before after (Tool Preprocess) h = h
+key_until from before after (Tool Compile) h = absurd h
+key_until from before after (Tool DepInfo) h = absurd h
+key_until from before after (Tool FileNames) h = absurd h
+key_until from before after (Tool ArchiveDigest) h = absurd h
+key_until from before after (PreprocessFailed status) h = h
+key_until from before after (CompileFailed status) h = absurd h
+key_until from before after (MissingOutput name) h = absurd h
+key_until from before after NoRule h = absurd h
+key_until from before after (AnswerNotUtf8 step) h = until_step step h
+  where
+    until_step : (s : Step) → RunsUntilStep (Some s) ⊥ before after → RunsUntilStep (Some s) (KeyRuns from before after) before after
+    until_step Preprocess h = h
+    until_step Compile h = absurd h
+    until_step DepInfo h = absurd h
+    until_step FileNames h = absurd h
+    until_step ArchiveDigest h = absurd h
+key_until from before after (BadDigest path) h = absurd h
+
+-- before a fault of the compile
+pub compile_until : (w : Work) (device_in : Step → Type 0) (from : Bool) (before after : ℕ) (fault : Fault) → CompileCause w device_in fault → KeyRuns from before after → RunsUntil fault (KeyRuns from before after) before after
+compile_until w device_in from before after Memory cause h = runs_most from before after h
+compile_until w device_in from before after (Read name) cause h = absurd cause
+compile_until w device_in from before after (Tool Preprocess) cause h = absurd cause
+compile_until w device_in from before after (Tool Compile) cause h = h
+compile_until w device_in from before after (Tool DepInfo) cause h = absurd cause
+compile_until w device_in from before after (Tool FileNames) cause h = absurd cause
+compile_until w device_in from before after (Tool ArchiveDigest) cause h = absurd cause
+compile_until w device_in from before after (PreprocessFailed status) cause h = absurd cause
+compile_until w device_in from before after (CompileFailed status) cause h = h
+compile_until w device_in from before after (MissingOutput name) cause h = h
+compile_until w device_in from before after NoRule cause h = absurd cause
+compile_until w device_in from before after (AnswerNotUtf8 step) cause h = absurd cause
+compile_until w device_in from before after (BadDigest path) cause h = absurd cause
+
+-- nothing ran
+none_ran : (r : CallRecord) (n : ℕ) (fault : Fault) → (RunsIn false (Err fault) n n) → RunsOfRecord r false (Err fault) n n
+none_ran (of_c r) n fault idle = (λ h. refl, λ h. idle)
+none_ran (of_rustc r) n fault idle = inl refl
+
+-- before there is a verdict
+pub early_runs : (a : Account) (on_file : Bytes → Type 0) (n : ℕ) (fault : Fault) → EarlyCause on_file fault → RunsOf a false (Err fault) n n
+early_runs (passed why) on_file n fault cause = refl
+early_runs (worked w) on_file n Memory cause = none_ran w.rec n Memory (inl refl)
+early_runs (worked w) on_file n (Read name) cause = none_ran w.rec n (Read name) (inl refl)
+early_runs (worked w) on_file n (Tool step) cause = absurd cause
+early_runs (worked w) on_file n (PreprocessFailed status) cause = cc
+early_runs (worked w) on_file n (CompileFailed status) cause = cc
+early_runs (worked w) on_file n (MissingOutput name) cause = cc
+early_runs (worked w) on_file n NoRule cause = cc
+early_runs (worked w) on_file n (AnswerNotUtf8 step) cause = cc
+early_runs (worked w) on_file n (BadDigest path) cause = cc
+
+pub early_ran : (a : Account) (on_file : Bytes → Type 0) (n : ℕ) (fault : Fault) → EarlyCause on_file fault → (result : Result Answer Fault) → IsErrAnd result (λ f. f ≡ fault) → RunsOf a false result n n
+early_ran a on_file n fault cause result err = let p = err_from_is_err_and result err in rw (p.1, p.2) (early_runs a on_file n fault cause)
+
+-- a call that ends with a fault
+pub asked_fault : (digest_of : Bytes → Bytes) (a : Account) (old new : Shelves) (printed printed_new compiled compiled_new : ℕ) (result : Result Answer Fault) (fault : Fault) → IsErrAnd result (λ f. f ≡ fault) → (from : Bool) (text_key : Bytes) → AskedUnder digest_of a old.entries.held from text_key → RunsOf a from (Err fault) printed printed_new → KeyedTurn digest_of text_key a old.objects new.objects compiled compiled_new result → AskedTurn digest_of a old new printed printed_new compiled compiled_new result
+asked_fault digest_of a old new printed printed_new compiled compiled_new (Ok answer) fault err from text_key is_key runs turn = absurd err
+asked_fault digest_of (passed why) old new printed printed_new compiled compiled_new (Err f) fault err from text_key is_key runs turn = record { from = from; text_key = text_key; is_key = is_key; how = tt; fine = tt; runs = runs; recorded = tt; objects = turn }
+asked_fault digest_of (worked w) old new printed printed_new compiled compiled_new (Err f) fault err from text_key is_key runs turn = record { from = from; text_key = text_key; is_key = is_key; how = tt; fine = tt; runs = subst (λ (e : Fault). RunsOf (worked w) from (Err e) printed printed_new) (sym err) runs; recorded = tt; objects = turn }
+
+-- a hit
+pub how_kept : (from : Bool) (map : List Output) (dep_info : Option Bytes) → HowFrom from (Ok (Outputs map (kept_how from) dep_info))
+how_kept true map dep_info = refl
+how_kept false map dep_info = refl
+
+pub how_of_fault : (from : Bool) (fault : Fault) (result : Result Answer Fault) → IsErrAnd result (λ f. f ≡ fault) → HowFrom from result
+how_of_fault from fault result err = let p = err_from_is_err_and result err in rw p.1 tt
+
+pub has_direct : (digest_of : Bytes → Bytes) (w : Work) (held : Held) (from : Bool) (text_key : Bytes) → WorkKeyFrom digest_of w held from text_key → from ≡ true → IsSome w.direct
+has_direct digest_of w held true text_key k h = rw k.has refl
+has_direct digest_of w held false text_key k h = cc
+
+-- so often it ran where outputs are answered, and where the compile has a fault
+ran_with : (r : CallRecord) (answer : Answer) (from : Bool) (before after : ℕ) → RanForKey r from before after → RunsOfRecord r from (Ok answer) before after
+ran_with (of_c r) answer from before after ran = ran
+ran_with (of_rustc r) answer from before after ran = ran
+
+ran_until : (r : CallRecord) (from : Bool) (before after : ℕ) (fault : Fault) → (KeyRuns from before after → RunsUntil fault (KeyRuns from before after) before after) → RanForKey r from before after → RunsOfRecord r from (Err fault) before after
+ran_until (of_c r) from before after fault until ran = (ran.0, λ h. until (ran.1 h))
+ran_until (of_rustc r) from before after fault until ran = inr (inr ran)
+
+module _ (digest_of : Bytes → Bytes) (w : Work) (old new : Shelves) (printed printed_new compiled compiled_new : ℕ) (from : Bool) (text_key : Bytes) (is_key : WorkKeyFrom digest_of w old.entries.held from text_key)
+    (fine : from ≡ false → w.fault ≡ None) (runs : RanForKey w.rec from printed printed_new) (recorded : (p : PrintedCall) → w.direct ≡ Some p → KeyRecorded digest_of p old.entries new.entries from text_key) where
+  -- however the request is finished
+  pub asked_finished : (device_in : Step → Type 0) (result : Result Answer Fault) → SaysFinished w device_in result → HowFrom from result → KeyedTurn digest_of text_key (worked w) old.objects new.objects compiled compiled_new result → AskedTurn digest_of (worked w) old new printed printed_new compiled compiled_new result
+  asked_finished device_in (Ok (Pass reason)) says how turn = absurd says
+  asked_finished device_in (Ok (Outputs map kept dep_info)) says how turn = record { from = from; text_key = text_key; is_key = is_key; how = how; fine = fine; runs = ran_with w.rec _ from _ _ runs; recorded = recorded; objects = turn }
+  asked_finished device_in (Err fault) says how turn = record { from = from; text_key = text_key; is_key = is_key; how = tt; fine = tt; runs = ran_until w.rec from _ _ fault (compile_until w device_in from _ _ fault says) runs; recorded = tt; objects = turn }
+
+-- its own key, where there is no other
+pub own_asked : (digest_of : Bytes → Bytes) (a : Account) (held : Held) → AskedUnder digest_of a held false (own_text_key digest_of a)
+own_asked digest_of (passed why) held = tt
+own_asked digest_of (worked w) held = refl
+
+-- a call that asks no store
+pub quiet_entries : (digest_of : Bytes → Bytes) (a : Account) (s : Shelf EntryKey Record) (n : ℕ) → EntriesTurn digest_of a s s n n
+quiet_entries digest_of a s n = by (direct_of a)
+  where
+    by : (o : Option PrintedCall) → EntriesBy digest_of o s s n n
+    by None = refl
+    by (Some p) = record { gains = λ k e h. inl h; kept = λ h. record { was = h; keys = λ k i. i; steady = refl }; cleared = refl; put = inl refl; asked = λ k m. inl refl; idle = λ h. refl }
+
+pub passed_asked : (digest_of : Bytes → Bytes) (why : Why) (a : Account) (old : Shelves) (printed compiled : ℕ) (reason : Reason) → passed why ≡ a → AskedTurn digest_of a old old printed printed compiled compiled (Ok (Pass reason))
+passed_asked digest_of why a old printed compiled reason is = subst (λ (b : Account). AskedTurn digest_of b old old printed printed compiled compiled (Ok (Pass reason))) is (record {
+  from = false;
+  text_key = [];
+  is_key = tt;
+  how = tt;
+  fine = tt;
+  runs = refl;
+  recorded = tt;
+  objects = record { gains = λ k v h. inl h; faulted = tt; unrefused = tt; kept = λ h. record { was = h; keys = λ k s. s; steady = refl }; cleared = refl; put = refl; told = (refl, refl) };
+})
+
+pub text_fine : (w : Work) (p : PrintedCall) → w.fault ≡ key_fault_by p → (from : Bool) → KeyFine p from → from ≡ false → w.fault ≡ None
+text_fine w p fault_is true fine h = cc
+text_fine w p fault_is false fine h = fault_is ∙ fine

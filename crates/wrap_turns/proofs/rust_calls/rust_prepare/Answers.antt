@@ -1,0 +1,67 @@
+use Rattle.std.specs.declared.alloc.Global.{Global}
+use Rattle.std.specs.declared.vec.Vec.{Vec}
+use Rattle.std.proofs.Common.{◌≡◌, ℕ, None, ap, subst, ◌∙◌}
+use Rattle.os_files.specs.Fails.{FailsOn}
+use Rattle.cmdlines.specs.Commands.{command_at}
+use Rattle.ckeys.specs.Calls.{KeyCause}
+use Rattle.ckeys.specs.Meaning.{FailsIn, Variables, names_of, scene_with}
+use Rattle.rustc_texts.specs.Words.{compile_words}
+use Rattle.rustkeys_base.specs.Asks.{asks_in}
+use Rattle.rustkeys.specs.Calls.{RustCall, key_fault_of, record_of}
+use Rattle.rustkeys.specs.Fresh.{call_outputs, dep_info_text_of}
+use Rattle.rustkeys.specs.Hashers.{known_of}
+use Rattle.rustkeys.specs.Questions.{compile_env_of}
+use Rattle.rustkeys.specs.Records.{IsTold, key_of, record_shape}
+use Rattle.wrap_base.specs.declared.store_key.Family.TheVariants.{Rustc}
+use Rattle.wrap_base.specs.declared.store_key.Shape.TheVariants as shapes
+use Rattle.ckeys.specs.declared.fault.Fault.TheVariants.{Memory}
+use Rattle.wrap_turns.specs.Account.{rust_call_at}
+use Rattle.wrap_turns.proofs.KeyLemmas.{on_exit}
+use Rattle.wrap_turns.proofs.rust_calls.rust_prepare.Goals as goal
+
+pub returns-in_err-compilation-clause-cause : goal.returns-in_err-compilation-clause-cause
+returns-in_err-compilation-clause-cause g c =
+    let meaning = g.T.Preprocessor.meaning c.args.tool.now in
+    let tree = g.F.Files.tree c.args.files.now in
+    let rust = c.args.rust.now in
+    let request = c.args.request.now in
+    let under : Variables → RustCall = λ env. record { known = known_of rust; question = record { asks = asks_in c.args.parsed.now; scene = scene_with rust.executable request.dir env tree request.moment } } in
+    let fault = c.in_err-compilation.field-0.0 in
+    let on_file = FailsOn g.F.Files.tree g.F.Files.failed g.F.Files.fails_on c.args.files.now c.generate_hash_key.new.files in
+    let device_in = FailsIn g.T.Preprocessor.meaning g.T.Preprocessor.failed g.T.Preprocessor.fails_in c.args.tool.now c.generate_hash_key.new.answers in
+    on_exit (KeyCause (key_fault_of meaning (under request.env)) on_file device_in) c.from_residual.result fault c.from_residual.ensures.1
+    (subst (λ (env : Variables). KeyCause (key_fault_of meaning (under env)) on_file device_in fault) c.as_slice-env.ensures (c.in_err-compilation.ensures.cause request.moment))
+
+pub returns-in_err-names-clause-cause : goal.returns-in_err-names-clause-cause
+returns-in_err-names-clause-cause g c =
+    let meaning = g.T.Preprocessor.meaning c.args.tool.now in
+    let tree = g.F.Files.tree c.args.files.now in
+    let own = rust_call_at c.args.rust.now c.args.request.now tree (asks_in c.args.parsed.now) in
+    let on_file = FailsOn g.F.Files.tree g.F.Files.failed g.F.Files.fails_on c.args.files.now c.generate_hash_key.new.files in
+    let device_in = FailsIn g.T.Preprocessor.meaning g.T.Preprocessor.failed g.T.Preprocessor.fails_in c.args.tool.now c.generate_hash_key.new.answers in
+    on_exit (KeyCause (key_fault_of meaning own) on_file device_in) c.from_residual-in_err-names.result Memory c.from_residual-in_err-names.ensures.1 tt
+
+pub returns-clause-prepared : goal.returns-clause-prepared
+returns-clause-prepared g c =
+    let digest_of = g.H.HashState.digest_of in
+    let meaning = g.T.Preprocessor.meaning c.args.tool.now in
+    let tree = g.F.Files.tree c.args.files.now in
+    let rust = c.args.rust.now in
+    let request = c.args.request.now in
+    let asked = asks_in c.args.parsed.now in
+    let under : Variables → RustCall = λ env. record { known = known_of rust; question = record { asks = asked; scene = scene_with rust.executable request.dir env tree request.moment } } in
+    let call : under c.as_slice-env.result.now ≡ under request.env = ap under c.as_slice-env.ensures in
+    let made = c.in_ok-compilation.ensures in
+    let outputs = made.outputs request.moment ∙ ap (call_outputs meaning) call in
+    let shape = made.shape request.moment ∙ ap (λ (k : RustCall). record_shape digest_of (record_of meaning k)) call in
+    let names = c.in_ok-names.ensures ∙ ap names_of (c.outputs.ensures ∙ outputs) in
+    let text = c.from_vec.ensures ∙ ap (λ (v : Vec ℕ Global). v.items) c.into_bytes.ensures.value in
+    let digest = text ∙ made.key request.moment ∙ ap (λ (k : RustCall). key_of digest_of (record_of meaning k)) call in
+    record {
+      is_key = λ i. record { family = Rustc; shape = shapes.Rustc (shape i); names = names i; digest = digest i };
+      told = subst (λ (k : RustCall). IsTold digest_of (record_of meaning k)) call (made.told request.moment);
+      fine = subst (λ (k : RustCall). key_fault_of meaning k ≡ None) call (made.fine request.moment);
+      outputs = outputs;
+      command = made.command ∙ ap (λ (env : Variables). command_at rust.executable (compile_words asked) (compile_env_of env) request.dir) c.as_slice-env.ensures;
+      dep_info = made.dep_info request.moment ∙ ap (dep_info_text_of meaning) call;
+    }

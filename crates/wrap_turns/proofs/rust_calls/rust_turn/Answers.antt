@@ -1,0 +1,69 @@
+use Rattle.std.proofs.Common.{◌≡◌, ℕ, None, false, subst}
+use Rattle.os_files.specs.Bytes.{Bytes}
+use Rattle.os_files.specs.Fails.{FailsOn}
+use Rattle.os_files.specs.Tree.{Tree}
+use Rattle.ckeys.specs.Meaning.{FailsIn}
+use Rattle.rustkeys_base.specs.Asks.{asks_in}
+use Rattle.wrap_turns.specs.Account.{Account, Work, rust_account_by, rust_call_at, rust_work_at, worked}
+use Rattle.wrap_turns.specs.Answers.{Says, SaysWorked}
+use Rattle.wrap_turns.specs.Asking.{RunsOf}
+use Rattle.wrap_turns.specs.CallRecords.{key_of}
+use Rattle.wrap_turns.specs.RustVerdicts.{RustDecision, asks, rust_verdict_of}
+use Rattle.wrap_turns.specs.Turn.{KeyedTurn, StoreTurn, own_text_key}
+use Rattle.wrap_turns.proofs.TurnLemmas.{early_ran, early_says, early_turn, fails_on_later, how_of_fault, says_later}
+use Rattle.wrap_turns.proofs.rust_calls.rust_turn.Goals as goal
+
+pub returns-in_err-reason-clause-says : goal.returns-in_err-reason-clause-says
+returns-in_err-reason-clause-says g c = early_says (λ w. w.fault ≡ None) _ _ _ c.in_err-reason.field-0.0 c.in_err-reason.ensures.cause _ c.from_residual.ensures.1
+
+pub returns-in_err-reason-clause-store : goal.returns-in_err-reason-clause-store
+returns-in_err-reason-clause-store g c =
+    let digest_of = g.H.HashState.digest_of in
+    let a = rust_account_by (g.T.Preprocessor.meaning c.args.tool.now) (g.F.Files.tree c.args.files.now) c.args.rust.now c.args.request.now (rust_verdict_of c.args.request.now (g.F.Files.tree c.args.files.now)) in
+    early_turn digest_of (own_text_key digest_of a) a _ _ _ c.in_err-reason.field-0.0 c.in_err-reason.ensures.cause _ c.from_residual.ensures.1
+
+pub returns-in_err-reason-clause-how : goal.returns-in_err-reason-clause-how
+returns-in_err-reason-clause-how g c = how_of_fault false c.in_err-reason.field-0.0 _ c.from_residual.ensures.1
+
+pub returns-in_err-reason-clause-runs : goal.returns-in_err-reason-clause-runs
+returns-in_err-reason-clause-runs g c = early_ran _ _ _ c.in_err-reason.field-0.0 c.in_err-reason.ensures.cause _ c.from_residual.ensures.1
+
+pub returns-in-Asks-clause-says : goal.returns-in-Asks-clause-says
+returns-in-Asks-clause-says g c =
+    let tree = g.F.Files.tree in
+    let meaning = g.T.Preprocessor.meaning in
+    let request = c.args.request.now in
+    let result = c.rust_answer.result in
+    let on_old = FailsOn tree g.F.Files.failed g.F.Files.fails_on c.args.files.now c.rust_answer.new.files in
+    let on_mid = FailsOn tree g.F.Files.failed g.F.Files.fails_on c.judge_rust.new.files c.rust_answer.new.files in
+    let device = FailsIn meaning g.T.Preprocessor.failed g.T.Preprocessor.fails_in c.args.tool.now c.rust_answer.new.tool in
+    let work_on : Tree → Work = λ files. rust_work_at (meaning c.args.tool.now) (rust_call_at c.args.rust.now request files (asks_in c.in-Asks.parsed)) in
+    let before : (name : Bytes) → on_mid name → on_old name = fails_on_later tree g.F.Files.failed g.F.Files.fails_on c.args.files.now c.judge_rust.new.files c.rust_answer.new.files c.in_ok-reason.ensures.tree c.in_ok-reason.ensures.steady in
+    let decided : asks (asks_in c.in-Asks.parsed) ≡ rust_verdict_of request (tree c.args.files.now) = rw c.in-Asks.is at c.in_ok-reason.ensures.verdict in
+    let account : RustDecision → Account = rust_account_by (meaning c.args.tool.now) (tree c.args.files.now) c.args.rust.now request in
+    let early = work_on (tree c.judge_rust.new.files) in
+    let later : SaysWorked early on_old device result = says_later (early.fault ≡ None) early on_mid on_old device before result c.rust_answer.ensures.says in
+    let moved : Says (account (asks (asks_in c.in-Asks.parsed))) on_old device result = subst (λ (t : Tree). SaysWorked (work_on t) on_old device result) c.in_ok-reason.ensures.tree later in
+    subst (λ (d : RustDecision). Says (account d) on_old device result) decided moved
+
+pub returns-in-Asks-clause-store : goal.returns-in-Asks-clause-store
+returns-in-Asks-clause-store g c =
+    let digest_of = g.H.HashState.digest_of in
+    let tree = g.F.Files.tree in
+    let meaning = g.T.Preprocessor.meaning in
+    let request = c.args.request.now in
+    let work_on : Tree → Work = λ files. rust_work_at (meaning c.args.tool.now) (rust_call_at c.args.rust.now request files (asks_in c.in-Asks.parsed)) in
+    let decided : asks (asks_in c.in-Asks.parsed) ≡ rust_verdict_of request (tree c.args.files.now) = rw c.in-Asks.is at c.in_ok-reason.ensures.verdict in
+    let account : RustDecision → Account = rust_account_by (meaning c.args.tool.now) (tree c.args.files.now) c.args.rust.now request in
+    let turned : Account → Type 0 = λ a. StoreTurn digest_of a (g.O.Store.shelf c.args.objects.now) (g.O.Store.shelf c.rust_answer.new.objects) (g.T.Preprocessor.compiled c.args.tool.now) (g.T.Preprocessor.compiled c.rust_answer.new.tool) c.rust_answer.result in
+    let moved : turned (account (asks (asks_in c.in-Asks.parsed))) = subst (λ (t : Tree). turned (worked (work_on t))) c.in_ok-reason.ensures.tree c.rust_answer.ensures.store in
+    subst (λ (d : RustDecision). turned (account d)) decided moved
+
+pub returns-in-Asks-clause-runs : goal.returns-in-Asks-clause-runs
+returns-in-Asks-clause-runs g c =
+    let tree = g.F.Files.tree in
+    let meaning = g.T.Preprocessor.meaning in
+    let request = c.args.request.now in
+    let decided : asks (asks_in c.in-Asks.parsed) ≡ rust_verdict_of request (tree c.args.files.now) = rw c.in-Asks.is at c.in_ok-reason.ensures.verdict in
+    let account : RustDecision → Account = rust_account_by (meaning c.args.tool.now) (tree c.args.files.now) c.args.rust.now request in
+    subst (λ (d : RustDecision). RunsOf (account d) false c.rust_answer.result (g.T.Preprocessor.preprocessed c.args.tool.now) (g.T.Preprocessor.preprocessed c.rust_answer.new.tool)) decided c.rust_answer.ensures.runs

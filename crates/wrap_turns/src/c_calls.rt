@@ -1,0 +1,132 @@
+//! Requests to a C compiler: the verdict on one, its key, and what it is answered.
+
+ghost use Rattle.std.specs.Prelude.{◌≡◌, OnOk, IsErrOf};
+ghost use Rattle.os_files.specs.Fails.{FailsOn};
+ghost use Rattle.ckeys.specs.Meaning.{AreSteady, FailsIn};
+ghost use Rattle.wrap_turns.specs.Account.{account_named, call_at, work_at, worked};
+ghost use Rattle.wrap_turns.specs.Answers.{GoesOn, OnPass, Says, SaysBy, SaysWorked, SaysWorkedBy};
+ghost use Rattle.wrap_turns.specs.Asking.{AskedTurn, EntriesTurn, RecordsAreTrue, shelves_of};
+ghost use Rattle.wrap_turns.specs.Plans.{IsPlanOf};
+ghost use Rattle.wrap_base.specs.Commands.{by_c, found_of};
+
+use crate::finish::finish;
+use crate::prepared::prepare;
+use crate::verdict::{Plan, Verdict, judge};
+use ckeys::config::KeyConfig;
+use ckeys::fault::Fault;
+use ckeys::{EntryKey, PreprocessorCacheEntry};
+use ckeys_base::hash_state::HashState;
+use ckeys_base::store::Store;
+use os_files::files::Files;
+use std::alloc::Global;
+use wrap_base::answer::Answer;
+use wrap_base::compiler::AnyC;
+use wrap_base::request::Request;
+use wrap_base::store_key::{Pairs, StoreKey};
+use wrap_base::tool::Tool;
+
+/// Answers a request to this C compiler that isn't passed through: what the store holds under its key, or what one compile makes, which
+/// is kept then.
+fn answer<
+    H: HashState,
+    E: Store<EntryKey, PreprocessorCacheEntry>,
+    O: Store<StoreKey, Pairs>,
+    F: Files,
+    T: Tool,
+>(
+    alloc: Global,
+    config: &KeyConfig,
+    entries: &mut E,
+    objects: &mut O,
+    compiler: AnyC<'_>,
+    request: &Request,
+    plan: &Plan,
+    files: &mut F,
+    tool: &mut T,
+) -> Result<Answer, Fault>
+    requires plan { IsPlanOf (found_of compiler) request.now plan.now }
+    ensures says { let w = work_at (T.meaning tool.old)
+        (call_at (found_of compiler.entry) request.now (F.tree files.old) config.now plan.now.parsed) in
+        SaysWorkedBy (GoesOn w) w (FailsOn F.tree F.failed F.fails_on files.old files.new)
+        (FailsIn T.meaning T.failed T.fails_in tool.old tool.new) result }
+    ensures goes_on { let w = work_at (T.meaning tool.old)
+        (call_at (found_of compiler.entry) request.now (F.tree files.old) config.now plan.now.parsed) in
+        RecordsAreTrue H.digest_of (worked w) (E.shelf entries.old).held
+        → SaysWorked w (FailsOn F.tree F.failed F.fails_on files.old files.new)
+        (FailsIn T.meaning T.failed T.fails_in tool.old tool.new) result }
+    ensures asked { let w = work_at (T.meaning tool.old)
+        (call_at (found_of compiler.entry) request.now (F.tree files.old) config.now plan.now.parsed) in
+        AskedTurn H.digest_of (worked w) (shelves_of (E.shelf entries.old) (O.shelf objects.old))
+        (shelves_of (E.shelf entries.new) (O.shelf objects.new)) (T.preprocessed tool.old)
+        (T.preprocessed tool.new) (T.compiled tool.old) (T.compiled tool.new) result }
+    ensures entries { let w = work_at (T.meaning tool.old)
+        (call_at (found_of compiler.entry) request.now (F.tree files.old) config.now plan.now.parsed) in
+        EntriesTurn H.digest_of (worked w) (E.shelf entries.old) (E.shelf entries.new)
+        (T.preprocessed tool.old) (T.preprocessed tool.new) }
+    ensures unpassed { OnPass result ⊥ }
+    ensures meaning { T.meaning tool.new ≡ T.meaning tool.old }
+    ensures tree { F.tree files.new ≡ F.tree files.old }
+    ensures steady { OnOk result
+        (AreSteady T.failed F.failed tool.old files.old tool.new files.new) }
+    ensures memory { IsErrOf result Fault.Memory →
+        AreSteady T.failed F.failed tool.old files.old tool.new files.new }
+{
+    let prepared = prepare::<H, E, F, T>(
+        alloc, compiler, request, plan, config, entries, files, tool,
+    )?;
+    finish(alloc, objects, prepared, files, tool)
+}
+
+/// Answers a request to this C compiler: it is passed through, or it gets what the store holds under its key or what one compile
+/// makes, or there is a fault.
+pub fn c_turn<
+    H: HashState,
+    E: Store<EntryKey, PreprocessorCacheEntry>,
+    O: Store<StoreKey, Pairs>,
+    F: Files,
+    T: Tool,
+>(
+    alloc: Global,
+    config: &KeyConfig,
+    entries: &mut E,
+    objects: &mut O,
+    compiler: AnyC<'_>,
+    request: &Request,
+    files: &mut F,
+    tool: &mut T,
+) -> Result<Answer, Fault>
+    ensures says { let a = account_named (T.meaning tool.old) (F.tree files.old) config.now
+        request.now (by_c (found_of compiler.entry)) in
+        SaysBy GoesOn a (FailsOn F.tree F.failed F.fails_on files.old files.new)
+        (FailsIn T.meaning T.failed T.fails_in tool.old tool.new) result }
+    ensures goes_on { let a = account_named (T.meaning tool.old) (F.tree files.old) config.now
+        request.now (by_c (found_of compiler.entry)) in
+        RecordsAreTrue H.digest_of a (E.shelf entries.old).held
+        → Says a (FailsOn F.tree F.failed F.fails_on files.old files.new)
+        (FailsIn T.meaning T.failed T.fails_in tool.old tool.new) result }
+    ensures quiet { OnPass result
+        ((T.preprocessed tool.new ≡ T.preprocessed tool.old)
+        × (T.compiled tool.new ≡ T.compiled tool.old) × (T.failed tool.new ≡ T.failed tool.old)) }
+    ensures asked { let a = account_named (T.meaning tool.old) (F.tree files.old) config.now
+        request.now (by_c (found_of compiler.entry)) in
+        AskedTurn H.digest_of a (shelves_of (E.shelf entries.old) (O.shelf objects.old))
+        (shelves_of (E.shelf entries.new) (O.shelf objects.new)) (T.preprocessed tool.old)
+        (T.preprocessed tool.new) (T.compiled tool.old) (T.compiled tool.new) result }
+    ensures entries { let a = account_named (T.meaning tool.old) (F.tree files.old) config.now
+        request.now (by_c (found_of compiler.entry)) in
+        EntriesTurn H.digest_of a (E.shelf entries.old) (E.shelf entries.new)
+        (T.preprocessed tool.old) (T.preprocessed tool.new) }
+    ensures meaning { T.meaning tool.new ≡ T.meaning tool.old }
+    ensures tree { F.tree files.new ≡ F.tree files.old }
+    ensures steady { OnOk result
+        (AreSteady T.failed F.failed tool.old files.old tool.new files.new) }
+    ensures memory { IsErrOf result Fault.Memory →
+        AreSteady T.failed F.failed tool.old files.old tool.new files.new }
+{
+    match judge(alloc, compiler, request, files)? {
+        Verdict::Passes(reason) => Ok(Answer::Pass(reason)),
+        Verdict::Asks(plan) => answer::<H, E, O, F, T>(
+            alloc, config, entries, objects, compiler, request, &plan, files, tool,
+        ),
+    }
+}

@@ -1,0 +1,57 @@
+//! The compile of a call.
+
+ghost use Rattle.std.specs.Prelude.{◌≡◌, IfOk, IfErr, OnOk, IsErrOf};
+ghost use Rattle.ckeys.specs.Meaning.{AreSteady, FailsIn};
+ghost use Rattle.wrap_turns.specs.Account.{Work, IsSuccess};
+ghost use Rattle.wrap_turns.specs.Prepared.{Makes};
+ghost use Rattle.wrap_turns.specs.Steps.{CompileCause, RanOnce};
+
+use crate::outputs::collected;
+use ckeys::fault::Fault;
+use ckeys::preprocessor::ToolFail;
+use ckeys::step::Step;
+use cmdlines_base::command::{ArtifactDescriptor, SingleCompileCommand};
+use cmdlines_tables::compiler::CCompilerKind;
+use os_files::files::Files;
+use os_files::os_bytes::OsBytes;
+use std::alloc::Global;
+use wrap_base::store_key::Pairs;
+use wrap_base::tool::Tool;
+
+/// The outputs that the command makes, by name and contents.
+pub fn compiled_pairs<F: Files, T: Tool>(
+    alloc: Global,
+    kind: Option<CCompilerKind>,
+    command: &SingleCompileCommand,
+    outputs: &[(OsBytes, ArtifactDescriptor)],
+    moment: i64,
+    files: &mut F,
+    tool: &mut T,
+) -> Result<Pairs, Fault>
+    ensures made { (w : Work)
+        → Makes (T.meaning tool.old) (F.tree files.old) kind command.now outputs.now moment w
+        → IfOk result (IsSuccess w) }
+    ensures cause { (w : Work)
+        → Makes (T.meaning tool.old) (F.tree files.old) kind command.now outputs.now moment w
+        → IfErr result (CompileCause w (FailsIn T.meaning T.failed T.fails_in tool.old tool.new)) }
+    ensures tree { F.tree files.new ≡ F.tree files.old }
+    ensures steady { OnOk result
+        (AreSteady T.failed F.failed tool.old files.old tool.new files.new) }
+    ensures memory { IsErrOf result Fault.Memory →
+        AreSteady T.failed F.failed tool.old files.old tool.new files.new }
+    ensures meaning { T.meaning tool.new ≡ T.meaning tool.old }
+    ensures preprocesses { T.preprocessed tool.new ≡ T.preprocessed tool.old }
+    ensures runs { RanOnce result (T.compiled tool.old) (T.compiled tool.new) }
+{
+    match tool.compile(alloc, kind, command, outputs, files, moment) {
+        Ok(made) => {
+            if made.status == 0 {
+                collected(alloc, outputs, made.files)
+            } else {
+                Err(Fault::CompileFailed(made.status))
+            }
+        }
+        Err(ToolFail::Memory) => Err(Fault::Memory),
+        Err(ToolFail::Device) => Err(Fault::Tool(Step::Compile)),
+    }
+}

@@ -1,0 +1,87 @@
+//! What is done for a request once all is known of it: the store is asked, and where it hands back nothing the command runs, and what
+//! it made is kept.
+
+ghost use Rattle.std.specs.Prelude.{◌≡◌, OnOk, IsErrOf};
+ghost use Rattle.os_files.specs.Bytes.{Bytes};
+ghost use Rattle.ckeys.specs.Meaning.{AreSteady, FailsIn};
+ghost use Rattle.wrap_turns.specs.Account.{Work, worked};
+ghost use Rattle.wrap_turns.specs.Asking.{HowFrom};
+ghost use Rattle.wrap_turns.specs.Prepared.{IsPrepared, SaysFinished};
+ghost use Rattle.wrap_turns.specs.Steps.{kept_how};
+ghost use Rattle.wrap_turns.specs.Turn.{KeyedTurn};
+
+use crate::compile::compiled_pairs;
+use crate::outputs::placed;
+use crate::prepared::Prepared;
+use crate::stored::{ask, keep};
+use ckeys::fault::Fault;
+use ckeys_base::store::Store;
+use os_files::files::Files;
+use std::alloc::Global;
+use wrap_base::answer::{Answer, How};
+use wrap_base::store_key::{Pairs, StoreKey, keys_are_their_fields};
+use wrap_base::tool::Tool;
+
+/// How a hit is told.
+fn kept_how(from_record: bool) -> How
+    ensures { result ≡ kept_how from_record }
+{
+    if from_record {
+        How::Direct
+    } else {
+        How::Stored
+    }
+}
+
+/// Answers a prepared request: what the store holds under its key, or what one compile makes, which is kept then.
+pub fn finish<O: Store<StoreKey, Pairs>, F: Files, T: Tool>(
+    alloc: Global,
+    objects: &mut O,
+    prepared: Prepared<'_>,
+    files: &mut F,
+    tool: &mut T,
+) -> Result<Answer, Fault>
+    ensures turn { (digest_of : Bytes → Bytes) (w : Work)
+        → IsPrepared digest_of (T.meaning tool.old) (F.tree files.old) w prepared.entry
+        → KeyedTurn digest_of prepared.entry.key.digest (worked w) (O.shelf objects.old)
+        (O.shelf objects.new) (T.compiled tool.old) (T.compiled tool.new) result }
+    ensures says { (digest_of : Bytes → Bytes) (w : Work)
+        → IsPrepared digest_of (T.meaning tool.old) (F.tree files.old) w prepared.entry
+        → SaysFinished w (FailsIn T.meaning T.failed T.fails_in tool.old tool.new) result }
+    ensures how { HowFrom prepared.entry.from_record result }
+    ensures preprocesses { T.preprocessed tool.new ≡ T.preprocessed tool.old }
+    ensures meaning { T.meaning tool.new ≡ T.meaning tool.old }
+    ensures tree { F.tree files.new ≡ F.tree files.old }
+    ensures steady { OnOk result
+        (AreSteady T.failed F.failed tool.old files.old tool.new files.new) }
+    ensures memory { IsErrOf result Fault.Memory →
+        AreSteady T.failed F.failed tool.old files.old tool.new files.new }
+{
+    // A law, which costs nothing: keys that are equal are one.
+    keys_are_their_fields();
+    let outputs = prepared.outputs;
+    if let Some(map) = ask(alloc, objects, &prepared.key, outputs)? {
+        return Ok(Answer::Outputs {
+            map,
+            how: kept_how(prepared.from_record),
+            dep_info: prepared.dep_info,
+        });
+    }
+    let pairs = compiled_pairs(
+        alloc,
+        prepared.kind,
+        prepared.command,
+        outputs,
+        prepared.moment,
+        files,
+        tool,
+    )?;
+    let map = placed(alloc, outputs, pairs.as_slice())?;
+    let dep_info = prepared.dep_info;
+    let _ = keep(objects, prepared.key, pairs);
+    Ok(Answer::Outputs {
+        map,
+        how: How::Fresh,
+        dep_info,
+    })
+}

@@ -1,0 +1,82 @@
+//! Outputs by name: what a compile made, and where a request wants them.
+
+ghost use Rattle.std.specs.Prelude.{◌≡◌, IfOk, IfErr};
+ghost use Rattle.std.specs.Vec.Iter.{into_iter_items};
+ghost use Rattle.ckeys.specs.Meaning.{names_of};
+ghost use Rattle.wrap_turns.specs.Account.{collected, all, first_file, files_behind, path_of, placed};
+ghost use Rattle.wrap_turns.specs.Steps.{CollectCause};
+
+use ckeys::fault::Fault;
+use cmdlines_base::command::ArtifactDescriptor;
+use os_files::listed::Listed;
+use os_files::os_bytes::OsBytes;
+use std::alloc::{AllocError, Global};
+use std::vec::IntoIter;
+use wrap_base::answer::Output;
+use wrap_base::store_key::Pairs;
+
+/// Takes the next file, where there is one and it was made.
+fn next_file(rest: &mut IntoIter<Option<OsBytes>>) -> Option<OsBytes>
+    ensures file { result ≡ first_file (into_iter_items rest.old) }
+    ensures behind { into_iter_items rest.new ≡ files_behind (into_iter_items rest.old) }
+{
+    rest.next().flatten()
+}
+
+/// Name and contents of each output that was made, in the order in which they were asked for. The first demanded one that
+/// wasn't made is a fault.
+pub fn collected(
+    alloc: Global,
+    outputs: &[(OsBytes, ArtifactDescriptor)],
+    files: Listed<Option<OsBytes>>,
+) -> Result<Pairs, Fault>
+    ensures made { IfOk result (λ pairs. collected (names_of outputs.now) files ≡ all pairs) }
+    ensures cause { IfErr result (CollectCause (collected (names_of outputs.now) files)) }
+{
+    let mut pairs = Vec::with_capacity(alloc, outputs.len())?;
+    let mut rest = files.into_vec().into_iter();
+    for (name, artifact) in outputs {
+        match next_file(&mut rest) {
+            Some(contents) => pairs.push((name.clone()?, contents))?,
+            None => {
+                if !artifact.optional {
+                    return Err(Fault::MissingOutput(name.clone()?));
+                }
+            }
+        }
+    }
+    Ok(Listed::from_vec(pairs))
+}
+
+/// Where a request wants the output of this name.
+fn path_of<'a>(outputs: &'a [(OsBytes, ArtifactDescriptor)], name: &[u8]) -> &'a [u8]
+    ensures { result.now ≡ path_of outputs.now name.now }
+{
+    let mut rest = outputs;
+    while let Some((output, others)) = rest.split_first() {
+        if output.0.as_bytes() == name {
+            return output.1.path.as_bytes();
+        }
+        rest = others;
+    }
+    &[]
+}
+
+/// Outputs on a request's own paths.
+pub fn placed(
+    alloc: Global,
+    outputs: &[(OsBytes, ArtifactDescriptor)],
+    pairs: &[(OsBytes, OsBytes)],
+) -> Result<Listed<Output>, AllocError>
+    ensures { IfOk result (λ map. map ≡ placed outputs.now pairs.now) }
+{
+    let mut map = Vec::with_capacity(alloc, pairs.len())?;
+    for (name, contents) in pairs {
+        map.push(Output {
+            name: name.clone()?,
+            path: OsBytes::from_slice(alloc, path_of(outputs, name.as_bytes()))?,
+            contents: contents.clone()?,
+        })?;
+    }
+    Ok(Listed::from_vec(map))
+}

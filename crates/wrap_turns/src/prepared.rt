@@ -1,0 +1,115 @@
+//! A request that is prepared: all that is known of it before the store of outputs is asked.
+
+ghost use Rattle.std.specs.Prelude.{◌≡◌, true, false, Some, IfOk, IfErr, OnOk, IsErrOf};
+ghost use Rattle.os_files.specs.Fails.{FailsOn};
+ghost use Rattle.ckeys.specs.Calls.{KeyCause, PrintedCall, needs_preprocessing, printed_call};
+ghost use Rattle.ckeys.specs.EntryTurns.{KeyFine, KeyRecorded, KeyRuns, RunsUntilKey};
+ghost use Rattle.ckeys.specs.Meaning.{AreSteady, FailsIn};
+ghost use Rattle.wrap_turns.specs.Account.{call_at, work_at, worked};
+ghost use Rattle.wrap_turns.specs.Asking.{EntriesTurn, WorkKeyFrom};
+ghost use Rattle.wrap_turns.specs.Plans.{IsPlanOf};
+ghost use Rattle.wrap_turns.specs.Prepared.{IsPrepared};
+ghost use Rattle.wrap_base.specs.Commands.{found_of};
+
+use crate::keys::store_key;
+use crate::verdict::Plan;
+use ckeys::compiler_impl::CCompilerImpl;
+use ckeys::config::KeyConfig;
+use ckeys::fault::Fault;
+use ckeys::word_end::stripped_words_lack_the_end;
+use ckeys::{EntryKey, PreprocessorCacheEntry};
+use ckeys_base::hash_state::HashState;
+use ckeys_base::store::Store;
+use cmdlines_base::command::{ArtifactDescriptor, SingleCompileCommand};
+use cmdlines_tables::compiler::CCompilerKind;
+use os_files::files::Files;
+use os_files::os_bytes::OsBytes;
+use std::alloc::Global;
+use wrap_base::compiler::AnyC;
+use wrap_base::request::Request;
+use wrap_base::store_key::StoreKey;
+use wrap_base::tool::Tool;
+
+/// A request with its key, the outputs that it wants, and the command that makes them.
+#[derive(Drop)]
+pub struct Prepared<'a> {
+    pub key: StoreKey,
+    /// Whether an include record gave the key.
+    pub from_record: bool,
+    pub outputs: &'a [(OsBytes, ArtifactDescriptor)],
+    pub command: &'a SingleCompileCommand,
+    /// To which C compiler the command is, or to rustc.
+    pub kind: Option<CCompilerKind>,
+    /// When it is asked, in seconds since 1970-01-01 UTC.
+    pub moment: i64,
+    /// The text on dependencies for its own targets, where rustc is asked for one.
+    pub dep_info: Option<OsBytes>,
+}
+
+/// Prepares a request to this C compiler that asks for this: makes its key, from an include record where one fits.
+pub fn prepare<'a, H: HashState, E: Store<EntryKey, PreprocessorCacheEntry>, F: Files, T: Tool>(
+    alloc: Global,
+    compiler: AnyC<'_>,
+    request: &Request,
+    plan: &'a Plan,
+    config: &KeyConfig,
+    entries: &mut E,
+    files: &mut F,
+    tool: &mut T,
+) -> Result<Prepared<'a>, Fault>
+    requires plan { IsPlanOf (found_of compiler) request.now plan.now }
+    ensures prepared { let w = work_at (T.meaning tool.old)
+        (call_at (found_of compiler.entry) request.now (F.tree files.old) config.now plan.now.parsed) in
+        IfOk result (IsPrepared H.digest_of (T.meaning tool.new) (F.tree files.new) w) }
+    ensures from { let w = work_at (T.meaning tool.old)
+        (call_at (found_of compiler.entry) request.now (F.tree files.old) config.now plan.now.parsed) in
+        IfOk result
+        (λ p. WorkKeyFrom H.digest_of w (E.shelf entries.old).held p.from_record p.key.digest) }
+    ensures fine { let printed = printed_call (T.meaning tool.old)
+        (call_at (found_of compiler.entry) request.now (F.tree files.old) config.now plan.now.parsed) in
+        IfOk result (λ p. KeyFine printed p.from_record) }
+    ensures cause { let w = work_at (T.meaning tool.old)
+        (call_at (found_of compiler.entry) request.now (F.tree files.old) config.now plan.now.parsed) in
+        IfErr result
+        (KeyCause w.fault (FailsOn F.tree F.failed F.fails_on files.old files.new)
+        (FailsIn T.meaning T.failed T.fails_in tool.old tool.new)) }
+    ensures entries { let w = work_at (T.meaning tool.old)
+        (call_at (found_of compiler.entry) request.now (F.tree files.old) config.now plan.now.parsed) in
+        EntriesTurn H.digest_of (worked w) (E.shelf entries.old) (E.shelf entries.new)
+        (T.preprocessed tool.old) (T.preprocessed tool.new) }
+    ensures recorded { let w = work_at (T.meaning tool.old)
+        (call_at (found_of compiler.entry) request.now (F.tree files.old) config.now plan.now.parsed) in
+        IfOk result
+        (λ p. (printed : PrintedCall) → w.direct ≡ Some printed
+        → KeyRecorded H.digest_of printed (E.shelf entries.old) (E.shelf entries.new)
+        p.from_record p.key.digest) }
+    ensures runs { needs_preprocessing plan.now.parsed.language ≡ true
+        → IfOk result
+        (λ p. KeyRuns p.from_record (T.preprocessed tool.old) (T.preprocessed tool.new)) }
+    ensures until { needs_preprocessing plan.now.parsed.language ≡ true →
+        IfErr result (RunsUntilKey (T.preprocessed tool.old) (T.preprocessed tool.new)) }
+    ensures idle { needs_preprocessing plan.now.parsed.language ≡ false →
+        T.preprocessed tool.new ≡ T.preprocessed tool.old }
+    ensures tree { F.tree files.new ≡ F.tree files.old }
+    ensures meaning { T.meaning tool.new ≡ T.meaning tool.old }
+    ensures steady { OnOk result
+        (AreSteady T.failed F.failed tool.old files.old tool.new files.new) }
+    ensures memory { IsErrOf result Fault.Memory →
+        AreSteady T.failed F.failed tool.old files.old tool.new files.new }
+    ensures compiles { T.compiled tool.new ≡ T.compiled tool.old }
+{
+    // A law, which costs nothing: words of which none holds the byte that ends one can be told apart without the folders too.
+    stripped_words_lack_the_end();
+    let (key, from_record) = store_key::<H, E, F, T>(
+        alloc, compiler, request, plan, config, entries, files, tool,
+    )?;
+    Ok(Prepared {
+        key,
+        from_record,
+        outputs: plan.parsed.outputs.as_slice(),
+        command: &plan.compile,
+        kind: Some(compiler.kind()),
+        moment: request.moment,
+        dep_info: None,
+    })
+}

@@ -1,0 +1,182 @@
+//! Requests to rustc: the verdict on one, its key by what rustc tells, and what it is answered.
+
+ghost use Rattle.std.specs.Prelude.{◌≡◌, false, IfOk, IfErr, OnOk, IsErrOf};
+ghost use Rattle.os_files.specs.Bytes.{ticked};
+ghost use Rattle.os_files.specs.Fails.{FailsOn};
+ghost use Rattle.ckeys.specs.Calls.{KeyCause};
+ghost use Rattle.ckeys.specs.Meaning.{AreSteady, FailsIn};
+ghost use Rattle.rustkeys_base.specs.Asks.{asks_in};
+ghost use Rattle.rustkeys.specs.Runs.{AtMostTwice};
+ghost use Rattle.wrap_turns.specs.Account.{rust_account_by, rust_call_at, rust_work_at, worked};
+ghost use Rattle.wrap_turns.specs.Answers.{OnPass, Says, SaysWorked};
+ghost use Rattle.wrap_turns.specs.Asking.{HowFrom, IsAskedTwice, RunsOf};
+ghost use Rattle.wrap_turns.specs.CallRecords.{key_of};
+ghost use Rattle.wrap_turns.specs.RustPrepared.{IsRustPrepared};
+ghost use Rattle.wrap_turns.specs.RustVerdicts.{rust_verdict_of};
+ghost use Rattle.wrap_turns.specs.Turn.{KeyedTurn, StoreTurn};
+
+use crate::finish::finish;
+use crate::keys::names_of;
+use crate::prepared::Prepared;
+use crate::rust_verdict::{RustVerdict, judge_rust};
+use ckeys::fault::Fault;
+use ckeys_base::hash_state::HashState;
+use ckeys_base::store::Store;
+use os_files::files::Files;
+use os_files::os_bytes::OsBytes;
+use rustc_compiler::rust::Rust;
+use rustkeys::compilation::RustCompilation;
+use rustkeys::hasher::RustHasher;
+use rustkeys_base::parsed::ParsedArguments;
+use std::alloc::Global;
+use wrap_base::answer::Answer;
+use wrap_base::request::Request;
+use wrap_base::store_key::{Family, Pairs, Shape, StoreKey};
+use wrap_base::tool::Tool;
+
+/// A request to rustc with its key: the compile that it stands for, and the text on dependencies where it asks for one.
+#[derive(Drop)]
+pub struct RustPrepared {
+    key: StoreKey,
+    compilation: RustCompilation,
+    dep_info: Option<OsBytes>,
+}
+
+/// Prepares a request to this rustc that asks for this: rustc is asked what its key is made of.
+fn rust_prepare<H: HashState, F: Files, T: Tool>(
+    alloc: Global,
+    rust: &Rust,
+    request: &Request,
+    parsed: &ParsedArguments,
+    files: &mut F,
+    tool: &mut T,
+) -> Result<RustPrepared, Fault>
+    ensures prepared { let w = rust_work_at (T.meaning tool.old)
+        (rust_call_at rust.now request.now (F.tree files.old) (asks_in parsed.now)) in
+        IfOk result (IsRustPrepared H.digest_of rust.now request.now (asks_in parsed.now) w) }
+    ensures cause { let w = rust_work_at (T.meaning tool.old)
+        (rust_call_at rust.now request.now (F.tree files.old) (asks_in parsed.now)) in
+        IfErr result
+        (KeyCause w.fault (FailsOn F.tree F.failed F.fails_on files.old files.new)
+        (FailsIn T.meaning T.failed T.fails_in tool.old tool.new)) }
+    ensures tree { F.tree files.new ≡ F.tree files.old }
+    ensures meaning { T.meaning tool.new ≡ T.meaning tool.old }
+    ensures steady { OnOk result
+        (AreSteady T.failed F.failed tool.old files.old tool.new files.new) }
+    ensures memory { IsErrOf result Fault.Memory →
+        AreSteady T.failed F.failed tool.old files.old tool.new files.new }
+    ensures runs { OnOk result
+        (T.preprocessed tool.new ≡ ticked (ticked (T.preprocessed tool.old))) }
+    ensures twice { AtMostTwice (T.preprocessed tool.old) (T.preprocessed tool.new) }
+    ensures compiles { T.compiled tool.new ≡ T.compiled tool.old }
+{
+    let hasher = RustHasher {
+        compiler: rust,
+        parsed,
+    };
+    let env = request.env.as_slice();
+    let (compilation, digest, shape, dep_info) = hasher.generate_hash_key::<H, F, T>(
+        alloc,
+        &request.dir,
+        env,
+        files,
+        tool,
+    )?;
+    let names = names_of(alloc, compilation.outputs())?;
+    let key = StoreKey {
+        family: Family::Rustc,
+        shape: Shape::Rustc(shape),
+        names,
+        digest: OsBytes::from_vec(digest.into_bytes()),
+    };
+    Ok(RustPrepared {
+        key,
+        compilation,
+        dep_info,
+    })
+}
+
+/// Answers a request to this rustc that isn't passed through: what the store holds under its key, or what one compile makes, which
+/// is kept then; and beside it the text on dependencies for its own targets, where it asks for one.
+fn rust_answer<H: HashState, O: Store<StoreKey, Pairs>, F: Files, T: Tool>(
+    alloc: Global,
+    objects: &mut O,
+    rust: &Rust,
+    request: &Request,
+    parsed: &ParsedArguments,
+    files: &mut F,
+    tool: &mut T,
+) -> Result<Answer, Fault>
+    ensures says { let w = rust_work_at (T.meaning tool.old)
+        (rust_call_at rust.now request.now (F.tree files.old) (asks_in parsed.now)) in
+        SaysWorked w (FailsOn F.tree F.failed F.fails_on files.old files.new)
+        (FailsIn T.meaning T.failed T.fails_in tool.old tool.new) result }
+    ensures store { let w = rust_work_at (T.meaning tool.old)
+        (rust_call_at rust.now request.now (F.tree files.old) (asks_in parsed.now)) in
+        KeyedTurn H.digest_of (key_of H.digest_of w.rec) (worked w) (O.shelf objects.old)
+        (O.shelf objects.new) (T.compiled tool.old) (T.compiled tool.new) result }
+    ensures how { HowFrom false result }
+    ensures runs { IsAskedTwice result (T.preprocessed tool.old) (T.preprocessed tool.new) }
+    ensures unpassed { OnPass result ⊥ }
+    ensures meaning { T.meaning tool.new ≡ T.meaning tool.old }
+    ensures tree { F.tree files.new ≡ F.tree files.old }
+    ensures steady { OnOk result
+        (AreSteady T.failed F.failed tool.old files.old tool.new files.new) }
+    ensures memory { IsErrOf result Fault.Memory →
+        AreSteady T.failed F.failed tool.old files.old tool.new files.new }
+{
+    let made = rust_prepare::<H, F, T>(alloc, rust, request, parsed, files, tool)?;
+    let key = made.key;
+    let dep_info = made.dep_info;
+    let compilation = made.compilation;
+    let prepared = Prepared {
+        key,
+        from_record: false,
+        outputs: compilation.outputs(),
+        command: &compilation.command,
+        kind: None,
+        moment: request.moment,
+        dep_info,
+    };
+    finish(alloc, objects, prepared, files, tool)
+}
+
+/// Answers a request to this rustc: it is passed through, or it gets what the store holds under its key or what one compile makes,
+/// or there is a fault.
+pub fn rust_turn<H: HashState, O: Store<StoreKey, Pairs>, F: Files, T: Tool>(
+    alloc: Global,
+    objects: &mut O,
+    rust: &Rust,
+    request: &Request,
+    files: &mut F,
+    tool: &mut T,
+) -> Result<Answer, Fault>
+    ensures says { let a = rust_account_by (T.meaning tool.old) (F.tree files.old) rust.now
+        request.now (rust_verdict_of request.now (F.tree files.old)) in
+        Says a (FailsOn F.tree F.failed F.fails_on files.old files.new)
+        (FailsIn T.meaning T.failed T.fails_in tool.old tool.new) result }
+    ensures quiet { OnPass result
+        ((T.preprocessed tool.new ≡ T.preprocessed tool.old)
+        × (T.compiled tool.new ≡ T.compiled tool.old) × (T.failed tool.new ≡ T.failed tool.old)) }
+    ensures store { let a = rust_account_by (T.meaning tool.old) (F.tree files.old) rust.now
+        request.now (rust_verdict_of request.now (F.tree files.old)) in
+        StoreTurn H.digest_of a (O.shelf objects.old) (O.shelf objects.new) (T.compiled tool.old)
+        (T.compiled tool.new) result }
+    ensures how { HowFrom false result }
+    ensures runs { let a = rust_account_by (T.meaning tool.old) (F.tree files.old) rust.now
+        request.now (rust_verdict_of request.now (F.tree files.old)) in
+        RunsOf a false result (T.preprocessed tool.old) (T.preprocessed tool.new) }
+    ensures meaning { T.meaning tool.new ≡ T.meaning tool.old }
+    ensures tree { F.tree files.new ≡ F.tree files.old }
+    ensures steady { OnOk result
+        (AreSteady T.failed F.failed tool.old files.old tool.new files.new) }
+    ensures memory { IsErrOf result Fault.Memory →
+        AreSteady T.failed F.failed tool.old files.old tool.new files.new }
+{
+    match judge_rust(alloc, rust, request, files)? {
+        RustVerdict::Passes(reason) => Ok(Answer::Pass(reason)),
+        RustVerdict::Asks(parsed) => {
+            rust_answer::<H, O, F, T>(alloc, objects, rust, request, &parsed, files, tool)
+        }
+    }
+}

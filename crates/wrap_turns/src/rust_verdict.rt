@@ -1,0 +1,128 @@
+//! The verdict on a request to rustc: it is passed through, or this is asked for.
+
+ghost use Rattle.std.specs.Prelude.{◌≡◌, false, IfOk, IfErr, OnOk, IsErrOf};
+ghost use Rattle.std.specs.List.{list_all};
+ghost use Rattle.std.specs.Str.{is_utf8};
+ghost use Rattle.os_files.specs.Fails.{FailsOn};
+ghost use Rattle.rustkeys_base.specs.Asks.{asks_in};
+ghost use Rattle.wrap_turns.specs.Answers.{EarlyCause};
+ghost use Rattle.wrap_turns.specs.RustPlans.{OnAsks, OpensNothing, decision_of};
+ghost use Rattle.wrap_turns.specs.RustVerdicts.{is_text, is_text_variable, opens_words, rust_verdict_of, with_hazards};
+
+use ckeys::fault::Fault;
+use cmdlines::compiler_arguments::{CompilerArguments, ParseFault};
+use os_files::files::Files;
+use os_files::os_bytes::OsBytes;
+use rustc_compiler::rust::Rust;
+use rustc_texts::laws::commands_open_nothing;
+use rustc_texts::words::compile_words;
+use rustkeys_base::parsed::ParsedArguments;
+use std::alloc::{AllocError, Global};
+use wrap_base::reason::Reason;
+use wrap_base::request::Request;
+
+/// What a request to rustc comes to by its words: it is passed through, or it asks for this.
+#[derive(Drop)]
+pub enum RustVerdict {
+    Passes(Reason),
+    Asks(ParsedArguments),
+}
+
+#[tactic(auto, using(crate::proofs::Utf8Lemmas::text_is, crate::proofs::Utf8Lemmas::text_is_not))]
+fn is_utf8(bytes: &[u8]) -> bool
+    ensures { result ≡ is_utf8 bytes.now }
+{
+    match str::from_utf8(bytes) {
+        Ok(_) => true,
+        Err(_) => false,
+    }
+}
+
+/// Whether all of these words are UTF-8.
+fn are_text(words: &[OsBytes]) -> bool
+    ensures { result ≡ list_all is_utf8 words.now }
+{
+    words.iter().all(|word| is_utf8(word.as_bytes()))
+}
+
+/// Whether the name and the value of a variable are UTF-8.
+fn is_text_variable(pair: &(OsBytes, OsBytes)) -> bool
+    ensures { result ≡ is_text_variable pair.now }
+{
+    is_utf8(pair.0.as_bytes()) && is_utf8(pair.1.as_bytes())
+}
+
+/// Whether the names and values of these variables are UTF-8.
+fn are_text_variables(env: &[(OsBytes, OsBytes)]) -> bool
+    ensures { result ≡ list_all is_text_variable env.now }
+{
+    env.iter().all(|pair| is_text_variable(pair))
+}
+
+/// Whether its words, its directory, and the names and values of its variables are UTF-8. It takes no memory.
+fn is_text(request: &Request) -> bool
+    ensures { result ≡ is_text request.now }
+{
+    are_text(request.words.as_slice())
+        && (is_utf8(request.dir.as_bytes()) && are_text_variables(request.env.as_slice()))
+}
+
+/// Whether a word with which it is compiled would make rustc open a file of words.
+fn opens_words(alloc: Global, parsed: &ParsedArguments) -> Result<bool, AllocError>
+    ensures { IfOk result (λ opens. opens ≡ opens_words (asks_in parsed.now)) }
+{
+    let words = compile_words(alloc, parsed)?;
+    let list = words.as_slice();
+    Ok(list.iter().any(|word| word.as_bytes().starts_with(b"@")))
+}
+
+/// The verdict on a request that asks for this: it names a file of words, or it uses a profile.
+fn after_hazards(alloc: Global, parsed: ParsedArguments) -> Result<RustVerdict, AllocError>
+    ensures verdict { IfOk result
+        (λ verdict. decision_of verdict ≡ with_hazards (asks_in parsed)) }
+    ensures opens { IfOk result (λ verdict. OnAsks verdict OpensNothing) }
+{
+    // A law, which costs nothing: what follows from it is said above.
+    commands_open_nothing();
+    if opens_words(alloc, &parsed)? {
+        return Ok(RustVerdict::Passes(Reason::OpensFile));
+    }
+    if parsed.profile_use.is_some() {
+        return Ok(RustVerdict::Passes(Reason::ProfileData));
+    }
+    Ok(RustVerdict::Asks(parsed))
+}
+
+/// The verdict on a request to this rustc, with the files of words that it names opened. What isn't UTF-8 is found before any file
+/// is touched.
+pub fn judge_rust<F: Files>(
+    alloc: Global,
+    rust: &Rust,
+    request: &Request,
+    files: &mut F,
+) -> Result<RustVerdict, Fault>
+    ensures verdict { IfOk result
+        (λ verdict. decision_of verdict ≡ rust_verdict_of request.now (F.tree files.old)) }
+    // None of the commands of what is asked for makes rustc open a file of words.
+    ensures opens { IfOk result (λ verdict. OnAsks verdict OpensNothing) }
+    ensures untouched { is_text request.now ≡ false → files.new ≡ files.old }
+    ensures cause { IfErr result
+        (EarlyCause (FailsOn F.tree F.failed F.fails_on files.old files.new)) }
+    ensures tree { F.tree files.new ≡ F.tree files.old }
+    ensures steady { OnOk result (F.failed files.new ≡ F.failed files.old) }
+    ensures memory { IsErrOf result Fault.Memory → F.failed files.new ≡ F.failed files.old }
+{
+    if !is_text(request) {
+        return Ok(RustVerdict::Passes(Reason::NotUtf8));
+    }
+    let words = request.words.as_slice();
+    match rust.parse_arguments(alloc, words, &request.dir, files) {
+        Ok(CompilerArguments::Ok(parsed)) => Ok(after_hazards(alloc, parsed)?),
+        Ok(CompilerArguments::NotCompilation) => Ok(RustVerdict::Passes(Reason::NotCompilation)),
+        Ok(CompilerArguments::CannotCache(reason, more)) => {
+            Ok(RustVerdict::Passes(Reason::CannotCache(reason, more)))
+        }
+        Err(ParseFault::Memory) => Err(Fault::Memory),
+        Err(ParseFault::Read(path)) => Err(Fault::Read(path)),
+    }
+}

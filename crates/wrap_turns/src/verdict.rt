@@ -1,0 +1,141 @@
+//! The verdict on a request's words to a C compiler: it is passed through, or there is a plan of what is run for it.
+
+ghost use Rattle.std.specs.Prelude.{◌≡◌, is_some, true, List, IfOk, IfErr, OnOk, IsErrOf};
+ghost use Rattle.os_files.specs.Bytes.{Bytes};
+ghost use Rattle.os_files.specs.Fails.{FailsOn};
+ghost use Rattle.cmdlines.specs.Commands.{object_path};
+ghost use Rattle.cmdlines.specs.Parsing as parsing;
+ghost use Rattle.cmdlines.specs.ReadBack.{ReadsAsCompile, ReadsAsPreprocess};
+ghost use Rattle.wrap_base.specs.Commands.{compile_command_of, found_of, kind_of, words_at};
+ghost use Rattle.wrap_turns.specs.Answers.{EarlyCause};
+ghost use Rattle.wrap_turns.specs.Verdicts.{with_hazards, verdict_of};
+ghost use Rattle.wrap_turns.specs.Plans.{decision_of, IsPlanOf, IsReadAgain, IsReadAgainUnlessGiven, IsReadAgainWhereSafe, OnAsks};
+
+use ckeys::compiler_impl::CCompilerImpl;
+use ckeys::fault::Fault;
+use ckeys::word_end::hold_word_end;
+use cmdlines::command::CommandError;
+use cmdlines::compiler_arguments::{CompilerArguments, ParseFault};
+use cmdlines::hazards::{empty_value, opens_file};
+use cmdlines::parsed::ParsedArguments;
+use cmdlines_base::command::SingleCompileCommand;
+use os_files::files::Files;
+use std::alloc::{AllocError, Global};
+use wrap_base::compiler::AnyC;
+use wrap_base::reason::Reason;
+use wrap_base::request::Request;
+
+/// What is run for a request: what it asks for, and its compile command.
+#[derive(Drop)]
+pub struct Plan {
+    pub parsed: ParsedArguments,
+    pub compile: SingleCompileCommand,
+}
+
+/// What a request comes to by its words: it is passed through, or this is run for it.
+#[derive(Drop)]
+pub enum Verdict {
+    Passes(Reason),
+    Asks(Plan),
+}
+
+/// The plan of a request that asks for this.
+fn plan_of(
+    alloc: Global,
+    compiler: AnyC<'_>,
+    request: &Request,
+    parsed: ParsedArguments,
+) -> Result<Plan, AllocError>
+    requires object { is_some (object_path parsed) ≡ true }
+    ensures parsed { IfOk result (λ plan. plan.parsed ≡ parsed) }
+    ensures command { IfOk result (λ plan. plan.compile ≡ compile_command_of (found_of compiler.entry) request.now parsed) }
+    ensures compile { IfOk result
+        (λ plan. ReadsAsCompile (kind_of compiler.entry) parsed plan.compile.arguments) }
+{
+    let executable = compiler.executable();
+    let env = request.env.as_slice();
+    match compiler.generate_compile_commands(alloc, executable, &parsed, &request.dir, env) {
+        Ok((compile, _)) => Ok(Plan { parsed, compile }),
+        Err(CommandError::Memory) => Err(AllocError),
+        Err(CommandError::NoObjOutput) => unreachable!(),
+    }
+}
+
+/// The verdict on a request that asks for this: an option whose value may stand either way has an empty one, or a word
+/// of a command would open a file of words, or a hashed word holds the byte that ends one.
+fn after_hazards(
+    alloc: Global,
+    compiler: AnyC<'_>,
+    request: &Request,
+    parsed: ParsedArguments,
+) -> Result<Verdict, AllocError>
+    requires object { is_some (object_path parsed) ≡ true }
+    ensures verdict { IfOk result
+        (λ verdict. decision_of verdict
+        ≡ with_hazards (kind_of compiler.entry) (parsing.asks parsed)) }
+    ensures plan { IfOk result
+        (λ verdict. OnAsks verdict (IsPlanOf (found_of compiler.entry) request.now)) }
+    ensures again { (words : List Bytes)
+        → parsing.parse_of (kind_of compiler.entry) words ≡ parsing.asks parsed
+        → parsing.HasSafeInput (kind_of compiler.entry) parsed
+        → IfOk result (λ verdict. OnAsks verdict (IsReadAgain (found_of compiler.entry) words)) }
+    ensures safe { (words : List Bytes)
+        → parsing.parse_of (kind_of compiler.entry) words ≡ parsing.asks parsed
+        → IfOk result (λ verdict. OnAsks verdict (IsReadAgainWhereSafe (found_of compiler.entry) words)) }
+{
+    if empty_value(&parsed) {
+        return Ok(Verdict::Passes(Reason::EmptyValue));
+    }
+    let kind = compiler.kind();
+    let preprocess = compiler.preprocess_words(alloc, &parsed)?;
+    let plan = plan_of(alloc, compiler, request, parsed)?;
+    if opens_file(plan.compile.arguments.as_slice(), kind)
+        || opens_file(preprocess.as_slice(), kind)
+    {
+        return Ok(Verdict::Passes(Reason::OpensFile));
+    }
+    if hold_word_end(plan.parsed.common_args.as_slice())
+        || hold_word_end(plan.parsed.arch_args.as_slice())
+    {
+        return Ok(Verdict::Passes(Reason::Byte255));
+    }
+    Ok(Verdict::Asks(plan))
+}
+
+/// The verdict on a request to this C compiler, with the files of words that it names opened.
+pub fn judge<F: Files>(
+    alloc: Global,
+    compiler: AnyC<'_>,
+    request: &Request,
+    files: &mut F,
+) -> Result<Verdict, Fault>
+    ensures verdict { let found = found_of compiler.entry in IfOk result
+        (λ verdict. decision_of verdict
+        ≡ verdict_of found.kind (words_at found request.now (F.tree files.old))) }
+    // The commands are those of the request, and its compiler reads them again as what was wanted, unless an option of Msvc gave an
+    // input that can't stand where it's written.
+    ensures plan { IfOk result
+        (λ verdict. OnAsks verdict (IsPlanOf (found_of compiler.entry) request.now)) }
+    ensures again { let found = found_of compiler.entry in IfOk result
+        (λ verdict. OnAsks verdict
+        (IsReadAgainUnlessGiven found (words_at found request.now (F.tree files.old)))) }
+    ensures safe { let found = found_of compiler.entry in IfOk result
+        (λ verdict. OnAsks verdict
+        (IsReadAgainWhereSafe found (words_at found request.now (F.tree files.old)))) }
+    ensures cause { IfErr result
+        (EarlyCause (FailsOn F.tree F.failed F.fails_on files.old files.new)) }
+    ensures tree { F.tree files.new ≡ F.tree files.old }
+    ensures steady { OnOk result (F.failed files.new ≡ F.failed files.old) }
+    ensures memory { IsErrOf result Fault.Memory → F.failed files.new ≡ F.failed files.old }
+{
+    let words = request.words.as_slice();
+    match compiler.parse_arguments(alloc, words, &request.dir, files) {
+        Ok(CompilerArguments::Ok(parsed)) => Ok(after_hazards(alloc, compiler, request, parsed)?),
+        Ok(CompilerArguments::NotCompilation) => Ok(Verdict::Passes(Reason::NotCompilation)),
+        Ok(CompilerArguments::CannotCache(reason, more)) => {
+            Ok(Verdict::Passes(Reason::CannotCache(reason, more)))
+        }
+        Err(ParseFault::Memory) => Err(Fault::Memory),
+        Err(ParseFault::Read(path)) => Err(Fault::Read(path)),
+    }
+}
