@@ -6,4 +6,6 @@ pub mod StepLemmas
 pub mod AgainLemmas
 pub mod ClearLemmas
 pub mod NodeLemmas
+pub mod ForkLemmas
 pub mod ReachLemmas
+pub mod StemLemmas

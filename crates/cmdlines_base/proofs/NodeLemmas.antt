@@ -1,5 +1,5 @@
 -- Nodes of a table: entries whose flags begin alike, and those of them with one byte behind that.
-use Rattle.std.proofs.Common.{◌≡◌, ◌≢◌, ◌+◌, ◌-◌, ◌⊎◌, inl, inr, ⊎_elim, Ordering, ◌&&◌, suc, zero, ℕ, ◌≤◌, ◌<◌, List, [], ◌∷◌, ◌++◌, length, take, drop, map, Option, None, Some, Bool, true, false, nat_lt, nat_le, cond, refl, ap, sym, subst, append_assoc, ◌∙◌, arith, All, get_or}
+use Rattle.std.proofs.Common.{◌≡◌, ◌≢◌, ◌+◌, ◌-◌, ◌⊎◌, inl, inr, ⊎_elim, Ordering, ◌&&◌, suc, zero, ℕ, ◌≤◌, ◌<◌, List, [], ◌∷◌, ◌++◌, length, take, drop, map, Option, None, Some, Bool, true, false, nat_lt, nat_le, cond, refl, ap, sym, subst, append_assoc, ◌∙◌, arith, All, get_or, MatchOption}
 use Rattle.std.proofs.lemmas.List.{append-nil, take-append-drop, get_or-take, get_or-drop, length-take, length-drop, length-map, map-append, get_or-map}
 use Rattle.std.proofs.lemmas.List.Elements.{All-append, All-cons, All-nil, All-head, All-tail, All-weaker, All-map, All-from_all_within, All-get_or}
 use Rattle.std.proofs.Math.Seq.{take-length}
@@ -11,6 +11,7 @@ use Rattle.cmdlines_base.specs.Table.{behind, longer, longest_fit, Entry, entry_
 use Rattle.cmdlines_base.specs.Nodes.{Begins, GoesOn, HasByte, IsNode, IsPicked, LacksByte, byte_at}
 use Rattle.cmdlines_base.proofs.TableLemmas.{longest_fit-append, longer-none}
 use Rattle.std.specs.Option.{option_map_or}
+use Rattle.cmdlines_base.specs.Forks.{going_on}
 use Rattle.std.specs.Ordering.{nat_cmp, is_lt, ordering_then}
 use Rattle.std.specs.declared.cmp.Ordering.TheVariants.{Less, Equal, Greater}
 use Rattle.std.proofs.lemmas.Cmp.{ranked}
@@ -18,12 +19,29 @@ use Rattle.std.specs.Cmp.Lexicographic.{slice_cmp}
 use borrow.Author.Tests.{ltb-true, ltb-false, leb-true, leb-false}
 
 -- what holds of the first i elements, by index
-taken : {X : Type 0} (P : X → Type 0) (i : ℕ) (xs : List X) → i ≤ length xs → AllWithin P xs 0 i → All P (take i xs)
+pub taken : {X : Type 0} (P : X → Type 0) (i : ℕ) (xs : List X) → i ≤ length xs → AllWithin P xs 0 i → All P (take i xs)
 taken P i xs le h = All-from_all_within P (take i xs) (λ k d low high. let long = length-take i xs in subst P (sym (get_or-take i xs k d (omega arith))) (h k d low (omega arith)))
 
 -- what holds of the others
-left : {X : Type 0} (P : X → Type 0) (i : ℕ) (xs : List X) → AllWithin P xs i (length xs) → All P (drop i xs)
+pub left : {X : Type 0} (P : X → Type 0) (i : ℕ) (xs : List X) → AllWithin P xs i (length xs) → All P (drop i xs)
 left P i xs h = All-from_all_within P (drop i xs) (λ k d low high. let long = length-drop i xs in subst P (sym (get_or-drop i xs k d)) (h (i + k) d (omega arith) (omega arith)))
+
+-- entries in three stretches, of which the middle one alone has the byte
+pub stretches : {T K : Type 0} (depth byte : ℕ) (xs : List (ArgInfo T K)) (start count : ℕ)
+    → All (λ y. byte_at depth (entry_of y) ≢ byte) (take start xs)
+    → All (λ y. byte_at depth (entry_of y) ≡ byte) (take count (drop start xs))
+    → All (λ y. byte_at depth (entry_of y) ≢ byte) (drop count (drop start xs))
+    → IsPicked depth byte (entries_of xs) (entries_of (take count (drop start xs)))
+stretches depth byte xs start count low mid high =
+    let parts : take start xs ++ (take count (drop start xs) ++ drop count (drop start xs)) ≡ xs = ap (λ ys. take start xs ++ ys) (take-append-drop count (drop start xs)) ∙ take-append-drop start xs in
+    record {
+      front = entries_of (take start xs);
+      back = entries_of (drop count (drop start xs));
+      whole = ap entries_of (sym parts) ∙ map-append entry_of (take start xs) (take count (drop start xs) ++ drop count (drop start xs)) ∙ ap (λ ys. entries_of (take start xs) ++ ys) (map-append entry_of (take count (drop start xs)) (drop count (drop start xs)));
+      before = All-map (LacksByte depth byte) entry_of (take start xs) low;
+      have = All-map (HasByte depth byte) entry_of (take count (drop start xs)) mid;
+      behind = All-map (LacksByte depth byte) entry_of (drop count (drop start xs)) high;
+    }
 
 module _ {T K : Type 0} (depth byte : ℕ) (xs : List (ArgInfo T K)) (start end : ℕ) (rest : List (ArgInfo T K)) where
   abbrev At : ArgInfo T K → ℕ
@@ -39,15 +57,18 @@ module _ {T K : Type 0} (depth byte : ℕ) (xs : List (ArgInfo T K)) (start end 
       let up : All (λ y. nat_lt (At y) byte ≡ false) rest = subst (All (λ y. nat_lt (At y) byte ≡ false)) (sym is) (left (λ y. nat_lt (At y) byte ≡ false) start xs one.1) in
       let mid : All (λ y. (nat_le (At y) byte ≡ true) × (nat_lt (At y) byte ≡ false)) (take end rest) = taken (λ y. (nat_le (At y) byte ≡ true) × (nat_lt (At y) byte ≡ false)) end rest le2 (λ k d l h. (two.0 k d l h, All-get_or (λ y. nat_lt (At y) byte ≡ false) rest k d (omega arith) up)) in
       let high : All (λ y. nat_le (At y) byte ≡ false) (drop end rest) = left (λ y. nat_le (At y) byte ≡ false) end rest two.1 in
-      let parts : take start xs ++ (take end rest ++ drop end rest) ≡ xs = ap (λ ys. take start xs ++ ys) (take-append-drop end rest ∙ is) ∙ take-append-drop start xs in
-      record {
-        front = entries_of (take start xs);
-        back = entries_of (drop end rest);
-        whole = ap entries_of (sym parts) ∙ map-append entry_of (take start xs) (take end rest ++ drop end rest) ∙ ap (λ ys. entries_of (take start xs) ++ ys) (map-append entry_of (take end rest) (drop end rest));
-        before = All-map (LacksByte depth byte) entry_of (take start xs) (All-weaker (λ y. nat_lt (At y) byte ≡ true) (λ y. LacksByte depth byte (entry_of y)) (λ y h e. let l = ltb-true (At y) byte h in omega arith) (take start xs) low);
-        have = All-map (HasByte depth byte) entry_of (take end rest) (All-weaker (λ y. (nat_le (At y) byte ≡ true) × (nat_lt (At y) byte ≡ false)) (λ y. HasByte depth byte (entry_of y)) (λ y h. let l = leb-true (At y) byte h.0 in let m = ltb-false (At y) byte h.1 in omega arith) (take end rest) mid);
-        behind = All-map (LacksByte depth byte) entry_of (drop end rest) (All-weaker (λ y. nat_le (At y) byte ≡ false) (λ y. LacksByte depth byte (entry_of y)) (λ y h e. let l = leb-false (At y) byte h in omega arith) (drop end rest) high);
-      }
+      subst (λ ys. IsPicked depth byte (entries_of xs) (entries_of (take end ys))) (sym is) (stretches depth byte xs start end
+      (All-weaker (λ y. nat_lt (At y) byte ≡ true) (λ y. At y ≢ byte) (λ y h e. let l = ltb-true (At y) byte h in omega arith) (take start xs) low)
+      (subst (λ ys. All (λ y. At y ≡ byte) (take end ys)) is (All-weaker (λ y. (nat_le (At y) byte ≡ true) × (nat_lt (At y) byte ≡ false)) (λ y. At y ≡ byte) (λ y h. let l = leb-true (At y) byte h.0 in let m = ltb-false (At y) byte h.1 in omega arith) (take end rest) mid))
+      (subst (λ ys. All (λ y. At y ≢ byte) (drop end ys)) is (All-weaker (λ y. nat_le (At y) byte ≡ false) (λ y. At y ≢ byte) (λ y h e. let l = leb-false (At y) byte h in omega arith) (drop end rest) high)))
+
+-- of entries of which none has that byte nothing is picked
+pub none_picked : {K : Type 0} (d byte : ℕ) (es : List (Entry K)) → All (LacksByte d byte) es → IsPicked d byte es []
+none_picked d byte es lacks = record { front = es; back = []; whole = sym (append-nil es); before = lacks; have = All-nil (HasByte d byte); behind = All-nil (LacksByte d byte) }
+
+pub nothing_picked : {T K : Type 0} (d byte : ℕ) (xs : List (ArgInfo T K)) → slice_get xs 0 ≡ None → IsPicked d byte (entries_of xs) (entries_of xs)
+nothing_picked d byte [] h = none_picked d byte [] (All-nil (LacksByte d byte))
+nothing_picked d byte (x ∷ xs) h = cc
 
 -- where bytes rise, the first one and the last one tell of all
 pub ends_tell : {T K : Type 0} (d byte : ℕ) (xs : List (ArgInfo T K)) (a b : ArgInfo T K) → IsNonDecreasingBy (λ y. byte_at d (entry_of y)) xs
@@ -59,6 +80,21 @@ ends_tell d byte xs a b rising one two low high = All-map (HasByte d byte) entry
     let up = rising 0 k y (omega arith) lt in
     let down = rising k (length xs - 1) y (omega (arith, lt)) (omega (arith, lt)) in
     omega (arith, first, last, up, down, low, high))
+
+-- where the first one has a higher byte or the last one a lower one, none has it
+pub low_tells : {T K : Type 0} (d byte : ℕ) (xs : List (ArgInfo T K)) (a : ArgInfo T K) → IsNonDecreasingBy (λ y. byte_at d (entry_of y)) xs
+    → slice_get xs 0 ≡ Some a → byte < byte_at d (entry_of a) → IsPicked d byte (entries_of xs) []
+low_tells d byte xs a rising one low = none_picked d byte (entries_of xs) (All-map (LacksByte d byte) entry_of xs (λ k y lt has.
+    let first = ap (λ z. byte_at d (entry_of z)) (get_or_from_slice_get xs 0 a y one) in
+    let up = rising 0 k y (omega arith) lt in
+    omega (arith, first, up, low, has)))
+
+pub high_tells : {T K : Type 0} (d byte : ℕ) (xs : List (ArgInfo T K)) (b : ArgInfo T K) → IsNonDecreasingBy (λ y. byte_at d (entry_of y)) xs
+    → slice_get xs (length xs - 1) ≡ Some b → byte_at d (entry_of b) < byte → IsPicked d byte (entries_of xs) []
+high_tells d byte xs b rising two high = none_picked d byte (entries_of xs) (All-map (LacksByte d byte) entry_of xs (λ k y lt has.
+    let last = ap (λ z. byte_at d (entry_of z)) (get_or_from_slice_get xs (length xs - 1) b y two) in
+    let down = rising k (length xs - 1) y (omega (arith, lt)) (omega (arith, lt)) in
+    omega (arith, last, down, high, has)))
 
 -- entries of which all have that byte are what is picked of them
 pub whole_picked : {K : Type 0} (d byte : ℕ) (es : List (Entry K)) → All (HasByte d byte) es → IsPicked d byte es es
@@ -237,6 +273,25 @@ node_behind d word e es h = record { begin = All-tail (Begins d word) e es h.beg
 -- where the first entry goes on, all do
 pub all_on : {K : Type 0} (d : ℕ) (word : List ℕ) (e : Entry K) (es : List (Entry K)) → IsNode d word (e ∷ es) → d < length e.flag → All (GoesOn d) (e ∷ es)
 all_on d word e es h on = All-cons (GoesOn d) e es on (ends_once d word e es h.rise h.begin)
+
+-- what stands behind an entry that ends is a node, and all of it goes on
+pub going_on_node : {K : Type 0} (d : ℕ) (word : List ℕ) (es : List (Entry K)) → IsNode d word es → IsNode d word (going_on d es) × All (GoesOn d) (going_on d es)
+going_on_node d word [] h = (h, All-nil (GoesOn d))
+going_on_node d word (e ∷ es) h = by (nat_le (length e.flag) d) refl
+  where
+    by : (s : Bool) → nat_le (length e.flag) d ≡ s → IsNode d word (cond s es (e ∷ es)) × All (GoesOn d) (cond s es (e ∷ es))
+    by true q = (node_behind d word e es h, ends_once d word e es h.rise h.begin)
+    by false q = (h, all_on d word e es h (leb-false (length e.flag) d q))
+
+-- where the first flag of a node goes on, and the first and the last one go on as the word does, all do
+pub goes_alike : {T K : Type 0} (d : ℕ) (word : List ℕ) (xs : List (ArgInfo T K)) (a b : ArgInfo T K)
+    → slice_get xs 0 ≡ Some a → slice_get xs (length xs - 1) ≡ Some b → d < length word → d < length (entry_of a).flag
+    → byte_at d (entry_of a) ≡ get_or word d 0 → byte_at d (entry_of b) ≡ get_or word d 0 → IsNode d word (entries_of xs) → IsNode (d + 1) word (entries_of xs)
+goes_alike d word [] a b one two lt on low high node = cc
+goes_alike d word (x ∷ xs) a b one two lt on low high node =
+    let all : All (GoesOn d) (entries_of (x ∷ xs)) = all_on d word (entry_of x) (entries_of xs) node (subst (λ (r : Option (ArgInfo _ _)). MatchOption r (Unit {0}) (λ y. d < length (entry_of y).flag)) (sym one) on) in
+    below_node d word (entries_of (x ∷ xs)) (entries_of (x ∷ xs)) lt node all
+    (whole_picked d (get_or word d 0) (entries_of (x ∷ xs)) (ends_tell d (get_or word d 0) (x ∷ xs) a b (bytes_rise d word (x ∷ xs) node.rise node.begin all) one two low high))
 
 -- of no entries there is no fit
 pub none_fits : {T K : Type 0} (word : List ℕ) (xs : List (ArgInfo T K)) → length xs ≡ 0 → longest_fit (entries_of xs) word ≡ None

@@ -75,3 +75,13 @@ reach-none word (x ∷ xs) h = absurd (omega (arith, h))
 pub reach-some : {T K : Type 0} (d : ℕ) (word : List ℕ) (xs : List (ArgInfo T K)) → 0 < length xs → IsNode d word (entries_of xs) → d ≤ reach (entries_of xs) word
 reach-some d word [] lt node = absurd (omega (arith, lt))
 reach-some d word (x ∷ xs) lt node = reach-least d word (entry_of x) (entries_of xs) node
+
+-- none reaches behind the word
+shared-within : (flag word : List ℕ) → shared flag word ≤ length word
+shared-within [] word = omega arith
+shared-within (b ∷ flag) [] = omega arith
+shared-within (b ∷ flag) (c ∷ word) = grind (arith, shared-within flag word)
+
+pub reach-within : {K : Type 0} (es : List (Entry K)) (word : List ℕ) → reach es word ≤ length word
+reach-within [] word = omega arith
+reach-within (e ∷ es) word = omega (arith, shared-within e.flag word, reach-within es word)

@@ -3,9 +3,11 @@
 
 pub mod argument;
 pub mod argument_error;
+mod branch;
 pub mod byte_tree;
 pub mod command;
 pub mod cutting;
+mod fork;
 pub mod printing;
 pub mod reading_back;
 pub mod splitting;

@@ -1,9 +1,10 @@
 //! Tables of options, and the search for the longest flag that fits a word.
 
-ghost use Rattle.std.specs.Prelude.{◌≡◌, true, All, List, [], ◌∷◌, ◌++◌, if◌then◌else◌, nat_le, nat_lt, max, IsTrue};
+ghost use Rattle.std.specs.Prelude.{◌≡◌, All, IfSome, List, [], ◌∷◌, ◌++◌, if◌then◌else◌, nat_le, nat_lt, max, IsTrue};
 ghost use Rattle.std.specs.List.{list_all};
 ghost use Rattle.std.specs.List.Sorted.{IsNonDecreasingBy};
-ghost use Rattle.cmdlines_base.specs.Nodes.{GoesOn, HasByte, IsNode, IsPicked, byte_at};
+ghost use Rattle.cmdlines_base.specs.Forks.{going_on};
+ghost use Rattle.cmdlines_base.specs.Nodes.{GoesOn, IsNode, IsPicked, byte_at};
 ghost use Rattle.std.specs.Option.{option_copied};
 ghost use Rattle.os_files.specs.Bytes.{Bytes};
 ghost use Rattle.cmdlines_base.specs.Reach.{reach};
@@ -38,7 +39,7 @@ impl<T: ArgumentValue> ArgInfo<T> {
     }
 
     /// The byte of the flag behind that many, or 0 where it has ended.
-    fn byte_at(&self, depth: usize) -> u8
+    pub(crate) fn byte_at(&self, depth: usize) -> u8
         ensures { result ≡ byte_at depth (entry_of self.now) }
     {
         match self.flag().as_bytes().get(depth) {
@@ -111,6 +112,16 @@ pub(crate) fn longer<'a, T: ArgumentValue>(
     }
 }
 
+/// A node's entries without the one whose flag ends there.
+pub(crate) fn going_on<T: ArgumentValue>(node: &[ArgInfo<T>], depth: usize) -> &[ArgInfo<T>]
+    ensures { entries_of result.now ≡ going_on depth (entries_of node.now) }
+{
+    match node.split_first() {
+        Some((entry, others)) if entry.flag().len() <= depth => others,
+        _ => node,
+    }
+}
+
 /// Of a node's entries, the best with the one whose flag ends there, where it fits; and the others.
 pub(crate) fn past_ended<'a, T: ArgumentValue>(
     best: Option<&'a ArgInfo<T>>,
@@ -123,6 +134,7 @@ pub(crate) fn past_ended<'a, T: ArgumentValue>(
         ≡ longer (entry_at best.entry) (longest_fit (entries_of node.now) word.now) }
     ensures node { IsNode depth word.now (entries_of result.1.now) }
     ensures on { All (GoesOn depth) (entries_of result.1.now) }
+    ensures rest { entries_of result.1.now ≡ going_on depth (entries_of node.now) }
     ensures reach { max depth (reach (entries_of result.1.now) word.now)
         ≡ max depth (reach (entries_of node.now) word.now) }
 {
@@ -139,15 +151,29 @@ pub(crate) fn past_ended<'a, T: ArgumentValue>(
     }
 }
 
-/// Whether all of these entries, whose bytes behind that many rise, have that byte: the first and the last one tell.
-fn all_have<T: ArgumentValue>(entries: &[ArgInfo<T>], depth: usize, byte: u8) -> bool
+/// Of entries whose bytes behind that many rise, those with that byte, where the first and the last one tell.
+fn picked_at_ends<'a, T: ArgumentValue>(
+    entries: &'a [ArgInfo<T>],
+    depth: usize,
+    byte: u8,
+) -> Option<&'a [ArgInfo<T>]>
     requires rising { IsNonDecreasingBy (λ e. byte_at depth (entry_of e)) entries.now }
-    ensures { result ≡ true → All (HasByte depth byte) (entries_of entries.now) }
+    ensures { IfSome result (λ r. IsPicked depth byte (entries_of entries.now) (entries_of r.now)) }
 {
-    match (entries.first(), entries.last()) {
-        (Some(first), Some(last)) => { first.byte_at(depth) == byte && last.byte_at(depth) == byte }
-        _ => false,
+    let Some(first) = entries.first() else {
+        return Some(entries);
+    };
+    let Some(last) = entries.last() else {
+        return Some(entries);
+    };
+    let (least, most) = (first.byte_at(depth), last.byte_at(depth));
+    if byte < least || most < byte {
+        return Some(&entries[..0]);
     }
+    if least == byte && most == byte {
+        return Some(entries);
+    }
+    None
 }
 
 /// Of entries whose bytes behind that many rise, those with that byte.
@@ -159,9 +185,8 @@ pub(crate) fn picked<'a, T: ArgumentValue>(
     requires rising { IsNonDecreasingBy (λ e. byte_at depth (entry_of e)) entries.now }
     ensures { IsPicked depth byte (entries_of entries.now) (entries_of result.now) }
 {
-    // Most of a table's stretches have one byte more in common.
-    if all_have(entries, depth, byte) {
-        return entries;
+    if let Some(found) = picked_at_ends(entries, depth, byte) {
+        return found;
     }
     let start = entries.partition_point(
         |entry: &ArgInfo<T>| -> bool

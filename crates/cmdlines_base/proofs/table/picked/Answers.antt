@@ -3,9 +3,9 @@ use Rattle.std.proofs.lemmas.List.{length-drop}
 use Rattle.std.proofs.Math.Seq.{take-length}
 use Rattle.std.proofs.lemmas.List.Sorted.{IsPartitionPoint-from_clause, IsPartitionedBy-ltb, IsPartitionedBy-leb, IsNonDecreasingBy-drop}
 use Rattle.cmdlines_base.specs.declared.table.ArgInfo.{ArgInfo}
-use Rattle.cmdlines_base.specs.Table.{entry_of, entries_of}
+use Rattle.cmdlines_base.specs.Table.{entry_of}
 use Rattle.cmdlines_base.specs.Nodes.{byte_at}
-use Rattle.cmdlines_base.proofs.NodeLemmas.{picked_is, drop_whole, whole_picked}
+use Rattle.cmdlines_base.proofs.NodeLemmas.{picked_is, drop_whole}
 use Rattle.cmdlines_base.proofs.table.picked.Goals as goal
 
 pub returns : goal.returns
@@ -22,6 +22,3 @@ returns g c =
     is
     (IsPartitionPoint-from_clause (λ e. nat_lt (n e) c.args.byte) xs start c.partition_point-start.ensures.partitioned (IsPartitionedBy-ltb n xs c.args.byte c.requires.rising) (λ a r f k. search (rules, of_calls)))
     (IsPartitionPoint-from_clause (λ e. nat_le (n e) c.args.byte) rest c.partition_point-end.result c.partition_point-end.ensures.partitioned (rw is (IsPartitionedBy-leb n (drop start xs) c.args.byte up)) (λ a r f k. search (rules, of_calls)))
-
-pub returns-then-all_have : goal.returns-then-all_have
-returns-then-all_have g c = whole_picked c.args.depth c.args.byte (entries_of c.args.entries.now) (c.if-all_have.ensures refl)
