@@ -1,12 +1,10 @@
 -- Where the entries with each byte stand, as they are noted one by one.
-use Rattle.std.proofs.Common.{◌≡◌, ◌≢◌, ◌+◌, ◌-◌, ◌&&◌, ℕ, ◌≤◌, ◌<◌, List, length, take, drop, get_or, Bool, true, false, eqb, nat_lt, cond, refl, ap, sym, subst, ◌∙◌, arith, All}
-use Rattle.std.proofs.lemmas.List.{get_or-take, get_or-drop, length-take, length-drop, length-map, take-map, drop-map}
-use Rattle.std.proofs.lemmas.List.Elements.{All-from_all_within}
+use Rattle.std.proofs.Common.{◌≡◌, ◌≢◌, ◌+◌, ◌-◌, ◌&&◌, ℕ, ◌≤◌, ◌<◌, List, length, take, drop, get_or, Bool, true, false, eqb, nat_lt, cond, refl, ap, sym, subst, ◌∙◌, arith}
+use Rattle.std.proofs.lemmas.List.{get_or-drop, length-drop, length-map, take-map, drop-map}
 use Rattle.std.specs.List.Sorted.{IsNonDecreasingBy}
-use Rattle.std.specs.List.{slice_range}
 use Rattle.std.proofs.lemmas.Bool.{eqb-true, eqb-false}
 use Rattle.cmdlines_base.specs.declared.table.ArgInfo.{ArgInfo}
-use Rattle.cmdlines_base.specs.Table.{Entry, entry_of, entries_of}
+use Rattle.cmdlines_base.specs.Table.{entry_of, entries_of}
 use Rattle.cmdlines_base.specs.Nodes.{IsPicked, byte_at}
 use Rattle.cmdlines_base.specs.Forks.{StandAt}
 use Rattle.cmdlines_base.proofs.NodeLemmas.{stretches, taken, left}

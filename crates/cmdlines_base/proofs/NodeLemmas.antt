@@ -1,7 +1,7 @@
 -- Nodes of a table: entries whose flags begin alike, and those of them with one byte behind that.
-use Rattle.std.proofs.Common.{◌≡◌, ◌≢◌, ◌+◌, ◌-◌, ◌⊎◌, inl, inr, ⊎_elim, Ordering, ◌&&◌, suc, zero, ℕ, ◌≤◌, ◌<◌, List, [], ◌∷◌, ◌++◌, length, take, drop, map, Option, None, Some, Bool, true, false, nat_lt, nat_le, cond, refl, ap, sym, subst, append_assoc, ◌∙◌, arith, All, get_or, MatchOption}
+use Rattle.std.proofs.Common.{◌≡◌, ◌≢◌, ◌+◌, ◌-◌, ◌⊎◌, inl, inr, ⊎_elim, Ordering, ◌&&◌, suc, zero, ℕ, ◌≤◌, ◌<◌, List, [], ◌∷◌, ◌++◌, length, take, drop, Option, None, Some, Bool, true, false, nat_lt, nat_le, cond, refl, ap, sym, subst, ◌∙◌, arith, All, get_or, MatchOption}
 use Rattle.std.proofs.lemmas.List.{append-nil, take-append-drop, get_or-take, get_or-drop, length-take, length-drop, length-map, map-append, get_or-map}
-use Rattle.std.proofs.lemmas.List.Elements.{All-append, All-cons, All-nil, All-head, All-tail, All-weaker, All-map, All-from_all_within, All-get_or}
+use Rattle.std.proofs.lemmas.List.Elements.{All-cons, All-nil, All-head, All-tail, All-weaker, All-map, All-from_all_within, All-get_or}
 use Rattle.std.proofs.Math.Seq.{take-length}
 use Rattle.std.proofs.lemmas.Option.{get_or_from_slice_get}
 use Rattle.std.specs.List.{AllWithin, slice_get}
@@ -9,7 +9,7 @@ use Rattle.std.specs.List.Sorted.{IsPartitionPoint, IsNonDecreasingBy}
 use Rattle.cmdlines_base.specs.declared.table.ArgInfo.{ArgInfo}
 use Rattle.cmdlines_base.specs.Table.{behind, longer, longest_fit, Entry, entry_of, entries_of, fits, may_follow, has_ascii, is_table, rises_to}
 use Rattle.cmdlines_base.specs.Nodes.{Begins, GoesOn, HasByte, IsNode, IsPicked, LacksByte, byte_at}
-use Rattle.cmdlines_base.proofs.TableLemmas.{longest_fit-append, longer-none}
+use Rattle.cmdlines_base.proofs.TableLemmas.{behind-append, longest_fit-append, longer-none}
 use Rattle.std.specs.Option.{option_map_or}
 use Rattle.cmdlines_base.specs.Forks.{going_on}
 use Rattle.std.specs.Ordering.{nat_cmp, is_lt, ordering_then}
@@ -102,6 +102,20 @@ whole_picked d byte es have = record { front = []; back = []; whole = sym (appen
 
 pub drop_whole : {X : Type 0} (i : ℕ) (xs : List X) → take (length xs - i) (drop i xs) ≡ drop i xs
 drop_whole i xs = ap (λ n. take n (drop i xs)) (sym (length-drop i xs)) ∙ take-length (drop i xs)
+
+-- a flag that begins the word: what stands behind it is what is left of the word
+begins_by : (flag word : List ℕ) → take (length flag) word ≡ flag → behind flag word ≡ Some (drop (length flag) word)
+begins_by flag word same = ap (λ w. behind flag w) (sym (take-append-drop (length flag) word) ∙ ap (λ l. l ++ drop (length flag) word) same) ∙ behind-append flag (drop (length flag) word)
+
+-- so it fits where that may follow
+pub ended_fits : {K : Type 0} (d : ℕ) (word : List ℕ) (e : Entry K) → Begins d word e → length e.flag ≤ d → fits e word ≡ may_follow e (drop d word)
+ended_fits d word e b le =
+    let long : length e.flag ≡ d = omega (arith, le, b.long) in
+    let all : take (length e.flag) word ≡ e.flag = ap (λ n. take n word) long ∙ sym b.alike ∙ ap (λ n. take n e.flag) (sym long) ∙ take-length e.flag in
+    ap (λ r. option_map_or (may_follow e) r false) (begins_by e.flag word all) ∙ ap (λ n. may_follow e (drop n word)) long
+
+pub ended_within : {K : Type 0} (d : ℕ) (word : List ℕ) (e : Entry K) → Begins d word e → d ≤ length word
+ended_within d word e b = omega (arith, b.long, ap (λ (l : List ℕ). length l) b.alike, length-take d e.flag, length-take d word)
 
 -- a longer flag doesn't begin a word
 behind-longer : (flag word : List ℕ) → length word < length flag → behind flag word ≡ None

@@ -1,12 +1,12 @@
 -- The entries of a table that begin as the first one does.
-use Rattle.std.proofs.Common.{◌≡◌, ◌∷◌, [], ◌≤◌, ◌<◌, ℕ, zero, suc, List, length, take, drop, get_or, Option, None, Some, MatchOption, Bool, true, false, nat_lt, nat_le, max, refl, ap, sym, subst, ◌∙◌, arith, All}
+use Rattle.std.proofs.Common.{◌≡◌, ◌∷◌, [], ◌≤◌, ◌<◌, ℕ, zero, suc, List, length, take, get_or, Option, Some, MatchOption, true, false, nat_lt, nat_le, refl, ap, sym, subst, ◌∙◌, arith, All}
 use Rattle.std.proofs.lemmas.List.{take-map}
 use Rattle.std.proofs.lemmas.Option.{get_or_from_slice_get}
 use Rattle.std.specs.List.{slice_get}
 use Rattle.std.specs.List.Sorted.{IsPartitionPoint, IsNonDecreasingBy}
 use Rattle.cmdlines_base.specs.declared.branch.Stem.{Stem}
 use Rattle.cmdlines_base.specs.declared.table.ArgInfo.{ArgInfo}
-use Rattle.cmdlines_base.specs.Forks.{IsStemOf, going_on}
+use Rattle.cmdlines_base.specs.Forks.{IsStemOf}
 use Rattle.cmdlines_base.specs.Nodes.{GoesOn, IsNode, IsPicked, byte_at}
 use Rattle.cmdlines_base.specs.Reach.{reach}
 use Rattle.cmdlines_base.specs.Table.{Entry, entry_of, entries_of, is_table, longest_fit}

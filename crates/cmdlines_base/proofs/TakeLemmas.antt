@@ -1,11 +1,11 @@
 -- What a first word and the words behind it make.
-use Rattle.std.proofs.Common.{◌≡◌, length, List, [], ◌∷◌, None, Some, Result, Ok, Err, true, false, IfErr, IsErrAnd, refl, ap, sym, subst, ◌∙◌, arith}
+use Rattle.std.proofs.Common.{◌≡◌, length, List, [], ◌∷◌, None, Some, Result, Ok, Err, IfErr, IsErrAnd, refl, ap, sym, subst, ◌∙◌, arith}
 use Rattle.std.specs.Borrow.{Bor}
 use Rattle.os_files.specs.Bytes.{Bytes}
 use Rattle.cmdlines_base.specs.Refusal.{Refusal, IsErrorOf}
-use Rattle.cmdlines_base.specs.Reading.{Item, valued, Start, whole, awaits, ends}
+use Rattle.cmdlines_base.specs.Reading.{valued, Start, whole, awaits, ends}
 use Rattle.cmdlines_base.specs.Cutting.{taken}
-use Rattle.cmdlines_base.specs.Values.{Values, IsOf, IsFirst, IsRefused, Takes, TakesRefused, FailsToTake}
+use Rattle.cmdlines_base.specs.Values.{Values, IsOf, IsFirst, IsRefused, Takes, FailsToTake}
 use Rattle.cmdlines_base.specs.declared.argument.ArgDisposition.{ArgDisposition}
 use Rattle.cmdlines_base.specs.declared.argument.ArgDisposition.TheVariants.{CanBeConcatenated, Concatenated}
 use Rattle.cmdlines_base.specs.declared.argument.Argument.{Argument}

@@ -1,5 +1,5 @@
 -- Where the flags of a table part: by their first byte, and behind it by the second one.
-use Rattle.std.specs.Prelude.{◌≡◌, ℕ, ◌≤◌, ◌<◌, List, [], ◌∷◌, length, take, All, nat_le, if◌then◌else◌, slice_index_or, slice_range}
+use Rattle.std.specs.Prelude.{ℕ, ◌≤◌, ◌<◌, List, [], ◌∷◌, length, take, All, nat_le, if◌then◌else◌, slice_index_or, slice_range}
 use Rattle.cmdlines_base.specs.Nodes.{GoesOn, IsPicked}
 use Rattle.cmdlines_base.specs.Table.{Entry}
 use Rattle.cmdlines_base.specs.declared.fork.Fork.{Fork}

@@ -1,14 +1,14 @@
 //! Tables of options, and the search for the longest flag that fits a word.
 
-ghost use Rattle.std.specs.Prelude.{◌≡◌, All, IfSome, List, [], ◌∷◌, ◌++◌, if◌then◌else◌, nat_le, nat_lt, max, IsTrue};
+ghost use Rattle.std.specs.Prelude.{◌≡◌, ◌≤◌, length, All, IfSome, List, [], ◌∷◌, ◌++◌, if◌then◌else◌, nat_le, nat_lt, max, IsTrue};
 ghost use Rattle.std.specs.List.{list_all};
 ghost use Rattle.std.specs.List.Sorted.{IsNonDecreasingBy};
 ghost use Rattle.cmdlines_base.specs.Forks.{going_on};
-ghost use Rattle.cmdlines_base.specs.Nodes.{GoesOn, IsNode, IsPicked, byte_at};
+ghost use Rattle.cmdlines_base.specs.Nodes.{Begins, GoesOn, IsNode, IsPicked, byte_at};
 ghost use Rattle.std.specs.Option.{option_copied};
 ghost use Rattle.os_files.specs.Bytes.{Bytes};
 ghost use Rattle.cmdlines_base.specs.Reach.{reach};
-ghost use Rattle.cmdlines_base.specs.Table.{Entry, entry_of, entry_at, entries_of, fits, joins_by, has_ascii, rises_to, is_table, longer, all_entries, longest_fit, IsEntryOf, behind};
+ghost use Rattle.cmdlines_base.specs.Table.{Entry, entry_of, entry_at, entries_of, fits, joins_by, may_follow, has_ascii, rises_to, is_table, longer, all_entries, longest_fit, IsEntryOf, behind};
 
 use crate::argument::{ArgDisposition, Delimiter};
 use crate::value::ArgumentValue;
@@ -60,13 +60,10 @@ impl<T: ArgumentValue> ArgInfo<T> {
         }
     }
 
-    /// Whether the word is the flag, or the flag with its value behind it.
-    pub fn fits(&self, word: &[u8]) -> bool
-        ensures { result ≡ fits (entry_of self.now) word.now }
+    /// Whether this may stand behind the flag in the same word.
+    fn may_follow(&self, rest: &[u8]) -> bool
+        ensures { result ≡ may_follow (entry_of self.now) rest.now }
     {
-        let Some(rest) = behind(self.flag().as_bytes(), word) else {
-            return false;
-        };
         let Some(next) = rest.first() else {
             return true;
         };
@@ -75,6 +72,26 @@ impl<T: ArgumentValue> ArgInfo<T> {
             Some(None) => true,
             Some(Some(delimiter)) => *next == delimiter,
         }
+    }
+
+    /// Whether the word is the flag, or the flag with its value behind it.
+    pub fn fits(&self, word: &[u8]) -> bool
+        ensures { result ≡ fits (entry_of self.now) word.now }
+    {
+        match behind(self.flag().as_bytes(), word) {
+            Some(rest) => self.may_follow(rest),
+            None => false,
+        }
+    }
+
+    /// The same of a word that begins with the flag, which has so many bytes.
+    fn fits_behind(&self, depth: usize, word: &[u8]) -> bool
+        requires begins { Begins depth word.now (entry_of self.now) }
+        requires ends { length (entry_of self.now).flag ≤ depth }
+        requires within { depth ≤ length word.now }
+        ensures { result ≡ fits (entry_of self.now) word.now }
+    {
+        self.may_follow(&word[depth..])
     }
 
     /// Whether the delimiter, if there is one, is ASCII.
@@ -140,7 +157,7 @@ pub(crate) fn past_ended<'a, T: ArgumentValue>(
 {
     match node.split_first() {
         Some((entry, others)) if entry.flag().len() <= depth => {
-            let found = if entry.fits(word) {
+            let found = if entry.fits_behind(depth, word) {
                 longer(best, Some(entry))
             } else {
                 best

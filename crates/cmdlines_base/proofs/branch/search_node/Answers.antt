@@ -1,4 +1,4 @@
-use Rattle.std.proofs.Common.{◌≡◌, ◌+◌, ◌==◌, ◌≤◌, ◌<◌, length, sym, ap, subst, ◌∙◌, arith, max, true, get_or}
+use Rattle.std.proofs.Common.{◌≡◌, ◌+◌, ◌≤◌, ◌<◌, length, sym, ap, subst, ◌∙◌, arith, get_or}
 use Rattle.cmdlines_base.specs.Reach.{reach}
 use Rattle.cmdlines_base.specs.Nodes.{IsPicked}
 use Rattle.cmdlines_base.specs.Table.{entry_at, entries_of, longer, longest_fit}

@@ -1,21 +1,22 @@
-use Rattle.std.proofs.Common.{◌≡◌, ◌<◌, ◌≤◌, max, All, List, [], ◌∷◌, length, sym, subst, ap, arith, ◌∙◌}
+use Rattle.std.proofs.Common.{◌<◌, ◌≤◌, max, All, ◌∷◌, length, sym, subst, ap, arith, ◌∙◌}
 use Rattle.std.proofs.lemmas.List.{length-map}
-use Rattle.cmdlines_base.specs.Nodes.{GoesOn, IsNode}
+use Rattle.std.proofs.lemmas.List.Elements.{All-head}
+use Rattle.cmdlines_base.specs.Nodes.{Begins, GoesOn, IsNode}
 use Rattle.cmdlines_base.specs.Table.{entry_of, entries_of}
 use Rattle.cmdlines_base.specs.Reach.{reach}
-use Rattle.cmdlines_base.proofs.NodeLemmas.{all_on, ends_once, node_behind}
+use Rattle.cmdlines_base.proofs.NodeLemmas.{all_on, ended_within, ends_once, node_behind}
 use Rattle.cmdlines_base.proofs.ReachLemmas.{reach-ended}
 use Rattle.cmdlines_base.proofs.table.past_ended.Goals.{in_default-via-in-Some+else-flag-depth, in_default-via-in_default}
 use Rattle.cmdlines_base.proofs.table.past_ended.Goals as goal
 
-pub returns-after-fits-clause-node : goal.returns-after-fits-clause-node
-returns-after-fits-clause-node g c =
+pub returns-after-fits_behind-clause-node : goal.returns-after-fits_behind-clause-node
+returns-after-fits_behind-clause-node g c =
     let d = c.args.depth in
     let word = c.args.word.now in
     node_behind d word (entry_of c.in-Some.entry.now) (entries_of c.in-Some.others.now) (subst (λ xs. IsNode d word (entries_of xs)) c.in-Some.ensures.cases.0 c.requires.node)
 
-pub returns-after-fits-clause-on : goal.returns-after-fits-clause-on
-returns-after-fits-clause-on g c =
+pub returns-after-fits_behind-clause-on : goal.returns-after-fits_behind-clause-on
+returns-after-fits_behind-clause-on g c =
     let d = c.args.depth in
     let word = c.args.word.now in
     let node : IsNode d word (entry_of c.in-Some.entry.now ∷ entries_of c.in-Some.others.now) = subst (λ xs. IsNode d word (entries_of xs)) c.in-Some.ensures.cases.0 c.requires.node in
@@ -33,8 +34,8 @@ returns-in_default-clause-on g c =
       | in_default-via-in_default w ↦ λ k e lt. absurd (omega (arith, lt, length-map c.args.node.now entry_of, w.in_default.ensures.cases))
     ]
 
-pub returns-after-fits-clause-reach : goal.returns-after-fits-clause-reach
-returns-after-fits-clause-reach g c =
+pub returns-after-fits_behind-clause-reach : goal.returns-after-fits_behind-clause-reach
+returns-after-fits_behind-clause-reach g c =
     let d = c.args.depth in
     let word = c.args.word.now in
     let e = entry_of c.in-Some.entry.now in
@@ -42,3 +43,12 @@ returns-after-fits-clause-reach g c =
     let node : IsNode d word (e ∷ es) = subst (λ xs. IsNode d word (entries_of xs)) c.in-Some.ensures.cases.0 c.requires.node in
     let le : length e.flag ≤ d = omega (arith, c.if-flag-depth.true, ap length c.flag.ensures) in
     reach-ended d word e es node le ∙ ap (λ xs. max d (reach (entries_of xs) word)) (sym c.in-Some.ensures.cases.0)
+
+pub fits_behind-requires : goal.fits_behind-requires
+fits_behind-requires g c =
+    let d = c.args.depth in
+    let word = c.args.word.now in
+    let e = entry_of c.in-Some.entry.now in
+    let node : IsNode d word (e ∷ entries_of c.in-Some.others.now) = subst (λ xs. IsNode d word (entries_of xs)) c.in-Some.ensures.cases.0 c.requires.node in
+    let begins = All-head (Begins d word) e (entries_of c.in-Some.others.now) node.begin in
+    record { begins = begins; ends = omega (arith, c.if-flag-depth.true, ap length c.flag.ensures); within = ended_within d word e begins }

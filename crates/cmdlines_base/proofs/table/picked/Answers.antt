@@ -1,6 +1,4 @@
-use Rattle.std.proofs.Common.{rules, of_calls, refl, ◌≡◌, ◌-◌, length, take, drop, nat_lt, nat_le, ◌∙◌, ap, sym, arith}
-use Rattle.std.proofs.lemmas.List.{length-drop}
-use Rattle.std.proofs.Math.Seq.{take-length}
+use Rattle.std.proofs.Common.{rules, of_calls, ◌≡◌, ◌-◌, length, take, drop, nat_lt, nat_le}
 use Rattle.std.proofs.lemmas.List.Sorted.{IsPartitionPoint-from_clause, IsPartitionedBy-ltb, IsPartitionedBy-leb, IsNonDecreasingBy-drop}
 use Rattle.cmdlines_base.specs.declared.table.ArgInfo.{ArgInfo}
 use Rattle.cmdlines_base.specs.Table.{entry_of}

@@ -1,4 +1,4 @@
-use Rattle.std.proofs.Common.{◌≡◌, length, sym, ◌∙◌, arith}
+use Rattle.std.proofs.Common.{sym, ◌∙◌, arith}
 use Rattle.cmdlines_base.specs.Table.{entries_of}
 use Rattle.cmdlines_base.proofs.NodeLemmas.{ends_tell, high_tells, low_tells, nothing_picked, whole_picked}
 use Rattle.cmdlines_base.proofs.table.picked_at_ends.Goals.{then-byte-least-via-then-byte-least, then-byte-least-via-else-byte-least+then-most-byte}

@@ -1,8 +1,8 @@
-use Rattle.std.proofs.Common.{◌≡◌, ◌<◌, length, take, get_or, true, sym, ap, subst, ◌∙◌, arith}
+use Rattle.std.proofs.Common.{◌≡◌, ◌<◌, length, take, sym, ap, subst, ◌∙◌, arith}
 use Rattle.std.proofs.lemmas.List.{length-map, length-take, take-map}
 use Rattle.cmdlines_base.specs.Forks.{IsForkOf, IsStemOf, going_on}
 use Rattle.cmdlines_base.specs.Reach.{reach}
-use Rattle.cmdlines_base.specs.Table.{entry_at, entry_of, entries_of, is_table, longer, longest_fit}
+use Rattle.cmdlines_base.specs.Table.{entry_at, entry_of, entries_of, longer, longest_fit}
 use Rattle.cmdlines_base.proofs.NodeLemmas.{below_fits, below_node, none_fits}
 use Rattle.cmdlines_base.proofs.ReachLemmas.{reach-below, reach-none, reach-some}
 use Rattle.cmdlines_base.proofs.StemLemmas.{stem_fits, stem_node, stem_reach}

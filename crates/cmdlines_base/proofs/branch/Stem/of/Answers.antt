@@ -1,4 +1,4 @@
-use Rattle.std.proofs.Common.{◌≡◌, ◌∷◌, [], nat_le, take, length, Some, true, false, refl, sym, ap, subst, ◌∙◌, arith, rules, of_calls, All}
+use Rattle.std.proofs.Common.{◌≡◌, ◌∷◌, [], nat_le, take, Some, true, false, sym, ap, subst, ◌∙◌, arith, rules, of_calls, All}
 use Rattle.std.proofs.lemmas.List.{length-map, take-map}
 use Rattle.std.proofs.lemmas.List.Sorted.{IsPartitionPoint-from_clause, IsPartitionedBy-leb}
 use Rattle.std.specs.List.{slice_get}
@@ -6,7 +6,7 @@ use Rattle.std.specs.List.Sorted.{IsPartitionPoint}
 use Rattle.cmdlines_base.specs.declared.table.ArgInfo.{ArgInfo}
 use Rattle.cmdlines_base.specs.Forks.{IsForkOf, going_on}
 use Rattle.cmdlines_base.specs.Nodes.{GoesOn, IsNode, IsPicked, byte_at}
-use Rattle.cmdlines_base.specs.Table.{entry_of, entries_of, is_table}
+use Rattle.cmdlines_base.specs.Table.{entry_of, entries_of}
 use Rattle.cmdlines_base.proofs.NodeLemmas.{bytes_rise, going_on_node}
 use Rattle.cmdlines_base.proofs.StemLemmas.{firsts_rise, front_node, front_picked, none_empty, some_front}
 use Rattle.cmdlines_base.proofs.branch.Stem.of.Goals as goal

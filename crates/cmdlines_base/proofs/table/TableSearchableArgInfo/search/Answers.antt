@@ -1,5 +1,5 @@
-use Rattle.std.proofs.Common.{◌≡◌, ◌==◌, length, sym, ap, ◌∙◌, arith, get_or, Option, None, true}
-use Rattle.cmdlines_base.specs.Table.{Entry, entry_at, entries_of, longer, longest_fit}
+use Rattle.std.proofs.Common.{◌≡◌, length, sym, ap, ◌∙◌, arith}
+use Rattle.cmdlines_base.specs.Table.{entry_at, entries_of, longer, longest_fit}
 use Rattle.cmdlines_base.proofs.NodeLemmas.{below_fits, below_node, bytes_rise, ended, none_fits}
 use Rattle.cmdlines_base.proofs.table.TableSearchableArgInfo.search.Goals as goal
 
