@@ -1,7 +1,5 @@
-//! Tests of the options of rustc: what their words say, and what each value prints, by example.
+//! Tests of the texts of rustc's options where their paths are transformed, which no row of data can show.
 #![tactic(auto)]
 
 #[cfg(test)]
-mod options;
-#[cfg(test)]
-mod values;
+mod texts;
