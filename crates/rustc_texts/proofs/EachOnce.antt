@@ -11,7 +11,7 @@ abbrev other_than : Bytes → Bytes → Bool
 other_than name other = not (bytes_eq name other)
 
 -- a name that isn't that one stands among the others too
-has-among : (name other : Bytes) → bytes_eq other name ≡ false → (names : List Bytes) → has_name (filter (other_than name) names) other ≡ has_name names other
+pub has-among : (name other : Bytes) → bytes_eq other name ≡ false → (names : List Bytes) → has_name (filter (other_than name) names) other ≡ has_name names other
 has-among name other apart [] = refl
 has-among name other apart (n ∷ names) = by (bytes_eq name n) refl (has-among name other apart names)
   where

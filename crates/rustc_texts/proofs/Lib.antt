@@ -6,3 +6,5 @@ pub mod MetadataLaws
 pub mod NameLaws
 pub mod WordLaws
 mod ToldNames
+mod LastPlaces
+mod InPlace

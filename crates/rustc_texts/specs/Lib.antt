@@ -3,4 +3,5 @@ pub mod EnvDeps
 pub mod Rewriting
 pub mod Variables
 pub mod Outputs
+pub mod Places
 pub mod Words

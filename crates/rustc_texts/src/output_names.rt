@@ -1,60 +1,15 @@
 //! The names of what a request writes: those that rustc tells, less what isn't written, and with the metadata that it doesn't tell.
 
-ghost use Rattle.std.specs.Prelude.{◌≡◌, IfOk, OnOk, filter};
+ghost use Rattle.std.specs.Prelude.{◌≡◌, IfOk, filter};
 ghost use Rattle.std.specs.List.{list_all};
-ghost use Rattle.rustc_texts.specs.Outputs.{Tells, each_once, has_name, is_no_binary, is_of_crate, is_rlib, metadata_name, named, output_names, with_metadata, with_metadata_of, with_name, without_binaries, without_name, writes_no_binary};
+ghost use Rattle.rustc_texts.specs.Outputs.{each_once, is_no_binary, is_of_crate, named, output_names, without_binaries, writes_no_binary};
 
+use crate::metadata::{is_rlib, with_metadata};
+use crate::told::add_name;
 use os_files::listed::Listed;
 use os_files::os_bytes::OsBytes;
 use std::alloc::{AllocError, Global};
 use std::collections::BTreeSet;
-
-/// Whether one of the names is that name.
-fn has_name(names: &[OsBytes], name: &[u8]) -> bool
-    ensures { result ≡ has_name names.now name.now }
-{
-    names.iter().any(|other| name == other.as_bytes())
-}
-
-/// The names with one at their end, unless it's there.
-fn with_name(alloc: Global, names: Vec<OsBytes>, name: &[u8]) -> Result<Vec<OsBytes>, AllocError>
-    ensures { IfOk result (λ made. made.items ≡ with_name names.items name.now) }
-{
-    let mut names = names;
-    if !has_name(names.as_slice(), name) {
-        names.push(OsBytes::from_slice(alloc, name)?)?;
-    }
-    Ok(names)
-}
-
-/// The names but for one.
-fn without_name(alloc: Global, names: Vec<OsBytes>, name: &[u8]) -> Result<Vec<OsBytes>, AllocError>
-    ensures { IfOk result (λ made. made.items ≡ without_name names.items name.now) }
-{
-    let mut kept = Vec::with_capacity(alloc, names.len())?;
-    for other in names {
-        if name != other.as_bytes() {
-            kept.push(other)?;
-        }
-    }
-    Ok(kept)
-}
-
-/// Adds a name, unless it's there, which a set of the names tells.
-fn add_name(
-    names: &mut Vec<OsBytes>,
-    told: &mut BTreeSet<OsBytes>,
-    name: OsBytes,
-) -> Result<(), AllocError>
-    requires { Tells told.old names.old.items }
-    ensures names { OnOk result (names.new.items ≡ with_name names.old.items name) }
-    ensures told { OnOk result (Tells told.new names.new.items) }
-{
-    if told.insert(name.clone()?)? {
-        names.push(name)?;
-    }
-    Ok(())
-}
 
 /// The names that rustc tells: the lines of its answer, each once, where it stands first.
 fn named(alloc: Global, text: &str) -> Result<Vec<OsBytes>, AllocError>
@@ -89,12 +44,6 @@ fn writes_no_binary(emit: &[OsBytes]) -> bool
     !emit.is_empty() && are_no_binaries(emit)
 }
 
-fn is_rlib(name: &[u8]) -> bool
-    ensures { result ≡ is_rlib name.now }
-{
-    name.ends_with(b".rlib")
-}
-
 fn is_of_crate(name: &[u8]) -> bool
     ensures { result ≡ is_of_crate name.now }
 {
@@ -127,76 +76,6 @@ fn without_binaries(
     } else {
         Ok(names)
     }
-}
-
-/// The name of a library's metadata: its first `.rlib` is `.rmeta`.
-fn metadata_name(alloc: Global, library: &[u8]) -> Result<OsBytes, AllocError>
-    ensures { IfOk result (λ name. name ≡ metadata_name library.now) }
-{
-    let mut name = Vec::with_capacity(alloc, library.len() + 1)?;
-    let mut rest = library;
-    while let Some((byte, behind)) = rest.split_first() {
-        if let Some(ending) = rest.strip_prefix(b".rlib") {
-            name.extend_from_slice(b".rmeta")?;
-            name.extend_from_slice(ending)?;
-            return Ok(OsBytes::from_vec(name));
-        }
-        name.push(*byte)?;
-        rest = behind;
-    }
-    Ok(OsBytes::from_vec(name))
-}
-
-/// The names with that of a library's metadata: beside the library where it's linked, and else in its place.
-fn with_metadata_of(
-    alloc: Global,
-    names: Vec<OsBytes>,
-    library: &[u8],
-    links: bool,
-) -> Result<Vec<OsBytes>, AllocError>
-    ensures { IfOk result
-        (λ made. made.items ≡ with_metadata_of links names.items library.now) }
-{
-    let name = metadata_name(alloc, library)?;
-    let both = with_name(alloc, names, name.as_bytes())?;
-    if links {
-        Ok(both)
-    } else {
-        without_name(alloc, both, library)
-    }
-}
-
-/// Those of the names that are of libraries.
-fn libraries(alloc: Global, names: &[OsBytes]) -> Result<Vec<OsBytes>, AllocError>
-    ensures { IfOk result (λ kept. kept.items ≡ filter is_rlib names.now) }
-{
-    let mut kept = Vec::new(alloc);
-    for name in names {
-        if is_rlib(name.as_bytes()) {
-            kept.push(name.clone()?)?;
-        }
-    }
-    Ok(kept)
-}
-
-/// The names with those of the metadata of each library, where metadata is written.
-fn with_metadata(
-    alloc: Global,
-    names: Vec<OsBytes>,
-    emit: &[OsBytes],
-) -> Result<Vec<OsBytes>, AllocError>
-    ensures { IfOk result (λ made. made.items ≡ with_metadata emit.now names.items) }
-{
-    if !has_name(emit, b"metadata") {
-        return Ok(names);
-    }
-    let links = has_name(emit, b"link");
-    let libraries = libraries(alloc, names.as_slice())?;
-    let mut names = names;
-    for library in libraries.as_slice() {
-        names = with_metadata_of(alloc, names, library.as_bytes(), links)?;
-    }
-    Ok(names)
 }
 
 /// The names of what a request writes that asks for these kinds of outputs, by rustc's answer to the question for its file names: a

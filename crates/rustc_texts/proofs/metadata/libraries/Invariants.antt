@@ -1,6 +1,6 @@
 use Rattle.std.proofs.Common.{◌≡◌, filter, take}
 use Rattle.rustc_texts.specs.Outputs.{is_rlib}
-use Rattle.rustc_texts.proofs.output_names.libraries.Given as goal
+use Rattle.rustc_texts.proofs.metadata.libraries.Given as goal
 
 -- those of the names so far
 abbrev pub invariant-loop-name : goal.invariant-loop-name

@@ -1,6 +1,6 @@
 use Rattle.std.proofs.Common.{◌≡◌, ◌++◌, length}
 use Rattle.rustc_texts.specs.Outputs.{metadata_name}
-use Rattle.rustc_texts.proofs.output_names.metadata_name.Given as goal
+use Rattle.rustc_texts.proofs.metadata.metadata_name.Given as goal
 
 -- what is written so far, and the name of the rest
 abbrev pub invariant-loop-byte : goal.invariant-loop-byte

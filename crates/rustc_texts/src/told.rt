@@ -1,0 +1,80 @@
+//! Sets of names, and where names stand last in a list.
+
+ghost use Rattle.std.specs.Prelude.{◌≡◌, List, drop, not, IfOk, OnOk};
+ghost use Rattle.os_files.specs.Bytes.{Bytes};
+ghost use Rattle.rustc_texts.specs.Outputs.{Tells, has_name, with_name, without_name};
+ghost use Rattle.rustc_texts.specs.Places.{TellsLast};
+
+use os_files::os_bytes::OsBytes;
+use std::alloc::{AllocError, Global};
+use std::collections::{BTreeMap, BTreeSet};
+
+/// Adds a name to a set of names, and tells whether it's new there.
+pub(crate) fn tell(told: &mut BTreeSet<OsBytes>, name: &OsBytes) -> Result<bool, AllocError>
+    ensures told { (names : List Bytes) → Tells told.old names
+        → OnOk result (Tells told.new (with_name names name.now)) }
+    ensures is_new { (names : List Bytes) → Tells told.old names
+        → IfOk result (λ is_new. is_new ≡ not (has_name names name.now)) }
+{
+    Ok(told.insert(name.clone()?)?)
+}
+
+/// Takes a name out of a set of names.
+pub(crate) fn untell(told: &mut BTreeSet<OsBytes>, name: &OsBytes)
+    ensures { (names : List Bytes) → Tells told.old names
+        → Tells told.new (without_name names name.now) }
+{
+    told.remove(name);
+}
+
+/// The set of the names.
+pub(crate) fn told_of(alloc: Global, names: &[OsBytes]) -> Result<BTreeSet<OsBytes>, AllocError>
+    ensures { IfOk result (λ told. Tells told names.now) }
+{
+    let mut told = BTreeSet::new(alloc);
+    for name in names {
+        tell(&mut told, name)?;
+    }
+    Ok(told)
+}
+
+/// Adds a name, unless it's there, which a set of the names tells.
+pub(crate) fn add_name(
+    names: &mut Vec<OsBytes>,
+    told: &mut BTreeSet<OsBytes>,
+    name: OsBytes,
+) -> Result<(), AllocError>
+    requires { Tells told.old names.old.items }
+    ensures names { OnOk result (names.new.items ≡ with_name names.old.items name) }
+    ensures told { OnOk result (Tells told.new names.new.items) }
+{
+    if tell(told, &name)? {
+        names.push(name)?;
+    }
+    Ok(())
+}
+
+/// Where each of the names stands last.
+pub(crate) fn last_places(
+    alloc: Global,
+    names: &[OsBytes],
+) -> Result<BTreeMap<OsBytes, usize>, AllocError>
+    ensures { IfOk result (λ last. TellsLast last names.now) }
+{
+    let mut last = BTreeMap::new(alloc);
+    for (place, name) in names.iter().enumerate() {
+        last.insert(name.clone()?, place)?;
+    }
+    Ok(last)
+}
+
+/// Whether a name stands at that place of a list or behind it, by where each stands last.
+pub(crate) fn stands_from(last: &BTreeMap<OsBytes, usize>, place: usize, name: &OsBytes) -> bool
+    ensures { (names : List Bytes) → TellsLast last.now names
+        → result ≡ has_name (drop place names) name.now }
+{
+    match last.get(name) {
+        Some(last) => place <= *last,
+        None => false,
+    }
+}
