@@ -2,6 +2,8 @@
 #![tactic(auto)]
 
 #[cfg(test)]
+mod fail_files;
+#[cfg(test)]
 mod listed;
 #[cfg(test)]
 mod memory_files;

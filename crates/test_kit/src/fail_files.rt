@@ -7,9 +7,6 @@ use os_files::files::{FileFail, Files, Metadata};
 use os_files::os_bytes::OsBytes;
 use std::alloc::Global;
 
-#[cfg(test)]
-mod tests;
-
 /// For tests: files whose device fails at one call, whatever that asks. No call after it fails here.
 #[derive(Drop)]
 pub struct FailFiles<F> {

@@ -2,9 +2,6 @@
 
 use std::fmt;
 
-#[cfg(test)]
-mod tests;
-
 /// Why a request is passed through to its compiler.
 #[derive(Drop)]
 pub enum Reason {

@@ -1,11 +1,11 @@
-//! Each call fails in turn.
+//! Files of the tests whose device fails at one call: each call fails in turn.
 
-use super::FailFiles;
 use os_files::files::{FileFail, Files};
 use os_files::memory_files::MemoryFiles;
 use os_files::os_bytes::OsBytes;
 use std::alloc::Global;
 use std::test::Fail;
+use test_kit::fail_files::FailFiles;
 
 /// Why each of six calls gave no answer.
 fn fails<F: Files>(alloc: Global, files: &mut F, path: &OsBytes) -> [Option<FileFail>; 6] {
