@@ -150,50 +150,87 @@ fn line_for<R: Files + AllocGlobal>(
     given: &String,
     others: &[String],
 ) -> Result<String, Fault> {
-    let alloc = rt.alloc();
-    let line = match work.as_str() {
-        "copy" => line_of(alloc, copies(alloc, &bytes_of(rt, given)?, repeats)?)?,
-        "strip" | "key" | "digest_text" | "digest_copy" => {
-            text_line(rt, work, repeats, given, others)?
+    match work.as_str() {
+        "copy" | "strip" | "key" | "digest_text" | "digest_copy" => {
+            text_line(rt, work, repeats, given, others)
         }
-        "digest" => digests(rt, given, repeats)?,
-        "macros" => macro_digests(rt, given, repeats)?,
-        "gnu" => tally_line(
-            alloc,
-            gnu_splittings(alloc, &bytes_of(rt, given)?, repeats)?,
-        )?,
-        "msvc" => tally_line(
-            alloc,
-            msvc_splittings(alloc, &bytes_of(rt, given)?, repeats)?,
-        )?,
-        "walk" => {
-            let [names] = others else {
-                return Err(Fault::Words);
-            };
-            let names = bytes_of(rt, names)?;
-            let text = bytes_of(rt, given)?;
-            tally_line(alloc, walks(alloc, &text, &names, repeats)?)?
+        "digest" => digests(rt, given, repeats),
+        "macros" => macro_digests(rt, given, repeats),
+        _ => {
+            let tally = tally_for(rt, work, repeats, given, others)?;
+            Ok(tally_line(rt.alloc(), tally)?)
         }
-        "markers" => tally_line(alloc, marker_tallies(&bytes_of(rt, given)?, repeats))?,
-        "byte" => tally_line(alloc, byte_searches(&bytes_of(rt, given)?, repeats))?,
-        "expand" => tally_line(alloc, openings(alloc, number_of(given)?, repeats)?)?,
-        "look_up" => tally_line(alloc, look_ups(alloc, number_of(given)?, repeats)?)?,
-        "file_digests" => tally_line(alloc, file_digests(alloc, repeats)?)?,
-        "copy_chain" => tally_line(alloc, chain_copies(alloc, number_of(given)?, repeats)?)?,
+    }
+}
+
+/// Does the work so often, and counts what it gives.
+fn tally_for<R: Files + AllocGlobal>(
+    rt: &R,
+    work: &String,
+    repeats: u32,
+    given: &String,
+    others: &[String],
+) -> Result<Tally, Fault> {
+    match work.as_str() {
+        "gnu" | "msvc" | "markers" | "byte" => bytes_tally(rt, work, repeats, given),
+        "walk" => walk_tally(rt, repeats, given, others),
+        "expand" | "copy_chain" | "look_up" | "file_digests" => {
+            file_tally(rt.alloc(), work, repeats, number_of(given)?)
+        }
         "bounded_hits" | "bounded_misses" | "map_hits" | "map_misses" => {
-            tally_line(alloc, store_tally(alloc, work, repeats, number_of(given)?)?)?
+            store_tally(rt.alloc(), work, repeats, number_of(given)?)
         }
-        "read_deps" | "rewrite_deps" => tally_line(alloc, text_tally(rt, work, repeats, given)?)?,
+        "read_deps" | "rewrite_deps" => text_tally(rt, work, repeats, given),
         "write_key" | "read_key" | "copy_key" => {
-            tally_line(alloc, key_tally(alloc, work, repeats, number_of(given)?)?)?
+            key_tally(rt.alloc(), work, repeats, number_of(given)?)
         }
-        "make_tree" => tally_line(alloc, trees(alloc, kind_of(given)?, repeats)?)?,
+        "make_tree" => Ok(trees(rt.alloc(), kind_of(given)?, repeats)?),
         "by_tree" | "by_table" | "parse" | "copy_words" => {
-            tally_line(alloc, word_tally(rt, work, repeats, given, others)?)?
+            word_tally(rt, work, repeats, given, others)
         }
-        _ => return Err(Fault::Words),
+        _ => Err(Fault::Words),
+    }
+}
+
+/// Does the work so often on the bytes of the file of that name.
+fn bytes_tally<R: Files + AllocGlobal>(
+    rt: &R,
+    work: &String,
+    repeats: u32,
+    given: &String,
+) -> Result<Tally, Fault> {
+    let bytes = bytes_of(rt, given)?;
+    match work.as_str() {
+        "gnu" => Ok(gnu_splittings(rt.alloc(), &bytes, repeats)?),
+        "msvc" => Ok(msvc_splittings(rt.alloc(), &bytes, repeats)?),
+        "markers" => Ok(marker_tallies(&bytes, repeats)),
+        _ => Ok(byte_searches(&bytes, repeats)),
+    }
+}
+
+/// Walks so often over the text in the file of that name, with the files that the other one names.
+fn walk_tally<R: Files + AllocGlobal>(
+    rt: &R,
+    repeats: u32,
+    given: &String,
+    others: &[String],
+) -> Result<Tally, Fault> {
+    let [names] = others else {
+        return Err(Fault::Words);
     };
-    Ok(line)
+    let names = bytes_of(rt, names)?;
+    let text = bytes_of(rt, given)?;
+    Ok(walks(rt.alloc(), &text, &names, repeats)?)
+}
+
+/// Does the work so often on so many files in memory, or on the results over them.
+fn file_tally(alloc: Global, work: &String, repeats: u32, files: u32) -> Result<Tally, Fault> {
+    match work.as_str() {
+        "expand" => Ok(openings(alloc, files, repeats)?),
+        "copy_chain" => Ok(chain_copies(alloc, files, repeats)?),
+        "look_up" => Ok(look_ups(alloc, files, repeats)?),
+        _ => Ok(file_digests(alloc, repeats)?),
+    }
 }
 
 /// Does the work so often on the text in the file of that name, perhaps without these folders.
@@ -208,11 +245,11 @@ fn text_line<R: Files + AllocGlobal>(
     let folders = list_of(alloc, folders)?;
     let text = bytes_of(rt, given)?;
     let line = match work.as_str() {
+        "copy" => line_of(alloc, copies(alloc, &text, repeats)?)?,
         "strip" => line_of(alloc, strippings(alloc, &text, &folders, repeats)?)?,
         "key" => keys(alloc, &text, &folders, repeats)?,
         "digest_text" => text_digests(alloc, &text, repeats)?,
-        "digest_copy" => copy_digests(alloc, &text, &folders, repeats)?,
-        _ => return Err(Fault::Words),
+        _ => copy_digests(alloc, &text, &folders, repeats)?,
     };
     Ok(line)
 }
