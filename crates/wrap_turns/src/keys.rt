@@ -83,7 +83,8 @@ pub fn store_key<H: HashState, E: Store<EntryKey, PreprocessorCacheEntry>, F: Fi
     ensures fine { let p = printed_call (T.meaning tool.old)
         (call_at (found_of compiler.entry) request.now (F.tree files.old) config.now plan.now.parsed) in
         IfOk result (λ made. KeyFine p made.1) }
-    ensures fit { let call = call_at (found_of compiler.entry) request.now (F.tree files.old) config.now plan.now.parsed in
+    ensures fit { let call = call_at (found_of compiler.entry) request.now (F.tree files.old)
+        config.now plan.now.parsed in
         OnOk result (AllByRecursion FitsLength (record_of (T.meaning tool.old) call).variables) }
     ensures cause { let w = work_at (T.meaning tool.old)
         (call_at (found_of compiler.entry) request.now (F.tree files.old) config.now plan.now.parsed) in

@@ -48,7 +48,8 @@ fn plan_of(
 ) -> Result<Plan, AllocError>
     requires object { is_some (object_path parsed) ≡ true }
     ensures parsed { IfOk result (λ plan. plan.parsed ≡ parsed) }
-    ensures command { IfOk result (λ plan. plan.compile ≡ compile_command_of (found_of compiler.entry) request.now parsed) }
+    ensures command { IfOk result
+        (λ plan. plan.compile ≡ compile_command_of (found_of compiler.entry) request.now parsed) }
     ensures compile { IfOk result
         (λ plan. ReadsAsCompile (kind_of compiler.entry) parsed plan.compile.arguments) }
 {
