@@ -34,16 +34,20 @@ fn texts_of(alloc: Global, arguments: &[Argument<ArgData>]) -> Result<String, Al
     Ok(text)
 }
 
+/// More words behind those of a whole request: one of each kind of value.
+const MORE: &str =
+    "--target t.json --target u -l p -L q --extern a=b --json j -C profile-use=r --cfg a=b -Z a=b --test -l";
+
+/// The texts of all of them.
+const TEXTS: &str =
+    "--emit|link|foo.rs|--out-dir|/there|--crate-name|foo|--crate-type|rlib|--target|/there|--target|u|-l|dylib=p|-L|all=/there|--extern|a=/there|--json|j|-C|profile-use=r|--cfg|a=b|-Z|a=b|--test|-ldylib=|";
+
 #[test]
 fn paths_are_what_the_closure_answers(rt: HostRuntime) -> Result<(), Fail> {
-    let alloc = rt.alloc();
-    let line = format!(in alloc; "{WHOLE} --target t.json --target u -l p --test -l")?;
-    let arguments = arguments_of(alloc, line.as_str())?;
-    let text = texts_of(alloc, arguments.as_slice())?;
-    let whole = "--emit|link|foo.rs|--out-dir|/there|--crate-name|foo|--crate-type|rlib|";
-    let more = "--target|/there|--target|u|-l|dylib=p|--test|-ldylib=|";
-    let want = format!(in alloc; "{whole}{more}")?;
-    is_that(text.as_str(), want.as_str(), line.as_str())
+    let line = format!(in rt.alloc(); "{WHOLE} {MORE}")?;
+    let arguments = arguments_of(rt.alloc(), line.as_str())?;
+    let text = texts_of(rt.alloc(), arguments.as_slice())?;
+    is_that(text.as_str(), TEXTS, MORE)
 }
 
 #[test]
