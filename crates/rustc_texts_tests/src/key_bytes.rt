@@ -1,139 +1,159 @@
 //! The bytes of keys, and what they don't tell.
 
+use crate::requests::barred;
 use os_files::listed::Listed;
-use os_files::os_bytes::OsBytes;
-use rustc_parts::parts::{EnvDep, Parts};
+use rustc_parts::parts::{EnvDep, Parts, RShape};
 use rustc_parts::reading::read_key_bytes;
 use rustc_parts::writing::key_bytes;
 use std::alloc::{AllocError, Global};
+use std::fmt::Write;
 use std::test::Fail;
-use test_kit::rows::words;
+use test_kit::texts::is_that;
 
-/// No pieces at all.
-fn no_parts(alloc: Global) -> Parts {
-    Parts {
-        toolchain: Listed::new(alloc),
-        version: OsBytes::empty(alloc),
-        words: Listed::new(alloc),
-        sources: Listed::new(alloc),
-        externs: Listed::new(alloc),
-        archives: Listed::new(alloc),
-        target: None,
-        env_deps: Listed::new(alloc),
-        variables: Listed::new(alloc),
-        dir: OsBytes::empty(alloc),
+/// A shape: the length of each word, how many sources and crates there are, and which variables are set.
+type Counts = (&'static [usize], usize, usize, &'static [bool]);
+
+/// The same values in a list of its own.
+fn listed<T: Copy + Drop>(alloc: Global, values: &[T]) -> Result<Listed<T>, AllocError> {
+    let mut list = Vec::with_capacity(alloc, values.len())?;
+    for value in values {
+        list.push(*value)?;
+    }
+    Ok(Listed::from_vec(list))
+}
+
+/// That shape, with nothing else.
+fn shape_of(alloc: Global, counts: Counts) -> Result<RShape, AllocError> {
+    let (words, sources, externs, env_deps) = counts;
+    let words = listed(alloc, words)?;
+    let env_deps = listed(alloc, env_deps)?;
+    Ok(RShape {
+        toolchain: 0,
+        words,
+        sources,
+        externs,
+        archives: 0,
+        has_target: false,
+        env_deps,
+        variables: 0,
+    })
+}
+
+/// Variables, each behind a bar.
+fn variables(alloc: Global, deps: &[EnvDep]) -> Result<String, AllocError> {
+    let mut text = String::new(alloc);
+    for dep in deps {
+        match &dep.value {
+            Some(value) => write!(text, "|{}={value}", dep.name)?,
+            None => write!(text, "|{}", dep.name)?,
+        }
+    }
+    Ok(text)
+}
+
+/// The words of pieces, their sources, their crates and their variables.
+fn pieces(alloc: Global, parts: &Parts) -> Result<String, AllocError> {
+    let words = barred(alloc, parts.words.as_slice())?;
+    let sources = barred(alloc, parts.sources.as_slice())?;
+    let externs = barred(alloc, parts.externs.as_slice())?;
+    let variables = variables(alloc, parts.env_deps.as_slice())?;
+    format!(in alloc; "{words};{sources};{externs};{variables}")
+}
+
+/// Whether these bytes are written of the pieces, and that is their shape.
+fn are_of(alloc: Global, parts: &Parts, bytes: &[u8], shape: &RShape) -> Result<bool, AllocError> {
+    let written = key_bytes(alloc, parts)?;
+    Ok(written.as_slice() == bytes && parts.shape(alloc)? == *shape)
+}
+
+/// What is said of pieces that were read of these bytes under that shape.
+fn told(alloc: Global, parts: &Parts, bytes: &[u8], shape: &RShape) -> Result<String, AllocError> {
+    if are_of(alloc, parts, bytes, shape)? {
+        return pieces(alloc, parts);
+    }
+    String::from_str(alloc, "others are written")
+}
+
+/// The pieces that are read of these bytes under a shape, and written again as these bytes.
+fn read(alloc: Global, bytes: &[u8], counts: Counts) -> Result<String, AllocError> {
+    let shape = shape_of(alloc, counts)?;
+    match read_key_bytes(alloc, bytes, &shape)? {
+        Some(parts) => told(alloc, &parts, bytes, &shape),
+        None => String::from_str(alloc, "none"),
     }
 }
 
-/// Pieces of these words, and no others.
-fn of_words(alloc: Global, line: &str) -> Result<Parts, AllocError> {
-    let mut parts = no_parts(alloc);
-    parts.words = Listed::from_vec(words(alloc, line)?);
-    Ok(parts)
-}
-
-/// A digest for each byte, which consists of that byte alone.
-fn digests(alloc: Global, bytes: &[u8]) -> Result<Listed<OsBytes>, AllocError> {
-    let mut list = Listed::new(alloc);
-    for byte in bytes {
-        list.push(OsBytes::from_slice(alloc, [*byte; 64].as_slice())?)?;
+/// Each row: bytes, a shape, and what is read.
+fn each_reads(alloc: Global, rows: &[(&[u8], Counts, &str)]) -> Result<(), Fail> {
+    for (bytes, counts, want) in rows {
+        let text = read(alloc, bytes, *counts)?;
+        is_that(text.as_str(), want, want)?;
     }
-    Ok(list)
-}
-
-/// Pieces of these sources and externs, and no others.
-fn of_files(alloc: Global, sources: &[u8], externs: &[u8]) -> Result<Parts, AllocError> {
-    let mut parts = no_parts(alloc);
-    parts.sources = digests(alloc, sources)?;
-    parts.externs = digests(alloc, externs)?;
-    Ok(parts)
-}
-
-/// Pieces of the variable `FOO` with that value, and no others.
-fn of_variable(alloc: Global, value: Option<OsBytes>) -> Result<Parts, AllocError> {
-    let name = OsBytes::from_slice(alloc, b"FOO")?;
-    let mut parts = no_parts(alloc);
-    parts.env_deps.push(EnvDep { name, value })?;
-    Ok(parts)
-}
-
-/// Whether the bytes of these pieces are those.
-fn are_written_as(alloc: Global, parts: &Parts, want: &[u8]) -> Result<bool, AllocError> {
-    let bytes = key_bytes(alloc, parts)?;
-    Ok(bytes.as_slice() == want)
-}
-
-#[test]
-fn words_are_written_in_a_row(rt: HostRuntime) -> Result<(), Fail> {
-    let want = b"7\x03\0\0\0\0\0\0\0abc\0\0\0\0\0\0\0\0\xff";
-    let parts = of_words(rt.alloc(), "ab c")?;
-    assert!(rt; are_written_as(rt.alloc(), &parts, want.as_slice())?);
     Ok(())
 }
 
+/// The words `ab` and `c` stand in a row, as `a` and `bc` do.
+const WORDS: &[u8] = b"7\x03\0\0\0\0\0\0\0abc\0\0\0\0\0\0\0\0\xff";
+
+/// The variable `FOO` without a value, or with an empty one.
+const VARIABLE: &[u8] =
+    b"7\0\0\0\0\0\0\0\0\x03\0\0\0\0\0\0\0FOO=\0\0\0\0\0\0\0\0\0\0\0\0\0\0\0\0\xff";
+
+/// Lengths of words, and whether a variable is set.
 #[test]
-fn unset_variables_are_written_as_empty_ones(rt: HostRuntime) -> Result<(), Fail> {
-    let want = b"7\0\0\0\0\0\0\0\0\x03\0\0\0\0\0\0\0FOO=\0\0\0\0\0\0\0\0\0\0\0\0\0\0\0\0\xff";
-    let parts = of_variable(rt.alloc(), None)?;
-    assert!(rt; are_written_as(rt.alloc(), &parts, want.as_slice())?);
-    Ok(())
+fn shapes_tell_words_and_variables(rt: HostRuntime) -> Result<(), Fail> {
+    let rows: [(&[u8], Counts, &str); 4] = [
+        (WORDS, (&[2, 1], 0, 0, &[]), "|ab|c;;;"),
+        (WORDS, (&[1, 2], 0, 0, &[]), "|a|bc;;;"),
+        (VARIABLE, (&[], 0, 0, &[false]), ";;;|FOO"),
+        (VARIABLE, (&[], 0, 0, &[true]), ";;;|FOO="),
+    ];
+    each_reads(rt.alloc(), &rows)
 }
 
-/// Whether the bytes of the two are equal.
-fn same_bytes(alloc: Global, one: &Parts, other: &Parts) -> Result<bool, AllocError> {
-    let bytes = key_bytes(alloc, one)?;
-    are_written_as(alloc, other, bytes.as_slice())
-}
+/// Three digests.
+const FILES: &[u8] =
+    b"7\0\0\0\0\0\0\0\0aaaaaaaaaaaaaaaaaaaaaaaaaaaaaaaaaaaaaaaaaaaaaaaaaaaaaaaaaaaaaaaabbbbbbbbbbbbbbbbbbbbbbbbbbbbbbbbbbbbbbbbbbbbbbbbbbbbbbbbbbbbbbbbcccccccccccccccccccccccccccccccccccccccccccccccccccccccccccccccc\0\0\0\0\0\0\0\0\xff";
 
-/// Whether the shapes of the two are equal.
-fn same_shape(alloc: Global, one: &Parts, other: &Parts) -> Result<bool, AllocError> {
-    let shape = one.shape(alloc)?;
-    Ok(other.shape(alloc)? == shape)
-}
-
-/// The shapes alone tell the two.
-fn are_told(alloc: Global, one: &Parts, other: &Parts, what: &str) -> Result<(), Fail> {
-    if same_bytes(alloc, one, other)? && !same_shape(alloc, one, other)? {
-        return Ok(());
-    }
-    Err(Fail::new(format_args!("{what}")))
-}
-
-/// Lengths of words, counts of files, and whether a variable is set.
+/// Counts of sources and of crates.
 #[test]
-fn shapes_tell_what_bytes_do_not(rt: HostRuntime) -> Result<(), Fail> {
-    let alloc = rt.alloc();
-    are_told(
-        alloc,
-        &of_words(alloc, "ab c")?,
-        &of_words(alloc, "a bc")?,
-        "words",
-    )?;
-    are_told(
-        alloc,
-        &of_files(alloc, b"ab", b"c")?,
-        &of_files(alloc, b"a", b"bc")?,
-        "files",
-    )?;
-    let empty = of_variable(alloc, Some(OsBytes::empty(alloc)))?;
-    are_told(alloc, &of_variable(alloc, None)?, &empty, "variables")
+fn shapes_tell_files(rt: HostRuntime) -> Result<(), Fail> {
+    let rows: [(&[u8], Counts, &str); 2] = [
+        (
+            FILES,
+            (&[], 2, 1, &[]),
+            ";|aaaaaaaaaaaaaaaaaaaaaaaaaaaaaaaaaaaaaaaaaaaaaaaaaaaaaaaaaaaaaaaa|bbbbbbbbbbbbbbbbbbbbbbbbbbbbbbbbbbbbbbbbbbbbbbbbbbbbbbbbbbbbbbbb;|cccccccccccccccccccccccccccccccccccccccccccccccccccccccccccccccc;",
+        ),
+        (
+            FILES,
+            (&[], 1, 2, &[]),
+            ";|aaaaaaaaaaaaaaaaaaaaaaaaaaaaaaaaaaaaaaaaaaaaaaaaaaaaaaaaaaaaaaaa;|bbbbbbbbbbbbbbbbbbbbbbbbbbbbbbbbbbbbbbbbbbbbbbbbbbbbbbbbbbbbbbbb|cccccccccccccccccccccccccccccccccccccccccccccccccccccccccccccccc;",
+        ),
+    ];
+    each_reads(rt.alloc(), &rows)
 }
 
-/// Whether bytes are read, under the shape of these pieces.
-fn are_read(alloc: Global, parts: &Parts, bytes: &[u8]) -> Result<bool, AllocError> {
-    let shape = parts.shape(alloc)?;
-    Ok(read_key_bytes(alloc, bytes, &shape)?.is_some())
-}
-
+/// The same without its last byte, and with one more before it and behind it.
 #[test]
 fn no_byte_is_left_out_or_added(rt: HostRuntime) -> Result<(), Fail> {
-    let alloc = rt.alloc();
-    let parts = of_files(alloc, b"ab", b"c")?;
-    let mut bytes = key_bytes(alloc, &parts)?;
-    assert!(rt; are_read(alloc, &parts, bytes.as_slice())?);
-    bytes.push(b'f')?;
-    assert!(rt; !are_read(alloc, &parts, bytes.as_slice())?);
-    bytes.truncate(bytes.len().saturating_sub(2));
-    assert!(rt; !are_read(alloc, &parts, bytes.as_slice())?);
-    Ok(())
+    let counts: Counts = (&[2, 1], 0, 0, &[]);
+    let rows: [(&[u8], Counts, &str); 4] = [
+        (b"7\x03\0\0\0\0\0\0\0abc\0\0\0\0\0\0\0\0", counts, "none"),
+        (
+            b"7\x03\0\0\0\0\0\0\0abc\0\0\0\0\0\0\0\0\xfff",
+            counts,
+            "none",
+        ),
+        (
+            b"7\x03\0\0\0\0\0\0\0abcd\0\0\0\0\0\0\0\0\xff",
+            counts,
+            "none",
+        ),
+        (
+            b"8\x03\0\0\0\0\0\0\0abc\0\0\0\0\0\0\0\0\xff",
+            counts,
+            "none",
+        ),
+    ];
+    each_reads(rt.alloc(), &rows)
 }
