@@ -87,6 +87,12 @@ fn texts_are_rewritten(rt: HostRuntime) -> Result<(), Fail> {
             "/toolchains/my rust.tar.gz",
             "out/foo.d: /toolchains/my\\ rust.tar.gz src/lib.rs\n\nout/libfoo.rlib: /toolchains/my\\ rust.tar.gz src/lib.rs\n\n/toolchains/my\\ rust.tar.gz:\nsrc/lib.rs:\n\n# env-dep:FOO=a: b\n",
         ),
+        (
+            "/tmp/x/deps.d: a\\ b.rs\n\na\\ b.rs:\n",
+            "a dir/foo",
+            "",
+            "out/a dir/foo.d: a\\ b.rs\n\nout/liba dir/foo.rlib: a\\ b.rs\n\na\\ b.rs:\n",
+        ),
         ("", "foo", "", "no rule"),
         ("a:b\nc: d", "foo", "", "no rule"),
     ] {
