@@ -3,14 +3,14 @@
 use crate::answer_tool::{AnswerTool, RustTexts};
 use ckeys::fault::Fault;
 use ckeys_base::digest::Digest;
-use cmdlines::compiler_arguments::CompilerArguments;
+use cmdlines::compiler_arguments::{CompilerArguments, ParseFault};
 use os_files::files::Files;
 use os_files::listed::Listed;
 use os_files::memory_files::MemoryFiles;
 use os_files::os_bytes::OsBytes;
 use rustkeys::compilation::RustCompilation;
 use rustkeys::hasher::RustHasher;
-use rustkeys::{ParsedArguments, RShape, Rust, parse_arguments};
+use rustkeys::{ParsedArguments, RShape, Rust, RustFault, parse_arguments};
 use sha2::Sha256;
 use std::alloc::{AllocError, Global};
 use std::test::Fail;
@@ -20,7 +20,11 @@ use test_kit::rows::{files_of, words};
 pub(crate) const FIRST: &str =
     "--emit link -C opt-level=1 foo.rs --out-dir out --crate-name foo --crate-type lib";
 
-/// The same in other words, into another folder.
+/// It with a static library.
+pub(crate) const WITH_LIBRARY: &str =
+    "--emit link -C opt-level=1 foo.rs --out-dir out --crate-name foo --crate-type lib -L native=lib -l static=z";
+
+/// The first one in other words, into another folder.
 pub(crate) const SECOND: &str =
     "--emit=link -Copt-level=1 foo.rs --out-dir=out2 --crate-name=foo --crate-type=lib";
 
@@ -75,26 +79,33 @@ pub(crate) fn rust_with(
     alloc: Global,
     libraries: Vec<OsBytes>,
     files: &mut MemoryFiles,
-) -> Result<Rust, Fail> {
+) -> Result<Rust, RustFault> {
     let executable = OsBytes::from_slice(alloc, b"rustc")?;
     let version = OsBytes::from_slice(alloc, b"host: x")?;
     let sysroot = OsBytes::from_slice(alloc, b"/s")?;
     let libraries = Listed::from_vec(libraries);
-    Ok(Rust::new::<Sha256, MemoryFiles>(
-        alloc, executable, version, sysroot, libraries, None, files,
-    )?)
+    Rust::new::<Sha256, MemoryFiles>(alloc, executable, version, sysroot, libraries, None, files)
 }
 
 /// A rustc without libraries.
-pub(crate) fn rust(alloc: Global) -> Result<Rust, Fail> {
+pub(crate) fn rust(alloc: Global) -> Result<Rust, RustFault> {
     rust_with(alloc, Vec::new(alloc), &mut MemoryFiles::new(alloc))
 }
 
-/// What the words of a line ask for, in `/w`.
-pub(crate) fn parsed(alloc: Global, line: &str) -> Result<ParsedArguments, Fail> {
+/// What the words of a line come to, in `/w`.
+pub(crate) fn parse(
+    alloc: Global,
+    line: &str,
+    files: &mut MemoryFiles,
+) -> Result<CompilerArguments<ParsedArguments>, ParseFault> {
     let dir = OsBytes::from_slice(alloc, b"/w")?;
     let list = words(alloc, line)?;
-    match parse_arguments(alloc, list.as_slice(), &dir, &mut all_files(alloc)?)? {
+    parse_arguments(alloc, list.as_slice(), &dir, files)
+}
+
+/// What they ask for.
+pub(crate) fn parsed(alloc: Global, line: &str) -> Result<ParsedArguments, Fail> {
+    match parse(alloc, line, &mut all_files(alloc)?)? {
         CompilerArguments::Ok(parsed) => Ok(parsed),
         CompilerArguments::NotCompilation | CompilerArguments::CannotCache(_, _) => {
             Err("no request".into())

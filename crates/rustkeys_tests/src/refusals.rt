@@ -1,16 +1,12 @@
 //! Devices that fail at each of their calls in turn.
 
 use crate::answer_tool::{AnswerTool, RustTexts};
-use crate::asking::{DEPENDENCIES, FIRST, OF_NOTHING, all_files, told_on, tool};
+use crate::asking::{DEPENDENCIES, FIRST, OF_NOTHING, WITH_LIBRARY, all_files, told_on, tool};
 use std::alloc::{AllocError, Global};
 use std::fmt::Write;
 use std::test::Fail;
 use test_kit::fail_files::FailFiles;
 use test_kit::texts::is_that;
-
-/// The first request with a static library.
-const WITH_LIBRARY: &str =
-    "--emit link -C opt-level=1 foo.rs --out-dir out --crate-name foo --crate-type lib -L native=lib -l static=z";
 
 /// The texts of the requests.
 fn texts(alloc: Global) -> Result<RustTexts, AllocError> {
@@ -60,15 +56,24 @@ fn fault_of_files(alloc: Global, line: &str, calls_left: u64) -> Result<Option<S
     Ok(files.failed_name.is_some().then_some(text))
 }
 
+/// The faults of a line's request, where each call of the files fails in turn.
+fn faults_of_files(alloc: Global, line: &str) -> Result<String, Fail> {
+    let mut faults = String::new(alloc);
+    for calls_left in 0..u64::MAX {
+        let Some(fault) = fault_of_files(alloc, line, calls_left)? else {
+            break;
+        };
+        write!(faults, "{fault};")?;
+    }
+    Ok(faults)
+}
+
+/// Its source is read once; the tool looks after the library.
 #[test]
 fn each_read_is_refused(rt: HostRuntime) -> Result<(), Fail> {
     for line in [FIRST, WITH_LIBRARY] {
-        for calls_left in 0..u64::MAX {
-            let Some(fault) = fault_of_files(rt.alloc(), line, calls_left)? else {
-                break;
-            };
-            is_that(fault.as_str(), "fault read /w/foo.rs", line)?;
-        }
+        let faults = faults_of_files(rt.alloc(), line)?;
+        is_that(faults.as_str(), "fault read /w/foo.rs;", line)?;
     }
     Ok(())
 }
