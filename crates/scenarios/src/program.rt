@@ -9,6 +9,7 @@ use ckeys::fault::Fault;
 use ckeys::preprocessor::Preprocessor;
 use ckeys::{EntryKey, PreprocessorCacheEntry, Store};
 use os_files::listed::Listed;
+use script_tool::crate_texts::CrateTexts;
 use script_tool::script::ScriptTool;
 use sha2::Sha256;
 use std::alloc::{AllocError, AllocFailed, Global};
@@ -141,7 +142,7 @@ fn serve_calls<O: Store<StoreKey, Pairs> + Drop, W: Write>(
         calls,
     } = scenario;
     let mut session = Session::new(alloc, session_config, MapStore::new(alloc), objects);
-    let mut tool = ScriptTool::new(tool_config);
+    let mut tool = ScriptTool::new(tool_config, CrateTexts::empty(alloc));
     for (number, call) in (1u64..).zip(calls) {
         let answer = answered(call, &mut session, &mut tool);
         write_line(writer, &line_of(alloc, number, &answer)?)?;

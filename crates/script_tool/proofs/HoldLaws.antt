@@ -6,7 +6,7 @@ use Rattle.std.proofs.lemmas.Slice.Eq.{bytes_eq-Decides}
 use Rattle.memchr.specs.Find.{OccursAt, FindsNeedle}
 use Rattle.memchr.proofs.lemmas.MatchLemmas.{OccursAt-part, OccursAt-from_part}
 use Rattle.os_files.specs.Bytes.{Bytes}
-use Rattle.script_tool.specs.Scripted.{holds}
+use Rattle.script_tool.specs.Texts.{holds}
 
 or_true : (a : Bool) {b : Bool} → b ≡ true → a || b ≡ true
 or_true true h = refl

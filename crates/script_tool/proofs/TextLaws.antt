@@ -3,7 +3,7 @@ use Rattle.std.proofs.Common.{◌≡◌, List, ◌∷◌, ◌++◌, map, Option,
 use Rattle.std.specs.Option.{option_map}
 use Rattle.os_files.specs.Bytes.{Bytes}
 use Rattle.script_tool.specs.Lines.{lines}
-use Rattle.script_tool.specs.Scripted.{whole}
+use Rattle.script_tool.specs.Texts.{whole}
 
 appended_twice : (before part : Bytes) (rest : Option Bytes) → option_map (λ body. (before ++ part) ++ body) rest ≡ option_map (λ body. before ++ body) (option_map (λ body. part ++ body) rest)
 appended_twice before part None = refl

@@ -1,6 +1,6 @@
 -- What the scripted tool means.
-use Rattle.std.specs.Prelude.{pos, Bool, false, not, ◌||◌, nat_eq, if◌then◌else◌, List, [], ◌∷◌, ◌++◌, map, Option, None, Some, option_and_then, codes}
-use Rattle.std.specs.List.{flat_map, starts_with}
+use Rattle.std.specs.Prelude.{pos, Bool, false, not, if◌then◌else◌, List, [], ◌∷◌, ◌++◌, map, Option, None, Some, option_and_then, codes}
+use Rattle.std.specs.List.{flat_map}
 use Rattle.std.specs.Option.{option_map, option_map_or}
 use Rattle.os_files.specs.Bytes.{Bytes}
 use Rattle.os_files.specs.Path.{join}
@@ -12,11 +12,14 @@ use Rattle.cmdlines_tables.specs.declared.kind.ArgKind.TheVariants.{Language}
 use Rattle.ckeys_base.specs.FolderPlaces.{text_places}
 use Rattle.ckeys_base.specs.FromTheLeft.{stripped_of}
 use Rattle.ckeys.specs.Calls.{needs_preprocessing}
-use Rattle.ckeys.specs.Meaning.{Scene, Made, Meaning, made_of, options}
+use Rattle.ckeys.specs.Meaning.{Scene, Made, Meaning, archive, made_of, options, words}
 use Rattle.ckeys.specs.declared.output_name.OutputName.{OutputName}
 use Rattle.ckeys.specs.declared.step.Step.{Step}
 use Rattle.ckeys.specs.declared.step.Step.TheVariants.{Preprocess, Compile, DepInfo, FileNames, ArchiveDigest}
 use Rattle.script_tool.specs.Lines.{lines, with_end, included}
+use Rattle.script_tool.specs.ScriptedCrates.{compiled_crate, crate_text, digest_in}
+use Rattle.script_tool.specs.Texts.{holds, whole}
+use Rattle.script_tool.specs.declared.crate_texts.CrateTexts.{CrateTexts}
 use Rattle.script_tool.specs.declared.source.Source.{Source}
 
 -- the one of a list that has one
@@ -67,11 +70,6 @@ abbrev pub replaced : Tree → Bytes → Bytes → Bytes → Option Bytes
 replaced files dir path line =
     option_map_or (λ name. let file = join dir name in option_map (inclusion path file) (contents_at files file)) (included line) (Some line)
 
--- all parts in a row, where none is missing
-abbrev pub whole : List (Option Bytes) → Option Bytes
-whole [] = Some []
-whole (part ∷ parts) = option_and_then (λ first. option_map (λ rest. first ++ rest) (whole parts)) part
-
 -- the text of the file of that path, by whose lines files are included from the directory
 abbrev pub text_at : Tree → Bytes → Bytes → Option Bytes
 text_at files dir path =
@@ -84,11 +82,6 @@ text_by as_it_stands scene input = if as_it_stands then contents_at scene.files 
 -- the text that a step goes over
 abbrev pub text_of : Step → Scene → Source → Option Bytes
 text_of step scene source = option_and_then (text_by (takes_as_it_stands step source.language) scene) source.input
-
--- whether the word stands in the text, at its start or further on
-abbrev pub holds : Bytes → Bytes → Bool
-holds word [] = starts_with nat_eq [] word
-holds word (b ∷ text) = starts_with nat_eq (b ∷ text) word || holds word text
 
 -- a preprocessor prints the text, and fails where there is none
 abbrev pub printed : Option Bytes → Made
@@ -105,11 +98,12 @@ compiled (Some text) outputs =
 abbrev pub without : List Bytes → Option Bytes → Option Bytes
 without folders text = option_map (stripped_of text_places folders) text
 
--- One function of the step, what is asked, the outputs asked for and the scene: the preprocessor prints the text, and the C compiler makes outputs of what is left of it without the folders. rustc tells empty texts. To all else it answers with status 1.
-abbrev pub scripted : List Bytes → Meaning
-scripted folders Preprocess (options reading) outputs scene = printed (text_of Preprocess scene (source_in reading))
-scripted folders Compile (options reading) outputs scene = compiled (without folders (text_of Compile scene (source_in reading))) outputs
-scripted folders DepInfo asked outputs scene = printed (Some [])
-scripted folders FileNames asked outputs scene = printed (Some [])
-scripted folders ArchiveDigest asked outputs scene = printed (Some [])
-scripted folders _ _ outputs scene = made_of (pos 1) []
+-- One function of the step, what is asked, the outputs asked for and the scene, for these folders and what rustc is to tell: the preprocessor prints the text, and a C compiler makes outputs of what is left of it without the folders. rustc tells its texts, and makes outputs of the sources that it tells. To all else it answers with status 1.
+abbrev pub scripted : List Bytes → CrateTexts → Meaning
+scripted folders told Preprocess (options reading) outputs scene = printed (text_of Preprocess scene (source_in reading))
+scripted folders told Compile (options reading) outputs scene = compiled (without folders (text_of Compile scene (source_in reading))) outputs
+scripted folders told Compile (words command) outputs scene = compiled_crate (crate_text told.dep_info scene) outputs
+scripted folders told DepInfo asked outputs scene = printed (Some told.dep_info)
+scripted folders told FileNames asked outputs scene = printed (Some told.file_names)
+scripted folders told ArchiveDigest (archive path) outputs scene = printed (Some (digest_in told path))
+scripted folders told _ _ outputs scene = made_of (pos 1) []

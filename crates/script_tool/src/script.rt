@@ -1,13 +1,15 @@
 //! A tool with the behaviour of a short script: its preprocessor prints a text, and its C compiler makes outputs of that text without
-//! the configured folders.
+//! the configured folders. Its rustc tells texts, and makes outputs of the sources that they name.
 
-ghost use Rattle.std.specs.Prelude.{◌≡◌, ℤ, IfOk, IsErrOf};
+ghost use Rattle.std.specs.Prelude.{◌≡◌, ℤ, None, Some, IfOk, IsErrOf};
 ghost use Rattle.os_files.specs.Bytes.{ticked};
 ghost use Rattle.cmdlines_tables.specs.Tables.{reading_of};
-ghost use Rattle.ckeys.specs.Meaning.{StepTicks, asked_of, made_of, names_of, scene_of};
+ghost use Rattle.ckeys.specs.Meaning.{StepTicks, asked_of, made_of, names_of, scene_of, words};
 ghost use Rattle.script_tool.specs.Scripted.{scripted, source_in, text_of};
 
-use crate::scripting::{compiled, made_nothing, printed, text_of};
+use crate::crate_texts::CrateTexts;
+use crate::crates::{compiled_crate, crate_text};
+use crate::scripting::{compiled, printed, text_of};
 use ckeys::config::KeyConfig;
 use ckeys::preprocessor::{Preprocessor, Printed, Ticks, ToolFail};
 use ckeys::step::Step;
@@ -24,21 +26,54 @@ use wrap_base::tool::{Compiled, Tool};
 pub struct ScriptTool {
     /// Whose folders its outputs don't show.
     pub config: KeyConfig,
+    /// What rustc tells.
+    pub told: CrateTexts,
     pub preprocessed: u64,
     pub compiled: u64,
     pub failed: u64,
+    /// The step in which a device failed last.
+    pub failed_step: Option<Step>,
 }
 
 impl ScriptTool {
-    /// A tool that has not run yet, whose compiler strips these folders.
-    pub fn new(config: KeyConfig) -> ScriptTool
-        ensures { result ≡ record { config = config; preprocessed = 0; compiled = 0; failed = 0 } }
+    /// A tool that has not run yet, whose C compiler strips these folders and whose rustc tells this.
+    pub fn new(config: KeyConfig, told: CrateTexts) -> ScriptTool
+        ensures config { result.config ≡ config }
+        ensures told { result.told ≡ told }
+        ensures preprocessed { result.preprocessed ≡ 0 }
+        ensures compiled { result.compiled ≡ 0 }
+        ensures failed { result.failed ≡ 0 }
+        ensures failed_step { result.failed_step ≡ None }
     {
         ScriptTool {
             config,
+            told,
             preprocessed: 0,
             compiled: 0,
             failed: 0,
+            failed_step: None,
+        }
+    }
+
+    /// What a step's failure is. A device that failed is counted, and the step is remembered.
+    fn failure(&mut self, step: Step, fault: FileFail) -> ToolFail
+        ensures device { result ≡ ToolFail.Device → fault ≡ FileFail.Device }
+        ensures counted { result ≡ ToolFail.Device
+            → (self.new.failed ≡ ticked self.old.failed) × (self.new.failed_step ≡ Some step) }
+        ensures steady { (result ≡ ToolFail.Device → ⊥)
+            → (fault ≡ FileFail.Memory) × (self.new.failed ≡ self.old.failed) }
+        ensures config { self.new.config ≡ self.old.config }
+        ensures told { self.new.told ≡ self.old.told }
+        ensures preprocessed { self.new.preprocessed ≡ self.old.preprocessed }
+        ensures compiled { self.new.compiled ≡ self.old.compiled }
+    {
+        match fault {
+            FileFail::Memory => ToolFail::Memory,
+            FileFail::Device => {
+                self.failed = self.failed.wrapping_add(1);
+                self.failed_step = Some(step);
+                ToolFail::Device
+            }
         }
     }
 
@@ -58,21 +93,18 @@ impl ScriptTool {
             (source_in (reading_of kind command.now.arguments))) }
         ensures tree { F.tree files.new ≡ F.tree files.old }
         ensures device { IsErrOf result ToolFail.Device
-            → (self.new.failed ≡ ticked self.old.failed)
+            → (self.new.failed ≡ ticked self.old.failed) × (self.new.failed_step ≡ Some step)
             × (F.failed files.new ≡ ticked (F.failed files.old)) }
         ensures steady { (IsErrOf result ToolFail.Device → ⊥)
             → (self.new.failed ≡ self.old.failed) × (F.failed files.new ≡ F.failed files.old) }
         ensures config { self.new.config ≡ self.old.config }
+        ensures told { self.new.told ≡ self.old.told }
         ensures preprocessed { self.new.preprocessed ≡ self.old.preprocessed }
         ensures compiled { self.new.compiled ≡ self.old.compiled }
     {
         match text_of(alloc, step, kind, command, files) {
             Ok(text) => Ok(text),
-            Err(FileFail::Memory) => Err(ToolFail::Memory),
-            Err(FileFail::Device) => {
-                self.failed = self.failed.wrapping_add(1);
-                Err(ToolFail::Device)
-            }
+            Err(fault) => Err(self.failure(step, fault)),
         }
     }
 
@@ -88,25 +120,60 @@ impl ScriptTool {
         ensures answer { (moment : ℤ)
             → IfOk result
             (λ made. made_of made.status made.files
-            ≡ scripted self.old.config.basedirs Step.Compile (asked_of kind command.now.arguments)
+            ≡ scripted self.old.config.basedirs self.old.told Step.Compile
+            (asked_of kind command.now.arguments)
             (names_of outputs.now) (scene_of command.now (F.tree files.old) moment)) }
         ensures tree { F.tree files.new ≡ F.tree files.old }
         ensures device { IsErrOf result ToolFail.Device
             → (self.new.failed ≡ ticked self.old.failed)
+            × (self.new.failed_step ≡ Some Step.Compile)
             × (F.failed files.new ≡ ticked (F.failed files.old)) }
         ensures steady { (IsErrOf result ToolFail.Device → ⊥)
             → (self.new.failed ≡ self.old.failed) × (F.failed files.new ≡ F.failed files.old) }
         ensures config { self.new.config ≡ self.old.config }
+        ensures told { self.new.told ≡ self.old.told }
         ensures preprocessed { self.new.preprocessed ≡ self.old.preprocessed }
         ensures compiled { self.new.compiled ≡ self.old.compiled }
     {
         let text = self.text(alloc, Step::Compile, kind, command, files)?;
         Ok(compiled(alloc, text, self.config.basedirs(), outputs)?)
     }
+
+    /// What rustc makes. A device that fails is counted.
+    fn compile_crate<F: Files>(
+        &mut self,
+        alloc: Global,
+        command: &SingleCompileCommand,
+        outputs: &[(OsBytes, ArtifactDescriptor)],
+        files: &mut F,
+    ) -> Result<Compiled, ToolFail>
+        ensures answer { (moment : ℤ)
+            → IfOk result
+            (λ made. made_of made.status made.files
+            ≡ scripted self.old.config.basedirs self.old.told Step.Compile
+            (words command.now.arguments)
+            (names_of outputs.now) (scene_of command.now (F.tree files.old) moment)) }
+        ensures tree { F.tree files.new ≡ F.tree files.old }
+        ensures device { IsErrOf result ToolFail.Device
+            → (self.new.failed ≡ ticked self.old.failed)
+            × (self.new.failed_step ≡ Some Step.Compile)
+            × (F.failed files.new ≡ ticked (F.failed files.old)) }
+        ensures steady { (IsErrOf result ToolFail.Device → ⊥)
+            → (self.new.failed ≡ self.old.failed) × (F.failed files.new ≡ F.failed files.old) }
+        ensures config { self.new.config ≡ self.old.config }
+        ensures told { self.new.told ≡ self.old.told }
+        ensures preprocessed { self.new.preprocessed ≡ self.old.preprocessed }
+        ensures compiled { self.new.compiled ≡ self.old.compiled }
+    {
+        match crate_text(alloc, &self.told.dep_info, command, files) {
+            Ok(text) => Ok(compiled_crate(alloc, text, outputs)?),
+            Err(fault) => Err(self.failure(Step::Compile, fault)),
+        }
+    }
 }
 
 impl Preprocessor for ScriptTool {
-    ghost meaning = { λ t. scripted t.config.basedirs };
+    ghost meaning = { λ t. scripted t.config.basedirs t.told };
 
     ghost preprocessed = { λ t. t.preprocessed };
 
@@ -114,8 +181,8 @@ impl Preprocessor for ScriptTool {
 
     ghost failed = { λ t. t.failed };
 
-    /// The failure was counted, and so was the one step.
-    ghost fails_in = { λ t step u. (u.failed ≡ ticked t.failed) × StepTicks step t.preprocessed u.preprocessed t.compiled u.compiled };
+    /// The failure was counted, and so was the one step, which is remembered.
+    ghost fails_in = { λ t step u. (u.failed ≡ ticked t.failed) × (u.failed_step ≡ Some step) × StepTicks step t.preprocessed u.preprocessed t.compiled u.compiled };
 
     fn preprocess<F: Files>(
         &mut self,
@@ -139,37 +206,36 @@ impl Preprocessor for ScriptTool {
     }
 }
 
-/// rustc tells empty texts.
 impl RustcAnswers for ScriptTool {
     fn dep_info<F: Files>(
         &mut self,
-        alloc: Global,
+        _alloc: Global,
         _command: &SingleCompileCommand,
         _files: &mut F,
     ) -> Result<Printed, ToolFail> {
         self.preprocessed = self.preprocessed.wrapping_add(1);
-        let text = OsBytes::empty(alloc);
+        let text = self.told.dep_info.clone()?;
         Ok(Printed { status: 0, text })
     }
 
     fn file_names<F: Files>(
         &mut self,
-        alloc: Global,
+        _alloc: Global,
         _command: &SingleCompileCommand,
         _files: &mut F,
     ) -> Result<Printed, ToolFail> {
         self.preprocessed = self.preprocessed.wrapping_add(1);
-        let text = OsBytes::empty(alloc);
+        let text = self.told.file_names.clone()?;
         Ok(Printed { status: 0, text })
     }
 
     fn archive_digest<F: Files>(
         &mut self,
         alloc: Global,
-        _path: &OsBytes,
+        path: &OsBytes,
         _files: &mut F,
     ) -> Result<OsBytes, ToolFail> {
-        Ok(OsBytes::empty(alloc))
+        Ok(self.told.digest_of(alloc, path)?)
     }
 }
 
@@ -186,7 +252,7 @@ impl Tool for ScriptTool {
         self.compiled = self.compiled.wrapping_add(1);
         match kind {
             Some(kind) => self.compile_source(alloc, kind, command, outputs, files),
-            None => Ok(made_nothing(alloc)),
+            None => self.compile_crate(alloc, command, outputs, files),
         }
     }
 }

@@ -6,7 +6,8 @@ ghost use Rattle.os_files.specs.Bytes.{ticked};
 ghost use Rattle.cmdlines_tables.specs.Tables.{reading_of};
 ghost use Rattle.ckeys.specs.Meaning.{names_of, made_of, scene_of};
 ghost use Rattle.script_tool.specs.Lines.{lines};
-ghost use Rattle.script_tool.specs.Scripted.{source_in, marker, inclusion, replaced, whole, text_at, text_of, holds, printed, compiled, without};
+ghost use Rattle.script_tool.specs.Scripted.{source_in, marker, inclusion, replaced, text_at, text_of, printed, compiled, without};
+ghost use Rattle.script_tool.specs.Texts.{holds, whole};
 
 use crate::lines::{included, push_with_end, split_line};
 use crate::source::{source_of, takes_as_it_stands};
@@ -184,7 +185,7 @@ pub fn printed(alloc: Global, text: Option<OsBytes>) -> Printed
 }
 
 /// Whether the text holds `#error`.
-fn holds_error(text: &[u8]) -> bool
+pub fn holds_error(text: &[u8]) -> bool
     ensures { result ≡ holds (codes "#error") text.now }
 {
     memmem::find(text, b"#error").is_some()

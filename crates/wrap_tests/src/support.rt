@@ -8,6 +8,7 @@ use ckeys::{EntryKey, PreprocessorCacheEntry};
 use cmdlines::gcc::Gcc;
 use os_files::listed::Listed;
 use os_files::os_bytes::OsBytes;
+use script_tool::crate_texts::CrateTexts;
 use script_tool::script::ScriptTool;
 use sha2::Sha256;
 use std::alloc::{AllocError, Global};
@@ -43,7 +44,8 @@ pub(crate) fn session(alloc: Global, direct: bool) -> Result<MapSession, Fail> {
 
 /// A scripted tool without folders that has not run yet.
 pub(crate) fn script_tool(alloc: Global) -> Result<ScriptTool, Fail> {
-    Ok(ScriptTool::new(config(alloc, false)?))
+    let told = CrateTexts::empty(alloc);
+    Ok(ScriptTool::new(config(alloc, false)?, told))
 }
 
 /// A gcc with the digest `d`.

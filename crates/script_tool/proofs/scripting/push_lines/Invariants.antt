@@ -1,7 +1,8 @@
 use Rattle.std.proofs.Common.{◌≡◌, ◌++◌, map, length}
 use Rattle.std.specs.Option.{option_map}
 use Rattle.script_tool.specs.Lines.{lines}
-use Rattle.script_tool.specs.Scripted.{replaced, whole}
+use Rattle.script_tool.specs.Scripted.{replaced}
+use Rattle.script_tool.specs.Texts.{whole}
 use Rattle.script_tool.proofs.scripting.push_lines.Given as goal
 
 -- the text so far, and what stands in the place of the lines that are left
