@@ -1,3 +1,4 @@
 pub mod SourceLemmas
+mod CrateLemmas
 pub mod OutcomeLemmas
 pub mod RunLemmas

@@ -21,25 +21,22 @@ use Rattle.ckeys.specs.Folders.{Settings}
 use Rattle.ckeys.specs.Meaning.{Made, Meaning, Scene, made_of, names_of}
 use Rattle.ckeys.specs.Records.{hold_end}
 use Rattle.ckeys.specs.declared.fault.Fault.{Fault}
-use Rattle.ckeys.specs.declared.fault.Fault.TheVariants.{NoRule, Read}
+use Rattle.ckeys.specs.declared.fault.Fault.TheVariants.{Read}
 use Rattle.ckeys.specs.declared.output_name.OutputName.{OutputName}
-use Rattle.ckeys.specs.declared.step.Step.TheVariants.{Compile, DepInfo, FileNames}
+use Rattle.ckeys.specs.declared.step.Step.TheVariants.{Compile}
+use Rattle.script_tool.specs.declared.crate_texts.CrateTexts.{CrateTexts}
 use Rattle.script_tool.specs.Scripted.{compiled, language_in, one_in, printed, scripted, takes_as_it_stands, text_at, text_by, without}
 use Rattle.wrap.specs.Account.{Work, account_by, account_named, call_at, rust_account_by, rust_call_at, rust_work_at, work_at, passed, worked}
 use Rattle.wrap.specs.StoreKeys.{HasRecord}
 use Rattle.wrap.specs.Verdicts.{Decision, asks, byte_255, commands_open_file, empty_value, hashed_words, opens_a_file, passes, verdict_of, with_hazards}
 use Rattle.rustc_compiler.specs.Compiler.{Rustc}
-use Rattle.rustkeys.specs.Calls.{RustCall, answer_fault_of, dep_info_fault_of, files_fault_of, key_fault_of, rule_fault_of, sources_fault_of}
-use Rattle.rustkeys.specs.Questions.{answers_of, dep_info_of, sources_in}
 use Rattle.wrap.specs.RustVerdicts as rust_verdicts
 use Rattle.wrap.specs.RustVerdicts.{RustDecision, rust_verdict_of}
 use Rattle.wrap_base.specs.Commands.{CFound, NamedBy, by_c, by_rustc, named_by, words_at}
 use Rattle.wrap_base.specs.declared.request.Request.{Request}
 use Rattle.scripted_laws.specs.ScriptedCalls.{HasSafeSourceBy, HasSafeSourceFor, IsMadeOfRecord, IsScripted}
+use Rattle.scripted_laws.proofs.CrateLemmas.{crate_made, none_some, or_none}
 use Rattle.scripted_laws.proofs.SourceLemmas.{compile_input, compile_stands, preprocess_input}
-
-none_some : {X : Type 0} (x : X) → Some x ≡ None → ⊥
-none_some x h = cc
 
 -- the compiler goes over the text of the record, where the preprocessor or the input gave one
 module _ (folders : List Bytes) (scene : Scene) (input : Bytes) (names : List OutputName) where
@@ -62,20 +59,12 @@ module _ (folders : List Bytes) (scene : Scene) (input : Bytes) (names : List Ou
   by_text true made is fine = by_printed made (text_at scene.files scene.dir path) is fine
   by_text false made is fine = by_bytes (contents_at scene.files path) fine
 
-or_first : (first second : Option Fault) → or_else first second ≡ None → first ≡ None
-or_first None second h = refl
-or_first (Some fault) second h = absurd (none_some fault h)
-
-or_none : (first second : Option Fault) → or_else first second ≡ None → second ≡ None
-or_none None second h = h
-or_none (Some fault) second h = absurd (none_some fault h)
-
-module _ (settings : Settings) (tree : Tree) (found : CFound) (request : Request) (p : ParsedArguments) where
+module _ (settings : Settings) (told : CrateTexts) (tree : Tree) (found : CFound) (request : Request) (p : ParsedArguments) where
   abbrev kind : CCompilerKind
   kind = found.kind
 
   abbrev meaning : Meaning
-  meaning = scripted settings.basedirs
+  meaning = scripted settings.basedirs told
 
   abbrev call : KeyCall
   call = call_at found request tree settings p
@@ -117,51 +106,44 @@ hazards_passed kind (parsing.asks q) p h = by (q.empty_value) refl (commands_ope
         same : asks q ≡ asks p → q ≡ p
         same h = cc
 
--- an empty text on dependencies has no rule, so that its call has no record
-no_rule : (call : RustCall) (meaning : Meaning) → dep_info_of meaning call.question ≡ made_of (pos 0) (Some [] ∷ []) → key_fault_of meaning call ≡ None → ⊥
-no_rule call meaning told fine =
-    let q = call.question in
-    let answers = answers_of meaning q in
-    let dep_info : dep_info_fault_of q answers.dep_info ≡ None = or_first (dep_info_fault_of q answers.dep_info) (or_else (answer_fault_of FileNames answers.file_names) (files_fault_of q answers.archives)) fine in
-    let empty : dep_info_fault_of q (made_of (pos 0) (Some [] ∷ [])) ≡ None = subst (λ (m : Made). dep_info_fault_of q m ≡ None) told dep_info in
-    let sources : sources_fault_of q.scene.files q.scene.dir [] ≡ None = or_none (answer_fault_of DepInfo (made_of (pos 0) (Some [] ∷ []))) (sources_fault_of q.scene.files q.scene.dir []) empty in
-    none_some NoRule (or_first (rule_fault_of []) (read_fault_of q.scene.files (sources_in q.scene.dir [])) sources)
-
 abbrev pub MakeOfRecords : Type 0
 MakeOfRecords = (settings : Settings) (w : Work) → IsScripted settings (worked w) → HasRecord w → IsMadeOfRecord w
 
 module _ (compiles : (kind : CCompilerKind) (p : ParsedArguments) → ReadsAsCompile kind p (compile_words kind p (output_path p))) (preprocesses : (kind : CCompilerKind) (p : ParsedArguments) → ReadsAsPreprocess kind p (preprocess_words kind p)) (known : (kind : CCompilerKind) (words : List Bytes) → HasKnownLanguageIn kind (parse_of kind words)) where
-  decision_made : (settings : Settings) (tree : Tree) (found : CFound) (request : Request) (w : Work) → HasSafeSourceFor found tree request → (decision : Decision) → verdict_of found.kind (words_at found request tree) ≡ decision
-      → account_by (scripted settings.basedirs) tree settings found request decision ≡ worked w → HasRecord w → IsMadeOfRecord w
-  decision_made settings tree found request w safe (passes why) is h fine = absurd (other h)
+  decision_made : (settings : Settings) (told : CrateTexts) (tree : Tree) (found : CFound) (request : Request) (w : Work) → HasSafeSourceFor found tree request → (decision : Decision) → verdict_of found.kind (words_at found request tree) ≡ decision
+      → account_by (scripted settings.basedirs told) tree settings found request decision ≡ worked w → HasRecord w → IsMadeOfRecord w
+  decision_made settings told tree found request w safe (passes why) is h fine = absurd (other h)
     where
       other : passed why ≡ worked w → ⊥
       other h = cc
-  decision_made settings tree found request w safe (asks p) is h fine =
+  decision_made settings told tree found request w safe (asks p) is h fine =
       let kind = found.kind in
       let words = words_at found request tree in
       let came : Comes (parse_of kind words) p = hazards_passed kind (parse_of kind words) p is in
       subst IsMadeOfRecord (same h)
-      (work_made settings tree found request p words
+      (work_made settings told tree found request p words
       (compiles kind p words came.0 came.1 (safe p came.0))
       (preprocesses kind p words came.0 came.1 (safe p came.0))
       (known kind words p came.0)
       (subst HasRecord (sym (same h)) fine))
     where
-      same : worked (work_at (scripted settings.basedirs) (call_at found request tree settings p)) ≡ worked w → work_at (scripted settings.basedirs) (call_at found request tree settings p) ≡ w
+      same : worked (work_at (scripted settings.basedirs told) (call_at found request tree settings p)) ≡ worked w → work_at (scripted settings.basedirs told) (call_at found request tree settings p) ≡ w
       same h = cc
 
-  -- the scripted tool tells rustc's requests nothing, so that none has a record
-  none_recorded : (settings : Settings) (tree : Tree) (rust : Rustc) (request : Request) (d : RustDecision) (w : Work) → rust_account_by (scripted settings.basedirs) tree rust request d ≡ worked w → HasRecord w → ⊥
-  none_recorded settings tree rust request (rust_verdicts.passes why) w is fine = cc
-  none_recorded settings tree rust request (rust_verdicts.asks asked) w is fine = no_rule (rust_call_at rust request tree asked) (scripted settings.basedirs) refl (subst HasRecord (sym (same is)) fine)
+  rust_decision_made : (settings : Settings) (told : CrateTexts) (tree : Tree) (rust : Rustc) (request : Request) (d : RustDecision) (w : Work) → rust_account_by (scripted settings.basedirs told) tree rust request d ≡ worked w → HasRecord w → IsMadeOfRecord w
+  rust_decision_made settings told tree rust request (rust_verdicts.passes why) w is fine = absurd (other is)
     where
-      same : worked (rust_work_at (scripted settings.basedirs) (rust_call_at rust request tree asked)) ≡ worked w → rust_work_at (scripted settings.basedirs) (rust_call_at rust request tree asked) ≡ w
+      other : passed why ≡ worked w → ⊥
+      other h = cc
+  rust_decision_made settings told tree rust request (rust_verdicts.asks asked) w is fine =
+      subst IsMadeOfRecord (same is) (crate_made settings told tree rust request asked (subst HasRecord (sym (same is)) fine))
+    where
+      same : worked (rust_work_at (scripted settings.basedirs told) (rust_call_at rust request tree asked)) ≡ worked w → rust_work_at (scripted settings.basedirs told) (rust_call_at rust request tree asked) ≡ w
       same e = cc
 
   pub records_made : MakeOfRecords
   records_made settings w h fine = by (named_by h.request.compiler) h.safe h.is
     where
-      by : (n : NamedBy) → HasSafeSourceBy n h.tree h.request → account_named (scripted settings.basedirs) h.tree settings h.request n ≡ worked w → IsMadeOfRecord w
-      by (by_c found) safe is = decision_made settings h.tree found h.request w safe (verdict_of found.kind (words_at found h.request h.tree)) refl is fine
-      by (by_rustc rust) safe is = absurd (none_recorded settings h.tree rust h.request (rust_verdict_of h.request h.tree) w is fine)
+      by : (n : NamedBy) → HasSafeSourceBy n h.tree h.request → account_named (scripted settings.basedirs h.told) h.tree settings h.request n ≡ worked w → IsMadeOfRecord w
+      by (by_c found) safe is = decision_made settings h.told h.tree found h.request w safe (verdict_of found.kind (words_at found h.request h.tree)) refl is fine
+      by (by_rustc rust) safe is = rust_decision_made settings h.told h.tree rust h.request (rust_verdict_of h.request h.tree) w is fine

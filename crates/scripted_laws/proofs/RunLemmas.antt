@@ -10,14 +10,13 @@ use Rattle.ckeys.specs.Entries.{AreReprinted}
 use Rattle.ckeys.specs.Folders.{Settings}
 use Rattle.ckeys.specs.Keys.{Distinct}
 use Rattle.ckeys.specs.Meaning.{names_of}
-use Rattle.script_tool.specs.Scripted.{compiled}
 use Rattle.wrap.specs.Account.{Account, Work, account_at, direct_calls, worked}
 use Rattle.wrap.specs.StoreKeys.{HasRecord, IsHashedIn, Premises, SameRecord}
 use Rattle.wrap.specs.Whole.{FilesView, ToolView, accounts_at}
 use Rattle.wrap_base.specs.Commands.{CFound, NamedBy, by_c, by_rustc, named_by, words_at}
 use Rattle.wrap_base.specs.declared.call.Call.{Call}
 use Rattle.wrap_base.specs.declared.request.Request.{Request}
-use Rattle.scripted_laws.specs.ScriptedCalls.{HasSafeSource, HasSafeSourceBy, HasSafeSourceFor, IsGivenBy, IsScripted, IsScriptedCall, text_of}
+use Rattle.scripted_laws.specs.ScriptedCalls.{HasSafeSource, HasSafeSourceBy, HasSafeSourceFor, IsGivenBy, IsScripted, IsScriptedCall, made_of_record}
 use Rattle.scripted_laws.proofs.OutcomeLemmas.{MakeOfRecords}
 
 abbrev pub AreEqual : Type 0
@@ -26,8 +25,8 @@ AreEqual = (one other : Settings) (a b : Work) → IsScripted one (worked a) →
 pub outcomes_equal : MakeOfRecords → AreEqual
 outcomes_equal make one other a b of_one of_other fine fine_too same =
     make one a of_one fine
-    ∙ ap (λ r. compiled (text_of r) (names_of a.outputs)) same.parts
-    ∙ ap (compiled (text_of b.rec)) same.names
+    ∙ ap (λ r. made_of_record r (names_of a.outputs)) same.parts
+    ∙ ap (made_of_record b.rec) same.names
     ∙ sym (make other b of_other fine_too)
 
 pub source_safe : ((kind : CCompilerKind) (words : List Bytes) → HasSafeInputIn kind words (parse_of kind words)) → (tree : Tree) (request : Request) → (IsGivenBy (named_by request.compiler) tree request → ⊥) → HasSafeSource tree request
@@ -53,10 +52,11 @@ run_meets equal digest_of settings run all distinct reprinted = record {
 module _ {F T : Type 0} (settings : Settings) (files : FilesView F) (tool : ToolView T) where
   call_scripted : (c : Call F T) → IsScriptedCall settings files tool c → IsScripted settings (account_at (tool.meaning c.tool) (files.tree c.files) settings c.request)
   call_scripted c h = record {
+    told = h.told;
     tree = files.tree c.files;
     request = c.request;
-    is = ap (λ meaning. account_at meaning (files.tree c.files) settings c.request) (sym h.0);
-    safe = h.1;
+    is = ap (λ meaning. account_at meaning (files.tree c.files) settings c.request) (sym h.means);
+    safe = h.safe;
   }
 
   pub calls_scripted : (calls : List (Call F T)) → All (IsScriptedCall settings files tool) calls → All (IsScripted settings) (accounts_at settings files tool calls)

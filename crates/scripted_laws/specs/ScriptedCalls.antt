@@ -1,13 +1,16 @@
 -- Calls of the scripted tool whose folders are the configuration's.
-use Rattle.std.specs.Prelude.{◌≡◌, Option, None, Some}
-use Rattle.os_files.specs.Bytes.{Bytes}
+use Rattle.std.specs.Prelude.{◌≡◌, List, Some}
+use Rattle.std.specs.List.{concat}
 use Rattle.os_files.specs.Tree.{Tree}
 use Rattle.cmdlines.specs.Parsing.{HasSafeInput, IsGivenByOption, parse_of}
 use Rattle.cmdlines.specs.Parsing as parsing
 use Rattle.cmdlines.specs.declared.parsed.ParsedArguments.{ParsedArguments}
 use Rattle.ckeys.specs.Folders.{Settings}
-use Rattle.ckeys.specs.Meaning.{names_of}
+use Rattle.ckeys.specs.Meaning.{Made, names_of}
+use Rattle.ckeys.specs.declared.output_name.OutputName.{OutputName}
 use Rattle.script_tool.specs.Scripted.{compiled, scripted}
+use Rattle.script_tool.specs.ScriptedCrates.{compiled_crate}
+use Rattle.script_tool.specs.declared.crate_texts.CrateTexts.{CrateTexts}
 use Rattle.wrap.specs.CallRecords.{CallRecord, of_c, of_rustc}
 use Rattle.wrap.specs.Account.{Account, Work, account_at}
 use Rattle.wrap.specs.Whole.{FilesView, ToolView}
@@ -31,22 +34,25 @@ abbrev pub IsGivenBy : NamedBy → Tree → Request → Type 0
 IsGivenBy (by_c found) tree request = IsGivenByOption found.kind (words_at found request tree)
 IsGivenBy (by_rustc rust) tree request = ⊥
 
--- the account of a request whose input can stand where it's written, over a scripted tool whose folders are the configuration's
+-- the account of a request whose input can stand where it's written, over a scripted tool whose folders are the configuration's, whatever its rustc tells
 pub record IsScripted (settings : Settings) (a : Account) : Type 0 where
+  pub told : CrateTexts
   pub tree : Tree
   pub request : Request
-  pub is : account_at (scripted settings.basedirs) tree settings request ≡ a
+  pub is : account_at (scripted settings.basedirs told) tree settings request ≡ a
   pub safe : HasSafeSource tree request
 
--- the text of a record, where it is one of a C compiler
-abbrev pub text_of : CallRecord → Option Bytes
-text_of (of_c r) = Some r.text
-text_of (of_rustc r) = None
+-- what the scripted tool makes of a record: a C compiler of its text, and rustc of the contents of its sources in a row
+abbrev pub made_of_record : CallRecord → List OutputName → Made
+made_of_record (of_c r) outputs = compiled (Some r.text) outputs
+made_of_record (of_rustc r) outputs = compiled_crate (Some (concat r.sources)) outputs
 
--- the fresh outcome is what the scripted compiler makes of the record's text
+-- the fresh outcome is what the scripted tool makes of the record
 abbrev pub IsMadeOfRecord : Work → Type 0
-IsMadeOfRecord w = w.fresh ≡ compiled (text_of w.rec) (names_of w.outputs)
+IsMadeOfRecord w = w.fresh ≡ made_of_record w.rec (names_of w.outputs)
 
 -- a call of such a request by such a tool
-abbrev pub IsScriptedCall : {F T : Type 0} → Settings → FilesView F → ToolView T → Call F T → Type 0
-IsScriptedCall settings files tool c = (tool.meaning c.tool ≡ scripted settings.basedirs) × HasSafeSource (files.tree c.files) c.request
+pub record IsScriptedCall {F T : Type 0} (settings : Settings) (files : FilesView F) (tool : ToolView T) (c : Call F T) : Type 0 where
+  pub told : CrateTexts
+  pub means : tool.meaning c.tool ≡ scripted settings.basedirs told
+  pub safe : HasSafeSource (files.tree c.files) c.request

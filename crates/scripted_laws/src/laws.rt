@@ -19,7 +19,8 @@ use os_files::files::Files;
 use wrap_base::tool::Tool;
 
 /// Over the scripted tool, whose folders are the configuration's, the fresh outcome of a call that has a record is made of
-/// that record alone: so equal records have equal fresh outcomes, under one configuration or two, wherever the calls run.
+/// that record alone, whatever rustc tells: so equal records have equal fresh outcomes, under one configuration or two, by one
+/// tool or two, wherever the calls run.
 pub fn records_fix_scripted_outcomes()
     ensures made { (settings : Settings) (w : Work) → IsScripted settings (worked w)
         → HasRecord w → IsMadeOfRecord w }
