@@ -1,6 +1,6 @@
 //! Byte strings in JSON: a text stands for its UTF-8 bytes, and `{"hex": ".."}` for any bytes.
 
-use crate::members::into_list;
+use crate::members::{into_list, into_text};
 use crate::scenario::ScenarioFault;
 use hex::FromHexError;
 use os_files::listed::Listed;
@@ -37,6 +37,15 @@ pub(crate) fn read_byte_texts(
     let mut texts = Vec::new(alloc);
     for text in into_list(value)? {
         texts.push(read_byte_text(alloc, text)?)?;
+    }
+    Ok(Listed::from_vec(texts))
+}
+
+/// The UTF-8 bytes of a list of texts.
+pub(crate) fn read_texts(alloc: Global, value: Value) -> Result<Listed<OsBytes>, ScenarioFault> {
+    let mut texts = Vec::new(alloc);
+    for text in into_list(value)? {
+        texts.push(OsBytes::from_vec(into_text(text)?.into_bytes()))?;
     }
     Ok(Listed::from_vec(texts))
 }

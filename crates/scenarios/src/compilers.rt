@@ -1,19 +1,42 @@
 //! The compiler of a request, from the members that tell of it.
 
-use crate::byte_text::read_byte_text;
-use crate::members::{into_text, read_truth, required};
+use crate::byte_text::{read_byte_text, read_texts};
+use crate::members::{into_text, read_text, read_truth};
 use crate::scenario::ScenarioFault;
 use ckeys::compiler::CCompiler;
 use cmdlines::found::{FoundCompiler, HasKind};
+use os_files::listed::Listed;
+use os_files::memory_files::MemoryFiles;
 use os_files::os_bytes::OsBytes;
+use rustc_compiler::fault::RustFault;
+use rustc_compiler::rust::Rust;
 use serde_json::{Map, Value};
+use sha2::Sha256;
 use std::alloc::{AllocError, Global};
 use wrap_base::compiler::Compiler;
+
+/// The name of rustc.
+pub(crate) const RUSTC: &str = "rustc";
 
 /// The digest of a compiler for which none is named.
 const DEFAULT_DIGEST: &str = "d";
 
-/// What a request's members tell of its compiler beside the kind. Its version isn't known.
+/// What a rustc of which no version is named says of it.
+const DEFAULT_VERSION: &str = "host: x";
+
+/// The folder of libraries of a rustc for which none is named.
+const DEFAULT_SYSROOT: &str = "/s";
+
+impl From<RustFault> for ScenarioFault {
+    fn from(fault: RustFault) -> ScenarioFault {
+        match fault {
+            RustFault::Memory => ScenarioFault::Memory,
+            RustFault::NoHost | RustFault::Read(_) => ScenarioFault::Unreadable,
+        }
+    }
+}
+
+/// What a request's members tell of its C compiler beside the kind. Its version isn't known.
 #[derive(Drop)]
 struct Told {
     plusplus: bool,
@@ -30,14 +53,29 @@ impl Told {
     }
 }
 
-/// The compiler that a request's members tell.
+/// The compiler of that name, as a request's members tell it. The files are the request's own, among which are those of a toolchain.
 pub(crate) fn read_compiler(
     alloc: Global,
+    name: &str,
+    members: &mut Map<String, Value>,
+    files: &mut MemoryFiles,
+) -> Result<Compiler, ScenarioFault> {
+    let executable = read_executable(alloc, members.remove("executable"), name)?;
+    if name == RUSTC {
+        Ok(Compiler::Rust(read_rust(alloc, executable, members, files)?))
+    } else {
+        read_c_compiler(alloc, name, executable, members)
+    }
+}
+
+/// The C compiler of that name and executable.
+fn read_c_compiler(
+    alloc: Global,
+    name: &str,
+    executable: OsBytes,
     members: &mut Map<String, Value>,
 ) -> Result<Compiler, ScenarioFault> {
-    let name = into_text(required(members.remove("compiler"))?)?;
-    let executable = read_executable(alloc, members.remove("executable"), name.as_str())?;
-    let digest = read_digest(alloc, members.remove("digest"))?;
+    let digest = read_text(alloc, members.remove("digest"), DEFAULT_DIGEST)?;
     let plusplus = read_truth(members.remove("plusplus"))?;
     let assembler = read_assembler(members.remove("assembler"))?;
     let told = Told {
@@ -46,7 +84,7 @@ pub(crate) fn read_compiler(
         executable,
         digest,
     };
-    match name.as_str() {
+    match name {
         "gcc" => Ok(Compiler::Gcc(told.found(alloc)?)),
         "clang" => Ok(Compiler::Clang(told.found(alloc)?)),
         "diab" => Ok(Compiler::Diab(told.found(alloc)?)),
@@ -54,6 +92,28 @@ pub(crate) fn read_compiler(
         "taskingvx" => Ok(Compiler::TaskingVX(told.found(alloc)?)),
         _ => Err(ScenarioFault::Unreadable),
     }
+}
+
+/// The rustc of that executable.
+fn read_rust(
+    alloc: Global,
+    executable: OsBytes,
+    members: &mut Map<String, Value>,
+    files: &mut MemoryFiles,
+) -> Result<Rust, ScenarioFault> {
+    let version = read_text(alloc, members.remove("version"), DEFAULT_VERSION)?;
+    let sysroot = read_text(alloc, members.remove("sysroot"), DEFAULT_SYSROOT)?;
+    let libraries = read_libraries(alloc, members.remove("libs"))?;
+    let archive = read_archive(members.remove("archive"))?;
+    Ok(Rust::new::<Sha256, MemoryFiles>(
+        alloc,
+        executable,
+        OsBytes::from_vec(version.into_bytes()),
+        OsBytes::from_vec(sysroot.into_bytes()),
+        libraries,
+        archive,
+        files,
+    )?)
 }
 
 /// The executable, which has the compiler's name where none is given.
@@ -68,17 +128,26 @@ fn read_executable(
     }
 }
 
-fn read_digest(alloc: Global, member: Option<Value>) -> Result<String, ScenarioFault> {
-    match member {
-        Some(digest) => into_text(digest),
-        None => Ok(String::from_str(alloc, DEFAULT_DIGEST)?),
-    }
-}
-
 /// The assembler's digest, where one is given.
 fn read_assembler(member: Option<Value>) -> Result<Option<String>, ScenarioFault> {
     match member {
         Some(digest) => Ok(Some(into_text(digest)?)),
+        None => Ok(None),
+    }
+}
+
+/// The paths of a toolchain's libraries.
+fn read_libraries(alloc: Global, member: Option<Value>) -> Result<Listed<OsBytes>, ScenarioFault> {
+    match member {
+        Some(paths) => read_texts(alloc, paths),
+        None => Ok(Listed::new(alloc)),
+    }
+}
+
+/// The path of a toolchain's archive, where one is given.
+fn read_archive(member: Option<Value>) -> Result<Option<OsBytes>, ScenarioFault> {
+    match member {
+        Some(path) => Ok(Some(OsBytes::from_vec(into_text(path)?.into_bytes()))),
         None => Ok(None),
     }
 }

@@ -3,6 +3,7 @@
 
 mod byte_text;
 mod compilers;
+mod crates;
 mod members;
 pub mod program;
 mod scenario;

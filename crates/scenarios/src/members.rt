@@ -2,6 +2,7 @@
 
 use crate::scenario::ScenarioFault;
 use serde_json::{Map, Value};
+use std::alloc::Global;
 use std::num::NonZeroUsize;
 
 /// A member that has to be there.
@@ -27,6 +28,18 @@ pub(crate) fn into_text(value: Value) -> Result<String, ScenarioFault> {
     match value {
         Value::String(text) => Ok(text),
         _ => Err(ScenarioFault::Unreadable),
+    }
+}
+
+/// A text, and the default where the member isn't there.
+pub(crate) fn read_text(
+    alloc: Global,
+    member: Option<Value>,
+    default: &str,
+) -> Result<String, ScenarioFault> {
+    match member {
+        Some(text) => into_text(text),
+        None => Ok(String::from_str(alloc, default)?),
     }
 }
 

@@ -154,7 +154,8 @@ fn serve_calls<O: Store<StoreKey, Pairs> + Drop, W: Write>(
         .map_err(|error| fault_of(&error, RunFault::Output))
 }
 
-/// What a call is answered, before which all that both stores hold is dropped where the call says so.
+/// What a call is answered by the tool, whose rustc tells what the call says. Before it all that both stores hold is dropped where the
+/// call says so.
 fn answered<O: Store<StoreKey, Pairs> + Drop>(
     call: ScenarioCall,
     session: &mut Session<Sha256, Entries, O>,
@@ -163,8 +164,10 @@ fn answered<O: Store<StoreKey, Pairs> + Drop>(
     let ScenarioCall {
         request,
         mut files,
+        told,
         forget,
     } = call;
+    tool.told = told;
     if forget {
         session.forget_all();
     }

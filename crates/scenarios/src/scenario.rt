@@ -9,11 +9,8 @@
 //!
 //! A request is an object with these members, of which `compiler` and `words` are required:
 //!
-//! - `compiler`: the text `gcc`, `clang`, `diab`, `msvc` or `taskingvx`;
+//! - `compiler`: the text `gcc`, `clang`, `diab`, `msvc`, `taskingvx` or `rustc`;
 //! - `executable`: a byte text, else the compiler's name;
-//! - `digest`: a text that stands for the executable in keys, else `d`;
-//! - `plusplus`: a truth value, whether the compiler compiles C++ by itself, else false;
-//! - `assembler`: a text that stands for the compiler's assembler in keys, else none;
 //! - `words`: the byte texts behind the compiler's name;
 //! - `dir`: a byte text, else `/w`;
 //! - `env`: a list of pairs of byte texts, else none;
@@ -21,12 +18,29 @@
 //! - `files`: an object that gives each path a file, else none;
 //! - `forget`: a truth value, whether all that both stores hold is dropped before this request, else false.
 //!
+//! Of a C compiler it has also these:
+//!
+//! - `digest`: a text that stands for the executable in keys, else `d`;
+//! - `plusplus`: a truth value, whether the compiler compiles C++ by itself, else false;
+//! - `assembler`: a text that stands for the compiler's assembler in keys, else none.
+//!
+//! And of rustc these:
+//!
+//! - `version`: a text, what it says of its version, else `host: x`. A line of it begins with `host: `;
+//! - `sysroot`: a text, its folder of libraries, else `/s`;
+//! - `libs`: a list of texts, the paths of its toolchain's libraries, else empty;
+//! - `archive`: a text, the path of its toolchain's archive, else none. Libraries and archive are among the request's files;
+//! - `dep_info`: a byte text, what it tells of what the crate depends on, else empty;
+//! - `file_names`: a byte text, the names that it tells of what it writes, else empty;
+//! - `archives`: an object that gives each static library's path a text, its digest, else empty.
+//!
 //! A file is a text, which is its contents, or an object with either `text`, a text, or `hex`, as in a byte text, and perhaps `mtime`, a whole number of seconds of 64 bits with a sign, else 0. All other members are passed over unread, and of a repeated member the last one counts.
 
 ghost use Rattle.std.specs.Prelude.{◌≡◌};
 
 use crate::byte_text::{read_byte_text, read_byte_texts, read_hex};
 use crate::compilers::read_compiler;
+use crate::crates::read_crate;
 use crate::members::{
     into_list, into_object, into_text, read_capacity, read_truth, read_whole, required,
 };
@@ -35,6 +49,7 @@ use os_files::file_time::FileTime;
 use os_files::listed::Listed;
 use os_files::memory_files::{MemoryFile, MemoryFiles};
 use os_files::os_bytes::OsBytes;
+use script_tool::crate_texts::CrateTexts;
 use serde_json::{Map, Value};
 use std::alloc::{AllocError, AllocFailed, Global};
 use std::num::NonZeroUsize;
@@ -59,11 +74,13 @@ pub(crate) struct Scenario {
     pub(crate) calls: Vec<ScenarioCall>,
 }
 
-/// A request and the files that it finds.
+/// A request, the files that it finds, and what rustc tells of its crate.
 #[derive(Drop)]
 pub(crate) struct ScenarioCall {
     pub(crate) request: Request,
     pub(crate) files: MemoryFiles,
+    /// Empty for a C compiler.
+    pub(crate) told: CrateTexts,
     /// Whether all that both stores hold is dropped before the request.
     pub(crate) forget: bool,
 }
@@ -160,14 +177,20 @@ fn read_calls(alloc: Global, requests: Value) -> Result<Vec<ScenarioCall>, Scena
     Ok(calls)
 }
 
-/// The request that these members tell. Its compiler is read last: it would be dropped at each failure behind it.
-fn read_request(alloc: Global, members: &mut Map<String, Value>) -> Result<Request, ScenarioFault> {
+/// The request to the compiler of that name that these members tell. Its compiler is read last: it would be dropped at each failure
+/// behind it.
+fn read_request(
+    alloc: Global,
+    name: &str,
+    members: &mut Map<String, Value>,
+    files: &mut MemoryFiles,
+) -> Result<Request, ScenarioFault> {
     let words = read_byte_texts(alloc, required(members.remove("words"))?)?;
     let dir = read_dir(alloc, members.remove("dir"))?;
     let env = read_env(alloc, members.remove("env"))?;
     let moment = read_whole(members.remove("moment"), DEFAULT_MOMENT)?;
     Ok(Request {
-        compiler: read_compiler(alloc, members)?,
+        compiler: read_compiler(alloc, name, members, files)?,
         words,
         dir,
         env,
@@ -177,11 +200,14 @@ fn read_request(alloc: Global, members: &mut Map<String, Value>) -> Result<Reque
 
 fn read_call(alloc: Global, value: Value) -> Result<ScenarioCall, ScenarioFault> {
     let mut members = into_object(value)?;
-    let files = read_files(alloc, members.remove("files"))?;
+    let name = into_text(required(members.remove("compiler"))?)?;
     let forget = read_truth(members.remove("forget"))?;
+    let told = read_crate(alloc, name.as_str(), &mut members)?;
+    let mut files = read_files(alloc, members.remove("files"))?;
     Ok(ScenarioCall {
-        request: read_request(alloc, &mut members)?,
+        request: read_request(alloc, name.as_str(), &mut members, &mut files)?,
         files,
+        told,
         forget,
     })
 }
