@@ -2,6 +2,8 @@
 #![tactic(auto)]
 
 #[cfg(test)]
+mod crates;
+#[cfg(test)]
 mod records;
 #[cfg(test)]
 mod runs;

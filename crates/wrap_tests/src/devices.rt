@@ -28,7 +28,7 @@ struct Row {
     reads: &'static str,
 }
 
-const ROWS: [Row; 6] = [
+const ROWS: [Row; 7] = [
     // A marker of 15 bytes and the source.
     Row {
         line: "-c foo.c",
@@ -87,6 +87,17 @@ const ROWS: [Row; 6] = [
         held: (1, 1),
         steps: "fault tool preprocess;fault tool compile;",
         reads: "fault read /w/m.c;",
+    },
+    // A library, and beside it the text on dependencies for its own paths. The source and the static library are asked for before the
+    // compile.
+    Row {
+        line: "rustc --emit dep-info,link foo.rs --out-dir out --crate-name foo --crate-type lib -L native=lib -l static=z",
+        direct: false,
+        hows: ["Fresh", "Stored"],
+        outputs: "libfoo.rlib out/libfoo.rlib pub fn f() {}\n out/foo.d: foo.rs\n\nout/libfoo.rlib: foo.rs\n\nfoo.rs:\n",
+        held: (0, 1),
+        steps: "fault tool dep-info;fault tool file-names;fault tool archive-digest;fault tool compile;fault tool dep-info;fault tool file-names;fault tool archive-digest;",
+        reads: "fault read /w/foo.rs;",
     },
 ];
 

@@ -26,8 +26,10 @@ pub(crate) const NO_FAILURE: Limits = Limits {
 };
 
 /// The files of each request.
-const FILES: [(&str, &[u8]); 9] = [
+const FILES: [(&str, &[u8]); 11] = [
     ("/w/foo.c", b"int x;\n"),
+    ("/w/foo.rs", b"pub fn f() {}\n"),
+    ("/w/lib/libz.a", b"z"),
     ("/w/y.i", b"int y;\n"),
     ("/w/bad.c", b"#error\n"),
     ("/w/p.so", b"plug"),
@@ -129,10 +131,9 @@ impl Scene {
             return format!(in self.alloc; "{failures} failures of the tool");
         }
         if failures == 1 {
-            let step = if after.compile == before.compile {
-                "preprocess"
-            } else {
-                "compile"
+            let tool = &self.call.tool;
+            let Some(step) = tool.failed_step.or(tool.tool.failed_step) else {
+                return format!(in self.alloc; "a failure in no step");
             };
             return format!(in self.alloc; "fault tool {step}");
         }
