@@ -39,32 +39,114 @@ def words(number, first="-c"):
     return given
 
 
-def write_scenario(file, numbers, first="-c"):
-    """Writes the scenario of the requests of these numbers, one behind the other."""
+class Gcc:
+    """Requests to gcc, by their numbers."""
+
+    reason = "-E"
+
+    @staticmethod
+    def request(number, passes=False):
+        path = f"{FOLDER}/{source_name(number)}"
+        given = words(number, "-E" if passes else "-c")
+        return {"compiler": "gcc", "words": given, "files": {path: SOURCES[number % FILES]}}
+
+    @staticmethod
+    def outputs(number):
+        """What is printed of the outputs of one."""
+        marker = f'# 1 "{FOLDER}/{source_name(number)}"\n'
+        return f"obj:{len(marker) + len(SOURCES[number % FILES])}"
+
+
+class Rustc:
+    """Requests to rustc, by their numbers: each of a crate of one file, with a text on what it depends on."""
+
+    reason = "not a compilation"
+
+    @staticmethod
+    def name(number):
+        return f"crate{number % FILES:03}"
+
+    @staticmethod
+    def source_name(number):
+        return f"src/{Rustc.name(number)}.rs"
+
+    @staticmethod
+    def words(number, first):
+        """The words, equally many and long for each, of which `first` says what is asked for."""
+        given = [first, Rustc.source_name(number), "--crate-name", Rustc.name(number), "--crate-type", "lib"]
+        given += ["--out-dir", "target/release/deps", "-L", "dependency=target/release/deps"]
+        given += ["-C", "opt-level=3", "-C", f"metadata={number:07}", "-C", "codegen-units=1", "--cap-lints", "warn"]
+        while len(given) < WORDS:
+            given += ["--cfg", f'feature="name{len(given)}"']
+        return given
+
+    @staticmethod
+    def request(number, passes=False):
+        source = Rustc.source_name(number)
+        return {
+            "compiler": "rustc",
+            "words": Rustc.words(number, "--version" if passes else "--emit=dep-info,link"),
+            "files": {f"{FOLDER}/{source}": CRATES[number % FILES]},
+            "dep_info": f"target.d: {source}\n\n{source}:\n",
+            "file_names": f"lib{Rustc.name(number)}.rlib\n",
+        }
+
+    @staticmethod
+    def outputs(number):
+        """What is printed of the outputs of one, and of its text on dependencies."""
+        name, source = Rustc.name(number), Rustc.source_name(number)
+        targets = [f"target/release/deps/{name}.d", f"target/release/deps/lib{name}.rlib"]
+        text = "".join(f"{target}: {source}\n\n" for target in targets) + f"{source}:\n"
+        return f"lib{name}.rlib:{len(CRATES[number % FILES])} dep-info:{len(text)}"
+
+
+def crate(number):
+    """About a kilobyte of Rust, another one for each of the files."""
+    lines = [f"pub struct Counts{number} {{ pub first: u64, pub last: u64, pub name: &'static str }}\n"]
+    for place in range(8):
+        lines.append(
+            f"pub fn count{number}_{place}(counts: &Counts{number}, added: u64) -> u64\n"
+            f"{{ counts.first.wrapping_add(added.wrapping_mul({place})) }}\n"
+        )
+    return "".join(lines)
+
+
+CRATES = [crate(number) for number in range(FILES)]
+
+
+def of_one(family, numbers):
+    """The requests of these numbers to the compilers of one family."""
+    return [(family, number) for number in numbers]
+
+
+def in_turns(numbers):
+    """The requests of these numbers, in turn to gcc and to rustc: half of them to each."""
+    return [((Gcc, Rustc)[place % 2], number) for place, number in enumerate(numbers)]
+
+
+def write_scenario(file, requests, passes=False):
+    """Writes the scenario of these requests, one behind the other."""
     with open(file, "w") as output:
         separator = '{"requests":['
-        for number in numbers:
-            path = f"{FOLDER}/{source_name(number)}"
-            files = {path: SOURCES[number % FILES]}
-            request = {"compiler": "gcc", "words": words(number, first), "files": files}
-            output.write(separator + json.dumps(request))
+        for family, number in requests:
+            output.write(separator + json.dumps(family.request(number, passes)))
             separator = ",\n"
         output.write("]}\n")
 
 
-def wanted(numbers):
+def wanted(requests):
     """What the program is to print of these requests, where each is compiled once and stored from then on."""
     lines = []
     compiled = set()
-    for place, number in enumerate(numbers, 1):
-        how = "stored" if number in compiled else "fresh"
-        compiled.add(number)
-        marker = f'# 1 "{FOLDER}/{source_name(number)}"\n'
-        lines.append(f"{place} {how} obj:{len(marker) + len(SOURCES[number % FILES])}\n")
+    for place, (family, number) in enumerate(requests, 1):
+        how = "stored" if (family, number) in compiled else "fresh"
+        compiled.add((family, number))
+        lines.append(f"{place} {how} {family.outputs(number)}\n")
     lines.append(f"compiles {len(compiled)}\n")
     return "".join(lines)
 
 
-def wanted_passes(count):
-    """What the program is to print of requests that `-E` passes through."""
-    return "".join(f"{place} pass -E\n" for place in range(1, count + 1)) + "compiles 0\n"
+def wanted_passes(requests):
+    """What the program is to print of these requests, where their first word passes them through."""
+    lines = [f"{place} pass {family.reason}\n" for place, (family, number) in enumerate(requests, 1)]
+    return "".join(lines) + "compiles 0\n"

@@ -9,7 +9,7 @@ import subprocess
 import tempfile
 from pathlib import Path
 
-from scenarios import FILES, SOURCES, source_name, wanted, wanted_passes, words, write_scenario
+from scenarios import FILES, SOURCES, Gcc, Rustc, in_turns, of_one, source_name, wanted, wanted_passes, words, write_scenario
 from timing import in_turn, run, stop
 
 TOP = Path(__file__).resolve().parent.parent
@@ -44,11 +44,11 @@ def served(file, text):
     return seconds
 
 
-def timer(folder, name, numbers, first="-c"):
+def timer(folder, name, requests, passes=False):
     """Writes the scenario of these requests into the folder, and gives what times a run over it."""
     file = os.path.join(folder, f"{name}.json")
-    write_scenario(file, numbers, first)
-    text = wanted(numbers) if first == "-c" else wanted_passes(len(numbers))
+    write_scenario(file, requests, passes)
+    text = wanted_passes(requests) if passes else wanted(requests)
     return lambda: served(file, text)
 
 
@@ -57,19 +57,32 @@ def halves(count):
     return [place % (count // 2) for place in range(count)]
 
 
-def answer_timers(folder):
-    """What times runs over scenarios of equal length, which differ in how their requests are answered."""
+# All requests of a family differ, or those of its files are repeated, or all are passed through.
+PASSED, FRESH, REPEATED = "passed", "fresh", "repeated"
+
+
+def answer_timers(folder, family, name):
+    """What times runs over scenarios of equal length to one family, which differ in how their requests are answered."""
+    every = of_one(family, range(COUNT))
+    repeated = of_one(family, [place % FILES for place in range(COUNT)])
     return {
-        "passed": timer(folder, "passed", range(COUNT), first="-E"),
-        "fresh": timer(folder, "fresh", range(COUNT)),
-        "repeated": timer(folder, "repeated", [place % FILES for place in range(COUNT)]),
-        "halves": timer(folder, "halves", halves(COUNT)),
+        name + PASSED: timer(folder, name + PASSED, every, passes=True),
+        name + FRESH: timer(folder, name + FRESH, every),
+        name + REPEATED: timer(folder, name + REPEATED, repeated),
     }
+
+
+def seconds_of_answers(times, name):
+    """The time of a stored answer, and of a fresh one, without the reading of their requests."""
+    fresh = (times[name + FRESH] - times[name + PASSED]) / COUNT
+    # Each file's first request is answered afresh.
+    stored = (times[name + REPEATED] - times[name + PASSED] - FILES * fresh) / (COUNT - FILES)
+    return stored, fresh
 
 
 def length_timers(folder):
     """What times runs over scenarios of other lengths."""
-    return {str(count): timer(folder, str(count), halves(count)) for count in [FEWER, COUNT, MORE]}
+    return {str(count): timer(folder, str(count), of_one(Gcc, halves(count))) for count in [FEWER, COUNT, MORE]}
 
 
 def write_sources(folder):
@@ -140,14 +153,32 @@ def report(name, seconds, times):
 
 
 def measure_answers(folder):
-    times = in_turn({**answer_timers(folder), **peer_timers(folder)}, ROUNDS, min)
-    fresh = (times["fresh"] - times["passed"]) / COUNT
-    # Each file's first request is answered afresh.
-    stored = (times["repeated"] - times["passed"] - FILES * fresh) / (COUNT - FILES)
+    own = {**answer_timers(folder, Gcc, ""), "halves": timer(folder, "halves", of_one(Gcc, halves(COUNT)))}
+    times = in_turn({**own, **peer_timers(folder)}, ROUNDS, min)
+    stored, fresh = seconds_of_answers(times, "")
     report("stored answer", stored, times)
     report("request, half of them repeated, with its reading", times["halves"] / COUNT, times)
     print(f"fresh answer: {fresh / stored:.1f} times a stored one")
-    print(f"reading of a request: {times['passed'] / COUNT / stored:.1f} times a stored answer")
+    print(f"reading of a request: {times[PASSED] / COUNT / stored:.1f} times a stored answer")
+
+
+def measure_families(folder):
+    """rustc's answers beside those of gcc, and requests to both in one list."""
+    mixed = {
+        "gcc alone": timer(folder, "alone", of_one(Gcc, halves(COUNT))),
+        # An even number of requests differ, so that each is repeated by its own family.
+        "in turns": timer(folder, "in turns", in_turns(halves(COUNT))),
+    }
+    families = {**answer_timers(folder, Gcc, "gcc "), **answer_timers(folder, Rustc, "rustc ")}
+    times = in_turn({**families, **mixed}, ROUNDS, min)
+    stored, fresh = seconds_of_answers(times, "rustc ")
+    gcc_stored, gcc_fresh = seconds_of_answers(times, "gcc ")
+    print(f"stored answer by rustc: {stored / gcc_stored:.2f} times one by gcc")
+    print(f"fresh answer by rustc: {fresh / gcc_fresh:.2f} times one by gcc")
+    reading = times["rustc " + PASSED] / times["gcc " + PASSED]
+    print(f"reading of a request to rustc: {reading:.2f} times one to gcc")
+    turns = times["in turns"] / times["gcc alone"]
+    print(f"request, in turn to gcc and to rustc, half of them repeated, with its reading: {turns:.2f} times one to gcc")
 
 
 def measure_lengths(folder):
@@ -160,6 +191,6 @@ def measure_lengths(folder):
 
 def measure():
     build()
-    for measure_some in [measure_answers, measure_lengths]:
+    for measure_some in [measure_answers, measure_families, measure_lengths]:
         with tempfile.TemporaryDirectory() as folder:
             measure_some(folder)
