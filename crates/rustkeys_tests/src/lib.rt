@@ -10,4 +10,6 @@ mod faults;
 #[cfg(test)]
 mod keys;
 #[cfg(test)]
+mod memory;
+#[cfg(test)]
 mod refusals;

@@ -1,0 +1,192 @@
+//! Keys of sessions in which one growth of memory is refused at most. `bin/refusals` runs these tests with each growth refused in turn.
+
+use crate::answer_tool::AnswerTool;
+use crate::asking::{
+    DEPENDENCIES, FIRST, Made, OF_NOTHING, WITH_LIBRARY, all_files, asked_at, parse, rust, tool,
+};
+use ckeys::fault::Fault;
+use ckeys::preprocessor::{Preprocessor, Ticks};
+use cmdlines::compiler_arguments::CompilerArguments;
+use os_files::memory_files::MemoryFiles;
+use rustkeys::hasher::RustHasher;
+use rustkeys::{Rust, RustFault};
+use std::alloc::Global;
+use std::test::Fail;
+
+/// A request, its key, as hashlib computes it of what is hashed, and its text on dependencies, which is empty where there is none.
+struct Row {
+    line: &'static str,
+    key: &'static str,
+    text: &'static [u8],
+}
+
+const PLAIN: Row = Row {
+    line: FIRST,
+    key: "ec599f16df4de395f07a97aa3578baa4d0cf50389f36291e5111482dfec2eb80",
+    text: b"",
+};
+
+const TELLING: Row = Row {
+    line: "--emit dep-info,link -C opt-level=1 foo.rs --out-dir out --crate-name foo --crate-type lib",
+    key: "860a7288595742306408b604641d13ce139b96068846c0d04ac123213d17673d",
+    text: b"out/foo.d: foo.rs\n\nout/libfoo.rlib: foo.rs\n\nfoo.rs:\n",
+};
+
+const LINKED: Row = Row {
+    line: WITH_LIBRARY,
+    key: "c12c70120b34a4dbbf1a3f29665a9dc7e1bc1162f42cc301e65207d7d827e328",
+    text: b"",
+};
+
+/// How something went.
+#[derive(Clone, Copy, PartialEq, Eq)]
+enum Outcome {
+    AsExpected,
+    WithoutMemory,
+    Wrong,
+}
+
+/// How two things went of which one lacked memory at most.
+fn both(one: Outcome, other: Outcome) -> Outcome {
+    if one == Outcome::AsExpected {
+        return other;
+    }
+    if other == Outcome::AsExpected {
+        return one;
+    }
+    Outcome::Wrong
+}
+
+/// Whether a key is that of a row, and all that comes with it is there.
+fn is_whole(made: &Made, row: &Row) -> bool {
+    let outputs = made.0.outputs();
+    let told = match &made.3 {
+        Some(text) => text.as_bytes() == row.text,
+        None => row.text.is_empty(),
+    };
+    let name = b"libfoo.rlib".as_slice();
+    told && made.1.as_str() == row.key
+        && outputs.len() == 1
+        && outputs.iter().all(|output| output.0.as_bytes() == name)
+}
+
+/// How something went that a fault ended.
+fn of_fault(fault: &Fault) -> Outcome {
+    match fault {
+        Fault::Memory => Outcome::WithoutMemory,
+        _ => Outcome::Wrong,
+    }
+}
+
+/// How an asking went that asked rustc so often: with a key twice, with want of memory twice at most.
+fn of_answer(made: &Result<Made, Fault>, row: &Row, asked: u64) -> Outcome {
+    match made {
+        Ok(made) => {
+            if asked == 2 && is_whole(made, row) {
+                Outcome::AsExpected
+            } else {
+                Outcome::Wrong
+            }
+        }
+        Err(fault) => of_fault(fault),
+    }
+}
+
+/// How an asking went: nothing was compiled, and no device failed.
+fn outcome_of(made: &Result<Made, Fault>, row: &Row, before: Ticks, after: Ticks) -> Outcome {
+    let asked = after.preprocess.wrapping_sub(before.preprocess);
+    if after.compile != before.compile || after.failure != before.failure || asked > 2 {
+        return Outcome::Wrong;
+    }
+    of_answer(made, row, asked)
+}
+
+/// Asks for the key once, on the same files and with the same tool.
+fn ask(
+    alloc: Global,
+    hasher: &RustHasher<'_>,
+    row: &Row,
+    files: &mut MemoryFiles,
+    tool: &mut AnswerTool,
+) -> Outcome {
+    let before = tool.ticks();
+    let made = asked_at(alloc, hasher, "/w", &[], files, tool);
+    outcome_of(&made, row, before, tool.ticks())
+}
+
+/// Asks for the key twice.
+fn ask_twice(
+    alloc: Global,
+    hasher: &RustHasher<'_>,
+    row: &Row,
+    files: &mut MemoryFiles,
+) -> Result<Outcome, Fault> {
+    let digest = OF_NOTHING.as_bytes();
+    let mut tool = tool(alloc, DEPENDENCIES, b"libfoo.rlib\n", digest)?;
+    let first = ask(alloc, hasher, row, files, &mut tool);
+    let second = ask(alloc, hasher, row, files, &mut tool);
+    Ok(both(first, second))
+}
+
+/// Asks this rustc for the key of a line's request.
+fn session_of(alloc: Global, compiler: &Rust, row: &Row) -> Result<Outcome, Fault> {
+    let mut files = all_files(alloc)?;
+    match parse(alloc, row.line, &mut files)? {
+        CompilerArguments::Ok(parsed) => {
+            let parsed = &parsed;
+            ask_twice(alloc, &RustHasher { compiler, parsed }, row, &mut files)
+        }
+        CompilerArguments::NotCompilation | CompilerArguments::CannotCache(_, _) => {
+            Ok(Outcome::Wrong)
+        }
+    }
+}
+
+/// How the making of a compiler went that failed.
+fn of_rust_fault(fault: &RustFault) -> Outcome {
+    match fault {
+        RustFault::Memory => Outcome::WithoutMemory,
+        _ => Outcome::Wrong,
+    }
+}
+
+/// A session of a row's request.
+fn session(alloc: Global, row: &Row) -> Result<Outcome, Fault> {
+    match rust(alloc) {
+        Ok(compiler) => session_of(alloc, &compiler, row),
+        Err(fault) => Ok(of_rust_fault(&fault)),
+    }
+}
+
+/// How a session went.
+fn went(alloc: Global, row: &Row) -> Outcome {
+    match session(alloc, row) {
+        Ok(outcome) => outcome,
+        Err(fault) => of_fault(&fault),
+    }
+}
+
+/// Whether two sessions go right, since one growth is refused at most.
+fn go_right(alloc: Global, row: &Row) -> bool {
+    let first = went(alloc, row);
+    let second = went(alloc, row);
+    both(first, second) != Outcome::Wrong
+}
+
+#[test]
+fn the_first_request(rt: HostRuntime) -> Result<(), Fail> {
+    assert!(rt; go_right(rt.alloc(), &PLAIN));
+    Ok(())
+}
+
+#[test]
+fn one_with_a_text_on_dependencies(rt: HostRuntime) -> Result<(), Fail> {
+    assert!(rt; go_right(rt.alloc(), &TELLING));
+    Ok(())
+}
+
+#[test]
+fn one_with_a_static_library(rt: HostRuntime) -> Result<(), Fail> {
+    assert!(rt; go_right(rt.alloc(), &LINKED));
+    Ok(())
+}
