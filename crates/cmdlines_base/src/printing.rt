@@ -52,10 +52,13 @@ impl<'a, T: IntoArg> Piece<'a, T> {
         match self {
             Piece::Word(word) => OsBytes::from_slice(alloc, word),
             Piece::Value(value) => value.into_arg_os_string(alloc),
-            Piece::Joined(flag, delimiter, value) => {
-                let word = value.into_arg_os_string(alloc)?;
-                joined(alloc, flag.as_bytes(), *delimiter, word.as_bytes())
-            }
+            Piece::Joined(flag, delimiter, value) => match value.lent_word() {
+                Some(word) => joined(alloc, flag.as_bytes(), *delimiter, word),
+                None => {
+                    let word = value.into_arg_os_string(alloc)?;
+                    joined(alloc, flag.as_bytes(), *delimiter, word.as_bytes())
+                }
+            },
         }
     }
 

@@ -1,6 +1,6 @@
 //! Values of arguments: what is read from a word, and printed as a word or a text again.
 
-ghost use Rattle.std.specs.Prelude.{◌≡◌, Bool, true, false, Option, None, IfOk, IfErr, OnOk, string_bytes};
+ghost use Rattle.std.specs.Prelude.{◌≡◌, Bool, true, false, Option, None, IfSome, IfOk, IfErr, OnOk, string_bytes};
 ghost use Rattle.std.specs.Str.{is_utf8};
 ghost use Rattle.os_files.specs.Bytes.{Bytes};
 ghost use Rattle.cmdlines_base.specs.Refusal.{Refusal, IsErrorOf};
@@ -36,6 +36,13 @@ pub trait IntoArg: Drop {
     /// The word that prints the value.
     fn into_arg_os_string(&self, alloc: Global) -> Result<OsBytes, AllocError>
         ensures { IfOk result (λ printed. printed ≡ word self.now) };
+
+    /// The same word, where the value has it at hand. It takes no memory.
+    fn lent_word(&self) -> Option<&[u8]>
+        ensures { IfSome result (λ lent. lent.now ≡ word self.now) }
+    {
+        None
+    }
 
     /// The value as text: a path's is what the transformer answers for its bytes, and it is asked once, behind what stands before
     /// the path; any other value's is its word, and the transformer isn't asked.

@@ -28,6 +28,10 @@ impl IntoArg for ArgData {
         OsBytes::from_slice(alloc, self.word())
     }
 
+    fn lent_word(&self) -> Option<&[u8]> {
+        Some(self.word())
+    }
+
     fn into_arg_string<F: FnMut(&[u8]) -> Option<String>>(
         &self,
         alloc: Global,
