@@ -5,3 +5,4 @@ pub mod budget;
 pub mod build;
 pub mod capped_tool;
 pub mod step;
+pub mod within;
