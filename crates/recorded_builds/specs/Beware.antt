@@ -20,11 +20,15 @@ is_named name (Some other) = bytes_eq other name
 
 -- an option that names a file behind an equals sign
 abbrev pub naming : Bytes → Option Bytes
-naming word = if begins_with word NAMING_FRONT.now && list_any (nat_eq 61) word then Some NAMING_FRONT.now else None
+naming word =
+    if begins_with word NAMING_FRONT.now && list_any (nat_eq 61) word then Some NAMING_FRONT.now
+    else None
 
 -- the option that a word is by these tables, in whole or at its front
 abbrev pub listed_option : List Bytes → List Bytes → Bytes → Option Bytes
-listed_option options fronts word = sooner (find (bytes_eq word) options) (sooner (find (begins_with word) fronts) (naming word))
+listed_option options fronts word =
+    sooner (find (bytes_eq word) options)
+    (sooner (find (begins_with word) fronts) (naming word))
 
 -- A definition or a folder is none.
 abbrev pub option_of : Bytes → Option Bytes

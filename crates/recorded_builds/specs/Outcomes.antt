@@ -22,8 +22,11 @@ pub data Outcome : Type 0 where
 -- the words of an executable, with the files of words that they name opened from that folder
 abbrev pub outcome_by : Option EntryCompiler → Bytes → Tree → List Bytes → Outcome
 outcome_by None dir tree words = unknown
-outcome_by (Some (compilers.C kind)) dir tree words = by_c kind (parse_of kind (opened_words kind dir tree words))
-outcome_by (Some compilers.Rustc) dir tree words = by_rustc (rust.verdict_on dir tree (rust.request_reading (expanded_by_rustc dir tree words)))
+outcome_by (Some (compilers.C kind)) dir tree words =
+    by_c kind (parse_of kind (opened_words kind dir tree words))
+outcome_by (Some compilers.Rustc) dir tree words =
+    let reading = rust.request_reading (expanded_by_rustc dir tree words) in
+    by_rustc (rust.verdict_on dir tree reading)
 
 abbrev pub outcome_of : Tree → Entry → Outcome
 outcome_of tree entry = outcome_by entry.compiler entry.dir tree entry.words

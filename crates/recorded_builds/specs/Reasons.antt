@@ -1,4 +1,5 @@
--- What is told of an entry: why it is passed through, what keeps direct mode from being used, and options to beware of.
+-- What is told of an entry: why it is passed through, what keeps direct mode from being used, and
+-- options to beware of.
 use Rattle.std.specs.Prelude.{◌≡◌, Bool, List, [], ◌++◌, Option, None, Some, codes, string_bytes}
 use Rattle.std.specs.List.{list_any}
 use Rattle.std.specs.Option.{option_map}
@@ -30,10 +31,12 @@ reason_for executable unknown = Some (codes "unknown compiler " ++ utf8_lossy ex
 
 -- the option that keeps direct mode from being used, of what a C compiler keeps
 abbrev pub blocker_in : Outcome → Option Bytes
-blocker_in (by_c kind (asks parsed)) = option_map utf8_lossy parsed.too_hard_for_preprocessor_cache_mode
+blocker_in (by_c kind (asks parsed)) =
+    option_map utf8_lossy parsed.too_hard_for_preprocessor_cache_mode
 blocker_in _ = None
 
--- the words among which options to beware of are looked for: of what Gcc and Clang keep, those for the preprocessor and those that are hashed
+-- the words among which options to beware of are looked for: of what Gcc and Clang keep, those for
+-- the preprocessor and those that are hashed
 abbrev pub words_looked_at : Outcome → List Bytes
 words_looked_at (by_c Gcc (asks parsed)) = parsed.preprocessor_args ++ parsed.common_args
 words_looked_at (by_c Clang (asks parsed)) = parsed.preprocessor_args ++ parsed.common_args
@@ -53,7 +56,8 @@ pub record Tells (executable : Bytes) (outcome : Outcome) (told : Told) : Type 0
 
 -- The same of an entry, whose words the files decide.
 abbrev pub is_passed_for : Tree → Bytes → Entry → Bool
-is_passed_for tree reason entry = is_named reason (reason_for entry.executable (outcome_of tree entry))
+is_passed_for tree reason entry =
+    is_named reason (reason_for entry.executable (outcome_of tree entry))
 
 abbrev pub is_blocked_by : Tree → Bytes → Entry → Bool
 is_blocked_by tree option entry = is_named option (blocker_in (outcome_of tree entry))

@@ -1,24 +1,27 @@
--- The summary of a recorded build: how many entries are kept, and which ones have each reason or option.
-use Rattle.std.specs.Prelude.{◌≡◌, ◌≢◌, ℕ, ◌+◌, Bool, List, [], ◌∷◌, ◌++◌, filter, length, map, All, Contains, if◌then◌else◌, string_bytes}
+-- The summary of a recorded build: how many entries are kept, and which ones have each reason or
+-- option.
+use Rattle.std.specs.Prelude.{◌≡◌, ◌≢◌, ℕ, ◌+◌, Bool, List, [], ◌∷◌, ◌++◌, filter, length, map, All, if◌then◌else◌, string_bytes}
 use Rattle.std.specs.List.Sorted.{IsSortedBy}
 use Rattle.os_files.specs.Bytes.{Bytes}
 use Rattle.os_files.specs.Tree.{Tree}
 use Rattle.recorded_builds.specs.Outcomes.{is_kept, outcome_of}
 use Rattle.recorded_builds.specs.Reasons.{holds, is_blocked_by, is_passed_for}
-use Rattle.recorded_builds.specs.Tallies.{HaveNamesApart, Row, has_more}
+use Rattle.recorded_builds.specs.Tallies.{HasRow, HaveNamesApart, Row, has_more}
 use Rattle.recorded_builds.specs.declared.entry.Entry.{Entry}
 use Rattle.recorded_builds.specs.declared.summary.Summary.{Summary}
 
 -- the numbers of the entries that pass the test, where the first of all has that number
 abbrev pub numbers_where : (Entry → Bool) → ℕ → List Entry → List ℕ
 numbers_where test number [] = []
-numbers_where test number (entry ∷ entries) = (if test entry then number ∷ [] else []) ++ numbers_where test (number + 1) entries
+numbers_where test number (entry ∷ entries) =
+    (if test entry then number ∷ [] else []) ++ numbers_where test (number + 1) entries
 
--- Rows that tell which entries have each name: each row the numbers of all that have its name, with one row for each name that one has,
--- and the names that most have first.
-pub record AreRowsOf (has : Bytes → Entry → Bool) (entries : List Entry) (rows : List Row) : Type 0 where
+-- Rows that tell which entries have each name: each row the numbers of all that have its name, with
+-- one row for each name that one has, and the names that most have first.
+pub record AreRowsOf
+    (has : Bytes → Entry → Bool) (entries : List Entry) (rows : List Row) : Type 0 where
   pub numbers : All (λ row. row.1.items ≡ numbers_where (has (string_bytes row.0)) 1 entries) rows
-  pub complete : (name : Bytes) → numbers_where (has name) 1 entries ≢ [] → (row : Row) × Contains rows row × (string_bytes row.0 ≡ name)
+  pub complete : (name : Bytes) → numbers_where (has name) 1 entries ≢ [] → HasRow rows name
   pub apart : HaveNamesApart rows
   pub order : IsSortedBy has_more rows
 

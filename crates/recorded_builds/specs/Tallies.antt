@@ -20,14 +20,18 @@ Row = String Global × Vec ℕ Global
 abbrev pub has_more : Row → Row → Bool
 has_more one other = is_lt (nat_cmp (length other.1.items) (length one.1.items))
 
+-- a row has that name
+abbrev pub HasRow : List Row → List ℕ → Type 0
+HasRow rows name = (row : Row) × Contains rows row × (string_bytes row.0 ≡ name)
+
 -- no two rows have one name
 abbrev pub HaveNamesApart : List Row → Type 0
 HaveNamesApart rows = IsDistinct (eq_by_cmp string_cmp) (map (λ row. row.0) rows)
 
--- A tally's rows: each with the numbers at which its name was noted, with one row for each name that was, and the names that were noted
--- most first.
+-- A tally's rows: each with the numbers at which its name was noted, with one row for each name that
+-- was, and the names that were noted most first.
 pub record AreRowsOf (tally : Tally) (rows : List Row) : Type 0 where
   pub numbers : All (λ row. row.1.items ≡ numbers_in tally (string_bytes row.0)) rows
-  pub complete : (name : List ℕ) → numbers_in tally name ≢ [] → (row : Row) × Contains rows row × (string_bytes row.0 ≡ name)
+  pub complete : (name : List ℕ) → numbers_in tally name ≢ [] → HasRow rows name
   pub apart : HaveNamesApart rows
   pub order : IsSortedBy has_more rows

@@ -14,5 +14,8 @@ loop-word-preserved c = record {
       ap (λ (b : Bool). b || any c.in-Some.more.now) (c.in_ok-note_option.ensures.held option)
       ∙ ap (λ word. before || is_option option word || any c.in-Some.more.now) c.as_bytes.ensures
       ∙ or_assoc before (is_option option c.in-Some.word.now) (any c.in-Some.more.now)
-      ∙ subst (λ rest. (before || any rest) ≡ (is_among option c.args.found.now.items || any c.args.words.now)) split (c.loop-word.invariant.held option);
+      ∙ subst
+      (λ rest.
+      (before || any rest) ≡ (is_among option c.args.found.now.items || any c.args.words.now))
+      split (c.loop-word.invariant.held option);
 }

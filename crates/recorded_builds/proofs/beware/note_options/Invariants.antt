@@ -7,7 +7,9 @@ use Rattle.recorded_builds.proofs.beware.note_options.Given as goal
 abbrev pub invariant-loop-word : goal.invariant-loop-word
 invariant-loop-word l = record {
   once : AreOnce l.found.items;
-  held : (option : List ℕ) → (is_among option l.found.items || list_any (is_option option) l.rest) ≡ (is_among option l.fn.found.items || list_any (is_option option) l.words);
+  held : (option : List ℕ)
+      → (is_among option l.found.items || list_any (is_option option) l.rest)
+      ≡ (is_among option l.fn.found.items || list_any (is_option option) l.words);
 }
 
 abbrev pub decreases-loop-word : goal.decreases-loop-word

@@ -15,5 +15,8 @@ returns c =
       numbers = rows_told c.args.self c.into_iter.ensures.into_iter_gives.5 rows moved;
       apart = names_apart c.args.self c.into_iter.ensures.into_iter_gives.5 rows moved;
       complete = row_found c.args.self rows moved;
-      order = c.in_ok-sort_by.ensures.sorted has_more (IsStrictWeakOrder-flip _ (ranks_by nat_cmp_total (λ (row : Row). length row.1.items))) (answers_always _ _ _ (λ a r q k. search rules));
+      order =
+          c.in_ok-sort_by.ensures.sorted has_more
+          (IsStrictWeakOrder-flip _ (ranks_by nat_cmp_total (λ (row : Row). length row.1.items)))
+          (answers_always _ _ _ (λ a r q k. search rules));
     }

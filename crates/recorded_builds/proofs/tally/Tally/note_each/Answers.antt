@@ -12,13 +12,22 @@ loop-name-preserved c =
     let index = c.loop-name.name-index in
     let here = get_or names index none in
     let more = drop (index + 1) names in
-    let split : drop index names ≡ here ∷ more = drop-cons names index none c.loop-name-test.true ∙ ap (λ (k : ℕ). here ∷ drop k names) (sym (add-one index)) in
+    let split : drop index names ≡ here ∷ more =
+    drop-cons names index none c.loop-name-test.true
+    ∙ ap (λ (k : ℕ). here ∷ drop k names) (sym (add-one index)) in
     let once : AreOnce (here ∷ more) = subst AreOnce split c.loop-name.invariant.once in
     record {
       once = once.1;
       noted = λ other.
           let before = numbers_in c.loop-name.self other in
-          ap (λ (numbers : List ℕ). numbers ++ (if is_among other more then c.args.number ∷ [] else [])) (c.in_ok-note_text.ensures other)
+          ap
+          (λ (numbers : List ℕ). numbers ++ (if is_among other more then c.args.number ∷ [] else []))
+          (c.in_ok-note_text.ensures other)
           ∙ rest_noted here more once before c.args.number other
-          ∙ subst (λ (texts : List (Bor (List ℕ))). before ++ (if is_among other texts then c.args.number ∷ [] else []) ≡ numbers_in c.args.self.now other ++ (if is_among other names then c.args.number ∷ [] else [])) split (c.loop-name.invariant.noted other);
+          ∙ subst
+          (λ (texts : List (Bor (List ℕ))).
+          before ++ (if is_among other texts then c.args.number ∷ [] else [])
+          ≡ numbers_in c.args.self.now other
+          ++ (if is_among other names then c.args.number ∷ [] else []))
+          split (c.loop-name.invariant.noted other);
     }

@@ -7,5 +7,8 @@ use Rattle.recorded_builds.proofs.tally.Tally.note_each.Given as goal
 abbrev pub invariant-loop-name : goal.invariant-loop-name
 invariant-loop-name l = record {
   once : AreOnce (drop l.name-index l.names);
-  noted : (other : List ℕ) → numbers_in l.self other ++ (if is_among other (drop l.name-index l.names) then l.number ∷ [] else []) ≡ numbers_in l.fn.self other ++ (if is_among other l.names then l.number ∷ [] else []);
+  noted : (other : List ℕ)
+      → numbers_in l.self other
+      ++ (if is_among other (drop l.name-index l.names) then l.number ∷ [] else [])
+      ≡ numbers_in l.fn.self other ++ (if is_among other l.names then l.number ∷ [] else []);
 }
