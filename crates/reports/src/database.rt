@@ -67,25 +67,34 @@ fn read_dir(alloc: Global, entry: &Value<'_>) -> Result<OsBytes, EntryFault> {
     }
 }
 
-/// The entry of an executable, which may stand behind wrappers, and its words.
-fn entry_of(alloc: Global, dir: OsBytes, words: Vec<OsBytes>) -> Result<Entry, EntryFault> {
+/// The words from the executable on, without the wrappers before it. The last of them stays where no other word is there.
+fn without_wrappers(alloc: Global, words: Vec<OsBytes>) -> Result<Vec<OsBytes>, EntryFault> {
     let wrappers = words
         .iter()
         .take_while(|word| is_wrapper(word.as_bytes()))
         .count()
         .min(words.len().saturating_sub(1));
+    if wrappers == 0 {
+        return Ok(words);
+    }
     let mut rest = Vec::with_capacity(alloc, words.len())?;
-    let mut words = words.into_iter().skip(wrappers);
-    let Some(executable) = words.next() else {
-        return Err(EntryFault::Wrong("it has no words"));
-    };
-    for word in words {
+    for word in words.into_iter().skip(wrappers) {
         rest.push(word).map_err(|_| EntryFault::Memory)?;
     }
+    Ok(rest)
+}
+
+/// The entry of an executable, which may stand behind wrappers, and its words.
+fn entry_of(alloc: Global, dir: OsBytes, words: Vec<OsBytes>) -> Result<Entry, EntryFault> {
+    let mut words = without_wrappers(alloc, words)?;
+    if words.is_empty() {
+        return Err(EntryFault::Wrong("it has no words"));
+    }
+    let executable = words.remove(0);
     Ok(Entry {
         compiler: compiler_of(executable.as_bytes()),
         executable,
-        words: Listed::from_vec(rest),
+        words: Listed::from_vec(words),
         dir,
     })
 }
