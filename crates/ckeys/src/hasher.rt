@@ -73,7 +73,7 @@ pub fn needs_c_preprocessing(language: Language) -> bool
 
 impl<'a, I: CCompilerImpl + Drop> CCompilerHasher<'a, I> {
     /// The text: what the preprocessor prints, or the input itself where its language isn't preprocessed.
-    fn text<F: Files, T: Preprocessor>(
+    pub(crate) fn text<F: Files, T: Preprocessor>(
         &self,
         alloc: Global,
         place: &CallPlace,

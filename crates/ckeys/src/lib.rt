@@ -4,6 +4,7 @@
 pub mod compiler;
 pub mod compiler_impl;
 pub mod config;
+pub mod contents;
 mod entry;
 pub mod fault;
 pub mod hash_keys;

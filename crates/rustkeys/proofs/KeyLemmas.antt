@@ -16,7 +16,7 @@ only_one : (x : Bytes) → Contains (x ∷ []) x
 only_one x = (0, omega (arith), refl)
 
 module _ (digest_of : Bytes → Bytes) (tells : (one other : Bytes) → hex_of (digest_of one) ≡ hex_of (digest_of other) → digest_of one ≡ digest_of other) where
-  target_told : (s t : Option Bytes) → ((x y : Bytes) → Contains (option_to_list s) x → Contains (option_to_list t) y → digest_of x ≡ digest_of y → x ≡ y) → option_map (digest_text digest_of) s ≡ option_map (digest_text digest_of) t → s ≡ t
+  pub target_told : (s t : Option Bytes) → ((x y : Bytes) → Contains (option_to_list s) x → Contains (option_to_list t) y → digest_of x ≡ digest_of y → x ≡ y) → option_map (digest_text digest_of) s ≡ option_map (digest_text digest_of) t → s ≡ t
   target_told None None distinct h = refl
   target_told None (Some y) distinct h = cc
   target_told (Some x) None distinct h = cc

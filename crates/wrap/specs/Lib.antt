@@ -28,3 +28,6 @@ pub use Rattle.wrap_turns.specs.StoreKeys
 pub use Rattle.wrap_turns.specs.Answers
 pub use Rattle.wrap_turns.specs.Turn
 pub use Rattle.wrap_turns.specs.Asking
+pub use Rattle.fingerprints.specs.Fingerprints
+pub use Rattle.fingerprints.specs.Telling
+pub use Rattle.fingerprints.specs.Explaining

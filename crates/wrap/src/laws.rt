@@ -18,6 +18,7 @@ ghost use Rattle.wrap.specs.SameCalls.{AreSameWithoutFolders};
 ghost use Rattle.ckeys.specs.Folders.{Settings};
 ghost use Rattle.wrap_turns.specs.Asking.{EntriesTurn, RecordsAreTrue, Shelves};
 ghost use Rattle.wrap_base.specs.declared.request.Request.{Request};
+ghost use Rattle.fingerprints.specs.Fingerprints.{fingerprint_of};
 ghost use Rattle.wrap_turns.specs.StoreKeys.{Premises, SameRecord, store_key_of};
 ghost use Rattle.wrap.specs.Whole.{BothRun, Run, SameOutputs, Served, accounts_of};
 ghost use Rattle.wrap_base.specs.declared.store_key.StoreKey.{StoreKey};
@@ -25,6 +26,7 @@ ghost use Rattle.wrap.specs.Example.{compile_of, telling_digest, two_compiles};
 
 use ckeys::laws::{keys_tell_records, records_are_true};
 use ckeys_base::hash_state::HashState;
+use fingerprints::laws::fingerprints_tell_records;
 use rustkeys::laws::rustc_keys_tell_records;
 
 /// Two runs of one list of calls, over stores that forget and refuse as they like, give equal outputs wherever both answer
@@ -86,6 +88,17 @@ pub fn store_keys_tell_records<H: HashState>()
         → (store_key_of H.digest_of one ≡ store_key_of H.digest_of other) ↔ SameRecord one other }
 {
     call_keys_tell_records::<H>();
+}
+
+/// Under distinct digests the fingerprints of two calls are equal exactly if their store keys are.
+pub fn fingerprints_tell_store_keys<H: HashState>()
+    ensures { (one other : Work) → IsTold H.digest_of one.rec → IsTold H.digest_of other.rec
+        → AreDistinct H.digest_of one.rec other.rec
+        → (fingerprint_of H.digest_of one ≡ fingerprint_of H.digest_of other)
+        ↔ (store_key_of H.digest_of one ≡ store_key_of H.digest_of other) }
+{
+    store_keys_tell_records::<H>();
+    fingerprints_tell_records::<H>();
 }
 
 /// What is assumed of runs can be met: two calls whose records differ meet it under a digest of 32 bytes.

@@ -10,6 +10,7 @@ ghost use Rattle.wrap_turns.specs.Answers.{Answers, GoesOn, OnPass, Says, SaysBy
 ghost use Rattle.wrap_turns.specs.Asking.{AskedTurn, EntriesTurn, RecordsAreTrue, shelves_of};
 ghost use Rattle.wrap_turns.specs.StoreKeys.{Invariant, Premises};
 ghost use Rattle.wrap_turns.specs.Turn.{StoreTurn};
+ghost use Rattle.fingerprints.specs.Telling.{OnReason, Tells};
 ghost use Rattle.wrap.specs.Whole.{AllAnswer, Each, IsAnswered, OneFresh, Run, SessionRun, accounts_at, files_view, served_at, tool_view};
 ghost use Rattle.wrap.specs.Sessions.{held_by};
 
@@ -20,12 +21,14 @@ use ckeys::laws::records_are_true;
 use ckeys::{EntryKey, PreprocessorCacheEntry};
 use ckeys_base::hash_state::HashState;
 use ckeys_base::store::Store;
+use fingerprints::fingerprint::{Fingerprint, request_fingerprint};
 use os_files::files::Files;
 use std::alloc::{AllocError, Global};
 use std::marker::{Model, PhantomData};
 use wrap_base::answer::Answer;
 use wrap_base::call::Call;
 use wrap_base::compiler::Named;
+use wrap_base::reason::Reason;
 use wrap_base::request::Request;
 use wrap_base::store_key::{Pairs, StoreKey};
 use wrap_base::tool::Tool;
@@ -91,6 +94,38 @@ impl<
     {
         self.entries.forget_all();
         self.objects.forget_all();
+    }
+
+    /// Of what the key of a request is made, on these files by that tool, or why it is passed through. The stores aren't asked, and
+    /// nothing is compiled: of include records none is used, so that a text is printed.
+    ///
+    /// Refused as `serve` is before a compile.
+    pub fn fingerprint<F: Files, T: Tool>(
+        &self,
+        request: &Request,
+        files: &mut F,
+        tool: &mut T,
+    ) -> Result<Result<Fingerprint, Reason>, Fault>
+        // The parts are those of the request's record, with digests for files' contents; it is passed through exactly where the
+        // verdict says, unless memory was refused first; a fault has its cause.
+        ensures tells { let a = account_at (T.meaning tool.old) (F.tree files.old) self.now.settings
+            request.now in
+            Tells H.digest_of a (FailsOn F.tree F.failed F.fails_on files.old files.new)
+            (FailsIn T.meaning T.failed T.fails_in tool.old tool.new) result }
+        // A pass moves no tick.
+        ensures quiet { OnReason result
+            ((T.preprocessed tool.new ≡ T.preprocessed tool.old)
+            × (T.failed tool.new ≡ T.failed tool.old)) }
+        ensures compiles { T.compiled tool.new ≡ T.compiled tool.old }
+        ensures tree { F.tree files.new ≡ F.tree files.old }
+        ensures meaning { T.meaning tool.new ≡ T.meaning tool.old }
+        // No device failed where there is an answer, nor where memory was refused.
+        ensures steady { OnOk result
+            (AreSteady T.failed F.failed tool.old files.old tool.new files.new) }
+        ensures memory { IsErrOf result Fault.Memory →
+            AreSteady T.failed F.failed tool.old files.old tool.new files.new }
+    {
+        request_fingerprint::<H, F, T>(self.alloc, &self.config, request, files, tool)
     }
 
     /// Answers one request on these files by that tool: it is passed through, or it gets the outputs that its compiler

@@ -48,7 +48,7 @@ pub fn names_of(
 }
 
 /// Where and when a request is asked.
-fn place_of<'a>(request: &'a Request, config: &'a KeyConfig) -> CallPlace<'a>
+pub fn place_of<'a>(request: &'a Request, config: &'a KeyConfig) -> CallPlace<'a>
     ensures dir { result.dir.now ≡ request.now.dir }
     ensures env { result.env.now ≡ request.now.env }
     ensures moment { result.moment ≡ request.now.moment }

@@ -4,7 +4,7 @@
 pub mod c_calls;
 mod compile;
 mod finish;
-mod keys;
+pub mod keys;
 mod outputs;
 pub mod prepared;
 pub mod rust_calls;

@@ -1,2 +1,3 @@
 pub mod BuildLemmas
 pub mod StepLemmas
+pub mod MissLemmas

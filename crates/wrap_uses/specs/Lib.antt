@@ -2,3 +2,4 @@ pub mod Budgets
 pub mod Builds
 pub mod Caps
 pub mod Steps
+pub mod Misses

@@ -4,5 +4,6 @@
 pub mod budget;
 pub mod build;
 pub mod capped_tool;
+pub mod misses;
 pub mod step;
 pub mod within;

@@ -1,0 +1,4 @@
+pub mod AgreeLemmas
+pub mod EqualLemmas
+pub mod TellLemmas
+pub mod RecordLemmas

@@ -1,0 +1,61 @@
+use Rattle.std.proofs.Common.{◌≡◌, ◌++◌, None, ap, filter, refl, subst, ◌∙◌}
+use Rattle.std.specs.List.{AllByRecursion}
+use Rattle.os_files.specs.Fails.{FailsOn}
+use Rattle.ckeys.specs.Calls.{KeyCall, KeyCause, key_fault_of, record_of}
+use Rattle.ckeys.specs.Entries.{extra_digests}
+use Rattle.ckeys.specs.Hashers.{call_by}
+use Rattle.ckeys.specs.Meaning.{FailsIn, Variables, names_of}
+use Rattle.ckeys.specs.Params.{is_cached, stripped_words}
+use Rattle.ckeys.specs.Records.{FitsLength}
+use Rattle.wrap_base.specs.Commands.{found_of, kind_of, traits_of}
+use Rattle.wrap_turns.specs.Account.{call_at}
+use Rattle.wrap_turns.specs.Verdicts.{hashed_words}
+use Rattle.wrap_turns.proofs.KeyLemmas.{call_is, on_exit}
+use Rattle.fingerprints.specs.declared.fingerprint.Fingerprint.TheVariants.{C}
+use Rattle.fingerprints.proofs.fingerprint.c_fingerprint.Goals as goal
+
+pub returns-in_err-made-clause-cause : goal.returns-in_err-made-clause-cause
+returns-in_err-made-clause-cause g c =
+    let meaning = g.T.Preprocessor.meaning c.args.tool.now in
+    let tree = g.F.Files.tree c.args.files.now in
+    let h = c.hasher-hasher.ensures in
+    let p = c.place_of-place.ensures in
+    let own : KeyCall = call_at (found_of c.args.compiler) c.args.request.now tree c.args.config.now c.args.parsed.now in
+    let call : call_by kind_of traits_of c.hasher-hasher.result c.place_of-place.result tree ≡ own = call_is c.args.compiler c.args.request.now tree c.args.config.now c.args.parsed.now c.hasher-hasher.result c.place_of-place.result h.compiler h.executable h.digest h.parsed p.dir p.env p.moment p.config in
+    let fault = c.in_err-made.field-0.0 in
+    let on_file = FailsOn g.F.Files.tree g.F.Files.failed g.F.Files.fails_on c.args.files.now c.key_contents.new.files in
+    let device_in = FailsIn g.T.Preprocessor.meaning g.T.Preprocessor.failed g.T.Preprocessor.fails_in c.args.tool.now c.key_contents.new.tool in
+    on_exit (KeyCause (key_fault_of meaning own) on_file device_in) c.from_residual.result fault c.from_residual.ensures.1
+    (subst (λ (k : KeyCall). KeyCause (key_fault_of meaning k) on_file device_in fault) call c.in_err-made.ensures.cause)
+
+pub returns-clause-is : goal.returns-clause-is
+returns-clause-is g c =
+    let digest_of = g.H.HashState.digest_of in
+    let meaning = g.T.Preprocessor.meaning c.args.tool.now in
+    let tree = g.F.Files.tree c.args.files.now in
+    let h = c.hasher-hasher.ensures in
+    let p = c.place_of-place.ensures in
+    let own : KeyCall = call_at (found_of c.args.compiler) c.args.request.now tree c.args.config.now c.args.parsed.now in
+    let call : call_by kind_of traits_of c.hasher-hasher.result c.place_of-place.result tree ≡ own = call_is c.args.compiler c.args.request.now tree c.args.config.now c.args.parsed.now c.hasher-hasher.result c.place_of-place.result h.compiler h.executable h.digest h.parsed p.dir p.env p.moment p.config in
+    let made = c.in_ok-made.ensures in
+    let executable = c.in_ok-executable.ensures ∙ c.as_bytes-digest.ensures.value ∙ c.executable_digest.ensures in
+    let words = c.in_ok-words.ensures ∙ (λ i. stripped_words (c.basedirs-folders.ensures i) (c.as_slice-common.ensures i ++ c.as_slice-arch.ensures i)) in
+    let variables = c.in_ok-variables.ensures ∙ ap (filter is_cached) c.as_slice-env.ensures in
+    let extra = made.extra ∙ ap (extra_digests digest_of) call in
+    let text = made.text ∙ ap (λ (k : KeyCall). (record_of meaning k).text) call in
+    let names = c.in_ok-names.ensures ∙ ap names_of c.as_slice-outputs.ensures in
+    record {
+      is = λ i. C (record {
+        compiler = executable i;
+        plusplus = c.plusplus.ensures i;
+        language = c.args.parsed.now.language;
+        words = words i;
+        variables = variables i;
+        extra_hashes = extra i;
+        assembler = c.in_ok-assembler.ensures i;
+        text = text i;
+        names = names i;
+      });
+      fine = subst (λ (k : KeyCall). key_fault_of meaning k ≡ None) call made.fine;
+      told = record { words = c.stripped_words_lack_the_end.ensures c.args.config.now.basedirs (hashed_words c.args.parsed.now) c.requires.told; variables = subst (λ (env : Variables). AllByRecursion FitsLength (filter is_cached env)) p.env made.fit };
+    }

@@ -1,0 +1,38 @@
+use Rattle.std.proofs.Common.{◌≡◌, None, subst}
+use Rattle.os_files.specs.Bytes.{Bytes}
+use Rattle.os_files.specs.Fails.{FailsOn}
+use Rattle.os_files.specs.Tree.{Tree}
+use Rattle.ckeys.specs.Calls.{KeyCause}
+use Rattle.ckeys.specs.Meaning.{FailsIn}
+use Rattle.wrap_base.specs.Commands.{found_of, words_at}
+use Rattle.wrap_turns.specs.Account.{Account, Work, account_by, call_at, work_at, worked}
+use Rattle.wrap_turns.specs.Verdicts.{Decision, asks, verdict_of}
+use Rattle.wrap_turns.proofs.TurnLemmas.{fails_on_later}
+use Rattle.fingerprints.specs.Telling.{Tells}
+use Rattle.fingerprints.proofs.TellLemmas.{early_tells, fault_tells, key_later}
+use Rattle.fingerprints.proofs.fingerprint.of_c.Goals as goal
+
+pub returns-in_err-reason-clause-tells : goal.returns-in_err-reason-clause-tells
+returns-in_err-reason-clause-tells g c = early_tells g.H.HashState.digest_of _ _ _ c.in_err-reason.field-0.0 c.in_err-reason.ensures.cause _ c.from_residual.ensures.1
+
+pub returns-in_err-made-in-Asks-clause-tells : goal.returns-in_err-made-in-Asks-clause-tells
+returns-in_err-made-in-Asks-clause-tells g c =
+    let digest_of = g.H.HashState.digest_of in
+    let tree = g.F.Files.tree in
+    let meaning = g.T.Preprocessor.meaning in
+    let found = found_of c.args.compiler in
+    let request = c.args.request.now in
+    let settings = c.args.config.now in
+    let parsed = c.in-Asks.plan.parsed in
+    let on_old = FailsOn tree g.F.Files.failed g.F.Files.fails_on c.args.files.now c.c_fingerprint.new.files in
+    let on_mid = FailsOn tree g.F.Files.failed g.F.Files.fails_on c.judge.new.files c.c_fingerprint.new.files in
+    let device = FailsIn meaning g.T.Preprocessor.failed g.T.Preprocessor.fails_in c.args.tool.now c.c_fingerprint.new.tool in
+    let work_on : Tree → Work = λ files. work_at (meaning c.args.tool.now) (call_at found request files settings parsed) in
+    let before : (name : Bytes) → on_mid name → on_old name = fails_on_later tree g.F.Files.failed g.F.Files.fails_on c.args.files.now c.judge.new.files c.c_fingerprint.new.files c.in_ok-reason.ensures.tree c.in_ok-reason.ensures.steady in
+    let decided : asks parsed ≡ verdict_of found.kind (words_at found request (tree c.args.files.now)) = rw c.in-Asks.is at c.in_ok-reason.ensures.verdict in
+    let account : Decision → Account = account_by (meaning c.args.tool.now) (tree c.args.files.now) settings found request in
+    let fault = c.in_err-made-in-Asks.field-0.0 in
+    let early : KeyCause (work_on (tree c.judge.new.files)).fault on_old device fault = key_later (work_on (tree c.judge.new.files)) on_mid on_old device before fault c.in_err-made-in-Asks.ensures.cause in
+    let moved : KeyCause (work_on (tree c.args.files.now)).fault on_old device fault = subst (λ (t : Tree). KeyCause (work_on t).fault on_old device fault) c.in_ok-reason.ensures.tree early in
+    let told = c.from_residual-in_err-made-in-Asks.result in
+    subst (λ (d : Decision). Tells digest_of (account d) on_old device told) decided (fault_tells digest_of (work_on (tree c.args.files.now)) on_old device fault moved told c.from_residual-in_err-made-in-Asks.ensures.1)

@@ -1,0 +1,43 @@
+use Rattle.std.proofs.Common.{◌≡◌, None, ap, subst, ◌∙◌}
+use Rattle.os_files.specs.Fails.{FailsOn}
+use Rattle.ckeys.specs.Calls.{KeyCause}
+use Rattle.ckeys.specs.Meaning.{FailsIn, Variables, names_of, scene_with}
+use Rattle.ckeys.specs.declared.fault.Fault.TheVariants.{Memory}
+use Rattle.rustkeys_base.specs.Asks.{asks_in}
+use Rattle.rustkeys.specs.Calls.{RustCall, key_fault_of, record_of}
+use Rattle.rustkeys.specs.Fresh.{call_outputs}
+use Rattle.rustkeys.specs.Hashers.{known_of}
+use Rattle.rustkeys.specs.Records.{IsTold, parts_of}
+use Rattle.wrap_turns.specs.Account.{rust_call_at}
+use Rattle.wrap_turns.proofs.KeyLemmas.{on_exit}
+use Rattle.fingerprints.specs.declared.fingerprint.Fingerprint.TheVariants.{Rustc}
+use Rattle.fingerprints.proofs.fingerprint.rust_fingerprint.Goals as goal
+
+pub returns-in_err-names-clause-cause : goal.returns-in_err-names-clause-cause
+returns-in_err-names-clause-cause g c =
+    let meaning = g.T.Preprocessor.meaning c.args.tool.now in
+    let tree = g.F.Files.tree c.args.files.now in
+    let own = rust_call_at c.args.rust.now c.args.request.now tree (asks_in c.args.parsed.now) in
+    let on_file = FailsOn g.F.Files.tree g.F.Files.failed g.F.Files.fails_on c.args.files.now c.generate_hash_key.new.files in
+    let device_in = FailsIn g.T.Preprocessor.meaning g.T.Preprocessor.failed g.T.Preprocessor.fails_in c.args.tool.now c.generate_hash_key.new.answers in
+    on_exit (KeyCause (key_fault_of meaning own) on_file device_in) c.from_residual-in_err-names.result Memory c.from_residual-in_err-names.ensures.1 tt
+
+pub returns-clause-is : goal.returns-clause-is
+returns-clause-is g c =
+    let digest_of = g.H.HashState.digest_of in
+    let meaning = g.T.Preprocessor.meaning c.args.tool.now in
+    let tree = g.F.Files.tree c.args.files.now in
+    let rust = c.args.rust.now in
+    let request = c.args.request.now in
+    let asked = asks_in c.args.parsed.now in
+    let under : Variables → RustCall = λ env. record { known = known_of rust; question = record { asks = asked; scene = scene_with rust.executable request.dir env tree request.moment } } in
+    let call : under c.as_slice-env.result.now ≡ under request.env = ap under c.as_slice-env.ensures in
+    let made = c.in_ok-compilation.ensures in
+    let parts = made.parts request.moment ∙ ap (λ (k : RustCall). parts_of digest_of (record_of meaning k)) call in
+    let outputs = made.outputs request.moment ∙ ap (call_outputs meaning) call in
+    let names = c.in_ok-names.ensures ∙ ap names_of (c.outputs.ensures ∙ outputs) in
+    record {
+      is = λ i. Rustc (parts i) (names i);
+      fine = subst (λ (k : RustCall). key_fault_of meaning k ≡ None) call (made.fine request.moment);
+      told = subst (λ (k : RustCall). IsTold digest_of (record_of meaning k)) call (made.told request.moment);
+    }

@@ -1,0 +1,3 @@
+pub mod Fingerprints
+pub mod Telling
+pub mod Explaining

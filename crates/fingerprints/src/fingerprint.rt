@@ -1,0 +1,248 @@
+//! The fingerprint of a request: of what its key is made, with no store asked and nothing compiled.
+
+ghost use Rattle.std.specs.Prelude.{◌≡◌, false, IfOk, IfErr, OnOk, IsErrOf};
+ghost use Rattle.os_files.specs.Fails.{FailsOn};
+ghost use Rattle.ckeys.specs.Calls.{KeyCause};
+ghost use Rattle.ckeys.specs.Meaning.{AreSteady, FailsIn};
+ghost use Rattle.ckeys.specs.Records.{hold_end};
+ghost use Rattle.rustkeys_base.specs.Asks.{asks_in};
+ghost use Rattle.wrap_base.specs.Commands.{by_c, found_of};
+ghost use Rattle.wrap_turns.specs.Account.{account_at, account_named, call_at, rust_account_by, rust_call_at, rust_work_at, work_at};
+ghost use Rattle.wrap_turns.specs.RustVerdicts.{rust_verdict_of};
+ghost use Rattle.wrap_turns.specs.Verdicts.{hashed_words};
+ghost use Rattle.fingerprints.specs.Fingerprints.{IsFingerprintOf};
+ghost use Rattle.fingerprints.specs.Telling.{OnReason, Tells};
+
+use crate::c_parts::CParts;
+use crate::pieces::{assembler_of, cached_variables, stripped};
+use ckeys::compiler_impl::CCompilerImpl;
+use ckeys::config::KeyConfig;
+use ckeys::fault::Fault;
+use ckeys::output_name::OutputName;
+use ckeys::word_end::stripped_words_lack_the_end;
+use ckeys_base::hash_state::HashState;
+use cmdlines::parsed::ParsedArguments;
+use os_files::files::Files;
+use os_files::listed::Listed;
+use os_files::os_bytes::OsBytes;
+use rustc_compiler::rust::Rust;
+use rustc_parts::parts::Parts;
+use rustkeys::hasher::RustHasher;
+use rustkeys_base::parsed::ParsedArguments as RustArguments;
+use std::alloc::Global;
+use wrap_base::compiler::{AnyC, Named};
+use wrap_base::reason::Reason;
+use wrap_base::request::Request;
+use wrap_base::tool::Tool;
+use wrap_turns::keys::{names_of, place_of};
+use wrap_turns::rust_verdict::{RustVerdict, judge_rust};
+use wrap_turns::verdict::{Verdict, judge};
+
+/// Of what a request's key is made: the parts by its family, with digests in the place of files' contents.
+#[derive(Drop, PartialEq, Eq)]
+pub enum Fingerprint {
+    C(CParts),
+    /// Beside the pieces that are hashed stand the names of the outputs, with their marks.
+    Rustc(Parts, Listed<OutputName>),
+}
+
+/// The fingerprint of a request to this C compiler that asks for this.
+fn c_fingerprint<H: HashState, F: Files, T: Tool>(
+    alloc: Global,
+    config: &KeyConfig,
+    compiler: AnyC<'_>,
+    request: &Request,
+    parsed: &ParsedArguments,
+    files: &mut F,
+    tool: &mut T,
+) -> Result<Fingerprint, Fault>
+    requires told { hold_end (hashed_words parsed.now) ≡ false }
+    ensures is { let w = work_at (T.meaning tool.old)
+        (call_at (found_of compiler.entry) request.now (F.tree files.old) config.now parsed.now) in
+        IfOk result (IsFingerprintOf H.digest_of w) }
+    ensures cause { let w = work_at (T.meaning tool.old)
+        (call_at (found_of compiler.entry) request.now (F.tree files.old) config.now parsed.now) in
+        IfErr result
+        (KeyCause w.fault (FailsOn F.tree F.failed F.fails_on files.old files.new)
+        (FailsIn T.meaning T.failed T.fails_in tool.old tool.new)) }
+    ensures tree { F.tree files.new ≡ F.tree files.old }
+    ensures meaning { T.meaning tool.new ≡ T.meaning tool.old }
+    ensures steady { OnOk result
+        (AreSteady T.failed F.failed tool.old files.old tool.new files.new) }
+    ensures memory { IsErrOf result Fault.Memory →
+        AreSteady T.failed F.failed tool.old files.old tool.new files.new }
+    ensures compiles { T.compiled tool.new ≡ T.compiled tool.old }
+{
+    // A law, which costs nothing: what follows from it is said above.
+    stripped_words_lack_the_end();
+    let place = place_of(request, config);
+    let hasher = compiler.hasher(parsed);
+    let made = hasher.key_contents::<H, F, T>(alloc, &place, files, tool)?;
+    let digest = compiler.executable_digest().as_bytes();
+    let common = parsed.common_args.as_slice();
+    let arch = parsed.arch_args.as_slice();
+    let folders = config.basedirs();
+    let env = request.env.as_slice();
+    let outputs = parsed.outputs.as_slice();
+    let executable = OsBytes::from_slice(alloc, digest)?;
+    let words = stripped(alloc, common, arch, folders)?;
+    let variables = cached_variables(alloc, env)?;
+    let assembler = assembler_of(alloc, compiler)?;
+    let names = names_of(alloc, outputs)?;
+    Ok(Fingerprint::C(CParts {
+        compiler: executable,
+        plusplus: compiler.plusplus(),
+        language: parsed.language,
+        words,
+        variables,
+        extra_hashes: made.extra_hashes,
+        assembler,
+        text: made.text,
+        names,
+    }))
+}
+
+/// The fingerprint of a request to this rustc that asks for this.
+fn rust_fingerprint<H: HashState, F: Files, T: Tool>(
+    alloc: Global,
+    rust: &Rust,
+    request: &Request,
+    parsed: &RustArguments,
+    files: &mut F,
+    tool: &mut T,
+) -> Result<Fingerprint, Fault>
+    ensures is { let w = rust_work_at (T.meaning tool.old)
+        (rust_call_at rust.now request.now (F.tree files.old) (asks_in parsed.now)) in
+        IfOk result (IsFingerprintOf H.digest_of w) }
+    ensures cause { let w = rust_work_at (T.meaning tool.old)
+        (rust_call_at rust.now request.now (F.tree files.old) (asks_in parsed.now)) in
+        IfErr result
+        (KeyCause w.fault (FailsOn F.tree F.failed F.fails_on files.old files.new)
+        (FailsIn T.meaning T.failed T.fails_in tool.old tool.new)) }
+    ensures tree { F.tree files.new ≡ F.tree files.old }
+    ensures meaning { T.meaning tool.new ≡ T.meaning tool.old }
+    ensures steady { OnOk result
+        (AreSteady T.failed F.failed tool.old files.old tool.new files.new) }
+    ensures memory { IsErrOf result Fault.Memory →
+        AreSteady T.failed F.failed tool.old files.old tool.new files.new }
+    ensures compiles { T.compiled tool.new ≡ T.compiled tool.old }
+{
+    let hasher = RustHasher {
+        compiler: rust,
+        parsed,
+    };
+    let env = request.env.as_slice();
+    let (compilation, _, _, _) = hasher.generate_hash_key::<H, F, T>(
+        alloc,
+        &request.dir,
+        env,
+        files,
+        tool,
+    )?;
+    let names = names_of(alloc, compilation.outputs())?;
+    Ok(Fingerprint::Rustc(compilation.parts, names))
+}
+
+/// What a request to this C compiler comes to: why it is passed through, or its fingerprint.
+fn of_c<H: HashState, F: Files, T: Tool>(
+    alloc: Global,
+    config: &KeyConfig,
+    compiler: AnyC<'_>,
+    request: &Request,
+    files: &mut F,
+    tool: &mut T,
+) -> Result<Result<Fingerprint, Reason>, Fault>
+    ensures tells { let a = account_named (T.meaning tool.old) (F.tree files.old) config.now
+        request.now (by_c (found_of compiler.entry)) in
+        Tells H.digest_of a (FailsOn F.tree F.failed F.fails_on files.old files.new)
+        (FailsIn T.meaning T.failed T.fails_in tool.old tool.new) result }
+    ensures quiet { OnReason result
+        ((T.preprocessed tool.new ≡ T.preprocessed tool.old)
+        × (T.failed tool.new ≡ T.failed tool.old)) }
+    ensures compiles { T.compiled tool.new ≡ T.compiled tool.old }
+    ensures tree { F.tree files.new ≡ F.tree files.old }
+    ensures meaning { T.meaning tool.new ≡ T.meaning tool.old }
+    ensures steady { OnOk result
+        (AreSteady T.failed F.failed tool.old files.old tool.new files.new) }
+    ensures memory { IsErrOf result Fault.Memory →
+        AreSteady T.failed F.failed tool.old files.old tool.new files.new }
+{
+    match judge(alloc, compiler, request, files)? {
+        Verdict::Passes(reason) => Ok(Err(reason)),
+        Verdict::Asks(plan) => {
+            let parsed = &plan.parsed;
+            let made = c_fingerprint::<H, F, T>(
+                alloc, config, compiler, request, parsed, files, tool,
+            )?;
+            Ok(Ok(made))
+        }
+    }
+}
+
+/// What a request to this rustc comes to: why it is passed through, or its fingerprint.
+fn of_rustc<H: HashState, F: Files, T: Tool>(
+    alloc: Global,
+    rust: &Rust,
+    request: &Request,
+    files: &mut F,
+    tool: &mut T,
+) -> Result<Result<Fingerprint, Reason>, Fault>
+    ensures tells { let a = rust_account_by (T.meaning tool.old) (F.tree files.old) rust.now
+        request.now (rust_verdict_of request.now (F.tree files.old)) in
+        Tells H.digest_of a (FailsOn F.tree F.failed F.fails_on files.old files.new)
+        (FailsIn T.meaning T.failed T.fails_in tool.old tool.new) result }
+    ensures quiet { OnReason result
+        ((T.preprocessed tool.new ≡ T.preprocessed tool.old)
+        × (T.failed tool.new ≡ T.failed tool.old)) }
+    ensures compiles { T.compiled tool.new ≡ T.compiled tool.old }
+    ensures tree { F.tree files.new ≡ F.tree files.old }
+    ensures meaning { T.meaning tool.new ≡ T.meaning tool.old }
+    ensures steady { OnOk result
+        (AreSteady T.failed F.failed tool.old files.old tool.new files.new) }
+    ensures memory { IsErrOf result Fault.Memory →
+        AreSteady T.failed F.failed tool.old files.old tool.new files.new }
+{
+    match judge_rust(alloc, rust, request, files)? {
+        RustVerdict::Passes(reason) => Ok(Err(reason)),
+        RustVerdict::Asks(parsed) => {
+            let made = rust_fingerprint::<H, F, T>(alloc, rust, request, &parsed, files, tool)?;
+            Ok(Ok(made))
+        }
+    }
+}
+
+/// The fingerprint of a request on these files by that tool, under that configuration, or why it is passed through. No store is asked
+/// and nothing is compiled; where include records are kept none of them is used, so the text is printed.
+///
+/// Refused as a call of the request is refused before its compile.
+pub fn request_fingerprint<H: HashState, F: Files, T: Tool>(
+    alloc: Global,
+    config: &KeyConfig,
+    request: &Request,
+    files: &mut F,
+    tool: &mut T,
+) -> Result<Result<Fingerprint, Reason>, Fault>
+    // The parts are those of the request's record, with digests for files' contents; it is passed through exactly where the verdict
+    // says, unless memory was refused first; a fault has its cause.
+    ensures tells { let a = account_at (T.meaning tool.old) (F.tree files.old) config.now
+        request.now in
+        Tells H.digest_of a (FailsOn F.tree F.failed F.fails_on files.old files.new)
+        (FailsIn T.meaning T.failed T.fails_in tool.old tool.new) result }
+    // A pass moves no tick.
+    ensures quiet { OnReason result
+        ((T.preprocessed tool.new ≡ T.preprocessed tool.old)
+        × (T.failed tool.new ≡ T.failed tool.old)) }
+    ensures compiles { T.compiled tool.new ≡ T.compiled tool.old }
+    ensures tree { F.tree files.new ≡ F.tree files.old }
+    ensures meaning { T.meaning tool.new ≡ T.meaning tool.old }
+    // No device failed where there is an answer, nor where memory was refused.
+    ensures steady { OnOk result
+        (AreSteady T.failed F.failed tool.old files.old tool.new files.new) }
+    ensures memory { IsErrOf result Fault.Memory →
+        AreSteady T.failed F.failed tool.old files.old tool.new files.new }
+{
+    match request.compiler.named() {
+        Named::C(compiler) => of_c::<H, F, T>(alloc, config, compiler, request, files, tool),
+        Named::Rustc(rust) => of_rustc::<H, F, T>(alloc, rust, request, files, tool),
+    }
+}
