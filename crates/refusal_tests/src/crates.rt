@@ -1,6 +1,6 @@
 //! Requests to rustc, with a text on dependencies beside the outputs.
 
-use crate::runs::go_right;
+use crate::runs::{Program, go_right};
 use std::test::Fail;
 
 /// A request that is compiled, with a static library, and the same into another folder.
@@ -32,6 +32,14 @@ fn serves_crates_after_want_of_memory(rt: HostRuntime) -> Result<(), Fail> {
         "1 fresh libfoo.rlib:14 dep-info:97\n2 fresh libfoo.rlib:14 dep-info:99\ncompiles 2\n",
         "1 fresh libfoo.rlib:14 dep-info:97\n2 fault memory\ncompiles 1\n",
     ];
-    assert!(rt; go_right(rt.alloc(), SCENARIO, EXPECTED, refused.as_slice()));
+    assert!(rt;
+        go_right(
+            rt.alloc(),
+            Program::Plain,
+            SCENARIO,
+            EXPECTED,
+            refused.as_slice()
+        )
+    );
     Ok(())
 }

@@ -4,6 +4,8 @@
 #[cfg(test)]
 mod crates;
 #[cfg(test)]
+mod explained;
+#[cfg(test)]
 mod records;
 #[cfg(test)]
 mod runs;

@@ -1,6 +1,6 @@
 //! A session that keeps include records.
 
-use crate::runs::go_right;
+use crate::runs::{Program, go_right};
 use std::test::Fail;
 
 /// Two requests that differ in the file that their source includes, each served twice.
@@ -31,6 +31,14 @@ fn serves_from_records_after_want_of_memory(rt: HostRuntime) -> Result<(), Fail>
         "1 fresh obj:41\n2 direct obj:41\n3 fault memory\n4 fresh obj:42\ncompiles 3\n",
         "1 fresh obj:41\n2 direct obj:41\n3 fresh obj:42\n4 fault memory\ncompiles 2\n",
     ];
-    assert!(rt; go_right(rt.alloc(), SCENARIO, EXPECTED, refused.as_slice()));
+    assert!(rt;
+        go_right(
+            rt.alloc(),
+            Program::Plain,
+            SCENARIO,
+            EXPECTED,
+            refused.as_slice()
+        )
+    );
     Ok(())
 }

@@ -1,6 +1,6 @@
 //! Runs of a scenario one after another: the one that meets the refused growth says so, and the others are as if there had been none.
 
-use scenarios::program::{RunFault, run};
+use scenarios::program::{RunFault, run, run_explained};
 use std::alloc::Global;
 
 /// How a run went.
@@ -11,12 +11,26 @@ enum Outcome {
     Wrong,
 }
 
+/// Which program runs a scenario.
+#[derive(Clone, Copy)]
+pub(crate) enum Program {
+    Plain,
+    /// It says why what is compiled is.
+    Explained,
+}
+
 /// Whether three runs of the scenario go right: each prints the lines that are expected or some of those that want of memory
 /// leads to, and two print what is expected, since one growth is refused at most.
-pub(crate) fn go_right(alloc: Global, scenario: &str, expected: &str, refused: &[&str]) -> bool {
-    let first = went(alloc, scenario, expected, refused);
-    let second = went(alloc, scenario, expected, refused);
-    let third = went(alloc, scenario, expected, refused);
+pub(crate) fn go_right(
+    alloc: Global,
+    program: Program,
+    scenario: &str,
+    expected: &str,
+    refused: &[&str],
+) -> bool {
+    let first = went(alloc, program, scenario, expected, refused);
+    let second = went(alloc, program, scenario, expected, refused);
+    let third = went(alloc, program, scenario, expected, refused);
     are_right(first, second) && are_right(second, third) && are_right(first, third)
 }
 
@@ -28,10 +42,20 @@ fn are_right(one: Outcome, other: Outcome) -> bool {
 }
 
 /// Runs the scenario, and says whether its lines are those that are expected, or lack what memory was refused for.
-fn went(alloc: Global, scenario: &str, expected: &str, refused: &[&str]) -> Outcome {
+fn went(
+    alloc: Global,
+    program: Program,
+    scenario: &str,
+    expected: &str,
+    refused: &[&str],
+) -> Outcome {
     let mut reader = scenario.as_bytes();
     let mut writer = Vec::new(alloc);
-    match run(alloc, &[], &mut reader, &mut writer) {
+    let ended = match program {
+        Program::Plain => run(alloc, &[], &mut reader, &mut writer),
+        Program::Explained => run_explained(alloc, &[], &mut reader, &mut writer),
+    };
+    match ended {
         Ok(()) => of_lines(writer.as_slice(), expected, refused),
         Err(RunFault::Memory) => Outcome::WithoutMemory,
         Err(_) => Outcome::Wrong,

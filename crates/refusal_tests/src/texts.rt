@@ -1,6 +1,6 @@
 //! A session that keeps no include records.
 
-use crate::runs::go_right;
+use crate::runs::{Program, go_right};
 use std::test::Fail;
 
 /// A request that is compiled, with an included file, the same request again, and one that is passed through.
@@ -26,6 +26,14 @@ fn serves_after_want_of_memory(rt: HostRuntime) -> Result<(), Fail> {
         "1 fresh obj:53\n2 fault memory\n3 pass empty value\ncompiles 1\n",
         "1 fresh obj:53\n2 stored obj:53\n3 fault memory\ncompiles 1\n",
     ];
-    assert!(rt; go_right(rt.alloc(), SCENARIO, EXPECTED, refused.as_slice()));
+    assert!(rt;
+        go_right(
+            rt.alloc(),
+            Program::Plain,
+            SCENARIO,
+            EXPECTED,
+            refused.as_slice()
+        )
+    );
     Ok(())
 }

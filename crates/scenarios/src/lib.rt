@@ -4,6 +4,7 @@
 mod byte_text;
 mod compilers;
 mod crates;
+mod explaining;
 mod members;
 pub mod program;
 mod scenario;

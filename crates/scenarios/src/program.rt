@@ -1,14 +1,16 @@
-//! The program: it reads a scenario, serves its requests in order and prints what each is answered.
+//! The programs: they read a scenario, serve its requests in order and print what each is answered, and one of them why it was compiled.
 
 ghost use Rattle.std.specs.Prelude.{◌≡◌, ◌⊎◌, ◌<◌, ◌↔◌, length, OnOk, IfErr, IsErrOf};
 ghost use Rattle.std.specs.Io.KnownBytes.{IsAtEnd};
 
+use crate::explaining::Explainer;
 use crate::scenario::{Scenario, ScenarioCall, ScenarioFault, read_scenario};
 use bounded_store::lru_store::LruStore;
 use ckeys::fault::Fault;
 use ckeys::preprocessor::Preprocessor;
 use ckeys::{EntryKey, PreprocessorCacheEntry, Store};
 use os_files::listed::Listed;
+use os_files::memory_files::MemoryFiles;
 use script_tool::crate_texts::CrateTexts;
 use script_tool::script::ScriptTool;
 use sha2::Sha256;
@@ -16,9 +18,11 @@ use std::alloc::{AllocError, AllocFailed, Global};
 use std::io;
 use std::io::{ErrorKind, Read, Write};
 use thiserror::Error;
+use wrap::Fingerprint;
 use wrap::session::Session;
 use wrap_base::answer::{Answer, How, Output};
 use wrap_base::map_store::MapStore;
+use wrap_base::request::Request;
 use wrap_base::store_key::{Pairs, StoreKey};
 
 /// The include records.
@@ -90,11 +94,47 @@ pub fn run<R: Read, W: Write>(
     ensures unwritten { IsErrOf result RunFault.Scenario
         → W.contents writer.new ≡ W.contents writer.old }
 {
+    run_with(alloc, None, args, reader, writer)
+}
+
+/// The same, and behind the line of each request whose outputs were compiled it says in which part, and where, that one differs from the
+/// latest earlier request with the same outputs: `2 fresh obj:22 # word 1: -DA=2, earlier -DA=1`.
+pub fn run_explained<R: Read, W: Write>(
+    alloc: Global,
+    args: &[String],
+    reader: &mut R,
+    writer: &mut W,
+) -> Result<(), RunFault>
+    ensures arguments { IsErrOf result RunFault.Arguments ↔ (0 < length args.now) }
+    ensures unread { 0 < length args.now → R.remaining reader.new ≡ R.remaining reader.old }
+    ensures silent { 0 < length args.now → W.contents writer.new ≡ W.contents writer.old }
+    ensures read { OnOk result (IsAtEnd (R.remaining reader.new)) }
+    ensures unwritten { IsErrOf result RunFault.Scenario
+        → W.contents writer.new ≡ W.contents writer.old }
+{
+    run_with(alloc, Some(Explainer::new(alloc)), args, reader, writer)
+}
+
+/// Runs with that explainer, or without one.
+fn run_with<R: Read, W: Write>(
+    alloc: Global,
+    explainer: Option<Explainer>,
+    args: &[String],
+    reader: &mut R,
+    writer: &mut W,
+) -> Result<(), RunFault>
+    ensures arguments { IsErrOf result RunFault.Arguments ↔ (0 < length args.now) }
+    ensures unread { 0 < length args.now → R.remaining reader.new ≡ R.remaining reader.old }
+    ensures silent { 0 < length args.now → W.contents writer.new ≡ W.contents writer.old }
+    ensures read { OnOk result (IsAtEnd (R.remaining reader.new)) }
+    ensures unwritten { IsErrOf result RunFault.Scenario
+        → W.contents writer.new ≡ W.contents writer.old }
+{
     if !args.is_empty() {
         return Err(RunFault::Arguments);
     }
     let scenario = whole_scenario(alloc, reader)?;
-    serve_scenario(alloc, scenario, writer)
+    serve_scenario(alloc, scenario, explainer, writer)
 }
 
 /// The scenario that the reader gives to its end.
@@ -113,15 +153,16 @@ fn whole_scenario<R: Read>(alloc: Global, reader: &mut R) -> Result<Scenario, Ru
 fn serve_scenario<W: Write>(
     alloc: Global,
     scenario: Scenario,
+    explainer: Option<Explainer>,
     writer: &mut W,
 ) -> Result<(), RunFault>
     ensures fault { IfErr result (λ f. (f ≡ RunFault.Output) ⊎ (f ≡ RunFault.Memory)) }
 {
     match scenario.capacity {
-        None => serve_calls(alloc, scenario, MapStore::new(alloc), writer),
+        None => serve_calls(alloc, scenario, explainer, MapStore::new(alloc), writer),
         Some(capacity) => {
             let objects = LruStore::new(alloc, capacity)?;
-            serve_calls(alloc, scenario, objects, writer)
+            serve_calls(alloc, scenario, explainer, objects, writer)
         }
     }
 }
@@ -130,6 +171,7 @@ fn serve_scenario<W: Write>(
 fn serve_calls<O: Store<StoreKey, Pairs> + Drop, W: Write>(
     alloc: Global,
     scenario: Scenario,
+    explainer: Option<Explainer>,
     objects: O,
     writer: &mut W,
 ) -> Result<(), RunFault>
@@ -143,9 +185,12 @@ fn serve_calls<O: Store<StoreKey, Pairs> + Drop, W: Write>(
     } = scenario;
     let mut session = Session::new(alloc, session_config, MapStore::new(alloc), objects);
     let mut tool = ScriptTool::new(tool_config, CrateTexts::empty(alloc));
+    let is_explained = explainer.is_some();
+    let mut explainer = explainer;
     for (number, call) in (1u64..).zip(calls) {
-        let answer = answered(call, &mut session, &mut tool);
-        write_line(writer, &line_of(alloc, number, &answer)?)?;
+        let (made, answer) = answered(call, is_explained, &mut session, &mut tool);
+        let line = whole_line(alloc, number, &mut explainer, made, &answer)?;
+        write_line(writer, &line)?;
     }
     let compiles = tool.ticks().compile;
     write_line(writer, &format!(in alloc; "compiles {compiles}\n")?)?;
@@ -154,13 +199,30 @@ fn serve_calls<O: Store<StoreKey, Pairs> + Drop, W: Write>(
         .map_err(|error| fault_of(&error, RunFault::Output))
 }
 
-/// What a call is answered by the tool, whose rustc tells what the call says. Before it all that both stores hold is dropped where the
-/// call says so.
+/// The line of an answer with its end, and before that what the explainer has to say of it.
+fn whole_line(
+    alloc: Global,
+    number: u64,
+    explainer: &mut Option<Explainer>,
+    made: Option<Fingerprint>,
+    answer: &Result<Answer, Fault>,
+) -> Result<String, AllocError> {
+    let mut line = line_of(alloc, number, answer)?;
+    if let Some(explainer) = explainer {
+        explainer.push_remark(alloc, made, answer, &mut line)?;
+    }
+    line.push('\n')?;
+    Ok(line)
+}
+
+/// What a call is answered by the tool, whose rustc tells what the call says; and before it the call's fingerprint, where that is asked
+/// for and there is one. Before both all that the stores hold is dropped where the call says so.
 fn answered<O: Store<StoreKey, Pairs> + Drop>(
     call: ScenarioCall,
+    is_explained: bool,
     session: &mut Session<Sha256, Entries, O>,
     tool: &mut ScriptTool,
-) -> Result<Answer, Fault> {
+) -> (Option<Fingerprint>, Result<Answer, Fault>) {
     let ScenarioCall {
         request,
         mut files,
@@ -171,7 +233,25 @@ fn answered<O: Store<StoreKey, Pairs> + Drop>(
     if forget {
         session.forget_all();
     }
-    session.serve(&request, &mut files, tool)
+    let made = match is_explained {
+        true => fingerprint_of(&request, session, &mut files, tool),
+        false => None,
+    };
+    let answer = session.serve(&request, &mut files, tool);
+    (made, answer)
+}
+
+/// The fingerprint of a request, where there is one: it isn't passed through, and there is no fault.
+fn fingerprint_of<O: Store<StoreKey, Pairs> + Drop>(
+    request: &Request,
+    session: &Session<Sha256, Entries, O>,
+    files: &mut MemoryFiles,
+    tool: &mut ScriptTool,
+) -> Option<Fingerprint> {
+    match session.fingerprint(request, files, tool) {
+        Ok(Ok(made)) => Some(made),
+        Ok(Err(_)) | Err(_) => None,
+    }
 }
 
 fn write_line<W: Write>(writer: &mut W, line: &String) -> Result<(), RunFault>
@@ -193,14 +273,14 @@ fn fault_of(error: &io::Error, other: RunFault) -> RunFault
     }
 }
 
-/// The line that says what the request of this number is answered.
+/// The line that says what the request of this number is answered, without its end.
 fn line_of(
     alloc: Global,
     number: u64,
     answer: &Result<Answer, Fault>,
 ) -> Result<String, AllocError> {
     match answer {
-        Ok(Answer::Pass(reason)) => format!(in alloc; "{number} pass {reason}\n"),
+        Ok(Answer::Pass(reason)) => format!(in alloc; "{number} pass {reason}"),
         Ok(Answer::Outputs { map, how, dep_info }) => {
             let how = how_word(*how);
             let mut line = format!(in alloc; "{number} {how}")?;
@@ -209,10 +289,9 @@ fn line_of(
                 let length = text.as_bytes().len();
                 write!(line, " dep-info:{length}")?;
             }
-            line.push('\n')?;
             Ok(line)
         }
-        Err(fault) => format!(in alloc; "{number} fault {fault}\n"),
+        Err(fault) => format!(in alloc; "{number} fault {fault}"),
     }
 }
 

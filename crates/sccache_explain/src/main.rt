@@ -1,0 +1,52 @@
+//! The program `sccache-explain`: reads a scenario from standard input and prints what its requests are answered, and why they were compiled.
+#![tactic(auto)]
+
+use scenarios::program::{RunFault, run_explained};
+use std::io::{BufWriter, ErrorKind};
+use std::process::ExitCode;
+use std::rt::Env;
+use std::{env, io};
+
+/// The status of a program that couldn't run.
+const FAILED: u8 = 2;
+
+fn main(rt: HostRuntime) -> ExitCode {
+    match run_on(&rt) {
+        Ok(()) => ExitCode::SUCCESS,
+        Err(fault) => {
+            let fault = words_of(&fault);
+            let _ = eprintln!(rt; "sccache-explain: {fault}");
+            ExitCode::from(FAILED)
+        }
+    }
+}
+
+/// What a fault is called.
+fn words_of(fault: &RunFault) -> &'static str {
+    match fault {
+        RunFault::Arguments => "no arguments are taken",
+        RunFault::Scenario => "scenario cannot be read",
+        RunFault::Output => "output cannot be written",
+        RunFault::Memory => "memory",
+    }
+}
+
+/// Runs on standard input and output.
+fn run_on<R: Print + Input + Env + AllocGlobal>(rt: &R) -> Result<(), RunFault> {
+    let alloc = rt.alloc();
+    let words = env::args(rt).map_err(fault_of_arguments)?;
+    let args: Vec<String> = words.skip(1).collect(alloc)?;
+    let mut reader = rt.reader();
+    let Ok(mut writer) = BufWriter::new(alloc, io::writer(rt)) else {
+        return Err(RunFault::Memory);
+    };
+    run_explained(alloc, args.as_slice(), &mut reader, &mut writer)
+}
+
+/// An argument that is no UTF-8 is an argument all the same.
+fn fault_of_arguments(error: io::Error) -> RunFault {
+    match error.kind() {
+        ErrorKind::InvalidData => RunFault::Arguments,
+        _ => RunFault::Memory,
+    }
+}

@@ -1,0 +1,64 @@
+//! What is to be said of a request that was compiled: in which part, and where, it differs from the latest earlier one with the same
+//! outputs.
+
+use differences::difference::Difference;
+use os_files::listed::Listed;
+use os_files::os_bytes::OsBytes;
+use std::alloc::{AllocError, Global};
+use std::collections::HashMap;
+use wrap::{Answer, Fault, Fingerprint, How};
+use wrap_base::answer::Output;
+
+/// The outputs of a request: the name of each, and where it is wanted.
+type Wanted = Listed<(OsBytes, OsBytes)>;
+
+/// The fingerprints of the requests so far, each by its outputs; of those with the same outputs the latest one.
+#[derive(Drop)]
+pub(crate) struct Explainer {
+    earlier: HashMap<Wanted, Fingerprint>,
+}
+
+/// The outputs' names and paths.
+fn wanted(alloc: Global, outputs: &[Output]) -> Result<Wanted, AllocError> {
+    let mut wanted = Vec::with_capacity(alloc, outputs.len())?;
+    for output in outputs {
+        wanted.push((output.name.clone()?, output.path.clone()?))?;
+    }
+    Ok(Listed::from_vec(wanted))
+}
+
+impl Explainer {
+    /// One that has seen no request.
+    pub(crate) fn new(alloc: Global) -> Explainer {
+        Explainer {
+            earlier: HashMap::new(alloc),
+        }
+    }
+
+    /// Puts behind a line what is to be said of this answer to a request of that fingerprint, where anything is: of outputs that were
+    /// compiled, how the request differs from the latest earlier one with the same outputs, or that there was none. It is the latest
+    /// one from now on.
+    pub(crate) fn push_remark(
+        &mut self,
+        alloc: Global,
+        made: Option<Fingerprint>,
+        answer: &Result<Answer, Fault>,
+        line: &mut String,
+    ) -> Result<(), AllocError> {
+        let (Some(made), Ok(Answer::Outputs { map, how, .. })) = (made, answer) else {
+            return Ok(());
+        };
+        let outputs = wanted(alloc, map.as_slice())?;
+        if matches!(how, How::Fresh) {
+            match self.earlier.get(&outputs) {
+                Some(earlier) => {
+                    let one = &made;
+                    write!(line, " # {}", Difference { one, earlier })?;
+                }
+                None => line.push_str(" # first with these outputs")?,
+            }
+        }
+        self.earlier.insert(outputs, made)?;
+        Ok(())
+    }
+}
