@@ -244,8 +244,6 @@ static void tell_command_line(void) {
     if (!getcwd(dir, sizeof dir)) pass_through();
     add_string(kept);
     add_string(text);
-    add_string(messages);
-    add_string(printed);
     add_string(strrchr(own, '/') + 1);
     add_string(compiler);
     add_string(dir);
@@ -350,7 +348,7 @@ int main(int count, char **list) {
     int is_link = strncmp(name, "gulmaat", 7) != 0;
     words = is_link ? list : list + 1;
     if (!is_link && (count < 2 || !strncmp(list[1], "--", 2))) {
-        char *line[] = {"gulmaat", count < 2 ? "--help" : list[1], find_kept() ? NULL : kept, count < 3 ? NULL : list[2], NULL};
+        char *line[] = {"gulmaat", count < 2 ? "--help" : list[1], find_kept() ? NULL : kept, NULL};
         if (!strcmp(line[1], "--help")) line[2] = NULL;
         execv(program_beside(), line);
         perror(program_beside());
@@ -374,7 +372,6 @@ int main(int count, char **list) {
     while (waitpid(child, &status, 0) < 0 && errno == EINTR);
     if (compiled >= 0) { remove_outputs(); return compiled; }
     if (!WIFEXITED(status) || WEXITSTATUS(status) != DONE) pass_through();
-    show(printed, 1);
     show(messages, 2);
     remove_outputs();
     return 0;

@@ -11,7 +11,7 @@ use os_files::listed::Listed;
 use os_files::os_bytes::OsBytes;
 use rustc_parts::parts::{EnvDep, Parts};
 use std::alloc::{AllocError, Global};
-use std::rt::{AllocGlobal, Print};
+use std::process::Abort;
 use std::test::Fail;
 use test_kit::rows::words;
 
@@ -66,7 +66,7 @@ fn of_rustc(alloc: Global, parts: Parts) -> Result<Fingerprint, AllocError> {
 }
 
 /// Whether the first differs from the second in this part first, and that is told so.
-fn is_told<R: Print + AllocGlobal>(
+fn is_told<R: Print + AllocGlobal + Abort>(
     rt: &R,
     one: Fingerprint,
     earlier: Fingerprint,

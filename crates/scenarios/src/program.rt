@@ -13,8 +13,6 @@ use os_files::listed::Listed;
 use os_files::memory_files::MemoryFiles;
 use script_tool::crate_texts::CrateTexts;
 use script_tool::script::ScriptTool;
-use script_tool::statuses::{StatusOf, Statuses, error_status, print_status};
-use script_tool::trees::Trees;
 use sha2::Sha256;
 use std::alloc::{AllocError, AllocFailed, Global};
 use std::io;
@@ -173,7 +171,7 @@ fn serve_scenario<W: Write>(
 fn serve_calls<O: Store<StoreKey, Pairs> + Drop, W: Write>(
     alloc: Global,
     scenario: Scenario,
-    mut explainer: Option<Explainer>,
+    explainer: Option<Explainer>,
     objects: O,
     writer: &mut W,
 ) -> Result<(), RunFault>
@@ -186,18 +184,12 @@ fn serve_calls<O: Store<StoreKey, Pairs> + Drop, W: Write>(
         calls,
     } = scenario;
     let mut session = Session::new(alloc, session_config, MapStore::new(alloc), objects);
-    let print: StatusOf = Box::new(alloc, |text: &[u8]| print_status(text))?;
-    let compile: StatusOf = Box::new(alloc, |text: &[u8]| error_status(text))?;
-    let statuses = Statuses::new(print, compile);
-    let told = CrateTexts::empty(alloc);
-    let mut tool = ScriptTool::new(tool_config, told, Trees::new(alloc)?, statuses);
+    let mut tool = ScriptTool::new(tool_config, CrateTexts::empty(alloc));
+    let is_explained = explainer.is_some();
+    let mut explainer = explainer;
     for (number, call) in (1u64..).zip(calls) {
-        let (made, answer) = answered(call, explainer.is_some(), &mut session, &mut tool);
-        let mut line = line_of(alloc, number, &answer)?;
-        if let Some(explainer) = &mut explainer {
-            explainer.push_remark(alloc, made, &answer, &mut line)?;
-        }
-        line.push('\n')?;
+        let (made, answer) = answered(call, is_explained, &mut session, &mut tool);
+        let line = whole_line(alloc, number, &mut explainer, made, &answer)?;
         write_line(writer, &line)?;
     }
     let compiles = tool.ticks().compile;
@@ -205,6 +197,22 @@ fn serve_calls<O: Store<StoreKey, Pairs> + Drop, W: Write>(
     writer
         .flush()
         .map_err(|error| fault_of(&error, RunFault::Output))
+}
+
+/// The line of an answer with its end, and before that what the explainer has to say of it.
+fn whole_line(
+    alloc: Global,
+    number: u64,
+    explainer: &mut Option<Explainer>,
+    made: Option<Fingerprint>,
+    answer: &Result<Answer, Fault>,
+) -> Result<String, AllocError> {
+    let mut line = line_of(alloc, number, answer)?;
+    if let Some(explainer) = explainer {
+        explainer.push_remark(alloc, made, answer, &mut line)?;
+    }
+    line.push('\n')?;
+    Ok(line)
 }
 
 /// What a call is answered by the tool, whose rustc tells what the call says; and before it the call's fingerprint, where that is asked

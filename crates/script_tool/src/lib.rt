@@ -7,5 +7,3 @@ mod lines;
 pub mod script;
 mod scripting;
 mod source;
-pub mod statuses;
-pub mod trees;

@@ -1,5 +1,5 @@
 -- What two fingerprints say of keys.
-use Rattle.std.proofs.Common.{◌≡◌, ◌↔◌, None, Option, Ok, Err, sym, ◌∙◌}
+use Rattle.std.proofs.Common.{◌≡◌, ◌↔◌, None, Option, Ok, sym, ◌∙◌}
 use Rattle.os_files.specs.Bytes.{Bytes}
 use Rattle.ckeys.specs.declared.step.Step.{Step}
 use Rattle.wrap.specs.Account.{Account, Work, passed, worked}
@@ -7,7 +7,6 @@ use Rattle.wrap.specs.CallRecords.{AreDistinct, IsTold}
 use Rattle.wrap.specs.Fingerprints.{IsFingerprintOf, fingerprint_of}
 use Rattle.wrap.specs.StoreKeys.{store_key_of}
 use Rattle.wrap.specs.Telling.{Tells}
-use Rattle.wrap_base.specs.declared.reason.Reason.{Reason}
 use Rattle.fingerprints.specs.declared.fingerprint.Fingerprint.{Fingerprint}
 use Rattle.fingerprints.specs.declared.part.Part.{Part}
 use Rattle.wrap_uses.specs.Misses.{Explains}
@@ -23,7 +22,3 @@ found_explains digest_of tell (worked w) on_file device_in made earlier before f
       (λ none. keys.0 (sym tells.is ∙ equal.0 none ∙ was.is)),
       (λ same. equal.1 (tells.is ∙ keys.1 same ∙ sym was.is)),
     )
-
-pub passed_explains : (digest_of : Bytes → Bytes) (a : Account) (on_file : Bytes → Type 0) (device_in : Step → Type 0) (before : Work) (reason : Reason) → Tells digest_of a on_file device_in (Ok (Err reason)) → Explains digest_of a before (Err reason)
-passed_explains digest_of (passed why) on_file device_in before reason tells = tells
-passed_explains digest_of (worked w) on_file device_in before reason tells = absurd tells
