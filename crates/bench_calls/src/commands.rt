@@ -1,9 +1,9 @@
 //! Words of commands: cut by the tree of a compiler's flags or by its tables one behind the other, parsed, or copied.
 
 use crate::words::{Tally, copy};
-use cmdlines::compiler_arguments::{CompilerArguments, ParseFault};
 use cmdlines::gcc::Gcc;
 use cmdlines_base::argument_error::ArgParseError;
+use cmdlines_base::compiler_arguments::CompilerArguments;
 use cmdlines_base::table::{ArgInfo, SearchableArgInfo};
 use cmdlines_tables::compiler::CCompilerKind;
 use cmdlines_tables::compiler_tables::compiler_tree;
@@ -14,6 +14,7 @@ use cmdlines_tables::tables::{clang_table, gnu_table};
 use cmdlines_tables::value::ArgData;
 use os_files::memory_files::MemoryFiles;
 use os_files::os_bytes::OsBytes;
+use response_files::fault::ParseFault;
 use std::alloc::{AllocError, Global};
 
 /// The kind of compiler of that name.

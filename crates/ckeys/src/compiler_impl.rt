@@ -17,14 +17,15 @@ ghost use Rattle.ckeys.specs.Meaning.{scene_with, made_of, asked_of};
 use crate::preprocessor::{Preprocessor, Printed, ToolFail};
 use crate::step::Step;
 use cmdlines::command::{Cacheable, CommandError, command_at};
-use cmdlines::compiler_arguments::{CompilerArguments, ParseFault};
 use cmdlines::found::{FoundCompiler, HasKind};
 use cmdlines::parsed::ParsedArguments;
 use cmdlines_base::command::SingleCompileCommand;
+use cmdlines_base::compiler_arguments::CompilerArguments;
 use cmdlines_tables::compiler::CCompilerKind;
 use os_files::files::Files;
 use os_files::listed::Listed;
 use os_files::os_bytes::OsBytes;
+use response_files::fault::ParseFault;
 use std::alloc::{AllocError, Global};
 
 /// A C compiler: what is known of it, how it reads words, and the commands for it.

@@ -23,7 +23,8 @@ use Rattle.cmdlines_tables.specs.declared.kind.OptionList.{OptionList}
 use Rattle.cmdlines_tables.specs.declared.kind.OptionList.TheVariants as lists
 use Rattle.cmdlines.specs.Collecting.{no_facts, no_lists, facts_with, lists_with, decide}
 use Rattle.cmdlines.specs.Parsing.{decision_on, decided, refused, closing}
-use Rattle.cmdlines.specs.Wanted.{has_kind, word_in, color_in, language_in, blocker_in, input_in, later, sooner, last_of, first_of, is_wanted, wanted, wanted_words, is_hard, flag_of, facts_of, lists_of}
+use Rattle.cmdlines.specs.Wanted.{has_kind, word_in, color_in, language_in, blocker_in, input_in, last_of, first_of, is_wanted, wanted, wanted_words, is_hard, flag_of, facts_of, lists_of}
+use Rattle.cmdlines_base.specs.Choices.{later, sooner}
 use Rattle.cmdlines.specs.declared.facts.Facts.{Facts}
 use Rattle.cmdlines.specs.declared.lists.Lists.{Lists}
 

@@ -15,7 +15,8 @@ use Rattle.cmdlines_tables.specs.declared.language.Language.{Language}
 use Rattle.cmdlines_tables.specs.declared.language.Language.TheVariants.{C, Cxx, CPreprocessed, CxxPreprocessed, Assembler, AssemblerToPreprocess, Rust}
 use Rattle.cmdlines.specs.KnownLanguages.{HasKnownLanguageIn, IsKnownTo}
 use Rattle.cmdlines.specs.Parsing.{Decision, asks, decided, differ, known_language, language_by_extension, language_for, not_compilation, output_for, parse_of, parsed_from, refused, with_inputs, with_language, with_output}
-use Rattle.cmdlines.specs.Wanted.{facts_of, is_hard, lists_of, when}
+use Rattle.cmdlines.specs.Wanted.{facts_of, is_hard, lists_of}
+use Rattle.cmdlines_base.specs.Choices.{when}
 use Rattle.cmdlines.specs.declared.facts.Facts.{Facts}
 use Rattle.cmdlines.specs.declared.lists.Input.{Input}
 use Rattle.cmdlines.specs.declared.lists.Lists.{Lists}

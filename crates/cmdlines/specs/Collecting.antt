@@ -8,7 +8,8 @@ use Rattle.cmdlines_tables.specs.Kinds.{is_compile, is_output, is_arch, is_diagn
 use Rattle.cmdlines_tables.specs.declared.compiler.CCompilerKind.{CCompilerKind}
 use Rattle.cmdlines_tables.specs.declared.kind.ArgKind.{ArgKind}
 use Rattle.cmdlines_tables.specs.declared.kind.OptionList.TheVariants as lists
-use Rattle.cmdlines.specs.Wanted.{has_kind, word_in, words_in, color_in, language_in, blocker_in, input_in, later, sooner, last_of, first_of, wanted_words, is_hard}
+use Rattle.cmdlines.specs.Wanted.{has_kind, word_in, words_in, color_in, language_in, blocker_in, input_in, last_of, first_of, wanted_words, is_hard}
+use Rattle.cmdlines_base.specs.Choices.{later, sooner}
 use Rattle.cmdlines.specs.Parsing.{Decision, decided}
 use Rattle.cmdlines.specs.declared.facts.Facts.{Facts}
 use Rattle.cmdlines.specs.declared.lists.Lists.{Lists}

@@ -6,7 +6,8 @@ use Rattle.cmdlines_tables.specs.Kinds.{is_arch, is_extra_file}
 use Rattle.cmdlines_tables.specs.declared.kind.ArgKind.{ArgKind}
 use Rattle.cmdlines_tables.specs.declared.kind.OptionList.{OptionList}
 use Rattle.cmdlines_tables.specs.declared.kind.OptionList.TheVariants as lists
-use Rattle.cmdlines.specs.Wanted.{when, input_given}
+use Rattle.cmdlines.specs.Wanted.{input_given}
+use Rattle.cmdlines_base.specs.Choices.{when}
 use Rattle.cmdlines.specs.declared.lists.Lists.{Lists}
 
 abbrev pub with_words : Lists → OptionList → List Bytes → Lists

@@ -2,13 +2,9 @@
 use Rattle.std.specs.Prelude.{Bool, false, ◌==◌, ◌&&◌, ◌||◌, List, [], ◌∷◌}
 use Rattle.std.specs.List.{list_any}
 use Rattle.os_files.specs.Bytes.{Bytes}
+use Rattle.cmdlines_base.specs.Reading.{begins_with_at}
 use Rattle.cmdlines_tables.specs.declared.compiler.CCompilerKind.{CCompilerKind}
 use Rattle.cmdlines_tables.specs.declared.compiler.CCompilerKind.TheVariants.{Diab}
-
--- the word begins with `@` (64)
-abbrev pub begins_with_at : Bytes → Bool
-begins_with_at [] = false
-begins_with_at (b ∷ bs) = b == 64
 
 -- it begins with `-@`: 45 is '-'
 abbrev pub begins_with_dash_at : Bytes → Bool

@@ -3,7 +3,8 @@ use Rattle.std.specs.Prelude.{◌||◌}
 use Rattle.os_files.specs.Bytes.{Bytes}
 use Rattle.cmdlines_tables.specs.Kinds.{is_compile, is_output, is_diagnostics, blocks_preprocessor_cache, asks_dependencies, is_dependency_path, is_dependency_target}
 use Rattle.cmdlines_tables.specs.declared.kind.ArgKind.{ArgKind}
-use Rattle.cmdlines.specs.Wanted.{when, later, sooner, color_by, language_by}
+use Rattle.cmdlines.specs.Wanted.{color_by, language_by}
+use Rattle.cmdlines_base.specs.Choices.{when, later, sooner}
 use Rattle.cmdlines.specs.declared.facts.Facts.{Facts}
 use Rattle.cmdlines.specs.declared.facts.DependencyOptions.{DependencyOptions}
 

@@ -5,6 +5,7 @@ use Rattle.std.specs.Option.{option_map, option_and_then}
 use Rattle.std.specs.Str.{bytes_eq}
 use Rattle.os_files.specs.Bytes.{Bytes}
 use Rattle.os_files.specs.Path.{file_name, extension, with_extension}
+use Rattle.cmdlines_base.specs.Artifacts.{Artifacts}
 use Rattle.cmdlines_base.specs.Reading.{Item, Reading, reading, raw, first_word, whole}
 use Rattle.cmdlines_base.specs.Table.{Entry}
 use Rattle.cmdlines_base.specs.declared.command.ArtifactDescriptor.{ArtifactDescriptor}
@@ -13,12 +14,13 @@ use Rattle.cmdlines_tables.specs.Tables.{entries_of, ends_options, reading_of}
 use Rattle.cmdlines_tables.specs.Kinds.{gives_input}
 use Rattle.cmdlines_tables.specs.declared.compiler.CCompilerKind.{CCompilerKind}
 use Rattle.cmdlines_tables.specs.declared.compiler.CCompilerKind.TheVariants.{Msvc}
-use Rattle.cmdlines_tables.specs.declared.compiler.ColorMode.TheVariants.{Auto}
+use Rattle.cmdlines_base.specs.declared.color_mode.ColorMode.TheVariants.{Auto}
 use Rattle.cmdlines_tables.specs.declared.kind.ArgKind.{ArgKind}
 use Rattle.cmdlines_tables.specs.declared.language.Language.{Language}
-use Rattle.cmdlines.specs.Wanted.{facts_of, lists_of, is_hard, flag_of, has_kind, when, sooner}
-use Rattle.cmdlines.specs.declared.compiler_arguments.CompilerArguments.{CompilerArguments}
-use Rattle.cmdlines.specs.declared.compiler_arguments.CompilerArguments.TheVariants as answers
+use Rattle.cmdlines.specs.Wanted.{facts_of, lists_of, is_hard, flag_of, has_kind}
+use Rattle.cmdlines_base.specs.Choices.{when, sooner}
+use Rattle.cmdlines_base.specs.declared.compiler_arguments.CompilerArguments.{CompilerArguments}
+use Rattle.cmdlines_base.specs.declared.compiler_arguments.CompilerArguments.TheVariants as answers
 use Rattle.cmdlines.specs.declared.facts.Facts.{Facts}
 use Rattle.cmdlines.specs.declared.lists.Input.{Input}
 use Rattle.cmdlines.specs.declared.lists.Lists.{Lists}
@@ -67,10 +69,7 @@ output_beside kind input = option_map (λ name. with_extension name (object_exte
 abbrev pub output_for : CCompilerKind → Option Bytes → Bytes → Option Bytes
 output_for kind option input = sooner (option_and_then (output_named_by kind) option) (output_beside kind input)
 
--- outputs with where they go, in the order of their names; a compile may leave none of them out
-abbrev pub Artifacts : Type 0
-Artifacts = List (Bytes × ArtifactDescriptor)
-
+-- an output; a compile may not leave it out
 abbrev pub artifact_at : Bytes → Bytes → Bytes × ArtifactDescriptor
 artifact_at name path = (name, record { path = path; optional = false })
 

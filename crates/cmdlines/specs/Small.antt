@@ -6,7 +6,8 @@ use Rattle.bstr.specs.Utf8.{lossy_chars}
 use Rattle.os_files.specs.Bytes.{Bytes}
 use Rattle.os_files.specs.Path.{file_name}
 use Rattle.cmdlines_base.specs.declared.command.ArtifactDescriptor.{ArtifactDescriptor}
-use Rattle.cmdlines.specs.Parsing.{Artifacts, object_name}
+use Rattle.cmdlines.specs.Parsing.{object_name}
+use Rattle.cmdlines_base.specs.Artifacts.{Artifacts}
 
 -- the first output of that name
 abbrev pub output_named : Bytes → Artifacts → Option ArtifactDescriptor

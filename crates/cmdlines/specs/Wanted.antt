@@ -4,14 +4,15 @@ use Rattle.std.specs.List.{flat_map, list_any, ends_with}
 use Rattle.std.specs.Option.{option_to_list}
 use Rattle.std.specs.Str.{bytes_eq}
 use Rattle.os_files.specs.Bytes.{Bytes}
+use Rattle.cmdlines_base.specs.Choices.{later, sooner, when}
 use Rattle.cmdlines_base.specs.Printing.{is_empty_j, words_of}
 use Rattle.cmdlines_base.specs.Reading.{Item, raw, unknown, flag, valued, behind_dashes}
 use Rattle.cmdlines_base.specs.Table.{Entry, behind}
 use Rattle.cmdlines_tables.specs.Kinds.{list_of, is_same_list, blocks_preprocessor_cache, is_too_hard, is_front_end, is_compile, is_output, is_arch, is_diagnostics, is_extra_file, asks_dependencies, is_dependency_path, is_dependency_target, gives_input}
 use Rattle.cmdlines_tables.specs.declared.compiler.CCompilerKind.{CCompilerKind}
 use Rattle.cmdlines_tables.specs.declared.compiler.CCompilerKind.TheVariants.{Gcc, Clang, Diab, Msvc, TaskingVX}
-use Rattle.cmdlines_tables.specs.declared.compiler.ColorMode.{ColorMode}
-use Rattle.cmdlines_tables.specs.declared.compiler.ColorMode.TheVariants as modes
+use Rattle.cmdlines_base.specs.declared.color_mode.ColorMode.{ColorMode}
+use Rattle.cmdlines_base.specs.declared.color_mode.ColorMode.TheVariants as modes
 use Rattle.cmdlines_tables.specs.declared.kind.ArgKind.{ArgKind}
 use Rattle.cmdlines_tables.specs.declared.kind.ArgKind.TheVariants.{Language, LanguageC, LanguageCxx, InputC, InputCxx, DiagnosticsColor, DiagnosticsColorFlag, NoDiagnosticsColorFlag}
 use Rattle.cmdlines_tables.specs.declared.kind.OptionList.{OptionList}
@@ -56,9 +57,6 @@ wanted list items = filter (is_wanted list) items
 abbrev pub wanted_words : OptionList → List (Item ArgKind) → List Bytes
 wanted_words list items = words_of (wanted list items)
 
-abbrev pub when : {X : Type 0} → Bool → X → Option X
-when holds x = if holds then Some x else None
-
 -- An input, and whether it stands behind double dashes that end the options.
 abbrev pub input_at : Bytes → Bool → Input
 input_at word seen = record { word = word; behind_dashes = seen }
@@ -81,15 +79,7 @@ word_in test item = when (has_kind test item) (word_of item)
 abbrev pub words_in : (ArgKind → Bool) → List (Item ArgKind) → List Bytes
 words_in test items = flat_map (λ item. option_to_list (word_in test item)) items
 
--- the last that there is, and the first
-abbrev pub later : {X : Type 0} → Option X → Option X → Option X
-later earlier None = earlier
-later earlier (Some x) = Some x
-
-abbrev pub sooner : {X : Type 0} → Option X → Option X → Option X
-sooner None next = next
-sooner (Some x) next = Some x
-
+-- the last that items say, and the first
 abbrev pub last_of : {X : Type 0} → (Item ArgKind → Option X) → List (Item ArgKind) → Option X
 last_of says [] = None
 last_of says (item ∷ items) = later (says item) (last_of says items)

@@ -4,12 +4,13 @@ ghost use Rattle.std.specs.Prelude.{◌≡◌, ◌∷◌, [], IfOk, MatchResult}
 ghost use Rattle.std.specs.Option.{option_copied};
 ghost use Rattle.cmdlines.specs.Parsing.{decision_of, refused, closing, with_inputs, with_language, with_output, language_by_extension, language_for, known_language, object_extension, output_named_by, output_for, outputs_at, artifact_at, differ};
 
-use crate::compiler_arguments::CompilerArguments;
 use crate::facts::Facts;
 use crate::lists::{Input, Lists};
 use crate::parsed::ParsedArguments;
+use cmdlines_base::color_mode::ColorMode;
 use cmdlines_base::command::ArtifactDescriptor;
-use cmdlines_tables::compiler::{CCompilerKind, ColorMode};
+use cmdlines_base::compiler_arguments::CompilerArguments;
+use cmdlines_tables::compiler::CCompilerKind;
 use cmdlines_tables::language::Language;
 use os_files::listed::Listed;
 use os_files::os_bytes::OsBytes;

@@ -7,12 +7,12 @@ ghost use Rattle.cmdlines.specs.Parsing.{decision_of, decision_by, refused};
 ghost use Rattle.cmdlines.specs.Wanted.{is_hard, is_hard_word, may_name_folder, names_folder, flag_of};
 
 use crate::closing::{close, refused};
-use crate::compiler_arguments::CompilerArguments;
 use crate::facts::Facts;
 use crate::lists::Lists;
 use crate::parsed::ParsedArguments;
 use cmdlines_base::argument::Argument;
 use cmdlines_base::argument_error::ArgParseError;
+use cmdlines_base::compiler_arguments::CompilerArguments;
 use cmdlines_base::table::SearchableArgInfo;
 use cmdlines_tables::compiler::CCompilerKind;
 use cmdlines_tables::cutting::arguments_of;

@@ -5,13 +5,14 @@ ghost use Rattle.cmdlines_base.specs.Printing.{is_empty_j};
 ghost use Rattle.cmdlines_base.specs.Table.{all_entries};
 ghost use Rattle.cmdlines_tables.specs.Values.{placed};
 ghost use Rattle.cmdlines.specs.Collecting.{no_facts, facts_with};
-ghost use Rattle.cmdlines.specs.Wanted.{color_named, when, sooner};
+ghost use Rattle.cmdlines.specs.Wanted.{color_named};
+ghost use Rattle.cmdlines_base.specs.Choices.{when, sooner};
 ghost use Rattle.cmdlines.specs.Noting.{noted, noted_word};
 ghost use Rattle.cmdlines_tables.specs.Kinds.{blocks_preprocessor_cache};
 
 use cmdlines_base::argument::{ArgDisposition, Argument};
+use cmdlines_base::color_mode::ColorMode;
 use cmdlines_base::table::{ArgInfo, SearchableArgInfo};
-use cmdlines_tables::compiler::ColorMode;
 use cmdlines_tables::kind::ArgKind;
 use cmdlines_tables::value::ArgData;
 use os_files::os_bytes::OsBytes;

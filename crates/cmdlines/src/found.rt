@@ -13,18 +13,19 @@ ghost use Rattle.cmdlines.specs.Parsing.{decision_of, parse_of, HasSafeInputIn};
 ghost use Rattle.cmdlines.specs.ReadBack.{ReadsAsCompile, ReadsAsPreprocess};
 
 use crate::command::{Cacheable, CommandError, compile_command, preprocess_words_again};
-use crate::compiler_arguments::{CompilerArguments, ParseFault};
 use crate::laws::{inputs_are_safe, requests_have_an_object};
 use crate::opening::parse_opened;
 use crate::parsed::ParsedArguments;
 use cmdlines_base::byte_tree::ByteTree;
 use cmdlines_base::command::SingleCompileCommand;
+use cmdlines_base::compiler_arguments::CompilerArguments;
 use cmdlines_tables::compiler::CCompilerKind;
 use cmdlines_tables::compiler_tables::compiler_tree;
 use cmdlines_tables::value::ArgData;
 use os_files::files::Files;
 use os_files::listed::Listed;
 use os_files::os_bytes::OsBytes;
+use response_files::fault::ParseFault;
 use std::alloc::{AllocError, Global};
 use std::marker::{Model, PhantomData};
 

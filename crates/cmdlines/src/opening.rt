@@ -7,15 +7,16 @@ ghost use Rattle.cmdlines_base.specs.Table.{all_entries};
 ghost use Rattle.cmdlines.specs.Opening.{opened_words, style_of};
 ghost use Rattle.cmdlines.specs.Parsing.{decision_by, decision_of};
 
-use crate::compiler_arguments::{CompilerArguments, ParseFault};
 use crate::engine::parse;
 use crate::parsed::ParsedArguments;
+use cmdlines_base::compiler_arguments::CompilerArguments;
 use cmdlines_base::table::SearchableArgInfo;
 use cmdlines_tables::compiler::CCompilerKind;
 use cmdlines_tables::value::ArgData;
 use os_files::files::Files;
 use os_files::os_bytes::OsBytes;
 use response_files::expansion::expand;
+use response_files::fault::ParseFault;
 use response_files::laws::other_words_stay;
 use response_files::style::Style;
 use std::alloc::Global;

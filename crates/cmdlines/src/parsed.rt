@@ -8,8 +8,8 @@ ghost use Rattle.cmdlines.specs.Small.{output_named, object_file_name, pretty_na
 
 use crate::facts::DependencyOptions;
 use bstr::ByteSlice;
+use cmdlines_base::color_mode::ColorMode;
 use cmdlines_base::command::ArtifactDescriptor;
-use cmdlines_tables::compiler::ColorMode;
 use cmdlines_tables::language::Language;
 use os_files::listed::Listed;
 use os_files::os_bytes::OsBytes;

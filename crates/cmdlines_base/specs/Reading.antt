@@ -48,6 +48,11 @@ abbrev pub first_by : {K : Type 0} → Option (Entry K) → Bytes → Start K
 first_by None word = whole (loose word)
 first_by (Some e) word = start_as e.flag e.kind e.takes (unwrap_or (behind e.flag word) [])
 
+-- the word begins with `@` (64)
+abbrev pub begins_with_at : Bytes → Bool
+begins_with_at [] = false
+begins_with_at (b ∷ bs) = b == 64
+
 abbrev pub is_double_dash : Bytes → Bool
 is_double_dash word = bytes_eq word (codes "--")
 

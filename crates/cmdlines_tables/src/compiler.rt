@@ -1,4 +1,4 @@
-//! The C compilers, and whether they colour their messages.
+//! The C compilers.
 
 ghost use Rattle.std.specs.Prelude.{◌≡◌};
 ghost use Rattle.std.specs.Option.{option_copied};
@@ -16,15 +16,6 @@ pub enum CCompilerKind {
     Diab,
     Msvc,
     TaskingVX,
-}
-
-/// Whether a compiler colours its messages.
-#[derive(Clone, Copy, Debug, PartialEq, Eq)]
-pub enum ColorMode {
-    Off,
-    On,
-    /// Where they go to a terminal.
-    Auto,
 }
 
 impl CCompilerKind {

@@ -3,15 +3,16 @@
 use crate::written::{bare, parsed_by_clang};
 use cmdlines::clang::{Clang, ClangKind};
 use cmdlines::command::CommandError;
-use cmdlines::compiler_arguments::{CompilerArguments, ParseFault};
 use cmdlines::diab::{Diab, DiabKind};
 use cmdlines::found::{FoundCompiler, HasKind};
 use cmdlines::gcc::{Gcc, GccKind};
 use cmdlines::msvc::{Msvc, MsvcKind};
 use cmdlines::tasking_vx::{TaskingVX, TaskingVXKind};
+use cmdlines_base::compiler_arguments::CompilerArguments;
 use cmdlines_base::value::ArgumentValue;
 use cmdlines_tables::compiler::CCompilerKind;
 use os_files::os_bytes::OsBytes;
+use response_files::fault::ParseFault;
 use std::alloc::{AllocError, Global};
 use std::process::Abort;
 use std::test::Fail;

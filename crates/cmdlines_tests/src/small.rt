@@ -2,12 +2,12 @@
 
 use crate::written::{bare, parsed_by_clang, parsed_by_gcc, parsed_by_msvc};
 use cmdlines::clang::ClangKind;
-use cmdlines::compiler_arguments::CompilerArguments;
 use cmdlines::gcc::GccKind;
 use cmdlines::hazards::{empty_value, opens_file};
 use cmdlines::laws::{inputs_are_safe, requests_have_an_object};
 use cmdlines::parsed::ParsedArguments;
 use cmdlines_base::argument::Argument;
+use cmdlines_base::compiler_arguments::CompilerArguments;
 use cmdlines_tables::compiler::CCompilerKind;
 use cmdlines_tables::cutting::arguments_of;
 use cmdlines_tables::laws::arguments_are_their_items;

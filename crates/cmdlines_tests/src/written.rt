@@ -1,11 +1,11 @@
 //! What compilers answer on the words of a line.
 
 use cmdlines::clang::ClangKind;
-use cmdlines::compiler_arguments::CompilerArguments;
 use cmdlines::found::{FoundCompiler, HasKind};
 use cmdlines::gcc::GccKind;
 use cmdlines::msvc::MsvcKind;
 use cmdlines::parsed::ParsedArguments;
+use cmdlines_base::compiler_arguments::CompilerArguments;
 use os_files::memory_files::MemoryFiles;
 use os_files::os_bytes::OsBytes;
 use std::alloc::{AllocError, Global};

@@ -2,8 +2,9 @@
 
 use cmdlines::facts::DependencyOptions;
 use cmdlines::parsed::ParsedArguments;
+use cmdlines_base::color_mode::ColorMode;
 use cmdlines_base::command::ArtifactDescriptor;
-use cmdlines_tables::compiler::{CCompilerKind, ColorMode};
+use cmdlines_tables::compiler::CCompilerKind;
 use cmdlines_tables::language::Language;
 use entry_keys::asker::Asker;
 use os_files::listed::Listed;

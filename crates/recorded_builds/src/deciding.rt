@@ -8,15 +8,16 @@ ghost use Rattle.recorded_builds.specs.Outcomes.{outcome_in, outcome_of};
 use crate::entry::Entry;
 use crate::executables::EntryCompiler;
 use cmdlines::clang::Clang;
-use cmdlines::compiler_arguments::{CompilerArguments, ParseFault};
 use cmdlines::diab::Diab;
 use cmdlines::gcc::Gcc;
 use cmdlines::msvc::Msvc;
 use cmdlines::parsed::ParsedArguments;
 use cmdlines::tasking_vx::TaskingVX;
+use cmdlines_base::compiler_arguments::CompilerArguments;
 use cmdlines_tables::compiler::CCompilerKind;
 use os_files::files::Files;
 use os_files::os_bytes::OsBytes;
+use response_files::fault::ParseFault;
 use rustkeys_base::{parse, parsed as rust};
 use std::alloc::{AllocError, Global};
 

@@ -6,7 +6,7 @@ ghost use Rattle.recorded_builds.specs.Outcomes.{is_passed, outcome_in};
 ghost use Rattle.recorded_builds.specs.Reasons.{reason_for, reason_with};
 
 use crate::deciding::Verdict;
-use cmdlines::compiler_arguments::CompilerArguments;
+use cmdlines_base::compiler_arguments::CompilerArguments;
 use os_files::os_bytes::OsBytes;
 use std::alloc::{AllocError, Global};
 

@@ -9,7 +9,7 @@ ghost use Rattle.recorded_builds.specs.Tallies.{AreRowsOf, numbers_in};
 use crate::deciding::Verdict;
 use crate::tally::{Row, Tally};
 use crate::told::Told;
-use cmdlines::compiler_arguments::CompilerArguments;
+use cmdlines_base::compiler_arguments::CompilerArguments;
 use std::alloc::{AllocError, Global};
 
 /// The summary of a recorded build.

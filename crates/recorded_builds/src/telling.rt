@@ -11,7 +11,7 @@ use crate::entry::Entry;
 use crate::snapshot::Asked;
 use crate::summary::{Noted, Summary};
 use crate::told::Told;
-use cmdlines::compiler_arguments::ParseFault;
+use response_files::fault::ParseFault;
 use std::alloc::{AllocError, Global};
 
 /// Where entries are told.

@@ -10,7 +10,7 @@ ghost use Rattle.recorded_builds.specs.Reasons.{Tells, blocker_in, holds_option}
 use crate::beware::options_in;
 use crate::deciding::Verdict;
 use crate::reasons::reason_of;
-use cmdlines::compiler_arguments::CompilerArguments;
+use cmdlines_base::compiler_arguments::CompilerArguments;
 use cmdlines_tables::compiler::CCompilerKind;
 use os_files::os_bytes::OsBytes;
 use std::alloc::{AllocError, Global};

@@ -1,7 +1,7 @@
 -- What a replaying tool means: each step gives the recorded answer to what was recorded, and fails for all else.
 use Rattle.std.specs.Prelude.{◌≡◌, pos, Bool, ◌&&◌, [], ◌∷◌, List, map, Option, None, Some, if◌then◌else◌}
 use Rattle.os_files.specs.Bytes.{Bytes}
-use Rattle.cmdlines.specs.Parsing.{Artifacts}
+use Rattle.cmdlines_base.specs.Artifacts.{Artifacts}
 use Rattle.ckeys.specs.Meaning.{Asked, Made, Meaning, asked_of, made_of, names_of}
 use Rattle.ckeys.specs.declared.output_name.OutputName.{OutputName}
 use Rattle.ckeys.specs.declared.step.Step.{Step}

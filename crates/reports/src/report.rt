@@ -2,7 +2,7 @@
 
 use crate::request_texts::{Detail, write_compile, write_kept, write_preprocess};
 use crate::tally::write_rows;
-use cmdlines::compiler_arguments::{CompilerArguments, ParseFault};
+use cmdlines_base::compiler_arguments::CompilerArguments;
 use os_files::os_bytes::OsBytes;
 use recorded_builds::deciding::{Compilers, Verdict};
 use recorded_builds::entry::Entry;
@@ -10,6 +10,7 @@ use recorded_builds::snapshot::Asked;
 use recorded_builds::summary::Summary;
 use recorded_builds::telling::{Lines, tell_all};
 use recorded_builds::told::Told;
+use response_files::fault::ParseFault;
 use std::alloc::{AllocError, Global};
 use std::fmt::Write;
 

@@ -1,11 +1,12 @@
 //! What words that are kept ask for, as text.
 
 use crate::texts::{write_list, write_words};
-use cmdlines::compiler_arguments::CompilerArguments;
 use cmdlines::found::{FoundCompiler, HasKind};
 use cmdlines::parsed::ParsedArguments;
 use cmdlines_base::argument::Argument;
-use cmdlines_tables::compiler::{CCompilerKind, ColorMode};
+use cmdlines_base::color_mode::ColorMode;
+use cmdlines_base::compiler_arguments::CompilerArguments;
+use cmdlines_tables::compiler::CCompilerKind;
 use os_files::listed::Listed;
 use os_files::os_bytes::OsBytes;
 use recorded_builds::deciding::{Compilers, Verdict};

@@ -1,7 +1,7 @@
 //! Requests to a compiler.
 
 use crate::making::rust;
-use cmdlines::compiler_arguments::CompilerArguments;
+use cmdlines_base::compiler_arguments::CompilerArguments;
 use os_files::memory_files::MemoryFiles;
 use os_files::os_bytes::OsBytes;
 use rustc_compiler::rust::Rust;

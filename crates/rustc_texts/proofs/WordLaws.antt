@@ -11,7 +11,7 @@ use Rattle.std.proofs.lemmas.List.Folds.{list_any-append}
 use Rattle.std.proofs.lemmas.List.Sorted.{IsPermutation-map}
 use Rattle.std.proofs.lemmas.Map.Lookups.{exact_bytes}
 use Rattle.os_files.specs.Bytes.{Bytes}
-use Rattle.cmdlines.specs.Hazards.{begins_with_at}
+use Rattle.cmdlines_base.specs.Reading.{begins_with_at}
 use Rattle.rustkeys_base.specs.Asks.{RustAsks, Said}
 use Rattle.rustkeys_base.specs.Sorted.{sorted_by}
 use Rattle.rustkeys_base.specs.SortedLaws.{sorted_alike}

@@ -1,6 +1,6 @@
 //! Requests that tests make, and texts of their words.
 
-use cmdlines::compiler_arguments::CompilerArguments;
+use cmdlines_base::compiler_arguments::CompilerArguments;
 use os_files::memory_files::MemoryFiles;
 use os_files::os_bytes::OsBytes;
 use rustkeys_base::parse::parse_arguments;

@@ -7,7 +7,7 @@ use Rattle.std.specs.Str.{bytes_eq}
 use Rattle.std.specs.Str.Lines.{lines_of_parts}
 use Rattle.std.proofs.lemmas.List.Splits.{slice_split-cons_no, slice_split-cons_yes}
 use Rattle.os_files.specs.Bytes.{Bytes}
-use Rattle.cmdlines.specs.Wanted.{when}
+use Rattle.cmdlines_base.specs.Choices.{when}
 use Rattle.ckeys.specs.Calls.{or_else, read_fault_of, text_in}
 use Rattle.ckeys.specs.declared.fault.Fault.{Fault}
 use Rattle.ckeys.specs.declared.fault.Fault.TheVariants.{NoRule}

@@ -25,7 +25,7 @@ use crate::finishing::finish;
 use crate::place::{KnownRust, RustPlace};
 use ckeys::fault::Fault;
 use ckeys_base::hash_state::HashState;
-use cmdlines_tables::compiler::ColorMode;
+use cmdlines_base::color_mode::ColorMode;
 use cmdlines_tables::language::Language;
 use os_files::files::Files;
 use os_files::os_bytes::OsBytes;

@@ -3,7 +3,7 @@ use Rattle.std.proofs.Common.{◌≡◌, Bool, true, false, ◌||◌, List, [], 
 use Rattle.std.specs.Prelude.{filter_map}
 use Rattle.std.specs.List.{list_any}
 use Rattle.std.proofs.lemmas.List.Elements.{filter_map-append}
-use Rattle.cmdlines.specs.Wanted.{later, sooner}
+use Rattle.cmdlines_base.specs.Choices.{later, sooner}
 use Rattle.rustkeys_base.specs.Facts.{facts_with, first_said, last_said}
 use Rattle.rustkeys_base.specs.Saying.{Token, by_data, if_data, input_in, out_dir_said, emit_said, crate_name_said, color_said, extra_filename_said, profile_use_said, target_file_said, extern_said, static_library_said, crate_path_said, static_path_said, is_json, gives_rlib, gives_staticlib, asks_gcno}
 use Rattle.rustkeys_base.specs.declared.facts.Facts.{Facts}

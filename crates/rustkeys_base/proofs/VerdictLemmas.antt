@@ -10,8 +10,8 @@ use Rattle.cmdlines_base.specs.Values.{FailsToCut, values_by}
 use Rattle.cmdlines_base.specs.declared.argument.Argument.{Argument}
 use Rattle.cmdlines_base.specs.declared.argument_error.ArgParseError.{ArgParseError}
 use Rattle.cmdlines_base.specs.declared.argument_error.ArgParseError.TheVariants.{UnexpectedEndOfArgs, InvalidUnicode, Other, Memory}
-use Rattle.cmdlines.specs.declared.compiler_arguments.CompilerArguments.{CompilerArguments}
-use Rattle.cmdlines.specs.declared.compiler_arguments.CompilerArguments.TheVariants as answers
+use Rattle.cmdlines_base.specs.declared.compiler_arguments.CompilerArguments.{CompilerArguments}
+use Rattle.cmdlines_base.specs.declared.compiler_arguments.CompilerArguments.TheVariants as answers
 use Rattle.rustc_options.specs.Data.{IsFlagValue, IsWordValue, refusal}
 use Rattle.rustc_options.specs.Table.{rustc_entries}
 use Rattle.rustc_options.specs.declared.data.ArgData.{ArgData}

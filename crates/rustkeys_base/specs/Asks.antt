@@ -7,8 +7,8 @@ use Rattle.cmdlines_base.specs.Pieces.{argument_words, flag_in}
 use Rattle.cmdlines_base.specs.Printing.{printed_as}
 use Rattle.cmdlines_base.specs.Reading.{Item, raw, unknown, flag, valued, behind_dashes}
 use Rattle.cmdlines_base.specs.declared.argument.Argument.{Argument}
-use Rattle.cmdlines.specs.declared.compiler_arguments.CompilerArguments.{CompilerArguments}
-use Rattle.cmdlines.specs.declared.compiler_arguments.CompilerArguments.TheVariants as answers
+use Rattle.cmdlines_base.specs.declared.compiler_arguments.CompilerArguments.{CompilerArguments}
+use Rattle.cmdlines_base.specs.declared.compiler_arguments.CompilerArguments.TheVariants as answers
 use Rattle.rustc_options.specs.Data.{data_of, word_of}
 use Rattle.rustc_options.specs.Sets.{in_order}
 use Rattle.rustc_options.specs.declared.data.ArgData.{ArgData}

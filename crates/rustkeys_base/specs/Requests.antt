@@ -12,11 +12,11 @@ use Rattle.cmdlines_base.specs.Reading.{Item, Reading, valued}
 use Rattle.cmdlines_base.specs.Values.{IsOf, values_by}
 use Rattle.cmdlines_base.specs.declared.argument.Argument.{Argument}
 use Rattle.cmdlines_base.specs.declared.argument.NormalizedDisposition.TheVariants.{Separated}
-use Rattle.cmdlines.specs.Wanted.{when}
-use Rattle.cmdlines.specs.declared.compiler_arguments.CompilerArguments.{CompilerArguments}
-use Rattle.cmdlines.specs.declared.compiler_arguments.CompilerArguments.TheVariants as answers
-use Rattle.cmdlines_tables.specs.declared.compiler.ColorMode.{ColorMode}
-use Rattle.cmdlines_tables.specs.declared.compiler.ColorMode.TheVariants.{Auto, On, Off}
+use Rattle.cmdlines_base.specs.Choices.{when}
+use Rattle.cmdlines_base.specs.declared.compiler_arguments.CompilerArguments.{CompilerArguments}
+use Rattle.cmdlines_base.specs.declared.compiler_arguments.CompilerArguments.TheVariants as answers
+use Rattle.cmdlines_base.specs.declared.color_mode.ColorMode.{ColorMode}
+use Rattle.cmdlines_base.specs.declared.color_mode.ColorMode.TheVariants.{Auto, On, Off}
 use Rattle.rustc_options.specs.Data.{IsFlagValue, IsWordValue, refusal}
 use Rattle.rustc_options.specs.Sets.{in_order}
 use Rattle.rustc_options.specs.declared.data.ArgData.{ArgData}

@@ -5,7 +5,7 @@ use Rattle.os_files.specs.Bytes.{Bytes}
 use Rattle.cmdlines_base.specs.Reading.{Item, raw, unknown, flag, valued, behind_dashes}
 use Rattle.cmdlines_base.specs.declared.argument.Argument.{Argument}
 use Rattle.cmdlines_base.specs.declared.argument.Argument.TheVariants as arguments
-use Rattle.cmdlines.specs.Wanted.{when}
+use Rattle.cmdlines_base.specs.Choices.{when}
 use Rattle.rustc_options.specs.Data.{data_of, flag_data}
 use Rattle.rustc_options.specs.declared.data.ArgData.{ArgData}
 use Rattle.rustc_options.specs.declared.data.ArgData.TheVariants.{Emit, Extern, Color, Json, CrateName, CrateType, OutDir, CodeGen, Target, Unstable, LinkLibrary, LinkPath}

@@ -9,8 +9,8 @@ use Rattle.os_files.specs.Path.{join}
 use Rattle.os_files.specs.Tree.{Tree, is_file_at}
 use Rattle.cmdlines_base.specs.Reading.{Item, Reading}
 use Rattle.cmdlines_base.specs.Values.{refusal_of, values_by}
-use Rattle.cmdlines.specs.declared.compiler_arguments.CompilerArguments.{CompilerArguments}
-use Rattle.cmdlines.specs.declared.compiler_arguments.CompilerArguments.TheVariants as answers
+use Rattle.cmdlines_base.specs.declared.compiler_arguments.CompilerArguments.{CompilerArguments}
+use Rattle.cmdlines_base.specs.declared.compiler_arguments.CompilerArguments.TheVariants as answers
 use Rattle.rustc_options.specs.Data.{IsFlagValue, IsWordValue, refusal}
 use Rattle.rustc_options.specs.Sets.{between_commas, joined_by_commas}
 use Rattle.rustc_options.specs.Table.{rustc_reading}

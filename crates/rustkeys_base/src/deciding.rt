@@ -9,11 +9,12 @@ ghost use Rattle.rustkeys_base.specs.Verdict.{AsksNothing, verdict_in, verdict_o
 
 use crate::facts::Facts;
 use crate::parsed::ParsedArguments;
-use cmdlines::compiler_arguments::{CompilerArguments, ParseFault};
 use cmdlines_base::argument::Argument;
+use cmdlines_base::compiler_arguments::CompilerArguments;
 use os_files::files::{FileFail, Files};
 use os_files::os_bytes::OsBytes;
 use os_files::path::join;
+use response_files::fault::ParseFault;
 use rustc_options::data::ArgData;
 use rustc_options::sets::joined_by_commas;
 use rustc_options::types::{ArgOption, ArgTarget};

@@ -7,11 +7,11 @@ ghost use Rattle.os_files.specs.Tree.{exists_at};
 ghost use Rattle.response_files.specs.Causes.{CauseOf};
 ghost use Rattle.rustkeys_base.specs.Requests.{library_names, library_in};
 
-use cmdlines::compiler_arguments::ParseFault;
 use os_files::files::{FileFail, Files};
 use os_files::listed::Listed;
 use os_files::os_bytes::OsBytes;
 use os_files::path::join;
+use response_files::fault::ParseFault;
 use std::alloc::{AllocError, Global};
 
 /// Paths in that directory.

@@ -1,7 +1,7 @@
 //! What a request to rustc asks for.
 
 use cmdlines_base::argument::Argument;
-use cmdlines_tables::compiler::ColorMode;
+use cmdlines_base::color_mode::ColorMode;
 use os_files::listed::Listed;
 use os_files::os_bytes::OsBytes;
 use rustc_options::data::ArgData;

@@ -1,11 +1,12 @@
 //! What words of rustc come to.
 
-use cmdlines::compiler_arguments::{CompilerArguments, ParseFault};
 use cmdlines_base::argument::Argument;
+use cmdlines_base::compiler_arguments::CompilerArguments;
 use os_files::files::Files;
 use os_files::listed::Listed;
 use os_files::memory_files::MemoryFiles;
 use os_files::os_bytes::OsBytes;
+use response_files::fault::ParseFault;
 use rustc_options::data::ArgData;
 use rustkeys_base::parse::parse_arguments;
 use rustkeys_base::parsed::ParsedArguments;

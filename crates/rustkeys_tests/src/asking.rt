@@ -3,11 +3,12 @@
 use crate::answer_tool::{AnswerTool, RustTexts};
 use ckeys::fault::Fault;
 use ckeys_base::digest::Digest;
-use cmdlines::compiler_arguments::{CompilerArguments, ParseFault};
+use cmdlines_base::compiler_arguments::CompilerArguments;
 use os_files::files::Files;
 use os_files::listed::Listed;
 use os_files::memory_files::MemoryFiles;
 use os_files::os_bytes::OsBytes;
+use response_files::fault::ParseFault;
 use rustkeys::compilation::RustCompilation;
 use rustkeys::hasher::RustHasher;
 use rustkeys::{ParsedArguments, RShape, Rust, RustFault, parse_arguments};

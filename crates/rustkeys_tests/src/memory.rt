@@ -6,7 +6,7 @@ use crate::asking::{
 };
 use ckeys::fault::Fault;
 use ckeys::preprocessor::{Preprocessor, Ticks};
-use cmdlines::compiler_arguments::CompilerArguments;
+use cmdlines_base::compiler_arguments::CompilerArguments;
 use os_files::memory_files::MemoryFiles;
 use rustkeys::hasher::RustHasher;
 use rustkeys::{Rust, RustFault};

@@ -6,7 +6,7 @@ use Rattle.os_files.specs.Tree.{Node, Tree}
 use Rattle.os_files.specs.declared.files.Metadata.{Metadata}
 use Rattle.cmdlines.specs.declared.parsed.ParsedArguments.{ParsedArguments}
 use Rattle.cmdlines_tables.specs.declared.compiler.CCompilerKind.TheVariants.{Gcc}
-use Rattle.cmdlines_tables.specs.declared.compiler.ColorMode.TheVariants.{Auto}
+use Rattle.cmdlines_base.specs.declared.color_mode.ColorMode.TheVariants.{Auto}
 use Rattle.cmdlines_tables.specs.declared.language.Language.TheVariants.{C}
 use Rattle.ckeys_base.specs.Hex.{hex_of}
 use Rattle.time_macros.specs.Days.{ZoneRule}

@@ -3,9 +3,9 @@ use Rattle.std.proofs.Common.{◌≡◌, Bool, true, false, ◌||◌, List, [], 
 use Rattle.std.specs.List.{list_any}
 use Rattle.os_files.specs.Bytes.{Bytes}
 use Rattle.os_files.specs.Tree.{Tree}
-use Rattle.cmdlines.specs.Hazards.{begins_with_at}
-use Rattle.cmdlines.specs.declared.compiler_arguments.CompilerArguments.{CompilerArguments}
-use Rattle.cmdlines.specs.declared.compiler_arguments.CompilerArguments.TheVariants as answers
+use Rattle.cmdlines_base.specs.Reading.{begins_with_at}
+use Rattle.cmdlines_base.specs.declared.compiler_arguments.CompilerArguments.{CompilerArguments}
+use Rattle.cmdlines_base.specs.declared.compiler_arguments.CompilerArguments.TheVariants as answers
 use Rattle.rustkeys_base.specs.Asks.{AsksFor, RustAsks, asks_in, asks_of}
 use Rattle.rustkeys_base.specs.Expansion.{expanded_by_rustc}
 use Rattle.rustkeys_base.specs.Verdict as parsing

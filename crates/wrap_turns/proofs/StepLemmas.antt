@@ -4,7 +4,7 @@ use Rattle.std.specs.Ordering.{int_eq}
 use Rattle.os_files.specs.Bytes.{Bytes}
 use Rattle.os_files.specs.Tree.{Tree}
 use Rattle.cmdlines_base.specs.declared.command.SingleCompileCommand.{SingleCompileCommand}
-use Rattle.cmdlines.specs.Parsing.{Artifacts}
+use Rattle.cmdlines_base.specs.Artifacts.{Artifacts}
 use Rattle.cmdlines.specs.declared.parsed.ParsedArguments.{ParsedArguments}
 use Rattle.cmdlines_tables.specs.declared.compiler.CCompilerKind.{CCompilerKind}
 use Rattle.ckeys.specs.Folders.{Settings}

@@ -1,7 +1,7 @@
 -- The code's verdict on a request to rustc, and what holds of what is asked for.
 use Rattle.std.specs.Prelude.{◌≡◌, false}
 use Rattle.std.specs.List.{list_any}
-use Rattle.cmdlines.specs.Hazards.{begins_with_at}
+use Rattle.cmdlines_base.specs.Reading.{begins_with_at}
 use Rattle.rustkeys_base.specs.Asks.{asks_in}
 use Rattle.rustkeys_base.specs.declared.parsed.ParsedArguments.{ParsedArguments}
 use Rattle.rustc_texts.specs.Words.{compile_words, dep_info_words, file_names_words}

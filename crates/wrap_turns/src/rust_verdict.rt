@@ -10,9 +10,10 @@ ghost use Rattle.wrap_turns.specs.RustPlans.{OnAsks, OpensNothing, decision_of};
 ghost use Rattle.wrap_turns.specs.RustVerdicts.{is_text, is_text_variable, opens_words, rust_verdict_of, with_hazards};
 
 use ckeys::fault::Fault;
-use cmdlines::compiler_arguments::{CompilerArguments, ParseFault};
+use cmdlines_base::compiler_arguments::CompilerArguments;
 use os_files::files::Files;
 use os_files::os_bytes::OsBytes;
+use response_files::fault::ParseFault;
 use rustc_compiler::rust::Rust;
 use rustc_texts::laws::commands_open_nothing;
 use rustc_texts::words::compile_words;

@@ -1,6 +1,6 @@
 use Rattle.std.proofs.Common.{◌≡◌, ℤ, rules, pos, false, Some, IfOk, IfErr, ap, subst, sym, ◌∙◌, to_z, of_z, w32, w64}
 use Rattle.std.specs.Ordering.{int_eq}
-use Rattle.cmdlines.specs.Parsing.{Artifacts}
+use Rattle.cmdlines_base.specs.Artifacts.{Artifacts}
 use Rattle.ckeys.specs.declared.fault.Fault.TheVariants.{CompileFailed}
 use Rattle.ckeys.specs.Meaning.{FailsIn, Made, names_of, scene_of}
 use Rattle.wrap_base.specs.AskedBy.{asked_by}

@@ -1,7 +1,5 @@
 //! What a command line comes to.
 
-pub use response_files::fault::ParseFault;
-
 /// A request that can be cached, or why there is none.
 #[derive(Debug, Drop, PartialEq, Eq)]
 pub enum CompilerArguments<T> {
