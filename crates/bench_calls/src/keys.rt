@@ -1,8 +1,8 @@
 //! Keys of texts without folders, and digests of texts: as they stand, and without folders by way of a copy.
 
-use ckeys::params::HashKeyParams;
 use ckeys_base::digest::Digest;
 use ckeys_base::strip::strip_basedirs;
+use ckeys_records::params::HashKeyParams;
 use cmdlines_tables::language::Language;
 use os_files::os_bytes::OsBytes;
 use sha2::Sha256;

@@ -7,21 +7,18 @@ use Rattle.os_files.specs.Tree.{Tree}
 use Rattle.response_files.specs.Causes.{CauseOf}
 use Rattle.response_files.specs.declared.fault.ParseFault.{ParseFault}
 use Rattle.response_files.specs.declared.fault.ParseFault.TheVariants as files_faults
-use Rattle.ckeys.specs.Meaning.{Meaning}
-use Rattle.ckeys.specs.Causes.{no_step, stage_of}
-use Rattle.ckeys.specs.Calls.{FileCause, KeyCall, KeyCause, extra_paths, fault_by, first_missing, missing_input, key_fault_of, or_else, text_fault_of}
-use Rattle.ckeys.specs.declared.fault.Fault.{Fault}
-use Rattle.ckeys.specs.declared.fault.Fault.TheVariants.{Read}
-use Rattle.ckeys.specs.declared.step.Step.{Step}
-use Rattle.ckeys.proofs.CauseLemmas.{by_stage, caused_more, file_early}
+use Rattle.ckeys_records.specs.Meaning.{Meaning}
+use Rattle.ckeys_records.specs.Causes.{no_step, stage_of}
+use Rattle.ckeys.specs.Calls.{KeyCall, extra_paths, missing_input, key_fault_of, text_fault_of}
+use Rattle.ckeys_records.specs.Faults.{FileCause, KeyCause, fault_by, first_missing, or_else}
+use Rattle.ckeys_records.specs.declared.fault.Fault.{Fault}
+use Rattle.ckeys_records.specs.declared.fault.Fault.TheVariants.{Read}
+use Rattle.ckeys_records.specs.declared.step.Step.{Step}
+use Rattle.ckeys_records.proofs.CauseLemmas.{by_stage, caused_more, file_early}
 
 -- where all extra files are there, and the input where it is needed, the first fault is the text's
 pub text_first : (meaning : Meaning) (call : KeyCall) → first_missing call.scene.files (extra_paths call) ≡ None → missing_input call ≡ None → key_fault_of meaning call ≡ text_fault_of meaning call
 text_first meaning call h k = λ i. or_else (option_map Read (h i)) (or_else (option_map Read (k i)) (text_fault_of meaning call))
-
--- a device that failed later failed in the call
-pub since : {F : Type 0} (tree : F → Tree) (failed : F → ℕ) (fails_on : F → Bytes → F → Type 0) (old mid new : F) → tree mid ≡ tree old → failed mid ≡ failed old → (name : Bytes) → FailsOn tree failed fails_on mid new name → FailsOn tree failed fails_on old new name
-since tree failed fails_on old mid new same steady name f = record { from = f.from; same = f.same ∙ same; steady = f.steady ∙ steady; ticks = f.ticks; leads = f.leads }
 
 -- the text's cause is the call's
 pub cause_is : (first text_first : Option Fault) (on_file later : Bytes → Type 0) (device_in : Step → Type 0) (fault : Fault) → first ≡ text_first → ((name : Bytes) → later name → on_file name) → KeyCause text_first later device_in fault → KeyCause first on_file device_in fault
@@ -30,11 +27,6 @@ cause_is first text_first on_file later device_in fault e lift h = by_stage (sta
 -- a file that can't be had is the call's cause
 pub file_cause : (first : Option Fault) (missing : Option Bytes) (on_file later : Bytes → Type 0) (device_in : Step → Type 0) → ((name : Bytes) → later name → on_file name) → ((fault : Fault) → option_map Read missing ≡ Some fault → first ≡ Some fault) → (fault : Fault) → FileCause missing later fault → KeyCause first on_file device_in fault
 file_cause first missing on_file later device_in lift is fault h = by_stage (stage_of fault) (λ u. u) (caused_more (option_map Read missing) first later on_file no_step device_in is lift (λ step n. absurd n) fault) (λ n. n) (file_early missing later fault h)
-
--- what holds of a fault holds of what it became
-pub on_exit : {A : Type 0} (P : Fault → Type 0) (result : Result A Fault) (fault : Fault) → IsErrAnd result (λ f. f ≡ fault) → P fault → IfErr result P
-on_exit P (Ok x) fault h p = absurd h
-on_exit P (Err f) fault h p = subst P (sym h) p
 
 pub cause_later : {A : Type 0} (result : Result A Fault) (first text_first : Option Fault) (on_file later : Bytes → Type 0) (device_in : Step → Type 0) → first ≡ text_first → ((name : Bytes) → later name → on_file name) → IfErr result (KeyCause text_first later device_in) → IfErr result (KeyCause first on_file device_in)
 cause_later (Ok x) first text_first on_file later device_in e lift h = tt

@@ -2,7 +2,7 @@
 use Rattle.std.proofs.Common.{◌≡◌, ℕ, suc, ℤ, pos, List, [], ◌∷◌, Bool, true, false, if◌then◌else◌, Option, Some, None, IsSome, IsNone, Result, Ok, Err, IfOk, inl, inr, refl, sym, ap, subst, ◌∙◌, length, arith}
 use Rattle.std.specs.Prelude.{String, string_bytes}
 use Rattle.std.specs.declared.alloc.Global.{Global}
-use Rattle.ckeys.specs.declared.shape.CShape.{CShape}
+use Rattle.ckeys_records.specs.declared.shape.CShape.{CShape}
 use Rattle.std.specs.List.{Contains}
 use Rattle.std.specs.Option.{option_map}
 use Rattle.std.specs.Ordering.{int_eq}
@@ -21,13 +21,15 @@ use Rattle.include_records.specs.Surroundings.{Place, are_there, contents_in, da
 use Rattle.include_records.specs.declared.entry.CachedResult.{CachedResult}
 use Rattle.include_records.specs.declared.entry.IncludeEntry.{IncludeEntry}
 use Rattle.entry_keys.specs.declared.entry_key.EntryKey.{EntryKey}
-use Rattle.ckeys.specs.Calls.{KeyCall, PrintedCall, input_path, key_fault_by, needs_preprocessing, preprocess_fault_of, read_fault_of, record_by, text_by, text_fault_by, text_in, extra_paths, first_missing, missing_input, or_else}
+use Rattle.ckeys.specs.Calls.{KeyCall, PrintedCall, input_path, key_fault_by, needs_preprocessing, record_by, text_by, text_fault_by, extra_paths, missing_input}
+use Rattle.ckeys_records.specs.Faults.{preprocess_fault_of, read_fault_of, first_missing, or_else}
+use Rattle.ckeys_records.specs.Meaning.{text_in}
 use Rattle.ckeys.specs.Entries.{AreTrue, HasMatch, Held, IsFramed, IsOwnResult, entry_key_of, good_text, has_entry_key, includes_by}
 use Rattle.ckeys.specs.EntryTurns.{EntryTurn, IsHeldFor, IsOwnPair, IsSpared, Keeps, KeptOn, KeyFine, KeyFrom, KeyRecorded, TextFine, results_of}
-use Rattle.ckeys.specs.Keys.{key_of}
+use Rattle.ckeys_records.specs.Keys.{key_of}
 use Rattle.ckeys.specs.Surroundings.{named_at, place_of, recorded_of}
-use Rattle.ckeys.specs.declared.fault.Fault.{Fault}
-use Rattle.ckeys.specs.declared.fault.Fault.TheVariants.{Read, PreprocessFailed}
+use Rattle.ckeys_records.specs.declared.fault.Fault.{Fault}
+use Rattle.ckeys_records.specs.declared.fault.Fault.TheVariants.{Read, PreprocessFailed}
 use Rattle.ckeys.proofs.RecordLemmas.{contents_are, has_key, is_preprocessed, names_there, recorded_parts, some_same, there_of}
 
 -- a day is the day itself

@@ -16,11 +16,11 @@ use Rattle.include_records.specs.Records.{Record}
 use Rattle.ckeys.specs.Calls.{PrintedCall, record_by}
 use Rattle.ckeys.specs.Entries.{EntryInvariant, EntryPremises, Held, asking}
 use Rattle.ckeys.specs.EntryTurns.{KeyFrom}
-use Rattle.ckeys.specs.Folders.{Settings}
+use Rattle.ckeys_records.specs.Folders.{Settings}
 use Rattle.ckeys.specs.HashCalls.{AsksOver, CallView, KeyAnswer, KeyRun, asking_among}
 use Rattle.ckeys.specs.Hashers.{call_by, call_of}
-use Rattle.ckeys.specs.Keys.{key_of}
-use Rattle.ckeys.specs.Meaning.{Variables}
+use Rattle.ckeys_records.specs.Keys.{key_of}
+use Rattle.ckeys_records.specs.Meaning.{Variables}
 use Rattle.ckeys.specs.declared.hash_keys.HashCall.{HashCall}
 use Rattle.ckeys.specs.declared.hasher.CCompilerHasher.{CCompilerHasher}
 use Rattle.ckeys.specs.declared.place.CallPlace.{CallPlace}

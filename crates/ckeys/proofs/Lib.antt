@@ -1,10 +1,4 @@
-pub mod MaterialLemmas
-pub mod FeedLemmas
-pub mod KeyLemmas
-pub mod FolderLemmas
-pub mod CauseLemmas
 pub mod CallLemmas
-pub mod WordEnds
 pub mod RecordLemmas
 pub mod AskLemmas
 pub mod EntryLemmas

@@ -24,16 +24,17 @@ use Rattle.entry_keys.specs.Identity.{Identity}
 use Rattle.entry_keys.specs.Sights.{Sights}
 use Rattle.entry_keys.specs.Telling.{AreTold, entry_key_with}
 use Rattle.entry_keys.specs.declared.entry_key.EntryKey.{EntryKey}
-use Rattle.ckeys.specs.Calls.{KeyCall, PrintedCall, extra_paths, input_path, needs_preprocessing, record_by, text_by, text_in}
+use Rattle.ckeys.specs.Calls.{KeyCall, PrintedCall, extra_paths, input_path, needs_preprocessing, record_by, text_by}
+use Rattle.ckeys_records.specs.Meaning.{text_in}
 use Rattle.ckeys.specs.Entries.{AreTrue, EntryInvariant, EntryPremises, Held, IsFramed, IsHashedAmong, IsRecorded, IsTrue, SameIdentity, asking, entry_key_by, entry_key_of, extra_digests, good_text, has_entry_key, identity_by, is_told, sights_by}
 use Rattle.ckeys.specs.Entries.IsHashedBy.{of_identity, of_sights, of_extra_file, of_file}
 use Rattle.ckeys.specs.EntryTurns.{EntryTurn}
-use Rattle.ckeys.specs.Folders.{Settings}
-use Rattle.ckeys.specs.Keys.{key_of}
-use Rattle.ckeys.specs.Meaning.{Made}
-use Rattle.ckeys.specs.Params.{is_cached, stripped_words}
+use Rattle.ckeys_records.specs.Folders.{Settings}
+use Rattle.ckeys_records.specs.Keys.{key_of}
+use Rattle.ckeys_records.specs.Meaning.{Made}
+use Rattle.ckeys_records.specs.Params.{is_cached, stripped_words}
 use Rattle.ckeys.specs.Surroundings.{SameFile, SameSurroundings, named_at, place_of, recorded_of}
-use Rattle.ckeys.proofs.KeyLemmas.{contents_told}
+use Rattle.ckeys_records.proofs.KeyLemmas.{contents_told}
 
 pub cons_cases : {X : Type 0} (y : X) (xs : List X) (x : X) → Contains (y ∷ xs) x → (y ≡ x) ⊎ Contains xs x
 cons_cases y xs x c = at c.0 c.1 c.2

@@ -1,30 +1,25 @@
 -- A call of which a key is made: its record, and its first fault.
-use Rattle.std.specs.Prelude.{pos, Bool, true, false, ◌&&◌, if◌then◌else◌, List, [], ◌∷◌, ◌++◌, map, filter, find, Option, None, Some, is_none}
+use Rattle.std.specs.Prelude.{Bool, true, false, ◌&&◌, if◌then◌else◌, List, [], ◌∷◌, ◌++◌, map, filter, Option, None, is_none}
 use Rattle.std.specs.Option.{option_map}
-use Rattle.std.specs.Ordering.{int_eq}
 use Rattle.os_files.specs.Bytes.{Bytes}
 use Rattle.os_files.specs.Path.{join}
-use Rattle.os_files.specs.Tree.{Tree, contents_at}
 use Rattle.cmdlines.specs.Commands.{preprocess_words}
 use Rattle.cmdlines.specs.Compilers.{Traits}
-use Rattle.cmdlines.specs.declared.parsed.ParsedArguments.{ParsedArguments}
+use Rattle.cmdlines_requests.specs.declared.parsed.ParsedArguments.{ParsedArguments}
 use Rattle.cmdlines_tables.specs.declared.compiler.CCompilerKind.{CCompilerKind}
 use Rattle.cmdlines_tables.specs.declared.language.Language.{Language}
 use Rattle.cmdlines_tables.specs.declared.language.Language.TheVariants as languages
-use Rattle.response_files.specs.declared.fault.ParseFault.{ParseFault}
-use Rattle.response_files.specs.declared.fault.ParseFault.TheVariants as files_faults
 use Rattle.ckeys_base.specs.FolderPlaces.{text_places}
 use Rattle.ckeys_base.specs.FromTheLeft.{stripped_of}
 use Rattle.include_records.specs.Surroundings.{contents_in}
-use Rattle.ckeys.specs.Causes.{ByStage, IsCaused, no_step, stage_of}
-use Rattle.ckeys.specs.Folders.{Settings}
-use Rattle.ckeys.specs.Meaning.{Scene, Made, Meaning, asked_of}
-use Rattle.ckeys.specs.Records.{CRecord}
-use Rattle.ckeys.specs.Params.{is_cached, stripped_words}
-use Rattle.ckeys.specs.declared.fault.Fault.{Fault}
-use Rattle.ckeys.specs.declared.fault.Fault.TheVariants.{Memory, Read, PreprocessFailed}
-use Rattle.ckeys.specs.declared.step.Step.{Step}
-use Rattle.ckeys.specs.declared.step.Step.TheVariants.{Preprocess}
+use Rattle.ckeys_records.specs.Faults.{first_missing, or_else, preprocess_fault_of, read_fault_of}
+use Rattle.ckeys_records.specs.Folders.{Settings}
+use Rattle.ckeys_records.specs.Meaning.{Scene, Made, Meaning, asked_of, text_in}
+use Rattle.ckeys_records.specs.Records.{CRecord}
+use Rattle.ckeys_records.specs.Params.{is_cached, stripped_words}
+use Rattle.ckeys_records.specs.declared.fault.Fault.{Fault}
+use Rattle.ckeys_records.specs.declared.fault.Fault.TheVariants.{Read}
+use Rattle.ckeys_records.specs.declared.step.Step.TheVariants.{Preprocess}
 
 -- the compiler's kind, what is known of it and its digest, what its words ask for, where and when its commands run, and what the configuration fixes
 pub record KeyCall : Type 0 where
@@ -52,19 +47,9 @@ input_path c = join c.scene.dir c.parsed.input
 abbrev pub extra_paths : KeyCall → List Bytes
 extra_paths c = map (join c.scene.dir) c.parsed.extra_hash_files
 
--- the first of these that isn't a regular file
-abbrev pub first_missing : Tree → List Bytes → Option Bytes
-first_missing tree paths = find (λ path. is_none (contents_at tree path)) paths
-
 -- what the preprocessor gives for what the compiler's tables read of its command
 abbrev pub printed_of : Meaning → KeyCall → Made
 printed_of meaning c = meaning Preprocess (asked_of c.kind (preprocess_words c.kind c.parsed)) [] c.scene
-
--- what it printed
-abbrev pub text_in : List (Option Bytes) → Bytes
-text_in [] = []
-text_in (None ∷ others) = []
-text_in (Some text ∷ others) = text
 
 -- a call with what its preprocessor prints: all that its key depends on, as plain values
 pub record PrintedCall : Type 0 where
@@ -101,23 +86,11 @@ record_by p = record_with p.call (text_by p)
 abbrev pub record_of : Meaning → KeyCall → CRecord
 record_of meaning c = record_by (printed_call meaning c)
 
--- the fault of the preprocessor
-abbrev pub preprocess_fault_of : Made → Option Fault
-preprocess_fault_of made = if int_eq made.status (pos 0) then None else Some (PreprocessFailed made.status)
-
--- the fault where one of these files isn't there
-abbrev pub read_fault_of : Tree → List Bytes → Option Fault
-read_fault_of tree paths = option_map Read (first_missing tree paths)
-
 abbrev pub text_fault_by : PrintedCall → Option Fault
 text_fault_by p = if needs_preprocessing p.call.parsed.language then preprocess_fault_of p.printed else read_fault_of p.call.scene.files (input_path p.call ∷ [])
 
 abbrev pub text_fault_of : Meaning → KeyCall → Option Fault
 text_fault_of meaning c = text_fault_by (printed_call meaning c)
-
-abbrev pub or_else : Option Fault → Option Fault → Option Fault
-or_else None second = second
-or_else (Some fault) second = Some fault
 
 -- whether include records are asked for: they are kept, the language is preprocessed, and no option stands against it
 abbrev pub asks_records : KeyCall → Bool
@@ -133,16 +106,3 @@ key_fault_by p = or_else (read_fault_of p.call.scene.files (extra_paths p.call))
 
 abbrev pub key_fault_of : Meaning → KeyCall → Option Fault
 key_fault_of meaning c = key_fault_by (printed_call meaning c)
-
--- the fault of a call whose files can't be read
-abbrev pub fault_by : ParseFault → Fault
-fault_by files_faults.Memory = Memory
-fault_by (files_faults.Read path) = Read path
-
--- Why a file that is needed can't be had: memory; or its device failed; or it is the first one that isn't there.
-abbrev pub FileCause : Option Bytes → (Bytes → Type 0) → Fault → Type 0
-FileCause missing on_file fault = IsCaused (option_map Read missing) on_file no_step fault
-
--- Why there is no key: a cause that comes before the compile.
-abbrev pub KeyCause : Option Fault → (Bytes → Type 0) → (Step → Type 0) → Fault → Type 0
-KeyCause first on_file device_in fault = ByStage (stage_of fault) (Unit {0}) (IsCaused first on_file device_in fault) ⊥

@@ -3,8 +3,8 @@ use Rattle.std.specs.Prelude.{◌≡◌, ◌++◌, [], ◌∷◌, Option, Some, 
 use Rattle.os_files.specs.Bytes.{Bytes}
 use Rattle.os_files.specs.Tree.{Tree}
 use Rattle.ckeys_base.specs.Hex.{hex_of}
-use Rattle.ckeys.specs.Calls.{FileCause, first_missing}
-use Rattle.ckeys.specs.declared.fault.Fault.{Fault}
+use Rattle.ckeys_records.specs.Faults.{FileCause, first_missing}
+use Rattle.ckeys_records.specs.declared.fault.Fault.{Fault}
 
 -- the text of a digest, or that of the digest of this text and a version behind it
 abbrev pub with_version : (Bytes → Bytes) → Option Bytes → Bytes → Bytes

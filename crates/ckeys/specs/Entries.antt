@@ -14,10 +14,11 @@ use Rattle.entry_keys.specs.Identity.{Identity, IdentityFits, identity_material}
 use Rattle.entry_keys.specs.Sights.{Seen, Sights, SightsFit, can_be_told, sight_material, sights_of}
 use Rattle.entry_keys.specs.Telling.{entry_key_with}
 use Rattle.entry_keys.specs.declared.entry_key.EntryKey.{EntryKey}
-use Rattle.ckeys.specs.Calls.{KeyCall, PrintedCall, asks_records, extra_paths, input_path, record_by, text_in}
-use Rattle.ckeys.specs.Folders.{Settings}
-use Rattle.ckeys.specs.Keys.{Distinct, key_of}
-use Rattle.ckeys.specs.Meaning.{Made}
+use Rattle.ckeys.specs.Calls.{KeyCall, PrintedCall, asks_records, extra_paths, input_path, record_by}
+use Rattle.ckeys_records.specs.Meaning.{text_in}
+use Rattle.ckeys_records.specs.Folders.{Settings}
+use Rattle.ckeys_records.specs.Keys.{Distinct, key_of}
+use Rattle.ckeys_records.specs.Meaning.{Made}
 use Rattle.ckeys.specs.Surroundings.{SameSurroundings, named_at, place_of, recorded_of}
 
 -- who asks, by a call

@@ -12,14 +12,15 @@ use Rattle.include_records.specs.declared.entry.IncludeEntry.{IncludeEntry}
 use Rattle.entry_keys.specs.declared.entry_key.EntryKey.{EntryKey}
 use Rattle.ckeys.specs.Calls.{PrintedCall, key_fault_by, record_by, text_fault_by}
 use Rattle.ckeys.specs.Entries.{Held, HasMatch, IsFramed, IsOwnResult, entry_key_of, good_text, has_entry_key, includes_by}
-use Rattle.ckeys.specs.Causes.{step_of}
-use Rattle.ckeys.specs.Keys.{key_of}
+use Rattle.ckeys_records.specs.Causes.{step_of}
+use Rattle.ckeys_records.specs.Meaning.{AtMostOnce}
+use Rattle.ckeys_records.specs.Keys.{key_of}
 use Rattle.ckeys.specs.declared.known.Known.{Known}
 use Rattle.ckeys.specs.declared.known.Known.TheVariants.{Found, Missed}
-use Rattle.ckeys.specs.declared.fault.Fault.{Fault}
-use Rattle.ckeys.specs.declared.fault.Fault.TheVariants.{Memory, Read, Tool, PreprocessFailed, CompileFailed, MissingOutput, NoRule, AnswerNotUtf8, BadDigest}
-use Rattle.ckeys.specs.declared.step.Step.{Step}
-use Rattle.ckeys.specs.declared.step.Step.TheVariants.{Preprocess, Compile, DepInfo, FileNames, ArchiveDigest}
+use Rattle.ckeys_records.specs.declared.fault.Fault.{Fault}
+use Rattle.ckeys_records.specs.declared.fault.Fault.TheVariants.{Memory, Read, Tool, PreprocessFailed, CompileFailed, MissingOutput, NoRule, AnswerNotUtf8, BadDigest}
+use Rattle.ckeys_records.specs.declared.step.Step.{Step}
+use Rattle.ckeys_records.specs.declared.step.Step.TheVariants.{Preprocess, Compile, DepInfo, FileNames, ArchiveDigest}
 
 -- where the key of a call comes from: a matching result that is held, or its text
 abbrev pub KeyFrom : (Bytes → Bytes) → PrintedCall → Held → Bool → Bytes → Type 0
@@ -47,10 +48,6 @@ KeyFine p false = key_fault_by p ≡ None
 abbrev pub KeyRuns : Bool → ℕ → ℕ → Type 0
 KeyRuns true before after = after ≡ before
 KeyRuns false before after = after ≡ ticked before
-
--- it ran at most once
-abbrev pub AtMostOnce : ℕ → ℕ → Type 0
-AtMostOnce before after = (after ≡ before) ⊎ (after ≡ ticked before)
 
 -- How often it ran before a fault of that step, or of none: want of memory and a file that can't be had come before it or behind it. No C compiler is asked in a step of rustc's.
 abbrev pub RunsUntilStep : Option Step → Type 0 → ℕ → ℕ → Type 0

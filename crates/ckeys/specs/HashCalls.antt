@@ -10,20 +10,21 @@ use Rattle.cmdlines_tables.specs.declared.compiler.CCompilerKind.{CCompilerKind}
 use Rattle.ckeys_base.specs.Shelf.{Shelf}
 use Rattle.include_records.specs.Records.{Record}
 use Rattle.entry_keys.specs.declared.entry_key.EntryKey.{EntryKey}
-use Rattle.ckeys.specs.Calls.{KeyCause, PrintedCall, key_fault_by, needs_preprocessing, printed_call, record_by}
+use Rattle.ckeys.specs.Calls.{PrintedCall, key_fault_by, needs_preprocessing, printed_call, record_by}
+use Rattle.ckeys_records.specs.Faults.{KeyCause}
 use Rattle.ckeys.specs.Entries.{asking, has_entry_key}
 use Rattle.ckeys.specs.EntryTurns.{EntryTurn, KeyFine, KeyFrom, KeyRecorded, KeyRuns, RunsUntilKey}
-use Rattle.ckeys.specs.Folders.{Settings}
+use Rattle.ckeys_records.specs.Folders.{Settings}
 use Rattle.ckeys.specs.Hashers.{call_of}
-use Rattle.ckeys.specs.Keys.{key_of, record_shape}
-use Rattle.ckeys.specs.Meaning.{AreSteady, FailsIn, Meaning}
-use Rattle.ckeys.specs.Params.{is_cached}
-use Rattle.ckeys.specs.Records.{FitsLength}
-use Rattle.ckeys.specs.declared.fault.Fault.{Fault}
-use Rattle.ckeys.specs.declared.fault.Fault.TheVariants.{Memory}
+use Rattle.ckeys_records.specs.Keys.{key_of, record_shape}
+use Rattle.ckeys_records.specs.Meaning.{AreSteady, FailsIn, Meaning}
+use Rattle.ckeys_records.specs.Params.{is_cached}
+use Rattle.ckeys_records.specs.Records.{FitsLength}
+use Rattle.ckeys_records.specs.declared.fault.Fault.{Fault}
+use Rattle.ckeys_records.specs.declared.fault.Fault.TheVariants.{Memory}
 use Rattle.ckeys.specs.declared.hash_keys.HashCall.{HashCall}
-use Rattle.ckeys.specs.declared.shape.CShape.{CShape}
-use Rattle.ckeys.specs.declared.step.Step.{Step}
+use Rattle.ckeys_records.specs.declared.shape.CShape.{CShape}
+use Rattle.ckeys_records.specs.declared.step.Step.{Step}
 
 -- what can be seen of a call's compiler, files and tool
 pub record CallView (I F T : Type 0) : Type 0 where

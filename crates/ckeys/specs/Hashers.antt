@@ -4,13 +4,13 @@ use Rattle.os_files.specs.Bytes.{Bytes}
 use Rattle.os_files.specs.Tree.{Tree}
 use Rattle.cmdlines.specs.Compilers.{Traits}
 use Rattle.cmdlines_tables.specs.declared.compiler.CCompilerKind.{CCompilerKind}
-use Rattle.ckeys.specs.Meaning.{Variables, scene_with}
+use Rattle.ckeys_records.specs.Meaning.{Variables, scene_with}
 use Rattle.include_records.specs.Surroundings.{Place, place_with}
 use Rattle.time_macros.specs.Days.{local_day}
 use Rattle.ckeys.specs.Calls.{KeyCall}
 use Rattle.ckeys.specs.Entries.{extra_digests}
-use Rattle.ckeys.specs.Folders.{Settings}
-use Rattle.ckeys.specs.Params.{Handed}
+use Rattle.ckeys_records.specs.Folders.{Settings}
+use Rattle.ckeys_records.specs.Params.{Handed}
 use Rattle.ckeys.specs.declared.hasher.CCompilerHasher.{CCompilerHasher}
 use Rattle.ckeys.specs.declared.place.CallPlace.{CallPlace}
 

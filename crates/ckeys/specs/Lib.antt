@@ -1,11 +1,4 @@
-pub mod Records
-pub mod Material
-pub mod Params
-pub mod Meaning
-pub mod Keys
-pub mod Causes
 pub mod Calls
-pub mod Folders
 pub mod Compilers
 pub mod Hashers
 pub mod Surroundings

@@ -9,11 +9,11 @@ ghost use Rattle.cmdlines.specs.Compilers.{text_in};
 ghost use Rattle.ckeys.specs.Compilers.{compiler_digest_of, ExecutableCause, with_version};
 
 use crate::compiler_impl::CCompilerImpl;
-use crate::fault::Fault;
 use crate::hasher::CCompilerHasher;
 use ckeys_base::digest::Digest;
 use ckeys_base::hash_state::HashState;
-use cmdlines::parsed::ParsedArguments;
+use ckeys_records::fault::Fault;
+use cmdlines_requests::parsed::ParsedArguments;
 use os_files::files::{FileFail, Files};
 use os_files::os_bytes::OsBytes;
 use std::alloc::{AllocError, Global};

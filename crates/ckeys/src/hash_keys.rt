@@ -8,14 +8,14 @@ ghost use Rattle.ckeys.specs.Entries.{EntryInvariant, EntryPremises};
 ghost use Rattle.ckeys.specs.HashCalls.{AreKeyed, AreOwnKeys, KeyRun, asking_among, call_view, printed_all};
 
 use crate::compiler_impl::CCompilerImpl;
-use crate::config::KeyConfig;
-use crate::fault::Fault;
 use crate::hasher::CCompilerHasher;
 use crate::place::CallPlace;
-use crate::preprocessor::Preprocessor;
-use crate::shape::CShape;
 use ckeys_base::hash_state::HashState;
 use ckeys_base::store::Store;
+use ckeys_records::config::KeyConfig;
+use ckeys_records::fault::Fault;
+use ckeys_records::preprocessor::Preprocessor;
+use ckeys_records::shape::CShape;
 use entry_keys::entry_key::EntryKey;
 use include_records::record::PreprocessorCacheEntry;
 use os_files::files::Files;

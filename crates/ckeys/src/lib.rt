@@ -3,22 +3,14 @@
 
 pub mod compiler;
 pub mod compiler_impl;
-pub mod config;
 pub mod contents;
 mod entry;
-pub mod fault;
 pub mod hash_keys;
 pub mod hasher;
 mod known;
 pub mod laws;
 mod needed;
-pub mod output_name;
-pub mod params;
 pub mod place;
-pub mod preprocessor;
-pub mod shape;
-pub mod step;
-pub mod word_end;
 
 pub use ckeys_base::digest::{Digest, Error, HASH_BUFFER_SIZE};
 pub use ckeys_base::duration::fmt_duration_as_secs;
@@ -31,8 +23,8 @@ pub use ckeys_base::store::Store;
 pub use ckeys_base::strip::{KeptSlices, kept_slices, strip_basedirs, strip_basedirs_from_arg};
 pub use ckeys_base::unescape::{UnescapeError, ascii_unescape_default};
 pub use ckeys_base::wrapper::resolve_compiler_avoiding_wrapper;
-pub use cmdlines::parsed::ParsedArguments;
 pub use cmdlines_base::command::ArtifactDescriptor;
+pub use cmdlines_requests::parsed::ParsedArguments;
 pub use cmdlines_tables::compiler::CCompilerKind;
 pub use entry_keys::entry_key::EntryKey;
 pub use include_records::record::PreprocessorCacheEntry;

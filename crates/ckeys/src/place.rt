@@ -3,7 +3,7 @@
 ghost use Rattle.std.specs.Prelude.{◌≡◌};
 ghost use Rattle.time_macros.specs.Days.{local_day};
 
-use crate::config::KeyConfig;
+use ckeys_records::config::KeyConfig;
 use include_records::moments::day_of;
 use os_files::os_bytes::OsBytes;
 

@@ -3,10 +3,10 @@
 use crate::keys::{digest_of, digest_of_all};
 use ckeys::compiler::CCompiler;
 use ckeys::compiler_impl::CCompilerImpl;
-use ckeys::fault::Fault;
+use ckeys_records::fault::Fault;
 use cmdlines::gcc::Gcc;
-use cmdlines::parsed::ParsedArguments;
 use cmdlines_base::compiler_arguments::CompilerArguments;
+use cmdlines_requests::parsed::ParsedArguments;
 use os_files::files::Files;
 use os_files::memory_files::MemoryFiles;
 use os_files::os_bytes::OsBytes;

@@ -1,6 +1,6 @@
 //! What is fixed for all keys: folders that don't count, and which can't be such; the zone; and whether include records are kept.
 
-use ckeys::config::{ConfigError, KeyConfig};
+use ckeys_records::config::{ConfigError, KeyConfig};
 use include_records::moments::day_of;
 use os_files::os_bytes::OsBytes;
 use std::alloc::Global;

@@ -1,7 +1,7 @@
 //! Faults as they are printed.
 
-use ckeys::fault::Fault;
-use ckeys::step::Step;
+use ckeys_records::fault::Fault;
+use ckeys_records::step::Step;
 use os_files::os_bytes::OsBytes;
 use std::alloc::{AllocError, Global};
 use std::test::Fail;

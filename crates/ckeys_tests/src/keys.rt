@@ -1,12 +1,10 @@
 //! Which requests have one key, and which have two.
 
-use ckeys::laws::{
-    entry_premises_can_be_met, folders_in_texts_do_not_count, keys_tell_records,
-    materials_tell_parts, records_are_true,
-};
-use ckeys::params::{HashKeyParams, hash_arguments};
-use ckeys::shape::CShape;
+use ckeys::laws::{entry_premises_can_be_met, records_are_true};
 use ckeys_base::digest::Digest;
+use ckeys_records::laws::{folders_in_texts_do_not_count, keys_tell_records, materials_tell_parts};
+use ckeys_records::params::{HashKeyParams, hash_arguments};
+use ckeys_records::shape::CShape;
 use cmdlines_tables::language::Language;
 use os_files::os_bytes::OsBytes;
 use sha2::Sha256;

@@ -1,9 +1,9 @@
 //! For tests: a preprocessor that prints one text.
 
 ghost use Rattle.std.specs.Prelude.{pos, Some, [], ◌∷◌};
-ghost use Rattle.ckeys.specs.Meaning.{made_of};
+ghost use Rattle.ckeys_records.specs.Meaning.{made_of};
 
-use ckeys::preprocessor::{Preprocessor, Printed, Ticks, ToolFail};
+use ckeys_records::preprocessor::{Preprocessor, Printed, Ticks, ToolFail};
 use cmdlines_base::command::SingleCompileCommand;
 use cmdlines_tables::compiler::CCompilerKind;
 use os_files::files::Files;

@@ -1,5 +1,4 @@
 pub mod CollectLemmas
 pub mod InputLemmas
 pub mod CommandLemmas
-pub mod ArchLemmas
 pub mod LanguageLemmas

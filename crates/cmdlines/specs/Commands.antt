@@ -6,18 +6,18 @@ use Rattle.os_files.specs.Path.{with_extension}
 use Rattle.cmdlines_base.specs.Printing.{normal}
 use Rattle.cmdlines_base.specs.Reading.{Item, raw, flag, behind_dashes}
 use Rattle.cmdlines_base.specs.declared.command.ArtifactDescriptor.{ArtifactDescriptor}
-use Rattle.cmdlines_base.specs.declared.command.SingleCompileCommand.{SingleCompileCommand}
 use Rattle.cmdlines_tables.specs.OwnWords.{option_words, option_item, language_words, language_items, output_words, output_item, color_word, color_item, writes_dependencies}
 use Rattle.cmdlines_tables.specs.Tables.{reading_of}
 use Rattle.cmdlines_tables.specs.declared.compiler.CCompilerKind.{CCompilerKind}
 use Rattle.cmdlines_tables.specs.declared.kind.ArgKind.{ArgKind}
 use Rattle.cmdlines_tables.specs.declared.kind.ArgKind.TheVariants.{TooHard, DoCompilation, DepArgumentPath, DepTarget}
 use Rattle.cmdlines_tables.specs.declared.kind.OptionList.TheVariants as lists
-use Rattle.cmdlines.specs.Parsing.{Decision, asks, object_name}
-use Rattle.cmdlines.specs.Small.{output_named}
+use Rattle.cmdlines.specs.Parsing.{Decision, asks}
+use Rattle.cmdlines_requests.specs.Small.{object_name}
+use Rattle.cmdlines_requests.specs.Small.{output_named}
 use Rattle.cmdlines.specs.Wanted.{wanted}
-use Rattle.cmdlines.specs.declared.facts.DependencyOptions.{DependencyOptions}
-use Rattle.cmdlines.specs.declared.parsed.ParsedArguments.{ParsedArguments}
+use Rattle.cmdlines_requests.specs.declared.parsed.DependencyOptions.{DependencyOptions}
+use Rattle.cmdlines_requests.specs.declared.parsed.ParsedArguments.{ParsedArguments}
 
 -- where the object goes
 abbrev pub object_path : ParsedArguments → Option Bytes
@@ -138,7 +138,3 @@ preprocess_items kind p items =
 pub record ReadsAs (kind : CCompilerKind) (command : List Bytes) (expected : List (Item ArgKind)) : Type 0 where
   pub items : map normal (reading_of kind command).items ≡ map normal expected
   pub whole : (reading_of kind command).cut_short ≡ false
-
--- these words, run by this executable, in this directory, under these variables
-abbrev pub command_at : Bytes → List Bytes → List (Bytes × Bytes) → Bytes → SingleCompileCommand
-command_at executable words env dir = record { executable = executable; arguments = words; env_vars = env; cwd = dir }

@@ -3,7 +3,6 @@ pub mod Parsing
 pub mod Collecting
 pub mod Noting
 pub mod Filling
-pub mod Small
 pub mod Commands
 pub mod ReadBack
 pub mod Compilers

@@ -9,6 +9,7 @@ use Rattle.cmdlines_base.specs.Artifacts.{Artifacts}
 use Rattle.cmdlines_base.specs.Reading.{Item, Reading, reading, raw, first_word, whole}
 use Rattle.cmdlines_base.specs.Table.{Entry}
 use Rattle.cmdlines_base.specs.declared.command.ArtifactDescriptor.{ArtifactDescriptor}
+use Rattle.cmdlines_requests.specs.Small.{object_name}
 use Rattle.cmdlines_tables.specs.Languages.{language_of_extension, language_named, knows}
 use Rattle.cmdlines_tables.specs.Tables.{entries_of, ends_options, reading_of}
 use Rattle.cmdlines_tables.specs.Kinds.{gives_input}
@@ -24,7 +25,7 @@ use Rattle.cmdlines_base.specs.declared.compiler_arguments.CompilerArguments.The
 use Rattle.cmdlines.specs.declared.facts.Facts.{Facts}
 use Rattle.cmdlines.specs.declared.lists.Input.{Input}
 use Rattle.cmdlines.specs.declared.lists.Lists.{Lists}
-use Rattle.cmdlines.specs.declared.parsed.ParsedArguments.{ParsedArguments}
+use Rattle.cmdlines_requests.specs.declared.parsed.ParsedArguments.{ParsedArguments}
 
 -- the words ask for this, or don't compile, or can't be cached for a reason, with more text or none
 pub data Decision : Type 0 where
@@ -72,9 +73,6 @@ output_for kind option input = sooner (option_and_then (output_named_by kind) op
 -- an output; a compile may not leave it out
 abbrev pub artifact_at : Bytes → Bytes → Bytes × ArtifactDescriptor
 artifact_at name path = (name, record { path = path; optional = false })
-
-abbrev pub object_name : Bytes
-object_name = codes "obj"
 
 abbrev pub diagnostics_name : Bytes
 diagnostics_name = codes "dia"

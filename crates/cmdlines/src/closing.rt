@@ -6,10 +6,10 @@ ghost use Rattle.cmdlines.specs.Parsing.{decision_of, refused, closing, with_inp
 
 use crate::facts::Facts;
 use crate::lists::{Input, Lists};
-use crate::parsed::ParsedArguments;
 use cmdlines_base::color_mode::ColorMode;
 use cmdlines_base::command::ArtifactDescriptor;
 use cmdlines_base::compiler_arguments::CompilerArguments;
+use cmdlines_requests::parsed::ParsedArguments;
 use cmdlines_tables::compiler::CCompilerKind;
 use cmdlines_tables::language::Language;
 use os_files::listed::Listed;

@@ -4,13 +4,15 @@ ghost use Rattle.std.specs.Prelude.{◌≡◌, ◌↔◌, ◌∷◌, ◌++◌, [
 ghost use Rattle.std.specs.Option.{option_copied};
 ghost use Rattle.cmdlines_tables.specs.Languages.{language_option};
 ghost use Rattle.cmdlines_tables.specs.OwnWords.{named_words, language_words, output_words};
-ghost use Rattle.cmdlines.specs.Commands.{object_path, front_words, behind_words, color_words, added_words, compile_words, preprocess_words, output_path, command_at};
+ghost use Rattle.cmdlines.specs.Commands.{object_path, front_words, behind_words, color_words, added_words, compile_words, preprocess_words, output_path};
+ghost use Rattle.cmdlines_requests.specs.Small.{command_at};
 ghost use Rattle.cmdlines.specs.ReadBack.{ReadsAsCompile, ReadsAsPreprocess};
 
-use crate::parsed::ParsedArguments;
 use cmdlines_base::command::SingleCompileCommand;
 use cmdlines_base::cutting::words_have_one_reading;
 use cmdlines_base::reading_back::{items_read_again, items_read_together};
+use cmdlines_requests::command::{Cacheable, command_at};
+use cmdlines_requests::parsed::ParsedArguments;
 use cmdlines_tables::compiler::CCompilerKind;
 use cmdlines_tables::language::{Language, language_to_gcc_arg};
 use cmdlines_tables::laws::own_words_are_read;
@@ -20,13 +22,6 @@ use os_files::os_bytes::OsBytes;
 use os_files::path::with_extension;
 use std::alloc::{AllocError, Global};
 use thiserror::Error;
-
-/// Whether the outputs of a command may be kept.
-#[derive(Clone, Copy, Debug, PartialEq, Eq)]
-pub enum Cacheable {
-    Yes,
-    No,
-}
 
 /// Why there is no command.
 #[derive(Clone, Copy, Debug, Error, PartialEq, Eq)]
@@ -237,38 +232,6 @@ fn preprocess_words(
     push_all(&mut words, &parsed.arch_args)?;
     push_behind(alloc, &mut words, parsed)?;
     Ok(words)
-}
-
-/// Copies of names and values of variables.
-fn copied_env(
-    alloc: Global,
-    env: &[(OsBytes, OsBytes)],
-) -> Result<Listed<(OsBytes, OsBytes)>, AllocError>
-    ensures { IfOk result (λ copy. copy ≡ env.now) }
-{
-    let mut copy = Listed::new(alloc);
-    for (name, value) in env {
-        copy.push((name.clone()?, value.clone()?))?;
-    }
-    Ok(copy)
-}
-
-/// These words, run by this executable, in that directory, under these variables.
-pub fn command_at(
-    alloc: Global,
-    executable: &OsBytes,
-    words: Listed<OsBytes>,
-    env: &[(OsBytes, OsBytes)],
-    dir: &OsBytes,
-) -> Result<SingleCompileCommand, AllocError>
-    ensures { IfOk result (λ command. command ≡ command_at executable.now words env.now dir.now) }
-{
-    Ok(SingleCompileCommand {
-        executable: executable.clone()?,
-        arguments: words,
-        env_vars: copied_env(alloc, env)?,
-        cwd: dir.clone()?,
-    })
 }
 
 /// The compile command of a request: this executable with the request's words, in that directory, under these

@@ -9,11 +9,11 @@ ghost use Rattle.cmdlines.specs.Wanted.{is_hard, is_hard_word, may_name_folder, 
 use crate::closing::{close, refused};
 use crate::facts::Facts;
 use crate::lists::Lists;
-use crate::parsed::ParsedArguments;
 use cmdlines_base::argument::Argument;
 use cmdlines_base::argument_error::ArgParseError;
 use cmdlines_base::compiler_arguments::CompilerArguments;
 use cmdlines_base::table::SearchableArgInfo;
+use cmdlines_requests::parsed::ParsedArguments;
 use cmdlines_tables::compiler::CCompilerKind;
 use cmdlines_tables::cutting::arguments_of;
 use cmdlines_tables::kind::ArgKind;

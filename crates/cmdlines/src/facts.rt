@@ -13,21 +13,11 @@ ghost use Rattle.cmdlines_tables.specs.Kinds.{blocks_preprocessor_cache};
 use cmdlines_base::argument::{ArgDisposition, Argument};
 use cmdlines_base::color_mode::ColorMode;
 use cmdlines_base::table::{ArgInfo, SearchableArgInfo};
+use cmdlines_requests::parsed::DependencyOptions;
 use cmdlines_tables::kind::ArgKind;
 use cmdlines_tables::value::ArgData;
 use os_files::os_bytes::OsBytes;
 use std::alloc::{AllocError, Global};
-
-/// Which options tell of dependency files.
-#[derive(Clone, Copy, Debug, PartialEq, Eq)]
-pub struct DependencyOptions {
-    /// One asks for a dependency file.
-    pub asked: bool,
-    /// One says where it goes.
-    pub path: bool,
-    /// One names its target.
-    pub target: bool,
-}
 
 /// What the arguments say beside the lists.
 #[derive(Drop)]

@@ -4,7 +4,7 @@
 ghost use Rattle.std.specs.Prelude.{◌≡◌};
 ghost use Rattle.cmdlines.specs.Hazards.{names_file, opens_file};
 
-use crate::parsed::ParsedArguments;
+use cmdlines_requests::parsed::ParsedArguments;
 use cmdlines_tables::compiler::CCompilerKind;
 use os_files::os_bytes::OsBytes;
 

@@ -8,9 +8,9 @@ ghost use Rattle.cmdlines.specs.Opening.{opened_words, style_of};
 ghost use Rattle.cmdlines.specs.Parsing.{decision_by, decision_of};
 
 use crate::engine::parse;
-use crate::parsed::ParsedArguments;
 use cmdlines_base::compiler_arguments::CompilerArguments;
 use cmdlines_base::table::SearchableArgInfo;
+use cmdlines_requests::parsed::ParsedArguments;
 use cmdlines_tables::compiler::CCompilerKind;
 use cmdlines_tables::value::ArgData;
 use os_files::files::Files;

@@ -2,14 +2,15 @@
 
 use crate::written::{bare, parsed_by_clang, parsed_by_gcc};
 use cmdlines::clang::ClangKind;
-use cmdlines::command::{Cacheable, CommandError};
+use cmdlines::command::CommandError;
 use cmdlines::diab::DiabKind;
 use cmdlines::found::HasKind;
 use cmdlines::gcc::GccKind;
 use cmdlines::msvc::MsvcKind;
-use cmdlines::parsed::ParsedArguments;
 use cmdlines::tasking_vx::TaskingVXKind;
 use cmdlines_base::command::SingleCompileCommand;
+use cmdlines_requests::command::Cacheable;
+use cmdlines_requests::parsed::ParsedArguments;
 use os_files::listed::Listed;
 use os_files::os_bytes::OsBytes;
 use std::alloc::{AllocError, Global};

@@ -1,7 +1,7 @@
 //! A difference of two fingerprints, told to people.
 
 use bstr::{BStr, ByteSlice};
-use ckeys::output_name::OutputName;
+use ckeys_records::output_name::OutputName;
 use fingerprints::c_parts::CParts;
 use fingerprints::explain::explain;
 use fingerprints::fingerprint::Fingerprint;

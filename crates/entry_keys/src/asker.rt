@@ -8,7 +8,7 @@ ghost use Rattle.entry_keys.specs.Framing.{flag};
 use crate::framed_digest::FramedDigest;
 use crate::framing::{framed_option, framed_outputs, framed_pairs, framed_words};
 use ckeys_base::hash_state::HashState;
-use cmdlines::parsed::ParsedArguments;
+use cmdlines_requests::parsed::ParsedArguments;
 use cmdlines_tables::compiler::CCompilerKind;
 use os_files::os_bytes::OsBytes;
 use std::alloc::{AllocError, Global};

@@ -1,9 +1,8 @@
 //! A call in `/w`, whose request has something in each of its lists.
 
-use cmdlines::facts::DependencyOptions;
-use cmdlines::parsed::ParsedArguments;
 use cmdlines_base::color_mode::ColorMode;
 use cmdlines_base::command::ArtifactDescriptor;
+use cmdlines_requests::parsed::{DependencyOptions, ParsedArguments};
 use cmdlines_tables::compiler::CCompilerKind;
 use cmdlines_tables::language::Language;
 use entry_keys::asker::Asker;

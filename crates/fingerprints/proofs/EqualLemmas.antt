@@ -6,8 +6,8 @@ use Rattle.std.specs.Cmp.Lexicographic.{pointwise}
 use Rattle.std.specs.Option.{option_eq}
 use Rattle.std.proofs.lemmas.Slice.Eq.{slice_eq-Decides}
 use Rattle.os_files.specs.Bytes.{Bytes}
-use Rattle.ckeys.specs.contracts.output_name.OutputNamePartialEq.TheImpl as name_eq
-use Rattle.ckeys.specs.declared.output_name.OutputName.{OutputName}
+use Rattle.ckeys_records.specs.contracts.output_name.OutputNamePartialEq.TheImpl as name_eq
+use Rattle.ckeys_records.specs.declared.output_name.OutputName.{OutputName}
 use Rattle.rustc_parts.specs.contracts.parts.EnvDepPartialEq.TheImpl as dep_eq
 use Rattle.rustc_parts.specs.declared.parts.EnvDep.{EnvDep}
 

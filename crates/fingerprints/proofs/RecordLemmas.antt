@@ -2,11 +2,11 @@
 use Rattle.std.proofs.Common.{◌≡◌, ◌↔◌, inl, inr, List, ap}
 use Rattle.os_files.specs.Bytes.{Bytes}
 use Rattle.ckeys_base.specs.Hex.{hex_of}
-use Rattle.ckeys.specs.Meaning.{names_of}
-use Rattle.ckeys.specs.Records.{CRecord}
-use Rattle.ckeys.specs.Keys as c
-use Rattle.ckeys.specs.declared.output_name.OutputName.{OutputName}
-use Rattle.ckeys.proofs.KeyLemmas.{contents_told}
+use Rattle.ckeys_records.specs.Meaning.{names_of}
+use Rattle.ckeys_records.specs.Records.{CRecord}
+use Rattle.ckeys_records.specs.Keys as c
+use Rattle.ckeys_records.specs.declared.output_name.OutputName.{OutputName}
+use Rattle.ckeys_records.proofs.KeyLemmas.{contents_told}
 use Rattle.rustc_parts.specs.declared.parts.Parts.{Parts}
 use Rattle.rustkeys.specs.Records as rustc
 use Rattle.rustkeys.specs.Records.{RustRecord}

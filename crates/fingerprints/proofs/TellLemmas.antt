@@ -2,11 +2,11 @@
 use Rattle.std.proofs.Common.{◌≡◌, None, Result, Ok, Err, IsErrAnd}
 use Rattle.std.proofs.lemmas.Result.{err_from_is_err_and}
 use Rattle.os_files.specs.Bytes.{Bytes}
-use Rattle.ckeys.specs.Calls.{KeyCause}
-use Rattle.ckeys.specs.Causes.{no_step, stage_of}
-use Rattle.ckeys.specs.declared.fault.Fault.{Fault}
-use Rattle.ckeys.specs.declared.step.Step.{Step}
-use Rattle.ckeys.proofs.CauseLemmas.{by_stage, caused_more, file_early}
+use Rattle.ckeys_records.specs.Faults.{KeyCause}
+use Rattle.ckeys_records.specs.Causes.{no_step, stage_of}
+use Rattle.ckeys_records.specs.declared.fault.Fault.{Fault}
+use Rattle.ckeys_records.specs.declared.step.Step.{Step}
+use Rattle.ckeys_records.proofs.CauseLemmas.{by_stage, caused_more, file_early}
 use Rattle.wrap_turns.specs.Account.{Account, Work, passed, worked}
 use Rattle.wrap_turns.specs.Answers.{EarlyCause}
 use Rattle.fingerprints.specs.Telling.{Tells, Told}

@@ -1,9 +1,9 @@
 -- The fingerprint of a call: its record's parts, with digests for files' contents, and the names of its outputs.
 use Rattle.std.specs.Prelude.{◌≡◌, List}
 use Rattle.os_files.specs.Bytes.{Bytes}
-use Rattle.ckeys.specs.Meaning.{names_of}
-use Rattle.ckeys.specs.Records.{CRecord, parts_of}
-use Rattle.ckeys.specs.declared.output_name.OutputName.{OutputName}
+use Rattle.ckeys_records.specs.Meaning.{names_of}
+use Rattle.ckeys_records.specs.Records.{CRecord, parts_of}
+use Rattle.ckeys_records.specs.declared.output_name.OutputName.{OutputName}
 use Rattle.rustkeys.specs.Records as rustc
 use Rattle.wrap_turns.specs.Account.{Work}
 use Rattle.wrap_turns.specs.CallRecords.{CallRecord, IsTold, of_c, of_rustc}

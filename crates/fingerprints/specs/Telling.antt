@@ -1,9 +1,9 @@
 -- What is told of a call of which a fingerprint is asked.
 use Rattle.std.specs.Prelude.{◌≡◌, Result, Ok, Err}
 use Rattle.os_files.specs.Bytes.{Bytes}
-use Rattle.ckeys.specs.Calls.{KeyCause}
-use Rattle.ckeys.specs.declared.fault.Fault.{Fault}
-use Rattle.ckeys.specs.declared.step.Step.{Step}
+use Rattle.ckeys_records.specs.Faults.{KeyCause}
+use Rattle.ckeys_records.specs.declared.fault.Fault.{Fault}
+use Rattle.ckeys_records.specs.declared.step.Step.{Step}
 use Rattle.wrap_base.specs.declared.reason.Reason.{Reason}
 use Rattle.wrap_turns.specs.Account.{Account, Work, passed, worked}
 use Rattle.wrap_turns.specs.Answers.{EarlyCause}

@@ -5,7 +5,7 @@ ghost use Rattle.std.specs.Option.{option_map};
 ghost use Rattle.fingerprints.specs.Explaining.{AgreeByC};
 
 use crate::part::Part;
-use ckeys::output_name::OutputName;
+use ckeys_records::output_name::OutputName;
 use cmdlines_tables::language::Language;
 use os_files::listed::Listed;
 use os_files::os_bytes::OsBytes;

@@ -1,12 +1,12 @@
 //! The pieces of which the parts of a request to a C compiler are made.
 
 ghost use Rattle.std.specs.Prelude.{◌≡◌, ◌++◌, filter, IfOk};
-ghost use Rattle.ckeys.specs.Params.{is_cached, stripped_words};
+ghost use Rattle.ckeys_records.specs.Params.{is_cached, stripped_words};
 ghost use Rattle.wrap_base.specs.Commands.{traits_of};
 
 use ckeys::compiler_impl::CCompilerImpl;
-use ckeys::params::is_cached;
 use ckeys_base::strip::strip_basedirs_from_arg;
+use ckeys_records::params::is_cached;
 use os_files::listed::Listed;
 use os_files::os_bytes::OsBytes;
 use std::alloc::{AllocError, Global};

@@ -1,6 +1,6 @@
 //! The first part in which two fingerprints differ, and the text that tells it.
 
-use ckeys::output_name::OutputName;
+use ckeys_records::output_name::OutputName;
 use cmdlines_tables::language::Language;
 use differences::difference::Difference;
 use fingerprints::c_parts::CParts;

@@ -1,7 +1,7 @@
 //! One answer of the session, by what is known and by what a disk keeps.
 
 ghost use Rattle.std.specs.Prelude.{◌≡◌, List, [], ◌∷◌, ◌++◌, Some, false};
-ghost use Rattle.ckeys.specs.Meaning.{Meaning};
+ghost use Rattle.ckeys_records.specs.Meaning.{Meaning};
 ghost use Rattle.gulmaat.specs.Kept.{IsOfEarlier};
 ghost use Rattle.replay.specs.Worlds.{GivesTo};
 ghost use Rattle.wrap.specs.Account.{Account, Pairs, account_at};

@@ -1,8 +1,8 @@
 //! Kept outputs, as the session has them and as they lie on a disk.
 
 use crate::stop::Stop;
-use ckeys::output_name::OutputName;
-use ckeys::shape::CShape;
+use ckeys_records::output_name::OutputName;
+use ckeys_records::shape::CShape;
 use kept_entries::entry::{KeptEntry, KeptName, KeptOutput, KeptShape};
 use os_files::listed::Listed;
 use std::alloc::Global;

@@ -8,7 +8,7 @@ use crate::host::Host;
 use crate::outputs::{made_at, regular};
 use crate::passing::takes_files;
 use crate::stop::Stop;
-use ckeys::output_name::OutputName;
+use ckeys_records::output_name::OutputName;
 use os_files::file_time::FileTime;
 use os_files::files::Metadata;
 use os_files::listed::Listed;

@@ -1,7 +1,7 @@
 //! Why no decision is made. The host runs the compiler then.
 
 use byte_formats::fault::ReadFault;
-use ckeys::config::ConfigError;
+use ckeys_records::config::ConfigError;
 use std::alloc::{AllocError, AllocFailed};
 use std::{fmt, io};
 

@@ -5,8 +5,8 @@ use Rattle.os_files.specs.Bytes.{Bytes}
 use Rattle.cmdlines_base.specs.Artifacts.{Artifacts}
 use Rattle.cmdlines_tables.specs.Tables.{reading_of}
 use Rattle.cmdlines_tables.specs.declared.compiler.CCompilerKind.{CCompilerKind}
-use Rattle.ckeys.specs.Meaning.{Made, asked_of, made_of, names_of}
-use Rattle.ckeys.specs.declared.preprocessor.Printed.{Printed}
+use Rattle.ckeys_records.specs.Meaning.{Made, asked_of, made_of, names_of}
+use Rattle.ckeys_records.specs.declared.preprocessor.Printed.{Printed}
 use Rattle.wrap_base.specs.AskedBy.{asked_by}
 use Rattle.wrap_base.specs.declared.tool.Compiled.{Compiled}
 use Rattle.replay.specs.Recorded.{made_for, made_in, printed_for, printed_in, same_outputs, unmade}

@@ -11,8 +11,8 @@ use Rattle.cmdlines_base.specs.declared.argument.ArgDisposition.{ArgDisposition}
 use Rattle.cmdlines_base.specs.declared.argument.ArgDisposition.TheVariants.{Separated, CanBeConcatenated, CanBeSeparated, Concatenated}
 use Rattle.cmdlines_tables.specs.contracts.kind.ArgKind.{the_type}
 use Rattle.cmdlines_tables.specs.declared.kind.ArgKind.{ArgKind}
-use Rattle.ckeys.specs.Meaning.{Asked, options, words, archive}
-use Rattle.ckeys.specs.declared.output_name.OutputName.{OutputName}
+use Rattle.ckeys_records.specs.Meaning.{Asked, options, words, archive}
+use Rattle.ckeys_records.specs.declared.output_name.OutputName.{OutputName}
 use Rattle.replay.specs.SameAsked.{same_kind, same_delimiter, same_way, same_item, same_list, same_flag, same_asked, same_name}
 use denote.Enum.Bare.{same_true, true_same}
 

@@ -8,18 +8,20 @@ use Rattle.std.proofs.lemmas.List.Elements.{Contains-append_left, Contains-push}
 use Rattle.os_files.specs.Bytes.{Bytes}
 use Rattle.os_files.specs.Tree.{Tree}
 use Rattle.cmdlines.specs.Commands.{compile_words, output_path, preprocess_words}
-use Rattle.ckeys.specs.Calls.{KeyCall, PrintedCall, extra_paths, input_path, key_fault_by, missing_input, needs_preprocessing, or_else, preprocess_fault_of, printed_call, printed_of, read_fault_of, record_by, record_with, text_by, text_in}
+use Rattle.ckeys.specs.Calls.{KeyCall, PrintedCall, extra_paths, input_path, key_fault_by, missing_input, needs_preprocessing, printed_call, printed_of, record_by, record_with, text_by}
+use Rattle.ckeys_records.specs.Faults.{or_else, preprocess_fault_of, read_fault_of}
+use Rattle.ckeys_records.specs.Meaning.{text_in}
 use Rattle.include_records.specs.Surroundings.{contents_in}
 use Rattle.std.specs.Option.{option_map}
 use Rattle.ckeys.specs.Entries.{Held, has_entry_key}
 use Rattle.ckeys.specs.EntryTurns.{IsSpared}
-use Rattle.ckeys.specs.Folders.{Settings}
-use Rattle.ckeys.specs.Meaning.{Asked, Made, Meaning, Scene, asked_of, names_of}
-use Rattle.ckeys.specs.declared.fault.Fault.{Fault}
-use Rattle.ckeys.specs.declared.fault.Fault.TheVariants.{Memory, Read, Tool, PreprocessFailed, CompileFailed, MissingOutput, NoRule, AnswerNotUtf8, BadDigest}
-use Rattle.ckeys.specs.declared.output_name.OutputName.{OutputName}
-use Rattle.ckeys.specs.declared.step.Step.{Step}
-use Rattle.ckeys.specs.declared.step.Step.TheVariants.{Preprocess, Compile, DepInfo, FileNames}
+use Rattle.ckeys_records.specs.Folders.{Settings}
+use Rattle.ckeys_records.specs.Meaning.{Asked, Made, Meaning, Scene, asked_of, names_of}
+use Rattle.ckeys_records.specs.declared.fault.Fault.{Fault}
+use Rattle.ckeys_records.specs.declared.fault.Fault.TheVariants.{Memory, Read, Tool, PreprocessFailed, CompileFailed, MissingOutput, NoRule, AnswerNotUtf8, BadDigest}
+use Rattle.ckeys_records.specs.declared.output_name.OutputName.{OutputName}
+use Rattle.ckeys_records.specs.declared.step.Step.{Step}
+use Rattle.ckeys_records.specs.declared.step.Step.TheVariants.{Preprocess, Compile, DepInfo, FileNames}
 use Rattle.rustc_compiler.specs.Compiler.{Rustc}
 use Rattle.rustkeys.specs.Calls.{RustCall, answer_fault_of, dep_info_fault_of, files_fault_of, key_fault_of, sources_fault_of, utf8_fault_of}
 use Rattle.rustkeys.specs.Questions.{answers_of, dep_info_of}

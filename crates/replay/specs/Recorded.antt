@@ -2,10 +2,10 @@
 use Rattle.std.specs.Prelude.{◌≡◌, pos, Bool, ◌&&◌, [], ◌∷◌, List, map, Option, None, Some, if◌then◌else◌}
 use Rattle.os_files.specs.Bytes.{Bytes}
 use Rattle.cmdlines_base.specs.Artifacts.{Artifacts}
-use Rattle.ckeys.specs.Meaning.{Asked, Made, Meaning, asked_of, made_of, names_of}
-use Rattle.ckeys.specs.declared.output_name.OutputName.{OutputName}
-use Rattle.ckeys.specs.declared.step.Step.{Step}
-use Rattle.ckeys.specs.declared.step.Step.TheVariants.{Preprocess, Compile, DepInfo, FileNames, ArchiveDigest}
+use Rattle.ckeys_records.specs.Meaning.{Asked, Made, Meaning, asked_of, made_of, names_of}
+use Rattle.ckeys_records.specs.declared.output_name.OutputName.{OutputName}
+use Rattle.ckeys_records.specs.declared.step.Step.{Step}
+use Rattle.ckeys_records.specs.declared.step.Step.TheVariants.{Preprocess, Compile, DepInfo, FileNames, ArchiveDigest}
 use Rattle.replay.specs.SameAsked.{same_asked, same_list, same_name}
 use Rattle.replay.specs.declared.replay_tool.RecordedOutputs.{RecordedOutputs}
 use Rattle.replay.specs.declared.replay_tool.RecordedText.{RecordedText}

@@ -6,8 +6,8 @@ use Rattle.cmdlines_base.specs.declared.argument.ArgDisposition.{ArgDisposition}
 use Rattle.cmdlines_base.specs.declared.argument.ArgDisposition.TheVariants.{Separated, CanBeConcatenated, CanBeSeparated, Concatenated}
 use Rattle.cmdlines_tables.specs.contracts.kind.ArgKind.{the_type}
 use Rattle.cmdlines_tables.specs.declared.kind.ArgKind.{ArgKind}
-use Rattle.ckeys.specs.Meaning.{Asked, options}
-use Rattle.ckeys.specs.declared.output_name.OutputName.{OutputName}
+use Rattle.ckeys_records.specs.Meaning.{Asked, options}
+use Rattle.ckeys_records.specs.declared.output_name.OutputName.{OutputName}
 use denote.Enum.Bare.{sameb}
 
 abbrev pub same_kind : ArgKind → ArgKind → Bool

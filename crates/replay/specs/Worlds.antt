@@ -1,8 +1,8 @@
 -- Worlds: what a compiler means, whatever that is.
 use Rattle.std.specs.Prelude.{◌≡◌, [], Option, Some}
 use Rattle.os_files.specs.Tree.{Tree}
-use Rattle.ckeys.specs.Meaning.{Meaning, Scene, asked_of}
-use Rattle.ckeys.specs.declared.step.Step.TheVariants.{Preprocess, Compile}
+use Rattle.ckeys_records.specs.Meaning.{Meaning, Scene, asked_of}
+use Rattle.ckeys_records.specs.declared.step.Step.TheVariants.{Preprocess, Compile}
 use Rattle.wrap.specs.Account.{scene_at}
 use Rattle.wrap_base.specs.Commands.{NamedBy, by_c, by_rustc, named_by}
 use Rattle.wrap_base.specs.declared.request.Request.{Request}

@@ -3,8 +3,8 @@
 ghost use Rattle.std.specs.Prelude.{◌≡◌, None, IfOk};
 ghost use Rattle.std.specs.Option.{option_copied};
 
-use ckeys::output_name::OutputName;
-use ckeys::shape::CShape;
+use ckeys_records::output_name::OutputName;
+use ckeys_records::shape::CShape;
 use rustc_parts::parts::RShape;
 use std::alloc::{AllocError, Global};
 use wrap::{Listed, Pairs, Shape, Store, StoreKey};

@@ -4,7 +4,7 @@ ghost use Rattle.std.specs.Prelude.{◌≡◌, true, [], ◌∷◌, Some, None, 
 ghost use Rattle.os_files.specs.Bytes.{ticked};
 ghost use Rattle.replay.specs.Recorded.{Wants, paths_in, recorded, same_outputs};
 
-use ckeys::output_name::OutputName;
+use ckeys_records::output_name::OutputName;
 use rustkeys::answers::RustcAnswers;
 use std::alloc::{AllocError, Global};
 use wrap::{

@@ -1,7 +1,7 @@
 //! One call of a session over recorded answers: what it answers holds of every world that gives them.
 
 ghost use Rattle.std.specs.Prelude.{◌≡◌, List, [], ◌∷◌, ◌++◌, OnOk, OnErr, IsErrOf};
-ghost use Rattle.ckeys.specs.Meaning.{Meaning};
+ghost use Rattle.ckeys_records.specs.Meaning.{Meaning};
 ghost use Rattle.wrap.specs.Account.{Account, account_at};
 ghost use Rattle.wrap.specs.Answers.{Answers};
 ghost use Rattle.wrap.specs.Asking.{RecordsAreTrue};

@@ -2,10 +2,10 @@
 
 use crate::texts::{write_list, write_words};
 use cmdlines::found::{FoundCompiler, HasKind};
-use cmdlines::parsed::ParsedArguments;
 use cmdlines_base::argument::Argument;
 use cmdlines_base::color_mode::ColorMode;
 use cmdlines_base::compiler_arguments::CompilerArguments;
+use cmdlines_requests::parsed::ParsedArguments;
 use cmdlines_tables::compiler::CCompilerKind;
 use os_files::listed::Listed;
 use os_files::os_bytes::OsBytes;

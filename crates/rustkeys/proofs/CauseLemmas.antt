@@ -1,12 +1,12 @@
 -- Causes of faults, step by step.
 use Rattle.std.proofs.Common.{◌≡◌, ℕ, Option, Some, None, Result, Ok, Err, IfErr, ap, ◌∙◌}
 use Rattle.os_files.specs.Bytes.{Bytes}
-use Rattle.ckeys.specs.Calls.{KeyCause, or_else}
-use Rattle.ckeys.specs.Causes.{stage_of}
-use Rattle.ckeys.specs.Meaning.{FailsIn, Meaning}
-use Rattle.ckeys.specs.declared.fault.Fault.{Fault}
-use Rattle.ckeys.specs.declared.step.Step.{Step}
-use Rattle.ckeys.proofs.CauseLemmas.{by_stage, caused_more}
+use Rattle.ckeys_records.specs.Faults.{KeyCause, or_else}
+use Rattle.ckeys_records.specs.Causes.{stage_of}
+use Rattle.ckeys_records.specs.Meaning.{FailsIn, Meaning}
+use Rattle.ckeys_records.specs.declared.fault.Fault.{Fault}
+use Rattle.ckeys_records.specs.declared.step.Step.{Step}
+use Rattle.ckeys_records.proofs.CauseLemmas.{by_stage, caused_more}
 
 -- a cause among fewer is one among more
 pub key_cause_more : (first more : Option Fault) (later on_file : Bytes → Type 0) (in_later in_step : Step → Type 0) → ((fault : Fault) → first ≡ Some fault → more ≡ Some fault) → ((name : Bytes) → later name → on_file name) → ((step : Step) → in_later step → in_step step) → (fault : Fault) → KeyCause first later in_later fault → KeyCause more on_file in_step fault

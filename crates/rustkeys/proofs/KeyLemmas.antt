@@ -4,7 +4,7 @@ use Rattle.std.specs.List.{AllByRecursion, Contains}
 use Rattle.std.specs.Option.{option_map, option_to_list}
 use Rattle.os_files.specs.Bytes.{Bytes}
 use Rattle.byte_formats.specs.Spelling.{FitsFrame, IfFits}
-use Rattle.ckeys.proofs.KeyLemmas.{contents_told}
+use Rattle.ckeys_records.proofs.KeyLemmas.{contents_told}
 use Rattle.ckeys_base.specs.Hex.{hex_of}
 use Rattle.rustc_parts.specs.Formed.{HasDigests, IsDigest}
 use Rattle.rustc_parts.specs.Material.{material_of}

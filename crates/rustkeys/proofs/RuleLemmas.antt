@@ -8,10 +8,11 @@ use Rattle.std.specs.Str.Lines.{lines_of_parts}
 use Rattle.std.proofs.lemmas.List.Splits.{slice_split-cons_no, slice_split-cons_yes}
 use Rattle.os_files.specs.Bytes.{Bytes}
 use Rattle.cmdlines_base.specs.Choices.{when}
-use Rattle.ckeys.specs.Calls.{or_else, read_fault_of, text_in}
-use Rattle.ckeys.specs.declared.fault.Fault.{Fault}
-use Rattle.ckeys.specs.declared.fault.Fault.TheVariants.{NoRule}
-use Rattle.ckeys.specs.declared.step.Step.TheVariants.{DepInfo, FileNames}
+use Rattle.ckeys_records.specs.Faults.{or_else, read_fault_of}
+use Rattle.ckeys_records.specs.Meaning.{text_in}
+use Rattle.ckeys_records.specs.declared.fault.Fault.{Fault}
+use Rattle.ckeys_records.specs.declared.fault.Fault.TheVariants.{NoRule}
+use Rattle.ckeys_records.specs.declared.step.Step.TheVariants.{DepInfo, FileNames}
 use Rattle.rustc_options.specs.Sets.{in_order}
 use Rattle.rustc_texts.specs.DepInfo.{behind_colon, first_of, rule_of}
 use Rattle.rustc_texts.specs.Outputs.{has_name, targets_with}

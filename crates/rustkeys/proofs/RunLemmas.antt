@@ -1,7 +1,7 @@
 -- How often rustc was asked, question by question.
 use Rattle.std.proofs.Common.{◌≡◌, ℕ, inl, inr, ap, ◌∙◌}
 use Rattle.os_files.specs.Bytes.{ticked}
-use Rattle.ckeys.specs.EntryTurns.{AtMostOnce}
+use Rattle.ckeys_records.specs.Meaning.{AtMostOnce}
 use Rattle.rustkeys.specs.Runs.{AtMostTwice}
 
 -- at most once is at most twice

@@ -4,10 +4,10 @@ use Rattle.std.specs.Ordering.{int_eq}
 use Rattle.std.specs.Str.{IsUtf8, is_utf8}
 use Rattle.std.proofs.lemmas.Str.{IsUtf8-from_is_utf8, is_utf8-from_IsUtf8}
 use Rattle.os_files.specs.Bytes.{Bytes}
-use Rattle.ckeys.specs.Calls.{or_else}
-use Rattle.ckeys.specs.Meaning.{made_of}
-use Rattle.ckeys.specs.declared.fault.Fault.TheVariants.{AnswerNotUtf8, PreprocessFailed}
-use Rattle.ckeys.specs.declared.step.Step.{Step}
+use Rattle.ckeys_records.specs.Faults.{or_else}
+use Rattle.ckeys_records.specs.Meaning.{made_of}
+use Rattle.ckeys_records.specs.declared.fault.Fault.TheVariants.{AnswerNotUtf8, PreprocessFailed}
+use Rattle.ckeys_records.specs.declared.step.Step.{Step}
 use Rattle.rustkeys.specs.Calls.{answer_fault_of, utf8_fault_of}
 
 pub utf8_fine : (step : Step) (text : Bytes) → IsUtf8 text → utf8_fault_of step text ≡ None

@@ -5,12 +5,13 @@ use Rattle.std.specs.Str.{is_utf8}
 use Rattle.os_files.specs.Bytes.{Bytes}
 use Rattle.os_files.specs.Tree.{Tree}
 use Rattle.include_records.specs.Surroundings.{contents_in}
-use Rattle.ckeys.specs.Calls.{or_else, preprocess_fault_of, read_fault_of, text_in}
-use Rattle.ckeys.specs.Meaning.{Made, Meaning}
-use Rattle.ckeys.specs.declared.fault.Fault.{Fault}
-use Rattle.ckeys.specs.declared.fault.Fault.TheVariants.{AnswerNotUtf8, BadDigest, NoRule}
-use Rattle.ckeys.specs.declared.step.Step.{Step}
-use Rattle.ckeys.specs.declared.step.Step.TheVariants.{DepInfo, FileNames}
+use Rattle.ckeys_records.specs.Faults.{or_else, preprocess_fault_of, read_fault_of}
+use Rattle.ckeys_records.specs.Meaning.{text_in}
+use Rattle.ckeys_records.specs.Meaning.{Made, Meaning}
+use Rattle.ckeys_records.specs.declared.fault.Fault.{Fault}
+use Rattle.ckeys_records.specs.declared.fault.Fault.TheVariants.{AnswerNotUtf8, BadDigest, NoRule}
+use Rattle.ckeys_records.specs.declared.step.Step.{Step}
+use Rattle.ckeys_records.specs.declared.step.Step.TheVariants.{DepInfo, FileNames}
 use Rattle.rustc_parts.specs.Formed.{digest_digits, is_digest}
 use Rattle.rustc_texts.specs.DepInfo.{rule_of}
 use Rattle.rustc_texts.specs.Words.{kept_words}

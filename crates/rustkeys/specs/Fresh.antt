@@ -5,9 +5,9 @@ use Rattle.os_files.specs.Bytes.{Bytes}
 use Rattle.os_files.specs.Tree.{Tree}
 use Rattle.cmdlines_base.specs.Artifacts.{Artifacts}
 use Rattle.cmdlines_base.specs.Reading.{Item}
-use Rattle.ckeys.specs.Calls.{text_in}
-use Rattle.ckeys.specs.Meaning.{Made, Meaning, names_of, scene_with, words}
-use Rattle.ckeys.specs.declared.step.Step.TheVariants.{Compile}
+use Rattle.ckeys_records.specs.Meaning.{text_in}
+use Rattle.ckeys_records.specs.Meaning.{Made, Meaning, names_of, scene_with, words}
+use Rattle.ckeys_records.specs.declared.step.Step.TheVariants.{Compile}
 use Rattle.rustc_options.specs.declared.kind.ArgKind.{ArgKind}
 use Rattle.rustc_texts.specs.Outputs.{has_name, output_names, outputs_of, targets_with}
 use Rattle.rustc_texts.specs.Rewriting.{rewritten_of}

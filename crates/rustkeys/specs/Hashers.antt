@@ -2,7 +2,7 @@
 use Rattle.std.specs.Prelude.{ℤ}
 use Rattle.os_files.specs.Bytes.{Bytes}
 use Rattle.os_files.specs.Tree.{Tree}
-use Rattle.ckeys.specs.Meaning.{Variables, scene_with}
+use Rattle.ckeys_records.specs.Meaning.{Variables, scene_with}
 use Rattle.rustc_compiler.specs.Compiler.{Rustc}
 use Rattle.rustkeys_base.specs.Asks.{asks_in}
 use Rattle.rustkeys.specs.Calls.{RustCall, RustKnown}

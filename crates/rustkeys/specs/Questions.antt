@@ -4,9 +4,9 @@ use Rattle.std.specs.Option.{option_map}
 use Rattle.os_files.specs.Bytes.{Bytes}
 use Rattle.os_files.specs.Path.{join, path_cmp}
 use Rattle.os_files.specs.Tree.{Tree}
-use Rattle.ckeys.specs.Calls.{text_in}
-use Rattle.ckeys.specs.Meaning.{Made, Meaning, Scene, Variables, archive, scene_with, words}
-use Rattle.ckeys.specs.declared.step.Step.TheVariants.{ArchiveDigest, DepInfo, FileNames}
+use Rattle.ckeys_records.specs.Meaning.{text_in}
+use Rattle.ckeys_records.specs.Meaning.{Made, Meaning, Scene, Variables, archive, scene_with, words}
+use Rattle.ckeys_records.specs.declared.step.Step.TheVariants.{ArchiveDigest, DepInfo, FileNames}
 use Rattle.rustc_parts.specs.Orders.{env_dep_cmp, pair_cmp}
 use Rattle.rustc_parts.specs.declared.parts.EnvDep.{EnvDep}
 use Rattle.rustc_texts.specs.DepInfo.{sources_of}

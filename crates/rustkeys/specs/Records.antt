@@ -5,8 +5,8 @@ use Rattle.std.specs.Option.{option_map, option_to_list}
 use Rattle.os_files.specs.Bytes.{Bytes}
 use Rattle.byte_formats.specs.Spelling.{FitsFrame}
 use Rattle.ckeys_base.specs.Hex.{hex_of}
-use Rattle.ckeys.specs.Keys.{Distinct}
-use Rattle.ckeys.specs.Meaning.{Variables}
+use Rattle.ckeys_records.specs.Keys.{Distinct}
+use Rattle.ckeys_records.specs.Meaning.{Variables}
 use Rattle.rustc_parts.specs.Formed.{IsDigest, digest_digits}
 use Rattle.rustc_parts.specs.Material.{material_of}
 use Rattle.rustc_parts.specs.Shapes.{shape_of}

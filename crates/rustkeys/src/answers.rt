@@ -2,10 +2,10 @@
 
 ghost use Rattle.std.specs.Prelude.{◌≡◌, ◌⊎◌, ℤ, pos, [], ◌∷◌, Some, IfOk, IsErrOf};
 ghost use Rattle.os_files.specs.Bytes.{ticked};
-ghost use Rattle.ckeys.specs.Meaning.{Scene, archive, made_of, scene_of, words};
+ghost use Rattle.ckeys_records.specs.Meaning.{Scene, archive, made_of, scene_of, words};
 
-use ckeys::preprocessor::{Preprocessor, Printed, ToolFail};
-use ckeys::step::Step;
+use ckeys_records::preprocessor::{Preprocessor, Printed, ToolFail};
+use ckeys_records::step::Step;
 use cmdlines_base::command::SingleCompileCommand;
 use os_files::files::Files;
 use os_files::os_bytes::OsBytes;

@@ -2,17 +2,17 @@
 
 ghost use Rattle.std.specs.Prelude.{◌≡◌, true, [], ◌∷◌, None, map, IfOk, IfErr, OnOk, IsErrOf};
 ghost use Rattle.std.specs.List.{AllByRecursion, list_all};
-ghost use Rattle.ckeys.specs.Calls.{KeyCause};
-ghost use Rattle.ckeys.specs.Causes.{no_file};
-ghost use Rattle.ckeys.specs.Meaning.{AreSteady, FailsIn, Scene};
+ghost use Rattle.ckeys_records.specs.Faults.{KeyCause};
+ghost use Rattle.ckeys_records.specs.Causes.{no_file};
+ghost use Rattle.ckeys_records.specs.Meaning.{AreSteady, FailsIn, Scene};
 ghost use Rattle.rustc_parts.specs.Formed.{IsDigest, digest_digits, is_digest, is_digit};
 ghost use Rattle.rustkeys.specs.Calls.{digest_fault_of};
 ghost use Rattle.rustkeys.specs.Questions.{digest_at, digested};
 
 use crate::answers::RustcAnswers;
-use ckeys::fault::Fault;
-use ckeys::preprocessor::ToolFail;
-use ckeys::step::Step;
+use ckeys_records::fault::Fault;
+use ckeys_records::preprocessor::ToolFail;
+use ckeys_records::step::Step;
 use os_files::files::Files;
 use os_files::listed::Listed;
 use os_files::os_bytes::OsBytes;

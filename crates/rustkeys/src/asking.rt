@@ -2,19 +2,20 @@
 
 ghost use Rattle.std.specs.Prelude.{◌≡◌, ℤ, [], ◌∷◌, Some, None, true, map, string_bytes, IfOk, IfErr, OnOk, IsErrOf};
 ghost use Rattle.os_files.specs.Bytes.{ticked};
-ghost use Rattle.ckeys.specs.Calls.{KeyCause, text_in};
-ghost use Rattle.ckeys.specs.Causes.{no_file, no_step};
-ghost use Rattle.ckeys.specs.EntryTurns.{AtMostOnce};
-ghost use Rattle.ckeys.specs.Meaning.{AreSteady, FailsIn, made_of};
+ghost use Rattle.ckeys_records.specs.Faults.{KeyCause};
+ghost use Rattle.ckeys_records.specs.Meaning.{text_in};
+ghost use Rattle.ckeys_records.specs.Causes.{no_file, no_step};
+ghost use Rattle.ckeys_records.specs.Meaning.{AtMostOnce};
+ghost use Rattle.ckeys_records.specs.Meaning.{AreSteady, FailsIn, made_of};
 ghost use Rattle.rustkeys.specs.Calls.{answer_fault_of, utf8_fault_of};
 ghost use Rattle.rustkeys.specs.Questions.{dep_info_of, file_names_of, question_of};
 
 use crate::answers::RustcAnswers;
 use crate::place::RustPlace;
-use ckeys::fault::Fault;
-use ckeys::preprocessor::{Printed, ToolFail};
-use ckeys::step::Step;
-use cmdlines::command::command_at;
+use ckeys_records::fault::Fault;
+use ckeys_records::preprocessor::{Printed, ToolFail};
+use ckeys_records::step::Step;
+use cmdlines_requests::command::command_at;
 use os_files::files::Files;
 use os_files::os_bytes::OsBytes;
 use rustc_texts::words::{dep_info_words, file_names_words};

@@ -1,7 +1,7 @@
 //! What a compile of a request runs and writes, and the pieces of its key.
 
 ghost use Rattle.std.specs.Prelude.{◌≡◌, IfOk};
-ghost use Rattle.cmdlines.specs.Commands.{command_at};
+ghost use Rattle.cmdlines_requests.specs.Small.{command_at};
 ghost use Rattle.rustc_texts.specs.Outputs.{outputs_with};
 ghost use Rattle.rustc_texts.specs.Words.{compile_words};
 ghost use Rattle.rustkeys_base.specs.Asks.{asks_in};
@@ -9,8 +9,8 @@ ghost use Rattle.rustkeys.specs.Questions.{compile_env_of};
 
 use crate::place::RustPlace;
 use crate::sorting::compile_env_of;
-use cmdlines::command::{Cacheable, command_at};
 use cmdlines_base::command::SingleCompileCommand;
+use cmdlines_requests::command::{Cacheable, command_at};
 use os_files::listed::Listed;
 use os_files::os_bytes::OsBytes;
 use rustc_parts::parts::Parts;

@@ -4,13 +4,13 @@ ghost use Rattle.std.specs.Prelude.{◌≡◌, None, [], ◌∷◌, map, IfOk, I
 ghost use Rattle.std.specs.Option.{option_map, option_to_list};
 ghost use Rattle.os_files.specs.Fails.{FailsOn};
 ghost use Rattle.os_files.specs.Path.{join};
-ghost use Rattle.ckeys.specs.Calls.{FileCause, first_missing};
+ghost use Rattle.ckeys_records.specs.Faults.{FileCause, first_missing};
 ghost use Rattle.include_records.specs.Surroundings.{contents_in};
 ghost use Rattle.rustkeys.specs.Records.{digest_text};
 
-use ckeys::fault::Fault;
 use ckeys_base::digest::Digest;
 use ckeys_base::hash_state::HashState;
+use ckeys_records::fault::Fault;
 use os_files::files::{FileFail, Files};
 use os_files::listed::Listed;
 use os_files::os_bytes::OsBytes;

@@ -3,7 +3,7 @@
 ghost use Rattle.std.specs.Prelude.{◌≡◌, string_bytes, IfOk, OnOk};
 ghost use Rattle.std.specs.Option.{option_copied, option_to_list};
 ghost use Rattle.byte_formats.specs.Spelling.{FitsFrame};
-ghost use Rattle.cmdlines.specs.Commands.{command_at};
+ghost use Rattle.cmdlines_requests.specs.Small.{command_at};
 ghost use Rattle.rustc_parts.specs.Material.{material_of};
 ghost use Rattle.rustc_parts.specs.Shapes.{shape_of};
 ghost use Rattle.rustc_texts.specs.Outputs.{output_names, outputs_of};

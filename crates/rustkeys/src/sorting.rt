@@ -3,12 +3,12 @@
 ghost use Rattle.std.specs.Prelude.{◌≡◌, None, IfOk, IfErr, OnOk, filter};
 ghost use Rattle.rustc_parts.specs.Orders.{env_dep_cmp};
 ghost use Rattle.rustkeys_base.specs.Sorted.{sorted_by};
-ghost use Rattle.ckeys.specs.Calls.{KeyCause};
-ghost use Rattle.ckeys.specs.Causes.{no_file, no_step};
+ghost use Rattle.ckeys_records.specs.Faults.{KeyCause};
+ghost use Rattle.ckeys_records.specs.Causes.{no_file, no_step};
 ghost use Rattle.rustkeys.specs.Questions.{compile_env_of, counted_in, env_deps_in, sources_in};
 ghost use Rattle.rustkeys.specs.Calls.{rule_fault_of};
 
-use ckeys::fault::Fault;
+use ckeys_records::fault::Fault;
 use os_files::listed::Listed;
 use os_files::os_bytes::OsBytes;
 use os_files::path::paths_have_one_order;

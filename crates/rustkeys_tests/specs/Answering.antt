@@ -1,8 +1,8 @@
 -- What a tool means that answers each question with one text.
 use Rattle.std.specs.Prelude.{ℤ, pos, [], ◌∷◌, Some}
 use Rattle.os_files.specs.Bytes.{Bytes}
-use Rattle.ckeys.specs.Meaning.{Meaning, made_of}
-use Rattle.ckeys.specs.declared.step.Step.TheVariants.{Preprocess, Compile, DepInfo, FileNames, ArchiveDigest}
+use Rattle.ckeys_records.specs.Meaning.{Meaning, made_of}
+use Rattle.ckeys_records.specs.declared.step.Step.TheVariants.{Preprocess, Compile, DepInfo, FileNames, ArchiveDigest}
 
 -- rustc ends with that status, and tells these texts on dependencies, on names and as a digest; whatever else is asked fails
 abbrev pub answering : ℤ → Bytes → Bytes → Bytes → Meaning

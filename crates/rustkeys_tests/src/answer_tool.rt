@@ -4,8 +4,8 @@ ghost use Rattle.std.specs.Prelude.{◌≡◌, Some, OnOk, OnErr, IfErr};
 ghost use Rattle.os_files.specs.Bytes.{ticked};
 ghost use Rattle.rustkeys_tests.specs.Answering.{answering};
 
-use ckeys::preprocessor::{Preprocessor, Printed, Ticks, ToolFail};
-use ckeys::step::Step;
+use ckeys_records::preprocessor::{Preprocessor, Printed, Ticks, ToolFail};
+use ckeys_records::step::Step;
 use cmdlines_base::command::SingleCompileCommand;
 use cmdlines_tables::compiler::CCompilerKind;
 use os_files::files::Files;

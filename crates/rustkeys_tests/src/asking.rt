@@ -1,8 +1,8 @@
 //! Requests to rustc, and what comes of their keys.
 
 use crate::answer_tool::{AnswerTool, RustTexts};
-use ckeys::fault::Fault;
 use ckeys_base::digest::Digest;
+use ckeys_records::fault::Fault;
 use cmdlines_base::compiler_arguments::CompilerArguments;
 use os_files::files::Files;
 use os_files::listed::Listed;

@@ -4,8 +4,8 @@ use crate::answer_tool::AnswerTool;
 use crate::asking::{
     DEPENDENCIES, FIRST, Made, OF_NOTHING, WITH_LIBRARY, all_files, asked_at, parse, rust, tool,
 };
-use ckeys::fault::Fault;
-use ckeys::preprocessor::{Preprocessor, Ticks};
+use ckeys_records::fault::Fault;
+use ckeys_records::preprocessor::{Preprocessor, Ticks};
 use cmdlines_base::compiler_arguments::CompilerArguments;
 use os_files::memory_files::MemoryFiles;
 use rustkeys::hasher::RustHasher;

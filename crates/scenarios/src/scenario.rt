@@ -44,7 +44,7 @@ use crate::crates::read_crate;
 use crate::members::{
     into_list, into_object, into_text, read_capacity, read_truth, read_whole, required,
 };
-use ckeys::config::{ConfigError, KeyConfig};
+use ckeys_records::config::{ConfigError, KeyConfig};
 use os_files::file_time::FileTime;
 use os_files::listed::Listed;
 use os_files::memory_files::{MemoryFile, MemoryFiles};

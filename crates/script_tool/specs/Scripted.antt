@@ -12,10 +12,10 @@ use Rattle.cmdlines_tables.specs.declared.kind.ArgKind.TheVariants.{Language}
 use Rattle.ckeys_base.specs.FolderPlaces.{text_places}
 use Rattle.ckeys_base.specs.FromTheLeft.{stripped_of}
 use Rattle.ckeys.specs.Calls.{needs_preprocessing}
-use Rattle.ckeys.specs.Meaning.{Scene, Made, Meaning, archive, made_of, options, words}
-use Rattle.ckeys.specs.declared.output_name.OutputName.{OutputName}
-use Rattle.ckeys.specs.declared.step.Step.{Step}
-use Rattle.ckeys.specs.declared.step.Step.TheVariants.{Preprocess, Compile, DepInfo, FileNames, ArchiveDigest}
+use Rattle.ckeys_records.specs.Meaning.{Scene, Made, Meaning, archive, made_of, options, words}
+use Rattle.ckeys_records.specs.declared.output_name.OutputName.{OutputName}
+use Rattle.ckeys_records.specs.declared.step.Step.{Step}
+use Rattle.ckeys_records.specs.declared.step.Step.TheVariants.{Preprocess, Compile, DepInfo, FileNames, ArchiveDigest}
 use Rattle.script_tool.specs.Lines.{lines, with_end, included}
 use Rattle.script_tool.specs.ScriptedCrates.{compiled_crate, crate_text, digest_in}
 use Rattle.script_tool.specs.Texts.{holds, whole}

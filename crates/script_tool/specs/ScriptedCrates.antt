@@ -10,8 +10,8 @@ use Rattle.os_files.specs.Path.{path_cmp}
 use Rattle.os_files.specs.Tree.{Tree, contents_at}
 use Rattle.rustkeys_base.specs.Sorted.{sorted_by}
 use Rattle.rustc_texts.specs.DepInfo.{sources_of}
-use Rattle.ckeys.specs.Meaning.{Scene, Made, made_of}
-use Rattle.ckeys.specs.declared.output_name.OutputName.{OutputName}
+use Rattle.ckeys_records.specs.Meaning.{Scene, Made, made_of}
+use Rattle.ckeys_records.specs.declared.output_name.OutputName.{OutputName}
 use Rattle.script_tool.specs.Texts.{holds, whole}
 use Rattle.script_tool.specs.declared.crate_texts.CrateTexts.{CrateTexts}
 

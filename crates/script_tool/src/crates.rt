@@ -2,7 +2,7 @@
 
 ghost use Rattle.std.specs.Prelude.{◌≡◌, ℤ, IfOk, IsErrOf};
 ghost use Rattle.os_files.specs.Bytes.{ticked};
-ghost use Rattle.ckeys.specs.Meaning.{made_of, names_of, scene_of};
+ghost use Rattle.ckeys_records.specs.Meaning.{made_of, names_of, scene_of};
 ghost use Rattle.script_tool.specs.ScriptedCrates.{compiled_crate, crate_text, joined_contents, made_of_text, made_where, told_sources};
 
 use crate::scripting::{holds_error, made_nothing};

@@ -4,15 +4,15 @@
 ghost use Rattle.std.specs.Prelude.{◌≡◌, ℤ, None, Some, IfOk, IsErrOf};
 ghost use Rattle.os_files.specs.Bytes.{ticked};
 ghost use Rattle.cmdlines_tables.specs.Tables.{reading_of};
-ghost use Rattle.ckeys.specs.Meaning.{StepTicks, asked_of, made_of, names_of, scene_of, words};
+ghost use Rattle.ckeys_records.specs.Meaning.{StepTicks, asked_of, made_of, names_of, scene_of, words};
 ghost use Rattle.script_tool.specs.Scripted.{scripted, source_in, text_of};
 
 use crate::crate_texts::CrateTexts;
 use crate::crates::{compiled_crate, crate_text};
 use crate::scripting::{compiled, printed, text_of};
-use ckeys::config::KeyConfig;
-use ckeys::preprocessor::{Preprocessor, Printed, Ticks, ToolFail};
-use ckeys::step::Step;
+use ckeys_records::config::KeyConfig;
+use ckeys_records::preprocessor::{Preprocessor, Printed, Ticks, ToolFail};
+use ckeys_records::step::Step;
 use cmdlines_base::command::{ArtifactDescriptor, SingleCompileCommand};
 use cmdlines_tables::compiler::CCompilerKind;
 use os_files::files::{FileFail, Files};

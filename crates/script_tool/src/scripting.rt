@@ -4,16 +4,16 @@ ghost use Rattle.std.specs.Prelude.{◌≡◌, ℤ, [], ◌∷◌, ◌++◌, IfO
 ghost use Rattle.std.specs.Option.{option_map};
 ghost use Rattle.os_files.specs.Bytes.{ticked};
 ghost use Rattle.cmdlines_tables.specs.Tables.{reading_of};
-ghost use Rattle.ckeys.specs.Meaning.{names_of, made_of, scene_of};
+ghost use Rattle.ckeys_records.specs.Meaning.{names_of, made_of, scene_of};
 ghost use Rattle.script_tool.specs.Lines.{lines};
 ghost use Rattle.script_tool.specs.Scripted.{source_in, marker, inclusion, replaced, text_at, text_of, printed, compiled, without};
 ghost use Rattle.script_tool.specs.Texts.{holds, whole};
 
 use crate::lines::{included, push_with_end, split_line};
 use crate::source::{source_of, takes_as_it_stands};
-use ckeys::preprocessor::Printed;
-use ckeys::step::Step;
 use ckeys_base::strip::strip_basedirs;
+use ckeys_records::preprocessor::Printed;
+use ckeys_records::step::Step;
 use cmdlines_base::command::{ArtifactDescriptor, SingleCompileCommand};
 use cmdlines_tables::compiler::CCompilerKind;
 use memchr::memmem;

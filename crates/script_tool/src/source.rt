@@ -9,7 +9,7 @@ ghost use Rattle.cmdlines_tables.specs.Values.{placed};
 ghost use Rattle.script_tool.specs.Scripted.{only, input_in, is_preprocessed, language_in, source_in, takes_as_it_stands};
 
 use ckeys::hasher::needs_c_preprocessing;
-use ckeys::step::Step;
+use ckeys_records::step::Step;
 use cmdlines_base::argument::Argument;
 use cmdlines_base::argument_error::ArgParseError;
 use cmdlines_base::table::SearchableArgInfo;

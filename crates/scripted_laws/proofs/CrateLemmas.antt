@@ -12,11 +12,11 @@ use Rattle.rustkeys_base.specs.Sorted.{sorted_by}
 use Rattle.rustc_compiler.specs.Compiler.{Rustc}
 use Rattle.rustc_texts.specs.DepInfo.{names_in, rule_of, sources_of}
 use Rattle.include_records.specs.Surroundings.{contents_in}
-use Rattle.ckeys.specs.Calls.{or_else, read_fault_of}
-use Rattle.ckeys.specs.Folders.{Settings}
-use Rattle.ckeys.specs.Meaning.{Meaning, made_of, names_of}
-use Rattle.ckeys.specs.declared.fault.Fault.{Fault}
-use Rattle.ckeys.specs.declared.step.Step.TheVariants.{DepInfo, FileNames}
+use Rattle.ckeys_records.specs.Faults.{or_else, read_fault_of}
+use Rattle.ckeys_records.specs.Folders.{Settings}
+use Rattle.ckeys_records.specs.Meaning.{Meaning, made_of, names_of}
+use Rattle.ckeys_records.specs.declared.fault.Fault.{Fault}
+use Rattle.ckeys_records.specs.declared.step.Step.TheVariants.{DepInfo, FileNames}
 use Rattle.rustkeys.specs.Calls.{RustCall, answer_fault_of, dep_info_fault_of, files_fault_of, rule_fault_of, sources_fault_of, utf8_fault_of}
 use Rattle.rustkeys.specs.Fresh.{call_outputs}
 use Rattle.rustkeys.specs.Questions.{answers_of, sources_in}

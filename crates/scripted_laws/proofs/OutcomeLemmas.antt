@@ -10,20 +10,22 @@ use Rattle.cmdlines.specs.KnownLanguages.{HasKnownLanguageIn, IsKnownTo}
 use Rattle.cmdlines.specs.Parsing.{HasSafeInput, parse_of}
 use Rattle.cmdlines.specs.Parsing as parsing
 use Rattle.cmdlines.specs.ReadBack.{ReadsAsCompile, ReadsAsPreprocess}
-use Rattle.cmdlines.specs.declared.parsed.ParsedArguments.{ParsedArguments}
+use Rattle.cmdlines_requests.specs.declared.parsed.ParsedArguments.{ParsedArguments}
 use Rattle.cmdlines_tables.specs.Tables.{reading_of}
 use Rattle.cmdlines_tables.specs.declared.compiler.CCompilerKind.{CCompilerKind}
 use Rattle.ckeys_base.specs.FolderPlaces.{text_places}
 use Rattle.ckeys_base.specs.FromTheLeft.{stripped_of}
 use Rattle.include_records.specs.Surroundings.{contents_in}
-use Rattle.ckeys.specs.Calls.{KeyCall, needs_preprocessing, missing_input, extra_paths, or_else, preprocess_fault_of, printed_of, read_fault_of, text_fault_of, text_in}
-use Rattle.ckeys.specs.Folders.{Settings}
-use Rattle.ckeys.specs.Meaning.{Made, Meaning, Scene, made_of, names_of}
-use Rattle.ckeys.specs.Records.{hold_end}
-use Rattle.ckeys.specs.declared.fault.Fault.{Fault}
-use Rattle.ckeys.specs.declared.fault.Fault.TheVariants.{Read}
-use Rattle.ckeys.specs.declared.output_name.OutputName.{OutputName}
-use Rattle.ckeys.specs.declared.step.Step.TheVariants.{Compile}
+use Rattle.ckeys.specs.Calls.{KeyCall, needs_preprocessing, missing_input, extra_paths, printed_of, text_fault_of}
+use Rattle.ckeys_records.specs.Faults.{or_else, preprocess_fault_of, read_fault_of}
+use Rattle.ckeys_records.specs.Meaning.{text_in}
+use Rattle.ckeys_records.specs.Folders.{Settings}
+use Rattle.ckeys_records.specs.Meaning.{Made, Meaning, Scene, made_of, names_of}
+use Rattle.ckeys_records.specs.Records.{hold_end}
+use Rattle.ckeys_records.specs.declared.fault.Fault.{Fault}
+use Rattle.ckeys_records.specs.declared.fault.Fault.TheVariants.{Read}
+use Rattle.ckeys_records.specs.declared.output_name.OutputName.{OutputName}
+use Rattle.ckeys_records.specs.declared.step.Step.TheVariants.{Compile}
 use Rattle.script_tool.specs.declared.crate_texts.CrateTexts.{CrateTexts}
 use Rattle.script_tool.specs.Scripted.{compiled, language_in, one_in, printed, scripted, takes_as_it_stands, text_at, text_by, without}
 use Rattle.wrap.specs.Account.{Work, account_by, account_named, call_at, rust_account_by, rust_call_at, rust_work_at, work_at, passed, worked}

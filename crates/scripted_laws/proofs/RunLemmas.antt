@@ -7,9 +7,9 @@ use Rattle.os_files.specs.Tree.{Tree}
 use Rattle.cmdlines.specs.Parsing.{HasSafeInput, HasSafeInputIn, IsGivenByOption, parse_of}
 use Rattle.cmdlines_tables.specs.declared.compiler.CCompilerKind.{CCompilerKind}
 use Rattle.ckeys.specs.Entries.{AreReprinted}
-use Rattle.ckeys.specs.Folders.{Settings}
-use Rattle.ckeys.specs.Keys.{Distinct}
-use Rattle.ckeys.specs.Meaning.{names_of}
+use Rattle.ckeys_records.specs.Folders.{Settings}
+use Rattle.ckeys_records.specs.Keys.{Distinct}
+use Rattle.ckeys_records.specs.Meaning.{names_of}
 use Rattle.wrap.specs.Account.{Account, Work, account_at, direct_calls, worked}
 use Rattle.wrap.specs.StoreKeys.{HasRecord, IsHashedIn, Premises, SameRecord}
 use Rattle.wrap.specs.Whole.{FilesView, ToolView, accounts_at}

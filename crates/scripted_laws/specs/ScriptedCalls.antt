@@ -4,10 +4,10 @@ use Rattle.std.specs.List.{concat}
 use Rattle.os_files.specs.Tree.{Tree}
 use Rattle.cmdlines.specs.Parsing.{HasSafeInput, IsGivenByOption, parse_of}
 use Rattle.cmdlines.specs.Parsing as parsing
-use Rattle.cmdlines.specs.declared.parsed.ParsedArguments.{ParsedArguments}
-use Rattle.ckeys.specs.Folders.{Settings}
-use Rattle.ckeys.specs.Meaning.{Made, names_of}
-use Rattle.ckeys.specs.declared.output_name.OutputName.{OutputName}
+use Rattle.cmdlines_requests.specs.declared.parsed.ParsedArguments.{ParsedArguments}
+use Rattle.ckeys_records.specs.Folders.{Settings}
+use Rattle.ckeys_records.specs.Meaning.{Made, names_of}
+use Rattle.ckeys_records.specs.declared.output_name.OutputName.{OutputName}
 use Rattle.script_tool.specs.Scripted.{compiled, scripted}
 use Rattle.script_tool.specs.ScriptedCrates.{compiled_crate}
 use Rattle.script_tool.specs.declared.crate_texts.CrateTexts.{CrateTexts}

@@ -11,16 +11,17 @@ use Rattle.std.specs.Option.{option_map}
 use Rattle.std.specs.Ordering.{int_eq}
 use Rattle.os_files.specs.Bytes.{Bytes, ticked}
 use Rattle.ckeys_base.specs.Shelf.{IsEmpty, Shelf}
-use Rattle.ckeys.specs.Calls.{KeyCall, PrintedCall, printed_call, extra_paths, first_missing, input_path, key_fault_by, missing_input, needs_preprocessing, or_else, preprocess_fault_of, read_fault_of, text_fault_by}
+use Rattle.ckeys.specs.Calls.{KeyCall, PrintedCall, printed_call, extra_paths, input_path, key_fault_by, missing_input, needs_preprocessing, text_fault_by}
+use Rattle.ckeys_records.specs.Faults.{first_missing, or_else, preprocess_fault_of, read_fault_of}
 use Rattle.ckeys.specs.Entries.{AreTrue, EntryInvariant, EntryPremises, Held, IsHashedAmong, asking, has_entry_key, is_told}
 use Rattle.ckeys.specs.EntryTurns.{EntryTurn}
-use Rattle.ckeys.specs.Folders.{Settings}
+use Rattle.ckeys_records.specs.Folders.{Settings}
 use Rattle.wrap_turns.specs.CallRecords.{key_of}
-use Rattle.ckeys.specs.Meaning.{Meaning, names_of}
+use Rattle.ckeys_records.specs.Meaning.{Meaning, names_of}
 use Rattle.entry_keys.specs.declared.entry_key.EntryKey.{EntryKey}
 use Rattle.include_records.specs.Records.{Record}
-use Rattle.ckeys.specs.declared.fault.Fault.TheVariants.{PreprocessFailed, Read}
-use Rattle.ckeys.specs.declared.fault.Fault.{Fault}
+use Rattle.ckeys_records.specs.declared.fault.Fault.TheVariants.{PreprocessFailed, Read}
+use Rattle.ckeys_records.specs.declared.fault.Fault.{Fault}
 use Rattle.rustc_compiler.specs.Compiler.{Rustc}
 use Rattle.wrap_base.specs.Commands.{CFound, NamedBy, by_c, by_rustc, named_by, words_at}
 use Rattle.wrap_turns.specs.RustVerdicts as rust

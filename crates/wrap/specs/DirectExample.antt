@@ -4,7 +4,7 @@ use Rattle.std.specs.List.{repeat}
 use Rattle.os_files.specs.Bytes.{Bytes}
 use Rattle.os_files.specs.Tree.{Node, Tree}
 use Rattle.os_files.specs.declared.files.Metadata.{Metadata}
-use Rattle.cmdlines.specs.declared.parsed.ParsedArguments.{ParsedArguments}
+use Rattle.cmdlines_requests.specs.declared.parsed.ParsedArguments.{ParsedArguments}
 use Rattle.cmdlines_tables.specs.declared.compiler.CCompilerKind.TheVariants.{Gcc}
 use Rattle.cmdlines_base.specs.declared.color_mode.ColorMode.TheVariants.{Auto}
 use Rattle.cmdlines_tables.specs.declared.language.Language.TheVariants.{C}
@@ -13,10 +13,10 @@ use Rattle.time_macros.specs.Days.{ZoneRule}
 use Rattle.include_records.specs.Records.{Record, record_of, result_with}
 use Rattle.include_records.specs.declared.entry.IncludeEntry.{IncludeEntry}
 use Rattle.ckeys.specs.Calls.{KeyCall, PrintedCall, printed_call, record_by}
-use Rattle.ckeys.specs.Folders.{settings_with}
-use Rattle.ckeys.specs.Keys.{key_of}
-use Rattle.ckeys.specs.Meaning.{Meaning, made_of, scene_with}
-use Rattle.ckeys.specs.declared.step.Step.TheVariants.{Preprocess}
+use Rattle.ckeys_records.specs.Folders.{settings_with}
+use Rattle.ckeys_records.specs.Keys.{key_of}
+use Rattle.ckeys_records.specs.Meaning.{Meaning, made_of, scene_with}
+use Rattle.ckeys_records.specs.declared.step.Step.TheVariants.{Preprocess}
 use Rattle.wrap_turns.specs.Account.{Account, Work, work_at, worked}
 
 -- Each digest has 32 bytes, which tell the first byte.

@@ -12,12 +12,12 @@ pub use Rattle.cmdlines.specs.Parsing
 pub use Rattle.ckeys_base.specs.Shelf
 pub use Rattle.bounded_store.specs.LruStores
 pub use Rattle.ckeys.specs.Calls
-pub use Rattle.ckeys.specs.Causes
+pub use Rattle.ckeys_records.specs.Causes
 pub use Rattle.ckeys.specs.Entries
-pub use Rattle.ckeys.specs.Folders
-pub use Rattle.ckeys.specs.Keys
-pub use Rattle.ckeys.specs.Meaning
-pub use Rattle.ckeys.specs.Records
+pub use Rattle.ckeys_records.specs.Folders
+pub use Rattle.ckeys_records.specs.Keys
+pub use Rattle.ckeys_records.specs.Meaning
+pub use Rattle.ckeys_records.specs.Records
 pub use Rattle.wrap_base.specs.Commands
 pub use Rattle.wrap_base.specs.MapStores
 pub use Rattle.wrap_turns.specs.Verdicts

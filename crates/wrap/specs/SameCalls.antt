@@ -4,8 +4,8 @@ use Rattle.ckeys_base.specs.FolderPlaces.{text_places}
 use Rattle.ckeys_base.specs.FromTheLeft.{stripped_of}
 use Rattle.include_records.specs.Surroundings.{contents_in}
 use Rattle.ckeys.specs.Calls.{KeyCall, extra_paths, text_of}
-use Rattle.ckeys.specs.Meaning.{Meaning, names_of}
-use Rattle.ckeys.specs.Params.{is_cached, stripped_words}
+use Rattle.ckeys_records.specs.Meaning.{Meaning, names_of}
+use Rattle.ckeys_records.specs.Params.{is_cached, stripped_words}
 
 -- Both ask one compiler for the same, but for folders: their hashed words and their texts are equal once each configuration's folders went from its own, the variables that count, what the extra files hold and the outputs' names are equal.
 pub record AreSameWithoutFolders (meaning : Meaning) (one other : KeyCall) : Type 0 where

@@ -5,11 +5,11 @@ use Rattle.os_files.specs.Bytes.{Bytes, ticked}
 use Rattle.os_files.specs.Fails.{FailsOn}
 use Rattle.os_files.specs.Tree.{Tree}
 use Rattle.ckeys_base.specs.Shelf.{Shelf, Within, KeepsKeys}
-use Rattle.ckeys.specs.Folders.{Settings}
-use Rattle.ckeys.specs.Meaning.{AreSteady, FailsIn, Meaning}
-use Rattle.ckeys.specs.declared.fault.Fault.{Fault}
-use Rattle.ckeys.specs.declared.fault.Fault.TheVariants.{Memory}
-use Rattle.ckeys.specs.declared.step.Step.{Step}
+use Rattle.ckeys_records.specs.Folders.{Settings}
+use Rattle.ckeys_records.specs.Meaning.{AreSteady, FailsIn, Meaning}
+use Rattle.ckeys_records.specs.declared.fault.Fault.{Fault}
+use Rattle.ckeys_records.specs.declared.fault.Fault.TheVariants.{Memory}
+use Rattle.ckeys_records.specs.declared.step.Step.{Step}
 use Rattle.wrap_turns.specs.Verdicts.{Why}
 use Rattle.wrap_turns.specs.Account.{Account, passed, worked, Pairs, account_at, why_passed}
 use Rattle.wrap_turns.specs.Answers.{Answers, GoesOn, OnPass, Says, SaysBy, SaysPassed, settled, settled_by}

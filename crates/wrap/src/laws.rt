@@ -9,13 +9,13 @@ ghost use Rattle.time_macros.specs.Days.{ZoneRule};
 ghost use Rattle.ckeys.specs.Entries.{HasMatch, Held, entry_key_by, has_entry_key, includes_by};
 ghost use Rattle.wrap.specs.DirectExample.{call_on, header_include, first_byte_digest, printed_text, record_on, text_key_on, two_moments};
 ghost use Rattle.ckeys.specs.Calls.{KeyCall};
-ghost use Rattle.ckeys.specs.Meaning.{Meaning};
+ghost use Rattle.ckeys_records.specs.Meaning.{Meaning};
 ghost use Rattle.os_files.specs.Bytes.{Bytes};
 ghost use Rattle.ckeys_base.specs.Shelf.{IsEmpty, Shelf};
 ghost use Rattle.wrap_turns.specs.CallRecords.{AreDistinct, CallRecord, IsTold, key_of, record_shape};
 ghost use Rattle.wrap_turns.specs.Account.{Pairs, Work, account_at, work_at};
 ghost use Rattle.wrap.specs.SameCalls.{AreSameWithoutFolders};
-ghost use Rattle.ckeys.specs.Folders.{Settings};
+ghost use Rattle.ckeys_records.specs.Folders.{Settings};
 ghost use Rattle.wrap_turns.specs.Asking.{EntriesTurn, RecordsAreTrue, Shelves};
 ghost use Rattle.wrap_base.specs.declared.request.Request.{Request};
 ghost use Rattle.fingerprints.specs.Fingerprints.{fingerprint_of};
@@ -24,8 +24,9 @@ ghost use Rattle.wrap.specs.Whole.{BothRun, Run, SameOutputs, Served, accounts_o
 ghost use Rattle.wrap_base.specs.declared.store_key.StoreKey.{StoreKey};
 ghost use Rattle.wrap.specs.Example.{compile_of, telling_digest, two_compiles};
 
-use ckeys::laws::{keys_tell_records, records_are_true};
+use ckeys::laws::records_are_true;
 use ckeys_base::hash_state::HashState;
+use ckeys_records::laws::keys_tell_records;
 use fingerprints::laws::fingerprints_tell_records;
 use rustkeys::laws::rustc_keys_tell_records;
 

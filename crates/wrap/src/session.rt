@@ -4,7 +4,7 @@ ghost use Rattle.std.specs.Prelude.{◌≡◌, true, false, List, [], ◌∷◌,
 ghost use Rattle.os_files.specs.Fails.{FailsOn};
 ghost use Rattle.ckeys_base.specs.Shelf.{Clears, IsEmpty};
 ghost use Rattle.ckeys.specs.Entries.{EntryInvariant, EntryPremises};
-ghost use Rattle.ckeys.specs.Meaning.{AreSteady, FailsIn};
+ghost use Rattle.ckeys_records.specs.Meaning.{AreSteady, FailsIn};
 ghost use Rattle.wrap_turns.specs.Account.{Account, account_at, direct_calls};
 ghost use Rattle.wrap_turns.specs.Answers.{Answers, GoesOn, OnPass, Says, SaysBy, settled, settled_by};
 ghost use Rattle.wrap_turns.specs.Asking.{AskedTurn, EntriesTurn, RecordsAreTrue, shelves_of};
@@ -15,12 +15,12 @@ ghost use Rattle.wrap.specs.Whole.{AllAnswer, Each, IsAnswered, OneFresh, Run, S
 ghost use Rattle.wrap.specs.Sessions.{held_by};
 
 use crate::laws::call_keys_tell_records;
-use ckeys::config::KeyConfig;
-use ckeys::fault::Fault;
 use ckeys::laws::records_are_true;
 use ckeys::{EntryKey, PreprocessorCacheEntry};
 use ckeys_base::hash_state::HashState;
 use ckeys_base::store::Store;
+use ckeys_records::config::KeyConfig;
+use ckeys_records::fault::Fault;
 use fingerprints::fingerprint::{Fingerprint, request_fingerprint};
 use os_files::files::Files;
 use std::alloc::{AllocError, Global};

@@ -7,12 +7,12 @@ use Rattle.std.specs.Option.{option_eq}
 use Rattle.cmdlines_tables.specs.declared.language.Language.{Language}
 use Rattle.cmdlines_tables.specs.declared.language.Language.TheVariants.{C, Cxx, CPreprocessed, CxxPreprocessed, Assembler, AssemblerToPreprocess, Rust}
 use Rattle.cmdlines_tables.specs.contracts.language.LanguagePartialEq.TheImpl as language_eq
-use Rattle.ckeys.specs.contracts.output_name.OutputNamePartialEq.TheImpl as name_eq
-use Rattle.ckeys.specs.contracts.shape.CShapePartialEq.TheImpl as c_shape_eq
+use Rattle.ckeys_records.specs.contracts.output_name.OutputNamePartialEq.TheImpl as name_eq
+use Rattle.ckeys_records.specs.contracts.shape.CShapePartialEq.TheImpl as c_shape_eq
 use Rattle.rustc_parts.specs.contracts.parts.RShapePartialEq.TheImpl as rustc_shape_eq
 use Rattle.rustc_parts.specs.declared.parts.RShape.{RShape}
-use Rattle.ckeys.specs.declared.output_name.OutputName.{OutputName}
-use Rattle.ckeys.specs.declared.shape.CShape.{CShape}
+use Rattle.ckeys_records.specs.declared.output_name.OutputName.{OutputName}
+use Rattle.ckeys_records.specs.declared.shape.CShape.{CShape}
 use Rattle.wrap_base.specs.contracts.store_key.FamilyPartialEq.TheImpl as family_eq
 use Rattle.wrap_base.specs.contracts.store_key.ShapePartialEq.TheImpl as shape_eq
 use Rattle.wrap_base.specs.contracts.store_key.StoreKeyPartialEq.TheImpl as key_eq

@@ -2,7 +2,7 @@
 use Rattle.std.specs.Prelude.{List, Option, None, Some}
 use Rattle.os_files.specs.Bytes.{Bytes}
 use Rattle.cmdlines_tables.specs.declared.compiler.CCompilerKind.{CCompilerKind}
-use Rattle.ckeys.specs.Meaning.{Asked, asked_of, words}
+use Rattle.ckeys_records.specs.Meaning.{Asked, asked_of, words}
 
 -- what the words of a command ask of the C compiler of that kind, or of rustc where there is none
 abbrev pub asked_by : Option CCompilerKind → List Bytes → Asked

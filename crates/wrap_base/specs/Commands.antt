@@ -2,10 +2,11 @@
 use Rattle.std.specs.Prelude.{List, string_bytes}
 use Rattle.os_files.specs.Bytes.{Bytes}
 use Rattle.os_files.specs.Tree.{Tree}
-use Rattle.cmdlines.specs.Commands.{command_at, compile_words, output_path}
+use Rattle.cmdlines.specs.Commands.{compile_words, output_path}
+use Rattle.cmdlines_requests.specs.Small.{command_at}
 use Rattle.cmdlines.specs.Compilers.{Traits}
 use Rattle.cmdlines.specs.Opening.{opened_words}
-use Rattle.cmdlines.specs.declared.parsed.ParsedArguments.{ParsedArguments}
+use Rattle.cmdlines_requests.specs.declared.parsed.ParsedArguments.{ParsedArguments}
 use Rattle.cmdlines_base.specs.declared.command.SingleCompileCommand.{SingleCompileCommand}
 use Rattle.cmdlines_tables.specs.declared.compiler.CCompilerKind.{CCompilerKind}
 use Rattle.cmdlines_tables.specs.declared.compiler.CCompilerKind.TheVariants as kinds

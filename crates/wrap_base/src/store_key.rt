@@ -5,8 +5,8 @@ ghost use Rattle.std.specs.Ordering.{ordering_then};
 ghost use Rattle.std.specs.declared.cmp.Ordering.TheVariants.{Equal};
 ghost use Rattle.wrap_base.specs.declared.store_key.StoreKey.{StoreKey};
 
-use ckeys::output_name::OutputName;
-use ckeys::shape::CShape;
+use ckeys_records::output_name::OutputName;
+use ckeys_records::shape::CShape;
 use os_files::listed::Listed;
 use os_files::os_bytes::OsBytes;
 use rustc_parts::parts::RShape;

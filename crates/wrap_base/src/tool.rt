@@ -2,11 +2,11 @@
 
 ghost use Rattle.std.specs.Prelude.{◌≡◌, ◌⊎◌, IfOk, IsErrOf};
 ghost use Rattle.os_files.specs.Bytes.{ticked};
-ghost use Rattle.ckeys.specs.Meaning.{scene_of, made_of, names_of};
+ghost use Rattle.ckeys_records.specs.Meaning.{scene_of, made_of, names_of};
 ghost use Rattle.wrap_base.specs.AskedBy.{asked_by};
 
-use ckeys::preprocessor::ToolFail;
-use ckeys::step::Step;
+use ckeys_records::preprocessor::ToolFail;
+use ckeys_records::step::Step;
 use cmdlines_base::command::{ArtifactDescriptor, SingleCompileCommand};
 use cmdlines_tables::compiler::CCompilerKind;
 use os_files::files::Files;

@@ -1,12 +1,12 @@
 //! Calls of sessions and of what keys are made of, without clauses: who calls these loads none of what those promise.
 
-use ckeys::config::KeyConfig;
-use ckeys::fault::Fault;
-use ckeys::params::HashKeyParams;
-use ckeys::shape::CShape;
 use ckeys::{EntryKey, PreprocessorCacheEntry};
 use ckeys_base::hash_state::HashState;
 use ckeys_base::store::Store;
+use ckeys_records::config::KeyConfig;
+use ckeys_records::fault::Fault;
+use ckeys_records::params::HashKeyParams;
+use ckeys_records::shape::CShape;
 use os_files::files::Files;
 use std::alloc::{AllocError, Global};
 use wrap::session::Session;

@@ -4,7 +4,7 @@ use crate::calls::served;
 use crate::idle_tool::IdleTool;
 use crate::scene::{Limits, NO_FAILURE, Scene};
 use crate::support::{MapSession, request, session, told};
-use ckeys::preprocessor::Preprocessor;
+use ckeys_records::preprocessor::Preprocessor;
 use os_files::memory_files::MemoryFiles;
 use std::alloc::{AllocError, Global};
 use std::test::Fail;

@@ -2,10 +2,10 @@
 
 ghost use Rattle.std.specs.Prelude.{◌≡◌, ◌⊎◌, ◌+◌, ◌-◌, ◌%◌, ◌^◌, None, Some, OnOk, OnErr, IfErr};
 ghost use Rattle.os_files.specs.Bytes.{ticked};
-ghost use Rattle.ckeys.specs.Meaning.{StepTicks};
+ghost use Rattle.ckeys_records.specs.Meaning.{StepTicks};
 
-use ckeys::preprocessor::{Preprocessor, Printed, Ticks, ToolFail};
-use ckeys::step::Step;
+use ckeys_records::preprocessor::{Preprocessor, Printed, Ticks, ToolFail};
+use ckeys_records::step::Step;
 use cmdlines_base::command::{ArtifactDescriptor, SingleCompileCommand};
 use cmdlines_tables::compiler::CCompilerKind;
 use os_files::files::Files;

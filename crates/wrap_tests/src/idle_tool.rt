@@ -2,7 +2,7 @@
 
 ghost use Rattle.wrap_tests.specs.Idle.{idle};
 
-use ckeys::preprocessor::{Preprocessor, Printed, Ticks, ToolFail};
+use ckeys_records::preprocessor::{Preprocessor, Printed, Ticks, ToolFail};
 use cmdlines_base::command::{ArtifactDescriptor, SingleCompileCommand};
 use cmdlines_tables::compiler::CCompilerKind;
 use os_files::files::Files;

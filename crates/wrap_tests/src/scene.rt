@@ -3,7 +3,7 @@
 use crate::calls::served;
 use crate::fail_tool::FailTool;
 use crate::support::{MapSession, request, script_tool, session, told};
-use ckeys::preprocessor::{Preprocessor, Ticks};
+use ckeys_records::preprocessor::{Preprocessor, Ticks};
 use os_files::memory_files::MemoryFiles;
 use script_tool::script::ScriptTool;
 use std::alloc::{AllocError, Global};

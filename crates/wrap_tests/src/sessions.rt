@@ -3,9 +3,9 @@
 use crate::calls::all_served;
 use crate::scene::{NO_FAILURE, Scene, call};
 use crate::support::{MapSession, session, told};
-use ckeys::fault::Fault;
-use ckeys::preprocessor::Preprocessor;
 use ckeys_base::hash_state::HashState;
+use ckeys_records::fault::Fault;
+use ckeys_records::preprocessor::Preprocessor;
 use os_files::memory_files::MemoryFiles;
 use script_tool::script::ScriptTool;
 use sha2::Sha256;

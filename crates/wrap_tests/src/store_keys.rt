@@ -1,9 +1,9 @@
 //! Which keys of the store are equal.
 
 use crate::calls::computed;
-use ckeys::output_name::OutputName;
-use ckeys::params::HashKeyParams;
-use ckeys::shape::CShape;
+use ckeys_records::output_name::OutputName;
+use ckeys_records::params::HashKeyParams;
+use ckeys_records::shape::CShape;
 use cmdlines_tables::language::Language;
 use os_files::listed::Listed;
 use os_files::os_bytes::OsBytes;

@@ -2,9 +2,9 @@
 
 use crate::calls::session_over;
 use ckeys::compiler::CCompiler;
-use ckeys::config::KeyConfig;
-use ckeys::fault::Fault;
 use ckeys::{EntryKey, PreprocessorCacheEntry};
+use ckeys_records::config::KeyConfig;
+use ckeys_records::fault::Fault;
 use cmdlines::gcc::Gcc;
 use os_files::listed::Listed;
 use os_files::memory_files::MemoryFiles;

@@ -3,7 +3,7 @@ use Rattle.std.proofs.Common.{◌≡◌, ℕ, suc, ◌+◌, ◌<◌, List, [], �
 use Rattle.os_files.specs.Bytes.{Bytes}
 use Rattle.cmdlines_base.specs.declared.command.ArtifactDescriptor.{ArtifactDescriptor}
 use Rattle.wrap_turns.specs.Account.{Collected, missing, all, Pairs, behind, gathered, collected, first_file, files_behind}
-use Rattle.ckeys.specs.Meaning.{names_of}
+use Rattle.ckeys_records.specs.Meaning.{names_of}
 use Rattle.wrap_turns.specs.Gathering.{and_then}
 
 made_more : (map : Pairs) (o : Bytes × Bytes) (c : Collected) → and_then map (behind o c) ≡ and_then (map ++ o ∷ []) c

@@ -2,17 +2,17 @@
 use Rattle.std.proofs.Common.{◌≡◌, ℕ, Bool, true, false, if◌then◌else◌, Some, None, Result, Ok, Err, IfErr, IsErrAnd, refl, sym, ap, subst}
 use Rattle.os_files.specs.Bytes.{Bytes}
 use Rattle.os_files.specs.Tree.{Tree}
-use Rattle.cmdlines.specs.declared.parsed.ParsedArguments.{ParsedArguments}
-use Rattle.ckeys.specs.Folders.{Settings}
+use Rattle.cmdlines_requests.specs.declared.parsed.ParsedArguments.{ParsedArguments}
+use Rattle.ckeys_records.specs.Folders.{Settings}
 use Rattle.ckeys.specs.Calls.{KeyCall, PrintedCall, printed_call}
 use Rattle.ckeys.specs.Entries.{Held, entry_key_of, entry_key_by, has_entry_key}
 use Rattle.ckeys.specs.EntryTurns.{EntryTurn, KeyFrom, KeyRecorded}
 use Rattle.ckeys.specs.Hashers.{call_by}
-use Rattle.ckeys.specs.Meaning.{Meaning, scene_with}
+use Rattle.ckeys_records.specs.Meaning.{Meaning, scene_with}
 use Rattle.entry_keys.specs.declared.entry_key.EntryKey.{EntryKey}
 use Rattle.include_records.specs.Records.{Record}
 use Rattle.ckeys_base.specs.Shelf.{Shelf}
-use Rattle.ckeys.specs.declared.fault.Fault.{Fault}
+use Rattle.ckeys_records.specs.declared.fault.Fault.{Fault}
 use Rattle.ckeys.specs.declared.place.CallPlace.{CallPlace}
 use Rattle.ckeys.specs.declared.hasher.CCompilerHasher.{CCompilerHasher}
 use Rattle.wrap_turns.specs.Account.{call_at, direct_at, work_at, worked}

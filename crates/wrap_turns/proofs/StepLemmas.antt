@@ -5,20 +5,20 @@ use Rattle.os_files.specs.Bytes.{Bytes}
 use Rattle.os_files.specs.Tree.{Tree}
 use Rattle.cmdlines_base.specs.declared.command.SingleCompileCommand.{SingleCompileCommand}
 use Rattle.cmdlines_base.specs.Artifacts.{Artifacts}
-use Rattle.cmdlines.specs.declared.parsed.ParsedArguments.{ParsedArguments}
+use Rattle.cmdlines_requests.specs.declared.parsed.ParsedArguments.{ParsedArguments}
 use Rattle.cmdlines_tables.specs.declared.compiler.CCompilerKind.{CCompilerKind}
-use Rattle.ckeys.specs.Folders.{Settings}
-use Rattle.ckeys.specs.Meaning.{Meaning, Made, made_of, names_of, scene_of, asked_of}
+use Rattle.ckeys_records.specs.Folders.{Settings}
+use Rattle.ckeys_records.specs.Meaning.{Meaning, Made, made_of, names_of, scene_of, asked_of}
 use Rattle.wrap_base.specs.Commands.{CFound, compile_command_of}
 use Rattle.wrap_base.specs.AskedBy.{asked_by}
 use Rattle.wrap_turns.specs.Account.{Work, call_at, work_at, Collected, missing, all, collected, missing_fault_of, Pairs, IsSuccess, compile_fault_of}
-use Rattle.ckeys.specs.Causes.{ByStage, no_file, no_step, stage_of}
-use Rattle.ckeys.specs.declared.fault.Fault.{Fault}
-use Rattle.ckeys.specs.declared.fault.Fault.TheVariants.{Memory, Read, Tool, PreprocessFailed, CompileFailed, MissingOutput, NoRule, AnswerNotUtf8, BadDigest}
+use Rattle.ckeys_records.specs.Causes.{ByStage, no_file, no_step, stage_of}
+use Rattle.ckeys_records.specs.declared.fault.Fault.{Fault}
+use Rattle.ckeys_records.specs.declared.fault.Fault.TheVariants.{Memory, Read, Tool, PreprocessFailed, CompileFailed, MissingOutput, NoRule, AnswerNotUtf8, BadDigest}
 use Rattle.wrap_base.specs.declared.request.Request.{Request}
-use Rattle.ckeys.specs.declared.step.Step.{Step}
-use Rattle.ckeys.specs.declared.step.Step.TheVariants.{Compile}
-use Rattle.ckeys.proofs.CauseLemmas.{by_stage, caused_more}
+use Rattle.ckeys_records.specs.declared.step.Step.{Step}
+use Rattle.ckeys_records.specs.declared.step.Step.TheVariants.{Compile}
+use Rattle.ckeys_records.proofs.CauseLemmas.{by_stage, caused_more}
 use Rattle.wrap_turns.specs.Prepared.{Makes}
 use Rattle.wrap_turns.specs.Steps.{CollectCause, CompileCause, Once, RanOnce}
 

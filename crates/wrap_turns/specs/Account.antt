@@ -6,15 +6,15 @@ use Rattle.os_files.specs.Bytes.{Bytes}
 use Rattle.os_files.specs.Tree.{Tree}
 use Rattle.cmdlines.specs.Commands.{compile_words, output_path}
 use Rattle.cmdlines_base.specs.Artifacts.{Artifacts}
-use Rattle.cmdlines.specs.declared.parsed.ParsedArguments.{ParsedArguments}
+use Rattle.cmdlines_requests.specs.declared.parsed.ParsedArguments.{ParsedArguments}
 use Rattle.ckeys.specs.Calls.{KeyCall, PrintedCall, key_fault_of, printed_call, record_of}
 use Rattle.ckeys.specs.Entries.{asking, has_entry_key}
-use Rattle.ckeys.specs.Folders.{Settings}
-use Rattle.ckeys.specs.Meaning.{Scene, Made, Meaning, names_of, asked_of, scene_with}
-use Rattle.ckeys.specs.declared.fault.Fault.{Fault}
-use Rattle.ckeys.specs.declared.fault.Fault.TheVariants.{CompileFailed, MissingOutput}
-use Rattle.ckeys.specs.declared.output_name.OutputName.{OutputName}
-use Rattle.ckeys.specs.declared.step.Step.TheVariants.{Compile}
+use Rattle.ckeys_records.specs.Folders.{Settings}
+use Rattle.ckeys_records.specs.Meaning.{Scene, Made, Meaning, names_of, asked_of, scene_with}
+use Rattle.ckeys_records.specs.declared.fault.Fault.{Fault}
+use Rattle.ckeys_records.specs.declared.fault.Fault.TheVariants.{CompileFailed, MissingOutput}
+use Rattle.ckeys_records.specs.declared.output_name.OutputName.{OutputName}
+use Rattle.ckeys_records.specs.declared.step.Step.TheVariants.{Compile}
 use Rattle.rustc_compiler.specs.Compiler.{Rustc}
 use Rattle.rustkeys_base.specs.Asks.{RustAsks}
 use Rattle.rustkeys.specs.Calls as keys

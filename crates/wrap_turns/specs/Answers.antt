@@ -2,11 +2,11 @@
 use Rattle.std.specs.Prelude.{◌≡◌, List, Option, Some, None, Result, Ok, Err}
 use Rattle.os_files.specs.Bytes.{Bytes}
 use Rattle.ckeys.specs.Calls.{PrintedCall}
-use Rattle.ckeys.specs.Causes.{Stage, any_time, before_compile, in_compile, ByStage, IsCaused, no_file, no_step, stage_of}
+use Rattle.ckeys_records.specs.Causes.{Stage, any_time, before_compile, in_compile, ByStage, IsCaused, no_file, no_step, stage_of}
 use Rattle.ckeys.specs.EntryTurns.{IsSpared}
-use Rattle.ckeys.specs.declared.fault.Fault.{Fault}
-use Rattle.ckeys.specs.declared.fault.Fault.TheVariants.{Tool}
-use Rattle.ckeys.specs.declared.step.Step.{Step}
+use Rattle.ckeys_records.specs.declared.fault.Fault.{Fault}
+use Rattle.ckeys_records.specs.declared.fault.Fault.TheVariants.{Tool}
+use Rattle.ckeys_records.specs.declared.step.Step.{Step}
 use Rattle.wrap_turns.specs.Verdicts.{Why, why_of}
 use Rattle.wrap_turns.specs.Account.{Account, passed, worked, Work, Pairs, IsSuccess, placed, compile_fault_of}
 use Rattle.wrap_base.specs.declared.answer.Answer.{Answer}

@@ -5,11 +5,11 @@ use Rattle.ckeys_base.specs.Shelf.{Shelf}
 use Rattle.ckeys.specs.Calls.{PrintedCall, key_fault_by, needs_preprocessing, record_by}
 use Rattle.ckeys.specs.Entries.{HasMatch, Held, IsFramed}
 use Rattle.ckeys.specs.EntryTurns.{EntryTurn, KeyRecorded, KeyRuns, RunsUntil}
-use Rattle.ckeys.specs.Folders.{Settings}
+use Rattle.ckeys_records.specs.Folders.{Settings}
 use Rattle.entry_keys.specs.declared.entry_key.EntryKey.{EntryKey}
 use Rattle.include_records.specs.Records.{Record}
-use Rattle.ckeys.specs.declared.fault.Fault.{Fault}
-use Rattle.ckeys.specs.declared.fault.Fault.TheVariants.{PreprocessFailed}
+use Rattle.ckeys_records.specs.declared.fault.Fault.{Fault}
+use Rattle.ckeys_records.specs.declared.fault.Fault.TheVariants.{PreprocessFailed}
 use Rattle.wrap_turns.specs.CallRecords.{CallRecord, key_of, of_c, of_rustc}
 use Rattle.wrap_turns.specs.Account.{Account, passed, worked, Work, Pairs, direct_of}
 use Rattle.wrap_turns.specs.Turn.{KeyedTurn}

@@ -1,9 +1,9 @@
 -- The record of a call, of whichever family, and what its key is made of.
 use Rattle.std.specs.Prelude.{◌⊎◌, List}
 use Rattle.os_files.specs.Bytes.{Bytes}
-use Rattle.ckeys.specs.Keys.{Distinct}
-use Rattle.ckeys.specs.Keys as c
-use Rattle.ckeys.specs.Records.{AreTold, CRecord}
+use Rattle.ckeys_records.specs.Keys.{Distinct}
+use Rattle.ckeys_records.specs.Keys as c
+use Rattle.ckeys_records.specs.Records.{AreTold, CRecord}
 use Rattle.rustkeys.specs.Records as rustc
 use Rattle.rustkeys.specs.Records.{RustRecord}
 use Rattle.wrap_base.specs.declared.store_key.Family.{Family}

@@ -5,7 +5,7 @@ use Rattle.cmdlines.specs.Commands.{ReadsAs, output_path, compile_items, preproc
 use Rattle.cmdlines.specs.Hazards.{opens_file}
 use Rattle.cmdlines.specs.Parsing.{HasSafeInput, IsGivenByOption}
 use Rattle.cmdlines_tables.specs.Tables.{reading_of}
-use Rattle.ckeys.specs.Records.{hold_end}
+use Rattle.ckeys_records.specs.Records.{hold_end}
 use Rattle.wrap_base.specs.Commands.{CFound, compile_command_of}
 use Rattle.wrap_turns.specs.Verdicts.{Decision, passes, asks, why_of, hashed_words}
 use Rattle.wrap_base.specs.declared.request.Request.{Request}

@@ -5,10 +5,10 @@ use Rattle.os_files.specs.Tree.{Tree}
 use Rattle.cmdlines_base.specs.Artifacts.{Artifacts}
 use Rattle.cmdlines_base.specs.declared.command.SingleCompileCommand.{SingleCompileCommand}
 use Rattle.cmdlines_tables.specs.declared.compiler.CCompilerKind.{CCompilerKind}
-use Rattle.ckeys.specs.Meaning.{Meaning, names_of, scene_of}
-use Rattle.ckeys.specs.declared.fault.Fault.{Fault}
-use Rattle.ckeys.specs.declared.step.Step.{Step}
-use Rattle.ckeys.specs.declared.step.Step.TheVariants.{Compile}
+use Rattle.ckeys_records.specs.Meaning.{Meaning, names_of, scene_of}
+use Rattle.ckeys_records.specs.declared.fault.Fault.{Fault}
+use Rattle.ckeys_records.specs.declared.step.Step.{Step}
+use Rattle.ckeys_records.specs.declared.step.Step.TheVariants.{Compile}
 use Rattle.wrap_turns.specs.CallRecords.{IsTold}
 use Rattle.wrap_turns.specs.Account.{Work}
 use Rattle.wrap_turns.specs.Steps.{CompileCause}

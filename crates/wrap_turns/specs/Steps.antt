@@ -2,11 +2,11 @@
 use Rattle.std.specs.Prelude.{◌≡◌, ◌⊎◌, ℕ, Bool, true, false, Result, Ok, Err}
 use Rattle.wrap_turns.specs.Account.{Work, Collected, compile_fault_of, missing_fault_of}
 use Rattle.os_files.specs.Bytes.{ticked}
-use Rattle.ckeys.specs.Causes.{ByStage, IsCaused, no_file, no_step, stage_of}
-use Rattle.ckeys.specs.declared.fault.Fault.{Fault}
+use Rattle.ckeys_records.specs.Causes.{ByStage, IsCaused, no_file, no_step, stage_of}
+use Rattle.ckeys_records.specs.declared.fault.Fault.{Fault}
 use Rattle.wrap_base.specs.declared.answer.How.{How}
 use Rattle.wrap_base.specs.declared.answer.How.TheVariants.{Direct, Stored}
-use Rattle.ckeys.specs.declared.step.Step.{Step}
+use Rattle.ckeys_records.specs.declared.step.Step.{Step}
 
 -- outputs that can't be gathered: memory was refused, or the first demanded one wasn't made
 abbrev pub CollectCause : Collected → Fault → Type 0

@@ -2,8 +2,8 @@
 use Rattle.std.specs.Prelude.{◌≡◌, ◌⊎◌, ℕ, true, [], Some, None, IsSome, Result, Ok, Err, OnErr}
 use Rattle.os_files.specs.Bytes.{Bytes, ticked}
 use Rattle.ckeys_base.specs.Shelf.{Shelf, Within, KeepsKeys}
-use Rattle.ckeys.specs.Causes.{ByStage, stage_of}
-use Rattle.ckeys.specs.declared.fault.Fault.{Fault}
+use Rattle.ckeys_records.specs.Causes.{ByStage, stage_of}
+use Rattle.ckeys_records.specs.declared.fault.Fault.{Fault}
 use Rattle.wrap_turns.specs.CallRecords.{IsTold, key_of}
 use Rattle.wrap_turns.specs.Account.{Account, passed, worked, Work, Pairs, IsSuccess}
 use Rattle.wrap_turns.specs.Answers.{Placed}

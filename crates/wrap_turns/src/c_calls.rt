@@ -2,7 +2,7 @@
 
 ghost use Rattle.std.specs.Prelude.{◌≡◌, OnOk, IsErrOf};
 ghost use Rattle.os_files.specs.Fails.{FailsOn};
-ghost use Rattle.ckeys.specs.Meaning.{AreSteady, FailsIn};
+ghost use Rattle.ckeys_records.specs.Meaning.{AreSteady, FailsIn};
 ghost use Rattle.wrap_turns.specs.Account.{account_named, call_at, work_at, worked};
 ghost use Rattle.wrap_turns.specs.Answers.{GoesOn, OnPass, Says, SaysBy, SaysWorked, SaysWorkedBy};
 ghost use Rattle.wrap_turns.specs.Asking.{AskedTurn, EntriesTurn, RecordsAreTrue, shelves_of};
@@ -12,11 +12,11 @@ ghost use Rattle.wrap_base.specs.Commands.{by_c, found_of};
 use crate::finish::finish;
 use crate::prepared::prepare;
 use crate::verdict::{Plan, Verdict, judge};
-use ckeys::config::KeyConfig;
-use ckeys::fault::Fault;
 use ckeys::{EntryKey, PreprocessorCacheEntry};
 use ckeys_base::hash_state::HashState;
 use ckeys_base::store::Store;
+use ckeys_records::config::KeyConfig;
+use ckeys_records::fault::Fault;
 use os_files::files::Files;
 use std::alloc::Global;
 use wrap_base::answer::Answer;

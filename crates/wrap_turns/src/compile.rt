@@ -1,15 +1,15 @@
 //! The compile of a call.
 
 ghost use Rattle.std.specs.Prelude.{◌≡◌, IfOk, IfErr, OnOk, IsErrOf};
-ghost use Rattle.ckeys.specs.Meaning.{AreSteady, FailsIn};
+ghost use Rattle.ckeys_records.specs.Meaning.{AreSteady, FailsIn};
 ghost use Rattle.wrap_turns.specs.Account.{Work, IsSuccess};
 ghost use Rattle.wrap_turns.specs.Prepared.{Makes};
 ghost use Rattle.wrap_turns.specs.Steps.{CompileCause, RanOnce};
 
 use crate::outputs::collected;
-use ckeys::fault::Fault;
-use ckeys::preprocessor::ToolFail;
-use ckeys::step::Step;
+use ckeys_records::fault::Fault;
+use ckeys_records::preprocessor::ToolFail;
+use ckeys_records::step::Step;
 use cmdlines_base::command::{ArtifactDescriptor, SingleCompileCommand};
 use cmdlines_tables::compiler::CCompilerKind;
 use os_files::files::Files;

@@ -3,7 +3,7 @@
 
 ghost use Rattle.std.specs.Prelude.{◌≡◌, OnOk, IsErrOf};
 ghost use Rattle.os_files.specs.Bytes.{Bytes};
-ghost use Rattle.ckeys.specs.Meaning.{AreSteady, FailsIn};
+ghost use Rattle.ckeys_records.specs.Meaning.{AreSteady, FailsIn};
 ghost use Rattle.wrap_turns.specs.Account.{Work, worked};
 ghost use Rattle.wrap_turns.specs.Asking.{HowFrom};
 ghost use Rattle.wrap_turns.specs.Prepared.{IsPrepared, SaysFinished};
@@ -14,8 +14,8 @@ use crate::compile::compiled_pairs;
 use crate::outputs::placed;
 use crate::prepared::Prepared;
 use crate::stored::{ask, keep};
-use ckeys::fault::Fault;
 use ckeys_base::store::Store;
+use ckeys_records::fault::Fault;
 use os_files::files::Files;
 use std::alloc::Global;
 use wrap_base::answer::{Answer, How};

@@ -2,11 +2,11 @@
 
 ghost use Rattle.std.specs.Prelude.{◌≡◌, IfOk, IfErr};
 ghost use Rattle.std.specs.Vec.Iter.{into_iter_items};
-ghost use Rattle.ckeys.specs.Meaning.{names_of};
+ghost use Rattle.ckeys_records.specs.Meaning.{names_of};
 ghost use Rattle.wrap_turns.specs.Account.{collected, all, first_file, files_behind, path_of, placed};
 ghost use Rattle.wrap_turns.specs.Steps.{CollectCause};
 
-use ckeys::fault::Fault;
+use ckeys_records::fault::Fault;
 use cmdlines_base::command::ArtifactDescriptor;
 use os_files::listed::Listed;
 use os_files::os_bytes::OsBytes;

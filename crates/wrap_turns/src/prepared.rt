@@ -2,9 +2,10 @@
 
 ghost use Rattle.std.specs.Prelude.{◌≡◌, true, false, Some, IfOk, IfErr, OnOk, IsErrOf};
 ghost use Rattle.os_files.specs.Fails.{FailsOn};
-ghost use Rattle.ckeys.specs.Calls.{KeyCause, PrintedCall, needs_preprocessing, printed_call};
+ghost use Rattle.ckeys.specs.Calls.{PrintedCall, needs_preprocessing, printed_call};
+ghost use Rattle.ckeys_records.specs.Faults.{KeyCause};
 ghost use Rattle.ckeys.specs.EntryTurns.{KeyFine, KeyRecorded, KeyRuns, RunsUntilKey};
-ghost use Rattle.ckeys.specs.Meaning.{AreSteady, FailsIn};
+ghost use Rattle.ckeys_records.specs.Meaning.{AreSteady, FailsIn};
 ghost use Rattle.wrap_turns.specs.Account.{call_at, work_at, worked};
 ghost use Rattle.wrap_turns.specs.Asking.{EntriesTurn, WorkKeyFrom};
 ghost use Rattle.wrap_turns.specs.Plans.{IsPlanOf};
@@ -14,12 +15,12 @@ ghost use Rattle.wrap_base.specs.Commands.{found_of};
 use crate::keys::store_key;
 use crate::verdict::Plan;
 use ckeys::compiler_impl::CCompilerImpl;
-use ckeys::config::KeyConfig;
-use ckeys::fault::Fault;
-use ckeys::word_end::stripped_words_lack_the_end;
 use ckeys::{EntryKey, PreprocessorCacheEntry};
 use ckeys_base::hash_state::HashState;
 use ckeys_base::store::Store;
+use ckeys_records::config::KeyConfig;
+use ckeys_records::fault::Fault;
+use ckeys_records::word_end::stripped_words_lack_the_end;
 use cmdlines_base::command::{ArtifactDescriptor, SingleCompileCommand};
 use cmdlines_tables::compiler::CCompilerKind;
 use os_files::files::Files;

@@ -9,7 +9,7 @@ ghost use Rattle.wrap_turns.specs.Answers.{EarlyCause};
 ghost use Rattle.wrap_turns.specs.RustPlans.{OnAsks, OpensNothing, decision_of};
 ghost use Rattle.wrap_turns.specs.RustVerdicts.{is_text, is_text_variable, opens_words, rust_verdict_of, with_hazards};
 
-use ckeys::fault::Fault;
+use ckeys_records::fault::Fault;
 use cmdlines_base::compiler_arguments::CompilerArguments;
 use os_files::files::Files;
 use os_files::os_bytes::OsBytes;

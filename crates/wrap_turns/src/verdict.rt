@@ -12,13 +12,13 @@ ghost use Rattle.wrap_turns.specs.Verdicts.{with_hazards, verdict_of};
 ghost use Rattle.wrap_turns.specs.Plans.{decision_of, IsPlanOf, IsReadAgain, IsReadAgainUnlessGiven, IsReadAgainWhereSafe, OnAsks};
 
 use ckeys::compiler_impl::CCompilerImpl;
-use ckeys::fault::Fault;
-use ckeys::word_end::hold_word_end;
+use ckeys_records::fault::Fault;
+use ckeys_records::word_end::hold_word_end;
 use cmdlines::command::CommandError;
 use cmdlines::hazards::{empty_value, opens_file};
-use cmdlines::parsed::ParsedArguments;
 use cmdlines_base::command::SingleCompileCommand;
 use cmdlines_base::compiler_arguments::CompilerArguments;
+use cmdlines_requests::parsed::ParsedArguments;
 use os_files::files::Files;
 use response_files::fault::ParseFault;
 use std::alloc::{AllocError, Global};

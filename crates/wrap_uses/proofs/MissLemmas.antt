@@ -1,7 +1,7 @@
 -- What two fingerprints say of keys.
 use Rattle.std.proofs.Common.{◌≡◌, ◌↔◌, None, Option, Ok, sym, ◌∙◌}
 use Rattle.os_files.specs.Bytes.{Bytes}
-use Rattle.ckeys.specs.declared.step.Step.{Step}
+use Rattle.ckeys_records.specs.declared.step.Step.{Step}
 use Rattle.wrap.specs.Account.{Account, Work, passed, worked}
 use Rattle.wrap.specs.CallRecords.{AreDistinct, IsTold}
 use Rattle.wrap.specs.Fingerprints.{IsFingerprintOf, fingerprint_of}

@@ -4,7 +4,7 @@ use Rattle.wrap.specs.Bytes.{Bytes}
 use Rattle.wrap.specs.Account.{Account, passed, worked}
 use Rattle.wrap.specs.Answers.{Answers, GoesOn, SaysBy}
 use Rattle.wrap.specs.Asking.{AskedTurn, Shelves}
-use Rattle.ckeys.specs.declared.step.Step.{Step}
+use Rattle.ckeys_records.specs.declared.step.Step.{Step}
 use Rattle.wrap_base.specs.declared.answer.Answer.{Answer}
 use Rattle.wrap_base.specs.declared.answer.Answer.TheVariants.{Pass, Outputs}
 use Rattle.wrap_base.specs.declared.answer.How.TheVariants.{Direct, Stored, Fresh}

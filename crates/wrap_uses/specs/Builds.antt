@@ -1,7 +1,7 @@
 -- What a build's steps come to.
 use Rattle.std.specs.Prelude.{List, Result, Ok, Err}
 use Rattle.std.specs.List.{AllByRecursion}
-use Rattle.ckeys.specs.declared.fault.Fault.{Fault}
+use Rattle.ckeys_records.specs.declared.fault.Fault.{Fault}
 use Rattle.wrap.specs.Answers.{Answers}
 use Rattle.wrap.specs.Whole.{Served}
 use Rattle.wrap_base.specs.declared.answer.Answer.{Answer}

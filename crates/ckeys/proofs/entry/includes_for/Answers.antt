@@ -1,7 +1,8 @@
 use Rattle.std.proofs.Common.{None}
 use Rattle.os_files.specs.Fails.{FailsOn}
-use Rattle.ckeys.specs.Calls.{FileCause, fault_by}
-use Rattle.ckeys.proofs.CallLemmas.{files_cause, on_exit, since}
+use Rattle.ckeys_records.specs.Faults.{FileCause, fault_by}
+use Rattle.ckeys.proofs.CallLemmas.{files_cause}
+use Rattle.ckeys_records.proofs.FaultLemmas.{on_exit, since}
 use Rattle.ckeys.proofs.entry.includes_for.Goals as goal
 
 pub returns-in_err-includes_of-in-Names-clause-cause : goal.returns-in_err-includes_of-in-Names-clause-cause

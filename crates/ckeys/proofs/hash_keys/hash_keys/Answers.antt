@@ -3,16 +3,17 @@ use Rattle.std.proofs.lemmas.List.{length-map, take_all}
 use Rattle.std.specs.Prelude.{IfOk, IfErr, OnOk, filter, false, string_bytes}
 use Rattle.std.specs.List.{AllByRecursion, zip}
 use Rattle.os_files.specs.Fails.{FailsOn}
-use Rattle.ckeys.specs.Calls.{KeyCause, PrintedCall, key_fault_by, printed_call, record_by}
+use Rattle.ckeys.specs.Calls.{PrintedCall, key_fault_by, printed_call, record_by}
+use Rattle.ckeys_records.specs.Faults.{KeyCause}
 use Rattle.ckeys.specs.Entries.{EntryInvariant, EntryPremises, asking, has_entry_key}
 use Rattle.ckeys.specs.EntryTurns.{EntryTurn, KeyFine, KeyFrom, KeyRecorded}
-use Rattle.ckeys.specs.Folders.{Settings}
+use Rattle.ckeys_records.specs.Folders.{Settings}
 use Rattle.ckeys.specs.HashCalls.{AreOwnKeys, AsksOver, IsKeyed, IsOwnKey, KeyAnswer, KeyRun, asking_among, call_view, printed_all, printed_at}
 use Rattle.ckeys.specs.Hashers.{call_by}
-use Rattle.ckeys.specs.Keys.{record_shape}
-use Rattle.ckeys.specs.Meaning.{FailsIn}
-use Rattle.ckeys.specs.Params.{is_cached}
-use Rattle.ckeys.specs.Records.{FitsLength}
+use Rattle.ckeys_records.specs.Keys.{record_shape}
+use Rattle.ckeys_records.specs.Meaning.{FailsIn}
+use Rattle.ckeys_records.specs.Params.{is_cached}
+use Rattle.ckeys_records.specs.Records.{FitsLength}
 use Rattle.ckeys.specs.declared.hash_keys.HashCall.{HashCall}
 use Rattle.ckeys.proofs.HashSteps.{all_more, asked_more, call_at_place, front_premises, map_more, mapped_more, no_records, rest_more, run_more, text_key, zipped_more}
 use Rattle.ckeys.proofs.hash_keys.hash_keys.Goals as goal

@@ -3,7 +3,7 @@ use Rattle.os_files.specs.Bytes.{Bytes}
 use Rattle.os_files.specs.Path.{join}
 use Rattle.ckeys_base.specs.Hex.{hex_of}
 use Rattle.include_records.specs.Surroundings.{contents_in}
-use Rattle.ckeys.specs.Calls.{first_missing}
+use Rattle.ckeys_records.specs.Faults.{first_missing}
 use Rattle.ckeys.proofs.needed.extra_hashes.Given as goal
 
 -- the digests so far stand before those of the files that are left, and the first file that isn't there is among these

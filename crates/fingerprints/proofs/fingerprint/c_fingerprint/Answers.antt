@@ -1,12 +1,13 @@
 use Rattle.std.proofs.Common.{◌≡◌, ◌++◌, None, ap, filter, refl, subst, ◌∙◌}
 use Rattle.std.specs.List.{AllByRecursion}
 use Rattle.os_files.specs.Fails.{FailsOn}
-use Rattle.ckeys.specs.Calls.{KeyCall, KeyCause, key_fault_of, record_of}
+use Rattle.ckeys.specs.Calls.{KeyCall, key_fault_of, record_of}
+use Rattle.ckeys_records.specs.Faults.{KeyCause}
 use Rattle.ckeys.specs.Entries.{extra_digests}
 use Rattle.ckeys.specs.Hashers.{call_by}
-use Rattle.ckeys.specs.Meaning.{FailsIn, Variables, names_of}
-use Rattle.ckeys.specs.Params.{is_cached, stripped_words}
-use Rattle.ckeys.specs.Records.{FitsLength}
+use Rattle.ckeys_records.specs.Meaning.{FailsIn, Variables, names_of}
+use Rattle.ckeys_records.specs.Params.{is_cached, stripped_words}
+use Rattle.ckeys_records.specs.Records.{FitsLength}
 use Rattle.wrap_base.specs.Commands.{found_of, kind_of, traits_of}
 use Rattle.wrap_turns.specs.Account.{call_at}
 use Rattle.wrap_turns.specs.Verdicts.{hashed_words}

@@ -2,8 +2,8 @@ use Rattle.std.proofs.Common.{◌≡◌, None, subst}
 use Rattle.os_files.specs.Bytes.{Bytes}
 use Rattle.os_files.specs.Fails.{FailsOn}
 use Rattle.os_files.specs.Tree.{Tree}
-use Rattle.ckeys.specs.Calls.{KeyCause}
-use Rattle.ckeys.specs.Meaning.{FailsIn}
+use Rattle.ckeys_records.specs.Faults.{KeyCause}
+use Rattle.ckeys_records.specs.Meaning.{FailsIn}
 use Rattle.wrap_base.specs.Commands.{found_of, words_at}
 use Rattle.wrap_turns.specs.Account.{Account, Work, account_by, call_at, work_at, worked}
 use Rattle.wrap_turns.specs.Verdicts.{Decision, asks, verdict_of}

@@ -1,5 +1,5 @@
 use Rattle.std.proofs.Common.{◌≡◌, filter, take}
-use Rattle.ckeys.specs.Params.{is_cached}
+use Rattle.ckeys_records.specs.Params.{is_cached}
 use Rattle.fingerprints.proofs.pieces.cached_variables.Given as goal
 
 -- those of the variables so far that count

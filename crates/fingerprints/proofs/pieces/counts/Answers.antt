@@ -1,5 +1,5 @@
 use Rattle.std.proofs.Common.{ap, ◌∙◌}
-use Rattle.ckeys.specs.Params.{is_cached}
+use Rattle.ckeys_records.specs.Params.{is_cached}
 use Rattle.fingerprints.proofs.pieces.counts.Goals as goal
 
 pub returns : goal.returns

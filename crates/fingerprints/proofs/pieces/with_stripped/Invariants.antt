@@ -1,5 +1,5 @@
 use Rattle.std.proofs.Common.{◌≡◌, ◌++◌, take}
-use Rattle.ckeys.specs.Params.{stripped_words}
+use Rattle.ckeys_records.specs.Params.{stripped_words}
 use Rattle.fingerprints.proofs.pieces.with_stripped.Given as goal
 
 -- the words so far stand behind the others

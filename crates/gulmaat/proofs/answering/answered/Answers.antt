@@ -1,5 +1,5 @@
 use Rattle.std.proofs.Common.{sym, ap, ◌∙◌}
-use Rattle.ckeys.specs.Folders.{Settings}
+use Rattle.ckeys_records.specs.Folders.{Settings}
 use Rattle.entry_keys.specs.contracts.entry_key.EntryKeyPartialEq.TheImpl as entry_eq
 use Rattle.replay.specs.contracts.snapshot_files.SnapshotFilesFiles.TheImpl as snapshot
 use Rattle.wrap.specs.Account.{Pairs}

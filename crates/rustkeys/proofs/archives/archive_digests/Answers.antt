@@ -1,9 +1,9 @@
 use Rattle.std.proofs.Common.{◌≡◌, ◌∷◌, [], List, ap, sym, ◌∙◌}
 use Rattle.os_files.specs.Bytes.{Bytes}
-use Rattle.ckeys.specs.Calls.{KeyCause}
-use Rattle.ckeys.specs.Causes.{no_file}
-use Rattle.ckeys.specs.Meaning.{FailsIn, Meaning}
-use Rattle.ckeys.proofs.CallLemmas.{on_exit}
+use Rattle.ckeys_records.specs.Faults.{KeyCause}
+use Rattle.ckeys_records.specs.Causes.{no_file}
+use Rattle.ckeys_records.specs.Meaning.{FailsIn, Meaning}
+use Rattle.ckeys_records.proofs.FaultLemmas.{on_exit}
 use Rattle.rustkeys.specs.Calls.{digest_fault_of}
 use Rattle.rustkeys.specs.Questions.{digest_at, digested}
 use Rattle.rustkeys.proofs.ArchiveLemmas.{first_fault}

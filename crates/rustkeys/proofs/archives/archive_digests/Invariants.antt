@@ -1,6 +1,6 @@
 use Rattle.std.proofs.Common.{◌≡◌, ◌++◌, length, map}
 use Rattle.std.specs.List.{AllByRecursion}
-use Rattle.ckeys.specs.Meaning.{Scene}
+use Rattle.ckeys_records.specs.Meaning.{Scene}
 use Rattle.rustc_parts.specs.Formed.{IsDigest, digest_digits}
 use Rattle.rustkeys.specs.Calls.{digest_fault_of}
 use Rattle.rustkeys.specs.Questions.{digested}

@@ -1,5 +1,5 @@
 use Rattle.std.proofs.Common.{◌≡◌, take}
-use Rattle.ckeys.specs.Meaning.{names_of}
+use Rattle.ckeys_records.specs.Meaning.{names_of}
 use Rattle.script_tool.specs.ScriptedCrates.{made_of_text}
 use Rattle.script_tool.proofs.crates.made.Given as goal
 

@@ -1,5 +1,5 @@
 use Rattle.std.proofs.Common.{◌≡◌, take, map, Some}
-use Rattle.ckeys.specs.Meaning.{names_of}
+use Rattle.ckeys_records.specs.Meaning.{names_of}
 use Rattle.script_tool.proofs.scripting.made.Given as goal
 
 abbrev pub invariant-loop-output : goal.invariant-loop-output

@@ -1,8 +1,8 @@
 use Rattle.std.proofs.Common.{◌≡◌}
 use Rattle.ckeys.specs.Calls.{KeyCall, record_of}
-use Rattle.ckeys.specs.Keys as keys
+use Rattle.ckeys_records.specs.Keys as keys
 use Rattle.wrap_base.specs.declared.store_key.Shape.TheVariants as shapes
-use Rattle.ckeys.specs.Meaning.{Meaning}
+use Rattle.ckeys_records.specs.Meaning.{Meaning}
 use Rattle.wrap.specs.SameCalls.{AreSameWithoutFolders}
 use Rattle.wrap_base.specs.declared.store_key.Family.TheVariants.{C}
 use Rattle.wrap.proofs.laws.folders_do_not_count_in_store_keys.Goals as goal

@@ -2,7 +2,7 @@ use Rattle.std.proofs.Common.{◌≡◌, None, false, subst}
 use Rattle.os_files.specs.Bytes.{Bytes}
 use Rattle.os_files.specs.Fails.{FailsOn}
 use Rattle.os_files.specs.Tree.{Tree}
-use Rattle.ckeys.specs.Meaning.{FailsIn}
+use Rattle.ckeys_records.specs.Meaning.{FailsIn}
 use Rattle.wrap_turns.specs.Account.{Account, Work, worked, account_by, account_named, call_at, work_at}
 use Rattle.wrap_turns.specs.Answers.{GoesOn, Says, SaysBy, SaysWorked, SaysWorkedBy}
 use Rattle.wrap_turns.specs.Asking.{RecordsAreTrue}

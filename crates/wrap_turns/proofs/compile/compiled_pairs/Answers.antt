@@ -1,10 +1,10 @@
 use Rattle.std.proofs.Common.{◌≡◌, ℤ, rules, pos, false, Some, IfOk, IfErr, ap, subst, sym, ◌∙◌, to_z, of_z, w32, w64}
 use Rattle.std.specs.Ordering.{int_eq}
 use Rattle.cmdlines_base.specs.Artifacts.{Artifacts}
-use Rattle.ckeys.specs.declared.fault.Fault.TheVariants.{CompileFailed}
-use Rattle.ckeys.specs.Meaning.{FailsIn, Made, names_of, scene_of}
+use Rattle.ckeys_records.specs.declared.fault.Fault.TheVariants.{CompileFailed}
+use Rattle.ckeys_records.specs.Meaning.{FailsIn, Made, names_of, scene_of}
 use Rattle.wrap_base.specs.AskedBy.{asked_by}
-use Rattle.ckeys.specs.declared.step.Step.TheVariants.{Compile}
+use Rattle.ckeys_records.specs.declared.step.Step.TheVariants.{Compile}
 use Rattle.wrap_turns.specs.Account.{all, collected, compile_fault_of}
 use Rattle.wrap_turns.specs.Steps.{CollectCause}
 use Rattle.wrap_turns.proofs.StepLemmas.{made_fresh, collect_cause, collect_ran, failed_cause}

@@ -1,5 +1,5 @@
 use Rattle.std.proofs.Common.{◌≡◌, take}
-use Rattle.ckeys.specs.Meaning.{names_of}
+use Rattle.ckeys_records.specs.Meaning.{names_of}
 use Rattle.wrap_turns.proofs.keys.names_of.Given as goal
 
 abbrev pub invariant-loop-name : goal.invariant-loop-name

@@ -2,12 +2,13 @@ use Rattle.std.specs.declared.alloc.Global.{Global}
 use Rattle.std.specs.declared.vec.Vec.{Vec}
 use Rattle.std.proofs.Common.{◌≡◌, ℕ, ap, sym, subst, ◌∙◌, string_bytes}
 use Rattle.os_files.specs.Fails.{FailsOn}
-use Rattle.ckeys.specs.Calls.{KeyCall, KeyCause, key_fault_of, printed_call, record_of}
+use Rattle.ckeys.specs.Calls.{KeyCall, key_fault_of, printed_call, record_of}
+use Rattle.ckeys_records.specs.Faults.{KeyCause}
 use Rattle.ckeys.specs.EntryTurns.{EntryTurn, KeyFine, KeyFrom, KeyRecorded}
 use Rattle.ckeys.specs.Hashers.{call_by}
-use Rattle.ckeys.specs.Keys as keys
+use Rattle.ckeys_records.specs.Keys as keys
 use Rattle.wrap_base.specs.declared.store_key.Shape.TheVariants as shapes
-use Rattle.ckeys.specs.Meaning.{FailsIn, names_of}
+use Rattle.ckeys_records.specs.Meaning.{FailsIn, names_of}
 use Rattle.wrap_turns.specs.Account.{call_at}
 use Rattle.wrap_base.specs.Commands.{found_of, kind_of, traits_of}
 use Rattle.wrap_base.specs.declared.store_key.Family.TheVariants.{C}

@@ -1,6 +1,7 @@
 use Rattle.std.proofs.Common.{◌≡◌, refl, rules, to_z, of_z, w64}
-use Rattle.ckeys.specs.Calls.{KeyCause, key_fault_of}
-use Rattle.ckeys.specs.Meaning.{FailsIn}
+use Rattle.ckeys.specs.Calls.{key_fault_of}
+use Rattle.ckeys_records.specs.Faults.{KeyCause}
+use Rattle.ckeys_records.specs.Meaning.{FailsIn}
 use Rattle.os_files.specs.Fails.{FailsOn}
 use Rattle.wrap_turns.specs.Account.{call_at, work_at}
 use Rattle.wrap_turns.specs.Verdicts.{hashed_words}

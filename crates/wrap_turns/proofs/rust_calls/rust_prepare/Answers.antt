@@ -2,9 +2,9 @@ use Rattle.std.specs.declared.alloc.Global.{Global}
 use Rattle.std.specs.declared.vec.Vec.{Vec}
 use Rattle.std.proofs.Common.{◌≡◌, ℕ, None, ap, subst, ◌∙◌}
 use Rattle.os_files.specs.Fails.{FailsOn}
-use Rattle.cmdlines.specs.Commands.{command_at}
-use Rattle.ckeys.specs.Calls.{KeyCause}
-use Rattle.ckeys.specs.Meaning.{FailsIn, Variables, names_of, scene_with}
+use Rattle.cmdlines_requests.specs.Small.{command_at}
+use Rattle.ckeys_records.specs.Faults.{KeyCause}
+use Rattle.ckeys_records.specs.Meaning.{FailsIn, Variables, names_of, scene_with}
 use Rattle.rustc_texts.specs.Words.{compile_words}
 use Rattle.rustkeys_base.specs.Asks.{asks_in}
 use Rattle.rustkeys.specs.Calls.{RustCall, key_fault_of, record_of}
@@ -14,7 +14,7 @@ use Rattle.rustkeys.specs.Questions.{compile_env_of}
 use Rattle.rustkeys.specs.Records.{IsTold, key_of, record_shape}
 use Rattle.wrap_base.specs.declared.store_key.Family.TheVariants.{Rustc}
 use Rattle.wrap_base.specs.declared.store_key.Shape.TheVariants as shapes
-use Rattle.ckeys.specs.declared.fault.Fault.TheVariants.{Memory}
+use Rattle.ckeys_records.specs.declared.fault.Fault.TheVariants.{Memory}
 use Rattle.wrap_turns.specs.Account.{rust_call_at}
 use Rattle.wrap_turns.proofs.KeyLemmas.{on_exit}
 use Rattle.wrap_turns.proofs.rust_calls.rust_prepare.Goals as goal

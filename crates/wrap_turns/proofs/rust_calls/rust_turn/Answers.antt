@@ -2,7 +2,7 @@ use Rattle.std.proofs.Common.{◌≡◌, ℕ, None, false, subst}
 use Rattle.os_files.specs.Bytes.{Bytes}
 use Rattle.os_files.specs.Fails.{FailsOn}
 use Rattle.os_files.specs.Tree.{Tree}
-use Rattle.ckeys.specs.Meaning.{FailsIn}
+use Rattle.ckeys_records.specs.Meaning.{FailsIn}
 use Rattle.rustkeys_base.specs.Asks.{asks_in}
 use Rattle.wrap_turns.specs.Account.{Account, Work, rust_account_by, rust_call_at, rust_work_at, worked}
 use Rattle.wrap_turns.specs.Answers.{Says, SaysWorked}

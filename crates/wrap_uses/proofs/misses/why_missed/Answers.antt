@@ -1,6 +1,6 @@
 use Rattle.std.proofs.Common.{Ok, Result, subst}
 use Rattle.os_files.specs.Fails.{FailsOn}
-use Rattle.ckeys.specs.Meaning.{FailsIn}
+use Rattle.ckeys_records.specs.Meaning.{FailsIn}
 use Rattle.wrap.specs.Account.{account_at}
 use Rattle.wrap.specs.Telling.{Tells}
 use Rattle.wrap_base.specs.declared.reason.Reason.{Reason}

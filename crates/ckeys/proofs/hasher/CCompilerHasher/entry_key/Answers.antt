@@ -3,11 +3,12 @@ use Rattle.os_files.specs.Fails.{FailsOn}
 use Rattle.entry_keys.specs.Identity.{IdentityFits}
 use Rattle.entry_keys.specs.Sights.{SightsFit, seen_by, sights_of}
 use Rattle.entry_keys.specs.Telling.{entry_key_over}
-use Rattle.ckeys.specs.Calls.{FileCause, KeyCall, missing_input}
+use Rattle.ckeys.specs.Calls.{KeyCall, missing_input}
+use Rattle.ckeys_records.specs.Faults.{FileCause}
 use Rattle.ckeys.specs.Entries.{input_with}
 use Rattle.ckeys.specs.Hashers.{call_by}
 use Rattle.ckeys.proofs.AskLemmas.{asked_framed, asked_input, asked_key, both_fit, unasked_input, unasked_key}
-use Rattle.ckeys.proofs.CallLemmas.{on_exit}
+use Rattle.ckeys_records.proofs.FaultLemmas.{on_exit}
 use Rattle.ckeys.proofs.hasher.CCompilerHasher.entry_key.Goals as goal
 
 pub returns-then-not-asks_records-clause-key : goal.returns-then-not-asks_records-clause-key

@@ -4,12 +4,14 @@ use Rattle.std.specs.Option.{option_map}
 use Rattle.os_files.specs.Fails.{FailsOn}
 use Rattle.os_files.specs.Path.{join}
 use Rattle.os_files.specs.Tree.{Tree}
-use Rattle.ckeys.specs.Calls.{KeyCall, KeyCause, PrintedCall, first_missing, key_fault_of, missing_input, printed_call, text_fault_of}
+use Rattle.ckeys.specs.Calls.{KeyCall, PrintedCall, key_fault_of, missing_input, printed_call, text_fault_of}
+use Rattle.ckeys_records.specs.Faults.{KeyCause, first_missing}
 use Rattle.ckeys.specs.Entries.{IsFramed, entry_key_of}
 use Rattle.ckeys.specs.Hashers.{call_by}
-use Rattle.ckeys.specs.Meaning.{FailsIn}
-use Rattle.ckeys.specs.declared.fault.Fault.TheVariants.{Read}
-use Rattle.ckeys.proofs.CallLemmas.{since, cause_is, file_cause, cause_later, on_exit}
+use Rattle.ckeys_records.specs.Meaning.{FailsIn}
+use Rattle.ckeys_records.specs.declared.fault.Fault.TheVariants.{Read}
+use Rattle.ckeys.proofs.CallLemmas.{cause_is, file_cause, cause_later}
+use Rattle.ckeys_records.proofs.FaultLemmas.{since, on_exit}
 use Rattle.ckeys.proofs.EntryLemmas.{fine_later, first_is, input_first, turn_unasked}
 use Rattle.ckeys.proofs.RecordLemmas.{has_key}
 use Rattle.ckeys.proofs.hasher.CCompilerHasher.key_at.Goals as goal

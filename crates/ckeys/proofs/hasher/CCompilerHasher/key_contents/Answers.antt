@@ -5,11 +5,13 @@ use Rattle.os_files.specs.Path.{join}
 use Rattle.os_files.specs.Tree.{Tree}
 use Rattle.ckeys_base.specs.Hex.{hex_of}
 use Rattle.include_records.specs.Surroundings.{contents_in}
-use Rattle.ckeys.specs.Calls.{KeyCall, KeyCause, PrintedCall, first_missing, key_fault_of, missing_input, printed_call, text_fault_of}
+use Rattle.ckeys.specs.Calls.{KeyCall, PrintedCall, key_fault_of, missing_input, printed_call, text_fault_of}
+use Rattle.ckeys_records.specs.Faults.{KeyCause, first_missing}
 use Rattle.ckeys.specs.Hashers.{call_by}
-use Rattle.ckeys.specs.Meaning.{FailsIn}
-use Rattle.ckeys.specs.declared.fault.Fault.TheVariants.{Read}
-use Rattle.ckeys.proofs.CallLemmas.{since, cause_is, file_cause, on_exit}
+use Rattle.ckeys_records.specs.Meaning.{FailsIn}
+use Rattle.ckeys_records.specs.declared.fault.Fault.TheVariants.{Read}
+use Rattle.ckeys.proofs.CallLemmas.{cause_is, file_cause}
+use Rattle.ckeys_records.proofs.FaultLemmas.{since, on_exit}
 use Rattle.ckeys.proofs.EntryLemmas.{first_is, input_first}
 use Rattle.ckeys.proofs.hasher.CCompilerHasher.key_contents.Goals as goal
 

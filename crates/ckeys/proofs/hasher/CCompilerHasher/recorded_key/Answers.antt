@@ -4,19 +4,21 @@ use Rattle.os_files.specs.Fails.{FailsOn}
 use Rattle.os_files.specs.Path.{join}
 use Rattle.os_files.specs.Tree.{Tree}
 use Rattle.ckeys_base.specs.Shelf.{Shelf}
-use Rattle.ckeys.specs.Calls.{KeyCall, KeyCause, PrintedCall, printed_call, record_by, text_by, text_fault_by, text_fault_of, text_of}
+use Rattle.ckeys.specs.Calls.{KeyCall, PrintedCall, printed_call, record_by, text_by, text_fault_by, text_fault_of, text_of}
+use Rattle.ckeys_records.specs.Faults.{KeyCause}
 use Rattle.ckeys.specs.Entries.{HasMatch, good_text, includes_by}
 use Rattle.ckeys.specs.EntryTurns.{EntryTurn, IsKnown, Keeps}
 use Rattle.ckeys.specs.Hashers.{call_by, handed_by, looked_at}
-use Rattle.ckeys.specs.Keys.{key_of}
-use Rattle.ckeys.specs.Material.{shape_of}
-use Rattle.ckeys.specs.Meaning.{FailsIn}
-use Rattle.ckeys.specs.Params.{parts_handed}
+use Rattle.ckeys_records.specs.Keys.{key_of}
+use Rattle.ckeys_records.specs.Material.{shape_of}
+use Rattle.ckeys_records.specs.Meaning.{FailsIn}
+use Rattle.ckeys_records.specs.Params.{parts_handed}
 use Rattle.ckeys.specs.Surroundings.{recorded_of}
 use Rattle.entry_keys.specs.contracts.entry_key.EntryKeyPartialEq.TheImpl as entry_eq
 use Rattle.entry_keys.specs.declared.entry_key.EntryKey.{EntryKey}
 use Rattle.include_records.specs.Records.{Record}
-use Rattle.ckeys.proofs.CallLemmas.{since, cause_is, file_cause, on_exit}
+use Rattle.ckeys.proofs.CallLemmas.{cause_is, file_cause}
+use Rattle.ckeys_records.proofs.FaultLemmas.{since, on_exit}
 use Rattle.ckeys.proofs.EntryLemmas.{from_record, good_of, turn_asked, turn_kept, turn_missed}
 use Rattle.ckeys.proofs.RecordLemmas.{has_key}
 use Rattle.ckeys.proofs.hasher.CCompilerHasher.recorded_key.Goals as goal

@@ -1,5 +1,5 @@
 use Rattle.std.proofs.Common.{◌≡◌, ◌∙◌, None, ap, is_some, pos, string_bytes, subst}
-use Rattle.ckeys.specs.Meaning.{scene_with}
+use Rattle.ckeys_records.specs.Meaning.{scene_with}
 use Rattle.rustc_texts.specs.Outputs.{output_names}
 use Rattle.rustkeys_base.specs.Asks.{asks_in}
 use Rattle.rustkeys.specs.Calls.{rule_fault_of}

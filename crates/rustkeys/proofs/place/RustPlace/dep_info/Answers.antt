@@ -1,9 +1,10 @@
 use Rattle.os_files.specs.Fails.{FailsOn}
-use Rattle.ckeys.specs.Calls.{KeyCause, text_in}
-use Rattle.ckeys.specs.Causes.{no_file}
-use Rattle.ckeys.specs.Meaning.{FailsIn}
-use Rattle.ckeys.specs.declared.step.Step.TheVariants.{DepInfo}
-use Rattle.ckeys.proofs.CallLemmas.{on_exit}
+use Rattle.ckeys_records.specs.Faults.{KeyCause}
+use Rattle.ckeys_records.specs.Meaning.{text_in}
+use Rattle.ckeys_records.specs.Causes.{no_file}
+use Rattle.ckeys_records.specs.Meaning.{FailsIn}
+use Rattle.ckeys_records.specs.declared.step.Step.TheVariants.{DepInfo}
+use Rattle.ckeys_records.proofs.FaultLemmas.{on_exit}
 use Rattle.rustkeys.specs.Calls.{answer_fault_of, dep_info_fault_of, sources_fault_of}
 use Rattle.rustkeys.specs.Questions.{dep_info_of, question_of}
 use Rattle.rustkeys.proofs.CauseLemmas.{first_is, key_cause_more}

@@ -3,11 +3,11 @@ use Rattle.std.specs.Option.{option_map, option_to_list}
 use Rattle.os_files.specs.Bytes.{Bytes}
 use Rattle.os_files.specs.Fails.{FailsOn}
 use Rattle.os_files.specs.Path.{join}
-use Rattle.ckeys.specs.Calls.{KeyCause, or_else, read_fault_of}
-use Rattle.ckeys.specs.Causes.{no_file}
-use Rattle.ckeys.specs.Meaning.{FailsIn}
-use Rattle.ckeys.specs.declared.fault.Fault.TheVariants.{Read}
-use Rattle.ckeys.proofs.CallLemmas.{on_exit}
+use Rattle.ckeys_records.specs.Faults.{KeyCause, or_else, read_fault_of}
+use Rattle.ckeys_records.specs.Causes.{no_file}
+use Rattle.ckeys_records.specs.Meaning.{FailsIn}
+use Rattle.ckeys_records.specs.declared.fault.Fault.TheVariants.{Read}
+use Rattle.ckeys_records.proofs.FaultLemmas.{on_exit}
 use Rattle.rustkeys.specs.Calls.{digest_fault_of, files_fault_of}
 use Rattle.rustkeys.specs.Questions.{digested, extern_paths, question_of, target_path}
 use Rattle.rustkeys.proofs.CauseLemmas.{first_is, key_cause_more, second_is}

@@ -1,6 +1,6 @@
 use Rattle.std.proofs.Common.{Option, ◌∙◌, ap}
 use Rattle.os_files.specs.Bytes.{Bytes}
-use Rattle.ckeys.specs.Meaning.{names_of}
+use Rattle.ckeys_records.specs.Meaning.{names_of}
 use Rattle.script_tool.specs.ScriptedCrates.{compiled_crate}
 use Rattle.script_tool.proofs.script.ScriptTool.compile_crate.Goals as goal
 

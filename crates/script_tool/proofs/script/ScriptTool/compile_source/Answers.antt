@@ -1,6 +1,6 @@
 use Rattle.std.proofs.Common.{◌∙◌, ap}
-use Rattle.ckeys.specs.Folders.{Settings}
-use Rattle.ckeys.specs.Meaning.{names_of}
+use Rattle.ckeys_records.specs.Folders.{Settings}
+use Rattle.ckeys_records.specs.Meaning.{names_of}
 use Rattle.script_tool.specs.Scripted.{compiled, without}
 use Rattle.script_tool.proofs.script.ScriptTool.compile_source.Goals as goal
 
