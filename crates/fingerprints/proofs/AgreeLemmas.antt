@@ -1,8 +1,7 @@
 -- Fingerprints that have the same in all parts are equal.
 use Rattle.std.proofs.Common.{◌≡◌, ◌↔◌, inl, inr, List, [], ◌∷◌, Option, None, Some, refl, subst, sym}
 use Rattle.std.specs.List.{AllByRecursion}
-use Rattle.rustc_parts.specs.declared.parts.Parts.{Parts}
-use Rattle.fingerprints.specs.Explaining.{AgreeByC, AgreeByRustc, AgreeIn, IsFirst, parts_in}
+use Rattle.fingerprints.specs.Explaining.{AgreeByC, AgreeIn, IsFirst, parts_in}
 use Rattle.fingerprints.specs.declared.c_parts.CParts.{CParts}
 use Rattle.fingerprints.specs.declared.fingerprint.Fingerprint.{Fingerprint}
 use Rattle.fingerprints.specs.declared.fingerprint.Fingerprint.TheVariants.{C, Rustc}

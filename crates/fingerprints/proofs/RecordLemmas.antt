@@ -11,12 +11,11 @@ use Rattle.rustc_parts.specs.declared.parts.Parts.{Parts}
 use Rattle.rustkeys.specs.Records as rustc
 use Rattle.rustkeys.specs.Records.{RustRecord}
 use Rattle.rustkeys.proofs.KeyLemmas.{target_told}
-use Rattle.wrap_turns.specs.Account.{Work}
-use Rattle.wrap_turns.specs.CallRecords.{AreDistinct, CallRecord, of_c, of_rustc}
-use Rattle.wrap_turns.specs.StoreKeys.{SameRecord}
+use Rattle.wrap_keys.specs.Account.{Work}
+use Rattle.wrap_keys.specs.CallRecords.{AreDistinct, CallRecord, of_c, of_rustc}
+use Rattle.wrap_keys.specs.StoreKeys.{SameRecord}
 use Rattle.fingerprints.specs.Fingerprints.{c_parts_of, fingerprint_by, fingerprint_of}
 use Rattle.fingerprints.specs.declared.c_parts.CParts.{CParts}
-use Rattle.fingerprints.specs.declared.fingerprint.Fingerprint.{Fingerprint}
 use Rattle.fingerprints.specs.declared.fingerprint.Fingerprint.TheVariants.{C, Rustc}
 
 module _ (digest_of : Bytes → Bytes) (tells : (one other : Bytes) → hex_of (digest_of one) ≡ hex_of (digest_of other) → digest_of one ≡ digest_of other) where

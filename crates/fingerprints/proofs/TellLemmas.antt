@@ -1,5 +1,5 @@
 -- What is told before there is a verdict, and of files as they were before.
-use Rattle.std.proofs.Common.{◌≡◌, None, Result, Ok, Err, IsErrAnd}
+use Rattle.std.proofs.Common.{◌≡◌, None, Err, IsErrAnd}
 use Rattle.std.proofs.lemmas.Result.{err_from_is_err_and}
 use Rattle.os_files.specs.Bytes.{Bytes}
 use Rattle.ckeys_records.specs.Faults.{KeyCause}
@@ -7,8 +7,8 @@ use Rattle.ckeys_records.specs.Causes.{no_step, stage_of}
 use Rattle.ckeys_records.specs.declared.fault.Fault.{Fault}
 use Rattle.ckeys_records.specs.declared.step.Step.{Step}
 use Rattle.ckeys_records.proofs.CauseLemmas.{by_stage, caused_more, file_early}
-use Rattle.wrap_turns.specs.Account.{Account, Work, passed, worked}
-use Rattle.wrap_turns.specs.Answers.{EarlyCause}
+use Rattle.wrap_keys.specs.Account.{Account, Work, passed, worked}
+use Rattle.wrap_keys.specs.Answers.{EarlyCause}
 use Rattle.fingerprints.specs.Telling.{Tells, Told}
 
 -- a cause that comes before there is a verdict is one that comes before the compile

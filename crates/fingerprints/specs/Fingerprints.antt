@@ -5,9 +5,9 @@ use Rattle.ckeys_records.specs.Meaning.{names_of}
 use Rattle.ckeys_records.specs.Records.{CRecord, parts_of}
 use Rattle.ckeys_records.specs.declared.output_name.OutputName.{OutputName}
 use Rattle.rustkeys.specs.Records as rustc
-use Rattle.wrap_turns.specs.Account.{Work}
-use Rattle.wrap_turns.specs.CallRecords.{CallRecord, IsTold, of_c, of_rustc}
-use Rattle.wrap_turns.specs.StoreKeys.{HasRecord}
+use Rattle.wrap_keys.specs.Account.{Work}
+use Rattle.wrap_keys.specs.CallRecords.{CallRecord, IsTold, of_c, of_rustc}
+use Rattle.wrap_keys.specs.StoreKeys.{HasRecord}
 use Rattle.fingerprints.specs.declared.c_parts.CParts.{CParts}
 use Rattle.fingerprints.specs.declared.fingerprint.Fingerprint.{Fingerprint}
 use Rattle.fingerprints.specs.declared.fingerprint.Fingerprint.TheVariants.{C, Rustc}

@@ -5,9 +5,9 @@ use Rattle.ckeys_records.specs.Faults.{KeyCause}
 use Rattle.ckeys_records.specs.declared.fault.Fault.{Fault}
 use Rattle.ckeys_records.specs.declared.step.Step.{Step}
 use Rattle.wrap_base.specs.declared.reason.Reason.{Reason}
-use Rattle.wrap_turns.specs.Account.{Account, Work, passed, worked}
-use Rattle.wrap_turns.specs.Answers.{EarlyCause}
-use Rattle.wrap_turns.specs.Verdicts.{Why, why_of}
+use Rattle.wrap_keys.specs.Account.{Account, Work, passed, worked}
+use Rattle.wrap_keys.specs.Answers.{EarlyCause}
+use Rattle.wrap_keys.specs.Verdicts.{Why, why_of}
 use Rattle.fingerprints.specs.Fingerprints.{IsFingerprintOf}
 use Rattle.fingerprints.specs.declared.fingerprint.Fingerprint.{Fingerprint}
 

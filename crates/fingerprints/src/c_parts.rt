@@ -1,7 +1,6 @@
 //! What counts of a request to a C compiler.
 
-ghost use Rattle.std.specs.Prelude.{◌≡◌, ◌↔◌, ◌++◌, None, true, string_bytes, IfOk};
-ghost use Rattle.std.specs.Option.{option_map};
+ghost use Rattle.std.specs.Prelude.{◌≡◌, ◌↔◌, true};
 ghost use Rattle.fingerprints.specs.Explaining.{AgreeByC};
 
 use crate::part::Part;

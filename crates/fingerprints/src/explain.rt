@@ -1,6 +1,6 @@
 //! In which part two fingerprints differ.
 
-ghost use Rattle.std.specs.Prelude.{◌≡◌, ◌↔◌, None, true, IfSome};
+ghost use Rattle.std.specs.Prelude.{◌≡◌, ◌↔◌, None, true};
 ghost use Rattle.fingerprints.specs.Explaining.{AgreeByRustc, AgreeIn, IsFirst, parts_in};
 
 use crate::fingerprint::Fingerprint;

@@ -7,9 +7,9 @@ ghost use Rattle.ckeys_records.specs.Meaning.{AreSteady, FailsIn};
 ghost use Rattle.ckeys_records.specs.Records.{hold_end};
 ghost use Rattle.rustkeys_base.specs.Asks.{asks_in};
 ghost use Rattle.wrap_base.specs.Commands.{by_c, found_of};
-ghost use Rattle.wrap_turns.specs.Account.{account_at, account_named, call_at, rust_account_by, rust_call_at, rust_work_at, work_at};
-ghost use Rattle.wrap_turns.specs.RustVerdicts.{rust_verdict_of};
-ghost use Rattle.wrap_turns.specs.Verdicts.{hashed_words};
+ghost use Rattle.wrap_keys.specs.Account.{account_at, account_named, call_at, rust_account_by, rust_call_at, rust_work_at, work_at};
+ghost use Rattle.wrap_keys.specs.RustVerdicts.{rust_verdict_of};
+ghost use Rattle.wrap_keys.specs.Verdicts.{hashed_words};
 ghost use Rattle.fingerprints.specs.Fingerprints.{IsFingerprintOf};
 ghost use Rattle.fingerprints.specs.Telling.{OnReason, Tells};
 
@@ -34,9 +34,9 @@ use wrap_base::compiler::{AnyC, Named};
 use wrap_base::reason::Reason;
 use wrap_base::request::Request;
 use wrap_base::tool::Tool;
-use wrap_turns::keys::{names_of, place_of};
-use wrap_turns::rust_verdict::{RustVerdict, judge_rust};
-use wrap_turns::verdict::{Verdict, judge};
+use wrap_keys::keys::{names_of, place_of};
+use wrap_keys::rust_verdict::{RustVerdict, judge_rust};
+use wrap_keys::verdict::{Verdict, judge};
 
 /// Of what a request's key is made: the parts by its family, with digests in the place of files' contents.
 #[derive(Drop, PartialEq, Eq)]

@@ -1,9 +1,9 @@
 //! A law of fingerprints. Calls of it do nothing.
 
 ghost use Rattle.std.specs.Prelude.{◌≡◌, ◌↔◌};
-ghost use Rattle.wrap_turns.specs.Account.{Work};
-ghost use Rattle.wrap_turns.specs.CallRecords.{AreDistinct};
-ghost use Rattle.wrap_turns.specs.StoreKeys.{SameRecord};
+ghost use Rattle.wrap_keys.specs.Account.{Work};
+ghost use Rattle.wrap_keys.specs.CallRecords.{AreDistinct};
+ghost use Rattle.wrap_keys.specs.StoreKeys.{SameRecord};
 ghost use Rattle.fingerprints.specs.Fingerprints.{fingerprint_of};
 
 use ckeys_base::digest::texts_tell_digests;

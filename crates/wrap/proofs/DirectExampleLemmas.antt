@@ -17,10 +17,10 @@ use Rattle.ckeys.specs.Calls.{PrintedCall, record_by}
 use Rattle.ckeys.specs.Entries.{HasMatch, Held, IsHashedBy, entry_key_by, good_text, has_entry_key, identity_by, includes_by, sights_by}
 use Rattle.ckeys.specs.Entries.IsHashedBy.{of_identity, of_sights, of_extra_file, of_file}
 use Rattle.ckeys_records.specs.Keys.{record_material}
-use Rattle.wrap_turns.specs.CallRecords.{IsHashedFor}
+use Rattle.wrap_keys.specs.CallRecords.{IsHashedFor}
 use Rattle.ckeys_records.specs.Meaning.{made_of}
-use Rattle.wrap_turns.specs.Account.{Work, direct_calls, worked}
-use Rattle.wrap_turns.specs.StoreKeys.{HasRecord, IsHashedDirect, IsHashedIn, Premises}
+use Rattle.wrap_keys.specs.Account.{Work, direct_calls, worked}
+use Rattle.wrap_keys.specs.StoreKeys.{HasRecord, IsHashedDirect, IsHashedIn, Premises}
 use Rattle.wrap.specs.DirectExample.{call_on, header, header_include, first_byte_digest, printed_on, printed_text, record_on, file_with, source, text_key_on, two_files, two_moments, work_on}
 
 some_same : {A : Type 0} (x y : A) → Some x ≡ Some y → x ≡ y

@@ -16,7 +16,7 @@ use Rattle.ckeys_records.specs.Faults.{first_missing, or_else, preprocess_fault_
 use Rattle.ckeys.specs.Entries.{AreTrue, EntryInvariant, EntryPremises, Held, IsHashedAmong, asking, has_entry_key, is_told}
 use Rattle.ckeys.specs.EntryTurns.{EntryTurn}
 use Rattle.ckeys_records.specs.Folders.{Settings}
-use Rattle.wrap_turns.specs.CallRecords.{key_of}
+use Rattle.wrap_keys.specs.CallRecords.{key_of}
 use Rattle.ckeys_records.specs.Meaning.{Meaning, names_of}
 use Rattle.entry_keys.specs.declared.entry_key.EntryKey.{EntryKey}
 use Rattle.include_records.specs.Records.{Record}
@@ -24,15 +24,15 @@ use Rattle.ckeys_records.specs.declared.fault.Fault.TheVariants.{PreprocessFaile
 use Rattle.ckeys_records.specs.declared.fault.Fault.{Fault}
 use Rattle.rustc_compiler.specs.Compiler.{Rustc}
 use Rattle.wrap_base.specs.Commands.{CFound, NamedBy, by_c, by_rustc, named_by, words_at}
-use Rattle.wrap_turns.specs.RustVerdicts as rust
-use Rattle.wrap_turns.specs.RustVerdicts.{RustDecision, rust_verdict_of}
-use Rattle.wrap_turns.specs.Verdicts.{Decision, Why, asks, passes, verdict_of}
+use Rattle.wrap_keys.specs.RustVerdicts as rust
+use Rattle.wrap_keys.specs.RustVerdicts.{RustDecision, rust_verdict_of}
+use Rattle.wrap_keys.specs.Verdicts.{Decision, Why, asks, passes, verdict_of}
 use Rattle.wrap_base.specs.declared.request.Request.{Request}
-use Rattle.wrap_turns.specs.Account.{Account, passed, worked, Work, Pairs, account_at, account_by, account_named, asked_by, call_at, rust_account_by, work_at, collected, all, direct_calls, direct_of, placed, why_passed}
-use Rattle.wrap_turns.specs.Answers.{Answers, SaysPassed}
-use Rattle.wrap_turns.specs.Asking.{EntriesBy, EntriesTurn, IsOfCall, IsOfOneCall, RecordsAreTrue, Shelves}
-use Rattle.wrap_turns.specs.StoreKeys.{store_key_of, IsHashedDirect, IsHashedIn, Premises, Invariant}
-use Rattle.wrap_turns.specs.Turn.{StoreTurn}
+use Rattle.wrap_keys.specs.Account.{Account, passed, worked, Work, Pairs, account_at, account_by, account_named, asked_by, call_at, rust_account_by, work_at, collected, all, direct_calls, direct_of, placed, why_passed}
+use Rattle.wrap_keys.specs.Answers.{Answers, SaysPassed}
+use Rattle.wrap_keys.specs.Asking.{EntriesBy, EntriesTurn, IsOfCall, IsOfOneCall, RecordsAreTrue, Shelves}
+use Rattle.wrap_keys.specs.StoreKeys.{store_key_of, IsHashedDirect, IsHashedIn, Premises, Invariant}
+use Rattle.wrap_keys.specs.Turn.{StoreTurn}
 use Rattle.wrap.specs.Whole.{Ticks, CallTurn, BothRun, SessionRun, Served, Loses, Run, accounts_of, AllAnswer, IsFresh, HaveOneRecord, OneFresh, outputs_in, Agree, SameOutputs, served, Each, FilesView, ToolView, begin_of, end_of, served_at, accounts_at}
 use Rattle.wrap_base.specs.declared.answer.Answer.{Answer}
 use Rattle.wrap_base.specs.declared.answer.Answer.TheVariants.{Pass, Outputs}

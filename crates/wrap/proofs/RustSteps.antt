@@ -15,17 +15,17 @@ use Rattle.include_records.specs.Records.{Record}
 use Rattle.rustc_compiler.specs.Compiler.{Rustc}
 use Rattle.rustkeys_base.specs.Asks.{RustAsks}
 use Rattle.rustkeys.specs.Runs.{AtMostTwice}
-use Rattle.wrap_turns.specs.Account.{Account, Pairs, Work, rust_account_by, rust_call_at, rust_work_at, worked}
-use Rattle.wrap_turns.specs.Answers.{GoesOn, Says, SaysBy}
-use Rattle.wrap_turns.specs.Asking.{AskedTurn, EntriesTurn, HowFrom, IsAskedTwice, OnOutputs, RunsOf, shelves_of}
-use Rattle.wrap_turns.specs.CallRecords.{key_of}
+use Rattle.wrap_keys.specs.Account.{Account, Pairs, Work, rust_account_by, rust_call_at, rust_work_at, worked}
+use Rattle.wrap_keys.specs.Answers.{GoesOn, Says, SaysBy}
+use Rattle.wrap_keys.specs.Asking.{AskedTurn, EntriesTurn, HowFrom, IsAskedTwice, OnOutputs, RunsOf, shelves_of}
+use Rattle.wrap_keys.specs.CallRecords.{key_of}
 use Rattle.wrap_turns.specs.Prepared.{IsPrepared}
 use Rattle.wrap_turns.specs.RustPrepared.{IsRustPrepared, rust_command_of}
-use Rattle.wrap_turns.specs.RustVerdicts.{RustDecision, asks, passes}
-use Rattle.wrap_turns.specs.StoreKeys.{store_key_of, store_key_with}
+use Rattle.wrap_keys.specs.RustVerdicts.{RustDecision, asks, passes}
+use Rattle.wrap_keys.specs.StoreKeys.{store_key_of, store_key_with}
 use Rattle.wrap_turns.specs.declared.prepared.Prepared.{Prepared}
 use Rattle.wrap_turns.specs.declared.rust_calls.RustPrepared.{RustPrepared}
-use Rattle.wrap_turns.specs.Turn.{StoreTurn}
+use Rattle.wrap_keys.specs.Turn.{StoreTurn}
 use Rattle.wrap_base.specs.AskedBy.{asked_by}
 use Rattle.wrap_base.specs.declared.answer.Answer.{Answer}
 use Rattle.wrap_base.specs.declared.answer.Answer.TheVariants.{Outputs, Pass}

@@ -17,7 +17,7 @@ use Rattle.ckeys_records.specs.Folders.{settings_with}
 use Rattle.ckeys_records.specs.Keys.{key_of}
 use Rattle.ckeys_records.specs.Meaning.{Meaning, made_of, scene_with}
 use Rattle.ckeys_records.specs.declared.step.Step.TheVariants.{Preprocess}
-use Rattle.wrap_turns.specs.Account.{Account, Work, work_at, worked}
+use Rattle.wrap_keys.specs.Account.{Account, Work, work_at, worked}
 
 -- Each digest has 32 bytes, which tell the first byte.
 abbrev pub first_byte_digest : Bytes → Bytes

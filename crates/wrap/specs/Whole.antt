@@ -10,12 +10,12 @@ use Rattle.ckeys_records.specs.Meaning.{AreSteady, FailsIn, Meaning}
 use Rattle.ckeys_records.specs.declared.fault.Fault.{Fault}
 use Rattle.ckeys_records.specs.declared.fault.Fault.TheVariants.{Memory}
 use Rattle.ckeys_records.specs.declared.step.Step.{Step}
-use Rattle.wrap_turns.specs.Verdicts.{Why}
-use Rattle.wrap_turns.specs.Account.{Account, passed, worked, Pairs, account_at, why_passed}
-use Rattle.wrap_turns.specs.Answers.{Answers, GoesOn, OnPass, Says, SaysBy, SaysPassed, settled, settled_by}
-use Rattle.wrap_turns.specs.Asking.{AskedTurn, EntriesTurn, IsOfOneCall, OnOutputs, RecordsAreTrue, Shelves}
-use Rattle.wrap_turns.specs.StoreKeys.{HasRecord, SameRecord}
-use Rattle.wrap_turns.specs.Turn.{StoreTurn}
+use Rattle.wrap_keys.specs.Verdicts.{Why}
+use Rattle.wrap_keys.specs.Account.{Account, passed, worked, Pairs, account_at, why_passed}
+use Rattle.wrap_keys.specs.Answers.{Answers, GoesOn, OnPass, Says, SaysBy, SaysPassed, settled, settled_by}
+use Rattle.wrap_keys.specs.Asking.{AskedTurn, EntriesTurn, IsOfOneCall, OnOutputs, RecordsAreTrue, Shelves}
+use Rattle.wrap_keys.specs.StoreKeys.{HasRecord, SameRecord}
+use Rattle.wrap_keys.specs.Turn.{StoreTurn}
 use Rattle.wrap_base.specs.declared.answer.Answer.{Answer}
 use Rattle.wrap_base.specs.declared.answer.Answer.TheVariants.{Pass, Outputs}
 use Rattle.wrap_base.specs.declared.answer.How.TheVariants.{Direct, Stored, Fresh}

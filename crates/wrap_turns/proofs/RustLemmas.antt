@@ -1,34 +1,22 @@
 -- Calls to rustc, which ask for no include records.
-use Rattle.std.proofs.Common.{◌≡◌, ℕ, [], None, Some, true, false, Result, Ok, Err, IsErrAnd, inr, refl, sym, ap, ◌∙◌}
-use Rattle.std.proofs.lemmas.Result.{err_from_is_err_and}
+use Rattle.std.proofs.Common.{◌≡◌, ℕ, None, true, false, Result, Ok, Err, IsErrAnd, inr, sym, ap, ◌∙◌}
 use Rattle.os_files.specs.Bytes.{Bytes, ticked}
 use Rattle.os_files.specs.Tree.{Tree}
-use Rattle.ckeys_base.specs.Shelf.{Shelf}
-use Rattle.ckeys.specs.Calls.{PrintedCall}
-use Rattle.ckeys.specs.EntryTurns.{KeyRecorded}
 use Rattle.ckeys_records.specs.Meaning.{Meaning, names_of, scene_of}
 use Rattle.ckeys_records.specs.declared.fault.Fault.{Fault}
-use Rattle.ckeys_records.specs.declared.step.Step.{Step}
 use Rattle.ckeys_records.specs.declared.step.Step.TheVariants.{Compile}
-use Rattle.entry_keys.specs.declared.entry_key.EntryKey.{EntryKey}
-use Rattle.include_records.specs.Records.{Record}
 use Rattle.rustc_compiler.specs.Compiler.{Rustc}
 use Rattle.rustkeys_base.specs.Asks.{RustAsks}
 use Rattle.rustkeys.specs.Runs.{AtMostTwice}
-use Rattle.wrap_turns.specs.Account.{Account, Pairs, Work, rust_account_by, rust_call_at, rust_work_at, worked}
-use Rattle.wrap_turns.specs.Answers.{GoesOn, Says, SaysBy}
-use Rattle.wrap_turns.specs.Asking.{AskedTurn, EntriesTurn, HowFrom, IsAskedTwice, OnOutputs, RunsOf, shelves_of}
-use Rattle.wrap_turns.specs.CallRecords.{key_of}
+use Rattle.wrap_keys.specs.Account.{rust_call_at, rust_work_at}
+use Rattle.wrap_keys.specs.Asking.{IsAskedTwice}
 use Rattle.wrap_turns.specs.Prepared.{IsPrepared}
 use Rattle.wrap_turns.specs.RustPrepared.{IsRustPrepared, rust_command_of}
-use Rattle.wrap_turns.specs.RustVerdicts.{RustDecision, asks, passes}
-use Rattle.wrap_turns.specs.StoreKeys.{store_key_of, store_key_with}
+use Rattle.wrap_keys.specs.StoreKeys.{store_key_of, store_key_with}
 use Rattle.wrap_turns.specs.declared.prepared.Prepared.{Prepared}
 use Rattle.wrap_turns.specs.declared.rust_calls.RustPrepared.{RustPrepared}
-use Rattle.wrap_turns.specs.Turn.{StoreTurn}
 use Rattle.wrap_base.specs.AskedBy.{asked_by}
 use Rattle.wrap_base.specs.declared.answer.Answer.{Answer}
-use Rattle.wrap_base.specs.declared.answer.Answer.TheVariants.{Outputs, Pass}
 use Rattle.wrap_base.specs.declared.request.Request.{Request}
 use Rattle.wrap_base.specs.declared.store_key.StoreKey.{StoreKey}
 

@@ -11,7 +11,7 @@ use Rattle.ckeys_records.specs.Folders.{Settings}
 use Rattle.ckeys_records.specs.Meaning.{Meaning, Made, made_of, names_of, scene_of, asked_of}
 use Rattle.wrap_base.specs.Commands.{CFound, compile_command_of}
 use Rattle.wrap_base.specs.AskedBy.{asked_by}
-use Rattle.wrap_turns.specs.Account.{Work, call_at, work_at, Collected, missing, all, collected, missing_fault_of, Pairs, IsSuccess, compile_fault_of}
+use Rattle.wrap_keys.specs.Account.{Work, call_at, work_at, Collected, missing, all, collected, missing_fault_of, Pairs, IsSuccess, compile_fault_of}
 use Rattle.ckeys_records.specs.Causes.{ByStage, no_file, no_step, stage_of}
 use Rattle.ckeys_records.specs.declared.fault.Fault.{Fault}
 use Rattle.ckeys_records.specs.declared.fault.Fault.TheVariants.{Memory, Read, Tool, PreprocessFailed, CompileFailed, MissingOutput, NoRule, AnswerNotUtf8, BadDigest}

@@ -3,16 +3,14 @@ use Rattle.std.proofs.Common.{◌≡◌, ℕ, ℤ, List, [], Bool, true, false, 
 use Rattle.std.specs.Option.{option_map}
 use Rattle.std.proofs.lemmas.Result.{err_from_is_err_and}
 use Rattle.os_files.specs.Bytes.{Bytes, ticked}
-use Rattle.os_files.specs.Fails.{FailsOn}
-use Rattle.os_files.specs.Tree.{Tree}
 use Rattle.ckeys_base.specs.Shelf.{Shelf, Asks, Puts, Forgotten}
-use Rattle.ckeys.specs.Calls.{PrintedCall, key_fault_by, needs_preprocessing}
+use Rattle.ckeys.specs.Calls.{PrintedCall, key_fault_by}
 use Rattle.ckeys_records.specs.Faults.{KeyCause}
 use Rattle.ckeys_records.specs.Causes.{ByStage, no_file, no_step, stage_of}
 use Rattle.ckeys.specs.Entries.{Held}
 use Rattle.ckeys.specs.EntryTurns.{IsSpared, KeyFine, KeyRecorded, KeyRuns, RunsUntil, RunsUntilKey, RunsUntilStep}
 use Rattle.ckeys_records.specs.Meaning.{AtMostOnce}
-use Rattle.wrap_turns.specs.CallRecords.{CallRecord, IsTold, key_of, of_c, of_rustc}
+use Rattle.wrap_keys.specs.CallRecords.{CallRecord, IsTold, of_c, of_rustc}
 use Rattle.ckeys_records.specs.Meaning.{Meaning, FailsIn}
 use Rattle.entry_keys.specs.declared.entry_key.EntryKey.{EntryKey}
 use Rattle.include_records.specs.Records.{Record}
@@ -20,13 +18,13 @@ use Rattle.ckeys_records.specs.declared.fault.Fault.{Fault}
 use Rattle.ckeys_records.specs.declared.fault.Fault.TheVariants.{Memory, Read, Tool, PreprocessFailed, CompileFailed, MissingOutput, NoRule, AnswerNotUtf8, BadDigest}
 use Rattle.ckeys_records.specs.declared.step.Step.{Step}
 use Rattle.ckeys_records.specs.declared.step.Step.TheVariants.{Preprocess, Compile, DepInfo, FileNames, ArchiveDigest}
-use Rattle.wrap_turns.specs.Account.{Account, passed, worked, Work, Pairs, IsSuccess, compile_fault_of, direct_of, placed}
-use Rattle.wrap_turns.specs.Answers.{EarlyCause, GoesOn, GoesOnWith, OnPass, Placed, SaysBy, SaysWorkedBy}
-use Rattle.wrap_turns.specs.Asking.{AskedTurn, AskedUnder, EntriesBy, EntriesTurn, HowFrom, RanForKey, RecordsAreTrue, RunsIn, RunsOf, RunsOfRecord, Shelves, WorkKeyFrom}
+use Rattle.wrap_keys.specs.Account.{Account, passed, worked, Work, Pairs, IsSuccess, compile_fault_of, direct_of, placed}
+use Rattle.wrap_keys.specs.Answers.{EarlyCause, GoesOn, GoesOnWith, OnPass, Placed, SaysBy, SaysWorkedBy}
+use Rattle.wrap_keys.specs.Asking.{AskedTurn, AskedUnder, EntriesBy, EntriesTurn, HowFrom, RanForKey, RecordsAreTrue, RunsIn, RunsOf, RunsOfRecord, Shelves, WorkKeyFrom}
 use Rattle.wrap_turns.specs.Prepared.{SaysFinished}
-use Rattle.wrap_turns.specs.StoreKeys.{store_key_with}
-use Rattle.wrap_turns.specs.Turn.{KeyedTurn, PutsBy, StoreTurn, own_text_key, StillKept, StoredTurn, MissTurn, Told, ToldBy}
-use Rattle.wrap_turns.specs.Verdicts.{Why}
+use Rattle.wrap_keys.specs.StoreKeys.{store_key_with}
+use Rattle.wrap_keys.specs.Turn.{KeyedTurn, PutsBy, own_text_key, StillKept, StoredTurn, MissTurn, Told, ToldBy}
+use Rattle.wrap_keys.specs.Verdicts.{Why}
 use Rattle.wrap_base.specs.declared.reason.Reason.{Reason}
 use Rattle.wrap_base.specs.declared.answer.Answer.{Answer}
 use Rattle.wrap_base.specs.declared.answer.Answer.TheVariants.{Outputs, Pass}
@@ -230,10 +228,6 @@ early_turn digest_of text_key a shelf count on_file fault cause result err = let
     told : (b : Account) (f : Fault) → EarlyCause on_file f → ToldBy digest_of text_key b shelf shelf count count (Err f)
     told (passed why) f h = (refl, refl)
     told (worked w) f h = by_stage (stage_of f) (λ u. inl refl) (λ c. refl) (λ n. absurd n) (early_stage on_file f h)
-
--- a file's device failed after calls on which it didn't
-pub fails_on_later : {F : Type 0} (tree : F → Tree) (failed : F → ℕ) (fails_on : F → Bytes → F → Type 0) (old mid new : F) → tree mid ≡ tree old → failed mid ≡ failed old → (name : Bytes) → FailsOn tree failed fails_on mid new name → FailsOn tree failed fails_on old new name
-fails_on_later tree failed fails_on old mid new m f name h = record { from = h.from; same = h.same ∙ m; steady = h.steady ∙ f; ticks = h.ticks; leads = h.leads }
 
 -- what is said of files as they were before
 pub says_later : (went_on : Type 0) (w : Work) (one other : Bytes → Type 0) (device_in : Step → Type 0) → ((name : Bytes) → one name → other name) → (result : Result Answer Fault) → SaysWorkedBy went_on w one device_in result → SaysWorkedBy went_on w other device_in result

@@ -1,13 +1,3 @@
-pub mod Verdicts
-pub mod RustVerdicts
-pub mod CallRecords
-pub mod Account
-pub mod StoreKeys
-pub mod Answers
-pub mod Turn
-pub mod Asking
-pub mod Plans
-pub mod RustPlans
 pub mod Prepared
 pub mod RustPrepared
 pub mod Gathering

@@ -9,10 +9,10 @@ use Rattle.ckeys_records.specs.Meaning.{Meaning, names_of, scene_of}
 use Rattle.ckeys_records.specs.declared.fault.Fault.{Fault}
 use Rattle.ckeys_records.specs.declared.step.Step.{Step}
 use Rattle.ckeys_records.specs.declared.step.Step.TheVariants.{Compile}
-use Rattle.wrap_turns.specs.CallRecords.{IsTold}
-use Rattle.wrap_turns.specs.Account.{Work}
+use Rattle.wrap_keys.specs.CallRecords.{IsTold}
+use Rattle.wrap_keys.specs.Account.{Work}
 use Rattle.wrap_turns.specs.Steps.{CompileCause}
-use Rattle.wrap_turns.specs.StoreKeys.{store_key_with}
+use Rattle.wrap_keys.specs.StoreKeys.{store_key_with}
 use Rattle.wrap_turns.specs.declared.prepared.Prepared.{Prepared}
 use Rattle.wrap_base.specs.AskedBy.{asked_by}
 use Rattle.wrap_base.specs.declared.answer.Answer.{Answer}

@@ -7,9 +7,9 @@ use Rattle.rustc_compiler.specs.Compiler.{Rustc}
 use Rattle.rustc_texts.specs.Words.{compile_words}
 use Rattle.rustkeys_base.specs.Asks.{RustAsks}
 use Rattle.rustkeys.specs.Questions.{compile_env_of}
-use Rattle.wrap_turns.specs.CallRecords.{IsTold}
-use Rattle.wrap_turns.specs.Account.{Work}
-use Rattle.wrap_turns.specs.StoreKeys.{HasRecord, store_key_of}
+use Rattle.wrap_keys.specs.CallRecords.{IsTold}
+use Rattle.wrap_keys.specs.Account.{Work}
+use Rattle.wrap_keys.specs.StoreKeys.{HasRecord, store_key_of}
 use Rattle.wrap_turns.specs.declared.rust_calls.RustPrepared.{RustPrepared}
 use Rattle.wrap_base.specs.declared.request.Request.{Request}
 

@@ -1,6 +1,6 @@
 -- Why the steps of a call fail.
 use Rattle.std.specs.Prelude.{◌≡◌, ◌⊎◌, ℕ, Bool, true, false, Result, Ok, Err}
-use Rattle.wrap_turns.specs.Account.{Work, Collected, compile_fault_of, missing_fault_of}
+use Rattle.wrap_keys.specs.Account.{Work, Collected, compile_fault_of, missing_fault_of}
 use Rattle.os_files.specs.Bytes.{ticked}
 use Rattle.ckeys_records.specs.Causes.{ByStage, IsCaused, no_file, no_step, stage_of}
 use Rattle.ckeys_records.specs.declared.fault.Fault.{Fault}

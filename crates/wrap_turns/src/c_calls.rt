@@ -3,15 +3,14 @@
 ghost use Rattle.std.specs.Prelude.{◌≡◌, OnOk, IsErrOf};
 ghost use Rattle.os_files.specs.Fails.{FailsOn};
 ghost use Rattle.ckeys_records.specs.Meaning.{AreSteady, FailsIn};
-ghost use Rattle.wrap_turns.specs.Account.{account_named, call_at, work_at, worked};
-ghost use Rattle.wrap_turns.specs.Answers.{GoesOn, OnPass, Says, SaysBy, SaysWorked, SaysWorkedBy};
-ghost use Rattle.wrap_turns.specs.Asking.{AskedTurn, EntriesTurn, RecordsAreTrue, shelves_of};
-ghost use Rattle.wrap_turns.specs.Plans.{IsPlanOf};
+ghost use Rattle.wrap_keys.specs.Account.{account_named, call_at, work_at, worked};
+ghost use Rattle.wrap_keys.specs.Answers.{GoesOn, OnPass, Says, SaysBy, SaysWorked, SaysWorkedBy};
+ghost use Rattle.wrap_keys.specs.Asking.{AskedTurn, EntriesTurn, RecordsAreTrue, shelves_of};
+ghost use Rattle.wrap_keys.specs.Plans.{IsPlanOf};
 ghost use Rattle.wrap_base.specs.Commands.{by_c, found_of};
 
 use crate::finish::finish;
 use crate::prepared::prepare;
-use crate::verdict::{Plan, Verdict, judge};
 use ckeys::{EntryKey, PreprocessorCacheEntry};
 use ckeys_base::hash_state::HashState;
 use ckeys_base::store::Store;
@@ -24,6 +23,7 @@ use wrap_base::compiler::AnyC;
 use wrap_base::request::Request;
 use wrap_base::store_key::{Pairs, StoreKey};
 use wrap_base::tool::Tool;
+use wrap_keys::verdict::{Plan, Verdict, judge};
 
 /// Answers a request to this C compiler that isn't passed through: what the store holds under its key, or what one compile makes, which
 /// is kept then.

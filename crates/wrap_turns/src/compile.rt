@@ -2,7 +2,7 @@
 
 ghost use Rattle.std.specs.Prelude.{◌≡◌, IfOk, IfErr, OnOk, IsErrOf};
 ghost use Rattle.ckeys_records.specs.Meaning.{AreSteady, FailsIn};
-ghost use Rattle.wrap_turns.specs.Account.{Work, IsSuccess};
+ghost use Rattle.wrap_keys.specs.Account.{Work, IsSuccess};
 ghost use Rattle.wrap_turns.specs.Prepared.{Makes};
 ghost use Rattle.wrap_turns.specs.Steps.{CompileCause, RanOnce};
 

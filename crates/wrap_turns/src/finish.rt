@@ -4,11 +4,11 @@
 ghost use Rattle.std.specs.Prelude.{◌≡◌, OnOk, IsErrOf};
 ghost use Rattle.os_files.specs.Bytes.{Bytes};
 ghost use Rattle.ckeys_records.specs.Meaning.{AreSteady, FailsIn};
-ghost use Rattle.wrap_turns.specs.Account.{Work, worked};
-ghost use Rattle.wrap_turns.specs.Asking.{HowFrom};
+ghost use Rattle.wrap_keys.specs.Account.{Work, worked};
+ghost use Rattle.wrap_keys.specs.Asking.{HowFrom};
 ghost use Rattle.wrap_turns.specs.Prepared.{IsPrepared, SaysFinished};
 ghost use Rattle.wrap_turns.specs.Steps.{kept_how};
-ghost use Rattle.wrap_turns.specs.Turn.{KeyedTurn};
+ghost use Rattle.wrap_keys.specs.Turn.{KeyedTurn};
 
 use crate::compile::compiled_pairs;
 use crate::outputs::placed;

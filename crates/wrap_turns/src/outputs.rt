@@ -3,7 +3,7 @@
 ghost use Rattle.std.specs.Prelude.{◌≡◌, IfOk, IfErr};
 ghost use Rattle.std.specs.Vec.Iter.{into_iter_items};
 ghost use Rattle.ckeys_records.specs.Meaning.{names_of};
-ghost use Rattle.wrap_turns.specs.Account.{collected, all, first_file, files_behind, path_of, placed};
+ghost use Rattle.wrap_keys.specs.Account.{collected, all, first_file, files_behind, path_of, placed};
 ghost use Rattle.wrap_turns.specs.Steps.{CollectCause};
 
 use ckeys_records::fault::Fault;

@@ -6,14 +6,12 @@ ghost use Rattle.ckeys.specs.Calls.{PrintedCall, needs_preprocessing, printed_ca
 ghost use Rattle.ckeys_records.specs.Faults.{KeyCause};
 ghost use Rattle.ckeys.specs.EntryTurns.{KeyFine, KeyRecorded, KeyRuns, RunsUntilKey};
 ghost use Rattle.ckeys_records.specs.Meaning.{AreSteady, FailsIn};
-ghost use Rattle.wrap_turns.specs.Account.{call_at, work_at, worked};
-ghost use Rattle.wrap_turns.specs.Asking.{EntriesTurn, WorkKeyFrom};
-ghost use Rattle.wrap_turns.specs.Plans.{IsPlanOf};
+ghost use Rattle.wrap_keys.specs.Account.{call_at, work_at, worked};
+ghost use Rattle.wrap_keys.specs.Asking.{EntriesTurn, WorkKeyFrom};
+ghost use Rattle.wrap_keys.specs.Plans.{IsPlanOf};
 ghost use Rattle.wrap_turns.specs.Prepared.{IsPrepared};
 ghost use Rattle.wrap_base.specs.Commands.{found_of};
 
-use crate::keys::store_key;
-use crate::verdict::Plan;
 use ckeys::compiler_impl::CCompilerImpl;
 use ckeys::{EntryKey, PreprocessorCacheEntry};
 use ckeys_base::hash_state::HashState;
@@ -30,6 +28,8 @@ use wrap_base::compiler::AnyC;
 use wrap_base::request::Request;
 use wrap_base::store_key::StoreKey;
 use wrap_base::tool::Tool;
+use wrap_keys::keys::store_key;
+use wrap_keys::verdict::Plan;
 
 /// A request with its key, the outputs that it wants, and the command that makes them.
 #[derive(Drop)]

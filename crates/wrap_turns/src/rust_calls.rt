@@ -7,18 +7,16 @@ ghost use Rattle.ckeys_records.specs.Faults.{KeyCause};
 ghost use Rattle.ckeys_records.specs.Meaning.{AreSteady, FailsIn};
 ghost use Rattle.rustkeys_base.specs.Asks.{asks_in};
 ghost use Rattle.rustkeys.specs.Runs.{AtMostTwice};
-ghost use Rattle.wrap_turns.specs.Account.{rust_account_by, rust_call_at, rust_work_at, worked};
-ghost use Rattle.wrap_turns.specs.Answers.{OnPass, Says, SaysWorked};
-ghost use Rattle.wrap_turns.specs.Asking.{HowFrom, IsAskedTwice, RunsOf};
-ghost use Rattle.wrap_turns.specs.CallRecords.{key_of};
+ghost use Rattle.wrap_keys.specs.Account.{rust_account_by, rust_call_at, rust_work_at, worked};
+ghost use Rattle.wrap_keys.specs.Answers.{OnPass, Says, SaysWorked};
+ghost use Rattle.wrap_keys.specs.Asking.{HowFrom, IsAskedTwice, RunsOf};
+ghost use Rattle.wrap_keys.specs.CallRecords.{key_of};
 ghost use Rattle.wrap_turns.specs.RustPrepared.{IsRustPrepared};
-ghost use Rattle.wrap_turns.specs.RustVerdicts.{rust_verdict_of};
-ghost use Rattle.wrap_turns.specs.Turn.{KeyedTurn, StoreTurn};
+ghost use Rattle.wrap_keys.specs.RustVerdicts.{rust_verdict_of};
+ghost use Rattle.wrap_keys.specs.Turn.{KeyedTurn, StoreTurn};
 
 use crate::finish::finish;
-use crate::keys::names_of;
 use crate::prepared::Prepared;
-use crate::rust_verdict::{RustVerdict, judge_rust};
 use ckeys_base::hash_state::HashState;
 use ckeys_base::store::Store;
 use ckeys_records::fault::Fault;
@@ -33,6 +31,8 @@ use wrap_base::answer::Answer;
 use wrap_base::request::Request;
 use wrap_base::store_key::{Family, Pairs, Shape, StoreKey};
 use wrap_base::tool::Tool;
+use wrap_keys::keys::names_of;
+use wrap_keys::rust_verdict::{RustVerdict, judge_rust};
 
 /// A request to rustc with its key: the compile that it stands for, and the text on dependencies where it asks for one.
 #[derive(Drop)]

@@ -3,7 +3,7 @@
 ghost use Rattle.std.specs.Prelude.{◌≡◌, IfOk};
 ghost use Rattle.std.specs.Option.{option_map};
 ghost use Rattle.ckeys_base.specs.Shelf.{Asks, Puts};
-ghost use Rattle.wrap_turns.specs.Account.{placed};
+ghost use Rattle.wrap_keys.specs.Account.{placed};
 
 use crate::outputs::placed;
 use ckeys_base::store::Store;

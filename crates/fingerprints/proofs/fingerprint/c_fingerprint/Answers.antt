@@ -1,4 +1,4 @@
-use Rattle.std.proofs.Common.{◌≡◌, ◌++◌, None, ap, filter, refl, subst, ◌∙◌}
+use Rattle.std.proofs.Common.{◌≡◌, ◌++◌, None, ap, filter, subst, ◌∙◌}
 use Rattle.std.specs.List.{AllByRecursion}
 use Rattle.os_files.specs.Fails.{FailsOn}
 use Rattle.ckeys.specs.Calls.{KeyCall, key_fault_of, record_of}
@@ -9,9 +9,9 @@ use Rattle.ckeys_records.specs.Meaning.{FailsIn, Variables, names_of}
 use Rattle.ckeys_records.specs.Params.{is_cached, stripped_words}
 use Rattle.ckeys_records.specs.Records.{FitsLength}
 use Rattle.wrap_base.specs.Commands.{found_of, kind_of, traits_of}
-use Rattle.wrap_turns.specs.Account.{call_at}
-use Rattle.wrap_turns.specs.Verdicts.{hashed_words}
-use Rattle.wrap_turns.proofs.KeyLemmas.{call_is, on_exit}
+use Rattle.wrap_keys.specs.Account.{call_at}
+use Rattle.wrap_keys.specs.Verdicts.{hashed_words}
+use Rattle.wrap_keys.proofs.KeyLemmas.{call_is, on_exit}
 use Rattle.fingerprints.specs.declared.fingerprint.Fingerprint.TheVariants.{C}
 use Rattle.fingerprints.proofs.fingerprint.c_fingerprint.Goals as goal
 

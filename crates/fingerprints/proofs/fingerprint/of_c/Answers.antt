@@ -1,13 +1,13 @@
-use Rattle.std.proofs.Common.{◌≡◌, None, subst}
+use Rattle.std.proofs.Common.{◌≡◌, subst}
 use Rattle.os_files.specs.Bytes.{Bytes}
 use Rattle.os_files.specs.Fails.{FailsOn}
 use Rattle.os_files.specs.Tree.{Tree}
 use Rattle.ckeys_records.specs.Faults.{KeyCause}
 use Rattle.ckeys_records.specs.Meaning.{FailsIn}
 use Rattle.wrap_base.specs.Commands.{found_of, words_at}
-use Rattle.wrap_turns.specs.Account.{Account, Work, account_by, call_at, work_at, worked}
-use Rattle.wrap_turns.specs.Verdicts.{Decision, asks, verdict_of}
-use Rattle.wrap_turns.proofs.TurnLemmas.{fails_on_later}
+use Rattle.wrap_keys.specs.Account.{Account, Work, account_by, call_at, work_at}
+use Rattle.wrap_keys.specs.Verdicts.{Decision, asks, verdict_of}
+use Rattle.wrap_keys.proofs.KeyLemmas.{fails_on_later}
 use Rattle.fingerprints.specs.Telling.{Tells}
 use Rattle.fingerprints.proofs.TellLemmas.{early_tells, fault_tells, key_later}
 use Rattle.fingerprints.proofs.fingerprint.of_c.Goals as goal

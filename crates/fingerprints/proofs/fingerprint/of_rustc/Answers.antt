@@ -1,13 +1,13 @@
-use Rattle.std.proofs.Common.{◌≡◌, None, subst}
+use Rattle.std.proofs.Common.{◌≡◌, subst}
 use Rattle.os_files.specs.Bytes.{Bytes}
 use Rattle.os_files.specs.Fails.{FailsOn}
 use Rattle.os_files.specs.Tree.{Tree}
 use Rattle.ckeys_records.specs.Faults.{KeyCause}
 use Rattle.ckeys_records.specs.Meaning.{FailsIn}
 use Rattle.rustkeys_base.specs.Asks.{asks_in}
-use Rattle.wrap_turns.specs.Account.{Account, Work, rust_account_by, rust_call_at, rust_work_at, worked}
-use Rattle.wrap_turns.specs.RustVerdicts.{RustDecision, asks, rust_verdict_of}
-use Rattle.wrap_turns.proofs.TurnLemmas.{fails_on_later}
+use Rattle.wrap_keys.specs.Account.{Account, Work, rust_account_by, rust_call_at, rust_work_at}
+use Rattle.wrap_keys.specs.RustVerdicts.{RustDecision, asks, rust_verdict_of}
+use Rattle.wrap_keys.proofs.KeyLemmas.{fails_on_later}
 use Rattle.fingerprints.specs.Telling.{Tells}
 use Rattle.fingerprints.proofs.TellLemmas.{early_tells, fault_tells, key_later}
 use Rattle.fingerprints.proofs.fingerprint.of_rustc.Goals as goal

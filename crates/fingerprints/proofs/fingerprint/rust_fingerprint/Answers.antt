@@ -8,8 +8,8 @@ use Rattle.rustkeys.specs.Calls.{RustCall, key_fault_of, record_of}
 use Rattle.rustkeys.specs.Fresh.{call_outputs}
 use Rattle.rustkeys.specs.Hashers.{known_of}
 use Rattle.rustkeys.specs.Records.{IsTold, parts_of}
-use Rattle.wrap_turns.specs.Account.{rust_call_at}
-use Rattle.wrap_turns.proofs.KeyLemmas.{on_exit}
+use Rattle.wrap_keys.specs.Account.{rust_call_at}
+use Rattle.wrap_keys.proofs.KeyLemmas.{on_exit}
 use Rattle.fingerprints.specs.declared.fingerprint.Fingerprint.TheVariants.{Rustc}
 use Rattle.fingerprints.proofs.fingerprint.rust_fingerprint.Goals as goal
 

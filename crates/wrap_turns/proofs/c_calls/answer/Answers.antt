@@ -1,11 +1,10 @@
-use Rattle.std.proofs.Common.{◌≡◌, ℕ, false, true, None, refl, subst, sym}
+use Rattle.std.proofs.Common.{◌≡◌, ℕ, false, None, refl, subst, sym}
 use Rattle.ckeys.specs.Calls.{KeyCall, PrintedCall, printed_call}
-use Rattle.ckeys.specs.EntryTurns.{KeyRuns}
-use Rattle.wrap_turns.specs.CallRecords.{key_of}
-use Rattle.wrap_turns.specs.Account.{call_at, work_at, worked}
-use Rattle.wrap_turns.specs.Answers.{GoesOn}
-use Rattle.wrap_turns.specs.Asking.{RanForKey, shelves_of}
-use Rattle.wrap_turns.specs.Turn.{KeyedTurn}
+use Rattle.wrap_keys.specs.CallRecords.{key_of}
+use Rattle.wrap_keys.specs.Account.{call_at, work_at, worked}
+use Rattle.wrap_keys.specs.Answers.{GoesOn}
+use Rattle.wrap_keys.specs.Asking.{RanForKey, shelves_of}
+use Rattle.wrap_keys.specs.Turn.{KeyedTurn}
 use Rattle.wrap_base.specs.Commands.{found_of}
 use Rattle.wrap_turns.proofs.TurnLemmas.{asked_fault, asked_finished, fails_in_later, finished_says, finished_unpassed, goes_on, key_says, key_turn, key_until, own_goes_on, text_fine}
 use Rattle.wrap_turns.proofs.c_calls.answer.Goals as goal

@@ -3,13 +3,14 @@ use Rattle.os_files.specs.Bytes.{Bytes}
 use Rattle.os_files.specs.Fails.{FailsOn}
 use Rattle.os_files.specs.Tree.{Tree}
 use Rattle.ckeys_records.specs.Meaning.{FailsIn}
-use Rattle.wrap_turns.specs.Account.{Account, Work, worked, account_by, account_named, call_at, work_at}
-use Rattle.wrap_turns.specs.Answers.{GoesOn, Says, SaysBy, SaysWorked, SaysWorkedBy}
-use Rattle.wrap_turns.specs.Asking.{RecordsAreTrue}
+use Rattle.wrap_keys.specs.Account.{Account, Work, worked, account_by, account_named, call_at, work_at}
+use Rattle.wrap_keys.specs.Answers.{GoesOn, Says, SaysBy, SaysWorked, SaysWorkedBy}
+use Rattle.wrap_keys.specs.Asking.{RecordsAreTrue}
 use Rattle.wrap_base.specs.Commands.{by_c, found_of, words_at}
-use Rattle.wrap_turns.specs.Turn.{own_text_key}
-use Rattle.wrap_turns.specs.Verdicts.{Decision, asks, verdict_of}
-use Rattle.wrap_turns.proofs.TurnLemmas.{asked_fault, early_runs, early_says, early_turn, fails_on_later, own_asked, quiet_entries, says_later}
+use Rattle.wrap_keys.specs.Turn.{own_text_key}
+use Rattle.wrap_keys.specs.Verdicts.{Decision, asks, verdict_of}
+use Rattle.wrap_keys.proofs.KeyLemmas.{fails_on_later}
+use Rattle.wrap_turns.proofs.TurnLemmas.{asked_fault, early_runs, early_says, early_turn, own_asked, quiet_entries, says_later}
 use Rattle.wrap_turns.proofs.c_calls.c_turn.Goals as goal
 
 pub returns-in_err-reason-clause-says : goal.returns-in_err-reason-clause-says

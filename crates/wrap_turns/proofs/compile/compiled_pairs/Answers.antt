@@ -5,7 +5,7 @@ use Rattle.ckeys_records.specs.declared.fault.Fault.TheVariants.{CompileFailed}
 use Rattle.ckeys_records.specs.Meaning.{FailsIn, Made, names_of, scene_of}
 use Rattle.wrap_base.specs.AskedBy.{asked_by}
 use Rattle.ckeys_records.specs.declared.step.Step.TheVariants.{Compile}
-use Rattle.wrap_turns.specs.Account.{all, collected, compile_fault_of}
+use Rattle.wrap_keys.specs.Account.{all, collected, compile_fault_of}
 use Rattle.wrap_turns.specs.Steps.{CollectCause}
 use Rattle.wrap_turns.proofs.StepLemmas.{made_fresh, collect_cause, collect_ran, failed_cause}
 use Rattle.wrap_turns.proofs.compile.compiled_pairs.Goals as goal

@@ -1,8 +1,8 @@
 use Rattle.std.proofs.Common.{◌≡◌, rules, Ok, refl, ap, sym, subst, ◌∙◌, to_z, of_z, w64}
 use Rattle.std.specs.Option.{option_map}
-use Rattle.wrap_turns.specs.Account.{Work, placed, worked}
-use Rattle.wrap_turns.specs.Asking.{HowFrom}
-use Rattle.wrap_turns.specs.Turn.{KeyedTurn}
+use Rattle.wrap_keys.specs.Account.{placed, worked}
+use Rattle.wrap_keys.specs.Asking.{HowFrom}
+use Rattle.wrap_keys.specs.Turn.{KeyedTurn}
 use Rattle.wrap_base.specs.declared.answer.Answer.TheVariants.{Outputs}
 use Rattle.wrap_base.specs.contracts.store_key.StoreKeyPartialEq.TheImpl as key_eq
 use Rattle.wrap_turns.proofs.StepLemmas.{makes_then}

@@ -1,7 +1,7 @@
 use Rattle.std.proofs.Common.{◌≡◌, drop}
 use Rattle.std.specs.Vec.Iter.{into_iter_items}
 use Rattle.ckeys_records.specs.Meaning.{names_of}
-use Rattle.wrap_turns.specs.Account.{collected}
+use Rattle.wrap_keys.specs.Account.{collected}
 use Rattle.wrap_turns.specs.Gathering.{and_then}
 use Rattle.wrap_turns.proofs.outputs.collected.Given as goal
 

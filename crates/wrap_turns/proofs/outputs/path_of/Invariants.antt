@@ -1,5 +1,5 @@
 use Rattle.std.proofs.Common.{◌≡◌, length}
-use Rattle.wrap_turns.specs.Account.{path_of}
+use Rattle.wrap_keys.specs.Account.{path_of}
 use Rattle.wrap_turns.proofs.outputs.path_of.Given as goal
 
 -- the name is looked up among those that are left

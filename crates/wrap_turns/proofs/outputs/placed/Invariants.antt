@@ -1,5 +1,5 @@
 use Rattle.std.proofs.Common.{◌≡◌, take}
-use Rattle.wrap_turns.specs.Account.{placed}
+use Rattle.wrap_keys.specs.Account.{placed}
 use Rattle.wrap_turns.proofs.outputs.placed.Given as goal
 
 abbrev pub invariant-loop-name : goal.invariant-loop-name

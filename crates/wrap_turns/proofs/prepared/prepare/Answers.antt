@@ -1,12 +1,7 @@
 use Rattle.std.proofs.Common.{◌≡◌, refl, rules, to_z, of_z, w64}
-use Rattle.ckeys.specs.Calls.{key_fault_of}
-use Rattle.ckeys_records.specs.Faults.{KeyCause}
-use Rattle.ckeys_records.specs.Meaning.{FailsIn}
-use Rattle.os_files.specs.Fails.{FailsOn}
-use Rattle.wrap_turns.specs.Account.{call_at, work_at}
-use Rattle.wrap_turns.specs.Verdicts.{hashed_words}
+use Rattle.wrap_keys.specs.Account.{call_at, work_at}
+use Rattle.wrap_keys.specs.Verdicts.{hashed_words}
 use Rattle.wrap_base.specs.Commands.{found_of}
-use Rattle.wrap_turns.proofs.KeyLemmas.{on_exit}
 use Rattle.wrap_turns.proofs.StepLemmas.{makes_then, plan_makes}
 use Rattle.wrap_turns.proofs.TurnLemmas.{has_direct}
 use Rattle.wrap_turns.proofs.prepared.prepare.Goals as goal

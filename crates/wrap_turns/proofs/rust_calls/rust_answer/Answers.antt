@@ -1,10 +1,9 @@
-use Rattle.std.proofs.Common.{◌≡◌, ℕ, None, false, rules, refl, subst, ap, ◌∙◌, to_z, of_z, w64}
-use Rattle.os_files.specs.Bytes.{Bytes, ticked}
+use Rattle.std.proofs.Common.{◌≡◌, ℕ, None, false, rules, refl, subst, ◌∙◌, to_z, of_z, w64}
+use Rattle.os_files.specs.Bytes.{Bytes}
 use Rattle.rustkeys_base.specs.Asks.{asks_in}
-use Rattle.wrap_turns.specs.Account.{rust_call_at, rust_work_at, worked}
-use Rattle.wrap_turns.specs.CallRecords.{key_of}
-use Rattle.wrap_turns.specs.Prepared.{IsPrepared}
-use Rattle.wrap_turns.specs.Turn.{KeyedTurn}
+use Rattle.wrap_keys.specs.Account.{rust_call_at, rust_work_at, worked}
+use Rattle.wrap_keys.specs.CallRecords.{key_of}
+use Rattle.wrap_keys.specs.Turn.{KeyedTurn}
 use Rattle.wrap_turns.proofs.RustLemmas.{asked_twice, asked_until, is_prepared}
 use Rattle.wrap_turns.proofs.TurnLemmas.{fails_in_later, finished_says, finished_unpassed, how_of_fault, key_says, key_turn}
 use Rattle.wrap_turns.proofs.rust_calls.rust_answer.Goals as goal

@@ -15,8 +15,8 @@ use Rattle.rustkeys.specs.Records.{IsTold, key_of, record_shape}
 use Rattle.wrap_base.specs.declared.store_key.Family.TheVariants.{Rustc}
 use Rattle.wrap_base.specs.declared.store_key.Shape.TheVariants as shapes
 use Rattle.ckeys_records.specs.declared.fault.Fault.TheVariants.{Memory}
-use Rattle.wrap_turns.specs.Account.{rust_call_at}
-use Rattle.wrap_turns.proofs.KeyLemmas.{on_exit}
+use Rattle.wrap_keys.specs.Account.{rust_call_at}
+use Rattle.wrap_keys.proofs.KeyLemmas.{on_exit}
 use Rattle.wrap_turns.proofs.rust_calls.rust_prepare.Goals as goal
 
 pub returns-in_err-compilation-clause-cause : goal.returns-in_err-compilation-clause-cause

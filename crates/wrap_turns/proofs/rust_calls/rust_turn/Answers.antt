@@ -1,16 +1,16 @@
-use Rattle.std.proofs.Common.{◌≡◌, ℕ, None, false, subst}
+use Rattle.std.proofs.Common.{◌≡◌, None, false, subst}
 use Rattle.os_files.specs.Bytes.{Bytes}
 use Rattle.os_files.specs.Fails.{FailsOn}
 use Rattle.os_files.specs.Tree.{Tree}
 use Rattle.ckeys_records.specs.Meaning.{FailsIn}
 use Rattle.rustkeys_base.specs.Asks.{asks_in}
-use Rattle.wrap_turns.specs.Account.{Account, Work, rust_account_by, rust_call_at, rust_work_at, worked}
-use Rattle.wrap_turns.specs.Answers.{Says, SaysWorked}
-use Rattle.wrap_turns.specs.Asking.{RunsOf}
-use Rattle.wrap_turns.specs.CallRecords.{key_of}
-use Rattle.wrap_turns.specs.RustVerdicts.{RustDecision, asks, rust_verdict_of}
-use Rattle.wrap_turns.specs.Turn.{KeyedTurn, StoreTurn, own_text_key}
-use Rattle.wrap_turns.proofs.TurnLemmas.{early_ran, early_says, early_turn, fails_on_later, how_of_fault, says_later}
+use Rattle.wrap_keys.specs.Account.{Account, Work, rust_account_by, rust_call_at, rust_work_at, worked}
+use Rattle.wrap_keys.specs.Answers.{Says, SaysWorked}
+use Rattle.wrap_keys.specs.Asking.{RunsOf}
+use Rattle.wrap_keys.specs.RustVerdicts.{RustDecision, asks, rust_verdict_of}
+use Rattle.wrap_keys.specs.Turn.{StoreTurn, own_text_key}
+use Rattle.wrap_keys.proofs.KeyLemmas.{fails_on_later}
+use Rattle.wrap_turns.proofs.TurnLemmas.{early_ran, early_says, early_turn, how_of_fault, says_later}
 use Rattle.wrap_turns.proofs.rust_calls.rust_turn.Goals as goal
 
 pub returns-in_err-reason-clause-says : goal.returns-in_err-reason-clause-says

@@ -1,7 +1,7 @@
 use Rattle.std.proofs.Common.{◌≡◌, true, rules}
-use Rattle.wrap_turns.specs.RustVerdicts.{is_text}
-use Rattle.wrap_turns.proofs.JudgeLemmas.{judged}
-use Rattle.wrap_turns.proofs.rust_verdict.judge_rust.Goals as goal
+use Rattle.wrap_keys.specs.RustVerdicts.{is_text}
+use Rattle.wrap_keys.proofs.JudgeLemmas.{judged}
+use Rattle.wrap_keys.proofs.rust_verdict.judge_rust.Goals as goal
 
 pub returns-in_ok-after_hazards-in-Ok-Ok-clause-verdict : goal.returns-in_ok-after_hazards-in-Ok-Ok-clause-verdict
 returns-in_ok-after_hazards-in-Ok-Ok-clause-verdict g c =

@@ -22,10 +22,10 @@ use Rattle.rustkeys.specs.Calls.{RustCall}
 use Rattle.rustkeys.specs.Fresh.{call_outputs, dep_info_text_of, fresh_of}
 use Rattle.rustkeys.specs.Hashers.{known_of}
 use Rattle.wrap_base.specs.Commands.{CFound, NamedBy, by_c, by_rustc, named_by, words_at}
-use Rattle.wrap_turns.specs.CallRecords.{CallRecord, of_c, of_rustc}
-use Rattle.wrap_turns.specs.RustVerdicts as verdicts
-use Rattle.wrap_turns.specs.RustVerdicts.{RustDecision, rust_verdict_of}
-use Rattle.wrap_turns.specs.Verdicts.{Why, Decision, passes, asks, verdict_of}
+use Rattle.wrap_keys.specs.CallRecords.{CallRecord, of_c, of_rustc}
+use Rattle.wrap_keys.specs.RustVerdicts as verdicts
+use Rattle.wrap_keys.specs.RustVerdicts.{RustDecision, rust_verdict_of}
+use Rattle.wrap_keys.specs.Verdicts.{Why, Decision, passes, asks, verdict_of}
 use Rattle.wrap_base.specs.declared.answer.Output.{Output}
 use Rattle.wrap_base.specs.declared.request.Request.{Request}
 

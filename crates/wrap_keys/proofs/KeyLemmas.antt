@@ -1,6 +1,7 @@
--- The call of which a request's key is made.
-use Rattle.std.proofs.Common.{◌≡◌, ℕ, Bool, true, false, if◌then◌else◌, Some, None, Result, Ok, Err, IfErr, IsErrAnd, refl, sym, ap, subst}
+-- The call of which a request's key is made, and what is said of a fault.
+use Rattle.std.proofs.Common.{◌≡◌, ℕ, Bool, true, false, if◌then◌else◌, Some, None, Result, Ok, Err, IfErr, IsErrAnd, refl, sym, ap, subst, ◌∙◌}
 use Rattle.os_files.specs.Bytes.{Bytes}
+use Rattle.os_files.specs.Fails.{FailsOn}
 use Rattle.os_files.specs.Tree.{Tree}
 use Rattle.cmdlines_requests.specs.declared.parsed.ParsedArguments.{ParsedArguments}
 use Rattle.ckeys_records.specs.Folders.{Settings}
@@ -15,8 +16,8 @@ use Rattle.ckeys_base.specs.Shelf.{Shelf}
 use Rattle.ckeys_records.specs.declared.fault.Fault.{Fault}
 use Rattle.ckeys.specs.declared.place.CallPlace.{CallPlace}
 use Rattle.ckeys.specs.declared.hasher.CCompilerHasher.{CCompilerHasher}
-use Rattle.wrap_turns.specs.Account.{call_at, direct_at, work_at, worked}
-use Rattle.wrap_turns.specs.Asking.{EntriesBy, EntriesTurn, WorkKeyFrom}
+use Rattle.wrap_keys.specs.Account.{call_at, direct_at, work_at, worked}
+use Rattle.wrap_keys.specs.Asking.{EntriesBy, EntriesTurn, WorkKeyFrom}
 use Rattle.wrap_base.specs.Commands.{kind_of, traits_of, executable_of, digest_of, found_of}
 use Rattle.wrap_base.specs.declared.compiler.AnyC.{AnyC}
 use Rattle.wrap_base.specs.declared.request.Request.{Request}
@@ -38,6 +39,10 @@ call_is named request tree settings p hasher place compiler executable digest pa
 pub on_exit : {A : Type 0} (P : Fault → Type 0) (result : Result A Fault) (fault : Fault) → IsErrAnd result (λ f. f ≡ fault) → P fault → IfErr result P
 on_exit P (Ok x) fault h p = absurd h
 on_exit P (Err f) fault h p = subst P (sym h) p
+
+-- a file's device failed after calls on which it didn't
+pub fails_on_later : {F : Type 0} (tree : F → Tree) (failed : F → ℕ) (fails_on : F → Bytes → F → Type 0) (old mid new : F) → tree mid ≡ tree old → failed mid ≡ failed old → (name : Bytes) → FailsOn tree failed fails_on mid new name → FailsOn tree failed fails_on old new name
+fails_on_later tree failed fails_on old mid new m f name h = record { from = h.from; same = h.same ∙ m; steady = h.steady ∙ f; ticks = h.ticks; leads = h.leads }
 
 -- a call that has an entry key
 has_one : (digest_of : Bytes → Bytes) (call : KeyCall) (key : EntryKey) → entry_key_of digest_of call ≡ Some key → has_entry_key call ≡ true

@@ -10,9 +10,9 @@ use Rattle.entry_keys.specs.declared.entry_key.EntryKey.{EntryKey}
 use Rattle.include_records.specs.Records.{Record}
 use Rattle.ckeys_records.specs.declared.fault.Fault.{Fault}
 use Rattle.ckeys_records.specs.declared.fault.Fault.TheVariants.{PreprocessFailed}
-use Rattle.wrap_turns.specs.CallRecords.{CallRecord, key_of, of_c, of_rustc}
-use Rattle.wrap_turns.specs.Account.{Account, passed, worked, Work, Pairs, direct_of}
-use Rattle.wrap_turns.specs.Turn.{KeyedTurn}
+use Rattle.wrap_keys.specs.CallRecords.{CallRecord, key_of, of_c, of_rustc}
+use Rattle.wrap_keys.specs.Account.{Account, passed, worked, Work, Pairs, direct_of}
+use Rattle.wrap_keys.specs.Turn.{KeyedTurn}
 use Rattle.wrap_base.specs.declared.answer.Answer.{Answer}
 use Rattle.wrap_base.specs.declared.answer.Answer.TheVariants.{Pass, Outputs}
 use Rattle.wrap_base.specs.declared.answer.How.TheVariants.{Direct, Stored, Fresh}

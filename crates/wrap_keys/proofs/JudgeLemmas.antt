@@ -12,8 +12,8 @@ use Rattle.rustkeys_base.specs.Verdict as parsing
 use Rattle.rustkeys_base.specs.Verdict.{request_reading, verdict_in, verdict_on}
 use Rattle.rustkeys_base.specs.declared.parsed.ParsedArguments.{ParsedArguments}
 use Rattle.rustc_texts.specs.Words.{all_words, color_words, compile_words, dep_info_words, file_names_words}
-use Rattle.wrap_turns.specs.RustPlans.{OpensNothing}
-use Rattle.wrap_turns.specs.RustVerdicts.{RustDecision, decided, decided_on, is_text, not_text, rust_verdict_of, with_hazards}
+use Rattle.wrap_keys.specs.RustPlans.{OpensNothing}
+use Rattle.wrap_keys.specs.RustVerdicts.{RustDecision, decided, decided_on, is_text, not_text, rust_verdict_of, with_hazards}
 use Rattle.wrap_base.specs.declared.request.Request.{Request}
 
 -- where none of all words has it, none of the first ones has

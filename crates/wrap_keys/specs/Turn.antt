@@ -4,10 +4,10 @@ use Rattle.os_files.specs.Bytes.{Bytes, ticked}
 use Rattle.ckeys_base.specs.Shelf.{Shelf, Within, KeepsKeys}
 use Rattle.ckeys_records.specs.Causes.{ByStage, stage_of}
 use Rattle.ckeys_records.specs.declared.fault.Fault.{Fault}
-use Rattle.wrap_turns.specs.CallRecords.{IsTold, key_of}
-use Rattle.wrap_turns.specs.Account.{Account, passed, worked, Work, Pairs, IsSuccess}
-use Rattle.wrap_turns.specs.Answers.{Placed}
-use Rattle.wrap_turns.specs.StoreKeys.{store_key_with, IsUnder}
+use Rattle.wrap_keys.specs.CallRecords.{IsTold, key_of}
+use Rattle.wrap_keys.specs.Account.{Account, passed, worked, Work, Pairs, IsSuccess}
+use Rattle.wrap_keys.specs.Answers.{Placed}
+use Rattle.wrap_keys.specs.StoreKeys.{store_key_with, IsUnder}
 use Rattle.wrap_base.specs.declared.answer.Answer.{Answer}
 use Rattle.wrap_base.specs.declared.answer.Answer.TheVariants.{Pass, Outputs}
 use Rattle.wrap_base.specs.declared.answer.How.TheVariants.{Direct, Stored, Fresh}

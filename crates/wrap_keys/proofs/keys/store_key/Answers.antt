@@ -9,11 +9,11 @@ use Rattle.ckeys.specs.Hashers.{call_by}
 use Rattle.ckeys_records.specs.Keys as keys
 use Rattle.wrap_base.specs.declared.store_key.Shape.TheVariants as shapes
 use Rattle.ckeys_records.specs.Meaning.{FailsIn, names_of}
-use Rattle.wrap_turns.specs.Account.{call_at}
+use Rattle.wrap_keys.specs.Account.{call_at}
 use Rattle.wrap_base.specs.Commands.{found_of, kind_of, traits_of}
 use Rattle.wrap_base.specs.declared.store_key.Family.TheVariants.{C}
-use Rattle.wrap_turns.proofs.KeyLemmas.{call_is, entries_by, key_from, on_exit, recorded_by}
-use Rattle.wrap_turns.proofs.keys.store_key.Goals as goal
+use Rattle.wrap_keys.proofs.KeyLemmas.{call_is, entries_by, key_from, on_exit, recorded_by}
+use Rattle.wrap_keys.proofs.keys.store_key.Goals as goal
 
 pub returns-in_err-digest-clause-cause : goal.returns-in_err-digest-clause-cause
 returns-in_err-digest-clause-cause g c =

@@ -1,6 +1,6 @@
 //! The key under which a request's outputs are kept.
 
-ghost use Rattle.std.specs.Prelude.{◌≡◌, false, true, None, Some, IfOk, IfErr, OnOk, IsErrOf};
+ghost use Rattle.std.specs.Prelude.{◌≡◌, false, true, Some, IfOk, IfErr, OnOk, IsErrOf};
 ghost use Rattle.std.specs.List.{AllByRecursion};
 ghost use Rattle.os_files.specs.Fails.{FailsOn};
 ghost use Rattle.ckeys.specs.Calls.{PrintedCall, needs_preprocessing, printed_call, record_of};
@@ -8,9 +8,9 @@ ghost use Rattle.ckeys_records.specs.Faults.{KeyCause};
 ghost use Rattle.ckeys.specs.EntryTurns.{KeyFine, KeyRecorded, KeyRuns, RunsUntilKey};
 ghost use Rattle.ckeys_records.specs.Meaning.{AreSteady, FailsIn, names_of};
 ghost use Rattle.ckeys_records.specs.Records.{FitsLength};
-ghost use Rattle.wrap_turns.specs.Account.{call_at, work_at, worked};
-ghost use Rattle.wrap_turns.specs.Asking.{EntriesTurn, WorkKeyFrom};
-ghost use Rattle.wrap_turns.specs.StoreKeys.{store_key_with};
+ghost use Rattle.wrap_keys.specs.Account.{call_at, work_at, worked};
+ghost use Rattle.wrap_keys.specs.Asking.{EntriesTurn, WorkKeyFrom};
+ghost use Rattle.wrap_keys.specs.StoreKeys.{store_key_with};
 ghost use Rattle.wrap_base.specs.Commands.{found_of};
 
 use crate::verdict::Plan;

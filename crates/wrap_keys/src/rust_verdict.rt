@@ -5,9 +5,9 @@ ghost use Rattle.std.specs.List.{list_all};
 ghost use Rattle.std.specs.Str.{is_utf8};
 ghost use Rattle.os_files.specs.Fails.{FailsOn};
 ghost use Rattle.rustkeys_base.specs.Asks.{asks_in};
-ghost use Rattle.wrap_turns.specs.Answers.{EarlyCause};
-ghost use Rattle.wrap_turns.specs.RustPlans.{OnAsks, OpensNothing, decision_of};
-ghost use Rattle.wrap_turns.specs.RustVerdicts.{is_text, is_text_variable, opens_words, rust_verdict_of, with_hazards};
+ghost use Rattle.wrap_keys.specs.Answers.{EarlyCause};
+ghost use Rattle.wrap_keys.specs.RustPlans.{OnAsks, OpensNothing, decision_of};
+ghost use Rattle.wrap_keys.specs.RustVerdicts.{is_text, is_text_variable, opens_words, rust_verdict_of, with_hazards};
 
 use ckeys_records::fault::Fault;
 use cmdlines_base::compiler_arguments::CompilerArguments;

@@ -7,11 +7,11 @@ use Rattle.cmdlines.specs.Parsing.{HasSafeInput, IsGivenByOption}
 use Rattle.cmdlines_tables.specs.Tables.{reading_of}
 use Rattle.ckeys_records.specs.Records.{hold_end}
 use Rattle.wrap_base.specs.Commands.{CFound, compile_command_of}
-use Rattle.wrap_turns.specs.Verdicts.{Decision, passes, asks, why_of, hashed_words}
+use Rattle.wrap_keys.specs.Verdicts.{Decision, passes, asks, why_of, hashed_words}
 use Rattle.wrap_base.specs.declared.request.Request.{Request}
-use Rattle.wrap_turns.specs.declared.verdict.Plan.{Plan}
-use Rattle.wrap_turns.specs.declared.verdict.Verdict.{Verdict}
-use Rattle.wrap_turns.specs.declared.verdict.Verdict.TheVariants.{Passes, Asks}
+use Rattle.wrap_keys.specs.declared.verdict.Plan.{Plan}
+use Rattle.wrap_keys.specs.declared.verdict.Verdict.{Verdict}
+use Rattle.wrap_keys.specs.declared.verdict.Verdict.TheVariants.{Passes, Asks}
 
 -- a verdict, without where its texts lie in memory and without its command
 abbrev pub decision_of : Verdict → Decision

@@ -5,10 +5,10 @@ use Rattle.cmdlines_base.specs.Reading.{begins_with_at}
 use Rattle.rustkeys_base.specs.Asks.{asks_in}
 use Rattle.rustkeys_base.specs.declared.parsed.ParsedArguments.{ParsedArguments}
 use Rattle.rustc_texts.specs.Words.{compile_words, dep_info_words, file_names_words}
-use Rattle.wrap_turns.specs.RustVerdicts.{RustDecision, asks, passes}
-use Rattle.wrap_turns.specs.Verdicts.{why_of}
-use Rattle.wrap_turns.specs.declared.rust_verdict.RustVerdict.{RustVerdict}
-use Rattle.wrap_turns.specs.declared.rust_verdict.RustVerdict.TheVariants.{Passes, Asks}
+use Rattle.wrap_keys.specs.RustVerdicts.{RustDecision, asks, passes}
+use Rattle.wrap_keys.specs.Verdicts.{why_of}
+use Rattle.wrap_keys.specs.declared.rust_verdict.RustVerdict.{RustVerdict}
+use Rattle.wrap_keys.specs.declared.rust_verdict.RustVerdict.TheVariants.{Passes, Asks}
 
 -- a verdict, without where its texts and its flags lie in memory
 abbrev pub decision_of : RustVerdict → RustDecision

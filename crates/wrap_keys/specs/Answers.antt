@@ -7,8 +7,8 @@ use Rattle.ckeys.specs.EntryTurns.{IsSpared}
 use Rattle.ckeys_records.specs.declared.fault.Fault.{Fault}
 use Rattle.ckeys_records.specs.declared.fault.Fault.TheVariants.{Tool}
 use Rattle.ckeys_records.specs.declared.step.Step.{Step}
-use Rattle.wrap_turns.specs.Verdicts.{Why, why_of}
-use Rattle.wrap_turns.specs.Account.{Account, passed, worked, Work, Pairs, IsSuccess, placed, compile_fault_of}
+use Rattle.wrap_keys.specs.Verdicts.{Why, why_of}
+use Rattle.wrap_keys.specs.Account.{Account, passed, worked, Work, Pairs, IsSuccess, placed, compile_fault_of}
 use Rattle.wrap_base.specs.declared.answer.Answer.{Answer}
 use Rattle.wrap_base.specs.declared.answer.Answer.TheVariants.{Pass, Outputs}
 use Rattle.wrap_base.specs.declared.answer.Output.{Output}

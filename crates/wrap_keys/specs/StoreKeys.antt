@@ -6,8 +6,8 @@ use Rattle.ckeys.specs.Calls.{PrintedCall}
 use Rattle.ckeys.specs.Entries.{AreReprinted, IsHashedBy}
 use Rattle.ckeys_records.specs.Keys.{Distinct}
 use Rattle.ckeys_records.specs.Meaning.{names_of}
-use Rattle.wrap_turns.specs.CallRecords.{IsHashedFor, IsTold, family_of, key_of, record_shape}
-use Rattle.wrap_turns.specs.Account.{Account, worked, Work, Pairs, IsSuccess, direct_calls}
+use Rattle.wrap_keys.specs.CallRecords.{IsHashedFor, IsTold, family_of, key_of, record_shape}
+use Rattle.wrap_keys.specs.Account.{Account, worked, Work, Pairs, IsSuccess, direct_calls}
 use Rattle.wrap_base.specs.declared.store_key.StoreKey.{StoreKey}
 
 -- the key with this digest, and the record's shape and the outputs' names

@@ -5,11 +5,11 @@ ghost use Rattle.os_files.specs.Bytes.{Bytes};
 ghost use Rattle.os_files.specs.Fails.{FailsOn};
 ghost use Rattle.cmdlines.specs.Commands.{object_path};
 ghost use Rattle.cmdlines.specs.Parsing as parsing;
-ghost use Rattle.cmdlines.specs.ReadBack.{ReadsAsCompile, ReadsAsPreprocess};
+ghost use Rattle.cmdlines.specs.ReadBack.{ReadsAsCompile};
 ghost use Rattle.wrap_base.specs.Commands.{compile_command_of, found_of, kind_of, words_at};
-ghost use Rattle.wrap_turns.specs.Answers.{EarlyCause};
-ghost use Rattle.wrap_turns.specs.Verdicts.{with_hazards, verdict_of};
-ghost use Rattle.wrap_turns.specs.Plans.{decision_of, IsPlanOf, IsReadAgain, IsReadAgainUnlessGiven, IsReadAgainWhereSafe, OnAsks};
+ghost use Rattle.wrap_keys.specs.Answers.{EarlyCause};
+ghost use Rattle.wrap_keys.specs.Verdicts.{with_hazards, verdict_of};
+ghost use Rattle.wrap_keys.specs.Plans.{decision_of, IsPlanOf, IsReadAgain, IsReadAgainUnlessGiven, IsReadAgainWhereSafe, OnAsks};
 
 use ckeys::compiler_impl::CCompilerImpl;
 use ckeys_records::fault::Fault;

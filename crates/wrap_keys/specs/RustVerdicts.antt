@@ -10,7 +10,7 @@ use Rattle.rustkeys_base.specs.Expansion.{expanded_by_rustc}
 use Rattle.rustkeys_base.specs.Verdict as parsing
 use Rattle.rustkeys_base.specs.Verdict.{request_reading, verdict_on}
 use Rattle.rustc_texts.specs.Words.{compile_words}
-use Rattle.wrap_turns.specs.Verdicts.{Why, cannot_cache, not_compilation, not_utf8, opens_a_file, profile_data}
+use Rattle.wrap_keys.specs.Verdicts.{Why, cannot_cache, not_compilation, not_utf8, opens_a_file, profile_data}
 use Rattle.wrap_base.specs.declared.request.Request.{Request}
 
 -- a request is passed through, or it asks for this

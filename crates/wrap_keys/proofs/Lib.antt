@@ -1,0 +1,3 @@
+pub mod KeyLemmas
+pub mod Utf8Lemmas
+pub mod JudgeLemmas

@@ -1,0 +1,10 @@
+pub mod Verdicts
+pub mod RustVerdicts
+pub mod CallRecords
+pub mod Account
+pub mod StoreKeys
+pub mod Answers
+pub mod Turn
+pub mod Asking
+pub mod Plans
+pub mod RustPlans
