@@ -27,6 +27,19 @@ fn wanted(alloc: Global, outputs: &[Output]) -> Result<Wanted, AllocError> {
     Ok(Listed::from_vec(wanted))
 }
 
+/// Puts behind a line how a request differs from the latest earlier one with the same outputs, or that there was none.
+fn push_reason(
+    one: &Fingerprint,
+    earlier: Option<&Fingerprint>,
+    line: &mut String,
+) -> Result<(), AllocError> {
+    match earlier {
+        Some(earlier) => write!(line, " # {}", Difference { one, earlier })?,
+        None => line.push_str(" # first with these outputs")?,
+    }
+    Ok(())
+}
+
 impl Explainer {
     /// One that has seen no request.
     pub(crate) fn new(alloc: Global) -> Explainer {
@@ -50,13 +63,7 @@ impl Explainer {
         };
         let outputs = wanted(alloc, map.as_slice())?;
         if matches!(how, How::Fresh) {
-            match self.earlier.get(&outputs) {
-                Some(earlier) => {
-                    let one = &made;
-                    write!(line, " # {}", Difference { one, earlier })?;
-                }
-                None => line.push_str(" # first with these outputs")?,
-            }
+            push_reason(&made, self.earlier.get(&outputs), line)?;
         }
         self.earlier.insert(outputs, made)?;
         Ok(())

@@ -1,10 +1,5 @@
-//! Scenarios, and the program that runs them.
+//! Scenarios served in one session, and printed: what the programs run.
 #![tactic(auto)]
 
-mod byte_text;
-mod compilers;
-mod crates;
 mod explaining;
-mod members;
 pub mod program;
-mod scenario;

@@ -4,13 +4,14 @@ ghost use Rattle.std.specs.Prelude.{◌≡◌, ◌⊎◌, ◌<◌, ◌↔◌, le
 ghost use Rattle.std.specs.Io.KnownBytes.{IsAtEnd};
 
 use crate::explaining::Explainer;
-use crate::scenario::{Scenario, ScenarioCall, ScenarioFault, read_scenario};
 use bounded_store::lru_store::LruStore;
 use ckeys::{EntryKey, PreprocessorCacheEntry, Store};
 use ckeys_records::fault::Fault;
 use ckeys_records::preprocessor::Preprocessor;
 use os_files::listed::Listed;
 use os_files::memory_files::MemoryFiles;
+use os_files::os_bytes::OsBytes;
+use scenario_texts::scenario::{Scenario, ScenarioCall, ScenarioFault, read_scenario};
 use script_tool::crate_texts::CrateTexts;
 use script_tool::script::ScriptTool;
 use sha2::Sha256;
@@ -185,14 +186,42 @@ fn serve_calls<O: Store<StoreKey, Pairs> + Drop, W: Write>(
     } = scenario;
     let mut session = Session::new(alloc, session_config, MapStore::new(alloc), objects);
     let mut tool = ScriptTool::new(tool_config, CrateTexts::empty(alloc));
-    let is_explained = explainer.is_some();
     let mut explainer = explainer;
     for (number, call) in (1u64..).zip(calls) {
-        let (made, answer) = answered(call, is_explained, &mut session, &mut tool);
-        let line = whole_line(alloc, number, &mut explainer, made, &answer)?;
-        write_line(writer, &line)?;
+        serve_call(
+            alloc,
+            number,
+            call,
+            &mut explainer,
+            &mut session,
+            &mut tool,
+            writer,
+        )?;
     }
-    let compiles = tool.ticks().compile;
+    write_count(alloc, tool.ticks().compile, writer)
+}
+
+/// Serves the call of this number and writes its line.
+fn serve_call<O: Store<StoreKey, Pairs> + Drop, W: Write>(
+    alloc: Global,
+    number: u64,
+    call: ScenarioCall,
+    explainer: &mut Option<Explainer>,
+    session: &mut Session<Sha256, Entries, O>,
+    tool: &mut ScriptTool,
+    writer: &mut W,
+) -> Result<(), RunFault>
+    ensures fault { IfErr result (λ f. (f ≡ RunFault.Output) ⊎ (f ≡ RunFault.Memory)) }
+{
+    let (made, answer) = answered(call, explainer.is_some(), session, tool);
+    let line = whole_line(alloc, number, explainer, made, &answer)?;
+    write_line(writer, &line)
+}
+
+/// Writes how often a compiler ran, which is the last line.
+fn write_count<W: Write>(alloc: Global, compiles: u64, writer: &mut W) -> Result<(), RunFault>
+    ensures fault { IfErr result (λ f. (f ≡ RunFault.Output) ⊎ (f ≡ RunFault.Memory)) }
+{
     write_line(writer, &format!(in alloc; "compiles {compiles}\n")?)?;
     writer
         .flush()
@@ -282,17 +311,28 @@ fn line_of(
     match answer {
         Ok(Answer::Pass(reason)) => format!(in alloc; "{number} pass {reason}"),
         Ok(Answer::Outputs { map, how, dep_info }) => {
-            let how = how_word(*how);
-            let mut line = format!(in alloc; "{number} {how}")?;
-            push_outputs(&mut line, map)?;
-            if let Some(text) = dep_info {
-                let length = text.as_bytes().len();
-                write!(line, " dep-info:{length}")?;
-            }
-            Ok(line)
+            line_of_outputs(alloc, number, map, *how, dep_info)
         }
         Err(fault) => format!(in alloc; "{number} fault {fault}"),
     }
+}
+
+/// The line of an answer with outputs.
+fn line_of_outputs(
+    alloc: Global,
+    number: u64,
+    outputs: &Listed<Output>,
+    how: How,
+    dep_info: &Option<OsBytes>,
+) -> Result<String, AllocError> {
+    let how = how_word(how);
+    let mut line = format!(in alloc; "{number} {how}")?;
+    push_outputs(&mut line, outputs)?;
+    if let Some(text) = dep_info {
+        let length = text.as_bytes().len();
+        write!(line, " dep-info:{length}")?;
+    }
+    Ok(line)
 }
 
 fn push_outputs(line: &mut String, outputs: &Listed<Output>) -> Result<(), AllocError> {

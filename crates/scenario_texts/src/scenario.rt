@@ -64,30 +64,33 @@ const DEFAULT_MOMENT: i64 = 1_700_000_000;
 
 /// What is fixed for all requests, and the calls in order.
 #[derive(Drop)]
-pub(crate) struct Scenario {
+pub struct Scenario {
     /// What is fixed for keys.
-    pub(crate) session_config: KeyConfig,
+    pub session_config: KeyConfig,
     /// The same, of whose folders the tool's compiler strips texts.
-    pub(crate) tool_config: KeyConfig,
+    pub tool_config: KeyConfig,
     /// How many objects are kept at most, or all.
-    pub(crate) capacity: Option<NonZeroUsize>,
-    pub(crate) calls: Vec<ScenarioCall>,
+    pub capacity: Option<NonZeroUsize>,
+    /// The calls, in the order of their requests.
+    pub calls: Vec<ScenarioCall>,
 }
 
 /// A request, the files that it finds, and what rustc tells of its crate.
 #[derive(Drop)]
-pub(crate) struct ScenarioCall {
-    pub(crate) request: Request,
-    pub(crate) files: MemoryFiles,
-    /// Empty for a C compiler.
-    pub(crate) told: CrateTexts,
+pub struct ScenarioCall {
+    /// The request.
+    pub request: Request,
+    /// The files that it finds, and no others.
+    pub files: MemoryFiles,
+    /// What rustc tells of its crate. Empty for a C compiler.
+    pub told: CrateTexts,
     /// Whether all that both stores hold is dropped before the request.
-    pub(crate) forget: bool,
+    pub forget: bool,
 }
 
 /// Why there is no scenario.
 #[derive(Clone, Copy, Debug, PartialEq, Eq)]
-pub(crate) enum ScenarioFault {
+pub enum ScenarioFault {
     /// The bytes are no scenario.
     Unreadable,
     /// A growth was refused.
@@ -95,7 +98,7 @@ pub(crate) enum ScenarioFault {
 }
 
 impl From<AllocError> for ScenarioFault {
-    ghost use Rattle.scenarios.specs.declared.scenario.ScenarioFault.TheVariants.{Memory};
+    ghost use Rattle.scenario_texts.specs.declared.scenario.ScenarioFault.TheVariants.{Memory};
 
     ghost from_gives = { λ _ f. f ≡ Memory };
 
@@ -105,7 +108,7 @@ impl From<AllocError> for ScenarioFault {
 }
 
 impl<T: Drop> From<AllocFailed<T>> for ScenarioFault {
-    ghost use Rattle.scenarios.specs.declared.scenario.ScenarioFault.TheVariants.{Memory};
+    ghost use Rattle.scenario_texts.specs.declared.scenario.ScenarioFault.TheVariants.{Memory};
 
     ghost from_gives = { λ _ f. f ≡ Memory };
 
@@ -139,8 +142,8 @@ impl From<ZoneError> for ScenarioFault {
     }
 }
 
-/// The scenario that these bytes write.
-pub(crate) fn read_scenario(alloc: Global, bytes: &[u8]) -> Result<Scenario, ScenarioFault> {
+/// The scenario that these bytes write, or why there is none.
+pub fn read_scenario(alloc: Global, bytes: &[u8]) -> Result<Scenario, ScenarioFault> {
     let mut members = into_object(Value::from_slice(alloc, bytes)?)?;
     let folders = read_folders(alloc, members.remove("basedirs"))?;
     let folders = folders.as_slice();
