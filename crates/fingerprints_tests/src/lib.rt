@@ -1,5 +1,5 @@
-//! Tests of fingerprints: in which part two of them differ, and how that is told.
+//! Tests of fingerprints: how it is told where two of them differ. What scenarios show stands in the rows of `sccache_explain`.
 #![tactic(auto)]
 
 #[cfg(test)]
-mod first_part;
+mod marks;

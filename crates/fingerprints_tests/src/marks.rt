@@ -1,0 +1,58 @@
+//! How a difference is told that no row of `sccache_explain` shows: that in the mark of an output alone. Only by its words does a request
+//! have an output that its compile may leave out, and where words differ that is told.
+
+use ckeys_records::output_name::OutputName;
+use cmdlines_tables::language::Language;
+use differences::difference::Difference;
+use fingerprints::c_parts::CParts;
+use fingerprints::fingerprint::Fingerprint;
+use os_files::listed::Listed;
+use os_files::os_bytes::OsBytes;
+use std::alloc::{AllocError, Global};
+use std::test::Fail;
+
+/// One object, which a compile may leave out or not.
+fn object(alloc: Global, optional: bool) -> Result<Listed<OutputName>, AllocError> {
+    let name = OsBytes::from_slice(alloc, b"obj")?;
+    Ok(Listed::from_vec(vec![in alloc; OutputName { name, optional }]?))
+}
+
+/// The fingerprint of a request with these outputs and of which nothing else counts.
+fn with_names(alloc: Global, names: Listed<OutputName>) -> Fingerprint {
+    Fingerprint::C(CParts {
+        compiler: OsBytes::empty(alloc),
+        plusplus: false,
+        language: Language::C,
+        words: Listed::new(alloc),
+        variables: Listed::new(alloc),
+        extra_hashes: Listed::new(alloc),
+        assembler: None,
+        text: OsBytes::empty(alloc),
+        names,
+    })
+}
+
+/// How the first differs from the earlier one, where they differ in their outputs alone.
+fn told(
+    alloc: Global,
+    names: Listed<OutputName>,
+    earlier: Listed<OutputName>,
+) -> Result<String, AllocError> {
+    let one = with_names(alloc, names);
+    let earlier = with_names(alloc, earlier);
+    let difference = Difference {
+        one: &one,
+        earlier: &earlier,
+    };
+    format!(in alloc; "{difference}")
+}
+
+#[test]
+fn marks_count(rt: HostRuntime) -> Result<(), Fail> {
+    let alloc = rt.alloc();
+    let marked = object(alloc, true)?;
+    let plain = object(alloc, false)?;
+    let text = told(alloc, marked, plain)?;
+    assert_eq!(rt; text.as_str(), "output 1: obj (optional), earlier obj");
+    Ok(())
+}
