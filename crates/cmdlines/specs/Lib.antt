@@ -17,7 +17,6 @@ pub use Rattle.cmdlines_base.specs.Cutting
 pub use Rattle.cmdlines_base.specs.Printing
 pub use Rattle.cmdlines_base.specs.Reading
 pub use Rattle.cmdlines_base.specs.Table
-pub use Rattle.cmdlines_requests.specs.Small
 pub use Rattle.cmdlines_tables.specs.Languages
 pub use Rattle.cmdlines_tables.specs.Tables
 pub use Rattle.response_texts.specs.Gnu

@@ -18,7 +18,8 @@ use cmdlines_tables::compiler::CCompilerKind;
 use os_files::files::Files;
 use os_files::os_bytes::OsBytes;
 use response_files::fault::ParseFault;
-use rustkeys_base::{parse, parsed as rust};
+use rustc_requests::parsed as rust;
+use rustkeys_base::parse;
 use std::alloc::{AllocError, Global};
 
 /// What the words of an entry come to.

@@ -25,7 +25,7 @@ use Rattle.ckeys_records.specs.declared.step.Step.TheVariants.{Preprocess, Compi
 use Rattle.rustc_compiler.specs.Compiler.{Rustc}
 use Rattle.rustkeys.specs.Calls.{RustCall, answer_fault_of, dep_info_fault_of, files_fault_of, key_fault_of, sources_fault_of, utf8_fault_of}
 use Rattle.rustkeys.specs.Questions.{answers_of, dep_info_of}
-use Rattle.rustkeys_base.specs.Asks.{RustAsks}
+use Rattle.rustc_requests.specs.Asks.{RustAsks}
 use Rattle.wrap_base.specs.Commands.{CFound, NamedBy, by_c, by_rustc, words_at}
 use Rattle.wrap.specs.Account.{Account, passed, worked, Work, Pairs, IsSuccess, account_by, account_named, call_at, collected, rust_account_by, rust_call_at, rust_work_at, scene_at, work_at}
 use Rattle.wrap.specs.RustVerdicts as rust_verdicts

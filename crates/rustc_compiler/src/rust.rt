@@ -24,8 +24,8 @@ use os_files::files::Files;
 use os_files::listed::Listed;
 use os_files::os_bytes::OsBytes;
 use response_files::fault::ParseFault;
+use rustc_requests::parsed::ParsedArguments;
 use rustkeys_base::parse::parse_arguments;
-use rustkeys_base::parsed::ParsedArguments;
 use std::alloc::Global;
 use std::marker::Model;
 

@@ -2,9 +2,9 @@
 
 use crate::requests::{barred, parsed};
 use os_files::os_bytes::OsBytes;
+use rustc_requests::parsed::ParsedArguments;
 use rustc_texts::output_names::output_names;
 use rustc_texts::outputs::{Output, outputs, targets};
-use rustkeys_base::parsed::ParsedArguments;
 use std::alloc::{AllocError, Global};
 use std::fmt::Write;
 use std::test::Fail;

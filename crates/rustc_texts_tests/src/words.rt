@@ -1,9 +1,9 @@
 //! The words of requests.
 
 use crate::requests::{barred, parsed};
+use rustc_requests::parsed::ParsedArguments;
 use rustc_texts::laws::{cfg_places_do_not_count, commands_open_nothing};
 use rustc_texts::words::{compile_words, dep_info_words, file_names_words, kept_words};
-use rustkeys_base::parsed::ParsedArguments;
 use std::alloc::{AllocError, Global};
 use std::test::Fail;
 use test_kit::texts::is_that;

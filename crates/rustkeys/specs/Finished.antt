@@ -4,7 +4,7 @@ use Rattle.std.specs.Option.{option_copied}
 use Rattle.os_files.specs.Bytes.{Bytes}
 use Rattle.rustc_parts.specs.declared.parts.Parts.{Parts}
 use Rattle.rustc_texts.specs.Words.{kept_words}
-use Rattle.rustkeys_base.specs.Asks.{asks_in}
+use Rattle.rustc_requests.specs.Asks.{asks_in}
 use Rattle.rustkeys.specs.Calls.{RustKnown}
 use Rattle.rustkeys.specs.Questions.{counted_in, env_deps_in}
 use Rattle.rustkeys.specs.declared.collecting.OtherFiles.{OtherFiles}

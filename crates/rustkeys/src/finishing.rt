@@ -8,7 +8,7 @@ ghost use Rattle.rustc_parts.specs.Material.{material_of};
 ghost use Rattle.rustc_parts.specs.Shapes.{shape_of};
 ghost use Rattle.rustc_texts.specs.Outputs.{output_names, outputs_of};
 ghost use Rattle.rustc_texts.specs.Words.{compile_words};
-ghost use Rattle.rustkeys_base.specs.Asks.{asks_in};
+ghost use Rattle.rustc_requests.specs.Asks.{asks_in};
 ghost use Rattle.rustkeys.specs.Finished.{known_in, parts_with};
 ghost use Rattle.rustkeys.specs.Fresh.{dep_info_by};
 ghost use Rattle.rustkeys.specs.Questions.{compile_env_of};
@@ -24,12 +24,12 @@ use os_files::listed::Listed;
 use os_files::os_bytes::OsBytes;
 use rustc_parts::parts::{Parts, RShape};
 use rustc_parts::writing::key_bytes;
+use rustc_requests::parsed::ParsedArguments;
 use rustc_texts::fault::TextFault;
 use rustc_texts::output_names::output_names;
 use rustc_texts::outputs::targets;
 use rustc_texts::rewriting::dep_info_with_targets;
 use rustc_texts::words::kept_words;
-use rustkeys_base::parsed::ParsedArguments;
 use std::alloc::{AllocError, Global};
 
 /// The pieces of the key.

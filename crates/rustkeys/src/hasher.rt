@@ -10,7 +10,7 @@ ghost use Rattle.ckeys_records.specs.Meaning.{AreSteady, FailsIn};
 ghost use Rattle.cmdlines_requests.specs.Small.{command_at};
 ghost use Rattle.rustc_parts.specs.Formed.{IsDigest, digest_digits};
 ghost use Rattle.rustc_texts.specs.Words.{compile_words};
-ghost use Rattle.rustkeys_base.specs.Asks.{asks_in};
+ghost use Rattle.rustc_requests.specs.Asks.{asks_in};
 ghost use Rattle.rustkeys.specs.Calls.{key_fault_of, record_of};
 ghost use Rattle.rustkeys.specs.Finished.{known_in};
 ghost use Rattle.rustkeys.specs.Fresh.{ComesOfWords, call_outputs, dep_info_text_of, emits_dep_info};
@@ -32,7 +32,7 @@ use os_files::os_bytes::OsBytes;
 use rustc_compiler::rust::Rust;
 use rustc_options::laws::words_in_order_are_a_set;
 use rustc_parts::parts::RShape;
-use rustkeys_base::parsed::ParsedArguments;
+use rustc_requests::parsed::ParsedArguments;
 use std::alloc::{AllocError, Global};
 
 /// What a request asks for, and of which rustc.

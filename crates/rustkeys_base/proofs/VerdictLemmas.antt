@@ -21,7 +21,7 @@ use Rattle.rustkeys_base.specs.Requests.{IsArgument, IsAsked, IsAskedBy, IsParse
 use Rattle.rustkeys_base.specs.Saying.{token_of}
 use Rattle.rustkeys_base.specs.Verdict.{AsksNothing, Verdict, decides, is_misread, not_parsed, verdict_from}
 use Rattle.rustkeys_base.specs.declared.facts.Facts.{Facts}
-use Rattle.rustkeys_base.specs.declared.parsed.ParsedArguments.{ParsedArguments}
+use Rattle.rustc_requests.specs.declared.parsed.ParsedArguments.{ParsedArguments}
 
 -- what is known, and the items that are left
 abbrev pub verdict_at : Bytes → Tree → Facts → Reading ArgKind → Verdict

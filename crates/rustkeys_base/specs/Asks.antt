@@ -1,33 +1,23 @@
--- A request to rustc as plain values: what its words ask for, without where flags lie in memory.
+-- What the words of a request to rustc ask for, as plain values.
 use Rattle.std.specs.Prelude.{◌≡◌, Bool, List, [], ◌∷◌, Option, None, Some, map, unwrap_or}
 use Rattle.os_files.specs.Bytes.{Bytes}
 use Rattle.os_files.specs.Path.{path_cmp}
 use Rattle.os_files.specs.Tree.{Tree}
-use Rattle.cmdlines_base.specs.Pieces.{argument_words, flag_in}
 use Rattle.cmdlines_base.specs.Printing.{printed_as}
 use Rattle.cmdlines_base.specs.Reading.{Item, raw, unknown, flag, valued, behind_dashes}
-use Rattle.cmdlines_base.specs.declared.argument.Argument.{Argument}
 use Rattle.cmdlines_base.specs.declared.compiler_arguments.CompilerArguments.{CompilerArguments}
 use Rattle.cmdlines_base.specs.declared.compiler_arguments.CompilerArguments.TheVariants as answers
 use Rattle.rustc_options.specs.Data.{data_of, word_of}
 use Rattle.rustc_options.specs.Sets.{in_order}
-use Rattle.rustc_options.specs.declared.data.ArgData.{ArgData}
 use Rattle.rustc_options.specs.declared.kind.ArgKind.{ArgKind}
+use Rattle.rustc_requests.specs.Asks.{RustAsks, Said, asks_in}
 use Rattle.rustkeys_base.specs.Facts.{facts_of}
 use Rattle.rustkeys_base.specs.Requests.{dep_info, gcno, profile, static_libraries, wanted}
 use Rattle.rustkeys_base.specs.Saying.{token_of}
-use Rattle.rustkeys_base.specs.Sorted.{sorted_by}
+use Rattle.rustc_requests.specs.Sorted.{sorted_by}
 use Rattle.rustkeys_base.specs.Verdict.{emitted}
 use Rattle.rustkeys_base.specs.declared.facts.Facts.{Facts}
-use Rattle.rustkeys_base.specs.declared.parsed.ParsedArguments.{ParsedArguments}
-
--- an argument as it's printed: its flag, where it's an option, and its words
-pub record Said : Type 0 where
-  pub flag : Option Bytes
-  pub words : List Bytes
-
-abbrev pub said_in : Argument ArgData → Said
-said_in argument = record { flag = flag_in argument; words = argument_words word_of argument }
+use Rattle.rustc_requests.specs.declared.parsed.ParsedArguments.{ParsedArguments}
 
 -- of what was read of the words
 abbrev pub said_of : Item ArgKind → Said
@@ -36,36 +26,6 @@ said_of (unknown w) = record { flag = None; words = w ∷ [] }
 said_of (flag f k) = record { flag = Some f; words = f ∷ [] }
 said_of (valued f k w d) = record { flag = Some f; words = printed_as f (word_of (data_of k w)) d }
 said_of (behind_dashes w) = record { flag = None; words = w ∷ [] }
-
-pub record RustAsks : Type 0 where
-  pub arguments : List Said
-  pub output_dir : Bytes
-  pub crate_name : Bytes
-  pub externs : List Bytes
-  pub staticlibs : List Bytes
-  pub emit : List Bytes
-  pub target_json : Option Bytes
-  pub dep_info : Option Bytes
-  pub profile : Option Bytes
-  pub gcno : Option Bytes
-  pub profile_use : Option Bytes
-  pub has_json : Bool
-
-abbrev pub asks_in : ParsedArguments → RustAsks
-asks_in p = record {
-  arguments = map said_in p.arguments;
-  output_dir = p.output_dir;
-  crate_name = p.crate_name;
-  externs = p.externs;
-  staticlibs = p.staticlibs;
-  emit = p.emit;
-  target_json = p.target_json;
-  dep_info = p.dep_info;
-  profile = p.profile;
-  gcno = p.gcno;
-  profile_use = p.profile_use;
-  has_json = p.has_json;
-}
 
 -- What items ask for that say all that a request needs, from this directory, with these files; externs stand in the order of paths.
 abbrev pub asks_by : Bytes → Tree → List (Item ArgKind) → Facts → RustAsks

@@ -5,8 +5,6 @@ pub mod Saying
 pub mod Facts
 pub mod Verdict
 pub mod Deciders
-pub mod Sorted
-pub mod SortedLaws
 pub mod Requests
 pub mod Asks
 pub mod Notification

@@ -24,7 +24,7 @@ use Rattle.rustkeys_base.specs.Saying.{Token, loose, says, unread, token_of}
 use Rattle.rustkeys_base.specs.declared.deciding.Refusal.{Refusal}
 use Rattle.rustkeys_base.specs.declared.deciding.Refusal.TheVariants as refusals
 use Rattle.rustkeys_base.specs.declared.facts.Facts.{Facts}
-use Rattle.rustkeys_base.specs.declared.parsed.ParsedArguments.{ParsedArguments}
+use Rattle.rustc_requests.specs.declared.parsed.ParsedArguments.{ParsedArguments}
 
 -- the words ask for what can be cached, or don't compile, or can't be cached for a reason, with more text or none
 pub data Verdict : Type 0 where

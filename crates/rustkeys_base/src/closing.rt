@@ -8,13 +8,12 @@ ghost use Rattle.os_files.specs.Path.{join, path_cmp};
 ghost use Rattle.rustc_options.specs.Sets.{in_order};
 ghost use Rattle.response_files.specs.Causes.{CauseOf};
 ghost use Rattle.rustkeys_base.specs.Requests.{IsAskedBy, IsMadeOf, color_mode, named_by_crate, emits, dep_info, gcno, profile, static_libraries};
-ghost use Rattle.rustkeys_base.specs.Sorted.{sorted_by};
+ghost use Rattle.rustc_requests.specs.Sorted.{sorted_by};
 ghost use Rattle.rustkeys_base.specs.Verdict.{asks, closing, emitted, has_kind, is_supported, is_unsupported, verdict_in, verdict_of};
 
 use crate::deciding::{Refusal, refused};
 use crate::facts::Facts;
 use crate::libraries::{joined, libraries_in};
-use crate::parsed::{CrateTypes, ParsedArguments};
 use cmdlines_base::argument::Argument;
 use cmdlines_base::color_mode::ColorMode;
 use cmdlines_base::compiler_arguments::CompilerArguments;
@@ -25,6 +24,7 @@ use os_files::path::{compare_paths, paths_have_one_order};
 use response_files::fault::ParseFault;
 use rustc_options::data::ArgData;
 use rustc_options::sets::{between_commas, in_order};
+use rustc_requests::parsed::{CrateTypes, ParsedArguments};
 use std::alloc::{AllocError, Global};
 
 /// Whether one of the kinds is of that name.

@@ -8,7 +8,6 @@ ghost use Rattle.rustkeys_base.specs.Saying.{token_in};
 ghost use Rattle.rustkeys_base.specs.Verdict.{AsksNothing, verdict_in, verdict_of, refused, second_input, other_types, codegen_decides, is_unsure, option_decides, decides};
 
 use crate::facts::Facts;
-use crate::parsed::ParsedArguments;
 use cmdlines_base::argument::Argument;
 use cmdlines_base::compiler_arguments::CompilerArguments;
 use os_files::files::{FileFail, Files};
@@ -18,6 +17,7 @@ use response_files::fault::ParseFault;
 use rustc_options::data::ArgData;
 use rustc_options::sets::joined_by_commas;
 use rustc_options::types::{ArgOption, ArgTarget};
+use rustc_requests::parsed::ParsedArguments;
 use std::alloc::{AllocError, Global};
 use std::fmt::Write;
 

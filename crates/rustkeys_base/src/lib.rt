@@ -9,5 +9,4 @@ pub mod laws;
 pub mod libraries;
 pub mod notification;
 pub mod parse;
-pub mod parsed;
 pub mod response_text;

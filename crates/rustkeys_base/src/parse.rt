@@ -16,7 +16,6 @@ use crate::closing::close;
 use crate::deciding::{Refusal, decides, refused};
 use crate::expansion::expand_rustc;
 use crate::facts::Facts;
-use crate::parsed::ParsedArguments;
 use cmdlines_base::argument::{Argument, NormalizedDisposition};
 use cmdlines_base::argument_error::ArgParseError;
 use cmdlines_base::byte_tree::ByteTree;
@@ -28,6 +27,7 @@ use os_files::os_bytes::OsBytes;
 use response_files::fault::ParseFault;
 use rustc_options::data::ArgData;
 use rustc_options::table::rustc_table;
+use rustc_requests::parsed::ParsedArguments;
 use std::alloc::{AllocError, Global};
 
 /// The words of the request: a first word `rustc`, which a wrapper leaves there, is none of them.

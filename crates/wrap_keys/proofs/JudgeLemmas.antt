@@ -6,11 +6,12 @@ use Rattle.os_files.specs.Tree.{Tree}
 use Rattle.cmdlines_base.specs.Reading.{begins_with_at}
 use Rattle.cmdlines_base.specs.declared.compiler_arguments.CompilerArguments.{CompilerArguments}
 use Rattle.cmdlines_base.specs.declared.compiler_arguments.CompilerArguments.TheVariants as answers
-use Rattle.rustkeys_base.specs.Asks.{AsksFor, RustAsks, asks_in, asks_of}
+use Rattle.rustkeys_base.specs.Asks.{AsksFor, asks_of}
+use Rattle.rustc_requests.specs.Asks.{RustAsks, asks_in}
 use Rattle.rustkeys_base.specs.Expansion.{expanded_by_rustc}
 use Rattle.rustkeys_base.specs.Verdict as parsing
 use Rattle.rustkeys_base.specs.Verdict.{request_reading, verdict_in, verdict_on}
-use Rattle.rustkeys_base.specs.declared.parsed.ParsedArguments.{ParsedArguments}
+use Rattle.rustc_requests.specs.declared.parsed.ParsedArguments.{ParsedArguments}
 use Rattle.rustc_texts.specs.Words.{all_words, color_words, compile_words, dep_info_words, file_names_words}
 use Rattle.wrap_keys.specs.RustPlans.{OpensNothing}
 use Rattle.wrap_keys.specs.RustVerdicts.{RustDecision, decided, decided_on, is_text, not_text, rust_verdict_of, with_hazards}

@@ -5,7 +5,8 @@ use Rattle.std.specs.Str.{is_utf8}
 use Rattle.os_files.specs.Bytes.{Bytes}
 use Rattle.os_files.specs.Tree.{Tree}
 use Rattle.cmdlines_base.specs.Reading.{begins_with_at}
-use Rattle.rustkeys_base.specs.Asks.{RustAsks, asks_of}
+use Rattle.rustkeys_base.specs.Asks.{asks_of}
+use Rattle.rustc_requests.specs.Asks.{RustAsks}
 use Rattle.rustkeys_base.specs.Expansion.{expanded_by_rustc}
 use Rattle.rustkeys_base.specs.Verdict as parsing
 use Rattle.rustkeys_base.specs.Verdict.{request_reading, verdict_on}

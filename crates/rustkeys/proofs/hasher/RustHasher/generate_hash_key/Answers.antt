@@ -1,7 +1,7 @@
 use Rattle.std.proofs.Common.{◌≡◌, ◌∙◌, None, ap, is_some, pos, string_bytes, subst}
 use Rattle.ckeys_records.specs.Meaning.{scene_with}
 use Rattle.rustc_texts.specs.Outputs.{output_names}
-use Rattle.rustkeys_base.specs.Asks.{asks_in}
+use Rattle.rustc_requests.specs.Asks.{asks_in}
 use Rattle.rustkeys.specs.Calls.{rule_fault_of}
 use Rattle.rustkeys.specs.Finished.{known_in}
 use Rattle.rustkeys.specs.Fresh.{dep_info_by, dep_info_text_of}
