@@ -13,7 +13,9 @@ use os_files::memory_files::MemoryFiles;
 use os_files::os_bytes::OsBytes;
 use scenario_texts::scenario::{Scenario, ScenarioCall, ScenarioFault, read_scenario};
 use script_tool::crate_texts::CrateTexts;
-use script_tool::script::ScriptTool;
+use script_tool::script::{RetoldTool, ScriptTool};
+use script_tool::statuses::{StatusOf, Statuses, error_status, print_status};
+use script_tool::trees::Trees;
 use sha2::Sha256;
 use std::alloc::{AllocError, AllocFailed, Global};
 use std::io;
@@ -25,6 +27,7 @@ use wrap_base::answer::{Answer, How, Output};
 use wrap_base::map_store::MapStore;
 use wrap_base::request::Request;
 use wrap_base::store_key::{Pairs, StoreKey};
+use wrap_base::tool::Tool;
 
 /// The include records.
 type Entries = MapStore<EntryKey, PreprocessorCacheEntry>;
@@ -168,7 +171,7 @@ fn serve_scenario<W: Write>(
     }
 }
 
-/// Serves the calls in order over that store of objects, and writes a line for each and then how often a compiler ran.
+/// Serves the calls in one session over that store of objects, by one scripted tool.
 fn serve_calls<O: Store<StoreKey, Pairs> + Drop, W: Write>(
     alloc: Global,
     scenario: Scenario,
@@ -185,30 +188,40 @@ fn serve_calls<O: Store<StoreKey, Pairs> + Drop, W: Write>(
         calls,
     } = scenario;
     let mut session = Session::new(alloc, session_config, MapStore::new(alloc), objects);
-    let mut tool = ScriptTool::new(tool_config, CrateTexts::empty(alloc));
+    let print: StatusOf = Box::new(alloc, |text: &[u8]| print_status(text))?;
+    let compile: StatusOf = Box::new(alloc, |text: &[u8]| error_status(text))?;
+    let statuses = Statuses::new(print, compile);
+    let told = CrateTexts::empty(alloc);
+    let mut tool = ScriptTool::new(tool_config, told, Trees::new(alloc)?, statuses);
+    serve_in_order(alloc, calls, explainer, &mut session, &mut tool, writer)
+}
+
+/// Serves the calls in order, and writes a line for each and then how often a compiler ran.
+fn serve_in_order<O: Store<StoreKey, Pairs> + Drop, T: RetoldTool, W: Write>(
+    alloc: Global,
+    calls: Vec<ScenarioCall>,
+    explainer: Option<Explainer>,
+    session: &mut Session<Sha256, Entries, O>,
+    tool: &mut T,
+    writer: &mut W,
+) -> Result<(), RunFault>
+    ensures fault { IfErr result (λ f. (f ≡ RunFault.Output) ⊎ (f ≡ RunFault.Memory)) }
+{
     let mut explainer = explainer;
     for (number, call) in (1u64..).zip(calls) {
-        serve_call(
-            alloc,
-            number,
-            call,
-            &mut explainer,
-            &mut session,
-            &mut tool,
-            writer,
-        )?;
+        serve_call(alloc, number, call, &mut explainer, session, tool, writer)?;
     }
     write_count(alloc, tool.ticks().compile, writer)
 }
 
 /// Serves the call of this number and writes its line.
-fn serve_call<O: Store<StoreKey, Pairs> + Drop, W: Write>(
+fn serve_call<O: Store<StoreKey, Pairs> + Drop, T: RetoldTool, W: Write>(
     alloc: Global,
     number: u64,
     call: ScenarioCall,
     explainer: &mut Option<Explainer>,
     session: &mut Session<Sha256, Entries, O>,
-    tool: &mut ScriptTool,
+    tool: &mut T,
     writer: &mut W,
 ) -> Result<(), RunFault>
     ensures fault { IfErr result (λ f. (f ≡ RunFault.Output) ⊎ (f ≡ RunFault.Memory)) }
@@ -246,11 +259,11 @@ fn whole_line(
 
 /// What a call is answered by the tool, whose rustc tells what the call says; and before it the call's fingerprint, where that is asked
 /// for and there is one. Before both all that the stores hold is dropped where the call says so.
-fn answered<O: Store<StoreKey, Pairs> + Drop>(
+fn answered<O: Store<StoreKey, Pairs> + Drop, T: RetoldTool>(
     call: ScenarioCall,
     is_explained: bool,
     session: &mut Session<Sha256, Entries, O>,
-    tool: &mut ScriptTool,
+    tool: &mut T,
 ) -> (Option<Fingerprint>, Result<Answer, Fault>) {
     let ScenarioCall {
         request,
@@ -258,7 +271,7 @@ fn answered<O: Store<StoreKey, Pairs> + Drop>(
         told,
         forget,
     } = call;
-    tool.told = told;
+    tool.tell(told);
     if forget {
         session.forget_all();
     }
@@ -271,11 +284,11 @@ fn answered<O: Store<StoreKey, Pairs> + Drop>(
 }
 
 /// The fingerprint of a request, where there is one: it isn't passed through, and there is no fault.
-fn fingerprint_of<O: Store<StoreKey, Pairs> + Drop>(
+fn fingerprint_of<O: Store<StoreKey, Pairs> + Drop, T: Tool>(
     request: &Request,
     session: &Session<Sha256, Entries, O>,
     files: &mut MemoryFiles,
-    tool: &mut ScriptTool,
+    tool: &mut T,
 ) -> Option<Fingerprint> {
     match session.fingerprint(request, files, tool) {
         Ok(Ok(made)) => Some(made),

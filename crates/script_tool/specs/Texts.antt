@@ -1,5 +1,5 @@
 -- Parts of a text, and the words that it holds.
-use Rattle.std.specs.Prelude.{Bool, ◌||◌, nat_eq, List, [], ◌∷◌, ◌++◌, Option, Some, option_and_then}
+use Rattle.std.specs.Prelude.{ℤ, pos, Bool, ◌||◌, if◌then◌else◌, nat_eq, List, [], ◌∷◌, ◌++◌, Option, Some, option_and_then, codes}
 use Rattle.std.specs.List.{starts_with}
 use Rattle.std.specs.Option.{option_map}
 use Rattle.os_files.specs.Bytes.{Bytes}
@@ -13,3 +13,7 @@ whole (part ∷ parts) = option_and_then (λ first. option_map (λ rest. first +
 abbrev pub holds : Bytes → Bytes → Bool
 holds word [] = starts_with nat_eq [] word
 holds word (b ∷ text) = starts_with nat_eq (b ∷ text) word || holds word text
+
+-- what a compiler ends with that goes over the text: 1 where it holds `#error`, and else 0
+abbrev pub error_status : Bytes → ℤ
+error_status text = if holds (codes "#error") text then pos 1 else pos 0

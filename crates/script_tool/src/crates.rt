@@ -5,7 +5,8 @@ ghost use Rattle.os_files.specs.Bytes.{ticked};
 ghost use Rattle.ckeys_records.specs.Meaning.{made_of, names_of, scene_of};
 ghost use Rattle.script_tool.specs.ScriptedCrates.{compiled_crate, crate_text, joined_contents, made_of_text, made_where, told_sources};
 
-use crate::scripting::{holds_error, made_nothing};
+use crate::scripting::made_nothing;
+use crate::statuses::Statuses;
 use cmdlines_base::command::{ArtifactDescriptor, SingleCompileCommand};
 use os_files::files::{FileFail, Files};
 use os_files::listed::Listed;
@@ -111,6 +112,7 @@ fn made(
 /// What rustc makes of a crate's text.
 pub fn compiled_crate(
     alloc: Global,
+    statuses: &Statuses,
     text: Option<OsBytes>,
     outputs: &[(OsBytes, ArtifactDescriptor)],
 ) -> Result<Compiled, AllocError>
@@ -118,13 +120,14 @@ pub fn compiled_crate(
         (λ made. made_of made.status made.files ≡ compiled_crate text (names_of outputs.now)) }
 {
     let Some(text) = text else {
-        return Ok(made_nothing(alloc));
+        return Ok(made_nothing(alloc, 1));
     };
-    if holds_error(text.as_bytes()) {
-        return Ok(made_nothing(alloc));
+    let status = statuses.of_compile(text.as_bytes());
+    if status != 0 {
+        return Ok(made_nothing(alloc, status));
     }
     Ok(Compiled {
-        status: 0,
+        status,
         files: made(alloc, &text, outputs)?,
     })
 }

@@ -7,3 +7,5 @@ mod lines;
 pub mod script;
 mod scripting;
 mod source;
+pub mod statuses;
+pub mod trees;

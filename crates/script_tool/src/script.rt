@@ -4,12 +4,14 @@
 ghost use Rattle.std.specs.Prelude.{◌≡◌, ℤ, None, Some, IfOk, IsErrOf};
 ghost use Rattle.os_files.specs.Bytes.{ticked};
 ghost use Rattle.cmdlines_tables.specs.Tables.{reading_of};
-ghost use Rattle.ckeys_records.specs.Meaning.{StepTicks, asked_of, made_of, names_of, scene_of, words};
+ghost use Rattle.ckeys_records.specs.Meaning.{StepTicks, scene_of};
 ghost use Rattle.script_tool.specs.Scripted.{scripted, source_in, text_of};
 
 use crate::crate_texts::CrateTexts;
 use crate::crates::{compiled_crate, crate_text};
 use crate::scripting::{compiled, printed, text_of};
+use crate::statuses::Statuses;
+use crate::trees::Trees;
 use ckeys_records::config::KeyConfig;
 use ckeys_records::preprocessor::{Preprocessor, Printed, Ticks, ToolFail};
 use ckeys_records::step::Step;
@@ -28,6 +30,10 @@ pub struct ScriptTool {
     pub config: KeyConfig,
     /// What rustc tells.
     pub told: CrateTexts,
+    /// By which its commands to C compilers are read.
+    trees: Trees,
+    /// What its compilers end with.
+    statuses: Statuses,
     pub preprocessed: u64,
     pub compiled: u64,
     pub failed: u64,
@@ -37,7 +43,7 @@ pub struct ScriptTool {
 
 impl ScriptTool {
     /// A tool that has not run yet, whose C compiler strips these folders and whose rustc tells this.
-    pub fn new(config: KeyConfig, told: CrateTexts) -> ScriptTool
+    pub fn new(config: KeyConfig, told: CrateTexts, trees: Trees, statuses: Statuses) -> ScriptTool
         ensures config { result.config ≡ config }
         ensures told { result.told ≡ told }
         ensures preprocessed { result.preprocessed ≡ 0 }
@@ -48,6 +54,8 @@ impl ScriptTool {
         ScriptTool {
             config,
             told,
+            trees,
+            statuses,
             preprocessed: 0,
             compiled: 0,
             failed: 0,
@@ -102,73 +110,22 @@ impl ScriptTool {
         ensures preprocessed { self.new.preprocessed ≡ self.old.preprocessed }
         ensures compiled { self.new.compiled ≡ self.old.compiled }
     {
-        match text_of(alloc, step, kind, command, files) {
+        match text_of(alloc, &self.trees, step, kind, command, files) {
             Ok(text) => Ok(text),
             Err(fault) => Err(self.failure(step, fault)),
         }
     }
+}
 
-    /// What a C compiler of that kind makes. A device that fails is counted.
-    fn compile_source<F: Files>(
-        &mut self,
-        alloc: Global,
-        kind: CCompilerKind,
-        command: &SingleCompileCommand,
-        outputs: &[(OsBytes, ArtifactDescriptor)],
-        files: &mut F,
-    ) -> Result<Compiled, ToolFail>
-        ensures answer { (moment : ℤ)
-            → IfOk result
-            (λ made. made_of made.status made.files
-            ≡ scripted self.old.config.basedirs self.old.told Step.Compile
-            (asked_of kind command.now.arguments)
-            (names_of outputs.now) (scene_of command.now (F.tree files.old) moment)) }
-        ensures tree { F.tree files.new ≡ F.tree files.old }
-        ensures device { IsErrOf result ToolFail.Device
-            → (self.new.failed ≡ ticked self.old.failed)
-            × (self.new.failed_step ≡ Some Step.Compile)
-            × (F.failed files.new ≡ ticked (F.failed files.old)) }
-        ensures steady { (IsErrOf result ToolFail.Device → ⊥)
-            → (self.new.failed ≡ self.old.failed) × (F.failed files.new ≡ F.failed files.old) }
-        ensures config { self.new.config ≡ self.old.config }
-        ensures told { self.new.told ≡ self.old.told }
-        ensures preprocessed { self.new.preprocessed ≡ self.old.preprocessed }
-        ensures compiled { self.new.compiled ≡ self.old.compiled }
-    {
-        let text = self.text(alloc, Step::Compile, kind, command, files)?;
-        Ok(compiled(alloc, text, self.config.basedirs(), outputs)?)
-    }
+/// A tool whose rustc can be told other texts.
+pub trait RetoldTool: Tool {
+    /// From now on its rustc tells these.
+    fn tell(&mut self, told: CrateTexts);
+}
 
-    /// What rustc makes. A device that fails is counted.
-    fn compile_crate<F: Files>(
-        &mut self,
-        alloc: Global,
-        command: &SingleCompileCommand,
-        outputs: &[(OsBytes, ArtifactDescriptor)],
-        files: &mut F,
-    ) -> Result<Compiled, ToolFail>
-        ensures answer { (moment : ℤ)
-            → IfOk result
-            (λ made. made_of made.status made.files
-            ≡ scripted self.old.config.basedirs self.old.told Step.Compile
-            (words command.now.arguments)
-            (names_of outputs.now) (scene_of command.now (F.tree files.old) moment)) }
-        ensures tree { F.tree files.new ≡ F.tree files.old }
-        ensures device { IsErrOf result ToolFail.Device
-            → (self.new.failed ≡ ticked self.old.failed)
-            × (self.new.failed_step ≡ Some Step.Compile)
-            × (F.failed files.new ≡ ticked (F.failed files.old)) }
-        ensures steady { (IsErrOf result ToolFail.Device → ⊥)
-            → (self.new.failed ≡ self.old.failed) × (F.failed files.new ≡ F.failed files.old) }
-        ensures config { self.new.config ≡ self.old.config }
-        ensures told { self.new.told ≡ self.old.told }
-        ensures preprocessed { self.new.preprocessed ≡ self.old.preprocessed }
-        ensures compiled { self.new.compiled ≡ self.old.compiled }
-    {
-        match crate_text(alloc, &self.told.dep_info, command, files) {
-            Ok(text) => Ok(compiled_crate(alloc, text, outputs)?),
-            Err(fault) => Err(self.failure(Step::Compile, fault)),
-        }
+impl RetoldTool for ScriptTool {
+    fn tell(&mut self, told: CrateTexts) {
+        self.told = told;
     }
 }
 
@@ -194,7 +151,7 @@ impl Preprocessor for ScriptTool {
     ) -> Result<Printed, ToolFail> {
         self.preprocessed = self.preprocessed.wrapping_add(1);
         let text = self.text(alloc, Step::Preprocess, kind, command, files)?;
-        Ok(printed(alloc, text))
+        Ok(printed(alloc, &self.statuses, text))
     }
 
     fn ticks(&self) -> Ticks {
@@ -251,8 +208,15 @@ impl Tool for ScriptTool {
     ) -> Result<Compiled, ToolFail> {
         self.compiled = self.compiled.wrapping_add(1);
         match kind {
-            Some(kind) => self.compile_source(alloc, kind, command, outputs, files),
-            None => self.compile_crate(alloc, command, outputs, files),
+            Some(kind) => {
+                let text = self.text(alloc, Step::Compile, kind, command, files)?;
+                let folders = self.config.basedirs();
+                Ok(compiled(alloc, &self.statuses, text, folders, outputs)?)
+            }
+            None => match crate_text(alloc, &self.told.dep_info, command, files) {
+                Ok(text) => Ok(compiled_crate(alloc, &self.statuses, text, outputs)?),
+                Err(fault) => Err(self.failure(Step::Compile, fault)),
+            },
         }
     }
 }

@@ -1,6 +1,6 @@
 //! The texts of the scripted tool, and what it makes of them.
 
-ghost use Rattle.std.specs.Prelude.{◌≡◌, ℤ, [], ◌∷◌, ◌++◌, IfOk, OnOk, IsErrOf, Some, None, if◌then◌else◌, map, codes, pos};
+ghost use Rattle.std.specs.Prelude.{◌≡◌, ℤ, [], ◌∷◌, ◌++◌, IfOk, OnOk, IsErrOf, Some, None, if◌then◌else◌, map, codes};
 ghost use Rattle.std.specs.Option.{option_map};
 ghost use Rattle.os_files.specs.Bytes.{ticked};
 ghost use Rattle.cmdlines_tables.specs.Tables.{reading_of};
@@ -11,6 +11,8 @@ ghost use Rattle.script_tool.specs.Texts.{holds, whole};
 
 use crate::lines::{included, push_with_end, split_line};
 use crate::source::{source_of, takes_as_it_stands};
+use crate::statuses::Statuses;
+use crate::trees::Trees;
 use ckeys_base::strip::strip_basedirs;
 use ckeys_records::preprocessor::Printed;
 use ckeys_records::step::Step;
@@ -143,6 +145,7 @@ fn text_at<F: Files>(
 /// The text that a step goes over.
 pub fn text_of<F: Files>(
     alloc: Global,
+    trees: &Trees,
     step: Step,
     kind: CCompilerKind,
     command: &SingleCompileCommand,
@@ -158,7 +161,7 @@ pub fn text_of<F: Files>(
         → F.failed files.new ≡ ticked (F.failed files.old) }
     ensures steady { (IsErrOf result FileFail.Device → ⊥) → F.failed files.new ≡ F.failed files.old }
 {
-    let source = source_of(alloc, kind, command.arguments.as_slice())?;
+    let source = source_of(alloc, trees, kind, command.arguments.as_slice())?;
     let Some(input) = &source.input else {
         return Ok(None);
     };
@@ -172,11 +175,14 @@ pub fn text_of<F: Files>(
 }
 
 /// What a preprocessor prints of a text.
-pub fn printed(alloc: Global, text: Option<OsBytes>) -> Printed
+pub fn printed(alloc: Global, statuses: &Statuses, text: Option<OsBytes>) -> Printed
     ensures { made_of result.status (Some result.text ∷ []) ≡ printed text }
 {
     match text {
-        Some(text) => Printed { status: 0, text },
+        Some(text) => Printed {
+            status: statuses.of_print(text.as_bytes()),
+            text,
+        },
         None => Printed {
             status: 1,
             text: OsBytes::empty(alloc),
@@ -209,6 +215,7 @@ fn made(
 /// What a compiler makes of a text without the folders.
 pub fn compiled(
     alloc: Global,
+    statuses: &Statuses,
     text: Option<OsBytes>,
     folders: &[OsBytes],
     outputs: &[(OsBytes, ArtifactDescriptor)],
@@ -218,24 +225,25 @@ pub fn compiled(
         ≡ compiled (without folders.now text) (names_of outputs.now)) }
 {
     let Some(text) = text else {
-        return Ok(made_nothing(alloc));
+        return Ok(made_nothing(alloc, 1));
     };
     let left = strip_basedirs(alloc, text.as_bytes(), folders)?;
-    if holds_error(&left) {
-        return Ok(made_nothing(alloc));
+    let status = statuses.of_compile(&left);
+    if status != 0 {
+        return Ok(made_nothing(alloc, status));
     }
     Ok(Compiled {
-        status: 0,
+        status,
         files: made(alloc, &left, outputs)?,
     })
 }
 
-/// A compile that fails and makes nothing.
-pub fn made_nothing(alloc: Global) -> Compiled
-    ensures { made_of result.status result.files ≡ made_of (pos 1) [] }
+/// A compile that ends with that status and makes nothing.
+pub fn made_nothing(alloc: Global, status: i32) -> Compiled
+    ensures { made_of result.status result.files ≡ made_of status [] }
 {
     Compiled {
-        status: 1,
+        status,
         files: Listed::from_vec(Vec::new(alloc)),
     }
 }

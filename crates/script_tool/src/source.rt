@@ -8,13 +8,13 @@ ghost use Rattle.cmdlines_tables.specs.Tables.{ends_options, reading_of};
 ghost use Rattle.cmdlines_tables.specs.Values.{placed};
 ghost use Rattle.script_tool.specs.Scripted.{only, input_in, is_preprocessed, language_in, source_in, takes_as_it_stands};
 
+use crate::trees::Trees;
 use ckeys::hasher::needs_c_preprocessing;
 use ckeys_records::step::Step;
 use cmdlines_base::argument::Argument;
 use cmdlines_base::argument_error::ArgParseError;
 use cmdlines_base::table::SearchableArgInfo;
 use cmdlines_tables::compiler::CCompilerKind;
-use cmdlines_tables::compiler_tables::compiler_tree;
 use cmdlines_tables::cutting::arguments_of;
 use cmdlines_tables::kind::ArgKind;
 use cmdlines_tables::language::Language;
@@ -108,13 +108,13 @@ fn source_by<S: SearchableArgInfo<ArgData>>(
 /// What the words of a command to that compiler name.
 pub fn source_of(
     alloc: Global,
+    trees: &Trees,
     kind: CCompilerKind,
     words: &[OsBytes],
 ) -> Result<Source, AllocError>
     ensures { IfOk result (λ source. source ≡ source_in (reading_of kind words.now)) }
 {
-    let tree = compiler_tree(alloc, kind)?;
-    source_by(alloc, kind, words, &tree)
+    source_by(alloc, kind, words, trees.of(kind))
 }
 
 /// Whether inputs of the language of this name aren't preprocessed.

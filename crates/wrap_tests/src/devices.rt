@@ -6,6 +6,7 @@ use crate::scene::{Limits, NO_FAILURE, Scene};
 use crate::support::{MapSession, request, session, told};
 use ckeys_records::preprocessor::Preprocessor;
 use os_files::memory_files::MemoryFiles;
+use script_tool::statuses::{StatusOf, Statuses, error_status, print_status};
 use std::alloc::{AllocError, Global};
 use std::test::Fail;
 use test_kit::texts::is_that;
@@ -158,7 +159,10 @@ fn limits(device: Device, calls_left: u64) -> Limits {
 
 /// The fault of the row's refused call.
 fn fault_at(alloc: Global, row: &Row, limits: Limits) -> Result<Option<String>, Fail> {
-    let mut scene = Scene::new(alloc, row.line, row.direct, limits)?;
+    let print: StatusOf = Box::new(alloc, |text: &[u8]| print_status(text))?;
+    let compile: StatusOf = Box::new(alloc, |text: &[u8]| error_status(text))?;
+    let statuses = Statuses::new(print, compile);
+    let mut scene = Scene::new(alloc, statuses, row.line, row.direct, limits)?;
     serves_row(alloc, row, &mut scene)
 }
 

@@ -9,6 +9,7 @@ use ckeys_base::store::Store;
 use ckeys_records::preprocessor::Preprocessor;
 use os_files::memory_files::MemoryFiles;
 use script_tool::script::ScriptTool;
+use script_tool::statuses::{StatusOf, Statuses, error_status, print_status};
 use sha2::Sha256;
 use std::alloc::Global;
 use std::test::Fail;
@@ -63,7 +64,9 @@ fn tells_all<E: Store<EntryKey, PreprocessorCacheEntry> + Drop, O: Store<StoreKe
     hows: &[&str; 4],
     runs: (u64, u64),
 ) -> Result<(), Fail> {
-    let mut call = call(alloc, "-c m.c -o m.o")?;
+    let print: StatusOf = Box::new(alloc, |text: &[u8]| print_status(text))?;
+    let compile: StatusOf = Box::new(alloc, |text: &[u8]| error_status(text))?;
+    let mut call = call(alloc, Statuses::new(print, compile), "-c m.c -o m.o")?;
     tells_each(alloc, session, &mut call, hows, runs)
 }
 

@@ -6,6 +6,7 @@ use crate::support::{MapSession, request, script_tool, session, told};
 use ckeys_records::preprocessor::{Preprocessor, Ticks};
 use os_files::memory_files::MemoryFiles;
 use script_tool::script::ScriptTool;
+use script_tool::statuses::Statuses;
 use std::alloc::{AllocError, Global};
 use std::test::Fail;
 use test_kit::fail_files::FailFiles;
@@ -45,9 +46,13 @@ fn all_files(alloc: Global) -> Result<MemoryFiles, AllocError> {
     files_of(alloc, &FILES)
 }
 
-/// The call of this line with files and a tool of its own.
-pub(crate) fn call(alloc: Global, line: &str) -> Result<Call<MemoryFiles, ScriptTool>, Fail> {
-    let tool = script_tool(alloc)?;
+/// The call of this line with files and a tool of its own, whose compilers end with these statuses.
+pub(crate) fn call(
+    alloc: Global,
+    statuses: Statuses,
+    line: &str,
+) -> Result<Call<MemoryFiles, ScriptTool>, Fail> {
+    let tool = script_tool(alloc, statuses)?;
     let files = all_files(alloc)?;
     Ok(Call {
         request: request(alloc, line)?,
@@ -59,10 +64,11 @@ pub(crate) fn call(alloc: Global, line: &str) -> Result<Call<MemoryFiles, Script
 /// The same, whose devices fail.
 fn failing_call(
     alloc: Global,
+    statuses: Statuses,
     line: &str,
     limits: Limits,
 ) -> Result<Call<FailFiles<MemoryFiles>, FailTool<ScriptTool>>, Fail> {
-    let call = call(alloc, line)?;
+    let call = call(alloc, statuses, line)?;
     Ok(Call {
         request: call.request,
         files: FailFiles::new(call.files, limits.files),
@@ -82,12 +88,13 @@ impl Scene {
     /// The request of this line, which is not served yet. Include records are kept where `direct` says so.
     pub(crate) fn new(
         alloc: Global,
+        statuses: Statuses,
         line: &str,
         direct: bool,
         limits: Limits,
     ) -> Result<Scene, Fail> {
         let session = session(alloc, direct)?;
-        let call = failing_call(alloc, line, limits)?;
+        let call = failing_call(alloc, statuses, line, limits)?;
         Ok(Scene {
             alloc,
             session,

@@ -8,6 +8,7 @@ use ckeys_records::fault::Fault;
 use ckeys_records::preprocessor::Preprocessor;
 use os_files::memory_files::MemoryFiles;
 use script_tool::script::ScriptTool;
+use script_tool::statuses::{StatusOf, Statuses, error_status, print_status};
 use sha2::Sha256;
 use std::alloc::{AllocError, Global};
 use std::test::Fail;
@@ -31,7 +32,10 @@ fn told_twice(alloc: Global, scene: &mut Scene) -> Result<String, Fail> {
 
 /// Likewise for the request of this line.
 fn served_twice(alloc: Global, line: &str) -> Result<String, Fail> {
-    let mut scene = Scene::new(alloc, line, false, NO_FAILURE)?;
+    let print: StatusOf = Box::new(alloc, |text: &[u8]| print_status(text))?;
+    let compile: StatusOf = Box::new(alloc, |text: &[u8]| error_status(text))?;
+    let statuses = Statuses::new(print, compile);
+    let mut scene = Scene::new(alloc, statuses, line, false, NO_FAILURE)?;
     told_twice(alloc, &mut scene)
 }
 
@@ -67,15 +71,6 @@ fn one_request_twice(rt: HostRuntime) -> Result<(), Fail> {
     Ok(())
 }
 
-/// The calls of these lines.
-fn calls_of(alloc: Global, lines: &[&str]) -> Result<Vec<Call<MemoryFiles, ScriptTool>>, Fail> {
-    let mut calls = Vec::new(alloc);
-    for line in lines {
-        calls.push(call(alloc, line)?).map_err(AllocError::from)?;
-    }
-    Ok(calls)
-}
-
 /// Adds what these answers tell, in order.
 fn push_told(
     alloc: Global,
@@ -101,7 +96,13 @@ fn push_compiles(
 
 /// What the calls of these lines tell, how often each ran the compiler, and how much is held then.
 fn told_in_order(alloc: Global, session: &mut MapSession, lines: &[&str]) -> Result<String, Fail> {
-    let mut calls = calls_of(alloc, lines)?;
+    let mut calls = Vec::new(alloc);
+    for line in lines {
+        let print: StatusOf = Box::new(alloc, |text: &[u8]| print_status(text))?;
+        let compile: StatusOf = Box::new(alloc, |text: &[u8]| error_status(text))?;
+        let call = call(alloc, Statuses::new(print, compile), line)?;
+        calls.push(call).map_err(AllocError::from)?;
+    }
     let answers = all_served(session, calls.as_mut_slice())?;
     let mut text = String::new(alloc);
     push_told(alloc, &mut text, answers.as_slice())?;

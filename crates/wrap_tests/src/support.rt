@@ -12,6 +12,8 @@ use os_files::os_bytes::OsBytes;
 use rustc_compiler::rust::Rust;
 use script_tool::crate_texts::CrateTexts;
 use script_tool::script::ScriptTool;
+use script_tool::statuses::Statuses;
+use script_tool::trees::Trees;
 use sha2::Sha256;
 use std::alloc::{AllocError, Global};
 use std::collections::BTreeMap;
@@ -63,9 +65,11 @@ fn crate_texts(alloc: Global) -> Result<CrateTexts, AllocError> {
     })
 }
 
-/// A scripted tool without folders that has not run yet.
-pub(crate) fn script_tool(alloc: Global) -> Result<ScriptTool, Fail> {
-    Ok(ScriptTool::new(config(alloc, false)?, crate_texts(alloc)?))
+/// A scripted tool without folders that has not run yet, whose compilers end with these statuses.
+pub(crate) fn script_tool(alloc: Global, statuses: Statuses) -> Result<ScriptTool, Fail> {
+    let config = config(alloc, false)?;
+    let told = crate_texts(alloc)?;
+    Ok(ScriptTool::new(config, told, Trees::new(alloc)?, statuses))
 }
 
 /// A gcc with the digest `d`.
