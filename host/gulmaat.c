@@ -6,6 +6,7 @@
  * asked. Numbers in messages have eight bytes, low byte first; a string stands behind its length; a message behind its own.
  */
 #define _GNU_SOURCE
+#include <dirent.h>
 #include <errno.h>
 #include <fcntl.h>
 #include <limits.h>
@@ -17,9 +18,12 @@
 #include <string.h>
 #include <sys/stat.h>
 #include <sys/wait.h>
+#include <time.h>
 #include <unistd.h>
 
 #define DONE 11     /* the status at which the program has put the outputs there */
+#define MANY 64     /* so many folders of processes are more than there are processes at work */
+#define OLD 86400   /* a folder of that many seconds is one of a process that was killed */
 
 extern char **environ;
 
@@ -110,26 +114,42 @@ static int asks_for_colours(void) {
     return 0;
 }
 
-/* Takes colours out: what stands from an escape and a bracket to an m or a K. Gives the new size; *inside goes from part to part. */
-static size_t without_colours(char *part, size_t size, int *inside) {
+/* What may be a colour and isn't ended yet: an escape, a bracket, digits and semicolons. */
+static char held[32];
+static size_t held_size;
+
+/* Copies bytes without colours, each of which is an escape, a bracket, digits and semicolons, and an m or a K. Gives the new size, of
+ * which there may be more than before, by what was held. */
+static size_t without_colours(char *to, const char *from, size_t size) {
     size_t end = 0;
     for (size_t i = 0; i < size; i++) {
-        if (*inside == 1) *inside = part[i] == '[' ? 2 : 0;
-        else if (*inside == 2) *inside = part[i] == 'm' || part[i] == 'K' ? 0 : 2;
-        else if (part[i] == 27) *inside = 1;
-        else part[end++] = part[i];
+        char byte = from[i];
+        int ends = held_size > 1 && (byte == 'm' || byte == 'K');
+        int goes_on = held_size == 0 ? byte == 27 : held_size == 1 ? byte == '[' : strchr("0123456789;", byte) && byte;
+        if (ends) { held_size = 0; continue; }
+        if (!goes_on || held_size == sizeof held) {
+            memcpy(to + end, held, held_size);
+            end += held_size;
+            held_size = 0;
+            if (byte != 27) { to[end++] = byte; continue; }
+        }
+        held[held_size++] = byte;
     }
     return end;
 }
 
 static void show(const char *path, int to) {
-    char part[65536];
+    char part[65536], plain[sizeof part + sizeof held];
     ssize_t size;
-    int inside = 0, plain = !isatty(to) && !asks_for_colours();
+    int as_it_is = isatty(to) || asks_for_colours();
     int file = open(path, O_RDONLY | O_CLOEXEC);
     if (file < 0) return;
-    while ((size = read(file, part, sizeof part)) > 0)
-        write_all(to, part, plain ? without_colours(part, size, &inside) : (size_t)size);
+    while ((size = read(file, part, sizeof part)) > 0) {
+        if (as_it_is) write_all(to, part, size);
+        else write_all(to, plain, without_colours(plain, part, size));
+    }
+    write_all(to, held, held_size);
+    held_size = 0;
     close(file);
 }
 
@@ -140,7 +160,7 @@ static int is_empty(const char *path) {
 
 /* ---- Commands. */
 
-/* Runs the compiler with these words, and answers its status. */
+/* Runs the compiler with these words, and answers its status; -1 where it couldn't be started. */
 static int run(char **line, const char *output, const char *errors) {
     posix_spawn_file_actions_t actions;
     posix_spawnattr_t attributes;
@@ -155,7 +175,7 @@ static int run(char **line, const char *output, const char *errors) {
     sigaddset(&defaults, SIGPIPE);
     posix_spawnattr_setsigdefault(&attributes, &defaults);
     if (pipe_signal != SIG_IGN) posix_spawnattr_setflags(&attributes, POSIX_SPAWN_SETSIGDEF);
-    if (posix_spawn(&child, compiler, &actions, &attributes, line, environ)) return 127;
+    if (posix_spawn(&child, compiler, &actions, &attributes, line, environ)) return -1;
     while (waitpid(child, &status, 0) < 0)
         if (errno != EINTR) return 127;
     return WIFEXITED(status) ? WEXITSTATUS(status) : 128 + WTERMSIG(status);
@@ -214,16 +234,41 @@ static void make_folder(const char *path) {
     mkdir(part, 0777);
 }
 
+/* The folder of this name is this process's own. */
+static void take_own(const char *folder, const char *name) {
+    snprintf(own, sizeof own, "%.*s/%.40s", PATH_MAX - 64, folder, name);
+    snprintf(text, sizeof text, "%.*s/text", PATH_MAX - 16, own);
+    snprintf(messages, sizeof messages, "%.*s/messages", PATH_MAX - 16, own);
+    snprintf(printed, sizeof printed, "%.*s/printed", PATH_MAX - 16, own);
+}
+
+/* Takes away what processes that were killed left behind. */
+static void remove_old(const char *folder) {
+    DIR *all = opendir(folder);
+    struct dirent *entry;
+    struct stat state;
+    if (!all) return;
+    while ((entry = readdir(all))) {
+        if (entry->d_name[0] == '.' || strlen(entry->d_name) != 6) continue;
+        take_own(folder, entry->d_name);
+        if (!lstat(own, &state) && S_ISDIR(state.st_mode) && state.st_mtime < time(NULL) - OLD) remove_outputs();
+    }
+    closedir(all);
+    own[0] = 0;
+}
+
 /* A folder of this process alone, in which commands' outputs go. */
 static int make_own(void) {
     char folder[PATH_MAX];
+    struct stat state;
     snprintf(folder, sizeof folder, "%.*s/own", PATH_MAX - 64, kept);
     make_folder(folder);
-    snprintf(own, sizeof own, "%.*s/XXXXXX", PATH_MAX - 64, folder);
+    if (!stat(folder, &state) && state.st_nlink > MANY) remove_old(folder);
+    take_own(folder, "XXXXXX");
     if (!mkdtemp(own)) { own[0] = 0; return -1; }
-    snprintf(text, sizeof text, "%.*s/text", PATH_MAX - 64, own);
-    snprintf(messages, sizeof messages, "%.*s/messages", PATH_MAX - 64, own);
-    snprintf(printed, sizeof printed, "%.*s/printed", PATH_MAX - 64, own);
+    char name[8];
+    snprintf(name, sizeof name, "%s", strrchr(own, '/') + 1);
+    take_own(folder, name);
     return 0;
 }
 
@@ -244,6 +289,8 @@ static void tell_command_line(void) {
     if (!getcwd(dir, sizeof dir)) pass_through();
     add_string(kept);
     add_string(text);
+    add_string(messages);
+    add_string(printed);
     add_string(strrchr(own, '/') + 1);
     add_string(compiler);
     add_string(dir);
@@ -297,6 +344,7 @@ static int answer_questions(int from, int to) {
         if (!line) break;
         int compile = number_at(question) == 'C';
         int status = run(line, compile ? printed : text, messages);
+        if (status < 0) break;
         int silent = is_empty(messages) && (!compile || is_empty(printed));
         if (compile) {
             compiled = status;
@@ -338,6 +386,28 @@ static const char *program_beside(void) {
     return program;
 }
 
+/* Has the program do what an option says: its name, the folder of what is kept and the words behind it. */
+static int answer_option(int count, char **list) {
+    char **line = calloc(count + 3, sizeof *line);
+    if (!line) return 127;
+    line[0] = "gulmaat";
+    line[1] = count < 2 ? "--help" : list[1];
+    if (strcmp(line[1], "--help")) {
+        if (find_kept()) {
+            fputs("gulmaat: no folder to keep anything in: GULMAAT_DIR names one by an absolute path, or HOME that of its user\n", stderr);
+            return 2;
+        }
+        line[2] = kept;
+        for (int i = 2; i < count; i++) line[i + 1] = list[i];
+        char folder[PATH_MAX];
+        snprintf(folder, sizeof folder, "%.*s/own", PATH_MAX - 64, kept);
+        remove_old(folder);
+    }
+    execv(program_beside(), line);
+    perror(program_beside());
+    return 127;
+}
+
 int main(int count, char **list) {
     for (int file = 0; file < 3; file++)
         if (fcntl(file, F_GETFD) < 0 && open("/dev/null", O_RDWR) < 0) return 127;
@@ -347,13 +417,7 @@ int main(int count, char **list) {
     const char *name = strrchr(list[0], '/') ? strrchr(list[0], '/') + 1 : list[0];
     int is_link = strncmp(name, "gulmaat", 7) != 0;
     words = is_link ? list : list + 1;
-    if (!is_link && (count < 2 || !strncmp(list[1], "--", 2))) {
-        char *line[] = {"gulmaat", count < 2 ? "--help" : list[1], find_kept() ? NULL : kept, NULL};
-        if (!strcmp(line[1], "--help")) line[2] = NULL;
-        execv(program_beside(), line);
-        perror(program_beside());
-        return 127;
-    }
+    if (!is_link && (count < 2 || !strncmp(list[1], "--", 2))) return answer_option(count, list);
     if (find_compiler(is_link ? name : words[0])) { perror(words[0]); return 127; }
     if (is_link) words[0] = compiler;
     if (find_kept() || make_own()) pass_through();
@@ -372,6 +436,7 @@ int main(int count, char **list) {
     while (waitpid(child, &status, 0) < 0 && errno == EINTR);
     if (compiled >= 0) { remove_outputs(); return compiled; }
     if (!WIFEXITED(status) || WEXITSTATUS(status) != DONE) pass_through();
+    show(printed, 1);
     show(messages, 2);
     remove_outputs();
     return 0;

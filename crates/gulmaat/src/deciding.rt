@@ -3,14 +3,13 @@
 ghost use Rattle.std.specs.Prelude.{◌≡◌, ◌≤◌};
 
 use crate::answering::{SessionAnswer, answered};
-use crate::command_line::CommandLine;
-use crate::compilers::{compiler_at, kind_of};
-use crate::host::Host;
-use crate::kept::{found, hint_name, hinted, keep, note_hint};
+use crate::entries::Kept;
+use crate::kept::{found, hint_name, hinted, keep, note_hint, renew};
 use crate::known::Known;
-use crate::outputs::write_outputs;
+use crate::outputs::{print_again, write_outputs};
 use crate::passing::reason_against;
-use crate::stop::Stop;
+use kept_entries::entry::KeptMessages;
+use known_compilers::compilers::{compiler_at, kind_of};
 use os_files::listed::Listed;
 use os_files::os_bytes::OsBytes;
 use sha2::Sha256;
@@ -18,6 +17,9 @@ use std::alloc::Global;
 use std::io::Read;
 use std::rt::Files;
 use wrap::{Answer, CCompilerKind, Fault, How, KeyConfig, Output, Request, Step, StoreKey, Zone};
+use wrapper_host::command_line::CommandLine;
+use wrapper_host::host::Host;
+use wrapper_host::stop::Stop;
 
 /// What the host is to do at the end.
 #[derive(Drop)]
@@ -59,15 +61,19 @@ fn env_again(
 }
 
 /// The request of the command line.
-fn request_of<R: Files + AllocGlobal>(
-    rt: &R,
+fn request_of<P: Print + Files + AllocGlobal, I: Read>(
+    rt: &P,
     line: &CommandLine,
+    host: &mut Host<I>,
     kind: CCompilerKind,
-) -> Result<Request, Stop> {
+) -> Result<Request, Stop>
+    requires { host.old.compiled ≡ 0 }
+    ensures { host.new.compiled ≡ 0 }
+{
     let words = words_again(rt.alloc(), line.words.as_slice())?;
     let env = env_again(rt.alloc(), line.env.as_slice())?;
     let dir = line.dir.clone()?;
-    let compiler = compiler_at(rt, line, kind)?;
+    let compiler = compiler_at(rt, line, host, kind)?;
     Ok(Request {
         compiler,
         words,
@@ -77,7 +83,21 @@ fn request_of<R: Files + AllocGlobal>(
     })
 }
 
-/// Keeps outputs that were made afresh, where the compiler printed nothing beside them, and gives those that were kept.
+/// Puts kept outputs where the request wants them, and has printed again what was printed beside them.
+fn give<R: Files + AllocGlobal>(
+    rt: &R,
+    line: &CommandLine,
+    outputs: &[Output],
+    messages: Option<&KeptMessages>,
+) -> Result<(), Stop> {
+    let Some(messages) = messages else {
+        return Err(Stop::Unreadable);
+    };
+    write_outputs(rt, outputs)?;
+    print_again(rt, line, messages)
+}
+
+/// Keeps outputs that were made afresh, and gives those that were kept, each with what was printed beside them.
 fn finish<R: Files + AllocGlobal>(
     rt: &R,
     line: &CommandLine,
@@ -85,21 +105,22 @@ fn finish<R: Files + AllocGlobal>(
     key: Option<&StoreKey>,
     how: How,
     outputs: &[Output],
-    silent: bool,
+    messages: Option<&KeptMessages>,
+    known: &Known,
 ) -> Result<(), Stop> {
     let fresh = how == How::Fresh;
     if !fresh {
-        write_outputs(rt, outputs)?;
+        give(rt, line, outputs, messages)?;
     }
     let Some(key) = key else {
         return Ok(());
     };
-    if fresh && silent {
-        keep(rt, line, key, outputs)?;
+    if fresh {
+        keep(rt, line, key, outputs, known.messages()?)?;
+    } else {
+        let _ = renew(rt, line, &key.digest);
     }
-    if !fresh || silent {
-        let _ = note_hint(rt, line, hint, &key.digest);
-    }
+    let _ = note_hint(rt, line, hint, &key.digest);
     Ok(())
 }
 
@@ -117,7 +138,7 @@ fn look_up<R: Files + AllocGlobal>(
         return Ok(false);
     }
     known.looked_up = Some(key.digest.clone()?);
-    known.entry = found(rt, line, key.digest.clone()?)?;
+    known.entry = found(rt, line, key.digest.clone()?, known.preprocessor.as_bytes())?;
     Ok(known.entry.is_some())
 }
 
@@ -146,6 +167,30 @@ fn find_out<P: Print + Files + AllocGlobal, I: Read>(
     }
 }
 
+/// What the session answers by what is known, with what was printed beside the kept outputs that it had for it.
+fn answer_by(
+    alloc: Global,
+    request: &Request,
+    known: &mut Known,
+) -> Result<(SessionAnswer<Sha256>, Option<KeptMessages>), Stop> {
+    let Ok(config) = KeyConfig::new(alloc, &[], Zone::utc(), false) else {
+        return Err(Stop::Memory);
+    };
+    let (entry, messages) = match known.entry.take() {
+        Some(Kept { pair, messages }) => (Some(pair), Some(messages)),
+        None => (None, None),
+    };
+    let answer = answered::<Sha256>(
+        alloc,
+        config,
+        entry,
+        request,
+        &mut known.files,
+        &mut known.tool,
+    );
+    Ok((answer, messages))
+}
+
 /// One attempt. None where more is known after it.
 fn attempt<P: Print + Files + AllocGlobal, I: Read>(
     rt: &P,
@@ -159,16 +204,8 @@ fn attempt<P: Print + Files + AllocGlobal, I: Read>(
     ensures { host.new.compiled ≤ 1 }
 {
     let alloc = rt.alloc();
-    let config = KeyConfig::new(alloc, &[], Zone::utc(), false)?;
-    let entry = known.entry.take();
-    let SessionAnswer { answer, session } = answered::<Sha256>(
-        alloc,
-        config,
-        entry,
-        request,
-        &mut known.files,
-        &mut known.tool,
-    );
+    let (session_answer, messages) = answer_by(alloc, request, known)?;
+    let SessionAnswer { answer, session } = session_answer;
     let key = session.objects().asked();
     match answer {
         Ok(
@@ -178,7 +215,8 @@ fn attempt<P: Print + Files + AllocGlobal, I: Read>(
                 dep_info: _,
             },
         ) => {
-            finish(rt, line, hint, key, how, map.as_slice(), known.silent)?;
+            let outputs = map.as_slice();
+            finish(rt, line, hint, key, how, outputs, messages.as_ref(), known)?;
             Ok(Some(End::Done(how)))
         }
         Ok(Answer::Pass(reason)) => {
@@ -208,7 +246,7 @@ fn ask_until<P: Print + Files + AllocGlobal, I: Read>(
 {
     for number in 0..ATTEMPTS {
         if number == 1 {
-            known.entry = hinted(rt, line, hint)?;
+            known.entry = hinted(rt, line, hint, known.preprocessor.as_bytes())?;
         }
         let end = attempt(rt, line, host, request, hint, known)?;
         if let Some(end) = end {
@@ -228,7 +266,7 @@ fn ask<P: Print + Files + AllocGlobal, I: Read>(
     requires { host.old.compiled ≡ 0 }
     ensures once { host.new.compiled ≤ 1 }
 {
-    let request = request_of(rt, line, kind)?;
+    let request = request_of(rt, line, host, kind)?;
     let hint = hint_name(rt.alloc(), line)?;
     let mut known = Known::new(rt.alloc(), kind);
     ask_until(rt, line, host, &request, hint.as_str(), &mut known)

@@ -1,12 +1,12 @@
 //! Kept outputs, as the session has them and as they lie on a disk.
 
-use crate::stop::Stop;
 use ckeys_records::output_name::OutputName;
 use ckeys_records::shape::CShape;
-use kept_entries::entry::{KeptEntry, KeptName, KeptOutput, KeptShape};
+use kept_entries::entry::{KeptEntry, KeptMessages, KeptName, KeptOutput, KeptShape};
 use os_files::listed::Listed;
 use std::alloc::Global;
 use wrap::{Family, Output, Pairs, Shape, StoreKey};
+use wrapper_host::stop::Stop;
 
 /// The shape as it is kept.
 fn kept_shape(alloc: Global, shape: &CShape) -> Result<KeptShape, Stop> {
@@ -54,8 +54,13 @@ fn shape_in(alloc: Global, key: &StoreKey) -> Result<KeptShape, Stop> {
     }
 }
 
-/// The entry of these outputs under this key.
-pub fn entry_of(alloc: Global, key: &StoreKey, outputs: &[Output]) -> Result<KeptEntry, Stop> {
+/// The entry of these outputs under this key, with what was printed beside them.
+pub fn entry_of(
+    alloc: Global,
+    key: &StoreKey,
+    outputs: &[Output],
+    messages: KeptMessages,
+) -> Result<KeptEntry, Stop> {
     let shape = shape_in(alloc, key)?;
     let names = kept_names(alloc, key.names.as_slice())?;
     let digest = key.digest.clone()?;
@@ -65,6 +70,7 @@ pub fn entry_of(alloc: Global, key: &StoreKey, outputs: &[Output]) -> Result<Kep
         names,
         digest,
         outputs,
+        messages,
     })
 }
 
@@ -116,13 +122,22 @@ fn pairs_of(alloc: Global, kept: Listed<KeptOutput>) -> Result<Pairs, Stop> {
     Ok(pairs)
 }
 
+/// What a disk keeps under a key.
+#[derive(Drop)]
+pub struct Kept {
+    pub pair: (StoreKey, Pairs),
+    /// What was printed beside these outputs.
+    pub messages: KeptMessages,
+}
+
 /// The key of an entry, and what was kept under it.
-pub fn pair_of(alloc: Global, entry: KeptEntry) -> Result<(StoreKey, Pairs), Stop> {
+pub fn kept_of(alloc: Global, entry: KeptEntry) -> Result<Kept, Stop> {
     let KeptEntry {
         shape,
         names,
         digest,
         outputs,
+        messages,
     } = entry;
     let shape = Shape::C(shape_of(alloc, &shape)?);
     let names = names_of(alloc, names)?;
@@ -134,5 +149,6 @@ pub fn pair_of(alloc: Global, entry: KeptEntry) -> Result<(StoreKey, Pairs), Sto
         names,
         digest,
     };
-    Ok((key, pairs))
+    let pair = (key, pairs);
+    Ok(Kept { pair, messages })
 }

@@ -2,13 +2,11 @@
 
 ghost use Rattle.std.specs.Prelude.{◌≡◌, ◌≤◌};
 
-use crate::command_line::CommandLine;
-use crate::fields::into_text;
-use crate::host::Host;
+use crate::entries::Kept;
 use crate::outputs::{made_at, regular};
 use crate::passing::takes_files;
-use crate::stop::Stop;
 use ckeys_records::output_name::OutputName;
+use kept_entries::entry::KeptMessages;
 use os_files::file_time::FileTime;
 use os_files::files::Metadata;
 use os_files::listed::Listed;
@@ -19,7 +17,11 @@ use std::alloc::Global;
 use std::fs;
 use std::io::Read;
 use std::rt::Files;
-use wrap::{CCompilerKind, Compiled, Pairs, Printed, Step, StoreKey};
+use wrap::{CCompilerKind, Compiled, Printed, Step, StoreKey};
+use wrapper_host::command_line::CommandLine;
+use wrapper_host::fields::into_text;
+use wrapper_host::host::{Ended, Host};
+use wrapper_host::stop::Stop;
 
 /// Files and answers that are known so far.
 #[derive(Drop)]
@@ -28,13 +30,16 @@ pub struct Known {
     pub files: SnapshotFiles,
     pub tool: ReplayTool,
     /// What a disk keeps that may fit.
-    pub entry: Option<(StoreKey, Pairs)>,
+    pub entry: Option<Kept>,
     /// The digest by which the disk was asked already.
     pub looked_up: Option<OsBytes>,
     /// The file that was loaded last.
     loaded: Option<OsBytes>,
-    /// Whether the compiler ran, and printed nothing beside its outputs.
-    pub silent: bool,
+    /// What the preprocessor printed on its standard error; nothing where it didn't run.
+    pub preprocessor: OsBytes,
+    /// What the compile printed on its standard output and its standard error; nothing where it didn't run.
+    pub printed: OsBytes,
+    pub errors: OsBytes,
 }
 
 impl Known {
@@ -47,7 +52,9 @@ impl Known {
             entry: None,
             looked_up: None,
             loaded: None,
-            silent: false,
+            preprocessor: OsBytes::empty(alloc),
+            printed: OsBytes::empty(alloc),
+            errors: OsBytes::empty(alloc),
         }
     }
 
@@ -96,6 +103,7 @@ impl Known {
         ensures { host.new.compiled ≡ host.old.compiled }
     {
         let ended = host.preprocess(rt, rt.alloc(), words.as_slice())?;
+        self.preprocessor = printed_at(rt, &ended, line.errors.as_str())?;
         let text = OsBytes::from_vec(fs::read(rt, line.text.as_str())?);
         if takes_files(&text) {
             return Err(Stop::TakesFiles);
@@ -113,6 +121,7 @@ impl Known {
     fn record_outputs<P: Print + std::rt::Files + AllocGlobal, I: Read>(
         &mut self,
         rt: &P,
+        line: &CommandLine,
         host: &mut Host<I>,
         names: Listed<OutputName>,
         words: Listed<OsBytes>,
@@ -122,7 +131,8 @@ impl Known {
         ensures { host.new.compiled ≡ 1 }
     {
         let ended = host.compile(rt, rt.alloc(), words.as_slice())?;
-        self.silent = ended.silent;
+        self.printed = printed_at(rt, &ended, line.printed.as_str())?;
+        self.errors = printed_at(rt, &ended, line.errors.as_str())?;
         let files = made_at(rt, paths)?;
         let status = ended.status;
         self.tool.outputs = Some(RecordedOutputs {
@@ -138,6 +148,7 @@ impl Known {
     fn record_once<P: Print + std::rt::Files + AllocGlobal, I: Read>(
         &mut self,
         rt: &P,
+        line: &CommandLine,
         host: &mut Host<I>,
         key: &StoreKey,
         words: Listed<OsBytes>,
@@ -150,8 +161,17 @@ impl Known {
         if host.compiled != 0 {
             return Ok(false);
         }
-        self.record_outputs(rt, host, names, words, paths)?;
+        self.record_outputs(rt, line, host, names, words, paths)?;
         Ok(true)
+    }
+
+    /// Copies of what was printed beside the outputs that the compiler made.
+    pub fn messages(&self) -> Result<KeptMessages, Stop> {
+        Ok(KeptMessages {
+            preprocessor: self.preprocessor.clone()?,
+            printed: self.printed.clone()?,
+            errors: self.errors.clone()?,
+        })
     }
 
     /// Has the host run what the tool lacks. False where it lacks nothing, or would compile once more.
@@ -174,10 +194,20 @@ impl Known {
                 self.record_text(rt, line, host, words)?;
                 Ok(true)
             }
-            (Step::Compile, Some(key)) => self.record_once(rt, host, key, words, paths.as_slice()),
+            (Step::Compile, Some(key)) => {
+                self.record_once(rt, line, host, key, words, paths.as_slice())
+            }
             (_, _) => Ok(false),
         }
     }
+}
+
+/// What a command printed there.
+fn printed_at<R: Files + AllocGlobal>(rt: &R, ended: &Ended, place: &str) -> Result<OsBytes, Stop> {
+    if ended.silent {
+        return Ok(OsBytes::empty(rt.alloc()));
+    }
+    Ok(OsBytes::from_vec(fs::read(rt, place)?))
 }
 
 /// Copies of the names.

@@ -1,34 +1,30 @@
 //! The program `gulmaat`: decides on one command line of a compiler, whose steps its host runs for it.
 //!
 //! With no arguments it talks with its host over standard input and output. `--show FOLDER` prints what happened so far with what is
-//! kept in that folder, and `--clear FOLDER` takes all of it away.
+//! kept in that folder, `--limit FOLDER SIZE` sets how much that may be, and `--clear FOLDER` takes all of it away.
 #![tactic(auto)]
 
 ghost use Rattle.std.specs.Prelude.{◌≡◌};
 
 mod answering;
-mod command_line;
-mod compilers;
 mod deciding;
 mod entries;
-mod fields;
 mod happened;
-mod host;
 mod kept;
 mod known;
 mod outputs;
 mod passing;
-mod stop;
 
-use command_line::CommandLine;
 use deciding::{End, decide};
-use happened::{clear, note, show};
-use host::Host;
+use happened::{clear, note, set, show};
 use std::env;
 use std::io::Read;
 use std::process::ExitCode;
-use std::rt::{Env, Files};
-use stop::Stop;
+use std::rt::{Clock, Env, Files};
+use std::time::SystemTime;
+use wrapper_host::command_line::CommandLine;
+use wrapper_host::host::Host;
+use wrapper_host::stop::Stop;
 
 /// The status at which the outputs are there.
 const DONE: u8 = 11;
@@ -41,11 +37,13 @@ const FAILED: u8 = 2;
 
 const HELP: &str = "\
 gulmaat COMPILER WORD..   runs the compiler, or gives the outputs that are kept of it
-gulmaat --show            what happened so far, in falling order
+gulmaat --show            what happened so far, in falling order, and how much is kept
+gulmaat --limit SIZE      keeps no more than that: bytes, or a number with k, M or G behind it; 0 is no limit
 gulmaat --clear           takes away all that is kept
 gulmaat --help            prints this
 
-Outputs are kept in the folder that GULMAAT_DIR names, or else in gulmaat in the user's cache folder.
+Outputs are kept in the folder that GULMAAT_DIR names, or else in gulmaat in the user's cache folder: 5G of them where no limit was set,
+of which the least recently used ones go first.
 ";
 
 fn main(rt: HostRuntime) -> ExitCode {
@@ -57,20 +55,36 @@ fn main(rt: HostRuntime) -> ExitCode {
 }
 
 /// Does what the arguments say.
-fn run<R: Print + Input + Files + AllocGlobal>(rt: &R, args: &[String]) -> ExitCode {
+fn run<R: Print + Eprint + Input + Files + Clock + AllocGlobal>(
+    rt: &R,
+    args: &[String],
+) -> ExitCode {
     let Some((word, rest)) = args.split_first() else {
         return talk(rt);
     };
-    let Some(kept) = rest.first() else {
-        return match word.as_str() {
-            "--help" => status_of(help(rt)),
-            _ => ExitCode::from(FAILED),
+    match asked(rt, word.as_str(), rest) {
+        Ok(()) => ExitCode::SUCCESS,
+        Err(stop) => {
+            let _ = eprintln!(rt; "gulmaat: {stop}");
+            ExitCode::from(FAILED)
+        }
+    }
+}
+
+/// Does what a user asks for, with what is kept in the folder that is named behind that.
+fn asked<R: Print + Files + AllocGlobal>(rt: &R, word: &str, rest: &[String]) -> Result<(), Stop> {
+    let Some((kept, rest)) = rest.split_first() else {
+        return match word {
+            "--help" => help(rt),
+            _ => Err(Stop::Option),
         };
     };
-    match word.as_str() {
-        "--show" => status_of(show(rt, kept.as_str())),
-        "--clear" => status_of(clear(rt, kept.as_str())),
-        _ => ExitCode::from(FAILED),
+    match (word, rest) {
+        ("--show", []) => show(rt, kept.as_str()),
+        ("--clear", []) => clear(rt, kept.as_str()),
+        ("--limit", [size]) => set(rt, kept.as_str(), size.as_str()),
+        ("--limit", _) => Err(Stop::Size),
+        (_, _) => Err(Stop::Option),
     }
 }
 
@@ -85,29 +99,25 @@ fn help<R: Print>(rt: &R) -> Result<(), Stop> {
     Ok(())
 }
 
-fn status_of(done: Result<(), Stop>) -> ExitCode {
-    match done {
-        Ok(()) => ExitCode::SUCCESS,
-        Err(_) => ExitCode::from(FAILED),
-    }
-}
-
 /// The command line that the host asks about.
-fn line_from<R: AllocGlobal, I: Read>(rt: &R, host: &mut Host<I>) -> Result<CommandLine, Stop>
+fn line_from<R: Clock + AllocGlobal, I: Read>(
+    rt: &R,
+    host: &mut Host<I>,
+) -> Result<CommandLine, Stop>
     ensures { host.new.compiled ≡ host.old.compiled }
 {
     let message = host.message(rt.alloc())?;
-    CommandLine::read(rt.alloc(), message.as_slice())
+    CommandLine::read(rt.alloc(), message.as_slice(), SystemTime::now(rt)?)
 }
 
 /// Decides on the command line that the host asks about, and notes what it came to.
-fn talk<R: Print + Input + Files + AllocGlobal>(rt: &R) -> ExitCode {
+fn talk<R: Print + Input + Files + Clock + AllocGlobal>(rt: &R) -> ExitCode {
     let mut host = Host::new(rt.reader());
     let Ok(line) = line_from(rt, &mut host) else {
         return ExitCode::from(PASS);
     };
     let end = decide(rt, &line, &mut host);
-    let _ = note(rt, line.kept.as_str(), &end);
+    let _ = note(rt, line.folder.path.as_str(), &end);
     match end {
         Ok(End::Done(_)) => ExitCode::from(DONE),
         Ok(End::Pass(_)) | Err(_) => ExitCode::from(PASS),

@@ -1,12 +1,14 @@
 //! Files that the compiler made, and outputs that are written in its place.
 
-use crate::fields::into_text;
-use crate::stop::Stop;
+use kept_entries::entry::KeptMessages;
 use os_files::listed::Listed;
 use os_files::os_bytes::OsBytes;
 use std::fs;
 use std::rt::Files;
 use wrap::Output;
+use wrapper_host::command_line::CommandLine;
+use wrapper_host::fields::into_text;
+use wrapper_host::stop::Stop;
 
 /// The contents of the regular file of that path, where it is one.
 pub fn regular<R: Files + AllocGlobal>(rt: &R, path: &str) -> Option<OsBytes> {
@@ -45,6 +47,23 @@ pub fn write_outputs<R: Files + AllocGlobal>(rt: &R, outputs: &[Output]) -> Resu
         let path = into_text(output.path.clone()?)?;
         make_room(rt, path.as_str());
         fs::write(rt, path.as_str(), output.contents.as_bytes())?;
+    }
+    Ok(())
+}
+
+/// Has the host print what was printed beside kept outputs, in place of what the preprocessor printed in this call.
+pub fn print_again<R: Files + AllocGlobal>(
+    rt: &R,
+    line: &CommandLine,
+    messages: &KeptMessages,
+) -> Result<(), Stop> {
+    let printed = messages.printed.as_bytes();
+    let errors = messages.errors.as_bytes();
+    if !printed.is_empty() {
+        fs::write(rt, line.printed.as_str(), printed)?;
+    }
+    if !errors.is_empty() || !messages.preprocessor.as_bytes().is_empty() {
+        fs::write(rt, line.errors.as_str(), errors)?;
     }
     Ok(())
 }

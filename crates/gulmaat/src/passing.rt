@@ -1,12 +1,12 @@
 //! What is passed through before the session is asked, since neither the compiler's words nor its text would tell what was made.
 //! docs/WRAPPER.md says what each variable and option does.
 
-use crate::command_line::CommandLine;
-use crate::stop::Stop;
 use memchr::memmem;
 use os_files::os_bytes::OsBytes;
 use recorded_builds::beware::options_in;
 use std::alloc::Global;
+use wrapper_host::command_line::CommandLine;
+use wrapper_host::stop::Stop;
 
 /// Variables under which a compiler reads or writes something else.
 const VARIABLES: [&str; 13] = [

@@ -7,7 +7,7 @@ use Rattle.byte_formats.specs.Formats.{IsBytes, IsFormat, Takes}
 use Rattle.cmdlines_tables.specs.declared.language.Language.{Language}
 use Rattle.cmdlines_tables.specs.declared.language.Language.TheVariants.{C, Cxx, CPreprocessed, CxxPreprocessed, Assembler, AssemblerToPreprocess, Rust}
 use Rattle.kept_entries.specs.Codes.{coded, coded_at, flag_code, flag_of, language_code, language_of}
-use Rattle.kept_entries.specs.Layout.{AnyFits, EntryFits, NameFits, OutputFits, ShapeFits, contents_at, contents_bytes, entry_fields, entry_from, name_at, name_bytes, name_fields, name_from, output_at, output_bytes, output_fields, output_from, shape_at, shape_bytes, shape_fields, shape_from}
+use Rattle.kept_entries.specs.Layout.{AnyFits, EntryFits, MessagesFit, NameFits, OutputFits, ShapeFits, contents_at, contents_bytes, entry_fields, entry_from, messages_at, messages_bytes, messages_fields, messages_from, name_at, name_bytes, name_fields, name_from, output_at, output_bytes, output_fields, output_from, shape_at, shape_bytes, shape_fields, shape_from}
 
 module _ {X : Type 0} (of : ℕ → Option X) (code : X → ℕ) (back : (x : X) → of (code x) ≡ Some x) (one_way : (b : ℕ) (x : X) → of b ≡ Some x → code x ≡ b) where
   coded_takes : (bytes : Bytes) (x : X × Bytes) → IsBytes bytes → coded_at of bytes ≡ Some x → Takes bytes (coded code x.0) x.1 × AnyFits x.0
@@ -73,9 +73,13 @@ shape_format =
     let fields = both_format _ _ _ _ _ _ language_format (both_format _ _ _ _ _ _ number_format (both_format _ _ _ _ _ _ number_format last)) in
     made_format shape_from shape_fields _ _ _ (λ x. refl) (λ y. refl) fields
 
+pub messages_format : IsFormat messages_at messages_bytes MessagesFit
+unfolding messages_at
+messages_format = made_format messages_from messages_fields _ _ _ (λ x. refl) (λ y. refl) (both_format _ _ _ _ _ _ framed_format (both_format _ _ _ _ _ _ framed_format framed_format))
+
 pub contents_format : IsFormat contents_at contents_bytes EntryFits
 unfolding contents_at
 contents_format =
-    let last = both_format _ _ _ _ _ _ framed_format (counted_format _ _ _ output_format) in
+    let last = both_format _ _ _ _ _ _ framed_format (both_format _ _ _ _ _ _ (counted_format _ _ _ output_format) messages_format) in
     let fields = both_format _ _ _ _ _ _ shape_format (both_format _ _ _ _ _ _ (counted_format _ _ _ name_format) last) in
     made_format entry_from entry_fields _ _ _ (λ x. refl) (λ y. refl) fields

@@ -6,6 +6,7 @@ use Rattle.byte_formats.specs.Spelling.{BothFit, CountFits, FitsFrame, FitsNumbe
 use Rattle.cmdlines_tables.specs.declared.language.Language.{Language}
 use Rattle.kept_entries.specs.Codes.{coded, coded_at, flag_code, flag_of, language_code, language_of}
 use Rattle.kept_entries.specs.declared.entry.KeptEntry.{KeptEntry}
+use Rattle.kept_entries.specs.declared.entry.KeptMessages.{KeptMessages}
 use Rattle.kept_entries.specs.declared.entry.KeptName.{KeptName}
 use Rattle.kept_entries.specs.declared.entry.KeptOutput.{KeptOutput}
 use Rattle.kept_entries.specs.declared.entry.KeptShape.{KeptShape}
@@ -32,14 +33,20 @@ shape_fields s = (s.language, (s.compiler_digest, (s.words, (s.extra_hashes, (s.
 abbrev pub shape_from : ShapeFields → KeptShape
 shape_from f = record { language = f.0; compiler_digest = f.1.0; words = f.1.1.0; extra_hashes = f.1.1.1.0; assembler_digest = f.1.1.1.1.0; variables = f.1.1.1.1.1 }
 
+abbrev pub messages_fields : KeptMessages → Bytes × (Bytes × Bytes)
+messages_fields m = (m.preprocessor, (m.printed, m.errors))
+
+abbrev pub messages_from : Bytes × (Bytes × Bytes) → KeptMessages
+messages_from f = record { preprocessor = f.0; printed = f.1.0; errors = f.1.1 }
+
 abbrev pub EntryFields : Type 0
-EntryFields = KeptShape × (List KeptName × (Bytes × List KeptOutput))
+EntryFields = KeptShape × (List KeptName × (Bytes × (List KeptOutput × KeptMessages)))
 
 abbrev pub entry_fields : KeptEntry → EntryFields
-entry_fields e = (e.shape, (e.names, (e.digest, e.outputs)))
+entry_fields e = (e.shape, (e.names, (e.digest, (e.outputs, e.messages))))
 
 abbrev pub entry_from : EntryFields → KeptEntry
-entry_from f = record { shape = f.0; names = f.1.0; digest = f.1.1.0; outputs = f.1.1.1 }
+entry_from f = record { shape = f.0; names = f.1.0; digest = f.1.1.0; outputs = f.1.1.1.0; messages = f.1.1.1.1 }
 
 -- how they are spelled
 abbrev pub name_bytes : KeptName → Bytes
@@ -51,8 +58,11 @@ output_bytes o = both framed framed (output_fields o)
 abbrev pub shape_bytes : KeptShape → Bytes
 shape_bytes s = both (coded language_code) (both number (both number (both (counted number) (both (optional number) number)))) (shape_fields s)
 
+abbrev pub messages_bytes : KeptMessages → Bytes
+messages_bytes m = both framed (both framed framed) (messages_fields m)
+
 abbrev pub contents_bytes : KeptEntry → Bytes
-contents_bytes e = both shape_bytes (both (counted name_bytes) (both framed (counted output_bytes))) (entry_fields e)
+contents_bytes e = both shape_bytes (both (counted name_bytes) (both framed (both (counted output_bytes) messages_bytes))) (entry_fields e)
 
 -- each length, count and number fits its eight bytes
 abbrev pub AnyFits : {X : Type 0} → X → Type 0
@@ -67,8 +77,11 @@ OutputFits o = BothFit FitsFrame FitsFrame (output_fields o)
 abbrev pub ShapeFits : KeptShape → Type 0
 ShapeFits s = BothFit AnyFits (BothFit FitsNumber (BothFit FitsNumber (BothFit (CountFits FitsNumber) (BothFit (IfFits FitsNumber) FitsNumber)))) (shape_fields s)
 
+abbrev pub MessagesFit : KeptMessages → Type 0
+MessagesFit m = BothFit FitsFrame (BothFit FitsFrame FitsFrame) (messages_fields m)
+
 abbrev pub EntryFits : KeptEntry → Type 0
-EntryFits e = BothFit ShapeFits (BothFit (CountFits NameFits) (BothFit FitsFrame (CountFits OutputFits))) (entry_fields e)
+EntryFits e = BothFit ShapeFits (BothFit (CountFits NameFits) (BothFit FitsFrame (BothFit (CountFits OutputFits) MessagesFit))) (entry_fields e)
 
 -- reading them
 unfoldable pub name_at : Bytes → Read KeptName
@@ -80,8 +93,11 @@ output_at = made_at output_from (both_at framed_at framed_at)
 unfoldable pub shape_at : Bytes → Read KeptShape
 shape_at = made_at shape_from (both_at (coded_at language_of) (both_at number_at (both_at number_at (both_at (counted_at number_at) (both_at (optional_at number_at) number_at)))))
 
+unfoldable pub messages_at : Bytes → Read KeptMessages
+messages_at = made_at messages_from (both_at framed_at (both_at framed_at framed_at))
+
 unfoldable pub contents_at : Bytes → Read KeptEntry
-contents_at = made_at entry_from (both_at shape_at (both_at (counted_at name_at) (both_at framed_at (counted_at output_at))))
+contents_at = made_at entry_from (both_at shape_at (both_at (counted_at name_at) (both_at framed_at (both_at (counted_at output_at) messages_at))))
 
 -- all of them, and nothing behind
 unfoldable pub fields_at : Bytes → Option KeptEntry
@@ -91,7 +107,7 @@ fields_at bytes = do
 
 -- the version of this layout
 abbrev pub layout_version : ℕ
-layout_version = 1
+layout_version = 2
 
 -- all of them behind the version; an entry of another version is none
 unfoldable pub whole_at : Bytes → Option KeptEntry

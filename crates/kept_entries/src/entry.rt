@@ -29,6 +29,17 @@ pub struct KeptOutput {
     pub contents: OsBytes,
 }
 
+/// What was printed beside outputs, byte for byte.
+#[derive(Drop)]
+pub struct KeptMessages {
+    /// What the preprocessor printed on its standard error.
+    pub preprocessor: OsBytes,
+    /// What the compile printed on its standard output.
+    pub printed: OsBytes,
+    /// And on its standard error.
+    pub errors: OsBytes,
+}
+
 /// What a compile of a C compiler made, under its whole key.
 #[derive(Drop)]
 pub struct KeptEntry {
@@ -38,4 +49,5 @@ pub struct KeptEntry {
     pub digest: OsBytes,
     /// The outputs that were made.
     pub outputs: Listed<KeptOutput>,
+    pub messages: KeptMessages,
 }

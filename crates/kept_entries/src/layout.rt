@@ -2,11 +2,11 @@
 
 ghost use Rattle.std.specs.Prelude.{◌≡◌};
 ghost use Rattle.byte_formats.specs.Reading.{Gives};
-ghost use Rattle.kept_entries.specs.EntryFormats.{contents_format, name_format, output_format, shape_format};
-ghost use Rattle.kept_entries.specs.Layout.{EntryFits, NameFits, OutputFits, ShapeFits, contents_at, contents_bytes, name_at, name_bytes, output_at, output_bytes, shape_at, shape_bytes};
+ghost use Rattle.kept_entries.specs.EntryFormats.{contents_format, messages_format, name_format, output_format, shape_format};
+ghost use Rattle.kept_entries.specs.Layout.{EntryFits, MessagesFit, NameFits, OutputFits, ShapeFits, contents_at, contents_bytes, messages_at, messages_bytes, name_at, name_bytes, output_at, output_bytes, shape_at, shape_bytes};
 
 use crate::codes::{flag_code, language_code, read_flag, read_language};
-use crate::entry::{KeptEntry, KeptName, KeptOutput, KeptShape};
+use crate::entry::{KeptEntry, KeptMessages, KeptName, KeptOutput, KeptShape};
 use byte_formats::fault::ReadFault;
 use byte_formats::field::Field;
 use os_files::listed::Listed;
@@ -99,7 +99,38 @@ impl Field for KeptShape {
     }
 }
 
-/// The shape, the names, the digest and the outputs.
+/// The preprocessor's messages, and what the compile printed on its standard output and its standard error.
+impl Field for KeptMessages {
+    ghost reads = { messages_at };
+
+    ghost spells = { messages_bytes };
+
+    ghost fits = { MessagesFit };
+
+    ghost is_format = { messages_format };
+
+    #[tactic(auto, unfolding(crate::specs::Layout::messages_at, byte_formats::specs::Reading::both_at, byte_formats::specs::Reading::made_at))]
+    fn read(alloc: Global, bytes: &[u8]) -> Result<(KeptMessages, &[u8]), ReadFault> {
+        let (preprocessor, rest) = OsBytes::read(alloc, bytes)?;
+        let (printed, rest) = OsBytes::read(alloc, rest)?;
+        let (errors, rest) = OsBytes::read(alloc, rest)?;
+        let messages = KeptMessages {
+            preprocessor,
+            printed,
+            errors,
+        };
+        Ok((messages, rest))
+    }
+
+    fn put(&self, out: &mut Vec<u8>) -> Result<(), AllocError> {
+        self.preprocessor.put(out)?;
+        self.printed.put(out)?;
+        self.errors.put(out)?;
+        Ok(())
+    }
+}
+
+/// The shape, the names, the digest, the outputs and what was printed.
 impl Field for KeptEntry {
     ghost reads = { contents_at };
 
@@ -115,11 +146,13 @@ impl Field for KeptEntry {
         let (names, rest) = Listed::<KeptName>::read(alloc, rest)?;
         let (digest, rest) = OsBytes::read(alloc, rest)?;
         let (outputs, rest) = Listed::<KeptOutput>::read(alloc, rest)?;
+        let (messages, rest) = KeptMessages::read(alloc, rest)?;
         let entry = KeptEntry {
             shape,
             names,
             digest,
             outputs,
+            messages,
         };
         Ok((entry, rest))
     }
@@ -129,6 +162,7 @@ impl Field for KeptEntry {
         self.names.put(out)?;
         self.digest.put(out)?;
         self.outputs.put(out)?;
+        self.messages.put(out)?;
         Ok(())
     }
 }

@@ -12,7 +12,7 @@ use ckeys_base::hash_state::HashState;
 use std::alloc::{AllocError, Global};
 
 /// The version of the layout, which each entry begins with.
-const VERSION: u8 = 1;
+const VERSION: u8 = 2;
 
 /// The digest of these bytes.
 fn digest_of<H: HashState>(alloc: Global, bytes: &[u8]) -> Result<Vec<u8>, AllocError>

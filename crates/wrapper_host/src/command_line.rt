@@ -2,19 +2,25 @@
 
 use crate::fields::Fields;
 use crate::stop::Stop;
+use kept_folder::folder::KeptFolder;
 use os_files::listed::Listed;
 use os_files::os_bytes::OsBytes;
 use std::alloc::Global;
+use std::time::SystemTime;
 
 /// A command line, with where it would run, and where this process keeps things.
 #[derive(Drop)]
 pub struct CommandLine {
     /// The folder of what is kept.
-    pub kept: String,
+    pub folder: KeptFolder,
+    /// When it is asked about.
+    pub moment: SystemTime,
     /// Where the host puts a preprocessed text.
     pub text: String,
-    /// What makes names of files this process's own.
-    pub own: String,
+    /// Where it puts what a command printed on its standard error, and what a compile printed on its standard output. What lies there
+    /// at the end it prints.
+    pub errors: String,
+    pub printed: String,
     pub executable: String,
     pub dir: OsBytes,
     /// The words behind the executable.
@@ -23,24 +29,38 @@ pub struct CommandLine {
 }
 
 impl CommandLine {
-    /// The one that the message tells.
-    pub fn read(alloc: Global, message: &[u8]) -> Result<CommandLine, Stop> {
+    /// The one that the message tells, at that moment.
+    pub fn read(alloc: Global, message: &[u8], moment: SystemTime) -> Result<CommandLine, Stop> {
         let mut fields = Fields::of(message);
-        let kept = fields.text(alloc)?;
+        let path = fields.text(alloc)?;
         let text = fields.text(alloc)?;
+        let errors = fields.text(alloc)?;
+        let printed = fields.text(alloc)?;
         let own = fields.text(alloc)?;
         let executable = fields.text(alloc)?;
         let dir = fields.bytes(alloc)?;
         let words = fields.words(alloc)?;
         let env = fields.pairs(alloc)?;
         Ok(CommandLine {
-            kept,
+            folder: KeptFolder { path, own },
+            moment,
             text,
-            own,
+            errors,
+            printed,
             executable,
             dir,
             words,
             env,
         })
+    }
+
+    /// The value of a variable, or nothing.
+    pub fn value_of(&self, name: &[u8]) -> &[u8] {
+        for pair in self.env.as_slice() {
+            if pair.0.as_bytes() == name {
+                return pair.1.as_bytes();
+            }
+        }
+        &[]
     }
 }

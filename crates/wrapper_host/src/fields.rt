@@ -18,6 +18,11 @@ impl<'a> Fields<'a> {
         Fields { rest: message }
     }
 
+    /// Whether nothing is left.
+    pub fn is_empty(&self) -> bool {
+        self.rest.is_empty()
+    }
+
     /// The number that comes next.
     pub fn number(&mut self) -> Result<u64, Stop> {
         let (number, rest) = read_number(self.rest)?;

@@ -1,7 +1,7 @@
 //! Why no decision is made. The host runs the compiler then.
 
 use byte_formats::fault::ReadFault;
-use ckeys_records::config::ConfigError;
+use kept_folder::error::FolderError;
 use std::alloc::{AllocError, AllocFailed};
 use std::{fmt, io};
 
@@ -16,15 +16,24 @@ pub enum Stop {
     Unreadable,
     /// The text takes in files as it is assembled.
     TakesFiles,
+    /// The compiler doesn't say what it runs.
+    Parts,
+    /// A size is none.
+    Size,
+    /// An option is none of this program's, or takes no words.
+    Option,
 }
 
 impl fmt::Display for Stop {
     fn fmt<W: fmt::Write>(&self, f: &mut fmt::Formatter<W>) -> fmt::Result {
         f.write_str(match *self {
             Stop::Memory => "no memory",
-            Stop::Device => "a file or the host failed",
+            Stop::Device => "a file or the host can't be read or written",
             Stop::Unreadable => "a path or a message is no text",
             Stop::TakesFiles => "the text takes in files",
+            Stop::Parts => "the compiler doesn't name its parts",
+            Stop::Size => "a size is a number of bytes, or a number with k, M or G behind it",
+            Stop::Option => "no such option, or words behind one that takes none: --help tells all",
         })
     }
 }
@@ -53,17 +62,21 @@ impl From<fmt::Error> for Stop {
     }
 }
 
-impl From<ConfigError> for Stop {
-    fn from(_error: ConfigError) -> Stop {
-        Stop::Memory
-    }
-}
-
 impl From<ReadFault> for Stop {
     fn from(fault: ReadFault) -> Stop {
         match fault {
             ReadFault::Memory => Stop::Memory,
             ReadFault::Unfit => Stop::Unreadable,
+        }
+    }
+}
+
+impl From<FolderError> for Stop {
+    fn from(error: FolderError) -> Stop {
+        match error {
+            FolderError::Memory => Stop::Memory,
+            FolderError::Device => Stop::Device,
+            FolderError::Unreadable => Stop::Unreadable,
         }
     }
 }

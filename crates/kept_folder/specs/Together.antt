@@ -1,0 +1,13 @@
+-- How large files are together, and which of two was used later.
+use Rattle.std.specs.Prelude.{ℕ, Bool, List}
+use Rattle.std.specs.List.{sum_by}
+use Rattle.std.specs.Ordering.{is_lt, nat_cmp}
+use Rattle.kept_folder.specs.declared.listing.KeptFile.{KeptFile}
+
+-- their sizes in bytes, added up
+abbrev pub bytes_together : List KeptFile → ℕ
+bytes_together files = sum_by (λ f. f.size) files
+
+-- one was used later than the other
+abbrev pub used_later : KeptFile → KeptFile → Bool
+used_later one other = is_lt (nat_cmp other.used one.used)

@@ -1,0 +1,59 @@
+//! Why something isn't in the folder, or couldn't be put there.
+
+use byte_formats::fault::ReadFault;
+use ckeys_base::digest;
+use std::alloc::{AllocError, AllocFailed};
+use std::{fmt, io};
+
+/// Why a file of the folder couldn't be read or written.
+#[derive(Drop)]
+pub enum FolderError {
+    /// A growth was refused.
+    Memory,
+    /// The disk failed.
+    Device,
+    /// A name or a file isn't what this folder holds.
+    Unreadable,
+}
+
+impl From<AllocError> for FolderError {
+    fn from(_error: AllocError) -> FolderError {
+        FolderError::Memory
+    }
+}
+
+impl<T: Drop> From<AllocFailed<T>> for FolderError {
+    fn from(_error: AllocFailed<T>) -> FolderError {
+        FolderError::Memory
+    }
+}
+
+impl From<io::Error> for FolderError {
+    fn from(_error: io::Error) -> FolderError {
+        FolderError::Device
+    }
+}
+
+impl From<fmt::Error> for FolderError {
+    fn from(_error: fmt::Error) -> FolderError {
+        FolderError::Memory
+    }
+}
+
+impl From<ReadFault> for FolderError {
+    fn from(fault: ReadFault) -> FolderError {
+        match fault {
+            ReadFault::Memory => FolderError::Memory,
+            ReadFault::Unfit => FolderError::Unreadable,
+        }
+    }
+}
+
+impl From<digest::Error> for FolderError {
+    fn from(error: digest::Error) -> FolderError {
+        match error {
+            digest::Error::Memory => FolderError::Memory,
+            digest::Error::Io => FolderError::Device,
+        }
+    }
+}

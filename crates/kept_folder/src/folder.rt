@@ -1,0 +1,108 @@
+//! Whole files in the folder, by kind and name.
+
+use crate::error::FolderError;
+use std::alloc::Global;
+use std::fs;
+use std::fs::{FileTimes, OpenFile};
+use std::rt::Files;
+use std::time::SystemTime;
+
+/// What is kept, each kind in a folder of its own.
+#[derive(Clone, Copy)]
+pub enum Kind {
+    /// Outputs under the digest of their key.
+    Entries,
+    /// The digest that a command line had last.
+    Hints,
+    /// The digest of a compiler, under that of the state of its files.
+    Compilers,
+    /// The files of which a compiler's driver says that it runs them.
+    Parts,
+}
+
+impl Kind {
+    /// The folder's name.
+    pub fn name(self) -> &'static str {
+        match self {
+            Kind::Entries => "entries",
+            Kind::Hints => "hints",
+            Kind::Compilers => "compilers",
+            Kind::Parts => "parts",
+        }
+    }
+}
+
+/// The folder, as one process uses it.
+#[derive(Drop)]
+pub struct KeptFolder {
+    pub path: String,
+    /// What makes names of files this process's own.
+    pub own: String,
+}
+
+/// Where a file lies: under the first two letters of its name.
+#[derive(Drop)]
+struct Place {
+    folder: String,
+    file: String,
+}
+
+impl KeptFolder {
+    fn place(&self, alloc: Global, kind: Kind, name: &str) -> Result<Place, FolderError> {
+        let Some((front, end)) = name.split_at_checked(2) else {
+            return Err(FolderError::Unreadable);
+        };
+        let path = self.path.as_str();
+        let kind = kind.name();
+        let folder = format!(in alloc; "{path}/{kind}/{front}")?;
+        let file = format!(in alloc; "{folder}/{end}")?;
+        Ok(Place { folder, file })
+    }
+
+    /// Puts bytes in a file all at once: they are written under a name of this process, which is renamed. So whoever reads it has all of
+    /// the old bytes or all of the new ones.
+    pub fn put<R: Files + AllocGlobal>(
+        &self,
+        rt: &R,
+        kind: Kind,
+        name: &str,
+        bytes: &[u8],
+    ) -> Result<(), FolderError> {
+        let Place { folder, file } = self.place(rt.alloc(), kind, name)?;
+        let own = self.own.as_str();
+        let early = format!(in rt.alloc(); "{file}.{own}")?;
+        fs::create_dir_all(rt, folder.as_str())?;
+        let mut done = fs::write(rt, early.as_str(), bytes);
+        if done.is_ok() {
+            done = fs::rename(rt, early.as_str(), file.as_str());
+        }
+        if done.is_err() {
+            let _ = fs::remove_file(rt, early.as_str());
+        }
+        Ok(done?)
+    }
+
+    /// The bytes of a file. One that is removed while it is read is read to its end.
+    pub fn read<R: Files + AllocGlobal>(
+        &self,
+        rt: &R,
+        kind: Kind,
+        name: &str,
+    ) -> Result<Vec<u8>, FolderError> {
+        let place = self.place(rt.alloc(), kind, name)?;
+        Ok(fs::read(rt, place.file.as_str())?)
+    }
+
+    /// Notes that a file was used at that moment.
+    pub fn renew<R: Files + AllocGlobal>(
+        &self,
+        rt: &R,
+        kind: Kind,
+        name: &str,
+        moment: SystemTime,
+    ) -> Result<(), FolderError> {
+        let place = self.place(rt.alloc(), kind, name)?;
+        let file = fs::open(rt, place.file.as_str())?;
+        Ok(file.set_times(FileTimes::new().set_modified(moment))?)
+    }
+}

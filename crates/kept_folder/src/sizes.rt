@@ -1,0 +1,95 @@
+//! How many bytes the entries of each of the 256 folders have, in one file: 256 numbers of eight bytes, low byte first.
+
+use crate::error::FolderError;
+use crate::listing::KeptFile;
+use byte_formats::fields::{put_number, read_number};
+use std::alloc::Global;
+use std::fs;
+use std::fs::OpenOptions;
+use std::io::{Seek, SeekFrom, Write};
+use std::rt::Files;
+
+/// How many folders there are.
+const ROWS: usize = 256;
+
+/// The bytes of the entries of each folder.
+#[derive(Drop)]
+pub struct Sizes {
+    numbers: Vec<u64>,
+}
+
+/// Where the file is.
+fn place_of(alloc: Global, path: &str) -> Result<String, FolderError> {
+    Ok(format!(in alloc; "{path}/sizes")?)
+}
+
+/// The numbers that these bytes are.
+fn numbers_of(alloc: Global, bytes: &[u8]) -> Result<Vec<u64>, FolderError> {
+    let mut numbers = Vec::new(alloc);
+    let mut rest = bytes;
+    for _ in 0..ROWS {
+        let (number, behind) = read_number(rest)?;
+        numbers.push(number)?;
+        rest = behind;
+    }
+    Ok(numbers)
+}
+
+impl Sizes {
+    /// Those of these entries.
+    pub fn of(alloc: Global, files: &[KeptFile]) -> Result<Sizes, FolderError> {
+        let mut numbers = vec![in alloc; 0u64; ROWS]?;
+        for file in files {
+            if let Some(number) = numbers.get_mut(usize::from(file.row)) {
+                *number = number.saturating_add(file.size);
+            }
+        }
+        Ok(Sizes { numbers })
+    }
+
+    /// Those that were noted in the folder of this path.
+    pub fn read<R: Files + AllocGlobal>(rt: &R, path: &str) -> Result<Sizes, FolderError> {
+        let place = place_of(rt.alloc(), path)?;
+        let bytes = fs::read(rt, place.as_str())?;
+        let numbers = numbers_of(rt.alloc(), bytes.as_slice())?;
+        Ok(Sizes { numbers })
+    }
+
+    /// Notes all of them.
+    pub fn write<R: Files + AllocGlobal>(&self, rt: &R, path: &str) -> Result<(), FolderError> {
+        let mut bytes = Vec::new(rt.alloc());
+        for number in self.numbers.as_slice() {
+            put_number(&mut bytes, *number)?;
+        }
+        let place = place_of(rt.alloc(), path)?;
+        Ok(fs::write(rt, place.as_str(), bytes.as_slice())?)
+    }
+
+    /// Notes those of one folder, and leaves the others to whoever notes them at the same time.
+    pub fn note<R: Files + AllocGlobal>(
+        &mut self,
+        rt: &R,
+        path: &str,
+        row: u8,
+        size: u64,
+    ) -> Result<(), FolderError> {
+        if let Some(number) = self.numbers.get_mut(usize::from(row)) {
+            *number = size;
+        }
+        let place = place_of(rt.alloc(), path)?;
+        let mut options = OpenOptions::new();
+        options.write(true);
+        let mut file = options.open(rt, place.as_str())?;
+        file.seek(SeekFrom::Start(u64::from(row) * 8))?;
+        Ok(file.write_all(&size.to_le_bytes())?)
+    }
+
+    /// The bytes of all entries.
+    pub fn total(&self) -> u64 {
+        let mut total = 0u64;
+        for number in self.numbers.as_slice() {
+            total = total.saturating_add(*number);
+        }
+        total
+    }
+}

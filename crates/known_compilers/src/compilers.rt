@@ -1,0 +1,102 @@
+//! The compiler of a command line, with its digest.
+
+ghost use Rattle.std.specs.Prelude.{◌≡◌};
+
+use crate::parts::files_of;
+use byte_formats::fields::put_framed;
+use ckeys::compiler::CCompiler;
+use cmdlines::found::FoundCompiler;
+use cmdlines_tables::compiler::CCompilerKind;
+use kept_folder::file_digests::digest_of;
+use os_files::os_bytes::OsBytes;
+use recorded_builds::executables::{EntryCompiler, compiler_of};
+use std::alloc::Global;
+use std::fs;
+use std::io::Read;
+use std::rt::Files;
+use wrap_base::compiler::Compiler;
+use wrapper_host::command_line::CommandLine;
+use wrapper_host::host::Host;
+use wrapper_host::stop::Stop;
+
+/// The compiler that the file of this path is, behind all links, where it is one that is answered here.
+pub fn kind_of<R: Files + AllocGlobal>(
+    rt: &R,
+    line: &CommandLine,
+) -> Result<Option<CCompilerKind>, Stop> {
+    let file = fs::canonicalize(rt, line.executable.as_str())?;
+    match compiler_of(file.as_str().as_bytes()) {
+        Some(EntryCompiler::C(CCompilerKind::Gcc)) => Ok(Some(CCompilerKind::Gcc)),
+        Some(EntryCompiler::C(CCompilerKind::Clang)) => Ok(Some(CCompilerKind::Clang)),
+        _ => Ok(None),
+    }
+}
+
+/// Whether the executable is called as a compiler of C++.
+fn is_plusplus(executable: &str) -> bool {
+    let mut parts = executable.as_bytes().rsplit(|byte| *byte == b'/');
+    match parts.next() {
+        Some(name) => name.contains(&b'+'),
+        None => false,
+    }
+}
+
+/// Variables that give messages their language, their colours and the form of links in them.
+const OF_MESSAGES: [&str; 8] = [
+    "LANG",
+    "LANGUAGE",
+    "LC_ALL",
+    "LC_CTYPE",
+    "LC_MESSAGES",
+    "GCC_COLORS",
+    "GCC_URLS",
+    "TERM_URLS",
+];
+
+/// The digest of a compiler with what it does differently by its variables, though no text shows it: its messages, and of a Clang the
+/// folder, whose name it writes into objects.
+fn digest_here(
+    alloc: Global,
+    line: &CommandLine,
+    kind: CCompilerKind,
+    digest: &str,
+) -> Result<String, Stop> {
+    let mut row = Vec::new(alloc);
+    put_framed(&mut row, digest.as_bytes())?;
+    for name in OF_MESSAGES {
+        put_framed(&mut row, line.value_of(name.as_bytes()))?;
+    }
+    if kind == CCompilerKind::Clang {
+        put_framed(&mut row, line.dir.as_bytes())?;
+        put_framed(&mut row, line.value_of(b"PWD"))?;
+    }
+    Ok(digest_of(alloc, row.as_slice())?)
+}
+
+/// The compiler of that kind, with its digest.
+pub fn compiler_at<P: Print + Files + AllocGlobal, I: Read>(
+    rt: &P,
+    line: &CommandLine,
+    host: &mut Host<I>,
+    kind: CCompilerKind,
+) -> Result<Compiler, Stop>
+    requires { host.old.compiled ≡ 0 }
+    ensures { host.new.compiled ≡ 0 }
+{
+    let alloc = rt.alloc();
+    let files = files_of(rt, line, host, kind)?;
+    let digest = line.folder.digest_of_files(rt, files.as_slice())?;
+    let digest = digest_here(alloc, line, kind, digest.as_str())?;
+    let executable = OsBytes::from_slice(alloc, line.executable.as_bytes())?;
+    let plusplus = is_plusplus(line.executable.as_str());
+    match kind {
+        CCompilerKind::Clang => {
+            let compiler = FoundCompiler::new(alloc, plusplus, None, None)?;
+            Ok(Compiler::Clang(CCompiler::with_digest(compiler, executable, digest)))
+        }
+        _ => {
+            let compiler = FoundCompiler::new(alloc, plusplus, None, None)?;
+            Ok(Compiler::Gcc(CCompiler::with_digest(compiler, executable, digest)))
+        }
+    }
+}

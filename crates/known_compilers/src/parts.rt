@@ -1,0 +1,248 @@
+//! The files that a compiler's driver runs or loads. They may be replaced without it, so its digest is theirs too.
+
+ghost use Rattle.std.specs.Prelude.{◌≡◌};
+
+use byte_formats::fields::{put_framed, put_number};
+use cmdlines_tables::compiler::CCompilerKind;
+use kept_folder::file_digests::state_of;
+use kept_folder::folder::Kind;
+use memchr::memmem;
+use os_files::listed::Listed;
+use os_files::os_bytes::OsBytes;
+use std::alloc::Global;
+use std::collections::BTreeSet;
+use std::fs;
+use std::io::Read;
+use std::rt::Files;
+use wrapper_host::command_line::CommandLine;
+use wrapper_host::fields::{Fields, into_text};
+use wrapper_host::host::Host;
+use wrapper_host::stop::Stop;
+
+/// What a driver runs for a compile, by the names that it knows it by: with -gsplit-dwarf a program that takes debug information out.
+/// Of these Clang runs an assembler alone.
+const RUNS: [&str; 4] = ["as", "cc1", "cc1plus", "objcopy"];
+
+/// Where commands are searched if no variable says it.
+const USUAL_PATH: &[u8] = b"/bin:/usr/bin";
+
+/// The text without the end of its line.
+fn without_line_end(text: &[u8]) -> &[u8] {
+    match text.split_last() {
+        Some((b'\n', front)) => front,
+        _ => text,
+    }
+}
+
+/// What a driver says of a program that it runs: a path, or a name that is searched as commands are.
+fn ask_name<P: Print + Files + AllocGlobal, I: Read>(
+    rt: &P,
+    line: &CommandLine,
+    host: &mut Host<I>,
+    name: &str,
+) -> Result<OsBytes, Stop>
+    requires { host.old.compiled ≡ 0 }
+    ensures { host.new.compiled ≡ 0 }
+{
+    let alloc = rt.alloc();
+    let mut words = Listed::new(alloc);
+    let word = format!(in alloc; "-print-prog-name={name}")?;
+    words.push(OsBytes::from_slice(alloc, word.as_bytes())?)?;
+    let ended = host.preprocess(rt, alloc, words.as_slice())?;
+    if ended.status != 0 || !ended.silent {
+        return Err(Stop::Parts);
+    }
+    let text = fs::read(rt, line.text.as_str())?;
+    Ok(OsBytes::from_slice(alloc, without_line_end(&text))?)
+}
+
+/// Whether a file of that name is one of Clang's own libraries.
+fn is_library(name: &[u8]) -> bool {
+    (name.starts_with(b"libLLVM") || name.starts_with(b"libclang-cpp"))
+        && memmem::find(name, b".so").is_some()
+}
+
+/// Adds Clang's libraries in that folder, behind all links.
+fn add_libraries<R: Files + AllocGlobal>(
+    rt: &R,
+    folder: &str,
+    libraries: &mut BTreeSet<String>,
+) -> Result<(), Stop> {
+    let Ok(entries) = fs::read_dir(&rt, folder) else {
+        return Ok(());
+    };
+    for entry in entries {
+        let Ok(entry) = entry else {
+            continue;
+        };
+        if !is_library(entry.file_name().as_bytes()) {
+            continue;
+        }
+        if let Ok(file) = fs::canonicalize(rt, entry.path()) {
+            libraries.insert(String::from_str(rt.alloc(), file.as_str())?)?;
+        }
+    }
+    Ok(())
+}
+
+/// Clang's libraries beside the folder that it lies in.
+fn libraries_of<R: Files + AllocGlobal>(
+    rt: &R,
+    line: &CommandLine,
+) -> Result<BTreeSet<String>, Stop> {
+    let alloc = rt.alloc();
+    let mut libraries = BTreeSet::new(alloc);
+    let file = fs::canonicalize(rt, line.executable.as_str())?;
+    let Some((folder, _)) = file.as_str().rsplit_once('/') else {
+        return Ok(libraries);
+    };
+    let Some((above, _)) = folder.rsplit_once('/') else {
+        return Ok(libraries);
+    };
+    for name in ["lib", "lib64"] {
+        let folder = format!(in alloc; "{above}/{name}")?;
+        add_libraries(rt, folder.as_str(), &mut libraries)?;
+    }
+    Ok(libraries)
+}
+
+/// The names of what a driver of that kind runs.
+fn ask_names<P: Print + Files + AllocGlobal, I: Read>(
+    rt: &P,
+    line: &CommandLine,
+    host: &mut Host<I>,
+    kind: CCompilerKind,
+) -> Result<Listed<OsBytes>, Stop>
+    requires { host.old.compiled ≡ 0 }
+    ensures { host.new.compiled ≡ 0 }
+{
+    let mut names = Listed::new(rt.alloc());
+    for name in RUNS {
+        if kind != CCompilerKind::Clang || name == "as" {
+            names.push(ask_name(rt, line, host, name)?)?;
+        }
+    }
+    Ok(names)
+}
+
+/// What a driver said before in this state. What isn't as it was noted, as where a disk lost its bytes, is an error.
+fn said_before<R: Files + AllocGlobal>(
+    rt: &R,
+    line: &CommandLine,
+    state: &str,
+) -> Result<Listed<OsBytes>, Stop> {
+    let bytes = line.folder.read(rt, Kind::Parts, state)?;
+    let mut fields = Fields::of(bytes.as_slice());
+    let names = fields.words(rt.alloc())?;
+    if names.as_slice().is_empty() || !fields.is_empty() {
+        return Err(Stop::Unreadable);
+    }
+    Ok(names)
+}
+
+/// Notes what a driver said.
+fn note_said<R: Files + AllocGlobal>(
+    rt: &R,
+    line: &CommandLine,
+    state: &str,
+    names: &[OsBytes],
+) -> Result<(), Stop> {
+    let mut bytes = Vec::new(rt.alloc());
+    put_number(&mut bytes, names.len() as u64)?;
+    for name in names {
+        put_framed(&mut bytes, name.as_bytes())?;
+    }
+    Ok(line.folder.put(rt, Kind::Parts, state, bytes.as_slice())?)
+}
+
+/// What the driver says that it runs. It is asked once in each of its states.
+fn names_of<P: Print + Files + AllocGlobal, I: Read>(
+    rt: &P,
+    line: &CommandLine,
+    host: &mut Host<I>,
+    kind: CCompilerKind,
+) -> Result<Listed<OsBytes>, Stop>
+    requires { host.old.compiled ≡ 0 }
+    ensures { host.new.compiled ≡ 0 }
+{
+    let driver = [line.executable.clone()?];
+    let state = state_of(rt, &driver)?;
+    if let Ok(names) = said_before(rt, line, state.as_str()) {
+        return Ok(names);
+    }
+    let names = ask_names(rt, line, host, kind)?;
+    note_said(rt, line, state.as_str(), names.as_slice())?;
+    Ok(names)
+}
+
+/// Whether it is a regular file, behind all links.
+fn is_file<R: Files>(rt: &R, path: &str) -> bool {
+    match fs::metadata(rt, path) {
+        Ok(metadata) => metadata.is_file(),
+        Err(_) => false,
+    }
+}
+
+/// The file of a command of that name in these folders, where there is one.
+fn searched<R: Files + AllocGlobal>(
+    rt: &R,
+    folders: &[u8],
+    name: &str,
+) -> Result<Option<String>, Stop> {
+    for folder in folders.split(|byte| *byte == b':') {
+        let Ok(folder) = str::from_utf8(folder) else {
+            continue;
+        };
+        let file = format!(in rt.alloc(); "{folder}/{name}")?;
+        if is_file(rt, file.as_str()) {
+            return Ok(Some(file));
+        }
+    }
+    Ok(None)
+}
+
+/// The file of that name, where there is one.
+fn file_of<R: Files + AllocGlobal>(
+    rt: &R,
+    line: &CommandLine,
+    name: OsBytes,
+) -> Result<Option<String>, Stop> {
+    let name = into_text(name)?;
+    if !name.as_bytes().contains(&b'/') {
+        let path = line.value_of(b"PATH");
+        let folders = if path.is_empty() { USUAL_PATH } else { path };
+        return searched(rt, folders, name.as_str());
+    }
+    Ok(if is_file(rt, name.as_str()) {
+        Some(name)
+    } else {
+        None
+    })
+}
+
+/// The files of the compiler of that kind, its driver first, and of a Clang its libraries last.
+pub fn files_of<P: Print + Files + AllocGlobal, I: Read>(
+    rt: &P,
+    line: &CommandLine,
+    host: &mut Host<I>,
+    kind: CCompilerKind,
+) -> Result<Vec<String>, Stop>
+    requires { host.old.compiled ≡ 0 }
+    ensures { host.new.compiled ≡ 0 }
+{
+    let names = names_of(rt, line, host, kind)?;
+    let mut files = Vec::new(rt.alloc());
+    files.push(line.executable.clone()?)?;
+    for name in names.into_vec() {
+        if let Some(file) = file_of(rt, line, name)? {
+            files.push(file)?;
+        }
+    }
+    if kind == CCompilerKind::Clang {
+        // Looked for in each call: a link to a library may be turned to another file.
+        for library in libraries_of(rt, line)? {
+            files.push(library)?;
+        }
+    }
+    Ok(files)
+}
