@@ -133,6 +133,9 @@ fn laws_are_called(rt: HostRuntime) -> Result<(), Fail> {
     folders_in_texts_do_not_count();
     records_are_true::<Sha256>();
     entry_premises_can_be_met();
-    assert_eq!(rt; ckeys::params::CACHE_VERSION.as_slice(), b"11".as_slice());
+    assert_eq!(rt;
+        ckeys_records::params::CACHE_VERSION.as_slice(),
+        b"11".as_slice()
+    );
     Ok(())
 }
