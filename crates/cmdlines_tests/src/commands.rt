@@ -3,11 +3,9 @@
 use crate::written::{bare, parsed_by_clang, parsed_by_gcc};
 use cmdlines::clang::ClangKind;
 use cmdlines::command::CommandError;
-use cmdlines::diab::DiabKind;
 use cmdlines::found::HasKind;
 use cmdlines::gcc::GccKind;
 use cmdlines::msvc::MsvcKind;
-use cmdlines::tasking_vx::TaskingVXKind;
 use cmdlines_base::command::SingleCompileCommand;
 use cmdlines_requests::command::Cacheable;
 use cmdlines_requests::parsed::ParsedArguments;
@@ -77,9 +75,6 @@ fn without_an_object_there_is_no_command(rt: HostRuntime) -> Result<(), Fail> {
     request.outputs = Listed::new(alloc);
     assert!(rt; request.object().is_none());
     assert!(rt; lacks_an_object::<GccKind>(alloc, &request)?);
-    assert!(rt; lacks_an_object::<ClangKind>(alloc, &request)?);
-    assert!(rt; lacks_an_object::<DiabKind>(alloc, &request)?);
     assert!(rt; lacks_an_object::<MsvcKind>(alloc, &request)?);
-    assert!(rt; lacks_an_object::<TaskingVXKind>(alloc, &request)?);
     Ok(())
 }

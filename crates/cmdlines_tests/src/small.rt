@@ -1,17 +1,12 @@
-//! The small calls on what a command line asks for, and the hazards.
+//! The small calls on what a command line asks for.
 
-use crate::written::{bare, parsed_by_clang, parsed_by_gcc, parsed_by_msvc};
+use crate::written::{bare, parsed_by_clang, parsed_by_gcc};
 use cmdlines::clang::ClangKind;
 use cmdlines::gcc::GccKind;
-use cmdlines::hazards::{empty_value, opens_file};
 use cmdlines::laws::{inputs_are_safe, requests_have_an_object};
-use cmdlines_base::argument::Argument;
 use cmdlines_base::compiler_arguments::CompilerArguments;
 use cmdlines_requests::parsed::ParsedArguments;
-use cmdlines_tables::compiler::CCompilerKind;
-use cmdlines_tables::cutting::arguments_of;
 use cmdlines_tables::laws::arguments_are_their_items;
-use cmdlines_tables::tables::gnu_table;
 use os_files::listed::Listed;
 use os_files::memory_files::MemoryFiles;
 use os_files::os_bytes::OsBytes;
@@ -105,63 +100,6 @@ fn architectures_are_listed_once(rt: HostRuntime) -> Result<(), Fail> {
     has_architectures(&rt, alloc, "-arch a -arch a", "a")?;
     has_architectures(&rt, alloc, "-arch b -arch a -arch b", "b a")?;
     has_architectures(&rt, alloc, "-arch -arch", "")
-}
-
-#[test]
-fn hazards_are_told(rt: HostRuntime) -> Result<(), Fail> {
-    let alloc = rt.alloc();
-    for (line, empty) in [("-c foo.c -I", true), ("-c foo.c -std=", false)] {
-        let request = parsed_by_gcc(alloc, line)?;
-        assert_eq!(rt; empty_value(&request), empty, "{line}");
-    }
-    for (line, empty) in [("-c foo.c /I", true), ("-c foo.c /W", false)] {
-        let request = parsed_by_msvc(alloc, line)?;
-        assert_eq!(rt; empty_value(&request), empty, "{line}");
-    }
-    Ok(())
-}
-
-#[test]
-fn words_that_open_files_are_told(rt: HostRuntime) -> Result<(), Fail> {
-    for (kind, by_a_dash) in [
-        (CCompilerKind::Gcc, false),
-        (CCompilerKind::Clang, false),
-        (CCompilerKind::Diab, true),
-        (CCompilerKind::Msvc, false),
-        (CCompilerKind::TaskingVX, false),
-    ] {
-        for (line, opens) in [
-            ("", false),
-            ("-c a@b", false),
-            ("-c @b", true),
-            ("@", true),
-            ("-c -@x", by_a_dash),
-            ("-@", by_a_dash),
-            ("-c -a@ --@", false),
-        ] {
-            let list = words(rt.alloc(), line)?;
-            assert_eq!(rt; opens_file(list.as_slice(), kind), opens, "{kind:?} {line}");
-        }
-    }
-    Ok(())
-}
-
-#[test]
-fn double_dashes_end_the_options_of_clang(rt: HostRuntime) -> Result<(), Fail> {
-    let alloc = rt.alloc();
-    let table = gnu_table(alloc)?;
-    let list = words(alloc, "-- -c")?;
-    let mut of_clang = arguments_of(alloc, CCompilerKind::Clang, &table, list.as_slice());
-    let Some(Ok(Argument::Raw(word))) = of_clang.next() else {
-        return Err("no loose word".into());
-    };
-    assert_eq!(rt; word.as_bytes(), b"-c".as_slice());
-    assert!(rt; of_clang.next().is_none());
-    let mut of_gcc = arguments_of(alloc, CCompilerKind::Gcc, &table, list.as_slice());
-    assert!(rt; matches!(of_gcc.next(), Some(Ok(Argument::UnknownFlag(_)))));
-    assert!(rt; matches!(of_gcc.next(), Some(Ok(Argument::Flag("-c", _)))));
-    assert!(rt; of_gcc.next().is_none());
-    Ok(())
 }
 
 #[test]

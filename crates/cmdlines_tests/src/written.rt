@@ -3,7 +3,6 @@
 use cmdlines::clang::ClangKind;
 use cmdlines::found::{FoundCompiler, HasKind};
 use cmdlines::gcc::GccKind;
-use cmdlines::msvc::MsvcKind;
 use cmdlines_base::compiler_arguments::CompilerArguments;
 use cmdlines_requests::parsed::ParsedArguments;
 use os_files::memory_files::MemoryFiles;
@@ -39,9 +38,4 @@ pub(crate) fn parsed_by_gcc(alloc: Global, line: &str) -> Result<ParsedArguments
 /// What the words of a line ask for to Clang.
 pub(crate) fn parsed_by_clang(alloc: Global, line: &str) -> Result<ParsedArguments, Fail> {
     parsed_by::<ClangKind>(alloc, line)
-}
-
-/// What the words of a line ask for to Msvc.
-pub(crate) fn parsed_by_msvc(alloc: Global, line: &str) -> Result<ParsedArguments, Fail> {
-    parsed_by::<MsvcKind>(alloc, line)
 }
