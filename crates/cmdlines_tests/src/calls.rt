@@ -1,14 +1,13 @@
 //! Each other public call once, and printed texts.
 
 use crate::written::{bare, parsed_by_clang};
-use cmdlines::clang::{Clang, ClangKind};
+use cmdlines::clang::ClangKind;
 use cmdlines::command::CommandError;
-use cmdlines::diab::{Diab, DiabKind};
+use cmdlines::diab::DiabKind;
 use cmdlines::found::{FoundCompiler, HasKind};
-use cmdlines::gcc::{Gcc, GccKind};
-use cmdlines::msvc::{Msvc, MsvcKind};
-use cmdlines::tasking_vx::{TaskingVX, TaskingVXKind};
-use cmdlines_base::compiler_arguments::CompilerArguments;
+use cmdlines::gcc::GccKind;
+use cmdlines::msvc::MsvcKind;
+use cmdlines::tasking_vx::TaskingVXKind;
 use cmdlines_base::value::ArgumentValue;
 use cmdlines_tables::compiler::CCompilerKind;
 use os_files::os_bytes::OsBytes;
@@ -47,18 +46,6 @@ fn traits_of_all_compilers(rt: HostRuntime) -> Result<(), Fail> {
     traits_are_told::<TaskingVXKind>(&rt, alloc, CCompilerKind::TaskingVX)
 }
 
-/// By their own names.
-#[test]
-fn compilers_by_their_names(rt: HostRuntime) -> Result<(), Fail> {
-    let alloc = rt.alloc();
-    assert!(rt; Gcc::new(alloc, true, None, None)?.plusplus());
-    assert!(rt; Clang::new(alloc, true, None, None)?.plusplus());
-    assert!(rt; Diab::new(alloc, true, None, None)?.plusplus());
-    assert!(rt; Msvc::new(alloc, true, None, None)?.plusplus());
-    assert!(rt; TaskingVX::new(alloc, true, None, None)?.plusplus());
-    Ok(())
-}
-
 #[test]
 fn faults_as_text(rt: HostRuntime) -> Result<(), Fail> {
     let alloc = rt.alloc();
@@ -83,14 +70,6 @@ fn faults_as_text(rt: HostRuntime) -> Result<(), Fail> {
         "no object is among the outputs"
     );
     Ok(())
-}
-
-#[test]
-fn answers_are_compared(rt: HostRuntime) {
-    let not = CompilerArguments::<u8>::NotCompilation;
-    assert_eq!(rt; CompilerArguments::Ok(1), CompilerArguments::Ok(1));
-    assert_ne!(rt; CompilerArguments::Ok(1), CompilerArguments::Ok(2));
-    assert_ne!(rt; CompilerArguments::Ok(1), not);
 }
 
 #[test]
