@@ -8,6 +8,7 @@ use cmdlines::found::{FoundCompiler, HasKind};
 use cmdlines::gcc::GccKind;
 use cmdlines::msvc::MsvcKind;
 use cmdlines::tasking_vx::TaskingVXKind;
+use cmdlines_base::compiler_arguments::CompilerArguments;
 use cmdlines_base::value::ArgumentValue;
 use cmdlines_tables::compiler::CCompilerKind;
 use os_files::os_bytes::OsBytes;
@@ -70,6 +71,14 @@ fn faults_as_text(rt: HostRuntime) -> Result<(), Fail> {
         "no object is among the outputs"
     );
     Ok(())
+}
+
+#[test]
+fn answers_are_compared(rt: HostRuntime) {
+    let not = CompilerArguments::<u8>::NotCompilation;
+    assert_eq!(rt; CompilerArguments::Ok(1), CompilerArguments::Ok(1));
+    assert_ne!(rt; CompilerArguments::Ok(1), CompilerArguments::Ok(2));
+    assert_ne!(rt; CompilerArguments::Ok(1), not);
 }
 
 #[test]
