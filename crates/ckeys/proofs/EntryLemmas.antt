@@ -16,7 +16,7 @@ use Rattle.ckeys_base.specs.Shelf.{Shelf, Asks, Puts}
 use Rattle.time_macros.specs.Macros.{holds_date, holds_timestamp}
 use Rattle.include_records.specs.LookUps.{LooksUp}
 use Rattle.include_records.specs.Records.{Record, result_with}
-use Rattle.include_records.specs.Results.{HasMore}
+use Rattle.include_records.specs.Results.{with_result}
 use Rattle.include_records.specs.Surroundings.{Place, are_there, contents_in, dated, fits_contents, include_with, includes_of, is_the, lacks_day, path_at, second_at, stamped}
 use Rattle.include_records.specs.declared.entry.CachedResult.{CachedResult}
 use Rattle.include_records.specs.declared.entry.IncludeEntry.{IncludeEntry}
@@ -25,7 +25,7 @@ use Rattle.ckeys.specs.Calls.{KeyCall, PrintedCall, input_path, key_fault_by, ne
 use Rattle.ckeys_records.specs.Faults.{preprocess_fault_of, read_fault_of, first_missing, or_else}
 use Rattle.ckeys_records.specs.Meaning.{text_in}
 use Rattle.ckeys.specs.Entries.{AreTrue, HasMatch, Held, IsFramed, IsOwnResult, entry_key_of, good_text, has_entry_key, includes_by}
-use Rattle.ckeys.specs.EntryTurns.{EntryTurn, IsHeldFor, IsOwnPair, IsSpared, Keeps, KeptOn, KeyFine, KeyFrom, KeyRecorded, TextFine, results_of}
+use Rattle.ckeys.specs.EntryTurns.{EntryTurn, Gains, IsHeldFor, IsJoined, IsOwnPair, IsSpared, Keeps, KeptOn, KeyFine, KeyFrom, KeyRecorded, PutsNone, TextFine, results_of}
 use Rattle.ckeys_records.specs.Keys.{key_of}
 use Rattle.ckeys.specs.Surroundings.{named_at, place_of, recorded_of}
 use Rattle.ckeys_records.specs.declared.fault.Fault.{Fault}
@@ -91,6 +91,20 @@ results_in : (o : Option Record) (r : CachedResult) → Contains (results_of o) 
 results_in None r c = let within = c.1 in absurd (omega arith)
 results_in (Some e) r c = (e, refl, c)
 
+-- a key that is kept, under which nothing new lies, holds what it held
+same_held : (before after : Option Record) → ((x : Record) → after ≡ Some x → before ≡ Some x) → (IsSome before → IsSome after) → after ≡ before
+same_held before (Some x) within keeps = sym (within x refl)
+same_held None None within keeps = refl
+same_held (Some y) None within keeps = let n = keeps refl in cc
+
+-- a look-up puts nothing
+pub asks_none : (old new : Shelf EntryKey Record) (key : EntryKey) (answer : Option Record) → Asks old new key answer → PutsNone old new
+asks_none old new key answer asks = record { within = asks.within; put = asks.put }
+
+-- nor does a call that doesn't ask
+pub same_none : (shelf : Shelf EntryKey Record) → PutsNone shelf shelf
+same_none shelf = record { within = λ k e h. h; put = refl }
+
 put_holds : (eq : EntryKey → EntryKey → Bool) (new : Shelf EntryKey Record) (key : EntryKey) (value : Record) (asked : Shelf EntryKey Record) (put : Result (Unit {0}) (EntryKey × Record)) → Puts eq asked new key value put → new.kept ≡ true → new.held key ≡ Some value
 put_holds eq new key value asked (Ok u) puts kept = puts.outcome
 put_holds eq new key value asked (Err pair) puts kept = let refused = (puts.kept.0 kept).2 in cc
@@ -116,7 +130,7 @@ module _ (digest_of : Bytes → Bytes) (p : PrintedCall) (key : EntryKey) (is_en
 
   -- the preprocessor didn't run
   pub turn_asked : (before after : ℕ) → after ≡ before → EntryTurn digest_of p old asked before after
-  turn_asked before after same = record { gains = λ k e h. inl (asks.within k e h); kept = still; cleared = asks.cleared; put = inl asks.put; asked = λ k m. inl same; idle = λ h. absurd (no_key p.call has h) }
+  turn_asked before after same = record { gains = λ k e h. inl (asks.within k e h); kept = still; cleared = asks.cleared; put = inl (asks_none old asked key (asked.held key) asks); asked = λ k m. inl same; idle = λ h. absurd (no_key p.call has h) }
 
   -- a result of what is held matches
   pub from_record : (text_key : Bytes) → LooksUp digest_of (place_of p.call) (results_of (asked.held key)) (Some text_key) → HasMatch digest_of p.call old.held text_key
@@ -146,16 +160,16 @@ module _ (digest_of : Bytes → Bytes) (p : PrintedCall) (key : EntryKey) (is_en
         missed_at text_key m (ap old.held (sym same) ∙ m.is_held) (asked.held key) refl
 
     pub turn_missed : (before after : ℕ) → EntryTurn digest_of p old asked before after
-    turn_missed before after = record { gains = λ k e h. inl (asks.within k e h); kept = still; cleared = asks.cleared; put = inl asks.put; asked = λ k m. inr (missed k m); idle = λ h. absurd (no_key p.call has h) }
+    turn_missed before after = record { gains = λ k e h. inl (asks.within k e h); kept = still; cleared = asks.cleared; put = inl (asks_none old asked key (asked.held key) asks); asked = λ k m. inr (missed k m); idle = λ h. absurd (no_key p.call has h) }
 
     -- the text's result is put
     module _ (eq : EntryKey → EntryKey → Bool) (equal : (a b : EntryKey) → eq a b ≡ true → a ≡ b) (results : List CachedResult) (known : results ≡ results_of (asked.held key)) (new : Shelf EntryKey Record) (before after : ℕ) where
-      module _ (value : Record) (put : Result (Unit {0}) (EntryKey × Record)) (puts : Puts eq asked new key value put) (own : CachedResult) (more : HasMore results own value.results) (is_own : IsOwnResult digest_of p own) where
+      module _ (value : Record) (put : Result (Unit {0}) (EntryKey × Record)) (puts : Puts eq asked new key value put) (own : CachedResult) (gained : Gains results own value.results) (is_own : IsOwnResult digest_of p own) where
         own_pair : (k : EntryKey) (e : Record) → k ≡ key → e ≡ value → IsOwnPair digest_of p old.held k e
         own_pair k e same is = record {
           is_entry = is_entry ∙ ap Some (sym same);
           framed = framed;
-          from = λ r among. elim (more.others r (subst (λ (x : Record). Contains x.results r) is among)) [
+          from = λ r among. elim (gained.more.others r (subst (λ (x : Record). Contains x.results r) is among)) [
             | inl was ↦
                 let it = results_in (asked.held key) r (subst (λ (l : List CachedResult). Contains l r) known was) in
                 inl (it.0, ap old.held same ∙ asks.within key it.0 it.1, it.2)
@@ -166,6 +180,14 @@ module _ (digest_of : Bytes → Bytes) (p : PrintedCall) (key : EntryKey) (is_en
         put_one : new.puts ≡ ticked old.puts
         put_one = puts.put ∙ ap ticked asks.put
 
+        joined : (k : EntryKey) → entry_key_of digest_of p.call ≡ Some k → new.kept ≡ true → IsJoined (old.held k) own (new.held k)
+        joined k is h =
+            let same : k ≡ key = some_same _ _ (sym is ∙ is_entry) in
+            let kept = still (puts.kept.0 h).0 in
+            let held : asked.held key ≡ old.held key = same_held (old.held key) (asked.held key) (asks.within key) (kept.keys key) in
+            let before : results ≡ results_of (old.held k) = known ∙ ap results_of held ∙ ap (λ q. results_of (old.held q)) (sym same) in
+            (value, ap new.held same ∙ put_holds eq new key value asked put puts h, gained.exact ∙ ap (λ l. with_result l own) before)
+
         turn_put : EntryTurn digest_of p old new before after
         turn_put = record {
           gains = λ k e h. elim (puts.gains k e h) [
@@ -174,13 +196,13 @@ module _ (digest_of : Bytes → Bytes) (p : PrintedCall) (key : EntryKey) (is_en
           ];
           kept = λ h. let q = puts.kept.0 h in let s = still q.0 in record { was = s.was; keys = λ k i. q.1 k (s.keys k i); steady = puts.steady ∙ s.steady };
           cleared = puts.cleared ∙ asks.cleared;
-          put = inr (record { own = own; is_own = is_own; put = put_one });
+          put = inr (record { own = own; is_own = is_own; put = put_one; joined = joined });
           asked = λ k m. inr (puts.steady ∙ missed k m);
           idle = λ h. absurd (no_key p.call has h);
         }
 
         put_match : are_there (place_of p.call) digest_of own.includes ≡ true → IsHeldFor digest_of p new own.key
-        put_match there kept = record { key = key; is_entry = is_entry; entry = value; is_held = put_holds eq new key value asked put puts kept; r = own; among = more.among; is_key = refl; there = there }
+        put_match there kept = record { key = key; is_entry = is_entry; entry = value; is_held = put_holds eq new key value asked put puts kept; r = own; among = gained.more.among; is_key = refl; there = there }
 
       -- the text is put beside what was known, where it is recorded
       pub turn_kept : (text text_key : Bytes) → good_text p.printed ≡ Some text → text_key ≡ key_of digest_of (record_by p) → (o : Option (List IncludeEntry)) → includes_by digest_of p.call text ≡ o → Keeps eq key results text_key o asked new
@@ -209,7 +231,7 @@ turn_unasked digest_of p s none before after = record {
   gains = λ k e h. inl h;
   kept = λ h. record { was = h; keys = λ k i. i; steady = refl };
   cleared = refl;
-  put = inl refl;
+  put = inl (same_none s);
   asked = λ k m. absurd (let both = sym m.is_entry ∙ none in cc);
   idle = λ h. refl;
 }

@@ -2,10 +2,10 @@
 use Rattle.std.specs.Prelude.{◌≡◌, ◌⊎◌, ℕ, Bool, true, false, List, [], Option, None, Some, Result}
 use Rattle.std.specs.List.{Contains}
 use Rattle.os_files.specs.Bytes.{Bytes, ticked}
-use Rattle.ckeys_base.specs.Shelf.{Shelf, KeepsKeys, Puts}
+use Rattle.ckeys_base.specs.Shelf.{Shelf, KeepsKeys, Puts, Within}
 use Rattle.include_records.specs.LookUps.{LooksUp}
 use Rattle.include_records.specs.Records.{Record, result_with}
-use Rattle.include_records.specs.Results.{HasMore}
+use Rattle.include_records.specs.Results.{HasMore, with_result}
 use Rattle.include_records.specs.Surroundings.{Place}
 use Rattle.include_records.specs.declared.entry.CachedResult.{CachedResult}
 use Rattle.include_records.specs.declared.entry.IncludeEntry.{IncludeEntry}
@@ -87,37 +87,52 @@ pub record IsOwnPair (digest_of : Bytes → Bytes) (p : PrintedCall) (old : Held
   pub framed : IsFramed digest_of p.call
   pub from : (r : CachedResult) → Contains entry.results r → ((before : Record) × (old key ≡ Some before) × Contains before.results r) ⊎ IsOwnResult digest_of p r
 
--- one pair is put: a result of the call's own text is recorded
+-- the results that lie under a key
+abbrev pub results_of : Option Record → List CachedResult
+results_of None = []
+results_of (Some entry) = entry.results
+
+-- a key's record holds this result beside all that it held before, or alone where the record starts over
+abbrev pub IsJoined : Option Record → CachedResult → Option Record → Type 0
+IsJoined before own after = (entry : Record) × (after ≡ Some entry) × (entry.results ≡ with_result (results_of before) own)
+
+-- no pair is put, and none is gained
+pub record PutsNone (old new : Shelf EntryKey Record) : Type 0 where
+  pub within : Within old.held new.held
+  pub put : new.puts ≡ old.puts
+
+-- one pair is put: a result of the call's own text is recorded, and where nothing was dropped or refused it has joined what lay under the entry key
 pub record PutsOwn (digest_of : Bytes → Bytes) (p : PrintedCall) (old new : Shelf EntryKey Record) : Type 0 where
   pub own : CachedResult
   pub is_own : IsOwnResult digest_of p own
   pub put : new.puts ≡ ticked old.puts
+  pub joined : (key : EntryKey) → entry_key_of digest_of p.call ≡ Some key → new.kept ≡ true → IsJoined (old.held key) own (new.held key)
 
 -- what one call does to the store of include records, and to the preprocessor's tick
 pub record EntryTurn (digest_of : Bytes → Bytes) (p : PrintedCall) (old new : Shelf EntryKey Record) (before after : ℕ) : Type 0 where
   pub gains : (key : EntryKey) (entry : Record) → new.held key ≡ Some entry → (old.held key ≡ Some entry) ⊎ IsOwnPair digest_of p old.held key entry
   pub kept : new.kept ≡ true → KeptOn old new
   pub cleared : new.clears ≡ old.clears
-  pub put : (new.puts ≡ old.puts) ⊎ PutsOwn digest_of p old new
+  pub put : PutsNone old new ⊎ PutsOwn digest_of p old new
   -- a matching result that was held spares the preprocessor, or a look-up forgot it
   pub asked : (text_key : Bytes) → HasMatch digest_of p.call old.held text_key → (after ≡ before) ⊎ (new.forgets ≡ ticked old.forgets)
   -- a call without an entry key doesn't touch it
   pub idle : has_entry_key p.call ≡ false → new ≡ old
-
--- the results that lie under a key
-abbrev pub results_of : Option Record → List CachedResult
-results_of None = []
-results_of (Some entry) = entry.results
 
 -- what a look-up told of what lies under the key
 abbrev pub IsKnown : (Bytes → Bytes) → Place → Option Record → Known → Type 0
 IsKnown digest_of place held (Found text_key) = LooksUp digest_of place (results_of held) (Some text_key)
 IsKnown digest_of place held (Missed entry) = (entry.results ≡ results_of held) × LooksUp digest_of place (results_of held) None
 
+-- these results are those of before with one more: in its place, or alone where the record starts over
+pub record Gains (before : List CachedResult) (own : CachedResult) (after : List CachedResult) : Type 0 where
+  pub exact : after ≡ with_result before own
+  pub more : HasMore before own after
+
 -- a text's result is put beside those that were known, where it's recorded
 abbrev pub Keeps : (EntryKey → EntryKey → Bool) → EntryKey → List CachedResult → Bytes → Option (List IncludeEntry) → Shelf EntryKey Record → Shelf EntryKey Record → Type 0
 Keeps eq key results text_key None old new = new ≡ old
-Keeps eq key results text_key (Some includes) old new = (entry : Record) × (put : Result (Unit {0}) (EntryKey × Record)) × HasMore results (result_with text_key includes) entry.results × Puts eq old new key entry put
+Keeps eq key results text_key (Some includes) old new = (entry : Record) × (put : Result (Unit {0}) (EntryKey × Record)) × Gains results (result_with text_key includes) entry.results × Puts eq old new key entry put
 
 -- the first fault behind the extra files and the input
 abbrev pub TextFine : PrintedCall → Bool → Type 0

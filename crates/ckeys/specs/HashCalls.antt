@@ -1,5 +1,5 @@
 -- Calls of which keys are made one after another, over one store of include records.
-use Rattle.std.specs.Prelude.{◌≡◌, ℕ, Bool, true, false, List, [], ◌∷◌, ◌++◌, map, filter, String, string_bytes, Result, IfOk, IfErr, OnOk, IsErrOf}
+use Rattle.std.specs.Prelude.{◌≡◌, ℕ, Bool, true, false, List, [], ◌∷◌, ◌++◌, map, filter, String, string_bytes, Result, IfOk, IfErr, OnOk, OnErr, IsErrOf}
 use Rattle.std.specs.List.{AllByRecursion, zip}
 use Rattle.std.specs.declared.alloc.Global.{Global}
 use Rattle.os_files.specs.Bytes.{Bytes}
@@ -13,7 +13,7 @@ use Rattle.entry_keys.specs.declared.entry_key.EntryKey.{EntryKey}
 use Rattle.ckeys.specs.Calls.{PrintedCall, key_fault_by, needs_preprocessing, printed_call, record_by}
 use Rattle.ckeys_records.specs.Faults.{KeyCause}
 use Rattle.ckeys.specs.Entries.{asking, has_entry_key}
-use Rattle.ckeys.specs.EntryTurns.{EntryTurn, KeyFine, KeyFrom, KeyRecorded, KeyRuns, RunsUntilKey}
+use Rattle.ckeys.specs.EntryTurns.{EntryTurn, KeyFine, KeyFrom, KeyRecorded, KeyRuns, PutsNone, RunsUntilKey}
 use Rattle.ckeys_records.specs.Folders.{Settings}
 use Rattle.ckeys.specs.Hashers.{call_of}
 use Rattle.ckeys_records.specs.Keys.{key_of, record_shape}
@@ -90,11 +90,12 @@ pub record IsKeyed {I F T : Type 0} (digest_of : Bytes → Bytes) (view : CallVi
 abbrev pub AreKeyed : {I F T : Type 0} → (Bytes → Bytes) → CallView I F T → Settings → (F → Bytes → F → Type 0) → (T → Step → T → Type 0) → List (HashCall I F T) → List (HashCall I F T) → List KeyAnswer → Type 0
 AreKeyed digest_of view settings fails_on fails_in begins ends answers = AllByRecursion (λ x. IsKeyed digest_of view settings fails_on fails_in x.0.0 x.0.1 x.1) (zip (zip begins ends) answers)
 
--- One call over the store: where its key comes from, what it does to the records and to the preprocessor's tick, and that its text is recorded.
+-- One call over the store: where its key comes from, what it does to the records and to the preprocessor's tick, that its text is recorded, and that a fault records nothing.
 pub record AsksOver {I F T : Type 0} (digest_of : Bytes → Bytes) (view : CallView I F T) (settings : Settings) (old new : Shelf EntryKey Record) (begin end : HashCall I F T) (answer : KeyAnswer) : Type 0 where
   pub from : IfOk answer (λ made. KeyFrom digest_of (printed_at view settings begin) old.held made.2 (string_bytes made.0))
   pub entries : EntryTurn digest_of (printed_at view settings begin) old new (view.preprocessed begin.tool) (view.preprocessed end.tool)
   pub recorded : IfOk answer (λ made. KeyRecorded digest_of (printed_at view settings begin) old new made.2 (string_bytes made.0))
+  pub unput : OnErr answer (PutsNone old new)
 
 -- calls one after another: as each begins and ends, and what it answers
 abbrev pub KeyRun : {I F T : Type 0} → (Bytes → Bytes) → CallView I F T → Settings → Shelf EntryKey Record → List ((HashCall I F T × HashCall I F T) × KeyAnswer) → Shelf EntryKey Record → Type 0

@@ -10,7 +10,7 @@ ghost use Rattle.os_files.specs.Path.{join};
 ghost use Rattle.ckeys.specs.Calls.{key_fault_of, PrintedCall, needs_preprocessing, printed_call, record_by, record_of, text_fault_by, text_fault_of, text_of};
 ghost use Rattle.ckeys_records.specs.Faults.{FileCause, KeyCause};
 ghost use Rattle.ckeys.specs.Entries.{EntryInvariant, EntryPremises, IsFramed, asking, entry_key_of, has_entry_key};
-ghost use Rattle.ckeys.specs.EntryTurns.{EntryTurn, IsKnown, Keeps, KeyFine, KeyFrom, KeyRecorded, KeyRuns, RunsUntilKey, TextFine};
+ghost use Rattle.ckeys.specs.EntryTurns.{EntryTurn, IsKnown, Keeps, KeyFine, KeyFrom, KeyRecorded, KeyRuns, PutsNone, RunsUntilKey, TextFine};
 ghost use Rattle.ckeys.specs.Surroundings.{recorded_of};
 ghost use Rattle.ckeys_records.specs.Keys.{key_of, record_shape};
 ghost use Rattle.ckeys.specs.Hashers.{AreExtra, call_by, handed_by, looked_at};
@@ -290,6 +290,7 @@ impl<'a, I: CCompilerImpl + Drop> CCompilerHasher<'a, I> {
             IfOk result
             (λ made. KeyRecorded H.digest_of p (E.shelf entries.old) (E.shelf entries.new) made.2
             (string_bytes made.0)) }
+        ensures unput { OnErr result (PutsNone (E.shelf entries.old) (E.shelf entries.new)) }
         ensures runs { IfOk result
             (λ made. KeyRuns made.2 (T.preprocessed tool.old) (T.preprocessed tool.new)) }
         ensures until { IfErr result
@@ -370,6 +371,7 @@ impl<'a, I: CCompilerImpl + Drop> CCompilerHasher<'a, I> {
             IfOk result
             (λ made. KeyRecorded H.digest_of p (E.shelf entries.old) (E.shelf entries.new) made.2
             (string_bytes made.0)) }
+        ensures unput { OnErr result (PutsNone (E.shelf entries.old) (E.shelf entries.new)) }
         // Whatever list of earlier calls meets the invariant of the records, that list followed by this call meets it at the end.
         ensures records { let p = printed_call (T.meaning tool.old)
             (call_by I.kind_of I.traits self.now place.now (F.tree files.old)) in
@@ -445,6 +447,7 @@ impl<'a, I: CCompilerImpl + Drop> CCompilerHasher<'a, I> {
             IfOk result
             (λ made. KeyRecorded H.digest_of p (E.shelf entries.old) (E.shelf entries.new) made.2
             (string_bytes made.0)) }
+        ensures unput { OnErr result (PutsNone (E.shelf entries.old) (E.shelf entries.new)) }
         ensures tree { F.tree files.new ≡ F.tree files.old }
         ensures meaning { T.meaning tool.new ≡ T.meaning tool.old }
         ensures steady { OnOk result
@@ -486,6 +489,7 @@ fn look_up<H: HashState, E: Store<EntryKey, PreprocessorCacheEntry>, F: Files>(
     ensures found { IfOk result
         (IsKnown H.digest_of (looked_at place.now (F.tree files.old))
         ((E.shelf entries.new).held key.now)) }
+    ensures unput { PutsNone (E.shelf entries.old) (E.shelf entries.new) }
     ensures cause { IfErr result
         (FileCause None (FailsOn F.tree F.failed F.fails_on files.old files.new)) }
     ensures tree { F.tree files.new ≡ F.tree files.old }

@@ -1,7 +1,10 @@
 -- What is told before there is a verdict, and of files as they were before.
-use Rattle.std.proofs.Common.{◌≡◌, None, Err, IsErrAnd}
+use Rattle.std.proofs.Common.{◌≡◌, ℕ, false, true, None, Err, IsErrAnd}
 use Rattle.std.proofs.lemmas.Result.{err_from_is_err_and}
 use Rattle.os_files.specs.Bytes.{Bytes}
+use Rattle.cmdlines_tables.specs.declared.language.Language.{Language}
+use Rattle.ckeys.specs.Calls.{needs_preprocessing}
+use Rattle.ckeys.specs.EntryTurns.{RunsUntilKey}
 use Rattle.ckeys_records.specs.Faults.{KeyCause}
 use Rattle.ckeys_records.specs.Causes.{no_step, stage_of}
 use Rattle.ckeys_records.specs.declared.fault.Fault.{Fault}
@@ -9,6 +12,8 @@ use Rattle.ckeys_records.specs.declared.step.Step.{Step}
 use Rattle.ckeys_records.proofs.CauseLemmas.{by_stage, caused_more, file_early}
 use Rattle.wrap_keys.specs.Account.{Account, Work, passed, worked}
 use Rattle.wrap_keys.specs.Answers.{EarlyCause}
+use Rattle.wrap_keys.specs.Asking.{RunsIn}
+use Rattle.wrap_keys.proofs.RunLemmas.{key_until}
 use Rattle.fingerprints.specs.Telling.{Tells, Told}
 
 -- a cause that comes before there is a verdict is one that comes before the compile
@@ -30,3 +35,8 @@ key_later w one other device_in more fault h = by_stage (stage_of fault) (λ u. 
 -- a fault that comes before the compile
 pub fault_tells : (digest_of : Bytes → Bytes) (w : Work) (on_file : Bytes → Type 0) (device_in : Step → Type 0) (fault : Fault) → KeyCause w.fault on_file device_in fault → (told : Told) → IsErrAnd told (λ f. f ≡ fault) → Tells digest_of (worked w) on_file device_in told
 fault_tells digest_of w on_file device_in fault cause told err = let p = err_from_is_err_and told err in rw (p.1, p.2) cause
+
+-- how often the preprocessor ran before a fault
+pub until_told : (language : Language) (before after : ℕ) (fault : Fault) → (needs_preprocessing language ≡ false → after ≡ before) → (needs_preprocessing language ≡ true → RunsUntilKey before after fault) → (told : Told) → IsErrAnd told (λ f. f ≡ fault)
+    → (needs_preprocessing language ≡ false → after ≡ before) × (needs_preprocessing language ≡ true → RunsIn false told before after)
+until_told language before after fault idle until told err = let p = err_from_is_err_and told err in rw (p.1, p.2) (idle, λ h. key_until false before after fault (until h))

@@ -1,13 +1,18 @@
 //! The fingerprint of a request: of what its key is made, with no store asked and nothing compiled.
 
-ghost use Rattle.std.specs.Prelude.{◌≡◌, false, IfOk, IfErr, OnOk, IsErrOf};
+ghost use Rattle.std.specs.Prelude.{◌≡◌, false, true, IfOk, IfErr, OnOk, IsErrOf};
+ghost use Rattle.os_files.specs.Bytes.{ticked};
 ghost use Rattle.os_files.specs.Fails.{FailsOn};
+ghost use Rattle.ckeys.specs.Calls.{needs_preprocessing};
+ghost use Rattle.ckeys.specs.EntryTurns.{RunsUntilKey};
 ghost use Rattle.ckeys_records.specs.Faults.{KeyCause};
 ghost use Rattle.ckeys_records.specs.Meaning.{AreSteady, FailsIn};
 ghost use Rattle.ckeys_records.specs.Records.{hold_end};
 ghost use Rattle.rustc_requests.specs.Asks.{asks_in};
+ghost use Rattle.rustkeys.specs.Runs.{AtMostTwice};
 ghost use Rattle.wrap_base.specs.Commands.{by_c, found_of};
 ghost use Rattle.wrap_keys.specs.Account.{account_at, account_named, call_at, rust_account_by, rust_call_at, rust_work_at, work_at};
+ghost use Rattle.wrap_keys.specs.Asking.{RunsOf};
 ghost use Rattle.wrap_keys.specs.RustVerdicts.{rust_verdict_of};
 ghost use Rattle.wrap_keys.specs.Verdicts.{hashed_words};
 ghost use Rattle.fingerprints.specs.Fingerprints.{IsFingerprintOf};
@@ -71,6 +76,12 @@ fn c_fingerprint<H: HashState, F: Files, T: Tool>(
         (AreSteady T.failed F.failed tool.old files.old tool.new files.new) }
     ensures memory { IsErrOf result Fault.Memory →
         AreSteady T.failed F.failed tool.old files.old tool.new files.new }
+    ensures runs { needs_preprocessing parsed.now.language ≡ true
+        → OnOk result (T.preprocessed tool.new ≡ ticked (T.preprocessed tool.old)) }
+    ensures until { needs_preprocessing parsed.now.language ≡ true →
+        IfErr result (RunsUntilKey (T.preprocessed tool.old) (T.preprocessed tool.new)) }
+    ensures idle { needs_preprocessing parsed.now.language ≡ false →
+        T.preprocessed tool.new ≡ T.preprocessed tool.old }
     ensures compiles { T.compiled tool.new ≡ T.compiled tool.old }
 {
     // A law, which costs nothing: what follows from it is said above.
@@ -125,6 +136,9 @@ fn rust_fingerprint<H: HashState, F: Files, T: Tool>(
         (AreSteady T.failed F.failed tool.old files.old tool.new files.new) }
     ensures memory { IsErrOf result Fault.Memory →
         AreSteady T.failed F.failed tool.old files.old tool.new files.new }
+    ensures runs { OnOk result
+        (T.preprocessed tool.new ≡ ticked (ticked (T.preprocessed tool.old))) }
+    ensures twice { AtMostTwice (T.preprocessed tool.old) (T.preprocessed tool.new) }
     ensures compiles { T.compiled tool.new ≡ T.compiled tool.old }
 {
     let hasher = RustHasher {
@@ -159,6 +173,9 @@ fn of_c<H: HashState, F: Files, T: Tool>(
     ensures quiet { OnReason result
         ((T.preprocessed tool.new ≡ T.preprocessed tool.old)
         × (T.failed tool.new ≡ T.failed tool.old)) }
+    ensures runs { let a = account_named (T.meaning tool.old) (F.tree files.old) config.now
+        request.now (by_c (found_of compiler.entry)) in
+        RunsOf a false result (T.preprocessed tool.old) (T.preprocessed tool.new) }
     ensures compiles { T.compiled tool.new ≡ T.compiled tool.old }
     ensures tree { F.tree files.new ≡ F.tree files.old }
     ensures meaning { T.meaning tool.new ≡ T.meaning tool.old }
@@ -194,6 +211,9 @@ fn of_rustc<H: HashState, F: Files, T: Tool>(
     ensures quiet { OnReason result
         ((T.preprocessed tool.new ≡ T.preprocessed tool.old)
         × (T.failed tool.new ≡ T.failed tool.old)) }
+    ensures runs { let a = rust_account_by (T.meaning tool.old) (F.tree files.old) rust.now
+        request.now (rust_verdict_of request.now (F.tree files.old)) in
+        RunsOf a false result (T.preprocessed tool.old) (T.preprocessed tool.new) }
     ensures compiles { T.compiled tool.new ≡ T.compiled tool.old }
     ensures tree { F.tree files.new ≡ F.tree files.old }
     ensures meaning { T.meaning tool.new ≡ T.meaning tool.old }
@@ -232,6 +252,10 @@ pub fn request_fingerprint<H: HashState, F: Files, T: Tool>(
     ensures quiet { OnReason result
         ((T.preprocessed tool.new ≡ T.preprocessed tool.old)
         × (T.failed tool.new ≡ T.failed tool.old)) }
+    // The text is printed once where there is one to print, and rustc asked twice; before a fault as far as the call came.
+    ensures runs { let a = account_at (T.meaning tool.old) (F.tree files.old) config.now
+        request.now in
+        RunsOf a false result (T.preprocessed tool.old) (T.preprocessed tool.new) }
     ensures compiles { T.compiled tool.new ≡ T.compiled tool.old }
     ensures tree { F.tree files.new ≡ F.tree files.old }
     ensures meaning { T.meaning tool.new ≡ T.meaning tool.old }

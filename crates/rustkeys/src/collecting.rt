@@ -189,6 +189,10 @@ impl<'a> RustPlace<'a> {
         ensures runs { OnOk result
             (A.preprocessed answers.new ≡ ticked (ticked (A.preprocessed answers.old))) }
         ensures twice { AtMostTwice (A.preprocessed answers.old) (A.preprocessed answers.new) }
+        ensures early { (moment : ℤ) → let q = question_of self.now (F.tree files.old) moment in
+            let made = dep_info_of (A.meaning answers.old) q in
+            (dep_info_fault_of q made ≡ None → ⊥)
+            → AtMostOnce (A.preprocessed answers.old) (A.preprocessed answers.new) }
         ensures compiles { A.compiled answers.new ≡ A.compiled answers.old }
     {
         let sources = self.dep_info::<H, F, A>(alloc, files, answers)?;

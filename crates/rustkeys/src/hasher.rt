@@ -6,16 +6,16 @@ ghost use Rattle.std.specs.Str.Lossy.{utf8_lossy};
 ghost use Rattle.os_files.specs.Bytes.{ticked};
 ghost use Rattle.os_files.specs.Fails.{FailsOn};
 ghost use Rattle.ckeys_records.specs.Faults.{KeyCause};
-ghost use Rattle.ckeys_records.specs.Meaning.{AreSteady, FailsIn};
+ghost use Rattle.ckeys_records.specs.Meaning.{AreSteady, AtMostOnce, FailsIn};
 ghost use Rattle.cmdlines_requests.specs.Small.{command_at};
 ghost use Rattle.rustc_parts.specs.Formed.{IsDigest, digest_digits};
 ghost use Rattle.rustc_texts.specs.Words.{compile_words};
 ghost use Rattle.rustc_requests.specs.Asks.{asks_in};
-ghost use Rattle.rustkeys.specs.Calls.{key_fault_of, record_of};
+ghost use Rattle.rustkeys.specs.Calls.{dep_info_fault_of, key_fault_of, record_of};
 ghost use Rattle.rustkeys.specs.Finished.{known_in};
 ghost use Rattle.rustkeys.specs.Fresh.{ComesOfWords, call_outputs, dep_info_text_of, emits_dep_info};
 ghost use Rattle.rustkeys.specs.Hashers.{call_of, known_of};
-ghost use Rattle.rustkeys.specs.Questions.{compile_env_of, question_of};
+ghost use Rattle.rustkeys.specs.Questions.{compile_env_of, dep_info_of, question_of};
 ghost use Rattle.rustkeys.specs.Records.{IsTold, key_of, parts_of, record_shape};
 ghost use Rattle.rustkeys.specs.Runs.{AtMostTwice};
 
@@ -158,6 +158,12 @@ impl<'a> RustHasher<'a> {
         // How often rustc was asked before a fault.
         ensures until { OnErr result
             (AtMostTwice (A.preprocessed answers.old) (A.preprocessed answers.new)) }
+        // Where what it tells of dependencies is at fault, or a source, it isn't asked for names.
+        ensures early { (moment : ℤ)
+            → let q = (call_of self.now dir.now env.now (F.tree files.old) moment).question in
+            let made = dep_info_of (A.meaning answers.old) q in
+            (dep_info_fault_of q made ≡ None → ⊥)
+            → AtMostOnce (A.preprocessed answers.old) (A.preprocessed answers.new) }
         ensures compiles { A.compiled answers.new ≡ A.compiled answers.old }
     {
         // A law, which costs nothing: what follows from it is said above.

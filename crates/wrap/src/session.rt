@@ -7,7 +7,7 @@ ghost use Rattle.ckeys.specs.Entries.{EntryInvariant, EntryPremises};
 ghost use Rattle.ckeys_records.specs.Meaning.{AreSteady, FailsIn};
 ghost use Rattle.wrap_keys.specs.Account.{Account, account_at, direct_calls};
 ghost use Rattle.wrap_keys.specs.Answers.{Answers, GoesOn, OnPass, Says, SaysBy, settled, settled_by};
-ghost use Rattle.wrap_keys.specs.Asking.{AskedTurn, EntriesTurn, RecordsAreTrue, shelves_of};
+ghost use Rattle.wrap_keys.specs.Asking.{AskedTurn, EntriesTurn, RecordsAreTrue, RunsOf, shelves_of};
 ghost use Rattle.wrap_keys.specs.StoreKeys.{Invariant, Premises};
 ghost use Rattle.wrap_keys.specs.Turn.{StoreTurn};
 ghost use Rattle.fingerprints.specs.Telling.{OnReason, Tells};
@@ -116,6 +116,10 @@ impl<
         ensures quiet { OnReason result
             ((T.preprocessed tool.new ≡ T.preprocessed tool.old)
             × (T.failed tool.new ≡ T.failed tool.old)) }
+        // The text is printed once where there is one to print, and rustc asked twice; before a fault as far as the call came.
+        ensures runs { let a = account_at (T.meaning tool.old) (F.tree files.old) self.now.settings
+            request.now in
+            RunsOf a false result (T.preprocessed tool.old) (T.preprocessed tool.new) }
         ensures compiles { T.compiled tool.new ≡ T.compiled tool.old }
         ensures tree { F.tree files.new ≡ F.tree files.old }
         ensures meaning { T.meaning tool.new ≡ T.meaning tool.old }

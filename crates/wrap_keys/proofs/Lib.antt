@@ -1,3 +1,4 @@
 pub mod KeyLemmas
 pub mod Utf8Lemmas
 pub mod JudgeLemmas
+pub mod RunLemmas

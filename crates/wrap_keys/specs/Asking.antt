@@ -78,17 +78,17 @@ OnOutputs (worked w) (Ok (Outputs map how dep_info)) P = P w
 OnOutputs (worked w) (Err fault) P = Unit {0}
 
 -- how often the preprocessor ran in a call whose key came from there, before its outputs or before its fault
-abbrev pub RunsIn : Bool → Result Answer Fault → ℕ → ℕ → Type 0
+abbrev pub RunsIn : {A : Type 0} → Bool → Result A Fault → ℕ → ℕ → Type 0
 RunsIn from (Ok answer) before after = KeyRuns from before after
 RunsIn from (Err fault) before after = RunsUntil fault (KeyRuns from before after) before after
 
 -- how often rustc was asked: twice before its outputs, and at most that before a fault
-abbrev pub IsAskedTwice : Result Answer Fault → ℕ → ℕ → Type 0
+abbrev pub IsAskedTwice : {A : Type 0} → Result A Fault → ℕ → ℕ → Type 0
 IsAskedTwice (Ok answer) before after = after ≡ ticked (ticked before)
 IsAskedTwice (Err fault) before after = (after ≡ before) ⊎ ((after ≡ ticked before) ⊎ (after ≡ ticked (ticked before)))
 
 -- how often the preprocessor ran in a call of that record: not where the input's language isn't preprocessed, and else once, unless a record gave the key or a fault came before it; of rustc, how often it was asked
-abbrev pub RunsOfRecord : CallRecord → Bool → Result Answer Fault → ℕ → ℕ → Type 0
+abbrev pub RunsOfRecord : {A : Type 0} → CallRecord → Bool → Result A Fault → ℕ → ℕ → Type 0
 RunsOfRecord (of_c r) from result before after = (needs_preprocessing r.language ≡ false → after ≡ before) × (needs_preprocessing r.language ≡ true → RunsIn from result before after)
 RunsOfRecord (of_rustc r) from result before after = IsAskedTwice result before after
 
@@ -98,7 +98,7 @@ RanForKey (of_c r) from before after = (needs_preprocessing r.language ≡ false
 RanForKey (of_rustc r) from before after = after ≡ ticked (ticked before)
 
 -- How often it ran: not where the request is passed through.
-abbrev pub RunsOf : Account → Bool → Result Answer Fault → ℕ → ℕ → Type 0
+abbrev pub RunsOf : {A : Type 0} → Account → Bool → Result A Fault → ℕ → ℕ → Type 0
 RunsOf (passed why) from result before after = after ≡ before
 RunsOf (worked w) from result before after = RunsOfRecord w.rec from result before after
 

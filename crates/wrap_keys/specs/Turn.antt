@@ -32,17 +32,17 @@ module _ (digest_of : Bytes → Bytes) (text_key : Bytes) (w : Work) (old new : 
     pub made : IsSuccess w pairs
     pub holds : new.kept ≡ true → new.held (store_key_with digest_of w text_key) ≡ Some pairs
 
-  -- what the answer tells: a fault that comes before the compile, that none ran; one of the compile, that the map lacked the key
+  -- what the answer tells: a fault that comes before the compile, that none ran and the store wasn't asked; one of the compile, that the map lacked the key
   abbrev pub Told : Result Answer Fault → Type 0
   Told (Ok (Pass reason)) = ⊥
   Told (Ok (Outputs map Direct dep_info)) = IsSome w.direct × Placed w map StoredTurn
   Told (Ok (Outputs map Stored dep_info)) = Placed w map StoredTurn
   Told (Ok (Outputs map Fresh dep_info)) = Placed w map FreshTurn
-  Told (Err fault) = ByStage (stage_of fault) ((after ≡ before) ⊎ MissTurn) (after ≡ before) MissTurn
+  Told (Err fault) = ByStage (stage_of fault) ((after ≡ before) ⊎ MissTurn) ((new ≡ old) × (after ≡ before)) MissTurn
 
--- a request that is passed through asks no store and runs no compile
+-- a request that is passed through leaves the store as it is and runs no compile
 abbrev pub ToldBy : (Bytes → Bytes) → Bytes → Account → Shelf StoreKey Pairs → Shelf StoreKey Pairs → ℕ → ℕ → Result Answer Fault → Type 0
-ToldBy digest_of text_key (passed why) old new before after result = (new.forgets ≡ old.forgets) × (after ≡ before)
+ToldBy digest_of text_key (passed why) old new before after result = (new ≡ old) × (after ≡ before)
 ToldBy digest_of text_key (worked w) old new before after result = Told digest_of text_key w old new before after result
 
 -- a pair that a call adds is its own

@@ -40,13 +40,3 @@ is_prepared digest_of meaning later tree tree_later rust request asked made p h 
       direct = λ e. let no : true ≡ false = sym e ∙ from in cc;
       dep_info = dep_info ∙ h.dep_info;
     }
-
--- how often rustc was asked, once its answers were there
-pub asked_twice : (result : Result Answer Fault) (before after : ℕ) → after ≡ ticked (ticked before) → IsAskedTwice result before after
-asked_twice (Ok answer) before after h = h
-asked_twice (Err fault) before after h = inr (inr h)
-
--- and before that
-pub asked_until : (result : Result Answer Fault) (fault : Fault) (before after : ℕ) → IsErrAnd result (λ f. f ≡ fault) → AtMostTwice before after → IsAskedTwice result before after
-asked_until (Ok answer) fault before after err h = absurd err
-asked_until (Err f) fault before after err h = h

@@ -8,7 +8,7 @@ use Rattle.ckeys.specs.Calls.{PrintedCall, key_fault_by}
 use Rattle.ckeys_records.specs.Faults.{KeyCause}
 use Rattle.ckeys_records.specs.Causes.{ByStage, no_file, no_step, stage_of}
 use Rattle.ckeys.specs.Entries.{Held}
-use Rattle.ckeys.specs.EntryTurns.{IsSpared, KeyFine, KeyRecorded, KeyRuns, RunsUntil, RunsUntilKey, RunsUntilStep}
+use Rattle.ckeys.specs.EntryTurns.{IsSpared, KeyFine, KeyRecorded, KeyRuns, RunsUntil}
 use Rattle.ckeys_records.specs.Meaning.{AtMostOnce}
 use Rattle.wrap_keys.specs.CallRecords.{CallRecord, IsTold, of_c, of_rustc}
 use Rattle.ckeys_records.specs.Meaning.{Meaning, FailsIn}
@@ -20,7 +20,7 @@ use Rattle.ckeys_records.specs.declared.step.Step.{Step}
 use Rattle.ckeys_records.specs.declared.step.Step.TheVariants.{Preprocess, Compile, DepInfo, FileNames, ArchiveDigest}
 use Rattle.wrap_keys.specs.Account.{Account, passed, worked, Work, Pairs, IsSuccess, compile_fault_of, direct_of, placed}
 use Rattle.wrap_keys.specs.Answers.{EarlyCause, GoesOn, GoesOnWith, OnPass, Placed, SaysBy, SaysWorkedBy}
-use Rattle.wrap_keys.specs.Asking.{AskedTurn, AskedUnder, EntriesBy, EntriesTurn, HowFrom, RanForKey, RecordsAreTrue, RunsIn, RunsOf, RunsOfRecord, Shelves, WorkKeyFrom}
+use Rattle.wrap_keys.specs.Asking.{AskedTurn, AskedUnder, EntriesBy, EntriesTurn, HowFrom, RanForKey, RecordsAreTrue, RunsOf, RunsOfRecord, Shelves, WorkKeyFrom}
 use Rattle.wrap_turns.specs.Prepared.{SaysFinished}
 use Rattle.wrap_keys.specs.StoreKeys.{store_key_with}
 use Rattle.wrap_keys.specs.Turn.{KeyedTurn, PutsBy, own_text_key, StillKept, StoredTurn, MissTurn, Told, ToldBy}
@@ -227,7 +227,7 @@ early_turn digest_of text_key a shelf count on_file fault cause result err = let
   where
     told : (b : Account) (f : Fault) → EarlyCause on_file f → ToldBy digest_of text_key b shelf shelf count count (Err f)
     told (passed why) f h = (refl, refl)
-    told (worked w) f h = by_stage (stage_of f) (λ u. inl refl) (λ c. refl) (λ n. absurd n) (early_stage on_file f h)
+    told (worked w) f h = by_stage (stage_of f) (λ u. inl refl) (λ c. (refl, refl)) (λ n. absurd n) (early_stage on_file f h)
 
 -- what is said of files as they were before
 pub says_later : (went_on : Type 0) (w : Work) (one other : Bytes → Type 0) (device_in : Step → Type 0) → ((name : Bytes) → one name → other name) → (result : Result Answer Fault) → SaysWorkedBy went_on w one device_in result → SaysWorkedBy went_on w other device_in result
@@ -248,7 +248,7 @@ key_turn digest_of text_key w first shelf before after same on_file device_in fa
 })
   where
     told : (f : Fault) → KeyCause first on_file device_in f → Told digest_of text_key w shelf shelf before after (Err f)
-    told f h = by_stage (stage_of f) (λ u. inl same) (λ c. same) (λ n. absurd n) h
+    told f h = by_stage (stage_of f) (λ u. inl same) (λ c. (refl, same)) (λ n. absurd n) h
 
 pub key_says : (went_on : Type 0) (w : Work) (on_file : Bytes → Type 0) (device_in : Step → Type 0) (fault : Fault) → KeyCause w.fault on_file device_in fault → (result : Result Answer Fault) → IsErrAnd result (λ f. f ≡ fault) → SaysWorkedBy went_on w on_file device_in result
 key_says went_on w on_file device_in fault cause result err = let p = err_from_is_err_and result err in rw (p.1, p.2) (by_stage (stage_of fault) (λ u. u) (λ c. c) (λ n. absurd n) cause)
@@ -291,29 +291,6 @@ pub runs_most : (from : Bool) (before after : ℕ) → KeyRuns from before after
 runs_most true before after h = inl h
 runs_most false before after h = inr h
 
--- before a fault of the key
-pub key_until : (from : Bool) (before after : ℕ) (fault : Fault) → RunsUntilKey before after fault → RunsUntil fault (KeyRuns from before after) before after
-key_until from before after Memory h = h
-key_until from before after (Read name) h = h
-key_until from before after (Tool Preprocess) h = h
-key_until from before after (Tool Compile) h = absurd h
-key_until from before after (Tool DepInfo) h = absurd h
-key_until from before after (Tool FileNames) h = absurd h
-key_until from before after (Tool ArchiveDigest) h = absurd h
-key_until from before after (PreprocessFailed status) h = h
-key_until from before after (CompileFailed status) h = absurd h
-key_until from before after (MissingOutput name) h = absurd h
-key_until from before after NoRule h = absurd h
-key_until from before after (AnswerNotUtf8 step) h = until_step step h
-  where
-    until_step : (s : Step) → RunsUntilStep (Some s) ⊥ before after → RunsUntilStep (Some s) (KeyRuns from before after) before after
-    until_step Preprocess h = h
-    until_step Compile h = absurd h
-    until_step DepInfo h = absurd h
-    until_step FileNames h = absurd h
-    until_step ArchiveDigest h = absurd h
-key_until from before after (BadDigest path) h = absurd h
-
 -- before a fault of the compile
 pub compile_until : (w : Work) (device_in : Step → Type 0) (from : Bool) (before after : ℕ) (fault : Fault) → CompileCause w device_in fault → KeyRuns from before after → RunsUntil fault (KeyRuns from before after) before after
 compile_until w device_in from before after Memory cause h = runs_most from before after h
@@ -330,32 +307,11 @@ compile_until w device_in from before after NoRule cause h = absurd cause
 compile_until w device_in from before after (AnswerNotUtf8 step) cause h = absurd cause
 compile_until w device_in from before after (BadDigest path) cause h = absurd cause
 
--- nothing ran
-none_ran : (r : CallRecord) (n : ℕ) (fault : Fault) → (RunsIn false (Err fault) n n) → RunsOfRecord r false (Err fault) n n
-none_ran (of_c r) n fault idle = (λ h. refl, λ h. idle)
-none_ran (of_rustc r) n fault idle = inl refl
-
--- before there is a verdict
-pub early_runs : (a : Account) (on_file : Bytes → Type 0) (n : ℕ) (fault : Fault) → EarlyCause on_file fault → RunsOf a false (Err fault) n n
-early_runs (passed why) on_file n fault cause = refl
-early_runs (worked w) on_file n Memory cause = none_ran w.rec n Memory (inl refl)
-early_runs (worked w) on_file n (Read name) cause = none_ran w.rec n (Read name) (inl refl)
-early_runs (worked w) on_file n (Tool step) cause = absurd cause
-early_runs (worked w) on_file n (PreprocessFailed status) cause = cc
-early_runs (worked w) on_file n (CompileFailed status) cause = cc
-early_runs (worked w) on_file n (MissingOutput name) cause = cc
-early_runs (worked w) on_file n NoRule cause = cc
-early_runs (worked w) on_file n (AnswerNotUtf8 step) cause = cc
-early_runs (worked w) on_file n (BadDigest path) cause = cc
-
-pub early_ran : (a : Account) (on_file : Bytes → Type 0) (n : ℕ) (fault : Fault) → EarlyCause on_file fault → (result : Result Answer Fault) → IsErrAnd result (λ f. f ≡ fault) → RunsOf a false result n n
-early_ran a on_file n fault cause result err = let p = err_from_is_err_and result err in rw (p.1, p.2) (early_runs a on_file n fault cause)
-
 -- a call that ends with a fault
-pub asked_fault : (digest_of : Bytes → Bytes) (a : Account) (old new : Shelves) (printed printed_new compiled compiled_new : ℕ) (result : Result Answer Fault) (fault : Fault) → IsErrAnd result (λ f. f ≡ fault) → (from : Bool) (text_key : Bytes) → AskedUnder digest_of a old.entries.held from text_key → RunsOf a from (Err fault) printed printed_new → KeyedTurn digest_of text_key a old.objects new.objects compiled compiled_new result → AskedTurn digest_of a old new printed printed_new compiled compiled_new result
+pub asked_fault : (digest_of : Bytes → Bytes) (a : Account) (old new : Shelves) (printed printed_new compiled compiled_new : ℕ) (result : Result Answer Fault) (fault : Fault) → IsErrAnd result (λ f. f ≡ fault) → (from : Bool) (text_key : Bytes) → AskedUnder digest_of a old.entries.held from text_key → RunsOf {A = Answer} a from (Err fault) printed printed_new → KeyedTurn digest_of text_key a old.objects new.objects compiled compiled_new result → AskedTurn digest_of a old new printed printed_new compiled compiled_new result
 asked_fault digest_of a old new printed printed_new compiled compiled_new (Ok answer) fault err from text_key is_key runs turn = absurd err
 asked_fault digest_of (passed why) old new printed printed_new compiled compiled_new (Err f) fault err from text_key is_key runs turn = record { from = from; text_key = text_key; is_key = is_key; how = tt; fine = tt; runs = runs; recorded = tt; objects = turn }
-asked_fault digest_of (worked w) old new printed printed_new compiled compiled_new (Err f) fault err from text_key is_key runs turn = record { from = from; text_key = text_key; is_key = is_key; how = tt; fine = tt; runs = subst (λ (e : Fault). RunsOf (worked w) from (Err e) printed printed_new) (sym err) runs; recorded = tt; objects = turn }
+asked_fault digest_of (worked w) old new printed printed_new compiled compiled_new (Err f) fault err from text_key is_key runs turn = record { from = from; text_key = text_key; is_key = is_key; how = tt; fine = tt; runs = subst (λ (e : Fault). RunsOf {A = Answer} (worked w) from (Err e) printed printed_new) (sym err) runs; recorded = tt; objects = turn }
 
 -- a hit
 pub how_kept : (from : Bool) (map : List Output) (dep_info : Option Bytes) → HowFrom from (Ok (Outputs map (kept_how from) dep_info))
@@ -374,7 +330,7 @@ ran_with : (r : CallRecord) (answer : Answer) (from : Bool) (before after : ℕ)
 ran_with (of_c r) answer from before after ran = ran
 ran_with (of_rustc r) answer from before after ran = ran
 
-ran_until : (r : CallRecord) (from : Bool) (before after : ℕ) (fault : Fault) → (KeyRuns from before after → RunsUntil fault (KeyRuns from before after) before after) → RanForKey r from before after → RunsOfRecord r from (Err fault) before after
+ran_until : (r : CallRecord) (from : Bool) (before after : ℕ) (fault : Fault) → (KeyRuns from before after → RunsUntil fault (KeyRuns from before after) before after) → RanForKey r from before after → RunsOfRecord {A = Answer} r from (Err fault) before after
 ran_until (of_c r) from before after fault until ran = (ran.0, λ h. until (ran.1 h))
 ran_until (of_rustc r) from before after fault until ran = inr (inr ran)
 
@@ -397,7 +353,7 @@ quiet_entries digest_of a s n = by (direct_of a)
   where
     by : (o : Option PrintedCall) → EntriesBy digest_of o s s n n
     by None = refl
-    by (Some p) = record { gains = λ k e h. inl h; kept = λ h. record { was = h; keys = λ k i. i; steady = refl }; cleared = refl; put = inl refl; asked = λ k m. inl refl; idle = λ h. refl }
+    by (Some p) = record { gains = λ k e h. inl h; kept = λ h. record { was = h; keys = λ k i. i; steady = refl }; cleared = refl; put = inl (record { within = λ k e h. h; put = refl }); asked = λ k m. inl refl; idle = λ h. refl }
 
 pub passed_asked : (digest_of : Bytes → Bytes) (why : Why) (a : Account) (old : Shelves) (printed compiled : ℕ) (reason : Reason) → passed why ≡ a → AskedTurn digest_of a old old printed printed compiled compiled (Ok (Pass reason))
 passed_asked digest_of why a old printed compiled reason is = subst (λ (b : Account). AskedTurn digest_of b old old printed printed compiled compiled (Ok (Pass reason))) is (record {

@@ -92,6 +92,7 @@ loop-call-preserved g c =
       from = from;
       entries = subst (λ q. EntryTurn digest_of q (g.E.Store.shelf c.loop-call.entries) ends (view.preprocessed called.tool) (view.preprocessed ended.tool)) is e.entries;
       recorded = subst (λ q. IfOk answer (λ made. KeyRecorded digest_of q (g.E.Store.shelf c.loop-call.entries) ends made.2 (string_bytes made.0))) is e.recorded;
+      unput = e.unput;
     } in
     let Keyed : (HashCall g.row.I.Denot g.row.F.Denot g.row.T.Denot × HashCall g.row.I.Denot g.row.F.Denot g.row.T.Denot) × KeyAnswer → Type 0 = λ x. IsKeyed digest_of view settings g.F.Files.fails_on g.T.Preprocessor.fails_in x.0.0 x.0.1 x.1 in
     let zipped = zipped_more first now rs i inv.rest lt inv.count d ended answer in

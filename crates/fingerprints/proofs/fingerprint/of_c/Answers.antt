@@ -1,15 +1,17 @@
-use Rattle.std.proofs.Common.{◌≡◌, subst}
+use Rattle.std.proofs.Common.{◌≡◌, Ok, false, subst}
 use Rattle.os_files.specs.Bytes.{Bytes}
 use Rattle.os_files.specs.Fails.{FailsOn}
 use Rattle.os_files.specs.Tree.{Tree}
 use Rattle.ckeys_records.specs.Faults.{KeyCause}
 use Rattle.ckeys_records.specs.Meaning.{FailsIn}
-use Rattle.wrap_base.specs.Commands.{found_of, words_at}
-use Rattle.wrap_keys.specs.Account.{Account, Work, account_by, call_at, work_at}
+use Rattle.wrap_base.specs.Commands.{by_c, found_of, words_at}
+use Rattle.wrap_keys.specs.Account.{Account, Work, account_by, account_named, call_at, work_at}
+use Rattle.wrap_keys.specs.Asking.{RunsOf}
 use Rattle.wrap_keys.specs.Verdicts.{Decision, asks, verdict_of}
 use Rattle.wrap_keys.proofs.KeyLemmas.{fails_on_later}
-use Rattle.fingerprints.specs.Telling.{Tells}
-use Rattle.fingerprints.proofs.TellLemmas.{early_tells, fault_tells, key_later}
+use Rattle.wrap_keys.proofs.RunLemmas.{early_ran}
+use Rattle.fingerprints.specs.Telling.{Tells, Told}
+use Rattle.fingerprints.proofs.TellLemmas.{early_tells, fault_tells, key_later, until_told}
 use Rattle.fingerprints.proofs.fingerprint.of_c.Goals as goal
 
 pub returns-in_err-reason-clause-tells : goal.returns-in_err-reason-clause-tells
@@ -36,3 +38,31 @@ returns-in_err-made-in-Asks-clause-tells g c =
     let moved : KeyCause (work_on (tree c.args.files.now)).fault on_old device fault = subst (λ (t : Tree). KeyCause (work_on t).fault on_old device fault) c.in_ok-reason.ensures.tree early in
     let told = c.from_residual-in_err-made-in-Asks.result in
     subst (λ (d : Decision). Tells digest_of (account d) on_old device told) decided (fault_tells digest_of (work_on (tree c.args.files.now)) on_old device fault moved told c.from_residual-in_err-made-in-Asks.ensures.1)
+
+pub returns-in_err-reason-clause-runs : goal.returns-in_err-reason-clause-runs
+returns-in_err-reason-clause-runs g c =
+    let a = account_named (g.T.Preprocessor.meaning c.args.tool.now) (g.F.Files.tree c.args.files.now) c.args.config.now c.args.request.now (by_c (found_of c.args.compiler)) in
+    early_ran a _ _ c.in_err-reason.field-0.0 c.in_err-reason.ensures.cause _ c.from_residual.ensures.1
+
+pub returns-in_err-made-in-Asks-clause-runs : goal.returns-in_err-made-in-Asks-clause-runs
+returns-in_err-made-in-Asks-clause-runs g c =
+    let tree = g.F.Files.tree in
+    let found = found_of c.args.compiler in
+    let request = c.args.request.now in
+    let parsed = c.in-Asks.plan.parsed in
+    let decided : asks parsed ≡ verdict_of found.kind (words_at found request (tree c.args.files.now)) = rw c.in-Asks.is at c.in_ok-reason.ensures.verdict in
+    let account : Decision → Account = account_by (g.T.Preprocessor.meaning c.args.tool.now) (tree c.args.files.now) c.args.config.now found request in
+    let before = g.T.Preprocessor.preprocessed c.args.tool.now in
+    let after = g.T.Preprocessor.preprocessed c.c_fingerprint.new.tool in
+    let told = c.from_residual-in_err-made-in-Asks.result in
+    subst (λ (d : Decision). RunsOf (account d) false told before after) decided (until_told parsed.language before after c.in_err-made-in-Asks.field-0.0 c.c_fingerprint.ensures.idle c.in_err-made-in-Asks.ensures.until told c.from_residual-in_err-made-in-Asks.ensures.1)
+
+pub returns-in_ok-made-in-Asks-clause-runs : goal.returns-in_ok-made-in-Asks-clause-runs
+returns-in_ok-made-in-Asks-clause-runs g c =
+    let tree = g.F.Files.tree in
+    let found = found_of c.args.compiler in
+    let request = c.args.request.now in
+    let decided : asks c.in-Asks.plan.parsed ≡ verdict_of found.kind (words_at found request (tree c.args.files.now)) = rw c.in-Asks.is at c.in_ok-reason.ensures.verdict in
+    let account : Decision → Account = account_by (g.T.Preprocessor.meaning c.args.tool.now) (tree c.args.files.now) c.args.config.now found request in
+    let told : Told = Ok (Ok c.in_ok-made-in-Asks.made) in
+    subst (λ (d : Decision). RunsOf (account d) false told (g.T.Preprocessor.preprocessed c.args.tool.now) (g.T.Preprocessor.preprocessed c.c_fingerprint.new.tool)) decided (c.c_fingerprint.ensures.idle, c.in_ok-made-in-Asks.ensures.runs)

@@ -1,4 +1,4 @@
-use Rattle.std.proofs.Common.{◌≡◌, subst}
+use Rattle.std.proofs.Common.{◌≡◌, false, subst}
 use Rattle.os_files.specs.Bytes.{Bytes}
 use Rattle.os_files.specs.Fails.{FailsOn}
 use Rattle.os_files.specs.Tree.{Tree}
@@ -6,8 +6,10 @@ use Rattle.ckeys_records.specs.Faults.{KeyCause}
 use Rattle.ckeys_records.specs.Meaning.{FailsIn}
 use Rattle.rustc_requests.specs.Asks.{asks_in}
 use Rattle.wrap_keys.specs.Account.{Account, Work, rust_account_by, rust_call_at, rust_work_at}
+use Rattle.wrap_keys.specs.Asking.{RunsOf}
 use Rattle.wrap_keys.specs.RustVerdicts.{RustDecision, asks, rust_verdict_of}
 use Rattle.wrap_keys.proofs.KeyLemmas.{fails_on_later}
+use Rattle.wrap_keys.proofs.RunLemmas.{asked_until, early_ran}
 use Rattle.fingerprints.specs.Telling.{Tells}
 use Rattle.fingerprints.proofs.TellLemmas.{early_tells, fault_tells, key_later}
 use Rattle.fingerprints.proofs.fingerprint.of_rustc.Goals as goal
@@ -34,3 +36,19 @@ returns-in_err-made-in-Asks-clause-tells g c =
     let moved : KeyCause (work_on (tree c.args.files.now)).fault on_old device fault = subst (λ (t : Tree). KeyCause (work_on t).fault on_old device fault) c.in_ok-reason.ensures.tree early in
     let told = c.from_residual-in_err-made-in-Asks.result in
     subst (λ (d : RustDecision). Tells digest_of (account d) on_old device told) decided (fault_tells digest_of (work_on (tree c.args.files.now)) on_old device fault moved told c.from_residual-in_err-made-in-Asks.ensures.1)
+
+pub returns-in_err-reason-clause-runs : goal.returns-in_err-reason-clause-runs
+returns-in_err-reason-clause-runs g c =
+    let a = rust_account_by (g.T.Preprocessor.meaning c.args.tool.now) (g.F.Files.tree c.args.files.now) c.args.rust.now c.args.request.now (rust_verdict_of c.args.request.now (g.F.Files.tree c.args.files.now)) in
+    early_ran a _ _ c.in_err-reason.field-0.0 c.in_err-reason.ensures.cause _ c.from_residual.ensures.1
+
+pub returns-in_err-made-in-Asks-clause-runs : goal.returns-in_err-made-in-Asks-clause-runs
+returns-in_err-made-in-Asks-clause-runs g c =
+    let tree = g.F.Files.tree in
+    let request = c.args.request.now in
+    let decided : asks (asks_in c.in-Asks.parsed) ≡ rust_verdict_of request (tree c.args.files.now) = rw c.in-Asks.is at c.in_ok-reason.ensures.verdict in
+    let account : RustDecision → Account = rust_account_by (g.T.Preprocessor.meaning c.args.tool.now) (tree c.args.files.now) c.args.rust.now request in
+    let before = g.T.Preprocessor.preprocessed c.args.tool.now in
+    let after = g.T.Preprocessor.preprocessed c.rust_fingerprint.new.tool in
+    let told = c.from_residual-in_err-made-in-Asks.result in
+    subst (λ (d : RustDecision). RunsOf (account d) false told before after) decided (asked_until told c.in_err-made-in-Asks.field-0.0 before after c.from_residual-in_err-made-in-Asks.ensures.1 c.rust_fingerprint.ensures.twice)

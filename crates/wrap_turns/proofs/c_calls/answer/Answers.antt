@@ -6,7 +6,8 @@ use Rattle.wrap_keys.specs.Answers.{GoesOn}
 use Rattle.wrap_keys.specs.Asking.{RanForKey, shelves_of}
 use Rattle.wrap_keys.specs.Turn.{KeyedTurn}
 use Rattle.wrap_base.specs.Commands.{found_of}
-use Rattle.wrap_turns.proofs.TurnLemmas.{asked_fault, asked_finished, fails_in_later, finished_says, finished_unpassed, goes_on, key_says, key_turn, key_until, own_goes_on, text_fine}
+use Rattle.wrap_keys.proofs.RunLemmas.{key_until}
+use Rattle.wrap_turns.proofs.TurnLemmas.{asked_fault, asked_finished, fails_in_later, finished_says, finished_unpassed, goes_on, key_says, key_turn, own_goes_on, text_fine}
 use Rattle.wrap_turns.proofs.c_calls.answer.Goals as goal
 
 pub returns-in_err-prepared-clause-says : goal.returns-in_err-prepared-clause-says

@@ -10,7 +10,9 @@ use Rattle.wrap_base.specs.Commands.{by_c, found_of, words_at}
 use Rattle.wrap_keys.specs.Turn.{own_text_key}
 use Rattle.wrap_keys.specs.Verdicts.{Decision, asks, verdict_of}
 use Rattle.wrap_keys.proofs.KeyLemmas.{fails_on_later}
-use Rattle.wrap_turns.proofs.TurnLemmas.{asked_fault, early_runs, early_says, early_turn, own_asked, quiet_entries, says_later}
+use Rattle.wrap_base.specs.declared.answer.Answer.{Answer}
+use Rattle.wrap_keys.proofs.RunLemmas.{early_runs}
+use Rattle.wrap_turns.proofs.TurnLemmas.{asked_fault, early_says, early_turn, own_asked, quiet_entries, says_later}
 use Rattle.wrap_turns.proofs.c_calls.c_turn.Goals as goal
 
 pub returns-in_err-reason-clause-says : goal.returns-in_err-reason-clause-says
@@ -24,7 +26,7 @@ returns-in_err-reason-clause-asked g c =
     let digest_of = g.H.HashState.digest_of in
     let a = account_named (g.T.Preprocessor.meaning c.args.tool.now) (g.F.Files.tree c.args.files.now) c.args.config.now c.args.request.now (by_c (found_of c.args.compiler)) in
     asked_fault digest_of a _ _ _ _ _ _ _ c.in_err-reason.field-0.0 c.from_residual.ensures.1 false (own_text_key digest_of a) (own_asked digest_of a _)
-    (early_runs a _ _ c.in_err-reason.field-0.0 c.in_err-reason.ensures.cause)
+    (early_runs Answer a _ _ c.in_err-reason.field-0.0 c.in_err-reason.ensures.cause)
     (early_turn digest_of (own_text_key digest_of a) a _ _ _ c.in_err-reason.field-0.0 c.in_err-reason.ensures.cause _ c.from_residual.ensures.1)
 
 pub returns-in_err-reason-clause-entries : goal.returns-in_err-reason-clause-entries

@@ -4,7 +4,8 @@ use Rattle.rustc_requests.specs.Asks.{asks_in}
 use Rattle.wrap_keys.specs.Account.{rust_call_at, rust_work_at, worked}
 use Rattle.wrap_keys.specs.CallRecords.{key_of}
 use Rattle.wrap_keys.specs.Turn.{KeyedTurn}
-use Rattle.wrap_turns.proofs.RustLemmas.{asked_twice, asked_until, is_prepared}
+use Rattle.wrap_keys.proofs.RunLemmas.{asked_twice, asked_until}
+use Rattle.wrap_turns.proofs.RustLemmas.{is_prepared}
 use Rattle.wrap_turns.proofs.TurnLemmas.{fails_in_later, finished_says, finished_unpassed, how_of_fault, key_says, key_turn}
 use Rattle.wrap_turns.proofs.rust_calls.rust_answer.Goals as goal
 

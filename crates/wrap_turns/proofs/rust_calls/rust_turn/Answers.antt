@@ -10,7 +10,8 @@ use Rattle.wrap_keys.specs.Asking.{RunsOf}
 use Rattle.wrap_keys.specs.RustVerdicts.{RustDecision, asks, rust_verdict_of}
 use Rattle.wrap_keys.specs.Turn.{StoreTurn, own_text_key}
 use Rattle.wrap_keys.proofs.KeyLemmas.{fails_on_later}
-use Rattle.wrap_turns.proofs.TurnLemmas.{early_ran, early_says, early_turn, how_of_fault, says_later}
+use Rattle.wrap_keys.proofs.RunLemmas.{early_ran}
+use Rattle.wrap_turns.proofs.TurnLemmas.{early_says, early_turn, how_of_fault, says_later}
 use Rattle.wrap_turns.proofs.rust_calls.rust_turn.Goals as goal
 
 pub returns-in_err-reason-clause-says : goal.returns-in_err-reason-clause-says
