@@ -1,6 +1,6 @@
 //! The commands of a request.
 
-use crate::written::{bare, parsed_by_clang, parsed_by_gcc};
+use crate::written::{bare, parsed_by_clang, parsed_by_gcc, without_outputs};
 use cmdlines::clang::ClangKind;
 use cmdlines::command::CommandError;
 use cmdlines::found::HasKind;
@@ -9,11 +9,10 @@ use cmdlines::msvc::MsvcKind;
 use cmdlines_base::command::SingleCompileCommand;
 use cmdlines_requests::command::Cacheable;
 use cmdlines_requests::parsed::ParsedArguments;
-use os_files::listed::Listed;
 use os_files::os_bytes::OsBytes;
 use std::alloc::{AllocError, Global};
-use std::process::Abort;
 use std::test::Fail;
+use test_kit::texts::holds;
 
 /// A variable of that name with that value.
 fn variable(alloc: Global, name: &str, value: &str) -> Result<(OsBytes, OsBytes), AllocError> {
@@ -36,14 +35,19 @@ fn command_for(
 
 /// The command runs Gcc in its folder with these variables, and can be kept.
 fn runs_with(
-    rt: &impl Abort,
     (command, cacheable): &(SingleCompileCommand, Cacheable),
     variables: &[(OsBytes, OsBytes)],
-) {
-    assert!(rt; matches!(cacheable, Cacheable::Yes));
-    assert_eq!(rt; command.executable.as_bytes(), b"/opt/bin/cc".as_slice());
-    assert_eq!(rt; command.cwd.as_bytes(), b"/some/dir".as_slice());
-    assert_eq!(rt; command.env_vars.as_slice(), variables);
+) -> Result<(), Fail> {
+    holds(matches!(cacheable, Cacheable::Yes), "it can be kept")?;
+    holds(
+        command.executable.as_bytes() == b"/opt/bin/cc".as_slice(),
+        "its executable",
+    )?;
+    holds(
+        command.cwd.as_bytes() == b"/some/dir".as_slice(),
+        "its folder",
+    )?;
+    holds(command.env_vars.as_slice() == variables, "its variables")
 }
 
 #[test]
@@ -54,8 +58,7 @@ fn what_is_run_where_and_with_what(rt: HostRuntime) -> Result<(), Fail> {
     variables.push(variable(alloc, "EMPTY", "")?)?;
     let request = parsed_by_gcc(alloc, "-c foo.c")?;
     let command = command_for(alloc, &request, variables.as_slice())?;
-    runs_with(&rt, &command, variables.as_slice());
-    Ok(())
+    runs_with(&command, variables.as_slice())
 }
 
 /// Whether a compiler of that kind has no command for the request, as it lacks an object.
@@ -67,14 +70,24 @@ fn lacks_an_object<K: HasKind>(alloc: Global, request: &ParsedArguments) -> Resu
     Ok(matches!(&answer, Err(CommandError::NoObjOutput)))
 }
 
+/// Asserts that the request without outputs has no command, of any kind, and the other one has.
+fn objects_are_needed(
+    alloc: Global,
+    whole: &ParsedArguments,
+    lacking: &ParsedArguments,
+) -> Result<(), Fail> {
+    holds(!lacks_an_object::<ClangKind>(alloc, whole)?, "an object")?;
+    holds(lacks_an_object::<GccKind>(alloc, lacking)?, "none for Gcc")?;
+    holds(
+        lacks_an_object::<MsvcKind>(alloc, lacking)?,
+        "none for Msvc",
+    )
+}
+
 #[test]
 fn without_an_object_there_is_no_command(rt: HostRuntime) -> Result<(), Fail> {
     let alloc = rt.alloc();
-    let mut request = parsed_by_clang(alloc, "-c foo.c -MD")?;
-    assert!(rt; !lacks_an_object::<ClangKind>(alloc, &request)?);
-    request.outputs = Listed::new(alloc);
-    assert!(rt; request.object().is_none());
-    assert!(rt; lacks_an_object::<GccKind>(alloc, &request)?);
-    assert!(rt; lacks_an_object::<MsvcKind>(alloc, &request)?);
-    Ok(())
+    let whole = parsed_by_clang(alloc, "-c foo.c -MD")?;
+    let lacking = without_outputs(alloc)?;
+    objects_are_needed(alloc, &whole, &lacking)
 }

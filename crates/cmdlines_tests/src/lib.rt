@@ -6,6 +6,10 @@ mod calls;
 #[cfg(test)]
 mod commands;
 #[cfg(test)]
+mod expansion;
+#[cfg(test)]
+mod responses;
+#[cfg(test)]
 mod small;
 #[cfg(test)]
 mod tables;

@@ -1,34 +1,36 @@
 //! The small calls on what a command line asks for.
 
-use crate::written::{bare, parsed_by_clang, parsed_by_gcc};
+use crate::written::{asked_of, bare, parsed_by_clang, parsed_by_gcc, without_outputs};
 use cmdlines::clang::ClangKind;
 use cmdlines::gcc::GccKind;
 use cmdlines::laws::{inputs_are_safe, requests_have_an_object};
-use cmdlines_base::compiler_arguments::CompilerArguments;
 use cmdlines_requests::parsed::ParsedArguments;
 use cmdlines_tables::laws::arguments_are_their_items;
 use os_files::listed::Listed;
-use os_files::memory_files::MemoryFiles;
 use os_files::os_bytes::OsBytes;
 use std::alloc::Global;
-use std::process::Abort;
 use std::test::Fail;
 use test_kit::rows::words;
+use test_kit::texts::{holds, is_that};
+
+/// Asserts how the name of the object of a request is shown.
+fn shows(alloc: Global, request: &ParsedArguments, name: &str, line: &str) -> Result<(), Fail> {
+    is_that(request.output_pretty(alloc)?.as_str(), name, line)
+}
+
+/// Likewise of what the words of a line ask Gcc for.
+fn shows_by_gcc(alloc: Global, line: &str, name: &str) -> Result<(), Fail> {
+    let request = parsed_by_gcc(alloc, line)?;
+    shows(alloc, &request, name, line)
+}
 
 #[test]
 fn the_name_of_the_object_is_shown(rt: HostRuntime) -> Result<(), Fail> {
     let alloc = rt.alloc();
-    for (line, name) in [
-        ("-c foo.c", "foo.o"),
-        ("-c src/foo.c -o out/bar.o", "bar.o"),
-        ("-c foo.c -o ..", "Unknown filename"),
-        ("-c foo.c -o /", "Unknown filename"),
-    ] {
-        let request = parsed_by_gcc(alloc, line)?;
-        let shown = request.output_pretty(alloc)?;
-        assert_eq!(rt; shown.as_str(), name, "{line}");
-    }
-    Ok(())
+    shows_by_gcc(alloc, "-c foo.c", "foo.o")?;
+    shows_by_gcc(alloc, "-c src/foo.c -o out/bar.o", "bar.o")?;
+    shows_by_gcc(alloc, "-c foo.c -o ..", "Unknown filename")?;
+    shows_by_gcc(alloc, "-c foo.c -o /", "Unknown filename")
 }
 
 #[test]
@@ -36,70 +38,65 @@ fn a_name_that_is_no_text_is_shown_as_well_as_it_can(rt: HostRuntime) -> Result<
     let alloc = rt.alloc();
     let mut list = words(alloc, "-c foo.c -o")?;
     list.push(OsBytes::from_slice(alloc, b"a/\xff.o")?)?;
-    let dir = OsBytes::from_slice(alloc, b"/work")?;
-    let mut files = MemoryFiles::new(alloc);
-    let answer = bare::<GccKind>(alloc)?.parse_arguments(alloc, list.as_slice(), &dir, &mut files)?;
-    let CompilerArguments::Ok(request) = answer else {
-        return Err("no request".into());
-    };
-    assert_eq!(rt; request.output_pretty(alloc)?.as_str(), "\u{FFFD}.o");
-    Ok(())
+    let request = asked_of::<GccKind>(alloc, list.as_slice())?;
+    shows(alloc, &request, "\u{FFFD}.o", "no text")
+}
+
+/// Asserts that a request has an object.
+fn has_an_object(request: &ParsedArguments) -> Result<(), Fail> {
+    holds(request.object().is_some(), "an object")
+}
+
+/// Asserts that a request has no object, and how its name is shown.
+fn has_no_object(alloc: Global, request: &ParsedArguments) -> Result<(), Fail> {
+    holds(request.object().is_none(), "no object")?;
+    shows(alloc, request, "Unknown filename", "no object")
 }
 
 #[test]
 fn without_an_object_there_is_no_name(rt: HostRuntime) -> Result<(), Fail> {
     let alloc = rt.alloc();
-    let mut request = parsed_by_clang(alloc, "-c foo.c")?;
-    assert!(rt; request.object().is_some());
-    request.outputs = Listed::new(alloc);
-    assert!(rt; request.object().is_none());
-    assert_eq!(rt; request.output_pretty(alloc)?.as_str(), "Unknown filename");
-    Ok(())
+    has_an_object(&parsed_by_clang(alloc, "-c foo.c")?)?;
+    has_no_object(alloc, &without_outputs(alloc)?)
 }
 
 /// The found words are the wanted ones, in order.
-fn are_those(rt: &impl Abort, found: &[&[u8]], wanted: &[OsBytes], line: &str) {
-    assert_eq!(rt; found.len(), wanted.len(), "{line}");
+fn are_those(found: &[&[u8]], wanted: &[OsBytes], line: &str) -> Result<(), Fail> {
+    holds(found.len() == wanted.len(), line)?;
     for (word, other) in found.iter().zip(wanted.iter()) {
-        assert_eq!(rt; *word, other.as_bytes(), "{line}");
+        holds(*word == other.as_bytes(), line)?;
     }
+    Ok(())
 }
 
 /// The request has these architectures.
 fn are_its_architectures(
-    rt: &impl Abort,
     alloc: Global,
     request: &ParsedArguments,
     architectures: &str,
 ) -> Result<(), Fail> {
     let wanted = words(alloc, architectures)?;
-    assert_eq!(rt; request.is_multiarch(), wanted.len() > 1, "{architectures}");
+    holds(request.is_multiarch() == (wanted.len() > 1), architectures)?;
     let found = request.archs(alloc)?;
-    are_those(rt, found.as_slice(), wanted.as_slice(), architectures);
-    Ok(())
+    are_those(found.as_slice(), wanted.as_slice(), architectures)
 }
 
 /// A request with these architecture words has these architectures.
-fn has_architectures(
-    rt: &impl Abort,
-    alloc: Global,
-    line: &str,
-    architectures: &str,
-) -> Result<(), Fail> {
+fn has_architectures(alloc: Global, line: &str, architectures: &str) -> Result<(), Fail> {
     let list = Listed::from_vec(words(alloc, line)?);
     let mut request = parsed_by_gcc(alloc, "-c foo.c")?;
     request.arch_args = list;
-    are_its_architectures(rt, alloc, &request, architectures)
+    are_its_architectures(alloc, &request, architectures)
 }
 
 #[test]
 fn architectures_are_listed_once(rt: HostRuntime) -> Result<(), Fail> {
     let alloc = rt.alloc();
-    has_architectures(&rt, alloc, "", "")?;
-    has_architectures(&rt, alloc, "-arch a", "a")?;
-    has_architectures(&rt, alloc, "-arch a -arch a", "a")?;
-    has_architectures(&rt, alloc, "-arch b -arch a -arch b", "b a")?;
-    has_architectures(&rt, alloc, "-arch -arch", "")
+    has_architectures(alloc, "", "")?;
+    has_architectures(alloc, "-arch a", "a")?;
+    has_architectures(alloc, "-arch a -arch a", "a")?;
+    has_architectures(alloc, "-arch b -arch a -arch b", "b a")?;
+    has_architectures(alloc, "-arch -arch", "")
 }
 
 #[test]
@@ -108,6 +105,6 @@ fn laws_are_called(rt: HostRuntime) -> Result<(), Fail> {
     inputs_are_safe();
     requests_have_an_object();
     arguments_are_their_items();
-    assert!(rt; !bare::<ClangKind>(alloc)?.plusplus());
+    holds(!bare::<ClangKind>(alloc)?.plusplus(), "C alone")?;
     Ok(())
 }

@@ -11,6 +11,7 @@ use cmdlines_tables::laws::{
 };
 use cmdlines_tables::value::ArgData;
 use std::test::Fail;
+use test_kit::texts::{holds, is_that};
 
 /// One step for the root, and one for each byte of the longest beginning that begins a flag.
 #[test]
@@ -23,9 +24,9 @@ fn nodes_that_are_looked_at(rt: HostRuntime) -> Result<(), Fail> {
     ] {
         let tree = compiler_tree(rt.alloc(), kind)?;
         let (found, counted) = tree.search_counted(word.as_bytes());
-        assert!(rt; tree.check(), "{kind:?}");
-        assert_eq!(rt; found.map(ArgInfo::flag), flag, "{word}");
-        assert_eq!(rt; counted, steps, "{word}");
+        holds(tree.check(), "a table in order")?;
+        holds(found.map(ArgInfo::flag) == flag, word)?;
+        holds(counted == steps, word)?;
     }
     Ok(())
 }
@@ -38,15 +39,15 @@ fn refuse(_path: &[u8]) -> Option<String> {
 fn values(rt: HostRuntime) -> Result<(), Fail> {
     let alloc = rt.alloc();
     let value = ArgData::of_word(alloc, ArgKind::Output, b"a.o")?;
-    assert_eq!(rt; value.kind(), ArgKind::Output);
-    assert_eq!(rt; value.word(), b"a.o".as_slice());
-    assert_eq!(rt;
-        value.into_arg_os_string(alloc)?.as_bytes(),
-        b"a.o".as_slice()
-    );
+    holds(value.kind() == ArgKind::Output, "its kind")?;
+    holds(value.word() == b"a.o".as_slice(), "its word")?;
+    holds(
+        value.into_arg_os_string(alloc)?.as_bytes() == b"a.o".as_slice(),
+        "printed",
+    )?;
     // Its word is no path to it, so that no transformer is asked.
     let text = value.into_arg_string(alloc, &mut refuse)?;
-    assert_eq!(rt; text.as_str(), "a.o");
+    is_that(text.as_str(), "a.o", "printed")?;
     Ok(())
 }
 

@@ -5,6 +5,7 @@ use cmdlines::found::{FoundCompiler, HasKind};
 use cmdlines::gcc::GccKind;
 use cmdlines_base::compiler_arguments::CompilerArguments;
 use cmdlines_requests::parsed::ParsedArguments;
+use os_files::listed::Listed;
 use os_files::memory_files::MemoryFiles;
 use os_files::os_bytes::OsBytes;
 use std::alloc::{AllocError, Global};
@@ -16,18 +17,25 @@ pub(crate) fn bare<K: HasKind>(alloc: Global) -> Result<FoundCompiler<K>, AllocE
     FoundCompiler::new(alloc, false, None, None)
 }
 
-/// What the words of a line ask for by a compiler of that kind, in a folder with no files.
-fn parsed_by<K: HasKind>(alloc: Global, line: &str) -> Result<ParsedArguments, Fail> {
+/// What these words ask for by a compiler of that kind, in a folder with no files.
+pub(crate) fn asked_of<K: HasKind>(
+    alloc: Global,
+    words: &[OsBytes],
+) -> Result<ParsedArguments, Fail> {
     let dir = OsBytes::from_slice(alloc, b"/w")?;
-    let list = words(alloc, line)?;
     let mut files = MemoryFiles::new(alloc);
     let compiler = bare::<K>(alloc)?;
-    match compiler.parse_arguments(alloc, list.as_slice(), &dir, &mut files)? {
+    match compiler.parse_arguments(alloc, words, &dir, &mut files)? {
         CompilerArguments::Ok(parsed) => Ok(parsed),
         CompilerArguments::NotCompilation | CompilerArguments::CannotCache(_, _) => {
             Err("no request".into())
         }
     }
+}
+
+/// Likewise the words of a line.
+fn parsed_by<K: HasKind>(alloc: Global, line: &str) -> Result<ParsedArguments, Fail> {
+    asked_of::<K>(alloc, words(alloc, line)?.as_slice())
 }
 
 /// What the words of a line ask for to Gcc.
@@ -38,4 +46,11 @@ pub(crate) fn parsed_by_gcc(alloc: Global, line: &str) -> Result<ParsedArguments
 /// What the words of a line ask for to Clang.
 pub(crate) fn parsed_by_clang(alloc: Global, line: &str) -> Result<ParsedArguments, Fail> {
     parsed_by::<ClangKind>(alloc, line)
+}
+
+/// A request to Clang without any output.
+pub(crate) fn without_outputs(alloc: Global) -> Result<ParsedArguments, Fail> {
+    let mut request = parsed_by_clang(alloc, "-c foo.c")?;
+    request.outputs = Listed::new(alloc);
+    Ok(request)
 }

@@ -42,14 +42,30 @@ pub struct Compilers {
     pub tasking_vx: TaskingVX,
 }
 
+/// Gcc and Clang, of which nothing more is known.
+fn gnu_compilers(alloc: Global) -> Result<(Gcc, Clang), AllocError> {
+    let gcc = Gcc::new(alloc, false, None, None)?;
+    Ok((gcc, Clang::new(alloc, false, None, None)?))
+}
+
+/// Likewise the others.
+fn other_compilers(alloc: Global) -> Result<(Diab, Msvc, TaskingVX), AllocError> {
+    let diab = Diab::new(alloc, false, None, None)?;
+    let msvc = Msvc::new(alloc, false, None, None)?;
+    Ok((diab, msvc, TaskingVX::new(alloc, false, None, None)?))
+}
+
 impl Compilers {
+    /// Makes the tables of all of them, some at a time: what is made before one that can't be is dropped.
     pub fn new(alloc: Global) -> Result<Compilers, AllocError> {
+        let (gcc, clang) = gnu_compilers(alloc)?;
+        let (diab, msvc, tasking_vx) = other_compilers(alloc)?;
         Ok(Compilers {
-            gcc: Gcc::new(alloc, false, None, None)?,
-            clang: Clang::new(alloc, false, None, None)?,
-            diab: Diab::new(alloc, false, None, None)?,
-            msvc: Msvc::new(alloc, false, None, None)?,
-            tasking_vx: TaskingVX::new(alloc, false, None, None)?,
+            gcc,
+            clang,
+            diab,
+            msvc,
+            tasking_vx,
         })
     }
 

@@ -6,6 +6,12 @@ mod expansion;
 #[cfg(test)]
 mod kept;
 #[cfg(test)]
+mod making;
+#[cfg(test)]
 mod notification;
+#[cfg(test)]
+mod parsing;
+#[cfg(test)]
+mod texts;
 #[cfg(test)]
 mod written;

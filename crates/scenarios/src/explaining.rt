@@ -58,13 +58,35 @@ impl Explainer {
         answer: &Result<Answer, Fault>,
         line: &mut String,
     ) -> Result<(), AllocError> {
-        let (Some(made), Ok(Answer::Outputs { map, how, .. })) = (made, answer) else {
+        let Some(made) = made else {
             return Ok(());
+        };
+        match self.remark(alloc, &made, answer, line)? {
+            Some(outputs) => self.keep(outputs, made),
+            None => Ok(()),
+        }
+    }
+
+    /// Puts what is to be said behind a line, and gives the outputs that were answered, if any were.
+    fn remark(
+        &self,
+        alloc: Global,
+        made: &Fingerprint,
+        answer: &Result<Answer, Fault>,
+        line: &mut String,
+    ) -> Result<Option<Wanted>, AllocError> {
+        let Ok(Answer::Outputs { map, how, .. }) = answer else {
+            return Ok(None);
         };
         let outputs = wanted(alloc, map.as_slice())?;
         if matches!(how, How::Fresh) {
-            push_reason(&made, self.earlier.get(&outputs), line)?;
+            push_reason(made, self.earlier.get(&outputs), line)?;
         }
+        Ok(Some(outputs))
+    }
+
+    /// Keeps the fingerprint of the latest request with these outputs.
+    fn keep(&mut self, outputs: Wanted, made: Fingerprint) -> Result<(), AllocError> {
         self.earlier.insert(outputs, made)?;
         Ok(())
     }

@@ -1,8 +1,10 @@
-//! Texts that tests write of lists, and compare.
+//! Texts that tests write of lists, and compare; and facts that they ask for.
+//!
+//! A test asks by these functions, which are proved once: each assertion by a macro is proved where it stands.
 
 use os_files::os_bytes::OsBytes;
-use std::alloc::AllocError;
-use std::fmt::Write;
+use std::alloc::{AllocError, Global};
+use std::fmt::{Display, Write};
 use std::test::Fail;
 
 /// A text that isn't the wanted one fails the test, and the failure names the line.
@@ -11,6 +13,20 @@ pub fn is_that(text: &str, want: &str, line: &str) -> Result<(), Fail> {
         return Ok(());
     }
     Err(Fail::new(format_args!("{line:?}: {text:?}, and not {want:?}")))
+}
+
+/// What isn't so fails the test, and the failure says what.
+pub fn holds(is_so: bool, what: &str) -> Result<(), Fail> {
+    if is_so {
+        return Ok(());
+    }
+    Err(Fail::new(format_args!("not so: {what}")))
+}
+
+/// A value that prints another text than the wanted one fails the test.
+pub fn prints<T: Display>(alloc: Global, value: &T, want: &str) -> Result<(), Fail> {
+    let text = format!(in alloc; "{value}")?;
+    is_that(text.as_str(), want, "printed")
 }
 
 /// Adds words, each behind a space, an empty one as two quotes.

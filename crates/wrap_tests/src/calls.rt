@@ -1,12 +1,10 @@
-//! Calls of sessions and of what keys are made of, without clauses: who calls these loads none of what those promise.
+//! Calls of sessions, without clauses: who calls these loads none of what those promise.
 
 use ckeys::{EntryKey, PreprocessorCacheEntry};
 use ckeys_base::hash_state::HashState;
 use ckeys_base::store::Store;
 use ckeys_records::config::KeyConfig;
 use ckeys_records::fault::Fault;
-use ckeys_records::params::HashKeyParams;
-use ckeys_records::shape::CShape;
 use os_files::files::Files;
 use std::alloc::{AllocError, Global};
 use wrap::session::Session;
@@ -53,12 +51,4 @@ pub(crate) fn all_served<
     calls: &mut [Call<F, T>],
 ) -> Result<Vec<Result<Answer, Fault>>, AllocError> {
     session.serve_all(calls)
-}
-
-/// The digest of these parts, and what it doesn't tell.
-pub(crate) fn computed<H: HashState>(
-    alloc: Global,
-    params: &HashKeyParams<'_>,
-) -> Result<(String, CShape), AllocError> {
-    params.compute::<H>(alloc)
 }

@@ -1,16 +1,10 @@
-//! `serve` with a device that fails, and with a compiler that makes nothing.
+//! `serve` with a device that fails.
 
-use crate::calls::served;
-use crate::idle_tool::IdleTool;
 use crate::scene::{Limits, NO_FAILURE, Scene};
-use crate::support::{MapSession, request, session, told};
-use ckeys_records::preprocessor::Preprocessor;
-use os_files::memory_files::MemoryFiles;
 use script_tool::statuses::{StatusOf, Statuses, error_status, print_status};
-use std::alloc::{AllocError, Global};
+use std::alloc::Global;
 use std::test::Fail;
 use test_kit::texts::is_that;
-use wrap_base::call::Call;
 
 /// A request that is served twice.
 struct Row {
@@ -197,47 +191,4 @@ fn each_step_is_refused(rt: HostRuntime) -> Result<(), Fail> {
         is_that(faults.as_str(), row.steps, row.line)?;
     }
     Ok(())
-}
-
-/// The request of `foo.c`, without files, to a compiler that makes nothing.
-fn idle_call(alloc: Global) -> Result<Call<MemoryFiles, IdleTool>, AllocError> {
-    Ok(Call {
-        request: request(alloc, "-c foo.c")?,
-        files: MemoryFiles::new(alloc),
-        tool: IdleTool::new(),
-    })
-}
-
-/// What the call is told, how often its compiler ran, and how much is held then.
-fn told_idle(
-    alloc: Global,
-    session: &mut MapSession,
-    call: &mut Call<MemoryFiles, IdleTool>,
-) -> Result<String, Fail> {
-    let answer = served(session, &call.request, &mut call.files, &mut call.tool);
-    let text = told(alloc, &answer)?;
-    let (compile, held) = (call.tool.ticks().compile, session.objects().len());
-    Ok(format!(in alloc; "{text}; compile {compile}, held {held}")?)
-}
-
-/// Likewise by a session of its own.
-fn told_alone(alloc: Global, call: &mut Call<MemoryFiles, IdleTool>) -> Result<String, Fail> {
-    let mut session = session(alloc, false)?;
-    told_idle(alloc, &mut session, call)
-}
-
-/// Likewise of that call.
-fn told_of_idle_call(alloc: Global) -> Result<String, Fail> {
-    let mut call = idle_call(alloc)?;
-    told_alone(alloc, &mut call)
-}
-
-#[test]
-fn an_output_that_is_not_made_is_named(rt: HostRuntime) -> Result<(), Fail> {
-    let text = told_of_idle_call(rt.alloc())?;
-    is_that(
-        text.as_str(),
-        "fault missing obj; compile 1, held 0",
-        "-c foo.c",
-    )
 }

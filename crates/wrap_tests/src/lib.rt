@@ -12,12 +12,10 @@ mod fail_tool;
 #[cfg(test)]
 mod forgetful;
 #[cfg(test)]
-mod idle_tool;
+mod marks;
 #[cfg(test)]
 mod scene;
 #[cfg(test)]
 mod sessions;
-#[cfg(test)]
-mod store_keys;
 #[cfg(test)]
 mod support;

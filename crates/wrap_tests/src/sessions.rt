@@ -127,19 +127,6 @@ fn calls_tell(
 }
 
 #[test]
-fn calls_in_order(rt: HostRuntime) -> Result<(), Fail> {
-    let expected =
-        "Fresh obj foo.o # 1 \"/w/foo.c\"\nint x;\n;Stored obj foo.o # 1 \"/w/foo.c\"\nint x;\n;pass not a compilation; 1 0 0";
-    calls_tell(
-        rt.alloc(),
-        false,
-        &["-c foo.c", "-c foo.c", "foo.c"],
-        expected,
-        (0, 1),
-    )
-}
-
-#[test]
 fn calls_over_records(rt: HostRuntime) -> Result<(), Fail> {
     let expected =
         "Fresh obj m.o # 1 \"/w/m.c\"\n# 1 \"/w/h.h\"\nA\n# 1 \"/w/m.c\"\n;Direct obj m.o # 1 \"/w/m.c\"\n# 1 \"/w/h.h\"\nA\n# 1 \"/w/m.c\"\n; 1 0";
