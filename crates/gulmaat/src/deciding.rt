@@ -147,7 +147,7 @@ fn find_out<P: Print + Files + AllocGlobal, I: Read>(
     rt: &P,
     line: &CommandLine,
     host: &mut Host<I>,
-    fault: Fault,
+    fault: &Fault,
     key: Option<&StoreKey>,
     known: &mut Known,
 ) -> Result<bool, Stop>
@@ -155,7 +155,7 @@ fn find_out<P: Print + Files + AllocGlobal, I: Read>(
     ensures { host.new.compiled ≤ 1 }
 {
     match fault {
-        Fault::Read(path) => known.load(rt, path),
+        Fault::Read(path) => known.load(rt, path.clone()?),
         Fault::Tool(Step::Compile) => {
             if look_up(rt, line, key, known)? {
                 return Ok(true);
@@ -191,6 +191,36 @@ fn answer_by(
     Ok((answer, messages))
 }
 
+/// Acts on what the session answered, and on what was printed beside the kept outputs that it had for it. None where more is known then.
+fn act_on<P: Print + Files + AllocGlobal, I: Read>(
+    rt: &P,
+    line: &CommandLine,
+    host: &mut Host<I>,
+    hint: &str,
+    answered: &SessionAnswer<Sha256>,
+    messages: Option<&KeptMessages>,
+    known: &mut Known,
+) -> Result<Option<End>, Stop>
+    requires { host.old.compiled ≤ 1 }
+    ensures { host.new.compiled ≤ 1 }
+{
+    let alloc = rt.alloc();
+    let key = answered.session.objects().asked();
+    match &answered.answer {
+        Ok(Answer::Outputs { map, how, .. }) => {
+            finish(rt, line, hint, key, *how, map.as_slice(), messages, known)?;
+            Ok(Some(End::Done(*how)))
+        }
+        Ok(Answer::Pass(reason)) => Ok(Some(End::Pass(format!(in alloc; "pass: {reason}")?))),
+        Err(fault) => {
+            if find_out(rt, line, host, fault, key, known)? {
+                return Ok(None);
+            }
+            Ok(Some(End::Pass(format!(in alloc; "fault: {fault}")?)))
+        }
+    }
+}
+
 /// One attempt. None where more is known after it.
 fn attempt<P: Print + Files + AllocGlobal, I: Read>(
     rt: &P,
@@ -203,32 +233,8 @@ fn attempt<P: Print + Files + AllocGlobal, I: Read>(
     requires { host.old.compiled ≤ 1 }
     ensures { host.new.compiled ≤ 1 }
 {
-    let alloc = rt.alloc();
-    let (session_answer, messages) = answer_by(alloc, request, known)?;
-    let SessionAnswer { answer, session } = session_answer;
-    let key = session.objects().asked();
-    match answer {
-        Ok(
-            Answer::Outputs {
-                map,
-                how,
-                dep_info: _,
-            },
-        ) => {
-            let outputs = map.as_slice();
-            finish(rt, line, hint, key, how, outputs, messages.as_ref(), known)?;
-            Ok(Some(End::Done(how)))
-        }
-        Ok(Answer::Pass(reason)) => {
-            let reason = format!(in alloc; "pass: {reason}")?;
-            Ok(Some(End::Pass(reason)))
-        }
-        Err(fault) => {
-            let reason = format!(in alloc; "fault: {fault}")?;
-            let more = find_out(rt, line, host, fault, key, known)?;
-            Ok(if more { None } else { Some(End::Pass(reason)) })
-        }
-    }
+    let (answered, messages) = answer_by(rt.alloc(), request, known)?;
+    act_on(rt, line, host, hint, &answered, messages.as_ref(), known)
 }
 
 /// Asks the session about the request until it answers, each time with more that is known.
