@@ -11,7 +11,7 @@ use os_files::memory_files::MemoryFiles;
 use script_tool::script::ScriptTool;
 use script_tool::statuses::{StatusOf, Statuses, error_status, print_status};
 use sha2::Sha256;
-use std::alloc::Global;
+use std::alloc::{AllocError, Global};
 use std::test::Fail;
 use test_kit::rows::insert;
 use test_kit::texts::is_that;
@@ -22,6 +22,24 @@ use wrap_base::store_key::{Pairs, StoreKey};
 /// What the header holds at each request.
 const HEADERS: [&str; 4] = ["A\n", "A\n", "BB\n", "A\n"];
 
+/// What the call is told.
+fn told_of<E: Store<EntryKey, PreprocessorCacheEntry> + Drop, O: Store<StoreKey, Pairs> + Drop>(
+    alloc: Global,
+    session: &mut Session<Sha256, E, O>,
+    call: &mut Call<MemoryFiles, ScriptTool>,
+) -> Result<String, AllocError> {
+    let answer = served(session, &call.request, &mut call.files, &mut call.tool);
+    told(alloc, &answer)
+}
+
+/// Asserts that a text tells of the outputs of a compile with this header, and where they came from.
+fn tells_of(alloc: Global, text: &str, header: &str, how: &str) -> Result<(), Fail> {
+    let due = format!(in alloc;
+        "{how} obj m.o # 1 \"/w/m.c\"\n# 1 \"/w/h.h\"\n{header}# 1 \"/w/m.c\"\n"
+    )?;
+    is_that(text, due.as_str(), header)
+}
+
 /// Serves the call, whose header holds this, and asserts that its outputs are those of a compile, and where they came from.
 fn tells<E: Store<EntryKey, PreprocessorCacheEntry> + Drop, O: Store<StoreKey, Pairs> + Drop>(
     alloc: Global,
@@ -31,12 +49,8 @@ fn tells<E: Store<EntryKey, PreprocessorCacheEntry> + Drop, O: Store<StoreKey, P
     how: &str,
 ) -> Result<(), Fail> {
     insert(alloc, &mut call.files, "/w/h.h", header.as_bytes())?;
-    let answer = served(session, &call.request, &mut call.files, &mut call.tool);
-    let text = told(alloc, &answer)?;
-    let due = format!(in alloc;
-        "{how} obj m.o # 1 \"/w/m.c\"\n# 1 \"/w/h.h\"\n{header}# 1 \"/w/m.c\"\n"
-    )?;
-    is_that(text.as_str(), due.as_str(), header)
+    let text = told_of(alloc, session, call)?;
+    tells_of(alloc, text.as_str(), header, how)
 }
 
 /// Serves the call once with each header, and asserts how often each step ran.

@@ -1,13 +1,13 @@
-use Rattle.std.proofs.Common.{◌≡◌, ◌∙◌, None, Option, ap, is_some, pos, string_bytes, subst, sym}
+use Rattle.std.proofs.Common.{◌≡◌, ◌∙◌, None, ap, is_some, pos, string_bytes, subst}
 use Rattle.ckeys_records.specs.Meaning.{scene_with}
 use Rattle.rustc_texts.specs.Outputs.{output_names}
 use Rattle.rustc_requests.specs.Asks.{asks_in}
-use Rattle.ckeys_records.specs.declared.fault.Fault.{Fault}
-use Rattle.rustkeys.specs.Calls.{dep_info_fault_of, rule_fault_of}
+use Rattle.rustkeys.specs.Calls.{rule_fault_of}
 use Rattle.rustkeys.specs.Finished.{known_in}
 use Rattle.rustkeys.specs.Fresh.{dep_info_by, dep_info_text_of}
 use Rattle.rustkeys.specs.Hashers.{call_of}
-use Rattle.rustkeys.specs.Questions.{Question, answers_of, dep_info_of, question_of}
+use Rattle.rustkeys.specs.Questions.{answers_of, question_of}
+use Rattle.rustkeys.proofs.RunLemmas.{early_of}
 use Rattle.rustkeys.proofs.RuleLemmas.{asked_where_emitted, rule_fine, told_where_asked}
 use Rattle.rustkeys.proofs.hasher.RustHasher.generate_hash_key.Goals as goal
 
@@ -46,23 +46,15 @@ pub returns-clause-emitted : goal.returns-clause-emitted
 returns-clause-emitted g c = λ comes. told_as_asked g c ∙ asked_where_emitted c.words_in_order_are_a_set.ensures.same _ comes
 
 pub returns-in_err-finish-clause-early : goal.returns-in_err-finish-clause-early
-returns-in_err-finish-clause-early g c = λ moment at_fault.
+returns-in_err-finish-clause-early g c = λ moment.
     let tree = g.F.Files.tree c.args.files.now in
     let place = c.place-place.ensures in
-    let asked : Question → Option Fault = λ q. dep_info_fault_of q (dep_info_of (g.A.Preprocessor.meaning c.args.answers.now) q) in
-    let same : asked (question_of c.place-place.result tree moment) ≡ asked (call_of c.args.self.now c.args.dir.now c.args.env.now tree moment).question = λ i. asked (record {
-      asks = asks_in (place.parsed i);
-      scene = scene_with (place.executable i) (place.dir i) (place.env i) tree moment;
-    }) in
-    c.collect.ensures.early moment (λ none. at_fault (sym same ∙ none))
+    let same : question_of c.place-place.result tree moment ≡ (call_of c.args.self.now c.args.dir.now c.args.env.now tree moment).question = λ i. record { asks = asks_in (place.parsed i); scene = scene_with (place.executable i) (place.dir i) (place.env i) tree moment } in
+    early_of (g.A.Preprocessor.meaning c.args.answers.now) _ _ same _ _ (c.collect.ensures.early moment)
 
 pub returns-clause-early : goal.returns-clause-early
-returns-clause-early g c = λ moment at_fault.
+returns-clause-early g c = λ moment.
     let tree = g.F.Files.tree c.args.files.now in
     let place = c.place-place.ensures in
-    let asked : Question → Option Fault = λ q. dep_info_fault_of q (dep_info_of (g.A.Preprocessor.meaning c.args.answers.now) q) in
-    let same : asked (question_of c.place-place.result tree moment) ≡ asked (call_of c.args.self.now c.args.dir.now c.args.env.now tree moment).question = λ i. asked (record {
-      asks = asks_in (place.parsed i);
-      scene = scene_with (place.executable i) (place.dir i) (place.env i) tree moment;
-    }) in
-    c.collect.ensures.early moment (λ none. at_fault (sym same ∙ none))
+    let same : question_of c.place-place.result tree moment ≡ (call_of c.args.self.now c.args.dir.now c.args.env.now tree moment).question = λ i. record { asks = asks_in (place.parsed i); scene = scene_with (place.executable i) (place.dir i) (place.env i) tree moment } in
+    early_of (g.A.Preprocessor.meaning c.args.answers.now) _ _ same _ _ (c.collect.ensures.early moment)
