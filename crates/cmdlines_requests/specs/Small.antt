@@ -1,8 +1,8 @@
 -- What a request's options are asked for beside a compile: its object, the name that a person reads, and its architectures; and a command.
 use Rattle.std.specs.Prelude.{Bool, not, List, [], ◌∷◌, Option, codes, filter, find}
 use Rattle.std.specs.Option.{option_map, option_map_or, option_and_then}
-use Rattle.std.specs.Str.{bytes_eq, encode_utf8_all}
-use Rattle.bstr.specs.Utf8.{lossy_chars}
+use Rattle.std.specs.Str.{bytes_eq}
+use Rattle.std.specs.Str.Lossy.{utf8_lossy}
 use Rattle.os_files.specs.Bytes.{Bytes}
 use Rattle.os_files.specs.Path.{file_name}
 use Rattle.cmdlines_base.specs.declared.command.ArtifactDescriptor.{ArtifactDescriptor}
@@ -23,7 +23,7 @@ object_file_name outputs = option_and_then (λ o. file_name o.path) (output_name
 
 -- that name as text, where U+FFFD stands for what is no UTF-8
 abbrev pub pretty_name : Artifacts → Bytes
-pretty_name outputs = option_map_or (λ name. encode_utf8_all (lossy_chars name)) (object_file_name outputs) (codes "Unknown filename")
+pretty_name outputs = option_map_or utf8_lossy (object_file_name outputs) (codes "Unknown filename")
 
 -- another word than that one
 abbrev pub differs_from : Bytes → Bytes → Bool

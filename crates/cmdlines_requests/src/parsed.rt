@@ -5,7 +5,6 @@ ghost use Rattle.std.specs.List.{list_any};
 ghost use Rattle.std.specs.Option.{option_copied};
 ghost use Rattle.cmdlines_requests.specs.Small.{object_name, output_named, object_file_name, pretty_name, archs_of, arch_flag, differs_from};
 
-use bstr::ByteSlice;
 use cmdlines_base::color_mode::ColorMode;
 use cmdlines_base::command::ArtifactDescriptor;
 use cmdlines_tables::language::Language;
@@ -87,7 +86,7 @@ impl ParsedArguments {
     {
         match self.object_file_name() {
             None => String::from_str(alloc, "Unknown filename"),
-            Some(name) => name.to_str_lossy(alloc)?.into_owned(alloc),
+            Some(name) => String::from_utf8_lossy(alloc, name),
         }
     }
 

@@ -1,6 +1,5 @@
 //! A difference of two fingerprints, told to people.
 
-use bstr::{BStr, ByteSlice};
 use ckeys_records::output_name::OutputName;
 use fingerprints::c_parts::CParts;
 use fingerprints::explain::explain;
@@ -29,6 +28,22 @@ impl<T: fmt::Display> fmt::Display for OrNone<T> {
             Some(shown) => write!(f, "{shown}"),
             None => write!(f, "none"),
         }
+    }
+}
+
+/// A line of a text. Bytes that are no UTF-8 are shown as U+FFFD.
+#[derive(Drop)]
+struct Line<'a>(&'a [u8]);
+
+impl<'a> fmt::Display for Line<'a> {
+    fn fmt<W: fmt::Write>(&self, f: &mut fmt::Formatter<W>) -> fmt::Result {
+        for chunk in self.0.utf8_chunks() {
+            f.write_str(chunk.valid())?;
+            if !chunk.invalid().is_empty() {
+                f.write_str("\u{FFFD}")?;
+            }
+        }
+        Ok(())
     }
 }
 
@@ -78,8 +93,8 @@ fn write_line<W: fmt::Write>(
     one: &OsBytes,
     earlier: &OsBytes,
 ) -> fmt::Result {
-    let lines = one.as_bytes().split_str(b"\n");
-    let pairs = lines.zip(earlier.as_bytes().split_str(b"\n"));
+    let lines = one.as_bytes().split(|byte| *byte == b'\n');
+    let pairs = lines.zip(earlier.as_bytes().split(|byte| *byte == b'\n'));
     let ahead = pairs.take_while(|pair| pair.0 == pair.1).count();
     let number = ahead.saturating_add(1);
     let here = OrNone(line_at(one, ahead));
@@ -88,9 +103,9 @@ fn write_line<W: fmt::Write>(
 }
 
 /// The line behind so many others, where there is one.
-fn line_at(text: &OsBytes, ahead: usize) -> Option<BStr<'_>> {
-    let line = text.as_bytes().split_str(b"\n").skip(ahead).next()?;
-    Some(line.as_bstr())
+fn line_at(text: &OsBytes, ahead: usize) -> Option<Line<'_>> {
+    let mut lines = text.as_bytes().split(|byte| *byte == b'\n');
+    Some(Line(lines.nth(ahead)?))
 }
 
 /// Names a kind of things, the number of the first one that differs, and what it is in each.
