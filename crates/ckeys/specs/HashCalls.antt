@@ -1,5 +1,5 @@
 -- Calls of which keys are made one after another, over one store of include records.
-use Rattle.std.specs.Prelude.{◌≡◌, ℕ, Bool, true, false, List, [], ◌∷◌, ◌++◌, map, filter, String, string_bytes, Result, IfOk, IfErr, OnOk, OnErr, IsErrOf}
+use Rattle.std.specs.Prelude.{◌≡◌, ℕ, Bool, true, false, List, [], ◌∷◌, ◌++◌, map, filter, String, string_bytes, Result, IfOk, IfErr, OnOk, OnErr}
 use Rattle.std.specs.List.{AllByRecursion, zip}
 use Rattle.std.specs.declared.alloc.Global.{Global}
 use Rattle.os_files.specs.Bytes.{Bytes}
@@ -11,6 +11,7 @@ use Rattle.ckeys_base.specs.Shelf.{Shelf}
 use Rattle.include_records.specs.Records.{Record}
 use Rattle.entry_keys.specs.declared.entry_key.EntryKey.{EntryKey}
 use Rattle.ckeys.specs.Calls.{PrintedCall, key_fault_by, needs_preprocessing, printed_call, record_by}
+use Rattle.ckeys_records.specs.Causes.{HasOwnFault}
 use Rattle.ckeys_records.specs.Faults.{KeyCause}
 use Rattle.ckeys.specs.Entries.{asking, has_entry_key}
 use Rattle.ckeys.specs.EntryTurns.{EntryTurn, KeyFine, KeyFrom, KeyRecorded, KeyRuns, PutsNone, RunsUntilKey}
@@ -21,7 +22,6 @@ use Rattle.ckeys_records.specs.Meaning.{AreSteady, FailsIn, Meaning}
 use Rattle.ckeys_records.specs.Params.{is_cached}
 use Rattle.ckeys_records.specs.Records.{FitsLength}
 use Rattle.ckeys_records.specs.declared.fault.Fault.{Fault}
-use Rattle.ckeys_records.specs.declared.fault.Fault.TheVariants.{Memory}
 use Rattle.ckeys.specs.declared.hash_keys.HashCall.{HashCall}
 use Rattle.ckeys_records.specs.declared.shape.CShape.{CShape}
 use Rattle.ckeys_records.specs.declared.step.Step.{Step}
@@ -77,7 +77,7 @@ pub record IsKeyed {I F T : Type 0} (digest_of : Bytes → Bytes) (view : CallVi
   pub plain : has_entry_key (printed_at view settings begin).call ≡ false → IfOk answer (λ made. made.2 ≡ false)
   pub fit : OnOk answer (AllByRecursion FitsLength (filter is_cached begin.env.now))
   pub steady : OnOk answer (AreSteady view.failed view.files_failed begin.tool begin.files end.tool end.files)
-  pub memory : IsErrOf answer Memory → AreSteady view.failed view.files_failed begin.tool begin.files end.tool end.files
+  pub own : HasOwnFault answer → AreSteady view.failed view.files_failed begin.tool begin.files end.tool end.files
   pub compiles : view.compiled end.tool ≡ view.compiled begin.tool
   pub hasher : end.hasher ≡ begin.hasher
   pub dir : end.dir ≡ begin.dir

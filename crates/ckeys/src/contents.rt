@@ -1,10 +1,11 @@
 //! What a key of a C request is made of, beside what the request says itself: the files whose contents count, and the text.
 
-ghost use Rattle.std.specs.Prelude.{◌≡◌, false, true, None, filter, map, string_bytes, IfOk, IfErr, OnOk, IsErrOf};
+ghost use Rattle.std.specs.Prelude.{◌≡◌, false, true, None, filter, map, string_bytes, IfOk, IfErr, OnOk};
 ghost use Rattle.std.specs.List.{AllByRecursion};
 ghost use Rattle.os_files.specs.Bytes.{ticked};
 ghost use Rattle.os_files.specs.Fails.{FailsOn};
 ghost use Rattle.ckeys.specs.Calls.{key_fault_of, needs_preprocessing, record_of};
+ghost use Rattle.ckeys_records.specs.Causes.{HasOwnFault};
 ghost use Rattle.ckeys_records.specs.Faults.{KeyCause};
 ghost use Rattle.ckeys.specs.EntryTurns.{RunsUntilKey};
 ghost use Rattle.ckeys.specs.Hashers.{AreExtra, call_by};
@@ -77,7 +78,7 @@ impl<'a, I: CCompilerImpl + Drop> CCompilerHasher<'a, I> {
         ensures meaning { T.meaning tool.new ≡ T.meaning tool.old }
         ensures steady { OnOk result
             (AreSteady T.failed F.failed tool.old files.old tool.new files.new) }
-        ensures memory { IsErrOf result Fault.Memory →
+        ensures own { HasOwnFault result →
             AreSteady T.failed F.failed tool.old files.old tool.new files.new }
         ensures idle { needs_preprocessing self.now.parsed.now.language ≡ false
             → (T.preprocessed tool.new ≡ T.preprocessed tool.old)

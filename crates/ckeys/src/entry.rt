@@ -1,12 +1,13 @@
 //! The entry key of a call, and what is recorded of its text.
 
-ghost use Rattle.std.specs.Prelude.{◌≡◌, ◌∷◌, [], Some, None, IfOk, IfErr, IfSome, OnOk, map, string_bytes, IsErrOf};
+ghost use Rattle.std.specs.Prelude.{◌≡◌, ◌∷◌, [], Some, None, IfOk, IfErr, IfSome, OnOk, map, string_bytes};
 ghost use Rattle.os_files.specs.Fails.{FailsOn};
 ghost use Rattle.os_files.specs.Path.{join};
 ghost use Rattle.os_files.specs.Tree.{Tree, contents_at};
 ghost use Rattle.entry_keys.specs.Identity.{identity_of};
 ghost use Rattle.include_records.specs.Surroundings as surroundings;
 ghost use Rattle.ckeys.specs.Calls.{asks_records, missing_input};
+ghost use Rattle.ckeys_records.specs.Causes.{HasOwnFault};
 ghost use Rattle.ckeys_records.specs.Faults.{FileCause, first_missing};
 ghost use Rattle.ckeys.specs.Entries.{IsFramed, entry_key_of, identity_by};
 ghost use Rattle.ckeys.specs.Hashers.{AreExtra, call_by, looked_at};
@@ -68,7 +69,7 @@ fn input_of<F: Files>(
         IfErr result (FileCause missing (FailsOn F.tree F.failed F.fails_on files.old files.new)) }
     ensures tree { F.tree files.new ≡ F.tree files.old }
     ensures steady { OnOk result (F.failed files.new ≡ F.failed files.old) }
-    ensures memory { IsErrOf result Fault.Memory → F.failed files.new ≡ F.failed files.old }
+    ensures own { HasOwnFault result → F.failed files.new ≡ F.failed files.old }
 {
     let path = join(alloc, dir.as_bytes(), name.as_bytes())?;
     let contents = match files.read(alloc, &path) {
@@ -137,7 +138,7 @@ impl<'a, I: CCompilerImpl + Drop> CCompilerHasher<'a, I> {
             IfErr result (FileCause (missing_input call) fails_on) }
         ensures tree { F.tree files.new ≡ F.tree files.old }
         ensures steady { OnOk result (F.failed files.new ≡ F.failed files.old) }
-        ensures memory { IsErrOf result Fault.Memory → F.failed files.new ≡ F.failed files.old }
+        ensures own { HasOwnFault result → F.failed files.new ≡ F.failed files.old }
     {
         if !self.asks_records(place) {
             return Ok(None);
@@ -163,7 +164,7 @@ pub(crate) fn includes_for<H: HashState, F: Files>(
         IfErr result (FileCause None fails_on) }
     ensures tree { F.tree files.new ≡ F.tree files.old }
     ensures steady { OnOk result (F.failed files.new ≡ F.failed files.old) }
-    ensures memory { IsErrOf result Fault.Memory → F.failed files.new ≡ F.failed files.old }
+    ensures own { HasOwnFault result → F.failed files.new ≡ F.failed files.old }
 {
     let dir = place.dir;
     match walk(

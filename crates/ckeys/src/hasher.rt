@@ -1,9 +1,10 @@
 //! The key of a call: of a request that asks for something, on the files that are there when it is asked.
 
-ghost use Rattle.std.specs.Prelude.{◌≡◌, false, true, List, ◌++◌, None, Some, filter, map, string_bytes, IfOk, IfErr, OnOk, OnErr, IsErrOf};
+ghost use Rattle.std.specs.Prelude.{◌≡◌, false, true, List, ◌++◌, None, Some, filter, map, string_bytes, IfOk, IfErr, OnOk, OnErr};
 ghost use Rattle.std.specs.List.{AllByRecursion};
 ghost use Rattle.os_files.specs.Bytes.{Bytes, ticked};
 ghost use Rattle.os_files.specs.Fails.{FailsOn};
+ghost use Rattle.ckeys_records.specs.Causes.{HasOwnFault};
 ghost use Rattle.ckeys_records.specs.Meaning.{AreSteady, FailsIn};
 ghost use Rattle.ckeys_base.specs.Shelf.{Asks};
 ghost use Rattle.os_files.specs.Path.{join};
@@ -97,7 +98,7 @@ impl<'a, I: CCompilerImpl + Drop> CCompilerHasher<'a, I> {
         ensures meaning { T.meaning tool.new ≡ T.meaning tool.old }
         ensures steady { OnOk result
             (AreSteady T.failed F.failed tool.old files.old tool.new files.new) }
-        ensures memory { IsErrOf result Fault.Memory →
+        ensures own { HasOwnFault result →
             AreSteady T.failed F.failed tool.old files.old tool.new files.new }
         ensures idle { needs_preprocessing self.now.parsed.now.language ≡ false
             → (T.preprocessed tool.new ≡ T.preprocessed tool.old)
@@ -207,7 +208,7 @@ impl<'a, I: CCompilerImpl + Drop> CCompilerHasher<'a, I> {
         ensures meaning { T.meaning tool.new ≡ T.meaning tool.old }
         ensures steady { OnOk result
             (AreSteady T.failed F.failed tool.old files.old tool.new files.new) }
-        ensures memory { IsErrOf result Fault.Memory →
+        ensures own { HasOwnFault result →
             AreSteady T.failed F.failed tool.old files.old tool.new files.new }
         ensures idle { needs_preprocessing self.now.parsed.now.language ≡ false
             → (T.preprocessed tool.new ≡ T.preprocessed tool.old)
@@ -299,7 +300,7 @@ impl<'a, I: CCompilerImpl + Drop> CCompilerHasher<'a, I> {
         ensures meaning { T.meaning tool.new ≡ T.meaning tool.old }
         ensures steady { OnOk result
             (AreSteady T.failed F.failed tool.old files.old tool.new files.new) }
-        ensures memory { IsErrOf result Fault.Memory →
+        ensures own { HasOwnFault result →
             AreSteady T.failed F.failed tool.old files.old tool.new files.new }
         ensures compiles { T.compiled tool.new ≡ T.compiled tool.old }
     {
@@ -394,7 +395,7 @@ impl<'a, I: CCompilerImpl + Drop> CCompilerHasher<'a, I> {
         ensures meaning { T.meaning tool.new ≡ T.meaning tool.old }
         ensures steady { OnOk result
             (AreSteady T.failed F.failed tool.old files.old tool.new files.new) }
-        ensures memory { IsErrOf result Fault.Memory →
+        ensures own { HasOwnFault result →
             AreSteady T.failed F.failed tool.old files.old tool.new files.new }
         ensures idle { needs_preprocessing self.now.parsed.now.language ≡ false
             → (T.preprocessed tool.new ≡ T.preprocessed tool.old)
@@ -452,7 +453,7 @@ impl<'a, I: CCompilerImpl + Drop> CCompilerHasher<'a, I> {
         ensures meaning { T.meaning tool.new ≡ T.meaning tool.old }
         ensures steady { OnOk result
             (AreSteady T.failed F.failed tool.old files.old tool.new files.new) }
-        ensures memory { IsErrOf result Fault.Memory →
+        ensures own { HasOwnFault result →
             AreSteady T.failed F.failed tool.old files.old tool.new files.new }
         ensures idle { needs_preprocessing self.now.parsed.now.language ≡ false
             → (T.preprocessed tool.new ≡ T.preprocessed tool.old)
@@ -494,7 +495,7 @@ fn look_up<H: HashState, E: Store<EntryKey, PreprocessorCacheEntry>, F: Files>(
         (FileCause None (FailsOn F.tree F.failed F.fails_on files.old files.new)) }
     ensures tree { F.tree files.new ≡ F.tree files.old }
     ensures steady { OnOk result (F.failed files.new ≡ F.failed files.old) }
-    ensures memory { IsErrOf result Fault.Memory → F.failed files.new ≡ F.failed files.old }
+    ensures own { HasOwnFault result → F.failed files.new ≡ F.failed files.old }
 {
     match entries.get(key) {
         Some(record) => {
@@ -530,7 +531,7 @@ fn keep<H: HashState, E: Store<EntryKey, PreprocessorCacheEntry>, F: Files>(
         (FileCause None (FailsOn F.tree F.failed F.fails_on files.old files.new)) }
     ensures tree { F.tree files.new ≡ F.tree files.old }
     ensures steady { OnOk result (F.failed files.new ≡ F.failed files.old) }
-    ensures memory { IsErrOf result Fault.Memory → F.failed files.new ≡ F.failed files.old }
+    ensures own { HasOwnFault result → F.failed files.new ≡ F.failed files.old }
 {
     if let Some(includes) = includes_for::<H, F>(alloc, &made.text, input, place, files)? {
         let text_key = KeyText::new(String::from_str(alloc, made.key.as_str())?);

@@ -1,10 +1,11 @@
 //! Files that a key needs: they are there, or there is no key.
 
-ghost use Rattle.std.specs.Prelude.{◌≡◌, None, [], ◌∷◌, map, string_bytes, IfOk, IfErr, OnOk, IsErrOf};
+ghost use Rattle.std.specs.Prelude.{◌≡◌, None, [], ◌∷◌, map, string_bytes, IfOk, IfErr, OnOk};
 ghost use Rattle.os_files.specs.Fails.{FailsOn};
 ghost use Rattle.os_files.specs.Path.{join};
 ghost use Rattle.ckeys_base.specs.Hex.{hex_of};
 ghost use Rattle.include_records.specs.Surroundings.{contents_in};
+ghost use Rattle.ckeys_records.specs.Causes.{HasOwnFault};
 ghost use Rattle.ckeys_records.specs.Faults.{FileCause, first_missing};
 
 use ckeys_base::digest::Digest;
@@ -33,7 +34,7 @@ fn needed_digest<H: HashState, F: Files>(
         (FailsOn F.tree F.failed F.fails_on files.old files.new)) }
     ensures tree { F.tree files.new ≡ F.tree files.old }
     ensures steady { OnOk result (F.failed files.new ≡ F.failed files.old) }
-    ensures memory { IsErrOf result Fault.Memory → F.failed files.new ≡ F.failed files.old }
+    ensures own { HasOwnFault result → F.failed files.new ≡ F.failed files.old }
 {
     let path = join(alloc, dir.as_bytes(), name.as_bytes())?;
     match Digest::<H>::file(alloc, &path, files) {
@@ -58,7 +59,7 @@ pub(crate) fn needed_contents<F: Files>(
         IfErr result (FileCause missing (FailsOn F.tree F.failed F.fails_on files.old files.new)) }
     ensures tree { F.tree files.new ≡ F.tree files.old }
     ensures steady { OnOk result (F.failed files.new ≡ F.failed files.old) }
-    ensures memory { IsErrOf result Fault.Memory → F.failed files.new ≡ F.failed files.old }
+    ensures own { HasOwnFault result → F.failed files.new ≡ F.failed files.old }
 {
     let path = join(alloc, dir.as_bytes(), name.as_bytes())?;
     match files.read(alloc, &path) {
@@ -86,7 +87,7 @@ pub(crate) fn extra_hashes<H: HashState, F: Files>(
         (FailsOn F.tree F.failed F.fails_on files.old files.new)) }
     ensures tree { F.tree files.new ≡ F.tree files.old }
     ensures steady { OnOk result (F.failed files.new ≡ F.failed files.old) }
-    ensures memory { IsErrOf result Fault.Memory → F.failed files.new ≡ F.failed files.old }
+    ensures own { HasOwnFault result → F.failed files.new ≡ F.failed files.old }
 {
     let mut digests = Listed::new(alloc);
     let mut rest = names;

@@ -1,5 +1,5 @@
 -- Where in a call each fault comes, and what causes it.
-use Rattle.std.specs.Prelude.{◌≡◌, ◌⊎◌, Option, None, Some}
+use Rattle.std.specs.Prelude.{◌≡◌, ◌⊎◌, Option, None, Some, Result, Ok, Err}
 use Rattle.os_files.specs.Bytes.{Bytes}
 use Rattle.ckeys_records.specs.declared.fault.Fault.{Fault}
 use Rattle.ckeys_records.specs.declared.fault.Fault.TheVariants.{Memory, Read, Tool, PreprocessFailed, CompileFailed, MissingOutput, NoRule, AnswerNotUtf8, BadDigest}
@@ -62,3 +62,10 @@ no_file name = ⊥
 
 abbrev pub no_step : Step → Type 0
 no_step step = ⊥
+
+-- there is a fault, and by it no device's failure is told
+abbrev pub HasOwnFault : {A : Type 0} → Result A Fault → Type 0
+HasOwnFault (Ok answer) = ⊥
+HasOwnFault (Err (Read name)) = ⊥
+HasOwnFault (Err (Tool step)) = ⊥
+HasOwnFault (Err fault) = Unit {0}

@@ -1,10 +1,11 @@
 //! The fingerprint of a request: of what its key is made, with no store asked and nothing compiled.
 
-ghost use Rattle.std.specs.Prelude.{◌≡◌, false, true, IfOk, IfErr, OnOk, IsErrOf};
+ghost use Rattle.std.specs.Prelude.{◌≡◌, false, true, IfOk, IfErr, OnOk};
 ghost use Rattle.os_files.specs.Bytes.{ticked};
 ghost use Rattle.os_files.specs.Fails.{FailsOn};
 ghost use Rattle.ckeys.specs.Calls.{needs_preprocessing};
 ghost use Rattle.ckeys.specs.EntryTurns.{RunsUntilKey};
+ghost use Rattle.ckeys_records.specs.Causes.{HasOwnFault};
 ghost use Rattle.ckeys_records.specs.Faults.{KeyCause};
 ghost use Rattle.ckeys_records.specs.Meaning.{AreSteady, FailsIn};
 ghost use Rattle.ckeys_records.specs.Records.{hold_end};
@@ -74,7 +75,7 @@ fn c_fingerprint<H: HashState, F: Files, T: Tool>(
     ensures meaning { T.meaning tool.new ≡ T.meaning tool.old }
     ensures steady { OnOk result
         (AreSteady T.failed F.failed tool.old files.old tool.new files.new) }
-    ensures memory { IsErrOf result Fault.Memory →
+    ensures own { HasOwnFault result →
         AreSteady T.failed F.failed tool.old files.old tool.new files.new }
     ensures runs { needs_preprocessing parsed.now.language ≡ true
         → OnOk result (T.preprocessed tool.new ≡ ticked (T.preprocessed tool.old)) }
@@ -134,7 +135,7 @@ fn rust_fingerprint<H: HashState, F: Files, T: Tool>(
     ensures meaning { T.meaning tool.new ≡ T.meaning tool.old }
     ensures steady { OnOk result
         (AreSteady T.failed F.failed tool.old files.old tool.new files.new) }
-    ensures memory { IsErrOf result Fault.Memory →
+    ensures own { HasOwnFault result →
         AreSteady T.failed F.failed tool.old files.old tool.new files.new }
     ensures runs { OnOk result
         (T.preprocessed tool.new ≡ ticked (ticked (T.preprocessed tool.old))) }
@@ -181,7 +182,7 @@ fn of_c<H: HashState, F: Files, T: Tool>(
     ensures meaning { T.meaning tool.new ≡ T.meaning tool.old }
     ensures steady { OnOk result
         (AreSteady T.failed F.failed tool.old files.old tool.new files.new) }
-    ensures memory { IsErrOf result Fault.Memory →
+    ensures own { HasOwnFault result →
         AreSteady T.failed F.failed tool.old files.old tool.new files.new }
 {
     match judge(alloc, compiler, request, files)? {
@@ -219,7 +220,7 @@ fn of_rustc<H: HashState, F: Files, T: Tool>(
     ensures meaning { T.meaning tool.new ≡ T.meaning tool.old }
     ensures steady { OnOk result
         (AreSteady T.failed F.failed tool.old files.old tool.new files.new) }
-    ensures memory { IsErrOf result Fault.Memory →
+    ensures own { HasOwnFault result →
         AreSteady T.failed F.failed tool.old files.old tool.new files.new }
 {
     match judge_rust(alloc, rust, request, files)? {
@@ -259,10 +260,10 @@ pub fn request_fingerprint<H: HashState, F: Files, T: Tool>(
     ensures compiles { T.compiled tool.new ≡ T.compiled tool.old }
     ensures tree { F.tree files.new ≡ F.tree files.old }
     ensures meaning { T.meaning tool.new ≡ T.meaning tool.old }
-    // No device failed where there is an answer, nor where memory was refused.
+    // No device failed where there is an answer, nor where a fault tells of none.
     ensures steady { OnOk result
         (AreSteady T.failed F.failed tool.old files.old tool.new files.new) }
-    ensures memory { IsErrOf result Fault.Memory →
+    ensures own { HasOwnFault result →
         AreSteady T.failed F.failed tool.old files.old tool.new files.new }
 {
     match request.compiler.named() {

@@ -1,9 +1,9 @@
 //! The digests of static libraries, as the tool hands them in.
 
-ghost use Rattle.std.specs.Prelude.{◌≡◌, true, [], ◌∷◌, None, map, IfOk, IfErr, OnOk, IsErrOf};
+ghost use Rattle.std.specs.Prelude.{◌≡◌, true, [], ◌∷◌, None, map, IfOk, IfErr, OnOk};
 ghost use Rattle.std.specs.List.{AllByRecursion, list_all};
 ghost use Rattle.ckeys_records.specs.Faults.{KeyCause};
-ghost use Rattle.ckeys_records.specs.Causes.{no_file};
+ghost use Rattle.ckeys_records.specs.Causes.{HasOwnFault, no_file};
 ghost use Rattle.ckeys_records.specs.Meaning.{AreSteady, FailsIn, Scene};
 ghost use Rattle.rustc_parts.specs.Formed.{IsDigest, digest_digits, is_digest, is_digit};
 ghost use Rattle.rustkeys.specs.Calls.{digest_fault_of};
@@ -57,7 +57,7 @@ fn archive_digest<F: Files, A: RustcAnswers>(
     ensures meaning { A.meaning answers.new ≡ A.meaning answers.old }
     ensures steady { OnOk result
         (AreSteady A.failed F.failed answers.old files.old answers.new files.new) }
-    ensures memory { IsErrOf result Fault.Memory →
+    ensures own { HasOwnFault result →
         AreSteady A.failed F.failed answers.old files.old answers.new files.new }
     ensures runs { A.preprocessed answers.new ≡ A.preprocessed answers.old }
     ensures compiles { A.compiled answers.new ≡ A.compiled answers.old }
@@ -94,7 +94,7 @@ pub(crate) fn archive_digests<F: Files, A: RustcAnswers>(
     ensures meaning { A.meaning answers.new ≡ A.meaning answers.old }
     ensures steady { OnOk result
         (AreSteady A.failed F.failed answers.old files.old answers.new files.new) }
-    ensures memory { IsErrOf result Fault.Memory →
+    ensures own { HasOwnFault result →
         AreSteady A.failed F.failed answers.old files.old answers.new files.new }
     ensures runs { A.preprocessed answers.new ≡ A.preprocessed answers.old }
     ensures compiles { A.compiled answers.new ≡ A.compiled answers.old }

@@ -1,12 +1,12 @@
 //! All that rustc and the files tell before a request has its key, in the order in which they are asked.
 
-ghost use Rattle.std.specs.Prelude.{◌≡◌, ℤ, None, map, string_bytes, IfOk, IfErr, OnOk, IsErrOf};
+ghost use Rattle.std.specs.Prelude.{◌≡◌, ℤ, None, map, string_bytes, IfOk, IfErr, OnOk};
 ghost use Rattle.std.specs.List.{AllByRecursion};
 ghost use Rattle.os_files.specs.Bytes.{ticked};
 ghost use Rattle.os_files.specs.Fails.{FailsOn};
 ghost use Rattle.ckeys_records.specs.Faults.{KeyCause};
 ghost use Rattle.ckeys_records.specs.Meaning.{text_in};
-ghost use Rattle.ckeys_records.specs.Causes.{no_step};
+ghost use Rattle.ckeys_records.specs.Causes.{HasOwnFault, no_step};
 ghost use Rattle.ckeys_records.specs.Meaning.{AtMostOnce};
 ghost use Rattle.ckeys_records.specs.Meaning.{AreSteady, FailsIn};
 ghost use Rattle.rustc_parts.specs.Formed.{IsDigest, digest_digits};
@@ -68,7 +68,7 @@ impl<'a> RustPlace<'a> {
             no_step) }
         ensures tree { F.tree files.new ≡ F.tree files.old }
         ensures steady { OnOk result (F.failed files.new ≡ F.failed files.old) }
-        ensures memory { IsErrOf result Fault.Memory → F.failed files.new ≡ F.failed files.old }
+        ensures own { HasOwnFault result → F.failed files.new ≡ F.failed files.old }
     {
         let paths = sources_in(alloc, self.dir, text)?;
         needed_digests::<H, F>(alloc, paths.as_slice(), files)
@@ -99,7 +99,7 @@ impl<'a> RustPlace<'a> {
         ensures meaning { A.meaning answers.new ≡ A.meaning answers.old }
         ensures steady { OnOk result
             (AreSteady A.failed F.failed answers.old files.old answers.new files.new) }
-        ensures memory { IsErrOf result Fault.Memory →
+        ensures own { HasOwnFault result →
             AreSteady A.failed F.failed answers.old files.old answers.new files.new }
         ensures runs { OnOk result (A.preprocessed answers.new ≡ ticked (A.preprocessed answers.old)) }
         ensures once { AtMostOnce (A.preprocessed answers.old) (A.preprocessed answers.new) }
@@ -134,7 +134,7 @@ impl<'a> RustPlace<'a> {
         ensures meaning { A.meaning answers.new ≡ A.meaning answers.old }
         ensures steady { OnOk result
             (AreSteady A.failed F.failed answers.old files.old answers.new files.new) }
-        ensures memory { IsErrOf result Fault.Memory →
+        ensures own { HasOwnFault result →
             AreSteady A.failed F.failed answers.old files.old answers.new files.new }
         ensures runs { A.preprocessed answers.new ≡ A.preprocessed answers.old }
         ensures compiles { A.compiled answers.new ≡ A.compiled answers.old }
@@ -184,7 +184,7 @@ impl<'a> RustPlace<'a> {
         ensures meaning { A.meaning answers.new ≡ A.meaning answers.old }
         ensures steady { OnOk result
             (AreSteady A.failed F.failed answers.old files.old answers.new files.new) }
-        ensures memory { IsErrOf result Fault.Memory →
+        ensures own { HasOwnFault result →
             AreSteady A.failed F.failed answers.old files.old answers.new files.new }
         ensures runs { OnOk result
             (A.preprocessed answers.new ≡ ticked (ticked (A.preprocessed answers.old))) }

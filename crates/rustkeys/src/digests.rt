@@ -1,9 +1,10 @@
 //! The digests of files that a key needs: they are there, or there is no key.
 
-ghost use Rattle.std.specs.Prelude.{◌≡◌, None, [], ◌∷◌, map, IfOk, IfErr, OnOk, IsErrOf};
+ghost use Rattle.std.specs.Prelude.{◌≡◌, None, [], ◌∷◌, map, IfOk, IfErr, OnOk};
 ghost use Rattle.std.specs.Option.{option_map, option_to_list};
 ghost use Rattle.os_files.specs.Fails.{FailsOn};
 ghost use Rattle.os_files.specs.Path.{join};
+ghost use Rattle.ckeys_records.specs.Causes.{HasOwnFault};
 ghost use Rattle.ckeys_records.specs.Faults.{FileCause, first_missing};
 ghost use Rattle.include_records.specs.Surroundings.{contents_in};
 ghost use Rattle.rustkeys.specs.Records.{digest_text};
@@ -46,7 +47,7 @@ fn needed_digest<H: HashState, F: Files>(
         (FailsOn F.tree F.failed F.fails_on files.old files.new)) }
     ensures tree { F.tree files.new ≡ F.tree files.old }
     ensures steady { OnOk result (F.failed files.new ≡ F.failed files.old) }
-    ensures memory { IsErrOf result Fault.Memory → F.failed files.new ≡ F.failed files.old }
+    ensures own { HasOwnFault result → F.failed files.new ≡ F.failed files.old }
 {
     // The copy is made first, so that no want of memory stands for a device that failed.
     let path = path.clone()?;
@@ -71,7 +72,7 @@ pub(crate) fn needed_digests<H: HashState, F: Files>(
         (FailsOn F.tree F.failed F.fails_on files.old files.new)) }
     ensures tree { F.tree files.new ≡ F.tree files.old }
     ensures steady { OnOk result (F.failed files.new ≡ F.failed files.old) }
-    ensures memory { IsErrOf result Fault.Memory → F.failed files.new ≡ F.failed files.old }
+    ensures own { HasOwnFault result → F.failed files.new ≡ F.failed files.old }
 {
     let mut digests = Listed::new(alloc);
     let mut rest = paths;
@@ -99,7 +100,7 @@ pub(crate) fn needed_in<H: HashState, F: Files>(
         (FailsOn F.tree F.failed F.fails_on files.old files.new)) }
     ensures tree { F.tree files.new ≡ F.tree files.old }
     ensures steady { OnOk result (F.failed files.new ≡ F.failed files.old) }
-    ensures memory { IsErrOf result Fault.Memory → F.failed files.new ≡ F.failed files.old }
+    ensures own { HasOwnFault result → F.failed files.new ≡ F.failed files.old }
 {
     let paths = joined(alloc, dir, names)?;
     needed_digests::<H, F>(alloc, paths.as_slice(), files)
@@ -124,7 +125,7 @@ pub(crate) fn needed_where_named<H: HashState, F: Files>(
         (FailsOn F.tree F.failed F.fails_on files.old files.new)) }
     ensures tree { F.tree files.new ≡ F.tree files.old }
     ensures steady { OnOk result (F.failed files.new ≡ F.failed files.old) }
-    ensures memory { IsErrOf result Fault.Memory → F.failed files.new ≡ F.failed files.old }
+    ensures own { HasOwnFault result → F.failed files.new ≡ F.failed files.old }
 {
     let Some(name) = name else {
         return Ok(None);

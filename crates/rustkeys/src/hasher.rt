@@ -1,10 +1,11 @@
 //! The key of a request to rustc, on the files that are there when it is asked.
 
-ghost use Rattle.std.specs.Prelude.{◌≡◌, ℤ, None, is_some, string_bytes, IfOk, IfErr, OnOk, OnErr, IsErrOf};
+ghost use Rattle.std.specs.Prelude.{◌≡◌, ℤ, None, is_some, string_bytes, IfOk, IfErr, OnOk, OnErr};
 ghost use Rattle.std.specs.List.{AllByRecursion};
 ghost use Rattle.std.specs.Str.Lossy.{utf8_lossy};
 ghost use Rattle.os_files.specs.Bytes.{ticked};
 ghost use Rattle.os_files.specs.Fails.{FailsOn};
+ghost use Rattle.ckeys_records.specs.Causes.{HasOwnFault};
 ghost use Rattle.ckeys_records.specs.Faults.{KeyCause};
 ghost use Rattle.ckeys_records.specs.Meaning.{AreSteady, AtMostOnce, FailsIn};
 ghost use Rattle.cmdlines_requests.specs.Small.{command_at};
@@ -151,7 +152,7 @@ impl<'a> RustHasher<'a> {
         ensures meaning { A.meaning answers.new ≡ A.meaning answers.old }
         ensures steady { OnOk result
             (AreSteady A.failed F.failed answers.old files.old answers.new files.new) }
-        ensures memory { IsErrOf result Fault.Memory →
+        ensures own { HasOwnFault result →
             AreSteady A.failed F.failed answers.old files.old answers.new files.new }
         ensures runs { OnOk result
             (A.preprocessed answers.new ≡ ticked (ticked (A.preprocessed answers.old))) }

@@ -5,6 +5,7 @@ use Rattle.os_files.specs.Bytes.{Bytes, ticked}
 use Rattle.os_files.specs.Fails.{FailsOn}
 use Rattle.os_files.specs.Tree.{Tree}
 use Rattle.ckeys_base.specs.Shelf.{Shelf, Within, KeepsKeys}
+use Rattle.ckeys_records.specs.Causes.{HasOwnFault}
 use Rattle.ckeys_records.specs.Folders.{Settings}
 use Rattle.ckeys_records.specs.Meaning.{AreSteady, FailsIn, Meaning}
 use Rattle.ckeys_records.specs.declared.fault.Fault.{Fault}
@@ -59,14 +60,14 @@ abbrev pub Run : (Bytes → Bytes) → Shelf StoreKey Pairs → List Served → 
 Run digest_of old [] new = Loses old new
 Run digest_of old (s ∷ rest) new = (begin : Shelf StoreKey Pairs) × (mid : Shelf StoreKey Pairs) × Loses old begin × Turn digest_of s.account begin mid s.before s.after s.result × Run digest_of mid rest new
 
--- One call over both stores, by plain values: where the records are true of it, it is a turn over the object store alone; and, whether they are or not, it asks that store under a key and does to both what its answer tells; what the verdict passes through is passed through; and no failure tick has moved where there is an answer, nor where memory was refused.
+-- One call over both stores, by plain values: where the records are true of it, it is a turn over the object store alone; and, whether they are or not, it asks that store under a key and does to both what its answer tells; what the verdict passes through is passed through; and no failure tick has moved, unless the fault tells of a device.
 pub record CallTurn (digest_of : Bytes → Bytes) (settings : Settings) (a : Account) (old new : Shelves) (before after : Ticks) (result : Result Answer Fault) : Type 0 where
   pub own : RecordsAreTrue digest_of a old.entries.held → Turn digest_of a old.objects new.objects before after result
   pub asked : AskedTurn digest_of a old new before.preprocessed after.preprocessed before.compiled after.compiled result
   pub entries : EntriesTurn digest_of a old.entries new.entries before.preprocessed after.preprocessed
   pub configured : IsOfOneCall settings a
   pub steady : OnOk result (SameFailures before after)
-  pub memory : IsErrOf result Memory → SameFailures before after
+  pub own : HasOwnFault result → SameFailures before after
   pub passes : (why : Why) → why_passed a ≡ Some why → SaysPassed why (λ name. after.files_failed ≡ ticked before.files_failed) result
   pub quiet : OnPass result ((after.preprocessed ≡ before.preprocessed) × (after.compiled ≡ before.compiled) × (after.failed ≡ before.failed))
 
@@ -173,12 +174,12 @@ Each P (b ∷ begins) [] results = Unit {0}
 Each P (b ∷ begins) (e ∷ ends) [] = Unit {0}
 Each P (b ∷ begins) (e ∷ ends) (r ∷ results) = P b e r × Each P begins ends results
 
--- A call is answered: its answer says what it may, a fault only with its cause, and outputs, where no records are kept, only where the call has no fault before; no failure tick has moved where there is an answer, nor where memory was refused; and its request, the tree of its files and its tool's meaning are as they were.
+-- A call is answered: its answer says what it may, a fault only with its cause, and outputs, where no records are kept, only where the call has no fault before; no failure tick has moved, unless the fault tells of a device; and its request, the tree of its files and its tool's meaning are as they were.
 pub record IsAnswered {F T : Type 0} (settings : Settings) (tree : F → Tree) (files_failed : F → ℕ) (fails_on : F → Bytes → F → Type 0) (meaning : T → Meaning) (failed : T → ℕ) (fails_in : T → Step → T → Type 0) (begin end : Call F T) (result : Result Answer Fault) : Type 0 where
   pub says : SaysBy GoesOn (account_at (meaning begin.tool) (tree begin.files) settings begin.request) (FailsOn tree files_failed fails_on begin.files end.files) (FailsIn meaning failed fails_in begin.tool end.tool) result
   pub plain : settings.direct ≡ false → Says (account_at (meaning begin.tool) (tree begin.files) settings begin.request) (FailsOn tree files_failed fails_on begin.files end.files) (FailsIn meaning failed fails_in begin.tool end.tool) result
   pub steady : OnOk result (AreSteady failed files_failed begin.tool begin.files end.tool end.files)
-  pub memory : IsErrOf result Memory → AreSteady failed files_failed begin.tool begin.files end.tool end.files
+  pub own : HasOwnFault result → AreSteady failed files_failed begin.tool begin.files end.tool end.files
   pub request : end.request ≡ begin.request
   pub kept_tree : tree end.files ≡ tree begin.files
   pub kept_meaning : meaning end.tool ≡ meaning begin.tool

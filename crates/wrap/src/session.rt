@@ -4,6 +4,7 @@ ghost use Rattle.std.specs.Prelude.{◌≡◌, true, false, List, [], ◌∷◌,
 ghost use Rattle.os_files.specs.Fails.{FailsOn};
 ghost use Rattle.ckeys_base.specs.Shelf.{Clears, IsEmpty};
 ghost use Rattle.ckeys.specs.Entries.{EntryInvariant, EntryPremises};
+ghost use Rattle.ckeys_records.specs.Causes.{HasOwnFault};
 ghost use Rattle.ckeys_records.specs.Meaning.{AreSteady, FailsIn};
 ghost use Rattle.wrap_keys.specs.Account.{Account, account_at, direct_calls};
 ghost use Rattle.wrap_keys.specs.Answers.{Answers, GoesOn, OnPass, Says, SaysBy, settled, settled_by};
@@ -123,10 +124,10 @@ impl<
         ensures compiles { T.compiled tool.new ≡ T.compiled tool.old }
         ensures tree { F.tree files.new ≡ F.tree files.old }
         ensures meaning { T.meaning tool.new ≡ T.meaning tool.old }
-        // No device failed where there is an answer, nor where memory was refused.
+        // No device failed where there is an answer, nor where a fault tells of none.
         ensures steady { OnOk result
             (AreSteady T.failed F.failed tool.old files.old tool.new files.new) }
-        ensures memory { IsErrOf result Fault.Memory →
+        ensures own { HasOwnFault result →
             AreSteady T.failed F.failed tool.old files.old tool.new files.new }
     {
         request_fingerprint::<H, F, T>(self.alloc, &self.config, request, files, tool)
@@ -224,10 +225,10 @@ impl<
         ensures meaning { T.meaning tool.new ≡ T.meaning tool.old }
         ensures tree { F.tree files.new ≡ F.tree files.old }
 
-        // No device failed where there is an answer, nor where memory was refused.
+        // No device failed where there is an answer, nor where a fault tells of none.
         ensures steady { OnOk result
             (AreSteady T.failed F.failed tool.old files.old tool.new files.new) }
-        ensures memory { IsErrOf result Fault.Memory →
+        ensures own { HasOwnFault result →
             AreSteady T.failed F.failed tool.old files.old tool.new files.new }
     {
         call_keys_tell_records::<H>();
@@ -370,7 +371,7 @@ impl<
         ensures tree { F.tree files.new ≡ F.tree files.old }
         ensures steady { OnOk result
             (AreSteady T.failed F.failed tool.old files.old tool.new files.new) }
-        ensures memory { IsErrOf result Fault.Memory →
+        ensures own { HasOwnFault result →
             AreSteady T.failed F.failed tool.old files.old tool.new files.new }
     {
         match request.compiler.named() {

@@ -1,9 +1,10 @@
 //! The key under which a request's outputs are kept.
 
-ghost use Rattle.std.specs.Prelude.{◌≡◌, false, true, Some, IfOk, IfErr, OnOk, IsErrOf};
+ghost use Rattle.std.specs.Prelude.{◌≡◌, false, true, Some, IfOk, IfErr, OnOk};
 ghost use Rattle.std.specs.List.{AllByRecursion};
 ghost use Rattle.os_files.specs.Fails.{FailsOn};
 ghost use Rattle.ckeys.specs.Calls.{PrintedCall, needs_preprocessing, printed_call, record_of};
+ghost use Rattle.ckeys_records.specs.Causes.{HasOwnFault};
 ghost use Rattle.ckeys_records.specs.Faults.{KeyCause};
 ghost use Rattle.ckeys.specs.EntryTurns.{KeyFine, KeyRecorded, KeyRuns, RunsUntilKey};
 ghost use Rattle.ckeys_records.specs.Meaning.{AreSteady, FailsIn, names_of};
@@ -111,7 +112,7 @@ pub fn store_key<H: HashState, E: Store<EntryKey, PreprocessorCacheEntry>, F: Fi
     ensures meaning { T.meaning tool.new ≡ T.meaning tool.old }
     ensures steady { OnOk result
         (AreSteady T.failed F.failed tool.old files.old tool.new files.new) }
-    ensures memory { IsErrOf result Fault.Memory →
+    ensures own { HasOwnFault result →
         AreSteady T.failed F.failed tool.old files.old tool.new files.new }
     ensures compiles { T.compiled tool.new ≡ T.compiled tool.old }
 {

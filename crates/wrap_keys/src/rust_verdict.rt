@@ -1,6 +1,6 @@
 //! The verdict on a request to rustc: it is passed through, or this is asked for.
 
-ghost use Rattle.std.specs.Prelude.{◌≡◌, false, IfOk, IfErr, OnOk, IsErrOf};
+ghost use Rattle.std.specs.Prelude.{◌≡◌, false, IfOk, IfErr, OnOk};
 ghost use Rattle.std.specs.List.{list_all};
 ghost use Rattle.std.specs.Str.{is_utf8};
 ghost use Rattle.os_files.specs.Fails.{FailsOn};
@@ -8,6 +8,7 @@ ghost use Rattle.rustc_requests.specs.Asks.{asks_in};
 ghost use Rattle.wrap_keys.specs.Answers.{EarlyCause};
 ghost use Rattle.wrap_keys.specs.RustPlans.{OnAsks, OpensNothing, decision_of};
 ghost use Rattle.wrap_keys.specs.RustVerdicts.{is_text, is_text_variable, opens_words, rust_verdict_of, with_hazards};
+ghost use Rattle.ckeys_records.specs.Causes.{HasOwnFault};
 
 use ckeys_records::fault::Fault;
 use cmdlines_base::compiler_arguments::CompilerArguments;
@@ -111,7 +112,7 @@ pub fn judge_rust<F: Files>(
         (EarlyCause (FailsOn F.tree F.failed F.fails_on files.old files.new)) }
     ensures tree { F.tree files.new ≡ F.tree files.old }
     ensures steady { OnOk result (F.failed files.new ≡ F.failed files.old) }
-    ensures memory { IsErrOf result Fault.Memory → F.failed files.new ≡ F.failed files.old }
+    ensures own { HasOwnFault result → F.failed files.new ≡ F.failed files.old }
 {
     if !is_text(request) {
         return Ok(RustVerdict::Passes(Reason::NotUtf8));

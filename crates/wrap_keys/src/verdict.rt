@@ -1,6 +1,6 @@
 //! The verdict on a request's words to a C compiler: it is passed through, or there is a plan of what is run for it.
 
-ghost use Rattle.std.specs.Prelude.{◌≡◌, is_some, true, List, IfOk, IfErr, OnOk, IsErrOf};
+ghost use Rattle.std.specs.Prelude.{◌≡◌, is_some, true, List, IfOk, IfErr, OnOk};
 ghost use Rattle.os_files.specs.Bytes.{Bytes};
 ghost use Rattle.os_files.specs.Fails.{FailsOn};
 ghost use Rattle.cmdlines.specs.Commands.{object_path};
@@ -10,6 +10,7 @@ ghost use Rattle.wrap_base.specs.Commands.{compile_command_of, found_of, kind_of
 ghost use Rattle.wrap_keys.specs.Answers.{EarlyCause};
 ghost use Rattle.wrap_keys.specs.Verdicts.{with_hazards, verdict_of};
 ghost use Rattle.wrap_keys.specs.Plans.{decision_of, IsPlanOf, IsReadAgain, IsReadAgainUnlessGiven, IsReadAgainWhereSafe, OnAsks};
+ghost use Rattle.ckeys_records.specs.Causes.{HasOwnFault};
 
 use ckeys::compiler_impl::CCompilerImpl;
 use ckeys_records::fault::Fault;
@@ -128,7 +129,7 @@ pub fn judge<F: Files>(
         (EarlyCause (FailsOn F.tree F.failed F.fails_on files.old files.new)) }
     ensures tree { F.tree files.new ≡ F.tree files.old }
     ensures steady { OnOk result (F.failed files.new ≡ F.failed files.old) }
-    ensures memory { IsErrOf result Fault.Memory → F.failed files.new ≡ F.failed files.old }
+    ensures own { HasOwnFault result → F.failed files.new ≡ F.failed files.old }
 {
     let words = request.words.as_slice();
     match compiler.parse_arguments(alloc, words, &request.dir, files) {

@@ -1,7 +1,8 @@
 //! Requests to a C compiler: the verdict on one, its key, and what it is answered.
 
-ghost use Rattle.std.specs.Prelude.{◌≡◌, OnOk, IsErrOf};
+ghost use Rattle.std.specs.Prelude.{◌≡◌, OnOk};
 ghost use Rattle.os_files.specs.Fails.{FailsOn};
+ghost use Rattle.ckeys_records.specs.Causes.{HasOwnFault};
 ghost use Rattle.ckeys_records.specs.Meaning.{AreSteady, FailsIn};
 ghost use Rattle.wrap_keys.specs.Account.{account_named, call_at, work_at, worked};
 ghost use Rattle.wrap_keys.specs.Answers.{GoesOn, OnPass, Says, SaysBy, SaysWorked, SaysWorkedBy};
@@ -68,7 +69,7 @@ fn answer<
     ensures tree { F.tree files.new ≡ F.tree files.old }
     ensures steady { OnOk result
         (AreSteady T.failed F.failed tool.old files.old tool.new files.new) }
-    ensures memory { IsErrOf result Fault.Memory →
+    ensures own { HasOwnFault result →
         AreSteady T.failed F.failed tool.old files.old tool.new files.new }
 {
     let prepared = prepare::<H, E, F, T>(
@@ -120,7 +121,7 @@ pub fn c_turn<
     ensures tree { F.tree files.new ≡ F.tree files.old }
     ensures steady { OnOk result
         (AreSteady T.failed F.failed tool.old files.old tool.new files.new) }
-    ensures memory { IsErrOf result Fault.Memory →
+    ensures own { HasOwnFault result →
         AreSteady T.failed F.failed tool.old files.old tool.new files.new }
 {
     match judge(alloc, compiler, request, files)? {

@@ -1,6 +1,7 @@
 //! The compile of a call.
 
-ghost use Rattle.std.specs.Prelude.{◌≡◌, IfOk, IfErr, OnOk, IsErrOf};
+ghost use Rattle.std.specs.Prelude.{◌≡◌, IfOk, IfErr, OnOk};
+ghost use Rattle.ckeys_records.specs.Causes.{HasOwnFault};
 ghost use Rattle.ckeys_records.specs.Meaning.{AreSteady, FailsIn};
 ghost use Rattle.wrap_keys.specs.Account.{Work, IsSuccess};
 ghost use Rattle.wrap_turns.specs.Prepared.{Makes};
@@ -37,7 +38,7 @@ pub fn compiled_pairs<F: Files, T: Tool>(
     ensures tree { F.tree files.new ≡ F.tree files.old }
     ensures steady { OnOk result
         (AreSteady T.failed F.failed tool.old files.old tool.new files.new) }
-    ensures memory { IsErrOf result Fault.Memory →
+    ensures own { HasOwnFault result →
         AreSteady T.failed F.failed tool.old files.old tool.new files.new }
     ensures meaning { T.meaning tool.new ≡ T.meaning tool.old }
     ensures preprocesses { T.preprocessed tool.new ≡ T.preprocessed tool.old }

@@ -1,8 +1,9 @@
 //! What is done for a request once all is known of it: the store is asked, and where it hands back nothing the command runs, and what
 //! it made is kept.
 
-ghost use Rattle.std.specs.Prelude.{◌≡◌, OnOk, IsErrOf};
+ghost use Rattle.std.specs.Prelude.{◌≡◌, OnOk};
 ghost use Rattle.os_files.specs.Bytes.{Bytes};
+ghost use Rattle.ckeys_records.specs.Causes.{HasOwnFault};
 ghost use Rattle.ckeys_records.specs.Meaning.{AreSteady, FailsIn};
 ghost use Rattle.wrap_keys.specs.Account.{Work, worked};
 ghost use Rattle.wrap_keys.specs.Asking.{HowFrom};
@@ -54,7 +55,7 @@ pub fn finish<O: Store<StoreKey, Pairs>, F: Files, T: Tool>(
     ensures tree { F.tree files.new ≡ F.tree files.old }
     ensures steady { OnOk result
         (AreSteady T.failed F.failed tool.old files.old tool.new files.new) }
-    ensures memory { IsErrOf result Fault.Memory →
+    ensures own { HasOwnFault result →
         AreSteady T.failed F.failed tool.old files.old tool.new files.new }
 {
     // A law, which costs nothing: keys that are equal are one.

@@ -1,8 +1,9 @@
 //! A request that is prepared: all that is known of it before the store of outputs is asked.
 
-ghost use Rattle.std.specs.Prelude.{◌≡◌, true, false, Some, IfOk, IfErr, OnOk, IsErrOf};
+ghost use Rattle.std.specs.Prelude.{◌≡◌, true, false, Some, IfOk, IfErr, OnOk};
 ghost use Rattle.os_files.specs.Fails.{FailsOn};
 ghost use Rattle.ckeys.specs.Calls.{PrintedCall, needs_preprocessing, printed_call};
+ghost use Rattle.ckeys_records.specs.Causes.{HasOwnFault};
 ghost use Rattle.ckeys_records.specs.Faults.{KeyCause};
 ghost use Rattle.ckeys.specs.EntryTurns.{KeyFine, KeyRecorded, KeyRuns, RunsUntilKey};
 ghost use Rattle.ckeys_records.specs.Meaning.{AreSteady, FailsIn};
@@ -95,7 +96,7 @@ pub fn prepare<'a, H: HashState, E: Store<EntryKey, PreprocessorCacheEntry>, F: 
     ensures meaning { T.meaning tool.new ≡ T.meaning tool.old }
     ensures steady { OnOk result
         (AreSteady T.failed F.failed tool.old files.old tool.new files.new) }
-    ensures memory { IsErrOf result Fault.Memory →
+    ensures own { HasOwnFault result →
         AreSteady T.failed F.failed tool.old files.old tool.new files.new }
     ensures compiles { T.compiled tool.new ≡ T.compiled tool.old }
 {

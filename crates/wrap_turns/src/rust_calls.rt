@@ -1,8 +1,9 @@
 //! Requests to rustc: the verdict on one, its key by what rustc tells, and what it is answered.
 
-ghost use Rattle.std.specs.Prelude.{◌≡◌, false, IfOk, IfErr, OnOk, IsErrOf};
+ghost use Rattle.std.specs.Prelude.{◌≡◌, false, IfOk, IfErr, OnOk};
 ghost use Rattle.os_files.specs.Bytes.{ticked};
 ghost use Rattle.os_files.specs.Fails.{FailsOn};
+ghost use Rattle.ckeys_records.specs.Causes.{HasOwnFault};
 ghost use Rattle.ckeys_records.specs.Faults.{KeyCause};
 ghost use Rattle.ckeys_records.specs.Meaning.{AreSteady, FailsIn};
 ghost use Rattle.rustc_requests.specs.Asks.{asks_in};
@@ -63,7 +64,7 @@ fn rust_prepare<H: HashState, F: Files, T: Tool>(
     ensures meaning { T.meaning tool.new ≡ T.meaning tool.old }
     ensures steady { OnOk result
         (AreSteady T.failed F.failed tool.old files.old tool.new files.new) }
-    ensures memory { IsErrOf result Fault.Memory →
+    ensures own { HasOwnFault result →
         AreSteady T.failed F.failed tool.old files.old tool.new files.new }
     ensures runs { OnOk result
         (T.preprocessed tool.new ≡ ticked (ticked (T.preprocessed tool.old))) }
@@ -122,7 +123,7 @@ fn rust_answer<H: HashState, O: Store<StoreKey, Pairs>, F: Files, T: Tool>(
     ensures tree { F.tree files.new ≡ F.tree files.old }
     ensures steady { OnOk result
         (AreSteady T.failed F.failed tool.old files.old tool.new files.new) }
-    ensures memory { IsErrOf result Fault.Memory →
+    ensures own { HasOwnFault result →
         AreSteady T.failed F.failed tool.old files.old tool.new files.new }
 {
     let made = rust_prepare::<H, F, T>(alloc, rust, request, parsed, files, tool)?;
@@ -170,7 +171,7 @@ pub fn rust_turn<H: HashState, O: Store<StoreKey, Pairs>, F: Files, T: Tool>(
     ensures tree { F.tree files.new ≡ F.tree files.old }
     ensures steady { OnOk result
         (AreSteady T.failed F.failed tool.old files.old tool.new files.new) }
-    ensures memory { IsErrOf result Fault.Memory →
+    ensures own { HasOwnFault result →
         AreSteady T.failed F.failed tool.old files.old tool.new files.new }
 {
     match judge_rust(alloc, rust, request, files)? {
