@@ -3,10 +3,7 @@ use Rattle.std.specs.Prelude.{◌≡◌, ℕ, Bool, true, false, List, [], ◌�
 use Rattle.std.specs.List.{AllByRecursion, zip}
 use Rattle.std.specs.declared.alloc.Global.{Global}
 use Rattle.os_files.specs.Bytes.{Bytes}
-use Rattle.os_files.specs.Fails.{FailsOn}
-use Rattle.os_files.specs.Tree.{Tree}
-use Rattle.cmdlines.specs.Compilers.{Traits}
-use Rattle.cmdlines_tables.specs.declared.compiler.CCompilerKind.{CCompilerKind}
+use Rattle.os_files.specs.Views.{FilesFail, FilesView}
 use Rattle.ckeys_base.specs.Shelf.{Shelf}
 use Rattle.include_records.specs.Records.{Record}
 use Rattle.entry_keys.specs.declared.entry_key.EntryKey.{EntryKey}
@@ -18,27 +15,22 @@ use Rattle.ckeys.specs.EntryTurns.{EntryTurn, KeyFine, KeyFrom, KeyRecorded, Key
 use Rattle.ckeys_records.specs.Folders.{Settings}
 use Rattle.ckeys.specs.Hashers.{call_of}
 use Rattle.ckeys_records.specs.Keys.{key_of, record_shape}
-use Rattle.ckeys_records.specs.Meaning.{AreSteady, FailsIn, Meaning}
+use Rattle.ckeys_records.specs.Views.{AreSteady, ToolFails, ToolView}
 use Rattle.ckeys_records.specs.Params.{is_cached}
 use Rattle.ckeys_records.specs.Records.{FitsLength}
 use Rattle.ckeys_records.specs.declared.fault.Fault.{Fault}
 use Rattle.ckeys.specs.declared.hash_keys.HashCall.{HashCall}
 use Rattle.ckeys_records.specs.declared.shape.CShape.{CShape}
-use Rattle.ckeys_records.specs.declared.step.Step.{Step}
+use Rattle.ckeys.specs.declared.compiler_impl.CCompilerImpl.{Ghosts}
 
 -- what can be seen of a call's compiler, files and tool
 pub record CallView (I F T : Type 0) : Type 0 where
-  pub kind_of : I → CCompilerKind
-  pub traits : I → Traits
-  pub tree : F → Tree
-  pub files_failed : F → ℕ
-  pub meaning : T → Meaning
-  pub preprocessed : T → ℕ
-  pub compiled : T → ℕ
-  pub failed : T → ℕ
+  pub compiler : Ghosts I
+  pub files : FilesView F
+  pub tool : ToolView T
 
-abbrev pub call_view : {I F T : Type 0} → (I → CCompilerKind) → (I → Traits) → (F → Tree) → (F → ℕ) → (T → Meaning) → (T → ℕ) → (T → ℕ) → (T → ℕ) → CallView I F T
-call_view kind_of traits tree files_failed meaning preprocessed compiled failed = record { kind_of = kind_of; traits = traits; tree = tree; files_failed = files_failed; meaning = meaning; preprocessed = preprocessed; compiled = compiled; failed = failed }
+abbrev pub call_view : {I F T : Type 0} → Ghosts I → FilesView F → ToolView T → CallView I F T
+call_view compiler files tool = record { compiler = compiler; files = files; tool = tool }
 
 -- a key with its shape, and whether a record gave it; or why there is none
 abbrev pub KeyAnswer : Type 0
@@ -60,40 +52,40 @@ AreOwnKeys digest_of calls answers = AllByRecursion (λ x. IsOwnKey digest_of x.
 module _ {I F T : Type 0} (view : CallView I F T) (settings : Settings) where
   -- a call with what its preprocessor prints
   abbrev pub printed_at : HashCall I F T → PrintedCall
-  printed_at c = printed_call (view.meaning c.tool) (call_of view.kind_of view.traits c.hasher c.dir.now c.env.now c.moment settings (view.tree c.files))
+  printed_at c = printed_call (view.tool.meaning c.tool) (call_of view.compiler.kind_of view.compiler.traits c.hasher c.dir.now c.env.now c.moment settings (view.files.tree c.files))
 
   abbrev pub printed_all : List (HashCall I F T) → List PrintedCall
   printed_all calls = map printed_at calls
 
 -- A call is answered: a key with the shape of the call's own record, of the call's own text where no record gave it, and only where the call has no fault, but perhaps the preprocessor's that a record spared; a fault only with its cause; and the preprocessor runs for it exactly as often as it has to. The call is as it was, but for the ticks of its files and its tool.
-pub record IsKeyed {I F T : Type 0} (digest_of : Bytes → Bytes) (view : CallView I F T) (settings : Settings) (fails_on : F → Bytes → F → Type 0) (fails_in : T → Step → T → Type 0) (begin end : HashCall I F T) (answer : KeyAnswer) : Type 0 where
+pub record IsKeyed {I F T : Type 0} (digest_of : Bytes → Bytes) (view : CallView I F T) (settings : Settings) (begin end : HashCall I F T) (answer : KeyAnswer) : Type 0 where
   pub shape : IfOk answer (λ made. made.1 ≡ record_shape digest_of (record_by (printed_at view settings begin)))
   pub of_text : IfOk answer (λ made. made.2 ≡ false → string_bytes made.0 ≡ key_of digest_of (record_by (printed_at view settings begin)))
   pub fine : IfOk answer (λ made. KeyFine (printed_at view settings begin) made.2)
-  pub cause : IfErr answer (KeyCause (key_fault_by (printed_at view settings begin)) (FailsOn view.tree view.files_failed fails_on begin.files end.files) (FailsIn view.meaning view.failed fails_in begin.tool end.tool))
-  pub runs : needs_preprocessing begin.hasher.parsed.now.language ≡ true → IfOk answer (λ made. KeyRuns made.2 (view.preprocessed begin.tool) (view.preprocessed end.tool))
-  pub until : needs_preprocessing begin.hasher.parsed.now.language ≡ true → IfErr answer (RunsUntilKey (view.preprocessed begin.tool) (view.preprocessed end.tool))
-  pub idle : needs_preprocessing begin.hasher.parsed.now.language ≡ false → view.preprocessed end.tool ≡ view.preprocessed begin.tool
+  pub cause : IfErr answer (KeyCause (key_fault_by (printed_at view settings begin)) (FilesFail view.files begin.files end.files) (ToolFails view.tool begin.tool end.tool))
+  pub runs : needs_preprocessing begin.hasher.parsed.now.language ≡ true → IfOk answer (λ made. KeyRuns made.2 (view.tool.preprocessed begin.tool) (view.tool.preprocessed end.tool))
+  pub until : needs_preprocessing begin.hasher.parsed.now.language ≡ true → IfErr answer (RunsUntilKey (view.tool.preprocessed begin.tool) (view.tool.preprocessed end.tool))
+  pub idle : needs_preprocessing begin.hasher.parsed.now.language ≡ false → view.tool.preprocessed end.tool ≡ view.tool.preprocessed begin.tool
   pub plain : has_entry_key (printed_at view settings begin).call ≡ false → IfOk answer (λ made. made.2 ≡ false)
   pub fit : OnOk answer (AllByRecursion FitsLength (filter is_cached begin.env.now))
-  pub steady : OnOk answer (AreSteady view.failed view.files_failed begin.tool begin.files end.tool end.files)
-  pub own : HasOwnFault answer → AreSteady view.failed view.files_failed begin.tool begin.files end.tool end.files
-  pub compiles : view.compiled end.tool ≡ view.compiled begin.tool
+  pub steady : OnOk answer (AreSteady view.tool view.files begin.tool begin.files end.tool end.files)
+  pub still : HasOwnFault answer → AreSteady view.tool view.files begin.tool begin.files end.tool end.files
+  pub compiles : view.tool.compiled end.tool ≡ view.tool.compiled begin.tool
   pub hasher : end.hasher ≡ begin.hasher
   pub dir : end.dir ≡ begin.dir
   pub env : end.env ≡ begin.env
   pub moment : end.moment ≡ begin.moment
-  pub tree : view.tree end.files ≡ view.tree begin.files
-  pub meaning : view.meaning end.tool ≡ view.meaning begin.tool
+  pub tree : view.files.tree end.files ≡ view.files.tree begin.files
+  pub meaning : view.tool.meaning end.tool ≡ view.tool.meaning begin.tool
 
 -- and so is each
-abbrev pub AreKeyed : {I F T : Type 0} → (Bytes → Bytes) → CallView I F T → Settings → (F → Bytes → F → Type 0) → (T → Step → T → Type 0) → List (HashCall I F T) → List (HashCall I F T) → List KeyAnswer → Type 0
-AreKeyed digest_of view settings fails_on fails_in begins ends answers = AllByRecursion (λ x. IsKeyed digest_of view settings fails_on fails_in x.0.0 x.0.1 x.1) (zip (zip begins ends) answers)
+abbrev pub AreKeyed : {I F T : Type 0} → (Bytes → Bytes) → CallView I F T → Settings → List (HashCall I F T) → List (HashCall I F T) → List KeyAnswer → Type 0
+AreKeyed digest_of view settings begins ends answers = AllByRecursion (λ x. IsKeyed digest_of view settings x.0.0 x.0.1 x.1) (zip (zip begins ends) answers)
 
 -- One call over the store: where its key comes from, what it does to the records and to the preprocessor's tick, that its text is recorded, and that a fault records nothing.
 pub record AsksOver {I F T : Type 0} (digest_of : Bytes → Bytes) (view : CallView I F T) (settings : Settings) (old new : Shelf EntryKey Record) (begin end : HashCall I F T) (answer : KeyAnswer) : Type 0 where
   pub from : IfOk answer (λ made. KeyFrom digest_of (printed_at view settings begin) old.held made.2 (string_bytes made.0))
-  pub entries : EntryTurn digest_of (printed_at view settings begin) old new (view.preprocessed begin.tool) (view.preprocessed end.tool)
+  pub entries : EntryTurn digest_of (printed_at view settings begin) old new (view.tool.preprocessed begin.tool) (view.tool.preprocessed end.tool)
   pub recorded : IfOk answer (λ made. KeyRecorded digest_of (printed_at view settings begin) old new made.2 (string_bytes made.0))
   pub unput : OnErr answer (PutsNone old new)
 

@@ -3,8 +3,8 @@
 ghost use Rattle.std.specs.Prelude.{◌≡◌, Some, IfOk, IfErr, IsErrOf, string_bytes};
 ghost use Rattle.std.specs.Option.{option_map};
 ghost use Rattle.os_files.specs.Bytes.{Bytes};
-ghost use Rattle.os_files.specs.Fails.{FailsOn};
 ghost use Rattle.os_files.specs.Tree.{contents_at};
+ghost use Rattle.os_files.specs.Views.{FilesFail};
 ghost use Rattle.cmdlines.specs.Compilers.{text_in};
 ghost use Rattle.ckeys.specs.Compilers.{compiler_digest_of, ExecutableCause, with_version};
 
@@ -75,7 +75,7 @@ impl<I: CCompilerImpl + Drop> CCompiler<I> {
             (contents_at (F.tree files.old) executable)) }
         ensures cause { IfErr result
             (ExecutableCause (F.tree files.old) executable
-            (FailsOn F.tree F.failed F.fails_on files.old files.new)) }
+            (FilesFail F.Files files.old files.new)) }
         ensures tree { F.tree files.new ≡ F.tree files.old }
         ensures steady { (IsErrOf result (Fault.Read executable) → ⊥)
             → F.failed files.new ≡ F.failed files.old }

@@ -3,7 +3,7 @@
 ghost use Rattle.std.specs.Prelude.{◌≡◌, ◌↔◌, ◌⊎◌, [], ◌∷◌, Some, None, IfOk, IfErr, IsErrOf, OnOk};
 ghost use Rattle.std.specs.Option.{option_map};
 ghost use Rattle.os_files.specs.Bytes.{ticked};
-ghost use Rattle.os_files.specs.Fails.{FailsOn};
+ghost use Rattle.os_files.specs.Views.{FilesFail};
 ghost use Rattle.response_files.specs.Causes.{CauseOf};
 ghost use Rattle.cmdlines.specs.Opening.{opened_words};
 ghost use Rattle.cmdlines.specs.Commands.{object_path, HasObjectIn, preprocess_words, output_path, compile_words};
@@ -65,7 +65,7 @@ pub trait CCompilerImpl {
             ≡ parse_of (kind_of self.now)
             (opened_words (kind_of self.now) dir.now (F.tree files.old) words.now)) }
         ensures cause { IfErr result
-            (CauseOf (FailsOn F.tree F.failed F.fails_on files.old files.new)) }
+            (CauseOf (FilesFail F.Files files.old files.new)) }
         ensures input { IfOk result
             (λ answer. HasSafeInputIn (kind_of self.now)
             (opened_words (kind_of self.now) dir.now (F.tree files.old) words.now)

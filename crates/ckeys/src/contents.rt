@@ -3,15 +3,15 @@
 ghost use Rattle.std.specs.Prelude.{◌≡◌, false, true, None, filter, map, string_bytes, IfOk, IfErr, OnOk};
 ghost use Rattle.std.specs.List.{AllByRecursion};
 ghost use Rattle.os_files.specs.Bytes.{ticked};
-ghost use Rattle.os_files.specs.Fails.{FailsOn};
+ghost use Rattle.os_files.specs.Views.{FilesFail};
 ghost use Rattle.ckeys.specs.Calls.{key_fault_of, needs_preprocessing, record_of};
 ghost use Rattle.ckeys_records.specs.Causes.{HasOwnFault};
 ghost use Rattle.ckeys_records.specs.Faults.{KeyCause};
 ghost use Rattle.ckeys.specs.EntryTurns.{RunsUntilKey};
 ghost use Rattle.ckeys.specs.Hashers.{AreExtra, call_by};
-ghost use Rattle.ckeys_records.specs.Meaning.{AreSteady, FailsIn};
 ghost use Rattle.ckeys_records.specs.Params.{is_cached};
 ghost use Rattle.ckeys_records.specs.Records.{FitsLength};
+ghost use Rattle.ckeys_records.specs.Views.{AreSteady, ToolFails};
 
 use crate::compiler_impl::CCompilerImpl;
 use crate::hasher::CCompilerHasher;
@@ -72,14 +72,14 @@ impl<'a, I: CCompilerImpl + Drop> CCompilerHasher<'a, I> {
             in
             IfErr result
             (KeyCause (key_fault_of (T.meaning tool.old) call)
-            (FailsOn F.tree F.failed F.fails_on files.old files.new)
-            (FailsIn T.meaning T.failed T.fails_in tool.old tool.new)) }
+            (FilesFail F.Files files.old files.new)
+            (ToolFails T.Preprocessor tool.old tool.new)) }
         ensures tree { F.tree files.new ≡ F.tree files.old }
         ensures meaning { T.meaning tool.new ≡ T.meaning tool.old }
         ensures steady { OnOk result
-            (AreSteady T.failed F.failed tool.old files.old tool.new files.new) }
-        ensures own { HasOwnFault result →
-            AreSteady T.failed F.failed tool.old files.old tool.new files.new }
+            (AreSteady T.Preprocessor F.Files tool.old files.old tool.new files.new) }
+        ensures still { HasOwnFault result →
+            AreSteady T.Preprocessor F.Files tool.old files.old tool.new files.new }
         ensures idle { needs_preprocessing self.now.parsed.now.language ≡ false
             → (T.preprocessed tool.new ≡ T.preprocessed tool.old)
             × (T.failed tool.new ≡ T.failed tool.old) }

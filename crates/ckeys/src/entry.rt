@@ -1,9 +1,9 @@
 //! The entry key of a call, and what is recorded of its text.
 
 ghost use Rattle.std.specs.Prelude.{◌≡◌, ◌∷◌, [], Some, None, IfOk, IfErr, IfSome, OnOk, map, string_bytes};
-ghost use Rattle.os_files.specs.Fails.{FailsOn};
 ghost use Rattle.os_files.specs.Path.{join};
 ghost use Rattle.os_files.specs.Tree.{Tree, contents_at};
+ghost use Rattle.os_files.specs.Views.{FilesFail};
 ghost use Rattle.entry_keys.specs.Identity.{identity_of};
 ghost use Rattle.include_records.specs.Surroundings as surroundings;
 ghost use Rattle.ckeys.specs.Calls.{asks_records, missing_input};
@@ -66,10 +66,10 @@ fn input_of<F: Files>(
     ensures second { IfOk result (λ input.
         input.second ≡ surroundings.second_at (F.tree files.old) (join dir.now name.now)) }
     ensures cause { let missing = first_missing (F.tree files.old) (join dir.now name.now ∷ []) in
-        IfErr result (FileCause missing (FailsOn F.tree F.failed F.fails_on files.old files.new)) }
+        IfErr result (FileCause missing (FilesFail F.Files files.old files.new)) }
     ensures tree { F.tree files.new ≡ F.tree files.old }
     ensures steady { OnOk result (F.failed files.new ≡ F.failed files.old) }
-    ensures own { HasOwnFault result → F.failed files.new ≡ F.failed files.old }
+    ensures still { HasOwnFault result → F.failed files.new ≡ F.failed files.old }
 {
     let path = join(alloc, dir.as_bytes(), name.as_bytes())?;
     let contents = match files.read(alloc, &path) {
@@ -134,11 +134,11 @@ impl<'a, I: CCompilerImpl + Drop> CCompilerHasher<'a, I> {
             OnOk result (missing_input call ≡ None) }
         ensures cause { let call = call_by I.kind_of I.traits self.now place.now (F.tree files.old)
             in
-            let fails_on = FailsOn F.tree F.failed F.fails_on files.old files.new in
+            let fails_on = FilesFail F.Files files.old files.new in
             IfErr result (FileCause (missing_input call) fails_on) }
         ensures tree { F.tree files.new ≡ F.tree files.old }
         ensures steady { OnOk result (F.failed files.new ≡ F.failed files.old) }
-        ensures own { HasOwnFault result → F.failed files.new ≡ F.failed files.old }
+        ensures still { HasOwnFault result → F.failed files.new ≡ F.failed files.old }
     {
         if !self.asks_records(place) {
             return Ok(None);
@@ -160,11 +160,11 @@ pub(crate) fn includes_for<H: HashState, F: Files>(
     ensures includes { let at = looked_at place.now (F.tree files.old) in
         let path = join place.now.dir.now input.now in
         IfOk result (λ includes. includes ≡ recorded_of at H.digest_of path text.now) }
-    ensures cause { let fails_on = FailsOn F.tree F.failed F.fails_on files.old files.new in
+    ensures cause { let fails_on = FilesFail F.Files files.old files.new in
         IfErr result (FileCause None fails_on) }
     ensures tree { F.tree files.new ≡ F.tree files.old }
     ensures steady { OnOk result (F.failed files.new ≡ F.failed files.old) }
-    ensures own { HasOwnFault result → F.failed files.new ≡ F.failed files.old }
+    ensures still { HasOwnFault result → F.failed files.new ≡ F.failed files.old }
 {
     let dir = place.dir;
     match walk(

@@ -71,34 +71,29 @@ pub fn hash_keys<
 ) -> Result<Vec<Result<(String, CShape, bool), Fault>>, AllocError>
     ensures length { IfOk result (λ answers. length answers.items ≡ length calls.old) }
     // Each answer is one call's, in order, as `generate_hash_key` says.
-    ensures keyed { let view = call_view I.kind_of I.traits F.tree F.failed T.meaning
-        T.preprocessed T.compiled T.failed in
-        IfOk result (λ answers. AreKeyed H.digest_of view config.now F.fails_on T.fails_in
+    ensures keyed { let view = call_view I.CCompilerImpl F.Files T.Preprocessor in
+        IfOk result (λ answers. AreKeyed H.digest_of view config.now
         calls.old calls.new answers.items) }
     // Over one store: where each key comes from, and what each call does to the records.
-    ensures run { let view = call_view I.kind_of I.traits F.tree F.failed T.meaning
-        T.preprocessed T.compiled T.failed in
+    ensures run { let view = call_view I.CCompilerImpl F.Files T.Preprocessor in
         IfOk result (λ answers. KeyRun H.digest_of view config.now (E.shelf entries.old)
         (zip (zip calls.old calls.new) answers.items) (E.shelf entries.new)) }
     // Whatever list of earlier calls meets the invariant of the records, that list followed by these calls meets it at the end.
-    ensures records { let view = call_view I.kind_of I.traits F.tree F.failed T.meaning
-        T.preprocessed T.compiled T.failed in
+    ensures records { let view = call_view I.CCompilerImpl F.Files T.Preprocessor in
         let asked = asking_among (printed_all view config.now calls.old) in
         (earlier : List PrintedCall) →
         EntryInvariant H.digest_of config.now earlier (E.shelf entries.old).held →
         OnOk result
         (EntryInvariant H.digest_of config.now (earlier ++ asked) (E.shelf entries.new).held) }
     // Then, where digests are distinct and texts are printed again, each key is the call's own, wherever it came from.
-    ensures own { let view = call_view I.kind_of I.traits F.tree F.failed T.meaning
-        T.preprocessed T.compiled T.failed in
+    ensures own { let view = call_view I.CCompilerImpl F.Files T.Preprocessor in
         let printed = printed_all view config.now calls.old in
         (earlier : List PrintedCall) →
         EntryInvariant H.digest_of config.now earlier (E.shelf entries.old).held →
         EntryPremises H.digest_of (earlier ++ asking_among printed) →
         IfOk result (λ answers. AreOwnKeys H.digest_of printed answers.items) }
     // So it is from an empty store.
-    ensures from_empty { let view = call_view I.kind_of I.traits F.tree F.failed T.meaning
-        T.preprocessed T.compiled T.failed in
+    ensures from_empty { let view = call_view I.CCompilerImpl F.Files T.Preprocessor in
         let printed = printed_all view config.now calls.old in
         IsEmpty (E.shelf entries.old) →
         EntryPremises H.digest_of (asking_among printed) →

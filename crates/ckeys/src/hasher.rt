@@ -3,11 +3,10 @@
 ghost use Rattle.std.specs.Prelude.{◌≡◌, false, true, List, ◌++◌, None, Some, filter, map, string_bytes, IfOk, IfErr, OnOk, OnErr};
 ghost use Rattle.std.specs.List.{AllByRecursion};
 ghost use Rattle.os_files.specs.Bytes.{Bytes, ticked};
-ghost use Rattle.os_files.specs.Fails.{FailsOn};
 ghost use Rattle.ckeys_records.specs.Causes.{HasOwnFault};
-ghost use Rattle.ckeys_records.specs.Meaning.{AreSteady, FailsIn};
 ghost use Rattle.ckeys_base.specs.Shelf.{Asks};
 ghost use Rattle.os_files.specs.Path.{join};
+ghost use Rattle.os_files.specs.Views.{FilesFail};
 ghost use Rattle.ckeys.specs.Calls.{key_fault_of, PrintedCall, needs_preprocessing, printed_call, record_by, record_of, text_fault_by, text_fault_of, text_of};
 ghost use Rattle.ckeys_records.specs.Faults.{FileCause, KeyCause};
 ghost use Rattle.ckeys.specs.Entries.{EntryInvariant, EntryPremises, IsFramed, asking, entry_key_of, has_entry_key};
@@ -18,6 +17,7 @@ ghost use Rattle.ckeys.specs.Hashers.{AreExtra, call_by, handed_by, looked_at};
 ghost use Rattle.ckeys_records.specs.Material.{material_of, shape_of};
 ghost use Rattle.ckeys_records.specs.Params.{handed_of, is_cached, parts_handed};
 ghost use Rattle.ckeys_records.specs.Records.{FitsLength};
+ghost use Rattle.ckeys_records.specs.Views.{AreSteady, ToolFails};
 ghost use Rattle.ckeys_base.specs.Hex.{hex_of};
 
 use crate::compiler_impl::CCompilerImpl;
@@ -92,14 +92,14 @@ impl<'a, I: CCompilerImpl + Drop> CCompilerHasher<'a, I> {
             in
             IfErr result
             (KeyCause (text_fault_of (T.meaning tool.old) call)
-            (FailsOn F.tree F.failed F.fails_on files.old files.new)
-            (FailsIn T.meaning T.failed T.fails_in tool.old tool.new)) }
+            (FilesFail F.Files files.old files.new)
+            (ToolFails T.Preprocessor tool.old tool.new)) }
         ensures tree { F.tree files.new ≡ F.tree files.old }
         ensures meaning { T.meaning tool.new ≡ T.meaning tool.old }
         ensures steady { OnOk result
-            (AreSteady T.failed F.failed tool.old files.old tool.new files.new) }
-        ensures own { HasOwnFault result →
-            AreSteady T.failed F.failed tool.old files.old tool.new files.new }
+            (AreSteady T.Preprocessor F.Files tool.old files.old tool.new files.new) }
+        ensures still { HasOwnFault result →
+            AreSteady T.Preprocessor F.Files tool.old files.old tool.new files.new }
         ensures idle { needs_preprocessing self.now.parsed.now.language ≡ false
             → (T.preprocessed tool.new ≡ T.preprocessed tool.old)
             × (T.failed tool.new ≡ T.failed tool.old) }
@@ -202,14 +202,14 @@ impl<'a, I: CCompilerImpl + Drop> CCompilerHasher<'a, I> {
             in
             IfErr result
             (KeyCause (text_fault_of (T.meaning tool.old) call)
-            (FailsOn F.tree F.failed F.fails_on files.old files.new)
-            (FailsIn T.meaning T.failed T.fails_in tool.old tool.new)) }
+            (FilesFail F.Files files.old files.new)
+            (ToolFails T.Preprocessor tool.old tool.new)) }
         ensures tree { F.tree files.new ≡ F.tree files.old }
         ensures meaning { T.meaning tool.new ≡ T.meaning tool.old }
         ensures steady { OnOk result
-            (AreSteady T.failed F.failed tool.old files.old tool.new files.new) }
-        ensures own { HasOwnFault result →
-            AreSteady T.failed F.failed tool.old files.old tool.new files.new }
+            (AreSteady T.Preprocessor F.Files tool.old files.old tool.new files.new) }
+        ensures still { HasOwnFault result →
+            AreSteady T.Preprocessor F.Files tool.old files.old tool.new files.new }
         ensures idle { needs_preprocessing self.now.parsed.now.language ≡ false
             → (T.preprocessed tool.new ≡ T.preprocessed tool.old)
             × (T.failed tool.new ≡ T.failed tool.old) }
@@ -280,8 +280,8 @@ impl<'a, I: CCompilerImpl + Drop> CCompilerHasher<'a, I> {
         ensures cause { let p = printed_call (T.meaning tool.old)
             (call_by I.kind_of I.traits self.now place.now (F.tree files.old)) in
             IfErr result
-            (KeyCause (text_fault_by p) (FailsOn F.tree F.failed F.fails_on files.old files.new)
-            (FailsIn T.meaning T.failed T.fails_in tool.old tool.new)) }
+            (KeyCause (text_fault_by p) (FilesFail F.Files files.old files.new)
+            (ToolFails T.Preprocessor tool.old tool.new)) }
         ensures entries { let p = printed_call (T.meaning tool.old)
             (call_by I.kind_of I.traits self.now place.now (F.tree files.old)) in
             EntryTurn H.digest_of p (E.shelf entries.old) (E.shelf entries.new)
@@ -299,9 +299,9 @@ impl<'a, I: CCompilerImpl + Drop> CCompilerHasher<'a, I> {
         ensures tree { F.tree files.new ≡ F.tree files.old }
         ensures meaning { T.meaning tool.new ≡ T.meaning tool.old }
         ensures steady { OnOk result
-            (AreSteady T.failed F.failed tool.old files.old tool.new files.new) }
-        ensures own { HasOwnFault result →
-            AreSteady T.failed F.failed tool.old files.old tool.new files.new }
+            (AreSteady T.Preprocessor F.Files tool.old files.old tool.new files.new) }
+        ensures still { HasOwnFault result →
+            AreSteady T.Preprocessor F.Files tool.old files.old tool.new files.new }
         ensures compiles { T.compiled tool.new ≡ T.compiled tool.old }
     {
         // A law, which costs nothing: what follows from it is said above.
@@ -360,8 +360,8 @@ impl<'a, I: CCompilerImpl + Drop> CCompilerHasher<'a, I> {
             in
             IfErr result
             (KeyCause (key_fault_of (T.meaning tool.old) call)
-            (FailsOn F.tree F.failed F.fails_on files.old files.new)
-            (FailsIn T.meaning T.failed T.fails_in tool.old tool.new)) }
+            (FilesFail F.Files files.old files.new)
+            (ToolFails T.Preprocessor tool.old tool.new)) }
         // What the call does to the include records, and to the preprocessor's tick.
         ensures entries { let p = printed_call (T.meaning tool.old)
             (call_by I.kind_of I.traits self.now place.now (F.tree files.old)) in
@@ -394,9 +394,9 @@ impl<'a, I: CCompilerImpl + Drop> CCompilerHasher<'a, I> {
         ensures tree { F.tree files.new ≡ F.tree files.old }
         ensures meaning { T.meaning tool.new ≡ T.meaning tool.old }
         ensures steady { OnOk result
-            (AreSteady T.failed F.failed tool.old files.old tool.new files.new) }
-        ensures own { HasOwnFault result →
-            AreSteady T.failed F.failed tool.old files.old tool.new files.new }
+            (AreSteady T.Preprocessor F.Files tool.old files.old tool.new files.new) }
+        ensures still { HasOwnFault result →
+            AreSteady T.Preprocessor F.Files tool.old files.old tool.new files.new }
         ensures idle { needs_preprocessing self.now.parsed.now.language ≡ false
             → (T.preprocessed tool.new ≡ T.preprocessed tool.old)
             × (T.failed tool.new ≡ T.failed tool.old) }
@@ -437,8 +437,8 @@ impl<'a, I: CCompilerImpl + Drop> CCompilerHasher<'a, I> {
             in
             IfErr result
             (KeyCause (key_fault_of (T.meaning tool.old) call)
-            (FailsOn F.tree F.failed F.fails_on files.old files.new)
-            (FailsIn T.meaning T.failed T.fails_in tool.old tool.new)) }
+            (FilesFail F.Files files.old files.new)
+            (ToolFails T.Preprocessor tool.old tool.new)) }
         ensures entries { let p = printed_call (T.meaning tool.old)
             (call_by I.kind_of I.traits self.now place.now (F.tree files.old)) in
             EntryTurn H.digest_of p (E.shelf entries.old) (E.shelf entries.new)
@@ -452,9 +452,9 @@ impl<'a, I: CCompilerImpl + Drop> CCompilerHasher<'a, I> {
         ensures tree { F.tree files.new ≡ F.tree files.old }
         ensures meaning { T.meaning tool.new ≡ T.meaning tool.old }
         ensures steady { OnOk result
-            (AreSteady T.failed F.failed tool.old files.old tool.new files.new) }
-        ensures own { HasOwnFault result →
-            AreSteady T.failed F.failed tool.old files.old tool.new files.new }
+            (AreSteady T.Preprocessor F.Files tool.old files.old tool.new files.new) }
+        ensures still { HasOwnFault result →
+            AreSteady T.Preprocessor F.Files tool.old files.old tool.new files.new }
         ensures idle { needs_preprocessing self.now.parsed.now.language ≡ false
             → (T.preprocessed tool.new ≡ T.preprocessed tool.old)
             × (T.failed tool.new ≡ T.failed tool.old) }
@@ -492,10 +492,10 @@ fn look_up<H: HashState, E: Store<EntryKey, PreprocessorCacheEntry>, F: Files>(
         ((E.shelf entries.new).held key.now)) }
     ensures unput { PutsNone (E.shelf entries.old) (E.shelf entries.new) }
     ensures cause { IfErr result
-        (FileCause None (FailsOn F.tree F.failed F.fails_on files.old files.new)) }
+        (FileCause None (FilesFail F.Files files.old files.new)) }
     ensures tree { F.tree files.new ≡ F.tree files.old }
     ensures steady { OnOk result (F.failed files.new ≡ F.failed files.old) }
-    ensures own { HasOwnFault result → F.failed files.new ≡ F.failed files.old }
+    ensures still { HasOwnFault result → F.failed files.new ≡ F.failed files.old }
 {
     match entries.get(key) {
         Some(record) => {
@@ -528,10 +528,10 @@ fn keep<H: HashState, E: Store<EntryKey, PreprocessorCacheEntry>, F: Files>(
         (E.shelf entries.old) (E.shelf entries.new)) }
     ensures unkept { OnErr result (E.shelf entries.new ≡ E.shelf entries.old) }
     ensures cause { IfErr result
-        (FileCause None (FailsOn F.tree F.failed F.fails_on files.old files.new)) }
+        (FileCause None (FilesFail F.Files files.old files.new)) }
     ensures tree { F.tree files.new ≡ F.tree files.old }
     ensures steady { OnOk result (F.failed files.new ≡ F.failed files.old) }
-    ensures own { HasOwnFault result → F.failed files.new ≡ F.failed files.old }
+    ensures still { HasOwnFault result → F.failed files.new ≡ F.failed files.old }
 {
     if let Some(includes) = includes_for::<H, F>(alloc, &made.text, input, place, files)? {
         let text_key = KeyText::new(String::from_str(alloc, made.key.as_str())?);

@@ -1,8 +1,8 @@
 //! Files that a key needs: they are there, or there is no key.
 
 ghost use Rattle.std.specs.Prelude.{◌≡◌, None, [], ◌∷◌, map, string_bytes, IfOk, IfErr, OnOk};
-ghost use Rattle.os_files.specs.Fails.{FailsOn};
 ghost use Rattle.os_files.specs.Path.{join};
+ghost use Rattle.os_files.specs.Views.{FilesFail};
 ghost use Rattle.ckeys_base.specs.Hex.{hex_of};
 ghost use Rattle.include_records.specs.Surroundings.{contents_in};
 ghost use Rattle.ckeys_records.specs.Causes.{HasOwnFault};
@@ -31,10 +31,10 @@ fn needed_digest<H: HashState, F: Files>(
         (first_missing (F.tree files.old) (join dir.now name.now ∷ []) ≡ None) }
     ensures cause { IfErr result
         (FileCause (first_missing (F.tree files.old) (join dir.now name.now ∷ []))
-        (FailsOn F.tree F.failed F.fails_on files.old files.new)) }
+        (FilesFail F.Files files.old files.new)) }
     ensures tree { F.tree files.new ≡ F.tree files.old }
     ensures steady { OnOk result (F.failed files.new ≡ F.failed files.old) }
-    ensures own { HasOwnFault result → F.failed files.new ≡ F.failed files.old }
+    ensures still { HasOwnFault result → F.failed files.new ≡ F.failed files.old }
 {
     let path = join(alloc, dir.as_bytes(), name.as_bytes())?;
     match Digest::<H>::file(alloc, &path, files) {
@@ -56,10 +56,10 @@ pub(crate) fn needed_contents<F: Files>(
     ensures there { OnOk result
         (first_missing (F.tree files.old) (join dir.now name.now ∷ []) ≡ None) }
     ensures cause { let missing = first_missing (F.tree files.old) (join dir.now name.now ∷ []) in
-        IfErr result (FileCause missing (FailsOn F.tree F.failed F.fails_on files.old files.new)) }
+        IfErr result (FileCause missing (FilesFail F.Files files.old files.new)) }
     ensures tree { F.tree files.new ≡ F.tree files.old }
     ensures steady { OnOk result (F.failed files.new ≡ F.failed files.old) }
-    ensures own { HasOwnFault result → F.failed files.new ≡ F.failed files.old }
+    ensures still { HasOwnFault result → F.failed files.new ≡ F.failed files.old }
 {
     let path = join(alloc, dir.as_bytes(), name.as_bytes())?;
     match files.read(alloc, &path) {
@@ -84,10 +84,10 @@ pub(crate) fn extra_hashes<H: HashState, F: Files>(
         (first_missing (F.tree files.old) (map (join dir.now) names.now) ≡ None) }
     ensures cause { IfErr result
         (FileCause (first_missing (F.tree files.old) (map (join dir.now) names.now))
-        (FailsOn F.tree F.failed F.fails_on files.old files.new)) }
+        (FilesFail F.Files files.old files.new)) }
     ensures tree { F.tree files.new ≡ F.tree files.old }
     ensures steady { OnOk result (F.failed files.new ≡ F.failed files.old) }
-    ensures own { HasOwnFault result → F.failed files.new ≡ F.failed files.old }
+    ensures still { HasOwnFault result → F.failed files.new ≡ F.failed files.old }
 {
     let mut digests = Listed::new(alloc);
     let mut rest = names;

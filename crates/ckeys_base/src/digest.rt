@@ -4,7 +4,7 @@ ghost use Rattle.std.specs.Prelude.{◌≡◌, ℕ, ◌*◌, ◌<◌, List, [], 
 ghost use Rattle.std.specs.Option.{option_map};
 ghost use Rattle.std.specs.List.{Contains};
 ghost use Rattle.os_files.specs.Bytes.{Bytes, ticked};
-ghost use Rattle.os_files.specs.Fails.{FailsOn};
+ghost use Rattle.os_files.specs.Views.{FilesFail};
 ghost use Rattle.ckeys_base.specs.Hex.{hex_of};
 ghost use Rattle.ckeys_base.specs.Feeding.{delimiter_of, IsReadAndShown, WasAll};
 ghost use Rattle.ckeys_base.specs.FileDigests.{file_digest, file_digests};
@@ -207,7 +207,7 @@ impl<H: HashState> Digest<H> {
             ≡ file_digests H.digest_of (F.tree files.old) paths.now) }
         ensures tree { F.tree files.new ≡ F.tree files.old }
         ensures device { IsErrOf result FileFail.Device → (name : Bytes) × Contains paths.now name
-            × FailsOn F.tree F.failed F.fails_on files.old files.new name }
+            × FilesFail F.Files files.old files.new name }
         ensures steady { (IsErrOf result FileFail.Device → ⊥)
             → F.failed files.new ≡ F.failed files.old }
     {

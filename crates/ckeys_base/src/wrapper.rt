@@ -3,7 +3,7 @@
 ghost use Rattle.std.specs.Prelude.{◌≡◌, IfOk, IsErrOf, map};
 ghost use Rattle.std.specs.Option.{option_copied};
 ghost use Rattle.os_files.specs.Bytes.{Bytes};
-ghost use Rattle.os_files.specs.Fails.{FailsOn};
+ghost use Rattle.os_files.specs.Views.{FilesFail};
 ghost use Rattle.ckeys_base.specs.Wrapper.{resolved, names_wrapper};
 ghost use Rattle.ckeys_base.specs.Wrapper as spec;
 
@@ -26,7 +26,7 @@ pub fn resolve_compiler_avoiding_wrapper<F: Files>(
         (λ compiler. compiler ≡ resolved (F.tree files.old) executable.now env.now) }
     ensures tree { F.tree files.new ≡ F.tree files.old }
     ensures device { IsErrOf result FileFail.Device
-        → (name : Bytes) × FailsOn F.tree F.failed F.fails_on files.old files.new name }
+        → (name : Bytes) × FilesFail F.Files files.old files.new name }
     ensures steady { (IsErrOf result FileFail.Device → ⊥) → F.failed files.new ≡ F.failed files.old }
 {
     if !is_wrapper(alloc, files, executable)? {
@@ -43,7 +43,7 @@ fn is_wrapper<F: Files>(alloc: Global, files: &mut F, path: &OsBytes) -> Result<
     ensures answer { IfOk result (λ found. found ≡ spec.is_wrapper (F.tree files.old) path.now) }
     ensures tree { F.tree files.new ≡ F.tree files.old }
     ensures device { IsErrOf result FileFail.Device
-        → FailsOn F.tree F.failed F.fails_on files.old files.new path.now }
+        → FilesFail F.Files files.old files.new path.now }
     ensures steady { (IsErrOf result FileFail.Device → ⊥) → F.failed files.new ≡ F.failed files.old }
 {
     let canonical = files.canonical(alloc, path)?;
@@ -62,7 +62,7 @@ fn is_compiler<F: Files>(alloc: Global, files: &mut F, path: &OsBytes) -> Result
     ensures answer { IfOk result (λ found. found ≡ spec.is_compiler (F.tree files.old) path.now) }
     ensures tree { F.tree files.new ≡ F.tree files.old }
     ensures device { IsErrOf result FileFail.Device
-        → FailsOn F.tree F.failed F.fails_on files.old files.new path.now }
+        → FilesFail F.Files files.old files.new path.now }
     ensures steady { (IsErrOf result FileFail.Device → ⊥) → F.failed files.new ≡ F.failed files.old }
 {
     if !files.is_file(alloc, path)? {
@@ -82,7 +82,7 @@ fn first_compiler<F: Files>(
         (λ found. found ≡ spec.first_compiler (F.tree files.old) executable.now env.now) }
     ensures tree { F.tree files.new ≡ F.tree files.old }
     ensures device { IsErrOf result FileFail.Device
-        → (name : Bytes) × FailsOn F.tree F.failed F.fails_on files.old files.new name }
+        → (name : Bytes) × FilesFail F.Files files.old files.new name }
     ensures steady { (IsErrOf result FileFail.Device → ⊥) → F.failed files.new ≡ F.failed files.old }
 {
     let Some(name) = file_name(executable) else {

@@ -6,3 +6,4 @@ pub mod Keys
 pub mod Causes
 pub mod Faults
 pub mod Folders
+pub mod Views

@@ -65,10 +65,6 @@ pub record FailsIn {T : Type 0} (meaning : T → Meaning) (failed : T → ℕ) (
   pub ticks : failed new ≡ ticked (failed from)
   pub leads : fails_in from step new
 
--- neither failure tick has moved: the tool's, and that of its files
-abbrev pub AreSteady : {T F : Type 0} → (T → ℕ) → (F → ℕ) → T → F → T → F → Type 0
-AreSteady tool_failed files_failed tool files tool_new files_new = (tool_failed tool_new ≡ tool_failed tool) × (files_failed files_new ≡ files_failed files)
-
 -- The step's tick moves by one, and the other's stays. rustc's answers on dependencies and names count as texts do, and digests of archives as nothing.
 abbrev pub StepTicks : Step → ℕ → ℕ → ℕ → ℕ → Type 0
 StepTicks Preprocess printed printed_new compiled compiled_new = (printed_new ≡ ticked printed) × (compiled_new ≡ compiled)

@@ -3,7 +3,7 @@
 
 ghost use Rattle.std.specs.Prelude.{◌≡◌, ◌↔◌, None, IfOk, IfErr, IsErrOf, OnOk};
 ghost use Rattle.std.specs.Option.{option_map};
-ghost use Rattle.os_files.specs.Fails.{FailsOn};
+ghost use Rattle.os_files.specs.Views.{FilesFail};
 ghost use Rattle.response_files.specs.Causes.{CauseOf};
 ghost use Rattle.cmdlines_tables.specs.declared.compiler.CCompilerKind.{CCompilerKind};
 ghost use Rattle.cmdlines.specs.Opening.{opened_words};
@@ -112,7 +112,7 @@ impl<K: HasKind> FoundCompiler<K> {
             (λ answer. decision_of answer
             ≡ parse_of K.kind (opened_words K.kind dir.now (F.tree files.old) words.now)) }
         ensures cause { IfErr result
-            (CauseOf (FailsOn F.tree F.failed F.fails_on files.old files.new)) }
+            (CauseOf (FilesFail F.Files files.old files.new)) }
         ensures input { IfOk result
             (λ answer. HasSafeInputIn K.kind
             (opened_words K.kind dir.now (F.tree files.old) words.now) (decision_of answer)) }

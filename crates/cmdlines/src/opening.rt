@@ -1,7 +1,7 @@
 //! The parse of a request's words, with the files that they name opened as its compiler does.
 
 ghost use Rattle.std.specs.Prelude.{◌≡◌, IfOk, IfErr, OnOk, IsErrOf};
-ghost use Rattle.os_files.specs.Fails.{FailsOn};
+ghost use Rattle.os_files.specs.Views.{FilesFail};
 ghost use Rattle.response_files.specs.Causes.{CauseOf};
 ghost use Rattle.cmdlines_base.specs.Table.{all_entries};
 ghost use Rattle.cmdlines.specs.Opening.{opened_words, style_of};
@@ -47,7 +47,7 @@ pub(crate) fn parse_opened<S: SearchableArgInfo<ArgData>, F: Files>(
         (λ answer. decision_of answer
         ≡ decision_by kind (all_entries (S.tables table.now))
         (opened_words kind dir.now (F.tree files.old) words.now)) }
-    ensures cause { IfErr result (CauseOf (FailsOn F.tree F.failed F.fails_on files.old files.new)) }
+    ensures cause { IfErr result (CauseOf (FilesFail F.Files files.old files.new)) }
     ensures tree { F.tree files.new ≡ F.tree files.old }
     ensures steady { OnOk result (F.failed files.new ≡ F.failed files.old) }
     ensures memory { IsErrOf result ParseFault.Memory → F.failed files.new ≡ F.failed files.old }

@@ -2,13 +2,13 @@
 
 ghost use Rattle.std.specs.Prelude.{◌≡◌, false, true, IfOk, IfErr, OnOk};
 ghost use Rattle.os_files.specs.Bytes.{ticked};
-ghost use Rattle.os_files.specs.Fails.{FailsOn};
+ghost use Rattle.os_files.specs.Views.{FilesFail};
 ghost use Rattle.ckeys.specs.Calls.{needs_preprocessing};
 ghost use Rattle.ckeys.specs.EntryTurns.{RunsUntilKey};
 ghost use Rattle.ckeys_records.specs.Causes.{HasOwnFault};
 ghost use Rattle.ckeys_records.specs.Faults.{KeyCause};
-ghost use Rattle.ckeys_records.specs.Meaning.{AreSteady, FailsIn};
 ghost use Rattle.ckeys_records.specs.Records.{hold_end};
+ghost use Rattle.ckeys_records.specs.Views.{AreSteady, ToolFails};
 ghost use Rattle.rustc_requests.specs.Asks.{asks_in};
 ghost use Rattle.rustkeys.specs.Runs.{AtMostTwice};
 ghost use Rattle.wrap_base.specs.Commands.{by_c, found_of};
@@ -69,14 +69,14 @@ fn c_fingerprint<H: HashState, F: Files, T: Tool>(
     ensures cause { let w = work_at (T.meaning tool.old)
         (call_at (found_of compiler.entry) request.now (F.tree files.old) config.now parsed.now) in
         IfErr result
-        (KeyCause w.fault (FailsOn F.tree F.failed F.fails_on files.old files.new)
-        (FailsIn T.meaning T.failed T.fails_in tool.old tool.new)) }
+        (KeyCause w.fault (FilesFail F.Files files.old files.new)
+        (ToolFails T.Preprocessor tool.old tool.new)) }
     ensures tree { F.tree files.new ≡ F.tree files.old }
     ensures meaning { T.meaning tool.new ≡ T.meaning tool.old }
     ensures steady { OnOk result
-        (AreSteady T.failed F.failed tool.old files.old tool.new files.new) }
-    ensures own { HasOwnFault result →
-        AreSteady T.failed F.failed tool.old files.old tool.new files.new }
+        (AreSteady T.Preprocessor F.Files tool.old files.old tool.new files.new) }
+    ensures still { HasOwnFault result →
+        AreSteady T.Preprocessor F.Files tool.old files.old tool.new files.new }
     ensures runs { needs_preprocessing parsed.now.language ≡ true
         → OnOk result (T.preprocessed tool.new ≡ ticked (T.preprocessed tool.old)) }
     ensures until { needs_preprocessing parsed.now.language ≡ true →
@@ -129,14 +129,14 @@ fn rust_fingerprint<H: HashState, F: Files, T: Tool>(
     ensures cause { let w = rust_work_at (T.meaning tool.old)
         (rust_call_at rust.now request.now (F.tree files.old) (asks_in parsed.now)) in
         IfErr result
-        (KeyCause w.fault (FailsOn F.tree F.failed F.fails_on files.old files.new)
-        (FailsIn T.meaning T.failed T.fails_in tool.old tool.new)) }
+        (KeyCause w.fault (FilesFail F.Files files.old files.new)
+        (ToolFails T.Preprocessor tool.old tool.new)) }
     ensures tree { F.tree files.new ≡ F.tree files.old }
     ensures meaning { T.meaning tool.new ≡ T.meaning tool.old }
     ensures steady { OnOk result
-        (AreSteady T.failed F.failed tool.old files.old tool.new files.new) }
-    ensures own { HasOwnFault result →
-        AreSteady T.failed F.failed tool.old files.old tool.new files.new }
+        (AreSteady T.Preprocessor F.Files tool.old files.old tool.new files.new) }
+    ensures still { HasOwnFault result →
+        AreSteady T.Preprocessor F.Files tool.old files.old tool.new files.new }
     ensures runs { OnOk result
         (T.preprocessed tool.new ≡ ticked (ticked (T.preprocessed tool.old))) }
     ensures twice { AtMostTwice (T.preprocessed tool.old) (T.preprocessed tool.new) }
@@ -169,8 +169,8 @@ fn of_c<H: HashState, F: Files, T: Tool>(
 ) -> Result<Result<Fingerprint, Reason>, Fault>
     ensures tells { let a = account_named (T.meaning tool.old) (F.tree files.old) config.now
         request.now (by_c (found_of compiler.entry)) in
-        Tells H.digest_of a (FailsOn F.tree F.failed F.fails_on files.old files.new)
-        (FailsIn T.meaning T.failed T.fails_in tool.old tool.new) result }
+        Tells H.digest_of a (FilesFail F.Files files.old files.new)
+        (ToolFails T.Preprocessor tool.old tool.new) result }
     ensures quiet { OnReason result
         ((T.preprocessed tool.new ≡ T.preprocessed tool.old)
         × (T.failed tool.new ≡ T.failed tool.old)) }
@@ -181,9 +181,9 @@ fn of_c<H: HashState, F: Files, T: Tool>(
     ensures tree { F.tree files.new ≡ F.tree files.old }
     ensures meaning { T.meaning tool.new ≡ T.meaning tool.old }
     ensures steady { OnOk result
-        (AreSteady T.failed F.failed tool.old files.old tool.new files.new) }
-    ensures own { HasOwnFault result →
-        AreSteady T.failed F.failed tool.old files.old tool.new files.new }
+        (AreSteady T.Preprocessor F.Files tool.old files.old tool.new files.new) }
+    ensures still { HasOwnFault result →
+        AreSteady T.Preprocessor F.Files tool.old files.old tool.new files.new }
 {
     match judge(alloc, compiler, request, files)? {
         Verdict::Passes(reason) => Ok(Err(reason)),
@@ -207,8 +207,8 @@ fn of_rustc<H: HashState, F: Files, T: Tool>(
 ) -> Result<Result<Fingerprint, Reason>, Fault>
     ensures tells { let a = rust_account_by (T.meaning tool.old) (F.tree files.old) rust.now
         request.now (rust_verdict_of request.now (F.tree files.old)) in
-        Tells H.digest_of a (FailsOn F.tree F.failed F.fails_on files.old files.new)
-        (FailsIn T.meaning T.failed T.fails_in tool.old tool.new) result }
+        Tells H.digest_of a (FilesFail F.Files files.old files.new)
+        (ToolFails T.Preprocessor tool.old tool.new) result }
     ensures quiet { OnReason result
         ((T.preprocessed tool.new ≡ T.preprocessed tool.old)
         × (T.failed tool.new ≡ T.failed tool.old)) }
@@ -219,9 +219,9 @@ fn of_rustc<H: HashState, F: Files, T: Tool>(
     ensures tree { F.tree files.new ≡ F.tree files.old }
     ensures meaning { T.meaning tool.new ≡ T.meaning tool.old }
     ensures steady { OnOk result
-        (AreSteady T.failed F.failed tool.old files.old tool.new files.new) }
-    ensures own { HasOwnFault result →
-        AreSteady T.failed F.failed tool.old files.old tool.new files.new }
+        (AreSteady T.Preprocessor F.Files tool.old files.old tool.new files.new) }
+    ensures still { HasOwnFault result →
+        AreSteady T.Preprocessor F.Files tool.old files.old tool.new files.new }
 {
     match judge_rust(alloc, rust, request, files)? {
         RustVerdict::Passes(reason) => Ok(Err(reason)),
@@ -247,8 +247,8 @@ pub fn request_fingerprint<H: HashState, F: Files, T: Tool>(
     // says, unless memory was refused first; a fault has its cause.
     ensures tells { let a = account_at (T.meaning tool.old) (F.tree files.old) config.now
         request.now in
-        Tells H.digest_of a (FailsOn F.tree F.failed F.fails_on files.old files.new)
-        (FailsIn T.meaning T.failed T.fails_in tool.old tool.new) result }
+        Tells H.digest_of a (FilesFail F.Files files.old files.new)
+        (ToolFails T.Preprocessor tool.old tool.new) result }
     // A pass moves no tick.
     ensures quiet { OnReason result
         ((T.preprocessed tool.new ≡ T.preprocessed tool.old)
@@ -262,9 +262,9 @@ pub fn request_fingerprint<H: HashState, F: Files, T: Tool>(
     ensures meaning { T.meaning tool.new ≡ T.meaning tool.old }
     // No device failed where there is an answer, nor where a fault tells of none.
     ensures steady { OnOk result
-        (AreSteady T.failed F.failed tool.old files.old tool.new files.new) }
-    ensures own { HasOwnFault result →
-        AreSteady T.failed F.failed tool.old files.old tool.new files.new }
+        (AreSteady T.Preprocessor F.Files tool.old files.old tool.new files.new) }
+    ensures still { HasOwnFault result →
+        AreSteady T.Preprocessor F.Files tool.old files.old tool.new files.new }
 {
     match request.compiler.named() {
         Named::C(compiler) => of_c::<H, F, T>(alloc, config, compiler, request, files, tool),

@@ -1,7 +1,7 @@
 //! What is recorded of files.
 
 ghost use Rattle.std.specs.Prelude.{◌≡◌, IfOk, IfErr, OnOk, None, Some, if◌then◌else◌, IsErrOf};
-ghost use Rattle.os_files.specs.Fails.{FailsOn};
+ghost use Rattle.os_files.specs.Views.{FilesFail};
 ghost use Rattle.response_files.specs.Causes.{CauseOf};
 ghost use Rattle.include_records.specs.Surroundings.{contents_in, include_with, includes_of, lacks_day, path_at, place_with};
 ghost use Rattle.time_macros.specs.Days.{local_day};
@@ -48,7 +48,7 @@ fn include_of<H: HashState, F: Files>(
         let contents = contents_in place.files (path_at place name.now) in
         let recorded = include_with place H.digest_of name.now contents in
         IfOk result (λ found. found ≡ (if lacks_day contents day then None else Some recorded)) }
-    ensures cause { IfErr result (CauseOf (FailsOn F.tree F.failed F.fails_on files.old files.new)) }
+    ensures cause { IfErr result (CauseOf (FilesFail F.Files files.old files.new)) }
     ensures tree { F.tree files.new ≡ F.tree files.old }
     ensures steady { OnOk result (F.failed files.new ≡ F.failed files.old) }
     ensures memory { IsErrOf result ParseFault.Memory → F.failed files.new ≡ F.failed files.old }
@@ -88,7 +88,7 @@ fn includes_on<H: HashState, F: Files>(
 ) -> Result<Option<Listed<IncludeEntry>>, ParseFault>
     ensures includes { let place = place_with dir.now (F.tree files.old) day in
         IfOk result (λ list. list ≡ includes_of place H.digest_of names.now) }
-    ensures cause { IfErr result (CauseOf (FailsOn F.tree F.failed F.fails_on files.old files.new)) }
+    ensures cause { IfErr result (CauseOf (FilesFail F.Files files.old files.new)) }
     ensures tree { F.tree files.new ≡ F.tree files.old }
     ensures steady { OnOk result (F.failed files.new ≡ F.failed files.old) }
     ensures memory { IsErrOf result ParseFault.Memory → F.failed files.new ≡ F.failed files.old }
@@ -118,7 +118,7 @@ pub fn includes_of<H: HashState, F: Files>(
     ensures includes { let place = place_with dir.now (F.tree files.old) (local_day zone.now moment)
         in
         IfOk result (λ list. list ≡ includes_of place H.digest_of names.now) }
-    ensures cause { IfErr result (CauseOf (FailsOn F.tree F.failed F.fails_on files.old files.new)) }
+    ensures cause { IfErr result (CauseOf (FilesFail F.Files files.old files.new)) }
     ensures tree { F.tree files.new ≡ F.tree files.old }
     ensures steady { OnOk result (F.failed files.new ≡ F.failed files.old) }
     ensures memory { IsErrOf result ParseFault.Memory → F.failed files.new ≡ F.failed files.old }

@@ -1,7 +1,7 @@
 //! Which text a call prints, told from what is recorded.
 
 ghost use Rattle.std.specs.Prelude.{◌≡◌, IfOk, IfErr, OnOk, IsErrOf};
-ghost use Rattle.os_files.specs.Fails.{FailsOn};
+ghost use Rattle.os_files.specs.Views.{FilesFail};
 ghost use Rattle.response_files.specs.Causes.{CauseOf};
 ghost use Rattle.include_records.specs.LookUps.{LooksUp, last_there};
 ghost use Rattle.include_records.specs.Surroundings.{place_with};
@@ -38,7 +38,7 @@ impl PreprocessorCacheEntry {
             (local_day zone.now moment) in
             IfOk result (LooksUp H.digest_of place self.now.results) }
         ensures cause { IfErr result
-            (CauseOf (FailsOn F.tree F.failed F.fails_on files.old files.new)) }
+            (CauseOf (FilesFail F.Files files.old files.new)) }
         ensures tree { F.tree files.new ≡ F.tree files.old }
         ensures steady { OnOk result (F.failed files.new ≡ F.failed files.old) }
         ensures memory { IsErrOf result ParseFault.Memory →
@@ -58,7 +58,7 @@ impl PreprocessorCacheEntry {
         ensures last { let place = place_with dir.now (F.tree files.old) day in
             IfOk result (λ key. key ≡ last_there H.digest_of place self.now.results) }
         ensures cause { IfErr result
-            (CauseOf (FailsOn F.tree F.failed F.fails_on files.old files.new)) }
+            (CauseOf (FilesFail F.Files files.old files.new)) }
         ensures tree { F.tree files.new ≡ F.tree files.old }
         ensures steady { OnOk result (F.failed files.new ≡ F.failed files.old) }
         ensures memory { IsErrOf result ParseFault.Memory →

@@ -1,7 +1,7 @@
 //! Days and seconds as records have them.
 
 ghost use Rattle.std.specs.Prelude.{◌≡◌, IfOk, IfErr, OnOk, IsErrOf};
-ghost use Rattle.os_files.specs.Fails.{FailsOn};
+ghost use Rattle.os_files.specs.Views.{FilesFail};
 ghost use Rattle.response_files.specs.Causes.{CauseOf};
 ghost use Rattle.include_records.specs.Surroundings as spec;
 ghost use Rattle.time_macros.specs.Days.{local_day};
@@ -25,7 +25,7 @@ pub fn day_of(moment: i64, zone: &Zone) -> Option<i64>
 /// `Read` names the path where the device failed on it.
 pub fn second_at<F: Files>(alloc: Global, path: OsBytes, files: &mut F) -> Result<i64, ParseFault>
     ensures second { IfOk result (λ second. second ≡ spec.second_at (F.tree files.old) path) }
-    ensures cause { IfErr result (CauseOf (FailsOn F.tree F.failed F.fails_on files.old files.new)) }
+    ensures cause { IfErr result (CauseOf (FilesFail F.Files files.old files.new)) }
     ensures tree { F.tree files.new ≡ F.tree files.old }
     ensures steady { OnOk result (F.failed files.new ≡ F.failed files.old) }
     ensures memory { IsErrOf result ParseFault.Memory → F.failed files.new ≡ F.failed files.old }

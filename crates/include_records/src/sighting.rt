@@ -2,8 +2,8 @@
 
 ghost use Rattle.std.specs.Prelude.{◌≡◌, ℤ, Option, IfOk, IfErr, OnOk, IsErrOf};
 ghost use Rattle.os_files.specs.Bytes.{Bytes};
-ghost use Rattle.os_files.specs.Fails.{FailsOn};
 ghost use Rattle.os_files.specs.Path.{join};
+ghost use Rattle.os_files.specs.Views.{FilesFail};
 ghost use Rattle.ckeys_base.specs.Hex.{hex_of};
 ghost use Rattle.response_files.specs.Causes.{CauseOf};
 ghost use Rattle.include_records.specs.Sightings.{AreTrue, fits_seen, seen_at};
@@ -54,7 +54,7 @@ fn look_at<H: HashState, F: Files>(
 ) -> Result<Option<Seen>, ParseFault>
     ensures seen { (day : Option ℤ) → let place = place_with dir.now (F.tree files.old) day in
         IfOk result (λ seen. seen ≡ seen_at H.digest_of place name.now) }
-    ensures cause { IfErr result (CauseOf (FailsOn F.tree F.failed F.fails_on files.old files.new)) }
+    ensures cause { IfErr result (CauseOf (FilesFail F.Files files.old files.new)) }
     ensures tree { F.tree files.new ≡ F.tree files.old }
     ensures steady { OnOk result (F.failed files.new ≡ F.failed files.old) }
     ensures memory { IsErrOf result ParseFault.Memory → F.failed files.new ≡ F.failed files.old }
@@ -125,7 +125,7 @@ impl Sightings {
             IfOk result (λ there. there ≡ is_there place H.digest_of include.now) }
         ensures seen { AreTrue H.digest_of (place_with dir.now (F.tree files.old) day) self.new }
         ensures cause { IfErr result
-            (CauseOf (FailsOn F.tree F.failed F.fails_on files.old files.new)) }
+            (CauseOf (FilesFail F.Files files.old files.new)) }
         ensures tree { F.tree files.new ≡ F.tree files.old }
         ensures steady { OnOk result (F.failed files.new ≡ F.failed files.old) }
         ensures memory { IsErrOf result ParseFault.Memory →
@@ -154,7 +154,7 @@ impl Sightings {
             IfOk result (λ there. there ≡ are_there place H.digest_of includes.now) }
         ensures seen { AreTrue H.digest_of (place_with dir.now (F.tree files.old) day) self.new }
         ensures cause { IfErr result
-            (CauseOf (FailsOn F.tree F.failed F.fails_on files.old files.new)) }
+            (CauseOf (FilesFail F.Files files.old files.new)) }
         ensures tree { F.tree files.new ≡ F.tree files.old }
         ensures steady { OnOk result (F.failed files.new ≡ F.failed files.old) }
         ensures memory { IsErrOf result ParseFault.Memory →

@@ -4,8 +4,8 @@ ghost use Rattle.std.specs.Prelude.{◌≡◌, ◌||◌, true, false, not, if◌
 ghost use Rattle.std.specs.Borrow.{Bor};
 ghost use Rattle.std.specs.Str.{bytes_eq};
 ghost use Rattle.os_files.specs.Bytes.{Bytes};
-ghost use Rattle.os_files.specs.Fails.{FailsOn};
 ghost use Rattle.os_files.specs.Path.{join};
+ghost use Rattle.os_files.specs.Views.{FilesFail};
 ghost use Rattle.response_files.specs.Causes.{CauseOf};
 ghost use Rattle.marker_walk.specs.Named.{asks_for_more, named_files_of, walk_names};
 ghost use Rattle.marker_walk.specs.Scanning.{Sight, named};
@@ -81,7 +81,7 @@ fn verdict_on<F: Files>(
 ) -> Result<Verdict, ParseFault>
     ensures verdict { IfOk result (λ verdict.
         verdict ≡ verdict_on dir.now (F.tree files.old) input.now name.now) }
-    ensures cause { IfErr result (CauseOf (FailsOn F.tree F.failed F.fails_on files.old files.new)) }
+    ensures cause { IfErr result (CauseOf (FilesFail F.Files files.old files.new)) }
     ensures tree { F.tree files.new ≡ F.tree files.old }
     ensures steady { OnOk result (F.failed files.new ≡ F.failed files.old) }
     ensures memory { IsErrOf result ParseFault.Memory → F.failed files.new ≡ F.failed files.old }
@@ -130,7 +130,7 @@ fn take_name<'a, F: Files>(
         was (named raw.now ∷ told) ≡ (if goes_on then is told else None)) }
     // A name that came before isn't looked up in the files.
     ensures again { has_come seen.old raw.entry ≡ true → files.new ≡ files.old }
-    ensures cause { IfErr result (CauseOf (FailsOn F.tree F.failed F.fails_on files.old files.new)) }
+    ensures cause { IfErr result (CauseOf (FilesFail F.Files files.old files.new)) }
     ensures tree { F.tree files.new ≡ F.tree files.old }
     ensures steady { OnOk result (F.failed files.new ≡ F.failed files.old) }
     ensures memory { IsErrOf result ParseFault.Memory → F.failed files.new ≡ F.failed files.old }
@@ -165,7 +165,7 @@ pub fn walk<F: Files>(
 ) -> Result<Walk, ParseFault>
     ensures named { IfOk result (λ found. walk_names found
         ≡ named_files_of dir.now (F.tree files.old) (join dir.now input.now) text.now) }
-    ensures cause { IfErr result (CauseOf (FailsOn F.tree F.failed F.fails_on files.old files.new)) }
+    ensures cause { IfErr result (CauseOf (FilesFail F.Files files.old files.new)) }
     ensures tree { F.tree files.new ≡ F.tree files.old }
     ensures steady { OnOk result (F.failed files.new ≡ F.failed files.old) }
     ensures memory { IsErrOf result ParseFault.Memory → F.failed files.new ≡ F.failed files.old }

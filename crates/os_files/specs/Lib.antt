@@ -3,3 +3,4 @@ pub mod Tree
 pub mod Fails
 pub mod MemoryTree
 pub mod Path
+pub mod Views

@@ -2,7 +2,7 @@
 
 ghost use Rattle.std.specs.Prelude.{◌≡◌, ◌++◌, IfOk, IfErr, OnOk, IsErrOf};
 ghost use Rattle.os_files.specs.Bytes.{Bytes};
-ghost use Rattle.os_files.specs.Fails.{FailsOn};
+ghost use Rattle.os_files.specs.Views.{FilesFail};
 ghost use Rattle.response_files.specs.Causes.{CauseOf};
 ghost use Rattle.response_files.specs.Chains.{is_open};
 ghost use Rattle.response_files.specs.Closed.{closed_in};
@@ -32,7 +32,7 @@ fn expand_onto<F: Files>(
         ≡ out.old.items ++ expanded style dir.now (closed_in (is_open chain.old) (F.tree files.old))
         words.now) }
     ensures chain { OnOk result ((name : Bytes) → is_open chain.new name ≡ is_open chain.old name) }
-    ensures cause { IfErr result (CauseOf (FailsOn F.tree F.failed F.fails_on files.old files.new)) }
+    ensures cause { IfErr result (CauseOf (FilesFail F.Files files.old files.new)) }
     ensures tree { F.tree files.new ≡ F.tree files.old }
     ensures steady { OnOk result (F.failed files.new ≡ F.failed files.old) }
     ensures memory { IsErrOf result ParseFault.Memory → F.failed files.new ≡ F.failed files.old }
@@ -60,7 +60,7 @@ pub fn expand<F: Files>(
     files: &mut F,
 ) -> Result<Listed<OsBytes>, ParseFault>
     ensures words { IfOk result (λ list. list ≡ expanded style dir.now (F.tree files.old) words.now) }
-    ensures cause { IfErr result (CauseOf (FailsOn F.tree F.failed F.fails_on files.old files.new)) }
+    ensures cause { IfErr result (CauseOf (FilesFail F.Files files.old files.new)) }
     ensures tree { F.tree files.new ≡ F.tree files.old }
     ensures steady { OnOk result (F.failed files.new ≡ F.failed files.old) }
     ensures memory { IsErrOf result ParseFault.Memory → F.failed files.new ≡ F.failed files.old }

@@ -1,7 +1,7 @@
 //! What one word opens.
 
 ghost use Rattle.std.specs.Prelude.{◌≡◌, IfOk, IfErr, OnOk, IsErrOf};
-ghost use Rattle.os_files.specs.Fails.{FailsOn};
+ghost use Rattle.os_files.specs.Views.{FilesFail};
 ghost use Rattle.response_files.specs.Causes.{CauseOf};
 ghost use Rattle.response_files.specs.Chains.{is_open};
 ghost use Rattle.response_files.specs.Closed.{closed_in};
@@ -34,7 +34,7 @@ pub(crate) fn opened_by<F: Files>(
     ensures opened { IfOk result
         (λ found. found
         ≡ opened_by style dir.now (closed_in (is_open chain.now) (F.tree files.old)) word.now) }
-    ensures cause { IfErr result (CauseOf (FailsOn F.tree F.failed F.fails_on files.old files.new)) }
+    ensures cause { IfErr result (CauseOf (FilesFail F.Files files.old files.new)) }
     ensures tree { F.tree files.new ≡ F.tree files.old }
     ensures steady { OnOk result (F.failed files.new ≡ F.failed files.old) }
     ensures memory { IsErrOf result ParseFault.Memory → F.failed files.new ≡ F.failed files.old }

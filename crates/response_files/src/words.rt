@@ -3,7 +3,7 @@
 ghost use Rattle.std.specs.Prelude.{◌≡◌, [], ◌∷◌, length, Err, IsOk};
 ghost use Rattle.std.specs.Iterator.{at_most};
 ghost use Rattle.std.specs.List.{AllByRecursion};
-ghost use Rattle.os_files.specs.Fails.{FailsOn};
+ghost use Rattle.os_files.specs.Views.{FilesFail};
 ghost use Rattle.response_files.specs.Expansion.{expanded};
 ghost use Rattle.response_files.specs.declared.style.Style.{Style};
 ghost use Rattle.response_files.specs.Words.{Gives, Takes, items_left};
@@ -44,7 +44,7 @@ impl<S: Opens> ExpandedWords<S> {
     ) -> ExpandedWords<S>
         ensures gives { Gives (items_left result)
             (expanded S.style dir.now (F.tree files.old) words.now)
-            (FailsOn F.tree F.failed F.fails_on files.old files.new) }
+            (FilesFail F.Files files.old files.new) }
         ensures tree { F.tree files.new ≡ F.tree files.old }
         // No device failed where words come, nor where memory was refused.
         ensures steady { AllByRecursion IsOk (items_left result) →

@@ -1,7 +1,7 @@
 //! The digests of files that a toolchain needs.
 
 ghost use Rattle.std.specs.Prelude.{◌≡◌, Some, true, IfOk, IfErr, IsErrOf, OnOk};
-ghost use Rattle.os_files.specs.Fails.{FailsOn};
+ghost use Rattle.os_files.specs.Views.{FilesFail};
 ghost use Rattle.ckeys_base.specs.FileDigests.{file_digest, file_digests};
 ghost use Rattle.rustc_compiler.specs.Causes.{CauseOf, FileCause};
 
@@ -23,7 +23,7 @@ fn digest_of<H: HashState, F: Files>(
         (λ digest. Some digest ≡ file_digest H.digest_of (F.tree files.old) path.now) }
     ensures cause { IfErr result
         (FileCause (F.tree files.old) path.now
-        (FailsOn F.tree F.failed F.fails_on files.old files.new)) }
+        (FilesFail F.Files files.old files.new)) }
     ensures tree { F.tree files.new ≡ F.tree files.old }
     ensures steady { OnOk result (F.failed files.new ≡ F.failed files.old) }
     ensures memory { IsErrOf result RustFault.Memory → F.failed files.new ≡ F.failed files.old }
@@ -47,7 +47,7 @@ pub(crate) fn digests_of<H: HashState, F: Files>(
         (λ digests. Some digests ≡ file_digests H.digest_of (F.tree files.old) paths.now) }
     ensures cause { IfErr result
         (CauseOf true (F.tree files.old) paths.now
-        (FailsOn F.tree F.failed F.fails_on files.old files.new)) }
+        (FilesFail F.Files files.old files.new)) }
     ensures tree { F.tree files.new ≡ F.tree files.old }
     ensures steady { OnOk result (F.failed files.new ≡ F.failed files.old) }
     ensures memory { IsErrOf result RustFault.Memory → F.failed files.new ≡ F.failed files.old }

@@ -3,7 +3,7 @@
 ghost use Rattle.std.specs.Prelude.{◌≡◌, ◌↔◌, Some, false, IfOk, IfErr, IsErrOf, OnOk};
 ghost use Rattle.std.specs.List.{AllByRecursion};
 ghost use Rattle.std.specs.Option.{option_copied};
-ghost use Rattle.os_files.specs.Fails.{FailsOn};
+ghost use Rattle.os_files.specs.Views.{FilesFail};
 ghost use Rattle.ckeys_base.specs.FileDigests.{file_digests};
 ghost use Rattle.response_files.specs.Causes.{CauseOf};
 ghost use Rattle.rustc_parts.specs.Formed.{IsDigest, digest_digits};
@@ -78,7 +78,7 @@ impl Rust {
         ensures untouched { IsErrOf result RustFault.NoHost → files.new ≡ files.old }
         ensures cause { let paths = toolchain_files libraries archive in IfErr result
             (why.CauseOf (has_host version) (F.tree files.old) paths
-            (FailsOn F.tree F.failed F.fails_on files.old files.new)) }
+            (FilesFail F.Files files.old files.new)) }
         ensures tree { F.tree files.new ≡ F.tree files.old }
         ensures steady { OnOk result (F.failed files.new ≡ F.failed files.old) }
         ensures memory { IsErrOf result RustFault.Memory → F.failed files.new ≡ F.failed files.old }
@@ -153,7 +153,7 @@ impl Rust {
             IfOk result
             (AsksFor (asks_of dir.now (F.tree files.old) (request_reading expanded).items)) }
         ensures cause { IfErr result
-            (CauseOf (FailsOn F.tree F.failed F.fails_on files.old files.new)) }
+            (CauseOf (FilesFail F.Files files.old files.new)) }
         ensures tree { F.tree files.new ≡ F.tree files.old }
         ensures steady { OnOk result (F.failed files.new ≡ F.failed files.old) }
         ensures memory { IsErrOf result ParseFault.Memory → F.failed files.new ≡ F.failed files.old }

@@ -4,7 +4,8 @@ ghost use Rattle.std.specs.Prelude.{◌≡◌, true, [], ◌∷◌, None, map, I
 ghost use Rattle.std.specs.List.{AllByRecursion, list_all};
 ghost use Rattle.ckeys_records.specs.Faults.{KeyCause};
 ghost use Rattle.ckeys_records.specs.Causes.{HasOwnFault, no_file};
-ghost use Rattle.ckeys_records.specs.Meaning.{AreSteady, FailsIn, Scene};
+ghost use Rattle.ckeys_records.specs.Meaning.{Scene};
+ghost use Rattle.ckeys_records.specs.Views.{AreSteady, ToolFails};
 ghost use Rattle.rustc_parts.specs.Formed.{IsDigest, digest_digits, is_digest, is_digit};
 ghost use Rattle.rustkeys.specs.Calls.{digest_fault_of};
 ghost use Rattle.rustkeys.specs.Questions.{digest_at, digested};
@@ -52,13 +53,13 @@ fn archive_digest<F: Files, A: RustcAnswers>(
     ensures cause { (scene : Scene) → scene.files ≡ F.tree files.old
         → let archives = digested (A.meaning answers.old) scene (path.now ∷ []) in
         IfErr result (KeyCause (digest_fault_of archives) no_file
-        (FailsIn A.meaning A.failed A.fails_in answers.old answers.new)) }
+        (ToolFails A.Preprocessor answers.old answers.new)) }
     ensures tree { F.tree files.new ≡ F.tree files.old }
     ensures meaning { A.meaning answers.new ≡ A.meaning answers.old }
     ensures steady { OnOk result
-        (AreSteady A.failed F.failed answers.old files.old answers.new files.new) }
-    ensures own { HasOwnFault result →
-        AreSteady A.failed F.failed answers.old files.old answers.new files.new }
+        (AreSteady A.Preprocessor F.Files answers.old files.old answers.new files.new) }
+    ensures still { HasOwnFault result →
+        AreSteady A.Preprocessor F.Files answers.old files.old answers.new files.new }
     ensures runs { A.preprocessed answers.new ≡ A.preprocessed answers.old }
     ensures compiles { A.compiled answers.new ≡ A.compiled answers.old }
 {
@@ -89,13 +90,13 @@ pub(crate) fn archive_digests<F: Files, A: RustcAnswers>(
     ensures cause { (scene : Scene) → scene.files ≡ F.tree files.old
         → let archives = digested (A.meaning answers.old) scene paths.now in
         IfErr result (KeyCause (digest_fault_of archives) no_file
-        (FailsIn A.meaning A.failed A.fails_in answers.old answers.new)) }
+        (ToolFails A.Preprocessor answers.old answers.new)) }
     ensures tree { F.tree files.new ≡ F.tree files.old }
     ensures meaning { A.meaning answers.new ≡ A.meaning answers.old }
     ensures steady { OnOk result
-        (AreSteady A.failed F.failed answers.old files.old answers.new files.new) }
-    ensures own { HasOwnFault result →
-        AreSteady A.failed F.failed answers.old files.old answers.new files.new }
+        (AreSteady A.Preprocessor F.Files answers.old files.old answers.new files.new) }
+    ensures still { HasOwnFault result →
+        AreSteady A.Preprocessor F.Files answers.old files.old answers.new files.new }
     ensures runs { A.preprocessed answers.new ≡ A.preprocessed answers.old }
     ensures compiles { A.compiled answers.new ≡ A.compiled answers.old }
 {

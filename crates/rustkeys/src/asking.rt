@@ -6,7 +6,8 @@ ghost use Rattle.ckeys_records.specs.Faults.{KeyCause};
 ghost use Rattle.ckeys_records.specs.Meaning.{text_in};
 ghost use Rattle.ckeys_records.specs.Causes.{HasOwnFault, no_file, no_step};
 ghost use Rattle.ckeys_records.specs.Meaning.{AtMostOnce};
-ghost use Rattle.ckeys_records.specs.Meaning.{AreSteady, FailsIn, made_of};
+ghost use Rattle.ckeys_records.specs.Meaning.{made_of};
+ghost use Rattle.ckeys_records.specs.Views.{AreSteady, ToolFails};
 ghost use Rattle.rustkeys.specs.Calls.{answer_fault_of, utf8_fault_of};
 ghost use Rattle.rustkeys.specs.Questions.{dep_info_of, file_names_of, question_of};
 
@@ -62,13 +63,13 @@ impl<'a> RustPlace<'a> {
             IfOk result (λ p. made_of p.status (Some p.text ∷ [])
             ≡ dep_info_of (A.meaning answers.old) q) }
         ensures cause { IfErr result
-            (KeyCause None no_file (FailsIn A.meaning A.failed A.fails_in answers.old answers.new)) }
+            (KeyCause None no_file (ToolFails A.Preprocessor answers.old answers.new)) }
         ensures tree { F.tree files.new ≡ F.tree files.old }
         ensures meaning { A.meaning answers.new ≡ A.meaning answers.old }
         ensures steady { OnOk result
-            (AreSteady A.failed F.failed answers.old files.old answers.new files.new) }
-        ensures own { HasOwnFault result →
-            AreSteady A.failed F.failed answers.old files.old answers.new files.new }
+            (AreSteady A.Preprocessor F.Files answers.old files.old answers.new files.new) }
+        ensures still { HasOwnFault result →
+            AreSteady A.Preprocessor F.Files answers.old files.old answers.new files.new }
         ensures runs { OnOk result (A.preprocessed answers.new ≡ ticked (A.preprocessed answers.old)) }
         ensures once { AtMostOnce (A.preprocessed answers.old) (A.preprocessed answers.new) }
         ensures compiles { A.compiled answers.new ≡ A.compiled answers.old }
@@ -93,13 +94,13 @@ impl<'a> RustPlace<'a> {
             IfOk result (λ p. made_of p.status (Some p.text ∷ [])
             ≡ file_names_of (A.meaning answers.old) q) }
         ensures cause { IfErr result
-            (KeyCause None no_file (FailsIn A.meaning A.failed A.fails_in answers.old answers.new)) }
+            (KeyCause None no_file (ToolFails A.Preprocessor answers.old answers.new)) }
         ensures tree { F.tree files.new ≡ F.tree files.old }
         ensures meaning { A.meaning answers.new ≡ A.meaning answers.old }
         ensures steady { OnOk result
-            (AreSteady A.failed F.failed answers.old files.old answers.new files.new) }
-        ensures own { HasOwnFault result →
-            AreSteady A.failed F.failed answers.old files.old answers.new files.new }
+            (AreSteady A.Preprocessor F.Files answers.old files.old answers.new files.new) }
+        ensures still { HasOwnFault result →
+            AreSteady A.Preprocessor F.Files answers.old files.old answers.new files.new }
         ensures runs { OnOk result (A.preprocessed answers.new ≡ ticked (A.preprocessed answers.old)) }
         ensures once { AtMostOnce (A.preprocessed answers.old) (A.preprocessed answers.new) }
         ensures compiles { A.compiled answers.new ≡ A.compiled answers.old }
@@ -129,13 +130,13 @@ impl<'a> RustPlace<'a> {
         ensures cause { (moment : ℤ) → let q = question_of self.now (F.tree files.old) moment in
             let made = dep_info_of (A.meaning answers.old) q in
             IfErr result (KeyCause (answer_fault_of Step.DepInfo made) no_file
-            (FailsIn A.meaning A.failed A.fails_in answers.old answers.new)) }
+            (ToolFails A.Preprocessor answers.old answers.new)) }
         ensures tree { F.tree files.new ≡ F.tree files.old }
         ensures meaning { A.meaning answers.new ≡ A.meaning answers.old }
         ensures steady { OnOk result
-            (AreSteady A.failed F.failed answers.old files.old answers.new files.new) }
-        ensures own { HasOwnFault result →
-            AreSteady A.failed F.failed answers.old files.old answers.new files.new }
+            (AreSteady A.Preprocessor F.Files answers.old files.old answers.new files.new) }
+        ensures still { HasOwnFault result →
+            AreSteady A.Preprocessor F.Files answers.old files.old answers.new files.new }
         ensures runs { OnOk result (A.preprocessed answers.new ≡ ticked (A.preprocessed answers.old)) }
         ensures once { AtMostOnce (A.preprocessed answers.old) (A.preprocessed answers.new) }
         ensures compiles { A.compiled answers.new ≡ A.compiled answers.old }
@@ -160,13 +161,13 @@ impl<'a> RustPlace<'a> {
         ensures cause { (moment : ℤ) → let q = question_of self.now (F.tree files.old) moment in
             let made = file_names_of (A.meaning answers.old) q in
             IfErr result (KeyCause (answer_fault_of Step.FileNames made) no_file
-            (FailsIn A.meaning A.failed A.fails_in answers.old answers.new)) }
+            (ToolFails A.Preprocessor answers.old answers.new)) }
         ensures tree { F.tree files.new ≡ F.tree files.old }
         ensures meaning { A.meaning answers.new ≡ A.meaning answers.old }
         ensures steady { OnOk result
-            (AreSteady A.failed F.failed answers.old files.old answers.new files.new) }
-        ensures own { HasOwnFault result →
-            AreSteady A.failed F.failed answers.old files.old answers.new files.new }
+            (AreSteady A.Preprocessor F.Files answers.old files.old answers.new files.new) }
+        ensures still { HasOwnFault result →
+            AreSteady A.Preprocessor F.Files answers.old files.old answers.new files.new }
         ensures runs { OnOk result (A.preprocessed answers.new ≡ ticked (A.preprocessed answers.old)) }
         ensures once { AtMostOnce (A.preprocessed answers.old) (A.preprocessed answers.new) }
         ensures compiles { A.compiled answers.new ≡ A.compiled answers.old }

@@ -3,12 +3,12 @@
 ghost use Rattle.std.specs.Prelude.{◌≡◌, ℤ, None, map, string_bytes, IfOk, IfErr, OnOk};
 ghost use Rattle.std.specs.List.{AllByRecursion};
 ghost use Rattle.os_files.specs.Bytes.{ticked};
-ghost use Rattle.os_files.specs.Fails.{FailsOn};
+ghost use Rattle.os_files.specs.Views.{FilesFail};
 ghost use Rattle.ckeys_records.specs.Faults.{KeyCause};
 ghost use Rattle.ckeys_records.specs.Meaning.{text_in};
 ghost use Rattle.ckeys_records.specs.Causes.{HasOwnFault, no_step};
 ghost use Rattle.ckeys_records.specs.Meaning.{AtMostOnce};
-ghost use Rattle.ckeys_records.specs.Meaning.{AreSteady, FailsIn};
+ghost use Rattle.ckeys_records.specs.Views.{AreSteady, ToolFails};
 ghost use Rattle.rustc_parts.specs.Formed.{IsDigest, digest_digits};
 ghost use Rattle.rustkeys.specs.Calls.{dep_info_fault_of, files_fault_of, key_fault_with, sources_fault_of};
 ghost use Rattle.rustkeys.specs.Questions.{answers_of, dep_info_of, digested, file_names_of, question_of};
@@ -64,11 +64,11 @@ impl<'a> RustPlace<'a> {
         ensures fine { let fault = sources_fault_of (F.tree files.old) self.now.dir.now text.now in
             OnOk result (fault ≡ None) }
         ensures cause { let fault = sources_fault_of (F.tree files.old) self.now.dir.now text.now in
-            IfErr result (KeyCause fault (FailsOn F.tree F.failed F.fails_on files.old files.new)
+            IfErr result (KeyCause fault (FilesFail F.Files files.old files.new)
             no_step) }
         ensures tree { F.tree files.new ≡ F.tree files.old }
         ensures steady { OnOk result (F.failed files.new ≡ F.failed files.old) }
-        ensures own { HasOwnFault result → F.failed files.new ≡ F.failed files.old }
+        ensures still { HasOwnFault result → F.failed files.new ≡ F.failed files.old }
     {
         let paths = sources_in(alloc, self.dir, text)?;
         needed_digests::<H, F>(alloc, paths.as_slice(), files)
@@ -93,14 +93,14 @@ impl<'a> RustPlace<'a> {
         ensures cause { (moment : ℤ) → let q = question_of self.now (F.tree files.old) moment in
             let made = dep_info_of (A.meaning answers.old) q in
             IfErr result (KeyCause (dep_info_fault_of q made)
-            (FailsOn F.tree F.failed F.fails_on files.old files.new)
-            (FailsIn A.meaning A.failed A.fails_in answers.old answers.new)) }
+            (FilesFail F.Files files.old files.new)
+            (ToolFails A.Preprocessor answers.old answers.new)) }
         ensures tree { F.tree files.new ≡ F.tree files.old }
         ensures meaning { A.meaning answers.new ≡ A.meaning answers.old }
         ensures steady { OnOk result
-            (AreSteady A.failed F.failed answers.old files.old answers.new files.new) }
-        ensures own { HasOwnFault result →
-            AreSteady A.failed F.failed answers.old files.old answers.new files.new }
+            (AreSteady A.Preprocessor F.Files answers.old files.old answers.new files.new) }
+        ensures still { HasOwnFault result →
+            AreSteady A.Preprocessor F.Files answers.old files.old answers.new files.new }
         ensures runs { OnOk result (A.preprocessed answers.new ≡ ticked (A.preprocessed answers.old)) }
         ensures once { AtMostOnce (A.preprocessed answers.old) (A.preprocessed answers.new) }
         ensures compiles { A.compiled answers.new ≡ A.compiled answers.old }
@@ -128,14 +128,14 @@ impl<'a> RustPlace<'a> {
         ensures cause { (moment : ℤ) → let q = question_of self.now (F.tree files.old) moment in
             let archives = digested (A.meaning answers.old) q.scene q.asks.staticlibs in
             IfErr result (KeyCause (files_fault_of q archives)
-            (FailsOn F.tree F.failed F.fails_on files.old files.new)
-            (FailsIn A.meaning A.failed A.fails_in answers.old answers.new)) }
+            (FilesFail F.Files files.old files.new)
+            (ToolFails A.Preprocessor answers.old answers.new)) }
         ensures tree { F.tree files.new ≡ F.tree files.old }
         ensures meaning { A.meaning answers.new ≡ A.meaning answers.old }
         ensures steady { OnOk result
-            (AreSteady A.failed F.failed answers.old files.old answers.new files.new) }
-        ensures own { HasOwnFault result →
-            AreSteady A.failed F.failed answers.old files.old answers.new files.new }
+            (AreSteady A.Preprocessor F.Files answers.old files.old answers.new files.new) }
+        ensures still { HasOwnFault result →
+            AreSteady A.Preprocessor F.Files answers.old files.old answers.new files.new }
         ensures runs { A.preprocessed answers.new ≡ A.preprocessed answers.old }
         ensures compiles { A.compiled answers.new ≡ A.compiled answers.old }
     {
@@ -178,14 +178,14 @@ impl<'a> RustPlace<'a> {
         ensures cause { (moment : ℤ) → let q = question_of self.now (F.tree files.old) moment in
             let told = answers_of (A.meaning answers.old) q in
             IfErr result (KeyCause (key_fault_with q told)
-            (FailsOn F.tree F.failed F.fails_on files.old files.new)
-            (FailsIn A.meaning A.failed A.fails_in answers.old answers.new)) }
+            (FilesFail F.Files files.old files.new)
+            (ToolFails A.Preprocessor answers.old answers.new)) }
         ensures tree { F.tree files.new ≡ F.tree files.old }
         ensures meaning { A.meaning answers.new ≡ A.meaning answers.old }
         ensures steady { OnOk result
-            (AreSteady A.failed F.failed answers.old files.old answers.new files.new) }
-        ensures own { HasOwnFault result →
-            AreSteady A.failed F.failed answers.old files.old answers.new files.new }
+            (AreSteady A.Preprocessor F.Files answers.old files.old answers.new files.new) }
+        ensures still { HasOwnFault result →
+            AreSteady A.Preprocessor F.Files answers.old files.old answers.new files.new }
         ensures runs { OnOk result
             (A.preprocessed answers.new ≡ ticked (ticked (A.preprocessed answers.old))) }
         ensures twice { AtMostTwice (A.preprocessed answers.old) (A.preprocessed answers.new) }

@@ -2,8 +2,8 @@
 
 ghost use Rattle.std.specs.Prelude.{◌≡◌, None, [], ◌∷◌, map, IfOk, IfErr, OnOk};
 ghost use Rattle.std.specs.Option.{option_map, option_to_list};
-ghost use Rattle.os_files.specs.Fails.{FailsOn};
 ghost use Rattle.os_files.specs.Path.{join};
+ghost use Rattle.os_files.specs.Views.{FilesFail};
 ghost use Rattle.ckeys_records.specs.Causes.{HasOwnFault};
 ghost use Rattle.ckeys_records.specs.Faults.{FileCause, first_missing};
 ghost use Rattle.include_records.specs.Surroundings.{contents_in};
@@ -44,10 +44,10 @@ fn needed_digest<H: HashState, F: Files>(
     ensures there { OnOk result (first_missing (F.tree files.old) (path.now ∷ []) ≡ None) }
     ensures cause { IfErr result
         (FileCause (first_missing (F.tree files.old) (path.now ∷ []))
-        (FailsOn F.tree F.failed F.fails_on files.old files.new)) }
+        (FilesFail F.Files files.old files.new)) }
     ensures tree { F.tree files.new ≡ F.tree files.old }
     ensures steady { OnOk result (F.failed files.new ≡ F.failed files.old) }
-    ensures own { HasOwnFault result → F.failed files.new ≡ F.failed files.old }
+    ensures still { HasOwnFault result → F.failed files.new ≡ F.failed files.old }
 {
     // The copy is made first, so that no want of memory stands for a device that failed.
     let path = path.clone()?;
@@ -69,10 +69,10 @@ pub(crate) fn needed_digests<H: HashState, F: Files>(
     ensures there { OnOk result (first_missing (F.tree files.old) paths.now ≡ None) }
     ensures cause { IfErr result
         (FileCause (first_missing (F.tree files.old) paths.now)
-        (FailsOn F.tree F.failed F.fails_on files.old files.new)) }
+        (FilesFail F.Files files.old files.new)) }
     ensures tree { F.tree files.new ≡ F.tree files.old }
     ensures steady { OnOk result (F.failed files.new ≡ F.failed files.old) }
-    ensures own { HasOwnFault result → F.failed files.new ≡ F.failed files.old }
+    ensures still { HasOwnFault result → F.failed files.new ≡ F.failed files.old }
 {
     let mut digests = Listed::new(alloc);
     let mut rest = paths;
@@ -97,10 +97,10 @@ pub(crate) fn needed_in<H: HashState, F: Files>(
         (first_missing (F.tree files.old) (map (join dir.now) names.now) ≡ None) }
     ensures cause { IfErr result
         (FileCause (first_missing (F.tree files.old) (map (join dir.now) names.now))
-        (FailsOn F.tree F.failed F.fails_on files.old files.new)) }
+        (FilesFail F.Files files.old files.new)) }
     ensures tree { F.tree files.new ≡ F.tree files.old }
     ensures steady { OnOk result (F.failed files.new ≡ F.failed files.old) }
-    ensures own { HasOwnFault result → F.failed files.new ≡ F.failed files.old }
+    ensures still { HasOwnFault result → F.failed files.new ≡ F.failed files.old }
 {
     let paths = joined(alloc, dir, names)?;
     needed_digests::<H, F>(alloc, paths.as_slice(), files)
@@ -122,10 +122,10 @@ pub(crate) fn needed_where_named<H: HashState, F: Files>(
     ensures cause { IfErr result
         (FileCause
         (first_missing (F.tree files.old) (option_to_list (option_map (join dir.now) name.now)))
-        (FailsOn F.tree F.failed F.fails_on files.old files.new)) }
+        (FilesFail F.Files files.old files.new)) }
     ensures tree { F.tree files.new ≡ F.tree files.old }
     ensures steady { OnOk result (F.failed files.new ≡ F.failed files.old) }
-    ensures own { HasOwnFault result → F.failed files.new ≡ F.failed files.old }
+    ensures still { HasOwnFault result → F.failed files.new ≡ F.failed files.old }
 {
     let Some(name) = name else {
         return Ok(None);

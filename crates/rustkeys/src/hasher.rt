@@ -4,10 +4,11 @@ ghost use Rattle.std.specs.Prelude.{◌≡◌, ℤ, None, is_some, string_bytes,
 ghost use Rattle.std.specs.List.{AllByRecursion};
 ghost use Rattle.std.specs.Str.Lossy.{utf8_lossy};
 ghost use Rattle.os_files.specs.Bytes.{ticked};
-ghost use Rattle.os_files.specs.Fails.{FailsOn};
+ghost use Rattle.os_files.specs.Views.{FilesFail};
 ghost use Rattle.ckeys_records.specs.Causes.{HasOwnFault};
 ghost use Rattle.ckeys_records.specs.Faults.{KeyCause};
-ghost use Rattle.ckeys_records.specs.Meaning.{AreSteady, AtMostOnce, FailsIn};
+ghost use Rattle.ckeys_records.specs.Meaning.{AtMostOnce};
+ghost use Rattle.ckeys_records.specs.Views.{AreSteady, ToolFails};
 ghost use Rattle.cmdlines_requests.specs.Small.{command_at};
 ghost use Rattle.rustc_parts.specs.Formed.{IsDigest, digest_digits};
 ghost use Rattle.rustc_texts.specs.Words.{compile_words};
@@ -146,14 +147,14 @@ impl<'a> RustHasher<'a> {
         ensures cause { (moment : ℤ)
             → let c = call_of self.now dir.now env.now (F.tree files.old) moment in
             IfErr result (KeyCause (key_fault_of (A.meaning answers.old) c)
-            (FailsOn F.tree F.failed F.fails_on files.old files.new)
-            (FailsIn A.meaning A.failed A.fails_in answers.old answers.new)) }
+            (FilesFail F.Files files.old files.new)
+            (ToolFails A.Preprocessor answers.old answers.new)) }
         ensures tree { F.tree files.new ≡ F.tree files.old }
         ensures meaning { A.meaning answers.new ≡ A.meaning answers.old }
         ensures steady { OnOk result
-            (AreSteady A.failed F.failed answers.old files.old answers.new files.new) }
-        ensures own { HasOwnFault result →
-            AreSteady A.failed F.failed answers.old files.old answers.new files.new }
+            (AreSteady A.Preprocessor F.Files answers.old files.old answers.new files.new) }
+        ensures still { HasOwnFault result →
+            AreSteady A.Preprocessor F.Files answers.old files.old answers.new files.new }
         ensures runs { OnOk result
             (A.preprocessed answers.new ≡ ticked (ticked (A.preprocessed answers.old))) }
         // How often rustc was asked before a fault.

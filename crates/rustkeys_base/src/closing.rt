@@ -2,9 +2,9 @@
 
 ghost use Rattle.std.specs.Prelude.{◌≡◌, Some, map, IfOk, IfErr, IsErrOf, OnOk, MatchOption, codes};
 ghost use Rattle.std.specs.List.{list_any};
-ghost use Rattle.os_files.specs.Fails.{FailsOn};
 ghost use Rattle.cmdlines_base.specs.Choices.{when};
 ghost use Rattle.os_files.specs.Path.{join, path_cmp};
+ghost use Rattle.os_files.specs.Views.{FilesFail};
 ghost use Rattle.rustc_options.specs.Sets.{in_order};
 ghost use Rattle.response_files.specs.Causes.{CauseOf};
 ghost use Rattle.rustkeys_base.specs.Requests.{IsAskedBy, IsMadeOf, color_mode, named_by_crate, emits, dep_info, gcno, profile, static_libraries};
@@ -187,7 +187,7 @@ fn made_for<F: Files>(
     ensures profile { IfOk result (λ made. made.profile ≡ profile facts.now) }
     ensures gcno { IfOk result (λ made. made.gcno ≡ gcno facts.now) }
     ensures emit { IfOk result (λ made. made.emit ≡ in_order (emitted facts.now)) }
-    ensures cause { IfErr result (CauseOf (FailsOn F.tree F.failed F.fails_on files.old files.new)) }
+    ensures cause { IfErr result (CauseOf (FilesFail F.Files files.old files.new)) }
     ensures tree { F.tree files.new ≡ F.tree files.old }
     ensures steady { OnOk result (F.failed files.new ≡ F.failed files.old) }
     ensures memory { IsErrOf result ParseFault.Memory → F.failed files.new ≡ F.failed files.old }
@@ -251,7 +251,7 @@ pub(crate) fn close<F: Files>(
 ) -> Result<CompilerArguments<ParsedArguments>, ParseFault>
     ensures verdict { IfOk result (λ answer. verdict_in answer ≡ closing facts) }
     ensures asked { IfOk result (IsAskedBy dir.now (F.tree files.old) facts arguments) }
-    ensures cause { IfErr result (CauseOf (FailsOn F.tree F.failed F.fails_on files.old files.new)) }
+    ensures cause { IfErr result (CauseOf (FilesFail F.Files files.old files.new)) }
     ensures tree { F.tree files.new ≡ F.tree files.old }
     ensures steady { OnOk result (F.failed files.new ≡ F.failed files.old) }
     ensures memory { IsErrOf result ParseFault.Memory → F.failed files.new ≡ F.failed files.old }

@@ -2,7 +2,7 @@
 
 ghost use Rattle.std.specs.Prelude.{◌≡◌, IfOk, IfErr, IsErrOf, OnOk};
 ghost use Rattle.std.specs.Option.{option_map};
-ghost use Rattle.os_files.specs.Fails.{FailsOn};
+ghost use Rattle.os_files.specs.Views.{FilesFail};
 ghost use Rattle.response_files.specs.Causes.{CauseOf};
 ghost use Rattle.rustkeys_base.specs.Saying.{token_in};
 ghost use Rattle.rustkeys_base.specs.Verdict.{AsksNothing, verdict_in, verdict_of, refused, second_input, other_types, codegen_decides, is_unsure, option_decides, decides};
@@ -93,7 +93,7 @@ fn is_unsure<F: Files>(
 ) -> Result<bool, ParseFault>
     ensures answer { IfOk result
         (λ unsure. unsure ≡ is_unsure dir.now (F.tree files.old) target.now) }
-    ensures cause { IfErr result (CauseOf (FailsOn F.tree F.failed F.fails_on files.old files.new)) }
+    ensures cause { IfErr result (CauseOf (FilesFail F.Files files.old files.new)) }
     ensures tree { F.tree files.new ≡ F.tree files.old }
     ensures steady { OnOk result (F.failed files.new ≡ F.failed files.old) }
     ensures memory { IsErrOf result ParseFault.Memory → F.failed files.new ≡ F.failed files.old }
@@ -125,7 +125,7 @@ fn option_decides<F: Files>(
     ensures answer { IfOk result
         (λ why. option_map verdict_of why
         ≡ option_decides dir.now (F.tree files.old) so_far.now flag.now value.now) }
-    ensures cause { IfErr result (CauseOf (FailsOn F.tree F.failed F.fails_on files.old files.new)) }
+    ensures cause { IfErr result (CauseOf (FilesFail F.Files files.old files.new)) }
     ensures tree { F.tree files.new ≡ F.tree files.old }
     ensures steady { OnOk result (F.failed files.new ≡ F.failed files.old) }
     ensures memory { IsErrOf result ParseFault.Memory → F.failed files.new ≡ F.failed files.old }
@@ -160,7 +160,7 @@ pub(crate) fn decides<F: Files>(
     ensures answer { IfOk result
         (λ why. option_map verdict_of why
         ≡ decides dir.now (F.tree files.old) so_far.now (token_in argument.now)) }
-    ensures cause { IfErr result (CauseOf (FailsOn F.tree F.failed F.fails_on files.old files.new)) }
+    ensures cause { IfErr result (CauseOf (FilesFail F.Files files.old files.new)) }
     ensures tree { F.tree files.new ≡ F.tree files.old }
     ensures steady { OnOk result (F.failed files.new ≡ F.failed files.old) }
     ensures memory { IsErrOf result ParseFault.Memory → F.failed files.new ≡ F.failed files.old }

@@ -5,8 +5,8 @@ ghost use Rattle.std.specs.Iterator.{at_most};
 ghost use Rattle.std.specs.List.{list_any};
 ghost use Rattle.std.specs.Option.{option_copied};
 ghost use Rattle.os_files.specs.Bytes.{Bytes};
-ghost use Rattle.os_files.specs.Fails.{FailsOn};
 ghost use Rattle.os_files.specs.Tree.{Tree};
+ghost use Rattle.os_files.specs.Views.{FilesFail};
 ghost use Rattle.response_files.specs.Causes.{CauseOf};
 ghost use Rattle.response_files.specs.Styles.{behind};
 ghost use Rattle.response_files.specs.Words.{Gives, Takes};
@@ -58,7 +58,7 @@ fn opened_by<F: Files>(
     word: &OsBytes,
 ) -> Result<Option<Listed<OsBytes>>, ParseFault>
     ensures opened { IfOk result (λ words. words ≡ opened_by dir.now (F.tree files.old) word.now) }
-    ensures cause { IfErr result (CauseOf (FailsOn F.tree F.failed F.fails_on files.old files.new)) }
+    ensures cause { IfErr result (CauseOf (FilesFail F.Files files.old files.new)) }
     ensures tree { F.tree files.new ≡ F.tree files.old }
     ensures steady { OnOk result (F.failed files.new ≡ F.failed files.old) }
     ensures memory { IsErrOf result ParseFault.Memory → F.failed files.new ≡ F.failed files.old }
@@ -84,7 +84,7 @@ pub fn expand_rustc<F: Files>(
 ) -> Result<Listed<OsBytes>, ParseFault>
     ensures words { IfOk result
         (λ list. list ≡ expanded_by_rustc dir.now (F.tree files.old) words.now) }
-    ensures cause { IfErr result (CauseOf (FailsOn F.tree F.failed F.fails_on files.old files.new)) }
+    ensures cause { IfErr result (CauseOf (FilesFail F.Files files.old files.new)) }
     ensures tree { F.tree files.new ≡ F.tree files.old }
     ensures steady { OnOk result (F.failed files.new ≡ F.failed files.old) }
     ensures memory { IsErrOf result ParseFault.Memory → F.failed files.new ≡ F.failed files.old }
@@ -117,7 +117,7 @@ impl ExpandResponseFile {
     ) -> ExpandResponseFile
         ensures gives { Gives (items_left result)
             (expanded_by_rustc dir.now (F.tree files.old) words.now)
-            (FailsOn F.tree F.failed F.fails_on files.old files.new) }
+            (FilesFail F.Files files.old files.new) }
         ensures tree { F.tree files.new ≡ F.tree files.old }
         // No device failed where words are all that comes, nor where want of memory is.
         ensures steady { (given : List Bytes) → items_left result ≡ map Ok given

@@ -1,9 +1,9 @@
 //! Static libraries, where they lie.
 
 ghost use Rattle.std.specs.Prelude.{◌≡◌, ◌++◌, IfOk, IfErr, IsErrOf, OnOk, find, map, filter_map};
-ghost use Rattle.os_files.specs.Fails.{FailsOn};
 ghost use Rattle.os_files.specs.Path.{join};
 ghost use Rattle.os_files.specs.Tree.{exists_at};
+ghost use Rattle.os_files.specs.Views.{FilesFail};
 ghost use Rattle.response_files.specs.Causes.{CauseOf};
 ghost use Rattle.rustkeys_base.specs.Requests.{library_names, library_in};
 
@@ -58,7 +58,7 @@ fn library_names(alloc: Global, name: &OsBytes) -> Result<Listed<OsBytes>, Alloc
 /// Whether anything is there.
 fn exists<F: Files>(alloc: Global, path: &OsBytes, files: &mut F) -> Result<bool, ParseFault>
     ensures answer { IfOk result (λ is_there. is_there ≡ exists_at (F.tree files.old) path.now) }
-    ensures cause { IfErr result (CauseOf (FailsOn F.tree F.failed F.fails_on files.old files.new)) }
+    ensures cause { IfErr result (CauseOf (FilesFail F.Files files.old files.new)) }
     ensures tree { F.tree files.new ≡ F.tree files.old }
     ensures steady { OnOk result (F.failed files.new ≡ F.failed files.old) }
     ensures memory { IsErrOf result ParseFault.Memory → F.failed files.new ≡ F.failed files.old }
@@ -79,7 +79,7 @@ fn first_there<F: Files>(
     files: &mut F,
 ) -> Result<Option<OsBytes>, ParseFault>
     ensures answer { IfOk result (λ found. found ≡ find (exists_at (F.tree files.old)) paths.now) }
-    ensures cause { IfErr result (CauseOf (FailsOn F.tree F.failed F.fails_on files.old files.new)) }
+    ensures cause { IfErr result (CauseOf (FilesFail F.Files files.old files.new)) }
     ensures tree { F.tree files.new ≡ F.tree files.old }
     ensures steady { OnOk result (F.failed files.new ≡ F.failed files.old) }
     ensures memory { IsErrOf result ParseFault.Memory → F.failed files.new ≡ F.failed files.old }
@@ -103,7 +103,7 @@ fn library_in<F: Files>(
 ) -> Result<Option<OsBytes>, ParseFault>
     ensures answer { IfOk result
         (λ found. found ≡ library_in (F.tree files.old) folders.now name.now) }
-    ensures cause { IfErr result (CauseOf (FailsOn F.tree F.failed F.fails_on files.old files.new)) }
+    ensures cause { IfErr result (CauseOf (FilesFail F.Files files.old files.new)) }
     ensures tree { F.tree files.new ≡ F.tree files.old }
     ensures steady { OnOk result (F.failed files.new ≡ F.failed files.old) }
     ensures memory { IsErrOf result ParseFault.Memory → F.failed files.new ≡ F.failed files.old }
@@ -129,7 +129,7 @@ pub(crate) fn libraries_in<F: Files>(
 ) -> Result<Listed<OsBytes>, ParseFault>
     ensures answer { IfOk result
         (λ found. found ≡ filter_map (library_in (F.tree files.old) folders.now) names.now) }
-    ensures cause { IfErr result (CauseOf (FailsOn F.tree F.failed F.fails_on files.old files.new)) }
+    ensures cause { IfErr result (CauseOf (FilesFail F.Files files.old files.new)) }
     ensures tree { F.tree files.new ≡ F.tree files.old }
     ensures steady { OnOk result (F.failed files.new ≡ F.failed files.old) }
     ensures memory { IsErrOf result ParseFault.Memory → F.failed files.new ≡ F.failed files.old }

@@ -1,10 +1,10 @@
 //! The parse of rustc's words: they are cut by its table, and what they say is gathered and closed.
 
 ghost use Rattle.std.specs.Prelude.{◌≡◌, ◌↔◌, [], ◌∷◌, alloc_error, IfOk, IfErr, IsErrOf, OnOk, MatchOption};
-ghost use Rattle.os_files.specs.Fails.{FailsOn};
 ghost use Rattle.response_files.specs.Causes.{CauseOf};
 ghost use Rattle.rustkeys_base.specs.Expansion.{expanded_by_rustc};
 ghost use Rattle.std.specs.Option.{option_map};
+ghost use Rattle.os_files.specs.Views.{FilesFail};
 ghost use Rattle.rustc_options.specs.Table.{rustc_entries, rustc_reading};
 ghost use Rattle.rustkeys_base.specs.Asks.{AsksFor, asks_of};
 ghost use Rattle.rustkeys_base.specs.Facts.{no_facts, facts_with};
@@ -80,7 +80,7 @@ fn note<F: Files>(
     ensures noted { IfOk result
         (λ why. MatchOption why (facts.new ≡ facts_with facts.old (token_in argument.now ∷ []))
         (λ decided. Unit {0})) }
-    ensures cause { IfErr result (CauseOf (FailsOn F.tree F.failed F.fails_on files.old files.new)) }
+    ensures cause { IfErr result (CauseOf (FilesFail F.Files files.old files.new)) }
     ensures tree { F.tree files.new ≡ F.tree files.old }
     ensures steady { OnOk result (F.failed files.new ≡ F.failed files.old) }
     ensures memory { IsErrOf result ParseFault.Memory → F.failed files.new ≡ F.failed files.old }
@@ -109,7 +109,7 @@ fn take<F: Files>(
         (λ decided. Unit {0})) }
     ensures kept { IfOk result
         (λ why. MatchOption why (kept.new ≡ kept_with kept.old argument) (λ decided. Unit {0})) }
-    ensures cause { IfErr result (CauseOf (FailsOn F.tree F.failed F.fails_on files.old files.new)) }
+    ensures cause { IfErr result (CauseOf (FilesFail F.Files files.old files.new)) }
     ensures tree { F.tree files.new ≡ F.tree files.old }
     ensures steady { OnOk result (F.failed files.new ≡ F.failed files.old) }
     ensures memory { IsErrOf result ParseFault.Memory → F.failed files.new ≡ F.failed files.old }
@@ -137,7 +137,7 @@ fn gather<F: Files>(
     requires kept { kept.old ≡ [] }
     ensures gathered { IfOk result
         (Gathers dir.now (F.tree files.old) (rustc_reading words.now) facts.new kept.new) }
-    ensures cause { IfErr result (CauseOf (FailsOn F.tree F.failed F.fails_on files.old files.new)) }
+    ensures cause { IfErr result (CauseOf (FilesFail F.Files files.old files.new)) }
     ensures tree { F.tree files.new ≡ F.tree files.old }
     ensures steady { OnOk result (F.failed files.new ≡ F.failed files.old) }
     ensures memory { IsErrOf result ParseFault.Memory → F.failed files.new ≡ F.failed files.old }
@@ -169,7 +169,7 @@ fn parse<F: Files>(
         ≡ verdict_on dir.now (F.tree files.old) (request_reading words.now)) }
     ensures asked { IfOk result
         (IsAsked dir.now (F.tree files.old) (request_reading words.now).items) }
-    ensures cause { IfErr result (CauseOf (FailsOn F.tree F.failed F.fails_on files.old files.new)) }
+    ensures cause { IfErr result (CauseOf (FilesFail F.Files files.old files.new)) }
     ensures tree { F.tree files.new ≡ F.tree files.old }
     ensures steady { OnOk result (F.failed files.new ≡ F.failed files.old) }
     ensures memory { IsErrOf result ParseFault.Memory → F.failed files.new ≡ F.failed files.old }
@@ -202,7 +202,7 @@ pub fn parse_arguments<F: Files>(
     ensures asks { IfOk result
         (AsksFor (asks_of dir.now (F.tree files.old)
         (request_reading (expanded_by_rustc dir.now (F.tree files.old) words.now)).items)) }
-    ensures cause { IfErr result (CauseOf (FailsOn F.tree F.failed F.fails_on files.old files.new)) }
+    ensures cause { IfErr result (CauseOf (FilesFail F.Files files.old files.new)) }
     ensures tree { F.tree files.new ≡ F.tree files.old }
     ensures steady { OnOk result (F.failed files.new ≡ F.failed files.old) }
     ensures memory { IsErrOf result ParseFault.Memory → F.failed files.new ≡ F.failed files.old }

@@ -12,7 +12,9 @@ use Rattle.ckeys_records.specs.Keys.{Distinct}
 use Rattle.ckeys_records.specs.Meaning.{names_of}
 use Rattle.wrap.specs.Account.{Account, Work, account_at, direct_calls, worked}
 use Rattle.wrap.specs.StoreKeys.{HasRecord, IsHashedIn, Premises, SameRecord}
-use Rattle.wrap.specs.Whole.{FilesView, ToolView, accounts_at}
+use Rattle.os_files.specs.Views.{FilesView}
+use Rattle.ckeys_records.specs.Views.{ToolView}
+use Rattle.wrap.specs.Whole.{accounts_at}
 use Rattle.wrap_base.specs.Commands.{CFound, NamedBy, by_c, by_rustc, named_by, words_at}
 use Rattle.wrap_base.specs.declared.call.Call.{Call}
 use Rattle.wrap_base.specs.declared.request.Request.{Request}

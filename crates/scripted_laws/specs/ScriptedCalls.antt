@@ -13,7 +13,8 @@ use Rattle.script_tool.specs.ScriptedCrates.{compiled_crate}
 use Rattle.script_tool.specs.declared.crate_texts.CrateTexts.{CrateTexts}
 use Rattle.wrap.specs.CallRecords.{CallRecord, of_c, of_rustc}
 use Rattle.wrap.specs.Account.{Account, Work, account_at}
-use Rattle.wrap.specs.Whole.{FilesView, ToolView}
+use Rattle.os_files.specs.Views.{FilesView}
+use Rattle.ckeys_records.specs.Views.{ToolView}
 use Rattle.wrap_base.specs.Commands.{CFound, NamedBy, by_c, by_rustc, named_by, words_at}
 use Rattle.wrap_base.specs.declared.call.Call.{Call}
 use Rattle.wrap_base.specs.declared.request.Request.{Request}

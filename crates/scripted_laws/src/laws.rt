@@ -9,7 +9,7 @@ ghost use Rattle.ckeys_records.specs.Keys.{Distinct};
 ghost use Rattle.scripted_laws.specs.ScriptedCalls.{HasSafeSource, IsGivenBy, IsMadeOfRecord, IsScripted, IsScriptedCall};
 ghost use Rattle.wrap.specs.Account.{Account, Work, direct_calls, worked};
 ghost use Rattle.wrap.specs.StoreKeys.{HasRecord, IsHashedIn, Premises, SameRecord};
-ghost use Rattle.wrap.specs.Whole.{accounts_at, files_view, tool_view};
+ghost use Rattle.wrap.specs.Whole.{accounts_at};
 ghost use Rattle.wrap_base.specs.Commands.{named_by};
 ghost use Rattle.wrap_base.specs.declared.call.Call.{Call};
 ghost use Rattle.wrap_base.specs.declared.request.Request.{Request};
@@ -46,10 +46,8 @@ pub fn scripted_runs_meet_their_premise<F: Files, T: Tool>()
         → Distinct digest_of (IsHashedIn digest_of run) → AreReprinted (direct_calls run)
         → Premises digest_of run }
     ensures calls { (digest_of : Bytes → Bytes) (settings : Settings) (calls : List (Call F T))
-        → let files = files_view F.tree F.failed in
-        let tool = tool_view T.meaning T.preprocessed T.compiled T.failed in
-        let run = accounts_at settings files tool calls in
-        All (IsScriptedCall settings files tool) calls
+        → let run = accounts_at settings F.Files T.Preprocessor calls in
+        All (IsScriptedCall settings F.Files T.Preprocessor) calls
         → Distinct digest_of (IsHashedIn digest_of run) → AreReprinted (direct_calls run)
         → Premises digest_of run }
 {

@@ -33,7 +33,9 @@ use Rattle.wrap_keys.specs.Answers.{Answers, SaysPassed}
 use Rattle.wrap_keys.specs.Asking.{EntriesBy, EntriesTurn, IsOfCall, IsOfOneCall, RecordsAreTrue, Shelves}
 use Rattle.wrap_keys.specs.StoreKeys.{store_key_of, IsHashedDirect, IsHashedIn, Premises, Invariant}
 use Rattle.wrap_keys.specs.Turn.{StoreTurn}
-use Rattle.wrap.specs.Whole.{Ticks, CallTurn, BothRun, SessionRun, Served, Loses, Run, accounts_of, AllAnswer, IsFresh, HaveOneRecord, OneFresh, outputs_in, Agree, SameOutputs, served, Each, FilesView, ToolView, begin_of, end_of, served_at, accounts_at}
+use Rattle.os_files.specs.Views.{FilesView}
+use Rattle.ckeys_records.specs.Views.{ToolView}
+use Rattle.wrap.specs.Whole.{Ticks, CallTurn, BothRun, SessionRun, Served, Loses, Run, accounts_of, AllAnswer, IsFresh, HaveOneRecord, OneFresh, outputs_in, Agree, SameOutputs, served, Each, begin_of, end_of, served_at, accounts_at}
 use Rattle.wrap_base.specs.declared.answer.Answer.{Answer}
 use Rattle.wrap_base.specs.declared.answer.Answer.TheVariants.{Pass, Outputs}
 use Rattle.wrap_base.specs.declared.answer.How.TheVariants.{Direct, Stored, Fresh}

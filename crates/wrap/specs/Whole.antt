@@ -2,15 +2,13 @@
 use Rattle.std.specs.Prelude.{◌≡◌, ℕ, true, false, List, [], ◌∷◌, map, Option, Some, None, Result, Ok, Err, OnOk, IsErrOf}
 use Rattle.std.specs.List.{AllByRecursion}
 use Rattle.os_files.specs.Bytes.{Bytes, ticked}
-use Rattle.os_files.specs.Fails.{FailsOn}
-use Rattle.os_files.specs.Tree.{Tree}
+use Rattle.os_files.specs.Views.{FilesFail, FilesView}
 use Rattle.ckeys_base.specs.Shelf.{Shelf, Within, KeepsKeys}
 use Rattle.ckeys_records.specs.Causes.{HasOwnFault}
 use Rattle.ckeys_records.specs.Folders.{Settings}
-use Rattle.ckeys_records.specs.Meaning.{AreSteady, FailsIn, Meaning}
+use Rattle.ckeys_records.specs.Views.{AreSteady, ToolFails, ToolView}
 use Rattle.ckeys_records.specs.declared.fault.Fault.{Fault}
 use Rattle.ckeys_records.specs.declared.fault.Fault.TheVariants.{Memory}
-use Rattle.ckeys_records.specs.declared.step.Step.{Step}
 use Rattle.wrap_keys.specs.Verdicts.{Why}
 use Rattle.wrap_keys.specs.Account.{Account, passed, worked, Pairs, account_at, why_passed}
 use Rattle.wrap_keys.specs.Answers.{Answers, GoesOn, OnPass, Says, SaysBy, SaysPassed, settled, settled_by}
@@ -67,7 +65,7 @@ pub record CallTurn (digest_of : Bytes → Bytes) (settings : Settings) (a : Acc
   pub entries : EntriesTurn digest_of a old.entries new.entries before.preprocessed after.preprocessed
   pub configured : IsOfOneCall settings a
   pub steady : OnOk result (SameFailures before after)
-  pub own : HasOwnFault result → SameFailures before after
+  pub still : HasOwnFault result → SameFailures before after
   pub passes : (why : Why) → why_passed a ≡ Some why → SaysPassed why (λ name. after.files_failed ≡ ticked before.files_failed) result
   pub quiet : OnPass result ((after.preprocessed ≡ before.preprocessed) × (after.compiled ≡ before.compiled) × (after.failed ≡ before.failed))
 
@@ -132,22 +130,6 @@ served (b ∷ begins) (e ∷ ends) [] = []
 served (b ∷ begins) (e ∷ ends) (r ∷ results) = record { account = b.0; before = b.1; after = e; result = r } ∷ served begins ends results
 
 -- what can be seen of files, and of a tool
-pub record FilesView (F : Type 0) : Type 0 where
-  pub tree : F → Tree
-  pub failed : F → ℕ
-
-pub record ToolView (T : Type 0) : Type 0 where
-  pub meaning : T → Meaning
-  pub preprocessed : T → ℕ
-  pub compiled : T → ℕ
-  pub failed : T → ℕ
-
-abbrev pub files_view : {F : Type 0} → (F → Tree) → (F → ℕ) → FilesView F
-files_view tree failed = record { tree = tree; failed = failed }
-
-abbrev pub tool_view : {T : Type 0} → (T → Meaning) → (T → ℕ) → (T → ℕ) → (T → ℕ) → ToolView T
-tool_view meaning preprocessed compiled failed = record { meaning = meaning; preprocessed = preprocessed; compiled = compiled; failed = failed }
-
 module _ {F T : Type 0} (settings : Settings) (files : FilesView F) (tool : ToolView T) where
   abbrev pub ticks_of : F → T → Ticks
   ticks_of f t = record { preprocessed = tool.preprocessed t; compiled = tool.compiled t; failed = tool.failed t; files_failed = files.failed f }
@@ -175,11 +157,11 @@ Each P (b ∷ begins) (e ∷ ends) [] = Unit {0}
 Each P (b ∷ begins) (e ∷ ends) (r ∷ results) = P b e r × Each P begins ends results
 
 -- A call is answered: its answer says what it may, a fault only with its cause, and outputs, where no records are kept, only where the call has no fault before; no failure tick has moved, unless the fault tells of a device; and its request, the tree of its files and its tool's meaning are as they were.
-pub record IsAnswered {F T : Type 0} (settings : Settings) (tree : F → Tree) (files_failed : F → ℕ) (fails_on : F → Bytes → F → Type 0) (meaning : T → Meaning) (failed : T → ℕ) (fails_in : T → Step → T → Type 0) (begin end : Call F T) (result : Result Answer Fault) : Type 0 where
-  pub says : SaysBy GoesOn (account_at (meaning begin.tool) (tree begin.files) settings begin.request) (FailsOn tree files_failed fails_on begin.files end.files) (FailsIn meaning failed fails_in begin.tool end.tool) result
-  pub plain : settings.direct ≡ false → Says (account_at (meaning begin.tool) (tree begin.files) settings begin.request) (FailsOn tree files_failed fails_on begin.files end.files) (FailsIn meaning failed fails_in begin.tool end.tool) result
-  pub steady : OnOk result (AreSteady failed files_failed begin.tool begin.files end.tool end.files)
-  pub own : HasOwnFault result → AreSteady failed files_failed begin.tool begin.files end.tool end.files
+pub record IsAnswered {F T : Type 0} (settings : Settings) (files : FilesView F) (tool : ToolView T) (begin end : Call F T) (result : Result Answer Fault) : Type 0 where
+  pub says : SaysBy GoesOn (account_at (tool.meaning begin.tool) (files.tree begin.files) settings begin.request) (FilesFail files begin.files end.files) (ToolFails tool begin.tool end.tool) result
+  pub plain : settings.direct ≡ false → Says (account_at (tool.meaning begin.tool) (files.tree begin.files) settings begin.request) (FilesFail files begin.files end.files) (ToolFails tool begin.tool end.tool) result
+  pub steady : OnOk result (AreSteady tool files begin.tool begin.files end.tool end.files)
+  pub still : HasOwnFault result → AreSteady tool files begin.tool begin.files end.tool end.files
   pub request : end.request ≡ begin.request
-  pub kept_tree : tree end.files ≡ tree begin.files
-  pub kept_meaning : meaning end.tool ≡ meaning begin.tool
+  pub kept_tree : files.tree end.files ≡ files.tree begin.files
+  pub kept_meaning : tool.meaning end.tool ≡ tool.meaning begin.tool

@@ -1,18 +1,18 @@
 //! The session that answers requests.
 
 ghost use Rattle.std.specs.Prelude.{◌≡◌, true, false, List, [], ◌∷◌, ◌++◌, length, IfOk, OnOk, OnErr, IsErrOf};
-ghost use Rattle.os_files.specs.Fails.{FailsOn};
+ghost use Rattle.os_files.specs.Views.{FilesFail};
 ghost use Rattle.ckeys_base.specs.Shelf.{Clears, IsEmpty};
 ghost use Rattle.ckeys.specs.Entries.{EntryInvariant, EntryPremises};
 ghost use Rattle.ckeys_records.specs.Causes.{HasOwnFault};
-ghost use Rattle.ckeys_records.specs.Meaning.{AreSteady, FailsIn};
+ghost use Rattle.ckeys_records.specs.Views.{AreSteady, ToolFails};
 ghost use Rattle.wrap_keys.specs.Account.{Account, account_at, direct_calls};
 ghost use Rattle.wrap_keys.specs.Answers.{Answers, GoesOn, OnPass, Says, SaysBy, settled, settled_by};
 ghost use Rattle.wrap_keys.specs.Asking.{AskedTurn, EntriesTurn, RecordsAreTrue, RunsOf, shelves_of};
 ghost use Rattle.wrap_keys.specs.StoreKeys.{Invariant, Premises};
 ghost use Rattle.wrap_keys.specs.Turn.{StoreTurn};
 ghost use Rattle.fingerprints.specs.Telling.{OnReason, Tells};
-ghost use Rattle.wrap.specs.Whole.{AllAnswer, Each, IsAnswered, OneFresh, Run, SessionRun, accounts_at, files_view, served_at, tool_view};
+ghost use Rattle.wrap.specs.Whole.{AllAnswer, Each, IsAnswered, OneFresh, Run, SessionRun, accounts_at, served_at};
 ghost use Rattle.wrap.specs.Sessions.{held_by};
 
 use crate::laws::call_keys_tell_records;
@@ -111,8 +111,8 @@ impl<
         // verdict says, unless memory was refused first; a fault has its cause.
         ensures tells { let a = account_at (T.meaning tool.old) (F.tree files.old) self.now.settings
             request.now in
-            Tells H.digest_of a (FailsOn F.tree F.failed F.fails_on files.old files.new)
-            (FailsIn T.meaning T.failed T.fails_in tool.old tool.new) result }
+            Tells H.digest_of a (FilesFail F.Files files.old files.new)
+            (ToolFails T.Preprocessor tool.old tool.new) result }
         // A pass moves no tick.
         ensures quiet { OnReason result
             ((T.preprocessed tool.new ≡ T.preprocessed tool.old)
@@ -126,9 +126,9 @@ impl<
         ensures meaning { T.meaning tool.new ≡ T.meaning tool.old }
         // No device failed where there is an answer, nor where a fault tells of none.
         ensures steady { OnOk result
-            (AreSteady T.failed F.failed tool.old files.old tool.new files.new) }
-        ensures own { HasOwnFault result →
-            AreSteady T.failed F.failed tool.old files.old tool.new files.new }
+            (AreSteady T.Preprocessor F.Files tool.old files.old tool.new files.new) }
+        ensures still { HasOwnFault result →
+            AreSteady T.Preprocessor F.Files tool.old files.old tool.new files.new }
     {
         request_fingerprint::<H, F, T>(self.alloc, &self.config, request, files, tool)
     }
@@ -144,8 +144,8 @@ impl<
         // It is passed through exactly where the verdict says, unless memory was refused first; a fault has its cause.
         ensures says { let a = account_at (T.meaning tool.old) (F.tree files.old) self.old.settings
             request.now in
-            SaysBy GoesOn a (FailsOn F.tree F.failed F.fails_on files.old files.new)
-            (FailsIn T.meaning T.failed T.fails_in tool.old tool.new) result }
+            SaysBy GoesOn a (FilesFail F.Files files.old files.new)
+            (ToolFails T.Preprocessor tool.old tool.new) result }
 
         // A pass moves no tick.
         ensures quiet { OnPass result
@@ -190,8 +190,8 @@ impl<
         ensures goes_on { let a = account_at (T.meaning tool.old) (F.tree files.old)
             self.old.settings request.now in
             RecordsAreTrue H.digest_of a (E.shelf self.old.entries).held
-            → Says a (FailsOn F.tree F.failed F.fails_on files.old files.new)
-            (FailsIn T.meaning T.failed T.fails_in tool.old tool.new) result }
+            → Says a (FilesFail F.Files files.old files.new)
+            (ToolFails T.Preprocessor tool.old tool.new) result }
 
         // Then, where no growth is refused and no device fails, what is said before the compile is the account's alone.
         ensures exact { let a = account_at (T.meaning tool.old) (F.tree files.old) self.old.settings
@@ -227,9 +227,9 @@ impl<
 
         // No device failed where there is an answer, nor where a fault tells of none.
         ensures steady { OnOk result
-            (AreSteady T.failed F.failed tool.old files.old tool.new files.new) }
-        ensures own { HasOwnFault result →
-            AreSteady T.failed F.failed tool.old files.old tool.new files.new }
+            (AreSteady T.Preprocessor F.Files tool.old files.old tool.new files.new) }
+        ensures still { HasOwnFault result →
+            AreSteady T.Preprocessor F.Files tool.old files.old tool.new files.new }
     {
         call_keys_tell_records::<H>();
         records_are_true::<H>();
@@ -247,8 +247,8 @@ impl<
         ensures run { IfOk result
             (λ answers. SessionRun H.digest_of self.old.settings
             (shelves_of (E.shelf self.old.entries) (O.shelf self.old.objects))
-            (served_at self.old.settings (files_view F.tree F.failed)
-            (tool_view T.meaning T.preprocessed T.compiled T.failed) calls.old calls.new
+            (served_at self.old.settings F.Files
+            T.Preprocessor calls.old calls.new
             answers.items)
             (shelves_of (E.shelf self.new.entries) (O.shelf self.new.objects))) }
 
@@ -257,31 +257,31 @@ impl<
             → IsEmpty (E.shelf self.old.entries)
             × EntryPremises H.digest_of
             (direct_calls
-            (accounts_at self.old.settings (files_view F.tree F.failed)
-            (tool_view T.meaning T.preprocessed T.compiled T.failed) calls.old)))
+            (accounts_at self.old.settings F.Files
+            T.Preprocessor calls.old)))
             → IfOk result
             (λ answers. Run H.digest_of (O.shelf self.old.objects)
-            (served_at self.old.settings (files_view F.tree F.failed)
-            (tool_view T.meaning T.preprocessed T.compiled T.failed) calls.old calls.new
+            (served_at self.old.settings F.Files
+            T.Preprocessor calls.old calls.new
             answers.items)
             (O.shelf self.new.objects)) }
 
         // Each is passed through exactly where the verdict says, and a fault has its cause, as `serve` says.
         ensures says { IfOk result
             (λ answers. Each
-            (IsAnswered self.old.settings F.tree F.failed F.fails_on T.meaning T.failed T.fails_in)
+            (IsAnswered self.old.settings F.Files T.Preprocessor)
             calls.old calls.new answers.items) }
 
         // From empty stores all outputs are those that the compilers give afresh on each call's files.
         ensures outputs { (self.old.settings.direct ≡ true → IsEmpty (E.shelf self.old.entries))
             → IsEmpty (O.shelf self.old.objects)
             → Premises H.digest_of
-            (accounts_at self.old.settings (files_view F.tree F.failed)
-            (tool_view T.meaning T.preprocessed T.compiled T.failed) calls.old)
+            (accounts_at self.old.settings F.Files
+            T.Preprocessor calls.old)
             → IfOk result
             (λ answers. AllAnswer
-            (served_at self.old.settings (files_view F.tree F.failed)
-            (tool_view T.meaning T.preprocessed T.compiled T.failed) calls.old calls.new
+            (served_at self.old.settings F.Files
+            T.Preprocessor calls.old calls.new
             answers.items)) }
 
         // With nothing forgotten or refused, equal records get at most one fresh answer.
@@ -289,13 +289,13 @@ impl<
             → IsEmpty (E.shelf self.old.entries)
             × EntryPremises H.digest_of
             (direct_calls
-            (accounts_at self.old.settings (files_view F.tree F.failed)
-            (tool_view T.meaning T.preprocessed T.compiled T.failed) calls.old)))
+            (accounts_at self.old.settings F.Files
+            T.Preprocessor calls.old)))
             → (O.shelf self.new.objects).kept ≡ true
             → IfOk result
             (λ answers. OneFresh
-            (served_at self.old.settings (files_view F.tree F.failed)
-            (tool_view T.meaning T.preprocessed T.compiled T.failed) calls.old calls.new
+            (served_at self.old.settings F.Files
+            T.Preprocessor calls.old calls.new
             answers.items)) }
 
         ensures settings { self.new.settings ≡ self.old.settings }
@@ -316,13 +316,13 @@ impl<
         ensures run { IfOk result
             (λ answers. SessionRun H.digest_of self.old.settings
             (shelves_of (E.shelf self.old.entries) (O.shelf self.old.objects))
-            (served_at self.old.settings (files_view F.tree F.failed)
-            (tool_view T.meaning T.preprocessed T.compiled T.failed) calls.old calls.new
+            (served_at self.old.settings F.Files
+            T.Preprocessor calls.old calls.new
             answers.items)
             (shelves_of (E.shelf self.new.entries) (O.shelf self.new.objects))) }
         ensures says { IfOk result
             (λ answers. Each
-            (IsAnswered self.old.settings F.tree F.failed F.fails_on T.meaning T.failed T.fails_in)
+            (IsAnswered self.old.settings F.Files T.Preprocessor)
             calls.old calls.new answers.items) }
         ensures settings { self.new.settings ≡ self.old.settings }
         ensures unchanged { OnErr result
@@ -345,13 +345,13 @@ impl<
     ) -> Result<Answer, Fault>
         ensures says { let a = account_at (T.meaning tool.old) (F.tree files.old) self.old.settings
             request.now in
-            SaysBy GoesOn a (FailsOn F.tree F.failed F.fails_on files.old files.new)
-            (FailsIn T.meaning T.failed T.fails_in tool.old tool.new) result }
+            SaysBy GoesOn a (FilesFail F.Files files.old files.new)
+            (ToolFails T.Preprocessor tool.old tool.new) result }
         ensures goes_on { let a = account_at (T.meaning tool.old) (F.tree files.old)
             self.old.settings request.now in
             RecordsAreTrue H.digest_of a (E.shelf self.old.entries).held
-            → Says a (FailsOn F.tree F.failed F.fails_on files.old files.new)
-            (FailsIn T.meaning T.failed T.fails_in tool.old tool.new) result }
+            → Says a (FilesFail F.Files files.old files.new)
+            (ToolFails T.Preprocessor tool.old tool.new) result }
         ensures quiet { OnPass result
             ((T.preprocessed tool.new ≡ T.preprocessed tool.old)
             × (T.compiled tool.new ≡ T.compiled tool.old) × (T.failed tool.new ≡ T.failed tool.old)) }
@@ -370,9 +370,9 @@ impl<
         ensures meaning { T.meaning tool.new ≡ T.meaning tool.old }
         ensures tree { F.tree files.new ≡ F.tree files.old }
         ensures steady { OnOk result
-            (AreSteady T.failed F.failed tool.old files.old tool.new files.new) }
-        ensures own { HasOwnFault result →
-            AreSteady T.failed F.failed tool.old files.old tool.new files.new }
+            (AreSteady T.Preprocessor F.Files tool.old files.old tool.new files.new) }
+        ensures still { HasOwnFault result →
+            AreSteady T.Preprocessor F.Files tool.old files.old tool.new files.new }
     {
         match request.compiler.named() {
             Named::C(compiler) => c_turn::<H, E, O, F, T>(

@@ -2,13 +2,14 @@
 
 ghost use Rattle.std.specs.Prelude.{◌≡◌, false, true, Some, IfOk, IfErr, OnOk};
 ghost use Rattle.std.specs.List.{AllByRecursion};
-ghost use Rattle.os_files.specs.Fails.{FailsOn};
+ghost use Rattle.os_files.specs.Views.{FilesFail};
 ghost use Rattle.ckeys.specs.Calls.{PrintedCall, needs_preprocessing, printed_call, record_of};
 ghost use Rattle.ckeys_records.specs.Causes.{HasOwnFault};
 ghost use Rattle.ckeys_records.specs.Faults.{KeyCause};
 ghost use Rattle.ckeys.specs.EntryTurns.{KeyFine, KeyRecorded, KeyRuns, RunsUntilKey};
-ghost use Rattle.ckeys_records.specs.Meaning.{AreSteady, FailsIn, names_of};
+ghost use Rattle.ckeys_records.specs.Meaning.{names_of};
 ghost use Rattle.ckeys_records.specs.Records.{FitsLength};
+ghost use Rattle.ckeys_records.specs.Views.{AreSteady, ToolFails};
 ghost use Rattle.wrap_keys.specs.Account.{call_at, work_at, worked};
 ghost use Rattle.wrap_keys.specs.Asking.{EntriesTurn, WorkKeyFrom};
 ghost use Rattle.wrap_keys.specs.StoreKeys.{store_key_with};
@@ -91,8 +92,8 @@ pub fn store_key<H: HashState, E: Store<EntryKey, PreprocessorCacheEntry>, F: Fi
     ensures cause { let w = work_at (T.meaning tool.old)
         (call_at (found_of compiler.entry) request.now (F.tree files.old) config.now plan.now.parsed) in
         IfErr result
-        (KeyCause w.fault (FailsOn F.tree F.failed F.fails_on files.old files.new)
-        (FailsIn T.meaning T.failed T.fails_in tool.old tool.new)) }
+        (KeyCause w.fault (FilesFail F.Files files.old files.new)
+        (ToolFails T.Preprocessor tool.old tool.new)) }
     ensures entries { let w = work_at (T.meaning tool.old)
         (call_at (found_of compiler.entry) request.now (F.tree files.old) config.now plan.now.parsed) in
         EntriesTurn H.digest_of (worked w) (E.shelf entries.old) (E.shelf entries.new)
@@ -111,9 +112,9 @@ pub fn store_key<H: HashState, E: Store<EntryKey, PreprocessorCacheEntry>, F: Fi
     ensures tree { F.tree files.new ≡ F.tree files.old }
     ensures meaning { T.meaning tool.new ≡ T.meaning tool.old }
     ensures steady { OnOk result
-        (AreSteady T.failed F.failed tool.old files.old tool.new files.new) }
-    ensures own { HasOwnFault result →
-        AreSteady T.failed F.failed tool.old files.old tool.new files.new }
+        (AreSteady T.Preprocessor F.Files tool.old files.old tool.new files.new) }
+    ensures still { HasOwnFault result →
+        AreSteady T.Preprocessor F.Files tool.old files.old tool.new files.new }
     ensures compiles { T.compiled tool.new ≡ T.compiled tool.old }
 {
     let hasher = compiler.hasher(&plan.parsed);

@@ -3,7 +3,7 @@
 ghost use Rattle.std.specs.Prelude.{◌≡◌, false, IfOk, IfErr, OnOk};
 ghost use Rattle.std.specs.List.{list_all};
 ghost use Rattle.std.specs.Str.{is_utf8};
-ghost use Rattle.os_files.specs.Fails.{FailsOn};
+ghost use Rattle.os_files.specs.Views.{FilesFail};
 ghost use Rattle.rustc_requests.specs.Asks.{asks_in};
 ghost use Rattle.wrap_keys.specs.Answers.{EarlyCause};
 ghost use Rattle.wrap_keys.specs.RustPlans.{OnAsks, OpensNothing, decision_of};
@@ -109,10 +109,10 @@ pub fn judge_rust<F: Files>(
     ensures opens { IfOk result (λ verdict. OnAsks verdict OpensNothing) }
     ensures untouched { is_text request.now ≡ false → files.new ≡ files.old }
     ensures cause { IfErr result
-        (EarlyCause (FailsOn F.tree F.failed F.fails_on files.old files.new)) }
+        (EarlyCause (FilesFail F.Files files.old files.new)) }
     ensures tree { F.tree files.new ≡ F.tree files.old }
     ensures steady { OnOk result (F.failed files.new ≡ F.failed files.old) }
-    ensures own { HasOwnFault result → F.failed files.new ≡ F.failed files.old }
+    ensures still { HasOwnFault result → F.failed files.new ≡ F.failed files.old }
 {
     if !is_text(request) {
         return Ok(RustVerdict::Passes(Reason::NotUtf8));

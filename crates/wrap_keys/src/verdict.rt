@@ -2,7 +2,7 @@
 
 ghost use Rattle.std.specs.Prelude.{◌≡◌, is_some, true, List, IfOk, IfErr, OnOk};
 ghost use Rattle.os_files.specs.Bytes.{Bytes};
-ghost use Rattle.os_files.specs.Fails.{FailsOn};
+ghost use Rattle.os_files.specs.Views.{FilesFail};
 ghost use Rattle.cmdlines.specs.Commands.{object_path};
 ghost use Rattle.cmdlines.specs.Parsing as parsing;
 ghost use Rattle.cmdlines.specs.ReadBack.{ReadsAsCompile};
@@ -126,10 +126,10 @@ pub fn judge<F: Files>(
         (λ verdict. OnAsks verdict
         (IsReadAgainWhereSafe found (words_at found request.now (F.tree files.old)))) }
     ensures cause { IfErr result
-        (EarlyCause (FailsOn F.tree F.failed F.fails_on files.old files.new)) }
+        (EarlyCause (FilesFail F.Files files.old files.new)) }
     ensures tree { F.tree files.new ≡ F.tree files.old }
     ensures steady { OnOk result (F.failed files.new ≡ F.failed files.old) }
-    ensures own { HasOwnFault result → F.failed files.new ≡ F.failed files.old }
+    ensures still { HasOwnFault result → F.failed files.new ≡ F.failed files.old }
 {
     let words = request.words.as_slice();
     match compiler.parse_arguments(alloc, words, &request.dir, files) {

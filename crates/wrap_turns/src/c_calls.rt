@@ -1,9 +1,9 @@
 //! Requests to a C compiler: the verdict on one, its key, and what it is answered.
 
 ghost use Rattle.std.specs.Prelude.{◌≡◌, OnOk};
-ghost use Rattle.os_files.specs.Fails.{FailsOn};
+ghost use Rattle.os_files.specs.Views.{FilesFail};
 ghost use Rattle.ckeys_records.specs.Causes.{HasOwnFault};
-ghost use Rattle.ckeys_records.specs.Meaning.{AreSteady, FailsIn};
+ghost use Rattle.ckeys_records.specs.Views.{AreSteady, ToolFails};
 ghost use Rattle.wrap_keys.specs.Account.{account_named, call_at, work_at, worked};
 ghost use Rattle.wrap_keys.specs.Answers.{GoesOn, OnPass, Says, SaysBy, SaysWorked, SaysWorkedBy};
 ghost use Rattle.wrap_keys.specs.Asking.{AskedTurn, EntriesTurn, RecordsAreTrue, shelves_of};
@@ -48,13 +48,13 @@ fn answer<
     requires plan { IsPlanOf (found_of compiler) request.now plan.now }
     ensures says { let w = work_at (T.meaning tool.old)
         (call_at (found_of compiler.entry) request.now (F.tree files.old) config.now plan.now.parsed) in
-        SaysWorkedBy (GoesOn w) w (FailsOn F.tree F.failed F.fails_on files.old files.new)
-        (FailsIn T.meaning T.failed T.fails_in tool.old tool.new) result }
+        SaysWorkedBy (GoesOn w) w (FilesFail F.Files files.old files.new)
+        (ToolFails T.Preprocessor tool.old tool.new) result }
     ensures goes_on { let w = work_at (T.meaning tool.old)
         (call_at (found_of compiler.entry) request.now (F.tree files.old) config.now plan.now.parsed) in
         RecordsAreTrue H.digest_of (worked w) (E.shelf entries.old).held
-        → SaysWorked w (FailsOn F.tree F.failed F.fails_on files.old files.new)
-        (FailsIn T.meaning T.failed T.fails_in tool.old tool.new) result }
+        → SaysWorked w (FilesFail F.Files files.old files.new)
+        (ToolFails T.Preprocessor tool.old tool.new) result }
     ensures asked { let w = work_at (T.meaning tool.old)
         (call_at (found_of compiler.entry) request.now (F.tree files.old) config.now plan.now.parsed) in
         AskedTurn H.digest_of (worked w) (shelves_of (E.shelf entries.old) (O.shelf objects.old))
@@ -68,9 +68,9 @@ fn answer<
     ensures meaning { T.meaning tool.new ≡ T.meaning tool.old }
     ensures tree { F.tree files.new ≡ F.tree files.old }
     ensures steady { OnOk result
-        (AreSteady T.failed F.failed tool.old files.old tool.new files.new) }
-    ensures own { HasOwnFault result →
-        AreSteady T.failed F.failed tool.old files.old tool.new files.new }
+        (AreSteady T.Preprocessor F.Files tool.old files.old tool.new files.new) }
+    ensures still { HasOwnFault result →
+        AreSteady T.Preprocessor F.Files tool.old files.old tool.new files.new }
 {
     let prepared = prepare::<H, E, F, T>(
         alloc, compiler, request, plan, config, entries, files, tool,
@@ -98,13 +98,13 @@ pub fn c_turn<
 ) -> Result<Answer, Fault>
     ensures says { let a = account_named (T.meaning tool.old) (F.tree files.old) config.now
         request.now (by_c (found_of compiler.entry)) in
-        SaysBy GoesOn a (FailsOn F.tree F.failed F.fails_on files.old files.new)
-        (FailsIn T.meaning T.failed T.fails_in tool.old tool.new) result }
+        SaysBy GoesOn a (FilesFail F.Files files.old files.new)
+        (ToolFails T.Preprocessor tool.old tool.new) result }
     ensures goes_on { let a = account_named (T.meaning tool.old) (F.tree files.old) config.now
         request.now (by_c (found_of compiler.entry)) in
         RecordsAreTrue H.digest_of a (E.shelf entries.old).held
-        → Says a (FailsOn F.tree F.failed F.fails_on files.old files.new)
-        (FailsIn T.meaning T.failed T.fails_in tool.old tool.new) result }
+        → Says a (FilesFail F.Files files.old files.new)
+        (ToolFails T.Preprocessor tool.old tool.new) result }
     ensures quiet { OnPass result
         ((T.preprocessed tool.new ≡ T.preprocessed tool.old)
         × (T.compiled tool.new ≡ T.compiled tool.old) × (T.failed tool.new ≡ T.failed tool.old)) }
@@ -120,9 +120,9 @@ pub fn c_turn<
     ensures meaning { T.meaning tool.new ≡ T.meaning tool.old }
     ensures tree { F.tree files.new ≡ F.tree files.old }
     ensures steady { OnOk result
-        (AreSteady T.failed F.failed tool.old files.old tool.new files.new) }
-    ensures own { HasOwnFault result →
-        AreSteady T.failed F.failed tool.old files.old tool.new files.new }
+        (AreSteady T.Preprocessor F.Files tool.old files.old tool.new files.new) }
+    ensures still { HasOwnFault result →
+        AreSteady T.Preprocessor F.Files tool.old files.old tool.new files.new }
 {
     match judge(alloc, compiler, request, files)? {
         Verdict::Passes(reason) => Ok(Answer::Pass(reason)),

@@ -2,7 +2,7 @@
 
 ghost use Rattle.std.specs.Prelude.{◌≡◌, IfOk, IfErr, OnOk};
 ghost use Rattle.ckeys_records.specs.Causes.{HasOwnFault};
-ghost use Rattle.ckeys_records.specs.Meaning.{AreSteady, FailsIn};
+ghost use Rattle.ckeys_records.specs.Views.{AreSteady, ToolFails};
 ghost use Rattle.wrap_keys.specs.Account.{Work, IsSuccess};
 ghost use Rattle.wrap_turns.specs.Prepared.{Makes};
 ghost use Rattle.wrap_turns.specs.Steps.{CompileCause, RanOnce};
@@ -34,12 +34,12 @@ pub fn compiled_pairs<F: Files, T: Tool>(
         → IfOk result (IsSuccess w) }
     ensures cause { (w : Work)
         → Makes (T.meaning tool.old) (F.tree files.old) kind command.now outputs.now moment w
-        → IfErr result (CompileCause w (FailsIn T.meaning T.failed T.fails_in tool.old tool.new)) }
+        → IfErr result (CompileCause w (ToolFails T.Preprocessor tool.old tool.new)) }
     ensures tree { F.tree files.new ≡ F.tree files.old }
     ensures steady { OnOk result
-        (AreSteady T.failed F.failed tool.old files.old tool.new files.new) }
-    ensures own { HasOwnFault result →
-        AreSteady T.failed F.failed tool.old files.old tool.new files.new }
+        (AreSteady T.Preprocessor F.Files tool.old files.old tool.new files.new) }
+    ensures still { HasOwnFault result →
+        AreSteady T.Preprocessor F.Files tool.old files.old tool.new files.new }
     ensures meaning { T.meaning tool.new ≡ T.meaning tool.old }
     ensures preprocesses { T.preprocessed tool.new ≡ T.preprocessed tool.old }
     ensures runs { RanOnce result (T.compiled tool.old) (T.compiled tool.new) }

@@ -4,7 +4,7 @@
 ghost use Rattle.std.specs.Prelude.{◌≡◌, OnOk};
 ghost use Rattle.os_files.specs.Bytes.{Bytes};
 ghost use Rattle.ckeys_records.specs.Causes.{HasOwnFault};
-ghost use Rattle.ckeys_records.specs.Meaning.{AreSteady, FailsIn};
+ghost use Rattle.ckeys_records.specs.Views.{AreSteady, ToolFails};
 ghost use Rattle.wrap_keys.specs.Account.{Work, worked};
 ghost use Rattle.wrap_keys.specs.Asking.{HowFrom};
 ghost use Rattle.wrap_turns.specs.Prepared.{IsPrepared, SaysFinished};
@@ -48,15 +48,15 @@ pub fn finish<O: Store<StoreKey, Pairs>, F: Files, T: Tool>(
         (O.shelf objects.new) (T.compiled tool.old) (T.compiled tool.new) result }
     ensures says { (digest_of : Bytes → Bytes) (w : Work)
         → IsPrepared digest_of (T.meaning tool.old) (F.tree files.old) w prepared.entry
-        → SaysFinished w (FailsIn T.meaning T.failed T.fails_in tool.old tool.new) result }
+        → SaysFinished w (ToolFails T.Preprocessor tool.old tool.new) result }
     ensures how { HowFrom prepared.entry.from_record result }
     ensures preprocesses { T.preprocessed tool.new ≡ T.preprocessed tool.old }
     ensures meaning { T.meaning tool.new ≡ T.meaning tool.old }
     ensures tree { F.tree files.new ≡ F.tree files.old }
     ensures steady { OnOk result
-        (AreSteady T.failed F.failed tool.old files.old tool.new files.new) }
-    ensures own { HasOwnFault result →
-        AreSteady T.failed F.failed tool.old files.old tool.new files.new }
+        (AreSteady T.Preprocessor F.Files tool.old files.old tool.new files.new) }
+    ensures still { HasOwnFault result →
+        AreSteady T.Preprocessor F.Files tool.old files.old tool.new files.new }
 {
     // A law, which costs nothing: keys that are equal are one.
     keys_are_their_fields();

@@ -2,10 +2,10 @@
 
 ghost use Rattle.std.specs.Prelude.{◌≡◌, false, IfOk, IfErr, OnOk};
 ghost use Rattle.os_files.specs.Bytes.{ticked};
-ghost use Rattle.os_files.specs.Fails.{FailsOn};
+ghost use Rattle.os_files.specs.Views.{FilesFail};
 ghost use Rattle.ckeys_records.specs.Causes.{HasOwnFault};
 ghost use Rattle.ckeys_records.specs.Faults.{KeyCause};
-ghost use Rattle.ckeys_records.specs.Meaning.{AreSteady, FailsIn};
+ghost use Rattle.ckeys_records.specs.Views.{AreSteady, ToolFails};
 ghost use Rattle.rustc_requests.specs.Asks.{asks_in};
 ghost use Rattle.rustkeys.specs.Runs.{AtMostTwice};
 ghost use Rattle.wrap_keys.specs.Account.{rust_account_by, rust_call_at, rust_work_at, worked};
@@ -58,14 +58,14 @@ fn rust_prepare<H: HashState, F: Files, T: Tool>(
     ensures cause { let w = rust_work_at (T.meaning tool.old)
         (rust_call_at rust.now request.now (F.tree files.old) (asks_in parsed.now)) in
         IfErr result
-        (KeyCause w.fault (FailsOn F.tree F.failed F.fails_on files.old files.new)
-        (FailsIn T.meaning T.failed T.fails_in tool.old tool.new)) }
+        (KeyCause w.fault (FilesFail F.Files files.old files.new)
+        (ToolFails T.Preprocessor tool.old tool.new)) }
     ensures tree { F.tree files.new ≡ F.tree files.old }
     ensures meaning { T.meaning tool.new ≡ T.meaning tool.old }
     ensures steady { OnOk result
-        (AreSteady T.failed F.failed tool.old files.old tool.new files.new) }
-    ensures own { HasOwnFault result →
-        AreSteady T.failed F.failed tool.old files.old tool.new files.new }
+        (AreSteady T.Preprocessor F.Files tool.old files.old tool.new files.new) }
+    ensures still { HasOwnFault result →
+        AreSteady T.Preprocessor F.Files tool.old files.old tool.new files.new }
     ensures runs { OnOk result
         (T.preprocessed tool.new ≡ ticked (ticked (T.preprocessed tool.old))) }
     ensures twice { AtMostTwice (T.preprocessed tool.old) (T.preprocessed tool.new) }
@@ -110,8 +110,8 @@ fn rust_answer<H: HashState, O: Store<StoreKey, Pairs>, F: Files, T: Tool>(
 ) -> Result<Answer, Fault>
     ensures says { let w = rust_work_at (T.meaning tool.old)
         (rust_call_at rust.now request.now (F.tree files.old) (asks_in parsed.now)) in
-        SaysWorked w (FailsOn F.tree F.failed F.fails_on files.old files.new)
-        (FailsIn T.meaning T.failed T.fails_in tool.old tool.new) result }
+        SaysWorked w (FilesFail F.Files files.old files.new)
+        (ToolFails T.Preprocessor tool.old tool.new) result }
     ensures store { let w = rust_work_at (T.meaning tool.old)
         (rust_call_at rust.now request.now (F.tree files.old) (asks_in parsed.now)) in
         KeyedTurn H.digest_of (key_of H.digest_of w.rec) (worked w) (O.shelf objects.old)
@@ -122,9 +122,9 @@ fn rust_answer<H: HashState, O: Store<StoreKey, Pairs>, F: Files, T: Tool>(
     ensures meaning { T.meaning tool.new ≡ T.meaning tool.old }
     ensures tree { F.tree files.new ≡ F.tree files.old }
     ensures steady { OnOk result
-        (AreSteady T.failed F.failed tool.old files.old tool.new files.new) }
-    ensures own { HasOwnFault result →
-        AreSteady T.failed F.failed tool.old files.old tool.new files.new }
+        (AreSteady T.Preprocessor F.Files tool.old files.old tool.new files.new) }
+    ensures still { HasOwnFault result →
+        AreSteady T.Preprocessor F.Files tool.old files.old tool.new files.new }
 {
     let made = rust_prepare::<H, F, T>(alloc, rust, request, parsed, files, tool)?;
     let key = made.key;
@@ -154,8 +154,8 @@ pub fn rust_turn<H: HashState, O: Store<StoreKey, Pairs>, F: Files, T: Tool>(
 ) -> Result<Answer, Fault>
     ensures says { let a = rust_account_by (T.meaning tool.old) (F.tree files.old) rust.now
         request.now (rust_verdict_of request.now (F.tree files.old)) in
-        Says a (FailsOn F.tree F.failed F.fails_on files.old files.new)
-        (FailsIn T.meaning T.failed T.fails_in tool.old tool.new) result }
+        Says a (FilesFail F.Files files.old files.new)
+        (ToolFails T.Preprocessor tool.old tool.new) result }
     ensures quiet { OnPass result
         ((T.preprocessed tool.new ≡ T.preprocessed tool.old)
         × (T.compiled tool.new ≡ T.compiled tool.old) × (T.failed tool.new ≡ T.failed tool.old)) }
@@ -170,9 +170,9 @@ pub fn rust_turn<H: HashState, O: Store<StoreKey, Pairs>, F: Files, T: Tool>(
     ensures meaning { T.meaning tool.new ≡ T.meaning tool.old }
     ensures tree { F.tree files.new ≡ F.tree files.old }
     ensures steady { OnOk result
-        (AreSteady T.failed F.failed tool.old files.old tool.new files.new) }
-    ensures own { HasOwnFault result →
-        AreSteady T.failed F.failed tool.old files.old tool.new files.new }
+        (AreSteady T.Preprocessor F.Files tool.old files.old tool.new files.new) }
+    ensures still { HasOwnFault result →
+        AreSteady T.Preprocessor F.Files tool.old files.old tool.new files.new }
 {
     match judge_rust(alloc, rust, request, files)? {
         RustVerdict::Passes(reason) => Ok(Answer::Pass(reason)),

@@ -4,7 +4,7 @@ ghost use Rattle.std.specs.Prelude.{◌≡◌, true, IfOk};
 ghost use Rattle.ckeys.specs.Entries.{EntryPremises};
 ghost use Rattle.wrap.specs.Account.{direct_calls};
 ghost use Rattle.wrap.specs.StoreKeys.{Premises};
-ghost use Rattle.wrap.specs.Whole.{OneFresh, accounts_at, files_view, served_at, tool_view};
+ghost use Rattle.wrap.specs.Whole.{OneFresh, accounts_at, served_at};
 ghost use Rattle.wrap_uses.specs.Builds.{SkippedAreMade};
 
 use std::alloc::{AllocError, Global};
@@ -25,19 +25,15 @@ pub fn run_steps<H: HashState, F: Files, T: Tool>(
     calls: &mut [Call<F, T>],
 ) -> Result<Build, AllocError>
     // A step that is skipped has the outputs that it would have made.
-    ensures skipped { let files = files_view F.tree F.failed in
-        let tool = tool_view T.meaning T.preprocessed T.compiled T.failed in
-        Premises H.digest_of (accounts_at config files tool calls.old)
-        → IfOk result (λ build.
-        SkippedAreMade (served_at config files tool calls.old calls.new build.answers.items)) }
+    ensures skipped { Premises H.digest_of (accounts_at config F.Files T.Preprocessor calls.old)
+        → IfOk result (λ build. SkippedAreMade
+        (served_at config F.Files T.Preprocessor calls.old calls.new build.answers.items)) }
 
     // Where all is kept, no two steps of one record are run.
-    ensures once { let files = files_view F.tree F.failed in
-        let tool = tool_view T.meaning T.preprocessed T.compiled T.failed in
-        (config.direct ≡ true
-        → EntryPremises H.digest_of (direct_calls (accounts_at config files tool calls.old)))
-        → IfOk result (λ build. build.kept_all ≡ true
-        → OneFresh (served_at config files tool calls.old calls.new build.answers.items)) }
+    ensures once { (config.direct ≡ true → EntryPremises H.digest_of
+        (direct_calls (accounts_at config F.Files T.Preprocessor calls.old)))
+        → IfOk result (λ build. build.kept_all ≡ true → OneFresh
+        (served_at config F.Files T.Preprocessor calls.old calls.new build.answers.items)) }
 {
     let entries = MapStore::new(alloc);
     let objects = MapStore::new(alloc);

@@ -2,7 +2,7 @@
 
 ghost use Rattle.std.specs.Prelude.{◌≡◌, length, IfOk, OnErr};
 ghost use Rattle.wrap.specs.StoreKeys.{Premises};
-ghost use Rattle.wrap.specs.Whole.{AllAnswer, accounts_at, files_view, served_at, tool_view};
+ghost use Rattle.wrap.specs.Whole.{AllAnswer, accounts_at, served_at};
 
 use std::alloc::{AllocError, Global};
 use std::num::NonZeroUsize;
@@ -19,11 +19,9 @@ pub fn answer_within<H: HashState, F: Files, T: Tool>(
     ensures as_many { IfOk result (λ answers. length answers.items ≡ length calls.old) }
 
     // However little room there is, all outputs are those that the compilers give afresh on each call's files.
-    ensures right { let files = files_view F.tree F.failed in
-        let tool = tool_view T.meaning T.preprocessed T.compiled T.failed in
-        Premises H.digest_of (accounts_at config files tool calls.old)
-        → IfOk result
-        (λ answers. AllAnswer (served_at config files tool calls.old calls.new answers.items)) }
+    ensures right { Premises H.digest_of (accounts_at config F.Files T.Preprocessor calls.old)
+        → IfOk result (λ answers.
+        AllAnswer (served_at config F.Files T.Preprocessor calls.old calls.new answers.items)) }
 
     // Where memory is refused, nothing was asked.
     ensures untouched { OnErr result (calls.new ≡ calls.old) }

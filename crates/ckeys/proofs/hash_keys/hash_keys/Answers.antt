@@ -2,7 +2,7 @@ use Rattle.std.proofs.Common.{◌≡◌, ◌<◌, ◌+◌, List, ◌∷◌, [], 
 use Rattle.std.proofs.lemmas.List.{length-map, take_all}
 use Rattle.std.specs.Prelude.{IfOk, IfErr, OnOk, filter, false, string_bytes}
 use Rattle.std.specs.List.{AllByRecursion, zip}
-use Rattle.os_files.specs.Fails.{FailsOn}
+use Rattle.os_files.specs.Views.{FilesFail}
 use Rattle.ckeys.specs.Calls.{PrintedCall, key_fault_by, printed_call, record_by}
 use Rattle.ckeys_records.specs.Faults.{KeyCause}
 use Rattle.ckeys.specs.Entries.{EntryInvariant, EntryPremises, asking, has_entry_key}
@@ -11,7 +11,7 @@ use Rattle.ckeys_records.specs.Folders.{Settings}
 use Rattle.ckeys.specs.HashCalls.{AreOwnKeys, AsksOver, IsKeyed, IsOwnKey, KeyAnswer, KeyRun, asking_among, call_view, printed_all, printed_at}
 use Rattle.ckeys.specs.Hashers.{call_by}
 use Rattle.ckeys_records.specs.Keys.{record_shape}
-use Rattle.ckeys_records.specs.Meaning.{FailsIn}
+use Rattle.ckeys_records.specs.Views.{ToolFails}
 use Rattle.ckeys_records.specs.Params.{is_cached}
 use Rattle.ckeys_records.specs.Records.{FitsLength}
 use Rattle.ckeys.specs.declared.hash_keys.HashCall.{HashCall}
@@ -31,7 +31,7 @@ loop-call-init g c = record {
 
 pub loop-call-preserved : goal.loop-call-preserved
 loop-call-preserved g c =
-    let view = call_view g.I.CCompilerImpl.kind_of g.I.CCompilerImpl.traits g.F.Files.tree g.F.Files.failed g.T.Preprocessor.meaning g.T.Preprocessor.preprocessed g.T.Preprocessor.compiled g.T.Preprocessor.failed in
+    let view = call_view g.I.CCompilerImpl g.F.Files g.T.Preprocessor in
     let digest_of = g.H.HashState.digest_of in
     let settings = c.args.config.now in
     let first = c.args.calls.now in
@@ -50,14 +50,14 @@ loop-call-preserved g c =
     let place = c.place-place.result in
     let at_place = c.place-place.ensures in
     let p : PrintedCall = printed_at view settings called in
-    let is : printed_call (view.meaning called.tool) (call_by view.kind_of view.traits called.hasher place (view.tree called.files)) ≡ p =
-    ap (printed_call (view.meaning called.tool)) (call_at_place view.kind_of view.traits called.hasher place called.dir.now called.env.now called.moment settings (view.tree called.files) at_place.dir at_place.env at_place.moment at_place.config) in
+    let is : printed_call (view.tool.meaning called.tool) (call_by view.compiler.kind_of view.compiler.traits called.hasher place (view.files.tree called.files)) ≡ p =
+    ap (printed_call (view.tool.meaning called.tool)) (call_at_place view.compiler.kind_of view.compiler.traits called.hasher place called.dir.now called.env.now called.moment settings (view.files.tree called.files) at_place.dir at_place.env at_place.moment at_place.config) in
     let old = (g.E.Store.shelf c.loop-call.entries).held in
     let kept = (g.E.Store.shelf new.entries).held in
     let from : IfOk answer (λ made. KeyFrom digest_of p old made.2 (string_bytes made.0)) = subst (λ q. IfOk answer (λ made. KeyFrom digest_of q old made.2 (string_bytes made.0))) is e.key in
-    let on_file = FailsOn view.tree view.files_failed g.F.Files.fails_on called.files ended.files in
-    let in_step = FailsIn view.meaning view.failed g.T.Preprocessor.fails_in called.tool ended.tool in
-    let one : IsKeyed digest_of view settings g.F.Files.fails_on g.T.Preprocessor.fails_in called ended answer = record {
+    let on_file = FilesFail view.files called.files ended.files in
+    let in_step = ToolFails view.tool called.tool ended.tool in
+    let one : IsKeyed digest_of view settings called ended answer = record {
       shape = subst (λ q. IfOk answer (λ made. made.1 ≡ record_shape digest_of (record_by q))) is e.shape;
       of_text = text_key digest_of p old answer from;
       fine = subst (λ q. IfOk answer (λ made. KeyFine q made.2)) is e.fine;
@@ -68,7 +68,7 @@ loop-call-preserved g c =
       plain = subst (λ q. has_entry_key q.call ≡ false → IfOk answer (λ made. made.2 ≡ false)) is e.plain;
       fit = subst (λ env. OnOk answer (AllByRecursion FitsLength (filter is_cached env))) at_place.env e.fit;
       steady = e.steady;
-      own = e.own;
+      still = e.still;
       compiles = e.compiles;
       hasher = refl;
       dir = refl;
@@ -77,7 +77,7 @@ loop-call-preserved g c =
       tree = e.tree;
       meaning = e.meaning;
     } in
-    let asked = printed_call (view.meaning called.tool) (call_by view.kind_of view.traits called.hasher place (view.tree called.files)) in
+    let asked = printed_call (view.tool.meaning called.tool) (call_by view.compiler.kind_of view.compiler.traits called.hasher place (view.files.tree called.files)) in
     let Recorded : PrintedCall → Settings → Type 0 = λ q by. (earlier : List PrintedCall) → EntryInvariant digest_of by earlier old → EntryInvariant digest_of by (earlier ++ asking q) kept in
     let recorded : Recorded p settings = subst (λ q. Recorded q settings) is (subst (Recorded asked) at_place.config e.records) in
     let Owned : PrintedCall → Settings → Type 0 = λ q by. (earlier : List PrintedCall) → EntryInvariant digest_of by earlier old → EntryPremises digest_of (earlier ++ asking q) → IsOwnKey digest_of q answer in
@@ -90,11 +90,11 @@ loop-call-preserved g c =
     let ends = g.E.Store.shelf new.entries in
     let over : AsksOver digest_of view settings (g.E.Store.shelf c.loop-call.entries) ends called ended answer = record {
       from = from;
-      entries = subst (λ q. EntryTurn digest_of q (g.E.Store.shelf c.loop-call.entries) ends (view.preprocessed called.tool) (view.preprocessed ended.tool)) is e.entries;
+      entries = subst (λ q. EntryTurn digest_of q (g.E.Store.shelf c.loop-call.entries) ends (view.tool.preprocessed called.tool) (view.tool.preprocessed ended.tool)) is e.entries;
       recorded = subst (λ q. IfOk answer (λ made. KeyRecorded digest_of q (g.E.Store.shelf c.loop-call.entries) ends made.2 (string_bytes made.0))) is e.recorded;
       unput = e.unput;
     } in
-    let Keyed : (HashCall g.row.I.Denot g.row.F.Denot g.row.T.Denot × HashCall g.row.I.Denot g.row.F.Denot g.row.T.Denot) × KeyAnswer → Type 0 = λ x. IsKeyed digest_of view settings g.F.Files.fails_on g.T.Preprocessor.fails_in x.0.0 x.0.1 x.1 in
+    let Keyed : (HashCall g.row.I.Denot g.row.F.Denot g.row.T.Denot × HashCall g.row.I.Denot g.row.F.Denot g.row.T.Denot) × KeyAnswer → Type 0 = λ x. IsKeyed digest_of view settings x.0.0 x.0.1 x.1 in
     let zipped = zipped_more first now rs i inv.rest lt inv.count d ended answer in
     record {
       count = search rules;
@@ -111,13 +111,13 @@ loop-call-preserved g c =
 
 pub returns-clause-records : goal.returns-clause-records
 returns-clause-records g c earlier inv =
-    let view = call_view g.I.CCompilerImpl.kind_of g.I.CCompilerImpl.traits g.F.Files.tree g.F.Files.failed g.T.Preprocessor.meaning g.T.Preprocessor.preprocessed g.T.Preprocessor.compiled g.T.Preprocessor.failed in
+    let view = call_view g.I.CCompilerImpl g.F.Files g.T.Preprocessor in
     let whole = take_all c.loop-call.call-index (printed_all view c.args.config.now c.args.calls.now) (omega (arith, length-map c.args.calls.now (printed_at view c.args.config.now))) in
     subst (λ l. EntryInvariant g.H.HashState.digest_of c.args.config.now (earlier ++ asking_among l) (g.E.Store.shelf c.loop-call.entries).held) whole (c.loop-call.invariant.records earlier inv)
 
 pub returns-clause-own : goal.returns-clause-own
 returns-clause-own g c earlier inv premises =
-    let view = call_view g.I.CCompilerImpl.kind_of g.I.CCompilerImpl.traits g.F.Files.tree g.F.Files.failed g.T.Preprocessor.meaning g.T.Preprocessor.preprocessed g.T.Preprocessor.compiled g.T.Preprocessor.failed in
+    let view = call_view g.I.CCompilerImpl g.F.Files g.T.Preprocessor in
     let whole = take_all c.loop-call.call-index (printed_all view c.args.config.now c.args.calls.now) (omega (arith, length-map c.args.calls.now (printed_at view c.args.config.now))) in
     let own = c.loop-call.invariant.own earlier inv (subst (λ l. EntryPremises g.H.HashState.digest_of (earlier ++ asking_among l)) (sym whole) premises) in
     subst (λ l. AreOwnKeys g.H.HashState.digest_of l c.loop-call.answers.items) whole own

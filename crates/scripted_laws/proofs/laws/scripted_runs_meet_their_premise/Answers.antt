@@ -1,4 +1,4 @@
-use Rattle.wrap.specs.Whole.{accounts_at, files_view, tool_view}
+use Rattle.wrap.specs.Whole.{accounts_at}
 use Rattle.scripted_laws.proofs.RunLemmas.{calls_scripted, run_meets}
 use Rattle.scripted_laws.proofs.laws.scripted_runs_meet_their_premise.Goals as goal
 
@@ -7,6 +7,6 @@ returns-clause-accounts g c = run_meets c.records_fix_scripted_outcomes.ensures.
 
 pub returns-clause-calls : goal.returns-clause-calls
 returns-clause-calls g c = λ digest_of settings calls all.
-    let files = files_view g.F.Files.tree g.F.Files.failed in
-    let tool = tool_view g.T.Preprocessor.meaning g.T.Preprocessor.preprocessed g.T.Preprocessor.compiled g.T.Preprocessor.failed in
+    let files = g.F.Files in
+    let tool = g.T.Preprocessor in
     run_meets c.records_fix_scripted_outcomes.ensures.equal digest_of settings (accounts_at settings files tool calls) (calls_scripted settings files tool calls all)

@@ -1,0 +1,11 @@
+-- What clauses see of files, as one value: their map, how often their device failed, and by which call.
+use Rattle.os_files.specs.Bytes.{Bytes}
+use Rattle.os_files.specs.Fails.{FailsOn}
+use Rattle.os_files.specs.declared.files.Files.{Ghosts}
+
+abbrev pub FilesView : Type 0 → Type 0
+FilesView F = Ghosts F
+
+-- the device failed on that name, from the one state of the files to the other
+abbrev pub FilesFail : {F : Type 0} → FilesView F → F → F → Bytes → Type 0
+FilesFail files old new name = FailsOn files.tree files.failed files.fails_on old new name
