@@ -37,9 +37,6 @@ module _ (digest_of : Bytes → Bytes) (c : KeyCall) (contents : Bytes) (there :
       let read : contents_in c.scene.files (input_path c) ≡ contents = contents_are c.scene.files (input_path c) contents there in
       record { identity = identity; sights = subst (λ (x : Bytes). SightsFit (sights_of digest_of (identity_by c) (extra_digests digest_of c) (input_with c x))) (sym read) sights }
 
-  pub asked_there : first_missing c.scene.files (input_path c ∷ []) ≡ None
-  asked_there = rw there refl
-
 -- what follows from two facts of a key that is there
 pub both_fit : {A : Type 0} {P Q R : Type 0} (key : Option A) → (P → Q → R) → IfSome key (λ _. P) → IfSome key (λ _. Q) → IfSome key (λ _. R)
 both_fit None on p q = tt

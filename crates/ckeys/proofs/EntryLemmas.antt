@@ -138,11 +138,6 @@ module _ (digest_of : Bytes → Bytes) (p : PrintedCall) (key : EntryKey) (is_en
       let it = results_in (asked.held key) found.0 found.1 in
       record { key = key; is_entry = is_entry; entry = it.0; is_held = asks.within key it.0 it.1; r = found.0; among = it.2; is_key = found.2; there = found.3 }
 
-  pub still_matches : (text_key : Bytes) → LooksUp digest_of (place_of p.call) (results_of (asked.held key)) (Some text_key) → HasMatch digest_of p.call asked.held text_key
-  still_matches text_key found =
-      let it = results_in (asked.held key) found.0 found.1 in
-      record { key = key; is_entry = is_entry; entry = it.0; is_held = it.1; r = found.0; among = it.2; is_key = found.2; there = found.3 }
-
   -- no result does
   module _ (none : LooksUp digest_of (place_of p.call) (results_of (asked.held key)) None) where
     missed_at : (text_key : Bytes) (m : HasMatch digest_of p.call old.held text_key) → old.held key ≡ Some m.entry → (o : Option Record) → asked.held key ≡ o → asked.forgets ≡ ticked old.forgets

@@ -103,9 +103,6 @@ pub record ReadsTo (text plain rest : Bytes) : Type 0 where
   pub sound : (pieces : List Bytes) × (text ≡ concat pieces ++ rest) × AllZip Spells pieces plain
   pub only : (other : Bytes) → IsReading text other → (more : Bytes) × (other ≡ plain ++ more) × IsReading rest more
 
-pub reads-start : (text : Bytes) → ReadsTo text [] text
-reads-start text = record { sound = ([], refl, tt); only = λ other is. (other, refl, is) }
-
 pub reads-step : (text plain rest : Bytes) (b : ℕ) (next : Bytes) → ReadsTo text plain rest → first_spelled rest ≡ Some (b, next) → ReadsTo text (plain ++ b ∷ []) next
 reads-step text plain rest b next so_far e =
     let found = first-sound rest b next e in
@@ -131,10 +128,6 @@ reads-step text plain rest b next so_far e =
 pub none-left : (rest : Bytes) → length rest ≡ 0 → rest ≡ []
 none-left [] is = refl
 none-left (x ∷ xs) is = absurd (omega arith)
-
--- at the end of the text
-pub reads-end : (text plain : Bytes) → ReadsTo text plain [] → IsReading text plain
-reads-end text plain so_far = (so_far.sound.0, so_far.sound.1 ∙ append-nil (concat so_far.sound.0), so_far.sound.2)
 
 pub reads-only : (text plain : Bytes) → ReadsTo text plain [] → (other : Bytes) → IsReading text other → other ≡ plain
 reads-only text plain so_far other is =

@@ -6,9 +6,6 @@ use Rattle.os_files.specs.Bytes.{Bytes}
 use Rattle.ckeys_records.specs.Params.{is_cached, IsFed}
 use Rattle.ckeys_records.specs.Records.{Variable, FitsLength}
 
-pub fed-then : {H : Type 0} (holds : H → Bytes → Type 0) (a b c : H) (x y : Bytes) → IsFed holds a x b → IsFed holds b y c → IsFed holds a (x ++ y) c
-fed-then holds a b c x y f g = λ held h. subst (holds c) (append_assoc held x y) (g (held ++ x) (f held h))
-
 pub fed-none : {H : Type 0} (holds : H → Bytes → Type 0) (a : H) → IsFed holds a [] a
 fed-none holds a = λ held h. subst (holds a) (sym (append-nil held)) h
 
@@ -28,11 +25,3 @@ none-more rest v vs n total e h c =
     let here : length (filter is_cached rest) ≡ length (filter is_cached (v ∷ vs)) = ap (λ xs. length (filter is_cached xs)) e in
     let none : length (filter is_cached (v ∷ vs)) ≡ length (filter is_cached vs) = ap (λ s. length (cond s (v ∷ filter is_cached vs) (filter is_cached vs))) c in
     omega (arith, here, none, h)
-
--- a variable whose lengths fit, where it counts, before others whose lengths do
-pub fit-then : (v : Variable) (vs : List Variable) → AllByRecursion FitsLength (filter is_cached (v ∷ [])) → AllByRecursion FitsLength (filter is_cached vs) → AllByRecursion FitsLength (filter is_cached (v ∷ vs))
-fit-then v vs one others = by (is_cached v) one
-  where
-    by : (s : Bool) → AllByRecursion FitsLength (cond s (v ∷ []) []) → AllByRecursion FitsLength (cond s (v ∷ filter is_cached vs) (filter is_cached vs))
-    by true h = (h.0, others)
-    by false h = others

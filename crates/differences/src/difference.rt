@@ -5,6 +5,7 @@ use fingerprints::c_parts::CParts;
 use fingerprints::explain::explain;
 use fingerprints::fingerprint::Fingerprint;
 use fingerprints::part::Part;
+use os_files::lossy::Lossy;
 use os_files::os_bytes::OsBytes;
 use rustc_parts::parts::{EnvDep, Parts};
 use std::fmt;
@@ -28,22 +29,6 @@ impl<T: fmt::Display> fmt::Display for OrNone<T> {
             Some(shown) => write!(f, "{shown}"),
             None => write!(f, "none"),
         }
-    }
-}
-
-/// A line of a text. Bytes that are no UTF-8 are shown as U+FFFD.
-#[derive(Drop)]
-struct Line<'a>(&'a [u8]);
-
-impl<'a> fmt::Display for Line<'a> {
-    fn fmt<W: fmt::Write>(&self, f: &mut fmt::Formatter<W>) -> fmt::Result {
-        for chunk in self.0.utf8_chunks() {
-            f.write_str(chunk.valid())?;
-            if !chunk.invalid().is_empty() {
-                f.write_str("\u{FFFD}")?;
-            }
-        }
-        Ok(())
     }
 }
 
@@ -103,9 +88,10 @@ fn write_line<W: fmt::Write>(
 }
 
 /// The line behind so many others, where there is one.
-fn line_at(text: &OsBytes, ahead: usize) -> Option<Line<'_>> {
+fn line_at(text: &OsBytes, ahead: usize) -> Option<Lossy<'_>> {
     let mut lines = text.as_bytes().split(|byte| *byte == b'\n');
-    Some(Line(lines.nth(ahead)?))
+    let bytes = lines.nth(ahead)?;
+    Some(Lossy { bytes })
 }
 
 /// Names a kind of things, the number of the first one that differs, and what it is in each.

@@ -51,9 +51,6 @@ module _ (digest_of : Bytes → Bytes) (place : Place) where
         ap (last_there digest_of place) (take_more results at r lt ∙ ap (λ (q : CachedResult). take at results ++ q ∷ []) (sym is))
         ∙ last_there-push (take at results) r
 
-    pub last_there-here : are_there place digest_of r.includes ≡ true → last_there digest_of place (take (at + 1) results) ≡ Some r.key
-    last_there-here there = one_more ∙ ap (λ (b : Bool). cond b (Some r.key) (last_there digest_of place (take at results))) there
-
     pub last_there-before : are_there place digest_of r.includes ≡ false → last_there digest_of place (take (at + 1) results) ≡ last_there digest_of place (take at results)
     last_there-before gone = one_more ∙ ap (λ (b : Bool). cond b (Some r.key) (last_there digest_of place (take at results))) gone
 
@@ -123,13 +120,3 @@ module _ (digest_of : Bytes → Bytes) (place : Place) (name : Bytes) (names : L
           sym (ap (λ (b : Bool). option_map (λ (rest : List IncludeEntry). front ++ rest) (cond b None (option_map (λ (rest : List IncludeEntry). whole ∷ rest) (includes_of place digest_of names)))) e
           ∙ option_map-after front whole (includes_of place digest_of names)
           ∙ ap (λ (x : IncludeEntry). option_map (λ rest. (front ++ x ∷ []) ++ rest) (includes_of place digest_of names)) (sym same))
-
-  pub includes_of-ends : (front : List IncludeEntry) → Recorded None → option_map (λ rest. front ++ rest) (includes_of place digest_of (name ∷ names)) ≡ None
-  includes_of-ends front is = by (lacks_day (contents_in place.files (path_at place name)) place.day) refl
-    where
-      whole : IncludeEntry
-      whole = include_with place digest_of name (contents_in place.files (path_at place name))
-
-      by : (b : Bool) → lacks_day (contents_in place.files (path_at place name)) place.day ≡ b → option_map (λ rest. front ++ rest) (includes_of place digest_of (name ∷ names)) ≡ None
-      by true e = ap (λ (b : Bool). option_map (λ (rest : List IncludeEntry). front ++ rest) (cond b None (option_map (λ (rest : List IncludeEntry). whole ∷ rest) (includes_of place digest_of names)))) e
-      by false e = let clash : None ≡ Some whole = is ∙ ap (λ (b : Bool). cond b None (Some whole)) e in absurd cc

@@ -160,19 +160,11 @@ module _ (dir : Bytes) (files : Tree) (input : Bytes) where
       ∙ all_fresh (names_told (sights text)) dir files input
       ∙ sym (ap (λ (t : Bool). option_and_then (counting dir files input) (cond t None (option_map once (names_told (sights text))))) more)
 
-  -- behind the last one
-  pub after_all : (names : List Bytes) (seen : Seen) → names_with dir files input names seen [] ≡ Some names
-  after_all names seen = ap Some (append-nil names)
-
   twice : (names : List Bytes) (name : Bytes) (rest : Option (List Bytes)) → option_map (λ others. names ++ others) (option_map (λ others. name ∷ others) rest) ≡ option_map (λ others. (names ++ name ∷ []) ++ others) rest
   twice names name None = refl
   twice names name (Some rest) = ap Some (sym (append_assoc names (name ∷ []) rest))
 
   module _ (names : List Bytes) (seen : Seen) (raw : Bytes) (told : List Sight) where
-    -- a name that came before
-    pub comes_again : (has_come seen (slice_of raw) ≡ true) → names_with dir files input names seen (named raw ∷ told) ≡ names_with dir files input names seen told
-    comes_again came = ap (λ (t : Bool). option_map (λ others. names ++ others) (cond t (names_behind dir files input (came_before seen) told) (by_verdict (verdict_on dir files input (meant raw)) (meant raw) (names_behind dir files input (or_this raw (came_before seen)) told)))) came
-
     -- one that comes first, with what becomes of it
     comes_first : (new : Seen) (v : Verdict) → has_come seen (slice_of raw) ≡ false → ((other : Bor Bytes) → has_come new other ≡ (bytes_eq raw other.now || has_come seen other)) → verdict_on dir files input (meant raw) ≡ v
         → names_with dir files input names seen (named raw ∷ told) ≡ option_map (λ others. names ++ others) (by_verdict v (meant raw) (names_behind dir files input (came_before new) told))
@@ -191,7 +183,3 @@ module _ (dir : Bytes) (files : Tree) (input : Bytes) where
     pub comes_first_skipped : (new : Seen) → has_come seen (slice_of raw) ≡ false → ((other : Bor Bytes) → has_come new other ≡ (bytes_eq raw other.now || has_come seen other)) → verdict_on dir files input (meant raw) ≡ Skipped
         → names_with dir files input names seen (named raw ∷ told) ≡ names_with dir files input names new told
     comes_first_skipped new first come is = comes_first new Skipped first come is
-
-    pub comes_first_refuses : (new : Seen) → has_come seen (slice_of raw) ≡ false → ((other : Bor Bytes) → has_come new other ≡ (bytes_eq raw other.now || has_come seen other)) → verdict_on dir files input (meant raw) ≡ Refuses
-        → names_with dir files input names seen (named raw ∷ told) ≡ None
-    comes_first_refuses new first come is = comes_first new Refuses first come is

@@ -169,11 +169,6 @@ renamed_counted path rest start piece same h name =
     let before : piece.others ≡ before_last counts (pieces path) = sym (before_last-counted piece.others (drop start rest) h) ∙ ap (before_last counts) (sym piece.apart) ∙ same.before in
     sym (piece.put name) ∙ ap (λ (ps : List Bytes). join_with_byte 47 (ps ++ name ∷ [])) before
 
--- no piece counts
-pub none_counted : (path rest : Bytes) (start : ℕ) → LastPiece rest start → SameLast path rest → counts (drop start rest) ≡ false → start ≡ 0 → None ≡ last_or None (filter counts (pieces path))
-none_counted path rest start piece same h e =
-    ap (last_or None) (ap (filter counts) (sym (piece.first e)) ∙ sym (filter-uncounted piece.others (drop start rest) h) ∙ ap (filter counts) (sym piece.apart) ∙ same.counted)
-
 -- the last piece does not count, and is taken off
 pub SameLast-before : (path rest : Bytes) (start : ℕ) → LastPiece rest start → SameLast path rest → counts (drop start rest) ≡ false → 0 < start → SameLast path (take (start - 1) rest)
 SameLast-before path rest start piece same h some = record {

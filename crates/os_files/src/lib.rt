@@ -4,6 +4,7 @@
 pub mod file_time;
 pub mod files;
 pub mod listed;
+pub mod lossy;
 pub mod memory_files;
 pub mod os_bytes;
 pub mod path;

@@ -12,9 +12,6 @@ is_equals b = b == 61
 abbrev front : List ℕ → ℕ
 front w = position_or_len is_equals w
 
-front-here : (b : ℕ) (bs : List ℕ) → (b == 61) ≡ true → front (b ∷ bs) ≡ 0
-front-here b bs is = rw is refl
-
 front-later : (b : ℕ) (bs : List ℕ) → (b == 61) ≡ false → front (b ∷ bs) ≡ suc (front bs)
 front-later b bs is = rw is (omega arith)
 

@@ -23,9 +23,6 @@ IsBytes-rest b bytes h i = h (suc i)
 
 -- ---- so many bytes
 
-abbrev IsOfLength : ℕ → Bytes → Type 0
-IsOfLength n text = length text ≡ n
-
 taken_takes : (n : ℕ) (bytes : Bytes) (x : Bytes × Bytes) → IsBytes bytes → taken_at n bytes ≡ Some x → Takes bytes x.0 x.1 × (length x.0 ≡ n)
 unfolding taken_at
 taken_takes n bytes x fits e =
@@ -39,9 +36,6 @@ unfolding taken_at
 taken_again n t rest is =
     let long : ltb (length (t ++ rest)) n ≡ false = le-ltb _ _ (omega (arith, length-append t rest, is)) in
     rw (long, take_at t rest n is, drop_at t rest n is) refl
-
-pub taken_format : (n : ℕ) → IsFormat (taken_at n) (λ t. t) (λ t. length t ≡ n)
-taken_format n = record { takes = taken_takes n; again = taken_again n }
 
 -- ---- digests
 

@@ -19,14 +19,6 @@ first_is first second fault h = ap (λ f. or_else f second) h
 pub second_is : (first second : Option Fault) → first ≡ None → (fault : Fault) → second ≡ Some fault → or_else first second ≡ Some fault
 second_is first second none fault h = ap (λ f. or_else f second) none ∙ h
 
-pub neither_is : (first second : Option Fault) → first ≡ None → second ≡ None → or_else first second ≡ None
-neither_is first second none more = ap (λ f. or_else f second) none ∙ more
-
 -- a tool's device that failed later failed in the call
 pub tool_since : {T : Type 0} (meaning : T → Meaning) (failed : T → ℕ) (fails_in : T → Step → T → Type 0) (old mid new : T) → meaning mid ≡ meaning old → failed mid ≡ failed old → (step : Step) → FailsIn meaning failed fails_in mid new step → FailsIn meaning failed fails_in old new step
 tool_since meaning failed fails_in old mid new same steady step f = record { from = f.from; same = f.same ∙ same; steady = f.steady ∙ steady; ticks = f.ticks; leads = f.leads }
-
--- a result's cause among fewer
-pub result_cause_more : {A : Type 0} (result : Result A Fault) (first more : Option Fault) (later on_file : Bytes → Type 0) (in_later in_step : Step → Type 0) → ((fault : Fault) → first ≡ Some fault → more ≡ Some fault) → ((name : Bytes) → later name → on_file name) → ((step : Step) → in_later step → in_step step) → IfErr result (KeyCause first later in_later) → IfErr result (KeyCause more on_file in_step)
-result_cause_more (Ok x) first more later on_file in_later in_step is lift in_more h = tt
-result_cause_more (Err fault) first more later on_file in_later in_step is lift in_more h = key_cause_more first more later on_file in_later in_step is lift in_more fault h

@@ -19,7 +19,3 @@ utf8_fault step text h = by (is_utf8 text) refl
     by : (b : Bool) → is_utf8 text ≡ b → utf8_fault_of step text ≡ Some (AnswerNotUtf8 step)
     by true e = absurd (h (IsUtf8-from_is_utf8 text e))
     by false e = rw e refl
-
--- with status 0 the fault is the text's
-pub text_alone : (step : Step) (status : ℤ) (text : Bytes) → status ≡ pos 0 → answer_fault_of step (made_of status (Some text ∷ [])) ≡ utf8_fault_of step text
-text_alone step status text zero = ap (λ (s : ℤ). or_else (if int_eq s (pos 0) then None else Some (PreprocessFailed s)) (utf8_fault_of step text)) zero

@@ -32,27 +32,6 @@ module _ (dir : Bytes) (files : Tree) (f : Facts) (item : Item ArgKind) (left : 
   pub verdict-more : is_misread item ≡ false → decides dir files f (token_of item) ≡ None → verdict_at dir files f (before item left) ≡ verdict_at dir files (facts_with f (token_of item ∷ [])) left
   verdict-more accepted nothing = rw (accepted, nothing) refl
 
-  -- one that decides
-  pub verdict-decided : (v : Verdict) → is_misread item ≡ false → decides dir files f (token_of item) ≡ Some v → verdict_at dir files f (before item left) ≡ v
-  verdict-decided v accepted decided = rw (accepted, decided) refl
-
-  -- one whose value is refused
-  pub verdict-misread : is_misread item ≡ true → verdict_at dir files f (before item left) ≡ not_parsed
-  verdict-misread misread = rw misread refl
-
--- words that can't be cut: they end where a value should come, or a value is refused
-pub verdict-uncut : (dir : Bytes) (files : Tree) (f : Facts) (old : Place) (error : ArgParseError) → FailsToCut (values_by IsFlagValue IsWordValue refusal) rustc_entries old error → (error ≡ Memory → ⊥) → verdict_at dir files f (reading_at rustc_entries old) ≡ not_parsed
-verdict-uncut dir files f old UnexpectedEndOfArgs h other = ap (verdict_at dir files f) h
-verdict-uncut dir files f old Memory h other = absurd (other refl)
-verdict-uncut dir files f old (InvalidUnicode w) h other = ap (verdict_at dir files f) h.reads ∙ verdict-misread dir files f h.item h.rest (ap is_some h.refused.0)
-verdict-uncut dir files f old (Other t) h other = ap (verdict_at dir files f) h.reads ∙ verdict-misread dir files f h.item h.rest (ap is_some h.refused)
-
--- what nothing asks for
-pub asks-nothing : (dir : Bytes) (files : Tree) (items : List (Item ArgKind)) (answer : CompilerArguments ParsedArguments) → AsksNothing answer → IsAsked dir files items answer
-asks-nothing dir files items (answers.Ok p) h = absurd h
-asks-nothing dir files items answers.NotCompilation h = tt
-asks-nothing dir files items (answers.CannotCache reason more) h = tt
-
 -- what is asked for by what is known of all items, and by arguments that stand for those that are wanted
 pub asked : (dir : Bytes) (files same : Tree) (items : List (Item ArgKind)) (f : Facts) (kept : List (Argument ArgData)) → files ≡ same → f ≡ facts_of (map token_of items) → AllZip IsArgument (wanted items) kept
     → (answer : CompilerArguments ParsedArguments) → IsAskedBy dir files f kept answer → IsAsked dir same items answer

@@ -25,9 +25,3 @@ IsShown-more holds seen first known now next left after state new piece so_far t
   held = fed so_far.bytes so_far.held;
   shown = λ before h. subst (λ (x : Bytes). seen next x) (append_assoc before so_far.bytes piece) (looked (before ++ so_far.bytes) (so_far.shown before h));
 }
-
--- a reader at its end had what it gave
-pub was_all : (known left : Option Bytes) (bytes : Bytes) → Consumes known left bytes → IsAtEnd left → WasAll known bytes
-was_all None left bytes h k = tt
-was_all (Some a) None bytes h k = absurd h
-was_all (Some a) (Some b) bytes h k = h ∙ ap (λ (x : Bytes). bytes ++ x) k ∙ append-nil bytes

@@ -355,16 +355,6 @@ quiet_entries digest_of a s n = by (direct_of a)
     by None = refl
     by (Some p) = record { gains = λ k e h. inl h; kept = λ h. record { was = h; keys = λ k i. i; steady = refl }; cleared = refl; put = inl (record { within = λ k e h. h; put = refl }); asked = λ k m. inl refl; idle = λ h. refl }
 
-pub passed_asked : (digest_of : Bytes → Bytes) (why : Why) (a : Account) (old : Shelves) (printed compiled : ℕ) (reason : Reason) → passed why ≡ a → AskedTurn digest_of a old old printed printed compiled compiled (Ok (Pass reason))
-passed_asked digest_of why a old printed compiled reason is = subst (λ (b : Account). AskedTurn digest_of b old old printed printed compiled compiled (Ok (Pass reason))) is (record {
-  from = false;
-  text_key = [];
-  is_key = tt;
-  how = tt;
-  fine = tt;
-  runs = refl;
-  recorded = tt;
-  objects = record { gains = λ k v h. inl h; faulted = tt; unrefused = tt; kept = λ h. record { was = h; keys = λ k s. s; steady = refl }; cleared = refl; put = refl; told = (refl, refl) };
 })
 
 pub text_fine : (w : Work) (p : PrintedCall) → w.fault ≡ key_fault_by p → (from : Bool) → KeyFine p from → from ≡ false → w.fault ≡ None

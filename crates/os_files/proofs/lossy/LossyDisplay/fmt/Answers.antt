@@ -2,7 +2,7 @@ use Rattle.std.proofs.Common.{rules, ◌≡◌, ◌<◌, ◌++◌, length, sym, 
 use Rattle.std.proofs.Output.{has_written_append, has_written_of_eq}
 use Rattle.std.proofs.lemmas.Str.{utf8_lossy_chunk, utf8_lossy_last_chunk, utf8_lossy_empty}
 use Rattle.std.specs.Str.Lossy.{replacement_bytes}
-use Rattle.os_files.proofs.os_bytes.OsBytesDisplay.fmt.Goals as goal
+use Rattle.os_files.proofs.lossy.LossyDisplay.fmt.Goals as goal
 
 pub loop-chunk-preserved-in-Continue-branch-2 : goal.loop-chunk-preserved-in-Continue-branch-2
 loop-chunk-preserved-in-Continue-branch-2 g c = λ plain.
