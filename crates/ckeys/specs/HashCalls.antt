@@ -24,7 +24,7 @@ use Rattle.ckeys_records.specs.declared.shape.CShape.{CShape}
 use Rattle.ckeys.specs.declared.compiler_impl.CCompilerImpl.{Ghosts}
 
 -- what can be seen of a call's compiler, files and tool
-pub record CallView (I F T : Type 0) : Type 0 where
+pub record CallView (I F T : Type 0) : Type 1 where
   pub compiler : Ghosts I
   pub files : FilesView F
   pub tool : ToolView T

@@ -5,7 +5,7 @@ use Rattle.ckeys_records.specs.Meaning.{FailsIn}
 use Rattle.ckeys_records.specs.declared.preprocessor.Preprocessor.{Ghosts}
 use Rattle.ckeys_records.specs.declared.step.Step.{Step}
 
-abbrev pub ToolView : Type 0 → Type 0
+abbrev pub ToolView : Type 0 → Type 1
 ToolView T = Ghosts T
 
 -- the device failed in that step, from the one state of the tool to the other

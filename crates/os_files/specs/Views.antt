@@ -3,7 +3,7 @@ use Rattle.os_files.specs.Bytes.{Bytes}
 use Rattle.os_files.specs.Fails.{FailsOn}
 use Rattle.os_files.specs.declared.files.Files.{Ghosts}
 
-abbrev pub FilesView : Type 0 → Type 0
+abbrev pub FilesView : Type 0 → Type 1
 FilesView F = Ghosts F
 
 -- the device failed on that name, from the one state of the files to the other

@@ -355,8 +355,6 @@ quiet_entries digest_of a s n = by (direct_of a)
     by None = refl
     by (Some p) = record { gains = λ k e h. inl h; kept = λ h. record { was = h; keys = λ k i. i; steady = refl }; cleared = refl; put = inl (record { within = λ k e h. h; put = refl }); asked = λ k m. inl refl; idle = λ h. refl }
 
-})
-
 pub text_fine : (w : Work) (p : PrintedCall) → w.fault ≡ key_fault_by p → (from : Bool) → KeyFine p from → from ≡ false → w.fault ≡ None
 text_fine w p fault_is true fine h = cc
 text_fine w p fault_is false fine h = fault_is ∙ fine
