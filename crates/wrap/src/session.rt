@@ -247,9 +247,7 @@ impl<
         ensures run { IfOk result
             (λ answers. SessionRun H.digest_of self.old.settings
             (shelves_of (E.shelf self.old.entries) (O.shelf self.old.objects))
-            (served_at self.old.settings F.Files
-            T.Preprocessor calls.old calls.new
-            answers.items)
+            (served_at self.old.settings F.Files T.Preprocessor calls.old calls.new answers.items)
             (shelves_of (E.shelf self.new.entries) (O.shelf self.new.objects))) }
 
         // Where no records are kept, or from an empty store of them where digests are distinct and texts are printed again, each call is one over the store of outputs alone, under its own key.
@@ -257,46 +255,36 @@ impl<
             → IsEmpty (E.shelf self.old.entries)
             × EntryPremises H.digest_of
             (direct_calls
-            (accounts_at self.old.settings F.Files
-            T.Preprocessor calls.old)))
+            (accounts_at self.old.settings F.Files T.Preprocessor calls.old)))
             → IfOk result
             (λ answers. Run H.digest_of (O.shelf self.old.objects)
-            (served_at self.old.settings F.Files
-            T.Preprocessor calls.old calls.new
-            answers.items)
+            (served_at self.old.settings F.Files T.Preprocessor calls.old calls.new answers.items)
             (O.shelf self.new.objects)) }
 
         // Each is passed through exactly where the verdict says, and a fault has its cause, as `serve` says.
         ensures says { IfOk result
-            (λ answers. Each
-            (IsAnswered self.old.settings F.Files T.Preprocessor)
+            (λ answers. Each (IsAnswered self.old.settings F.Files T.Preprocessor)
             calls.old calls.new answers.items) }
 
         // From empty stores all outputs are those that the compilers give afresh on each call's files.
         ensures outputs { (self.old.settings.direct ≡ true → IsEmpty (E.shelf self.old.entries))
             → IsEmpty (O.shelf self.old.objects)
             → Premises H.digest_of
-            (accounts_at self.old.settings F.Files
-            T.Preprocessor calls.old)
+            (accounts_at self.old.settings F.Files T.Preprocessor calls.old)
             → IfOk result
             (λ answers. AllAnswer
-            (served_at self.old.settings F.Files
-            T.Preprocessor calls.old calls.new
-            answers.items)) }
+            (served_at self.old.settings F.Files T.Preprocessor calls.old calls.new answers.items)) }
 
         // With nothing forgotten or refused, equal records get at most one fresh answer.
         ensures once { (self.old.settings.direct ≡ true
             → IsEmpty (E.shelf self.old.entries)
             × EntryPremises H.digest_of
             (direct_calls
-            (accounts_at self.old.settings F.Files
-            T.Preprocessor calls.old)))
+            (accounts_at self.old.settings F.Files T.Preprocessor calls.old)))
             → (O.shelf self.new.objects).kept ≡ true
             → IfOk result
             (λ answers. OneFresh
-            (served_at self.old.settings F.Files
-            T.Preprocessor calls.old calls.new
-            answers.items)) }
+            (served_at self.old.settings F.Files T.Preprocessor calls.old calls.new answers.items)) }
 
         ensures settings { self.new.settings ≡ self.old.settings }
         ensures unchanged { OnErr result
@@ -316,13 +304,10 @@ impl<
         ensures run { IfOk result
             (λ answers. SessionRun H.digest_of self.old.settings
             (shelves_of (E.shelf self.old.entries) (O.shelf self.old.objects))
-            (served_at self.old.settings F.Files
-            T.Preprocessor calls.old calls.new
-            answers.items)
+            (served_at self.old.settings F.Files T.Preprocessor calls.old calls.new answers.items)
             (shelves_of (E.shelf self.new.entries) (O.shelf self.new.objects))) }
         ensures says { IfOk result
-            (λ answers. Each
-            (IsAnswered self.old.settings F.Files T.Preprocessor)
+            (λ answers. Each (IsAnswered self.old.settings F.Files T.Preprocessor)
             calls.old calls.new answers.items) }
         ensures settings { self.new.settings ≡ self.old.settings }
         ensures unchanged { OnErr result
