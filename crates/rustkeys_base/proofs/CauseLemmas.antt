@@ -1,18 +1,17 @@
 -- Causes of faults, later on, and items with a fault.
-use Rattle.std.proofs.Common.{◌≡◌, ℕ, List, [], ◌∷◌, ◌++◌, map, Ok, Err, ◌∙◌}
+use Rattle.std.proofs.Common.{◌≡◌, List, [], ◌∷◌, ◌++◌, map, Ok, Err, ◌∙◌}
 use Rattle.os_files.specs.Bytes.{Bytes}
-use Rattle.os_files.specs.Fails.{FailsOn}
-use Rattle.os_files.specs.Tree.{Tree}
+use Rattle.os_files.specs.Views.{FilesFail, FilesView}
 use Rattle.response_files.specs.Causes.{CauseOf}
 use Rattle.response_files.specs.Words.{Items}
 use Rattle.response_files.specs.declared.fault.ParseFault.{ParseFault}
 use Rattle.response_files.specs.declared.fault.ParseFault.TheVariants.{Memory, Read}
 
 -- a fault from a state of the same files, without a failure in between, has its cause from before too
-pub cause-later : {F : Type 0} (tree : F → Tree) (failed : F → ℕ) (fails_on : F → Bytes → F → Type 0) (old mid new : F) → tree mid ≡ tree old → failed mid ≡ failed old
-    → (fault : ParseFault) → CauseOf (FailsOn tree failed fails_on mid new) fault → CauseOf (FailsOn tree failed fails_on old new) fault
-cause-later tree failed fails_on old mid new same steady Memory h = tt
-cause-later tree failed fails_on old mid new same steady (Read path) h = record { from = h.from; same = h.same ∙ same; steady = h.steady ∙ steady; ticks = h.ticks; leads = h.leads }
+pub cause-later : {F : Type 0} (files : FilesView F) (old mid new : F) → files.tree mid ≡ files.tree old → files.failed mid ≡ files.failed old
+    → (fault : ParseFault) → CauseOf (FilesFail files mid new) fault → CauseOf (FilesFail files old new) fault
+cause-later files old mid new same steady Memory h = tt
+cause-later files old mid new same steady (Read path) h = record { from = h.from; same = h.same ∙ same; steady = h.steady ∙ steady; ticks = h.ticks; leads = h.leads }
 
 -- items that end with a fault aren't words alone
 pub no_fault : (front : Items) (fault : ParseFault) (given : List Bytes) → front ++ Err fault ∷ [] ≡ map Ok given → ⊥
