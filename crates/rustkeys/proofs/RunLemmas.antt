@@ -1,10 +1,15 @@
 -- How often rustc was asked, question by question.
-use Rattle.std.proofs.Common.{◌≡◌, ℕ, None, inl, inr, ap, sym, ◌∙◌}
-use Rattle.os_files.specs.Bytes.{ticked}
-use Rattle.ckeys_records.specs.Meaning.{AtMostOnce, Meaning}
+use Rattle.std.proofs.Common.{◌≡◌, ℕ, ℤ, None, inl, inr, ap, sym, ◌∙◌}
+use Rattle.os_files.specs.Bytes.{Bytes, ticked}
+use Rattle.os_files.specs.Tree.{Tree}
+use Rattle.ckeys_records.specs.Meaning.{AtMostOnce, Meaning, Variables, scene_with}
+use Rattle.rustc_requests.specs.Asks.{asks_in}
 use Rattle.rustkeys.specs.Calls.{dep_info_fault_of}
-use Rattle.rustkeys.specs.Questions.{Question, dep_info_of}
+use Rattle.rustkeys.specs.Hashers.{call_of}
+use Rattle.rustkeys.specs.Questions.{Question, dep_info_of, question_of}
 use Rattle.rustkeys.specs.Runs.{AtMostTwice}
+use Rattle.rustkeys.specs.declared.hasher.RustHasher.{RustHasher}
+use Rattle.rustkeys.specs.declared.place.RustPlace.{RustPlace}
 
 -- at most once is at most twice
 pub once_at_most : (before after : ℕ) → AtMostOnce before after → AtMostTwice before after
@@ -15,6 +20,10 @@ once_at_most before after (inr h) = inr (inl h)
 pub once_more : (before mid after : ℕ) → mid ≡ ticked before → AtMostOnce mid after → AtMostTwice before after
 once_more before mid after one (inl h) = inr (inl (h ∙ one))
 once_more before mid after one (inr h) = inr (inr (h ∙ ap ticked one))
+
+-- a place that has a call's executable, words, directory and variables asks the call's question
+pub asked_at : (place : RustPlace) (hasher : RustHasher) (dir : Bytes) (env : Variables) (tree : Tree) (moment : ℤ) → place.executable.now ≡ hasher.compiler.now.executable → place.parsed.now ≡ hasher.parsed.now → place.dir.now ≡ dir → place.env.now ≡ env → question_of place tree moment ≡ (call_of hasher dir env tree moment).question
+asked_at place hasher dir env tree moment executable parsed at_dir under = λ i. record { asks = asks_in (parsed i); scene = scene_with (executable i) (at_dir i) (under i) tree moment }
 
 -- what is said of the answer on dependencies to one question is said of that to an equal one
 pub early_of : (meaning : Meaning) (asked own : Question) → asked ≡ own → (before after : ℕ) → ((dep_info_fault_of asked (dep_info_of meaning asked) ≡ None → ⊥) → AtMostOnce before after) → (dep_info_fault_of own (dep_info_of meaning own) ≡ None → ⊥) → AtMostOnce before after

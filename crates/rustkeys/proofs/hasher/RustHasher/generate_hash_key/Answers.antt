@@ -1,13 +1,11 @@
-use Rattle.std.proofs.Common.{◌≡◌, ◌∙◌, None, ap, is_some, pos, string_bytes, subst}
-use Rattle.ckeys_records.specs.Meaning.{scene_with}
+use Rattle.std.proofs.Common.{◌≡◌, ◌∙◌, None, ap, is_some, pos, string_bytes}
 use Rattle.rustc_texts.specs.Outputs.{output_names}
 use Rattle.rustc_requests.specs.Asks.{asks_in}
 use Rattle.rustkeys.specs.Calls.{rule_fault_of}
 use Rattle.rustkeys.specs.Finished.{known_in}
 use Rattle.rustkeys.specs.Fresh.{dep_info_by, dep_info_text_of}
-use Rattle.rustkeys.specs.Hashers.{call_of}
 use Rattle.rustkeys.specs.Questions.{answers_of, question_of}
-use Rattle.rustkeys.proofs.RunLemmas.{early_of}
+use Rattle.rustkeys.proofs.RunLemmas.{asked_at, early_of}
 use Rattle.rustkeys.proofs.RuleLemmas.{asked_where_emitted, rule_fine, told_where_asked}
 use Rattle.rustkeys.proofs.hasher.RustHasher.generate_hash_key.Goals as goal
 
@@ -18,15 +16,10 @@ returns-clause-dep_info g c = λ moment.
     let asks = asks_in c.place-place.result.parsed.now in
     let archive = (known_in c.known-known.result).archive in
     let place = c.place-place.ensures in
+    let asked = asked_at c.place-place.result c.args.self.now c.args.dir.now c.args.env.now tree moment place.executable place.parsed place.dir place.env in
     c.in_ok-finish.ensures.dep_info
     ∙ (λ i. dep_info_by asks archive (c.in_ok-found.ensures.text moment i) (output_names asks.emit (c.in_ok-found.ensures.names moment i)))
-    ∙ (λ i. dep_info_text_of meaning (record {
-      known = c.known-known.ensures.known i;
-      question = record {
-        asks = asks_in (place.parsed i);
-        scene = scene_with (place.executable i) (place.dir i) (place.env i) tree moment;
-      };
-    }))
+    ∙ (λ i. dep_info_text_of meaning (record { known = c.known-known.ensures.known i; question = asked i }))
 
 told_as_asked : goal.returns-clause-asked
 told_as_asked g c =
@@ -47,14 +40,12 @@ returns-clause-emitted g c = λ comes. told_as_asked g c ∙ asked_where_emitted
 
 pub returns-in_err-finish-clause-early : goal.returns-in_err-finish-clause-early
 returns-in_err-finish-clause-early g c = λ moment.
-    let tree = g.F.Files.tree c.args.files.now in
     let place = c.place-place.ensures in
-    let same : question_of c.place-place.result tree moment ≡ (call_of c.args.self.now c.args.dir.now c.args.env.now tree moment).question = λ i. record { asks = asks_in (place.parsed i); scene = scene_with (place.executable i) (place.dir i) (place.env i) tree moment } in
-    early_of (g.A.Preprocessor.meaning c.args.answers.now) _ _ same _ _ (c.collect.ensures.early moment)
+    let asked = asked_at c.place-place.result c.args.self.now c.args.dir.now c.args.env.now (g.F.Files.tree c.args.files.now) moment place.executable place.parsed place.dir place.env in
+    early_of (g.A.Preprocessor.meaning c.args.answers.now) _ _ asked _ _ (c.collect.ensures.early moment)
 
 pub returns-clause-early : goal.returns-clause-early
 returns-clause-early g c = λ moment.
-    let tree = g.F.Files.tree c.args.files.now in
     let place = c.place-place.ensures in
-    let same : question_of c.place-place.result tree moment ≡ (call_of c.args.self.now c.args.dir.now c.args.env.now tree moment).question = λ i. record { asks = asks_in (place.parsed i); scene = scene_with (place.executable i) (place.dir i) (place.env i) tree moment } in
-    early_of (g.A.Preprocessor.meaning c.args.answers.now) _ _ same _ _ (c.collect.ensures.early moment)
+    let asked = asked_at c.place-place.result c.args.self.now c.args.dir.now c.args.env.now (g.F.Files.tree c.args.files.now) moment place.executable place.parsed place.dir place.env in
+    early_of (g.A.Preprocessor.meaning c.args.answers.now) _ _ asked _ _ (c.collect.ensures.early moment)
