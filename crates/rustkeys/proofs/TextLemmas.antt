@@ -1,13 +1,17 @@
 -- Texts that are UTF-8, and others.
-use Rattle.std.proofs.Common.{◌≡◌, ℤ, pos, Bool, true, false, None, Some, [], ◌∷◌, if◌then◌else◌, refl, ap}
+use Rattle.std.proofs.Common.{◌≡◌, ℤ, pos, Bool, true, false, Option, None, Some, [], ◌∷◌, if◌then◌else◌, refl, ap}
+use Rattle.std.specs.Prelude.{is_none, map}
+use Rattle.std.specs.Option.{option_map}
 use Rattle.std.specs.Ordering.{int_eq}
 use Rattle.std.specs.Str.{IsUtf8, is_utf8}
 use Rattle.std.proofs.lemmas.Str.{IsUtf8-from_is_utf8, is_utf8-from_IsUtf8}
 use Rattle.os_files.specs.Bytes.{Bytes}
+use Rattle.os_files.specs.Path.{join}
 use Rattle.ckeys_records.specs.Faults.{or_else}
 use Rattle.ckeys_records.specs.Meaning.{made_of}
 use Rattle.ckeys_records.specs.declared.fault.Fault.TheVariants.{AnswerNotUtf8, PreprocessFailed}
 use Rattle.ckeys_records.specs.declared.step.Step.{Step}
+use Rattle.rustc_texts.specs.DepInfo.{names_in, rule_of, sources_of}
 use Rattle.rustkeys.specs.Calls.{answer_fault_of, utf8_fault_of}
 
 pub utf8_fine : (step : Step) (text : Bytes) → IsUtf8 text → utf8_fault_of step text ≡ None
@@ -19,3 +23,11 @@ utf8_fault step text h = by (is_utf8 text) refl
     by : (b : Bool) → is_utf8 text ≡ b → utf8_fault_of step text ≡ Some (AnswerNotUtf8 step)
     by true e = absurd (h (IsUtf8-from_is_utf8 text e))
     by false e = rw e refl
+
+-- a text without a rule names no sources
+pub unruled : (dir text : Bytes) → is_none (rule_of text) ≡ true → sources_of dir text ≡ None
+unruled dir text h = by (rule_of text) h
+  where
+    by : (rule : Option Bytes) → is_none rule ≡ true → option_map (λ found. map (join dir) (names_in found)) rule ≡ None
+    by None e = refl
+    by (Some found) e = cc

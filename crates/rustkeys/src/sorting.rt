@@ -1,7 +1,8 @@
 //! Lists in their orders.
 
-ghost use Rattle.std.specs.Prelude.{◌≡◌, None, IfOk, IfErr, OnOk, filter};
+ghost use Rattle.std.specs.Prelude.{◌≡◌, None, true, IfOk, IfErr, IsErrOf, OnOk, filter, is_none};
 ghost use Rattle.rustc_parts.specs.Orders.{env_dep_cmp};
+ghost use Rattle.rustc_texts.specs.DepInfo.{rule_of};
 ghost use Rattle.rustc_requests.specs.Sorted.{sorted_by};
 ghost use Rattle.ckeys_records.specs.Faults.{KeyCause};
 ghost use Rattle.ckeys_records.specs.Causes.{no_file, no_step};
@@ -21,11 +22,13 @@ use rustc_texts::fault::TextFault;
 use rustc_texts::variables::{compile_env, hashed_variables};
 use std::alloc::{AllocError, Global};
 
-/// The sources that a text on dependencies names, in order.
+/// The sources that a text on dependencies names, in order. One that begins with no rule is told as that, whatever memory there is.
+#[tactic(auto, using(crate::proofs::TextLemmas::unruled))]
 pub(crate) fn sources_in(alloc: Global, dir: &OsBytes, text: &str) -> Result<Listed<OsBytes>, Fault>
     ensures sources { IfOk result (λ sources. sources ≡ sources_in dir.now text.now) }
     ensures fine { OnOk result (rule_fault_of text.now ≡ None) }
     ensures cause { IfErr result (KeyCause (rule_fault_of text.now) no_file no_step) }
+    ensures no_rule { is_none (rule_of text.now) ≡ true → IsErrOf result Fault.NoRule }
 {
     // A law, which costs nothing: what follows from it is said above.
     paths_have_one_order();
