@@ -1,14 +1,15 @@
--- The summary of a recorded build: how many entries are kept, and which ones have each reason or
--- option.
+-- The summary of a recorded build: how many entries there are, how many are kept, and which ones have
+-- each reason or option.
 use Rattle.std.specs.Prelude.{◌≡◌, ◌≢◌, ℕ, ◌+◌, Bool, List, [], ◌∷◌, ◌++◌, filter, length, map, All, if◌then◌else◌, string_bytes}
 use Rattle.std.specs.List.Sorted.{IsSortedBy}
 use Rattle.os_files.specs.Bytes.{Bytes}
 use Rattle.os_files.specs.Tree.{Tree}
 use Rattle.recorded_builds.specs.Outcomes.{is_kept, outcome_of}
 use Rattle.recorded_builds.specs.Reasons.{holds, is_blocked_by, is_passed_for}
-use Rattle.recorded_builds.specs.Tallies.{HasRow, HaveNamesApart, Row, has_more}
+use Rattle.recorded_builds.specs.Tallies.{HasRow, HaveNamesApart, Row, has_more, numbers_in}
 use Rattle.recorded_builds.specs.declared.entry.Entry.{Entry}
 use Rattle.recorded_builds.specs.declared.summary.Summary.{Summary}
+use Rattle.recorded_builds.specs.declared.telling.Telling.{Telling}
 
 -- the numbers of the entries that pass the test, where the first of all has that number
 abbrev pub numbers_where : (Entry → Bool) → ℕ → List Entry → List ℕ
@@ -26,7 +27,20 @@ pub record AreRowsOf
   pub order : IsSortedBy has_more rows
 
 pub record IsSummaryOf (tree : Tree) (entries : List Entry) (summary : Summary) : Type 0 where
+  pub count : summary.entries ≡ length entries
   pub kept : summary.kept ≡ length (filter is_kept (map (outcome_of tree) entries))
   pub reasons : AreRowsOf (is_passed_for tree) entries summary.reasons.items
   pub blockers : AreRowsOf (is_blocked_by tree) entries summary.blockers.items
   pub beware : AreRowsOf (holds tree) entries summary.beware.items
+
+-- What was noted of these entries, told in this order with these files: how many they are, how many
+-- are kept, and the numbers of those that have each reason or option.
+pub record HasTold (tree : Tree) (entries : List Entry) (telling : Telling) : Type 0 where
+  pub count : telling.count ≡ length entries
+  pub kept : telling.noted.kept ≡ length (filter is_kept (map (outcome_of tree) entries))
+  pub reasons : (name : Bytes)
+      → numbers_in telling.noted.reasons name ≡ numbers_where (is_passed_for tree name) 1 entries
+  pub blockers : (name : Bytes)
+      → numbers_in telling.noted.blockers name ≡ numbers_where (is_blocked_by tree name) 1 entries
+  pub beware : (name : Bytes)
+      → numbers_in telling.noted.beware name ≡ numbers_where (holds tree name) 1 entries

@@ -15,7 +15,9 @@ use std::alloc::{AllocError, Global};
 /// The summary of a recorded build.
 #[derive(Drop)]
 pub struct Summary {
-    /// How many entries are kept.
+    /// How many entries there are.
+    pub entries: u64,
+    /// How many of them are kept.
     pub kept: u64,
     /// Why entries are passed through.
     pub reasons: Vec<Row>,
@@ -90,14 +92,16 @@ impl Noted {
         self.blockers.note_some(told.blocker, number)
     }
 
-    /// The summary of what was noted.
-    pub(crate) fn into_summary(self, alloc: Global) -> Result<Summary, AllocError>
+    /// The summary of what was noted of so many entries.
+    pub(crate) fn into_summary(self, alloc: Global, entries: u64) -> Result<Summary, AllocError>
+        ensures entries { IfOk result (λ summary. summary.entries ≡ entries) }
         ensures kept { IfOk result (λ summary. summary.kept ≡ self.kept) }
         ensures reasons { IfOk result (λ summary. AreRowsOf self.reasons summary.reasons.items) }
         ensures blockers { IfOk result (λ summary. AreRowsOf self.blockers summary.blockers.items) }
         ensures beware { IfOk result (λ summary. AreRowsOf self.beware summary.beware.items) }
     {
         Ok(Summary {
+            entries,
             kept: self.kept,
             reasons: self.reasons.into_rows(alloc)?,
             blockers: self.blockers.into_rows(alloc)?,

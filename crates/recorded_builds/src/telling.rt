@@ -3,7 +3,7 @@
 ghost use Rattle.std.specs.Prelude.{◌≡◌, ◌+◌, ◌^◌, ◌<◌, [], ◌∷◌, ◌++◌, IfOk, OnOk, if◌then◌else◌};
 ghost use Rattle.recorded_builds.specs.Outcomes.{is_kept, outcome_of};
 ghost use Rattle.recorded_builds.specs.Reasons.{Tells, holds, is_blocked_by, is_passed_for};
-ghost use Rattle.recorded_builds.specs.Summaries.{IsSummaryOf};
+ghost use Rattle.recorded_builds.specs.Summaries.{HasTold, IsSummaryOf};
 ghost use Rattle.recorded_builds.specs.Tallies.{numbers_in};
 
 use crate::deciding::Compilers;
@@ -74,24 +74,70 @@ fn tell<L: Lines>(
     Ok(())
 }
 
-/// Decides and tells each entry, in order, with these files, and gives their summary.
-pub fn tell_all<L: Lines>(
-    alloc: Global,
-    compilers: &Compilers,
-    entries: &[Entry],
-    files: &mut Asked,
-    lines: &mut L,
-) -> Result<Summary, ParseFault>
-    ensures summary { IfOk result (IsSummaryOf files.old.files entries.now) }
-    ensures tree { files.new.files ≡ files.old.files }
-{
-    let mut noted = Noted::new(alloc);
-    let mut number = 0;
-    let mut rest = entries;
-    while let Some((entry, more)) = rest.split_first() {
-        number += 1;
-        tell(alloc, compilers, number, entry, files, lines, &mut noted)?;
-        rest = more;
+/// Entries that are told one after another, and what was noted of them.
+#[derive(Drop)]
+pub struct Telling {
+    /// How many there were.
+    count: u64,
+    noted: Noted,
+}
+
+impl Telling {
+    /// No entry was told.
+    pub fn new(alloc: Global) -> Telling
+        ensures { (tree : _) → HasTold tree [] result }
+    {
+        Telling {
+            count: 0,
+            noted: Noted::new(alloc),
+        }
     }
-    Ok(noted.into_summary(alloc)?)
+
+    /// The number of the next entry. More than can be counted are more than memory holds.
+    fn next_number(&self) -> Result<u64, AllocError>
+        ensures number { IfOk result (λ number. number ≡ self.now.count + 1) }
+        ensures room { OnOk result (self.now.noted.kept + 1 < 2 ^ 64) }
+    {
+        if self.count == u64::MAX || self.noted.kept == u64::MAX {
+            return Err(AllocError);
+        }
+        Ok(self.count + 1)
+    }
+
+    /// Decides and tells one more entry, with these files.
+    pub fn tell<L: Lines>(
+        &mut self,
+        alloc: Global,
+        compilers: &Compilers,
+        entry: &Entry,
+        files: &mut Asked,
+        lines: &mut L,
+    ) -> Result<(), ParseFault>
+        ensures told { OnOk result ((entries : _)
+            → HasTold files.old.files entries self.old
+            → HasTold files.old.files (entries ++ entry.now ∷ []) self.new) }
+        ensures tree { files.new.files ≡ files.old.files }
+    {
+        let number = self.next_number()?;
+        tell(
+            alloc,
+            compilers,
+            number,
+            entry,
+            files,
+            lines,
+            &mut self.noted,
+        )?;
+        self.count = number;
+        Ok(())
+    }
+
+    /// The summary of all entries that were told.
+    pub fn into_summary(self, alloc: Global) -> Result<Summary, AllocError>
+        ensures { IfOk result (λ summary. (tree : _) (entries : _)
+            → HasTold tree entries self → IsSummaryOf tree entries summary) }
+    {
+        let summary = self.noted.into_summary(alloc, self.count)?;
+        Ok(summary)
+    }
 }
