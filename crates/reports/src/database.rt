@@ -6,154 +6,98 @@
 //!
 //! All other members are passed over unread, and of a repeated member the last one counts.
 
-ghost use Rattle.std.specs.Prelude.{◌<◌, OnOk, length};
-
 use crate::fault::ReportFault;
-use json::{MAX_DEPTH, Reader, Scratch, Token, Value, is_valid};
-use os_files::listed::Listed;
-use os_files::os_bytes::OsBytes;
+use crate::members::{Members, add_words_of};
+use crate::room::EntryRoom;
+use crate::skipping::skip_rest;
+use json::{MAX_DEPTH, Reader, Scratch, Token, is_valid};
 use recorded_builds::entry::Entry;
-use recorded_builds::executables::{compiler_of, is_wrapper};
-use response_texts::gnu::split_gnu_response_file_args;
-use std::alloc::{AllocError, Global};
+use std::alloc::Global;
 
-/// Why an entry can't be read.
-#[derive(Clone, Copy, Debug, PartialEq, Eq)]
-enum EntryFault {
-    /// This is wrong with it.
-    Wrong(&'static str),
-    Memory,
+/// What entries are for.
+pub(crate) trait TakesEntries {
+    /// Takes the next entry.
+    fn take(&mut self, entry: &Entry) -> Result<(), ReportFault>;
 }
 
-impl From<AllocError> for EntryFault {
-    fn from(_error: AllocError) -> EntryFault {
-        EntryFault::Memory
-    }
-}
-
-/// The words of a list of texts.
-fn words_of_list(alloc: Global, items: &[Value<'_>]) -> Result<Vec<OsBytes>, EntryFault> {
-    let mut words = Vec::with_capacity(alloc, items.len())?;
-    for item in items {
-        let Value::String(text) = item else {
-            return Err(EntryFault::Wrong("an argument is not a text"));
-        };
-        words
-            .push(OsBytes::from_slice(alloc, text.as_bytes())?)
-            .map_err(|_| EntryFault::Memory)?;
-    }
-    Ok(words)
-}
-
-/// The executable and its words.
-fn read_words(alloc: Global, entry: &Value<'_>) -> Result<Vec<OsBytes>, EntryFault> {
-    match (entry.get("arguments"), entry.get("command")) {
-        (Some(Value::Array(items)), _) => words_of_list(alloc, items.as_slice()),
-        (Some(_), _) => Err(EntryFault::Wrong("arguments is not a list")),
-        (None, Some(Value::String(text))) => {
-            Ok(split_gnu_response_file_args(alloc, text.as_bytes())?)
-        }
-        (None, Some(_)) => Err(EntryFault::Wrong("command is not a text")),
-        (None, None) => Err(EntryFault::Wrong("neither arguments nor command is there")),
-    }
-}
-
-/// The folder in which the command is run.
-fn read_dir(alloc: Global, entry: &Value<'_>) -> Result<OsBytes, EntryFault> {
-    match entry.get("directory") {
-        Some(Value::String(text)) => Ok(OsBytes::from_slice(alloc, text.as_bytes())?),
-        Some(_) => Err(EntryFault::Wrong("directory is not a text")),
-        None => Err(EntryFault::Wrong("directory is not there")),
-    }
-}
-
-/// The words from the executable on, without the wrappers before it. The last of them stays where no other word is there.
-fn without_wrappers(alloc: Global, words: Vec<OsBytes>) -> Result<Vec<OsBytes>, EntryFault> {
-    let wrappers = words
-        .iter()
-        .take_while(|word| is_wrapper(word.as_bytes()))
-        .count()
-        .min(words.len().saturating_sub(1));
-    if wrappers == 0 {
-        return Ok(words);
-    }
-    let mut rest = Vec::with_capacity(alloc, words.len())?;
-    for word in words.into_iter().skip(wrappers) {
-        rest.push(word).map_err(|_| EntryFault::Memory)?;
-    }
-    Ok(rest)
-}
-
-/// The entry of an executable, which may stand behind wrappers, and its words.
-fn entry_of(alloc: Global, dir: OsBytes, words: Vec<OsBytes>) -> Result<Entry, EntryFault> {
-    let mut words = without_wrappers(alloc, words)?;
-    if words.is_empty() {
-        return Err(EntryFault::Wrong("it has no words"));
-    }
-    let executable = words.remove(0);
-    Ok(Entry {
-        compiler: compiler_of(executable.as_bytes()),
-        executable,
-        words: Listed::from_vec(words),
-        dir,
-    })
-}
-
-/// The entry that a value is.
-fn read_entry(alloc: Global, value: &Value<'_>) -> Result<Entry, EntryFault> {
-    let Value::Object(_) = value else {
-        return Err(EntryFault::Wrong("it is not an object"));
+/// Hands on the entry that these members make with the words in the room, and tells what is wrong where they make none.
+fn hand_on<T: TakesEntries>(
+    alloc: Global,
+    room: &mut EntryRoom,
+    members: Members<'_>,
+    taker: &mut T,
+) -> Result<Option<&'static str>, ReportFault> {
+    let dir = match members.dir() {
+        Ok(dir) => dir,
+        Err(what) => return Ok(Some(what)),
     };
-    let dir = read_dir(alloc, value)?;
-    entry_of(alloc, dir, read_words(alloc, value)?)
-}
-
-/// The entries of a list so far, and what is wrong with the first value that is none.
-#[derive(Drop)]
-struct Entries {
-    entries: Vec<Entry>,
-    wrong: Option<&'static str>,
-}
-
-impl Entries {
-    /// Adds what a value was read as, unless one before was none.
-    fn add(&mut self, read: Result<Entry, EntryFault>) -> Result<(), ReportFault> {
-        match read {
-            Ok(entry) => self.entries.push(entry)?,
-            Err(EntryFault::Wrong(what)) => self.wrong = Some(what),
-            Err(EntryFault::Memory) => return Err(ReportFault::Memory),
+    match members.command() {
+        Ok(Some(command)) => {
+            room.forget_words();
+            add_words_of(alloc, room, command)?;
         }
-        Ok(())
+        Ok(None) => {}
+        Err(what) => return Ok(Some(what)),
     }
+    if !room.complete(dir.as_bytes())? {
+        return Ok(Some("it has no words"));
+    }
+    taker.take(room.entry())?;
+    Ok(None)
+}
 
-    /// Reads the next value of the list.
-    fn read_next(&mut self, alloc: Global, reader: &mut Reader<'_>) -> Result<(), ReportFault>
-        ensures { OnOk result (length reader.new < length reader.old) }
-    {
-        let value = Value::read(alloc, reader, MAX_DEPTH - 1)?;
-        if self.wrong.is_some() {
-            return Ok(());
+/// Reads the next value of the list and hands on the entry that it is, and tells what is wrong where it is none.
+fn read_next<T: TakesEntries>(
+    alloc: Global,
+    room: &mut EntryRoom,
+    reader: &mut Reader<'_>,
+    taker: &mut T,
+) -> Result<Option<&'static str>, ReportFault> {
+    match reader.next() {
+        Some(Token::BeginObject) => {
+            room.forget();
+            let members = Members::read(room, reader)?;
+            hand_on(alloc, room, members, taker)
         }
-        self.add(read_entry(alloc, &value))
+        Some(begin) => {
+            skip_rest(reader, begin, MAX_DEPTH - 2)?;
+            Ok(Some("it is not an object"))
+        }
+        None => Err(ReportFault::NotJson),
     }
 }
 
-/// Reads the values of a list up to its end, each as an entry. The first that is none is told once all is known to be JSON.
-fn read_entries(alloc: Global, reader: &mut Reader<'_>) -> Result<Vec<Entry>, ReportFault> {
-    let mut read = Entries {
-        entries: Vec::new(alloc),
-        wrong: None,
-    };
-    while !reader.take_end_array() {
-        read.read_next(alloc, reader)?;
-    }
+/// What is told where the list ends.
+fn end_of(reader: &mut Reader<'_>, wrong: Option<(u64, &'static str)>) -> Result<(), ReportFault> {
     if reader.next().is_some() {
         return Err(ReportFault::NotJson);
     }
-    match read.wrong {
-        Some(what) => Err(ReportFault::Entry((read.entries.len() as u64).saturating_add(1), what)),
-        None => Ok(read.entries),
+    match wrong {
+        Some((number, what)) => Err(ReportFault::Entry(number, what)),
+        None => Ok(()),
     }
+}
+
+/// Reads the values of a list up to its end, and hands on the entries before the first value that is none. That is told once all
+/// is known to be JSON.
+fn read_entries<T: TakesEntries>(
+    alloc: Global,
+    reader: &mut Reader<'_>,
+    taker: &mut T,
+) -> Result<(), ReportFault> {
+    let mut room = EntryRoom::new(alloc);
+    let mut wrong: Option<(u64, &'static str)> = None;
+    for number in 1..u64::MAX {
+        if reader.take_end_array() {
+            return end_of(reader, wrong);
+        }
+        if wrong.is_some() {
+            reader.skip_value(MAX_DEPTH - 1)?;
+        } else if let Some(what) = read_next(alloc, &mut room, reader, taker)? {
+            wrong = Some((number, what));
+        }
+    }
+    Err(ReportFault::NotJson)
 }
 
 /// What a text that is no list is.
@@ -165,15 +109,19 @@ fn fault_of_text(alloc: Global, text: &str) -> ReportFault {
     }
 }
 
-/// The entries of a compilation database, in order.
-pub(crate) fn read_database(alloc: Global, text: &[u8]) -> Result<Vec<Entry>, ReportFault> {
+/// Reads the entries of a compilation database, in order, and hands on each, in memory that the next one is read into.
+pub(crate) fn read_database<T: TakesEntries>(
+    alloc: Global,
+    text: &[u8],
+    taker: &mut T,
+) -> Result<(), ReportFault> {
     let Ok(text) = str::from_utf8(text) else {
         return Err(ReportFault::NotJson);
     };
     let mut scratch = Scratch::new(alloc);
     let mut reader = Reader::new(text, &mut scratch)?;
     match reader.next() {
-        Some(Token::BeginArray) => read_entries(alloc, &mut reader),
+        Some(Token::BeginArray) => read_entries(alloc, &mut reader, taker),
         _ => Err(fault_of_text(alloc, text)),
     }
 }

@@ -1,5 +1,6 @@
-//! The files that command lines name, read from the disk once, before anything is decided.
+//! The files that command lines name, read from the disk once, before an entry is decided with them.
 
+use crate::database::{TakesEntries, read_database};
 use crate::fault::ReportFault;
 use os_files::file_time::FileTime;
 use os_files::memory_files::MemoryFile;
@@ -113,18 +114,49 @@ fn fetch_for<D: Files>(
     Ok(())
 }
 
-/// The files that the entries ask for, as they are on the disk.
+/// The files that the entries before asked for, as they are on the disk.
+struct Fetching<'a, D> {
+    alloc: Global,
+    disk: &'a D,
+    compilers: &'a Compilers,
+    asked: Asked,
+}
+
+impl<'a, D: Files> TakesEntries for Fetching<'a, D> {
+    fn take(&mut self, entry: &Entry) -> Result<(), ReportFault> {
+        if !may_ask(entry) {
+            return Ok(());
+        }
+        fetch_for(
+            self.alloc,
+            self.disk,
+            self.compilers,
+            entry,
+            &mut self.asked,
+        )
+    }
+}
+
+/// The files that the entries of a database ask for, as they are on the disk.
 pub(crate) fn snapshot_for<D: Files>(
     alloc: Global,
     disk: &D,
     compilers: &Compilers,
-    entries: &[Entry],
+    database: &[u8],
 ) -> Result<Asked, ReportFault> {
-    let mut asked = Asked::new(alloc);
-    for entry in entries {
-        if may_ask(entry) {
-            fetch_for(alloc, disk, compilers, entry, &mut asked)?;
-        }
-    }
+    let mut fetching = Fetching {
+        alloc,
+        disk,
+        compilers,
+        asked: Asked::new(alloc),
+    };
+    let read = read_database(alloc, database, &mut fetching);
+    let Fetching {
+        alloc: _,
+        disk: _,
+        compilers: _,
+        asked,
+    } = fetching;
+    read?;
     Ok(asked)
 }

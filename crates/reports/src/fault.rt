@@ -1,5 +1,6 @@
 //! Why a report stopped.
 
+use json::Invalid;
 use response_files::fault::ParseFault;
 use std::alloc::{AllocError, AllocFailed};
 use std::io;
@@ -44,14 +45,9 @@ impl<T: Drop> From<AllocFailed<T>> for ReportFault {
     }
 }
 
-impl From<json::Error> for ReportFault {
-    fn from(error: json::Error) -> ReportFault {
-        match error {
-            json::Error::OutOfMemory => ReportFault::Memory,
-            json::Error::Invalid | json::Error::TooLong | json::Error::DuplicateKey => {
-                ReportFault::NotJson
-            }
-        }
+impl From<Invalid> for ReportFault {
+    fn from(_error: Invalid) -> ReportFault {
+        ReportFault::NotJson
     }
 }
 

@@ -1,11 +1,10 @@
 //! The program: it reads command lines, and prints what each comes to.
 
-use crate::database::read_database;
 use crate::disk::snapshot_for;
 pub use crate::fault::ReportFault;
 use crate::fault::fault_of;
 use crate::lines::text_of_lines;
-use crate::report::{Shape, report_text};
+use crate::report::{Shape, report_with_files, report_without_files};
 use crate::request_texts::Detail;
 use crate::usage::{HELP, Usage, usage_of};
 use recorded_builds::deciding::Compilers;
@@ -41,17 +40,19 @@ pub fn run<D: Files, R: Read, W: Write>(
     write_text(writer, text.as_str())
 }
 
-/// The report on a database.
+/// The report on a database. Where its entries ask for files, these are all read from the disk before an entry is decided with them.
 fn text_of_report<D: Files>(
     alloc: Global,
     disk: &D,
     shape: Shape,
     database: &[u8],
 ) -> Result<String, ReportFault> {
-    let entries = read_database(alloc, database)?;
     let compilers = Compilers::new(alloc)?;
-    let mut files = snapshot_for(alloc, disk, &compilers, entries.as_slice())?;
-    Ok(report_text(alloc, &compilers, shape, entries.as_slice(), &mut files)?)
+    if let Some(text) = report_without_files(alloc, &compilers, shape, database)? {
+        return Ok(text);
+    }
+    let files = snapshot_for(alloc, disk, &compilers, database)?;
+    report_with_files(alloc, &compilers, shape, database, files)
 }
 
 /// What the reader gives to its end.

@@ -1,5 +1,7 @@
 //! The report on a database: a line for each entry, and a summary.
 
+use crate::database::{TakesEntries, read_database};
+use crate::fault::ReportFault;
 use crate::request_texts::{Detail, write_compile, write_kept, write_preprocess};
 use crate::tally::write_rows;
 use cmdlines_base::compiler_arguments::CompilerArguments;
@@ -8,9 +10,8 @@ use recorded_builds::deciding::{Compilers, Verdict};
 use recorded_builds::entry::Entry;
 use recorded_builds::snapshot::Asked;
 use recorded_builds::summary::Summary;
-use recorded_builds::telling::{Lines, tell_all};
+use recorded_builds::telling::{Lines, Telling};
 use recorded_builds::told::Told;
-use response_files::fault::ParseFault;
 use std::alloc::{AllocError, Global};
 use std::fmt::Write;
 
@@ -29,6 +30,8 @@ struct ReportLines<'a> {
     compilers: &'a Compilers,
     shape: Shape,
     text: String,
+    /// An entry asked for a file that isn't among those that are known.
+    has_asked: bool,
 }
 
 /// Adds the words of the commands of an entry that is kept, a line each.
@@ -79,6 +82,9 @@ impl<'a> Lines for ReportLines<'a> {
         told: &Told,
         files: &Asked,
     ) -> Result<(), AllocError> {
+        if !files.read.is_empty() || !files.looked_for.is_empty() {
+            self.has_asked = true;
+        }
         let text = &mut self.text;
         match &told.reason {
             Some(reason) => write!(text, "{number} pass {reason}")?,
@@ -95,31 +101,99 @@ impl<'a> Lines for ReportLines<'a> {
     }
 }
 
-/// Adds the summary of so many entries.
-fn write_summary(text: &mut String, entries: usize, summary: &Summary) -> Result<(), AllocError> {
-    let kept = summary.kept;
+/// Adds the summary.
+fn write_summary(text: &mut String, summary: &Summary) -> Result<(), AllocError> {
+    let (entries, kept) = (summary.entries, summary.kept);
     write!(text, "\nentries {entries}\nkept {kept}\n")?;
     write_rows(text, "passed through", summary.reasons.as_slice())?;
     write_rows(text, "without direct mode", summary.blockers.as_slice())?;
     write_rows(text, "beware", summary.beware.as_slice())
 }
 
-/// The report on these entries, with these files of words.
-pub(crate) fn report_text(
+/// A report on the entries that were taken so far.
+#[derive(Drop)]
+struct Report<'a> {
+    files: Asked,
+    telling: Telling,
+    lines: ReportLines<'a>,
+}
+
+impl<'a> Report<'a> {
+    /// The report on no entries, with these files of words for those that come.
+    fn new(alloc: Global, compilers: &'a Compilers, shape: Shape, files: Asked) -> Report<'a> {
+        Report {
+            files,
+            telling: Telling::new(alloc),
+            lines: ReportLines {
+                alloc,
+                compilers,
+                shape,
+                text: String::new(alloc),
+                has_asked: false,
+            },
+        }
+    }
+
+    /// Its text.
+    fn into_text(self) -> Result<String, AllocError> {
+        let Report { telling, lines, .. } = self;
+        let summary = telling.into_summary(lines.alloc)?;
+        let ReportLines { mut text, .. } = lines;
+        write_summary(&mut text, &summary)?;
+        Ok(text)
+    }
+}
+
+impl<'a> TakesEntries for Report<'a> {
+    fn take(&mut self, entry: &Entry) -> Result<(), ReportFault> {
+        let (alloc, compilers) = (self.lines.alloc, self.lines.compilers);
+        self.telling
+            .tell(alloc, compilers, entry, &mut self.files, &mut self.lines)?;
+        Ok(())
+    }
+}
+
+/// A report that is given up where an entry asks for a file that isn't known.
+#[derive(Drop)]
+struct FirstReport<'a> {
+    report: Report<'a>,
+}
+
+impl<'a> TakesEntries for FirstReport<'a> {
+    fn take(&mut self, entry: &Entry) -> Result<(), ReportFault> {
+        if self.report.lines.has_asked {
+            return Ok(());
+        }
+        self.report.take(entry)
+    }
+}
+
+/// The report on a database whose entries ask for no files. None where one of them does.
+pub(crate) fn report_without_files(
     alloc: Global,
     compilers: &Compilers,
     shape: Shape,
-    entries: &[Entry],
-    files: &mut Asked,
-) -> Result<String, ParseFault> {
-    let mut lines = ReportLines {
-        alloc,
-        compilers,
-        shape,
-        text: String::new(alloc),
-    };
-    let summary = tell_all(alloc, compilers, entries, files, &mut lines)?;
-    let ReportLines { mut text, .. } = lines;
-    write_summary(&mut text, entries.len(), &summary)?;
-    Ok(text)
+    database: &[u8],
+) -> Result<Option<String>, ReportFault> {
+    let report = Report::new(alloc, compilers, shape, Asked::new(alloc));
+    let mut first = FirstReport { report };
+    read_database(alloc, database, &mut first)?;
+    let FirstReport { report } = first;
+    if report.lines.has_asked {
+        return Ok(None);
+    }
+    Ok(Some(report.into_text()?))
+}
+
+/// The report on a database, with these files for its entries.
+pub(crate) fn report_with_files(
+    alloc: Global,
+    compilers: &Compilers,
+    shape: Shape,
+    database: &[u8],
+    files: Asked,
+) -> Result<String, ReportFault> {
+    let mut report = Report::new(alloc, compilers, shape, files);
+    read_database(alloc, database, &mut report)?;
+    Ok(report.into_text()?)
 }

@@ -1,4 +1,4 @@
-use Rattle.std.proofs.Common.{◌≡◌, ◌∙◌}
+use Rattle.std.proofs.Common.{◌∙◌}
 use Rattle.recorded_builds.specs.Reasons.{holds, is_blocked_by, is_passed_for}
 use Rattle.recorded_builds.proofs.Summed.{rows_noted}
 use Rattle.recorded_builds.proofs.telling.Telling.into_summary.Goals as goal

@@ -1,4 +1,4 @@
-use Rattle.std.proofs.Common.{◌≡◌, ◌+◌, ◌++◌, ◌∷◌, [], arith, length, length-append}
+use Rattle.std.proofs.Common.{◌≡◌, ◌+◌, ◌∷◌, [], arith, length, length-append}
 use Rattle.recorded_builds.specs.Outcomes.{outcome_of}
 use Rattle.recorded_builds.specs.Reasons.{holds, is_blocked_by, is_passed_for}
 use Rattle.recorded_builds.specs.Tallies.{numbers_in}
