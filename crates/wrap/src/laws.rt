@@ -1,19 +1,19 @@
 //! Laws over runs. Calls of them do nothing.
 
-ghost use Rattle.std.specs.Prelude.{◌≡◌, ◌↔◌, ◌∷◌, [], ℕ, ℤ, true, false, List, Some, codes, length};
+ghost use Rattle.std.specs.Prelude.{◌≡◌, ◌↔◌, ◌∷◌, ◌++◌, [], ℕ, ℤ, true, false, List, Some, codes, length};
 ghost use Rattle.os_files.specs.Tree.{Tree};
 ghost use Rattle.include_records.specs.Records.{Record};
 ghost use Rattle.entry_keys.specs.declared.entry_key.EntryKey.{EntryKey};
 ghost use Rattle.os_files.specs.declared.files.Metadata.{Metadata};
 ghost use Rattle.time_macros.specs.Days.{ZoneRule};
-ghost use Rattle.ckeys.specs.Entries.{HasMatch, Held, entry_key_by, has_entry_key, includes_by};
+ghost use Rattle.ckeys.specs.Entries.{EntryInvariant, HasMatch, Held, entry_key_by, has_entry_key, includes_by};
 ghost use Rattle.wrap.specs.DirectExample.{call_on, header_include, first_byte_digest, printed_text, record_on, text_key_on, two_moments};
 ghost use Rattle.ckeys.specs.Calls.{KeyCall};
 ghost use Rattle.ckeys_records.specs.Meaning.{Meaning};
 ghost use Rattle.os_files.specs.Bytes.{Bytes};
 ghost use Rattle.ckeys_base.specs.Shelf.{IsEmpty, Shelf};
 ghost use Rattle.wrap_keys.specs.CallRecords.{AreDistinct, CallRecord, IsTold, key_of, record_shape};
-ghost use Rattle.wrap_keys.specs.Account.{Pairs, Work, account_at, work_at};
+ghost use Rattle.wrap_keys.specs.Account.{Account, Pairs, Work, account_at, direct_calls, work_at};
 ghost use Rattle.wrap.specs.SameCalls.{AreSameWithoutFolders};
 ghost use Rattle.ckeys_records.specs.Folders.{Settings};
 ghost use Rattle.wrap_keys.specs.Asking.{EntriesTurn, RecordsAreTrue, Shelves};
@@ -69,6 +69,18 @@ pub fn records_that_are_not_kept_change_nothing<H: HashState>()
         printed_new
         → new ≡ old }
 {}
+
+/// What include records of earlier calls say is true of the next one, whatever its compiler means: where digests are distinct and texts
+/// are printed again, which what is assumed of whole runs says too.
+pub fn records_of_earlier_calls_are_true<H: HashState>()
+    ensures { (meaning : Meaning) (tree : Tree) (settings : Settings) (request : Request)
+        (held : Held) (earlier : List Account)
+        → EntryInvariant H.digest_of settings (direct_calls earlier) held
+        → Premises H.digest_of (earlier ++ account_at meaning tree settings request ∷ [])
+        → RecordsAreTrue H.digest_of (account_at meaning tree settings request) held }
+{
+    records_are_true::<H>();
+}
 
 /// Under distinct digests keys with their shapes are equal exactly if the records are, of whichever families.
 pub fn call_keys_tell_records<H: HashState>()
