@@ -1,10 +1,11 @@
 -- The bytes of an entry.
-use Rattle.std.specs.Prelude.{ℕ, Bool, ◌==◌, ◌++◌, List, [], ◌∷◌, length, Option, None, Some, if◌then◌else◌}
+use Rattle.std.specs.Prelude.{ℕ, Bool, List, Option}
 use Rattle.os_files.specs.Bytes.{Bytes}
-use Rattle.byte_formats.specs.Reading.{Read, ◌>>=◌, both_at, counted_at, framed_at, made_at, number_at, optional_at}
+use Rattle.byte_formats.specs.Reading.{Read, both_at, counted_at, framed_at, made_at, number_at, optional_at}
 use Rattle.byte_formats.specs.Spelling.{BothFit, CountFits, FitsFrame, FitsNumber, IfFits, both, counted, framed, number, optional}
 use Rattle.cmdlines_tables.specs.declared.language.Language.{Language}
 use Rattle.kept_entries.specs.Codes.{coded, coded_at, flag_code, flag_of, language_code, language_of}
+use Rattle.kept_entries.specs.Sealed.{sealed_bytes}
 use Rattle.kept_entries.specs.declared.entry.KeptEntry.{KeptEntry}
 use Rattle.kept_entries.specs.declared.entry.KeptMessages.{KeptMessages}
 use Rattle.kept_entries.specs.declared.entry.KeptName.{KeptName}
@@ -99,25 +100,10 @@ messages_at = made_at messages_from (both_at framed_at (both_at framed_at framed
 unfoldable pub contents_at : Bytes → Read KeptEntry
 contents_at = made_at entry_from (both_at shape_at (both_at (counted_at name_at) (both_at framed_at (both_at (counted_at output_at) messages_at))))
 
--- all of them, and nothing behind
-unfoldable pub fields_at : Bytes → Option KeptEntry
-fields_at bytes = do
-  entry ← contents_at bytes
-  if length entry.1 == 0 then Some entry.0 else None
-
 -- the version of this layout
 abbrev pub layout_version : ℕ
 layout_version = 2
 
--- all of them behind the version; an entry of another version is none
-unfoldable pub whole_at : Bytes → Option KeptEntry
-whole_at [] = None
-whole_at (version ∷ bytes) = if version == layout_version then fields_at bytes else None
-
--- what is sealed: the version and the contents
-abbrev pub versioned_bytes : KeptEntry → Bytes
-versioned_bytes e = layout_version ∷ contents_bytes e
-
 -- an entry's bytes: the version and its contents, and the digest of these
 abbrev pub entry_bytes : (Bytes → Bytes) → KeptEntry → Bytes
-entry_bytes digest_of e = versioned_bytes e ++ digest_of (versioned_bytes e)
+entry_bytes digest_of e = sealed_bytes digest_of layout_version contents_bytes e

@@ -1,3 +1,5 @@
 pub mod Codes
+pub mod Sealed
 pub mod Layout
 pub mod EntryFormats
+pub mod KeptRecords

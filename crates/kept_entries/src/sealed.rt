@@ -1,18 +1,25 @@
-//! Whole entries, with the digest of their bytes at the end.
+//! Whole values, behind the version of their layout and with the digest of their bytes at the end.
 
 ghost use Rattle.std.specs.Prelude.{◌≡◌, IfOk, IfSome, OnOk, Some};
 ghost use Rattle.byte_formats.specs.Reading.{Gives};
-ghost use Rattle.kept_entries.specs.Layout.{EntryFits, entry_bytes, fields_at, whole_at};
+ghost use Rattle.kept_entries.specs.KeptRecords.{KeptFits, record_bytes};
+ghost use Rattle.kept_entries.specs.Layout.{EntryFits, entry_bytes};
+ghost use Rattle.kept_entries.specs.Sealed.{fields_at, sealed_bytes, whole_at};
 ghost use Rattle.kept_entries.specs.declared.entry.KeptEntry.{KeptEntry};
+ghost use Rattle.kept_entries.specs.declared.kept_record.KeptRecord.{KeptRecord};
 
 use crate::entry::KeptEntry;
+use crate::kept_record::KeptRecord;
 use byte_formats::fault::ReadFault;
 use byte_formats::field::Field;
 use ckeys_base::hash_state::HashState;
 use std::alloc::{AllocError, Global};
 
-/// The version of the layout, which each entry begins with.
-const VERSION: u8 = 2;
+/// The version of the layout of entries, which each begins with.
+const ENTRY_VERSION: u8 = 2;
+
+/// That of include records.
+const RECORD_VERSION: u8 = 1;
 
 /// The digest of these bytes.
 fn digest_of<H: HashState>(alloc: Global, bytes: &[u8]) -> Result<Vec<u8>, AllocError>
@@ -23,43 +30,83 @@ fn digest_of<H: HashState>(alloc: Global, bytes: &[u8]) -> Result<Vec<u8>, Alloc
     state.digest(alloc)
 }
 
-/// The bytes of an entry: the version of their layout, its fields, and the digest of these.
-pub fn entry_bytes<H: HashState>(alloc: Global, entry: &KeptEntry) -> Result<Vec<u8>, AllocError>
-    ensures bytes { IfOk result (λ bytes. bytes.items ≡ entry_bytes H.digest_of entry.now) }
-    ensures fits { OnOk result (EntryFits entry.now) }
+/// The bytes of a value: the version of their layout, the value, and the digest of these.
+fn sealed_bytes<H: HashState, T: Field>(
+    alloc: Global,
+    version: u8,
+    value: &T,
+) -> Result<Vec<u8>, AllocError>
+    ensures bytes { IfOk result
+        (λ bytes. bytes.items ≡ sealed_bytes H.digest_of version T.spells value.now) }
+    ensures fits { OnOk result (T.fits value.now) }
 {
     let mut bytes = Vec::new(alloc);
-    bytes.push(VERSION)?;
-    entry.put(&mut bytes)?;
+    bytes.push(version)?;
+    value.put(&mut bytes)?;
     let digest = digest_of::<H>(alloc, &bytes)?;
     bytes.extend_from_slice(&digest)?;
     Ok(bytes)
 }
 
-/// The entry whose fields these bytes are.
-#[tactic(auto, unfolding(crate::specs::Layout::fields_at))]
-fn read_fields(alloc: Global, bytes: &[u8]) -> Result<KeptEntry, ReadFault>
-    ensures { Gives (λ entry. entry) result (fields_at bytes.now) }
+/// The value whose bytes these are.
+#[tactic(auto, unfolding(crate::specs::Sealed::fields_at))]
+fn read_fields<T: Field>(alloc: Global, bytes: &[u8]) -> Result<T, ReadFault>
+    ensures { Gives (λ value. value) result (fields_at T.reads bytes.now) }
 {
-    let (entry, rest) = KeptEntry::read(alloc, bytes)?;
+    let (value, rest) = T::read(alloc, bytes)?;
     if !rest.is_empty() {
         return Err(ReadFault::Unfit);
     }
-    Ok(entry)
+    Ok(value)
 }
 
-/// The entry whose fields stand behind the version in these bytes.
-#[tactic(auto, unfolding(crate::specs::Layout::whole_at))]
-fn read_whole(alloc: Global, bytes: &[u8]) -> Result<KeptEntry, ReadFault>
-    ensures { Gives (λ entry. entry) result (whole_at bytes.now) }
+/// The value that stands behind that version in these bytes.
+#[tactic(auto, unfolding(crate::specs::Sealed::whole_at))]
+fn read_whole<T: Field>(alloc: Global, version: u8, bytes: &[u8]) -> Result<T, ReadFault>
+    ensures { Gives (λ value. value) result (whole_at version T.reads bytes.now) }
 {
-    let Some((version, rest)) = bytes.split_first() else {
+    let Some((first, rest)) = bytes.split_first() else {
         return Err(ReadFault::Unfit);
     };
-    if *version != VERSION {
+    if *first != version {
         return Err(ReadFault::Unfit);
     }
-    read_fields(alloc, rest)
+    read_fields::<T>(alloc, rest)
+}
+
+/// The value of that version whose bytes these are. `None` where they are those of none, as where some were cut off or changed.
+fn read_sealed<H: HashState, T: Field>(
+    alloc: Global,
+    version: u8,
+    bytes: &[u8],
+) -> Result<Option<T>, AllocError>
+    ensures found { IfOk result (λ found. IfSome found (λ value. T.fits value
+        × (bytes.now ≡ sealed_bytes H.digest_of version T.spells value))) }
+    ensures only { (value : T) → T.fits value →
+        bytes.now ≡ sealed_bytes H.digest_of version T.spells value →
+        IfOk result (λ found. found ≡ Some value) }
+{
+    if bytes.len() < H::LEN {
+        return Ok(None);
+    }
+    let (front, end) = bytes.split_at(bytes.len() - H::LEN);
+    let digest = digest_of::<H>(alloc, front)?;
+    if digest.as_slice() != end {
+        return Ok(None);
+    }
+    match read_whole::<T>(alloc, version, front) {
+        Ok(value) => Ok(Some(value)),
+        Err(ReadFault::Unfit) => Ok(None),
+        Err(ReadFault::Memory) => Err(AllocError),
+    }
+}
+
+/// The bytes of an entry: the version of their layout, its fields, and the digest of these.
+pub fn entry_bytes<H: HashState>(alloc: Global, entry: &KeptEntry) -> Result<Vec<u8>, AllocError>
+    ensures bytes { IfOk result (λ bytes. bytes.items ≡ entry_bytes H.digest_of entry.now) }
+    ensures fits { OnOk result (EntryFits entry.now) }
+{
+    sealed_bytes::<H, KeptEntry>(alloc, ENTRY_VERSION, entry)
 }
 
 /// The entry whose bytes these are. `None` where they are those of none, as where one was cut short, a byte of it was changed or
@@ -76,17 +123,29 @@ pub fn read_entry<H: HashState>(
         bytes.now ≡ entry_bytes H.digest_of entry →
         IfOk result (λ found. found ≡ Some entry) }
 {
-    if bytes.len() < H::LEN {
-        return Ok(None);
-    }
-    let (front, end) = bytes.split_at(bytes.len() - H::LEN);
-    let digest = digest_of::<H>(alloc, front)?;
-    if digest.as_slice() != end {
-        return Ok(None);
-    }
-    match read_whole(alloc, front) {
-        Ok(entry) => Ok(Some(entry)),
-        Err(ReadFault::Unfit) => Ok(None),
-        Err(ReadFault::Memory) => Err(AllocError),
-    }
+    read_sealed::<H, KeptEntry>(alloc, ENTRY_VERSION, bytes)
+}
+
+/// The bytes of an include record: the version of their layout, its fields, and the digest of these.
+pub fn record_bytes<H: HashState>(alloc: Global, kept: &KeptRecord) -> Result<Vec<u8>, AllocError>
+    ensures bytes { IfOk result (λ bytes. bytes.items ≡ record_bytes H.digest_of kept.now) }
+    ensures fits { OnOk result (KeptFits kept.now) }
+{
+    sealed_bytes::<H, KeptRecord>(alloc, RECORD_VERSION, kept)
+}
+
+/// The include record whose bytes these are. `None` where they are those of none, as with entries.
+pub fn read_record<H: HashState>(
+    alloc: Global,
+    bytes: &[u8],
+) -> Result<Option<KeptRecord>, AllocError>
+    // What is read is what was written.
+    ensures found { IfOk result (λ found. IfSome found (λ kept. KeptFits kept
+        × (bytes.now ≡ record_bytes H.digest_of kept))) }
+    // What was written is read.
+    ensures only { (kept : KeptRecord) → KeptFits kept →
+        bytes.now ≡ record_bytes H.digest_of kept →
+        IfOk result (λ found. found ≡ Some kept) }
+{
+    read_sealed::<H, KeptRecord>(alloc, RECORD_VERSION, bytes)
 }

@@ -1,0 +1,53 @@
+//! Include records with what they are kept under.
+
+ghost use Rattle.kept_entries.specs.KeptRecords.{KeptFits, kept_at, kept_bytes, kept_format};
+
+use byte_formats::fault::ReadFault;
+use byte_formats::field::Field;
+use os_files::os_bytes::OsBytes;
+use std::alloc::{AllocError, Global};
+
+/// An include record, as its own bytes, under an entry key of calls in one zone.
+#[derive(Drop)]
+pub struct KeptRecord {
+    /// The zone in which these calls told days, as text.
+    pub zone: OsBytes,
+    /// The two digests of the entry key.
+    pub identity: OsBytes,
+    pub key: OsBytes,
+    pub results: OsBytes,
+}
+
+/// The zone, the entry key and the record.
+impl Field for KeptRecord {
+    ghost reads = { kept_at };
+
+    ghost spells = { kept_bytes };
+
+    ghost fits = { KeptFits };
+
+    ghost is_format = { kept_format };
+
+    #[tactic(auto, unfolding(crate::specs::KeptRecords::kept_at, byte_formats::specs::Reading::both_at, byte_formats::specs::Reading::made_at))]
+    fn read(alloc: Global, bytes: &[u8]) -> Result<(KeptRecord, &[u8]), ReadFault> {
+        let (zone, rest) = OsBytes::read(alloc, bytes)?;
+        let (identity, rest) = OsBytes::read(alloc, rest)?;
+        let (key, rest) = OsBytes::read(alloc, rest)?;
+        let (results, rest) = OsBytes::read(alloc, rest)?;
+        let kept = KeptRecord {
+            zone,
+            identity,
+            key,
+            results,
+        };
+        Ok((kept, rest))
+    }
+
+    fn put(&self, out: &mut Vec<u8>) -> Result<(), AllocError> {
+        self.zone.put(out)?;
+        self.identity.put(out)?;
+        self.key.put(out)?;
+        self.results.put(out)?;
+        Ok(())
+    }
+}
