@@ -12,8 +12,10 @@ use std::time::SystemTime;
 pub enum Kind {
     /// Outputs under the digest of their key.
     Entries,
-    /// The digest that a command line had last.
+    /// What a command line had last.
     Hints,
+    /// Include records.
+    Records,
     /// The digest of a compiler, under that of the state of its files.
     Compilers,
     /// The files of which a compiler's driver says that it runs them.
@@ -26,6 +28,7 @@ impl Kind {
         match self {
             Kind::Entries => "entries",
             Kind::Hints => "hints",
+            Kind::Records => "records",
             Kind::Compilers => "compilers",
             Kind::Parts => "parts",
         }

@@ -1,4 +1,4 @@
-//! How many bytes the entries may have together.
+//! How many bytes entries and records may have together.
 
 use crate::error::FolderError;
 use std::alloc::Global;

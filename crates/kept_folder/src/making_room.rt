@@ -1,7 +1,7 @@
-//! Entries that were used least recently make room where all are larger than the limit together.
+//! Entries and records that were used least recently make room where all are larger than the limit together.
 //!
-//! What is kept of sizes is noted once an entry was put, by looking into its own folder alone. All folders are looked into only where the
-//! limit is passed, and then a tenth of it is made free, so that it isn't passed again soon.
+//! What is kept of sizes is noted once an entry or a record was put, by looking into the folders of its own two letters alone. All folders
+//! are looked into only where the limit is passed, and then a tenth of it is made free, so that it isn't passed again soon.
 
 use crate::error::FolderError;
 use crate::folder::Kind;
@@ -20,6 +20,29 @@ fn total_of(files: &[KeptFile]) -> u64 {
     total
 }
 
+/// Adds the entries and the records whose names begin with the two letters of this number: all that counts.
+fn counted_in_row<R: Files + AllocGlobal + Clone + Drop>(
+    rt: &R,
+    path: &str,
+    row: u8,
+    files: &mut Vec<KeptFile>,
+) -> Result<(), FolderError> {
+    files_in_row(rt, path, Kind::Entries, row, files)?;
+    files_in_row(rt, path, Kind::Records, row, files)
+}
+
+/// All entries and records.
+fn all_counted<R: Files + AllocGlobal + Clone + Drop>(
+    rt: &R,
+    path: &str,
+) -> Result<Vec<KeptFile>, FolderError> {
+    let mut files = Vec::new(rt.alloc());
+    for row in 0..=u8::MAX {
+        counted_in_row(rt, path, row, &mut files)?;
+    }
+    Ok(files)
+}
+
 /// Takes away hints that were used before that moment: what they told of went too.
 fn remove_hints<R: Files + AllocGlobal + Clone + Drop>(
     rt: &R,
@@ -34,14 +57,14 @@ fn remove_hints<R: Files + AllocGlobal + Clone + Drop>(
     Ok(())
 }
 
-/// Takes away the least recently used entries, until nine tenths of the limit hold the others. Whoever reads one of them has it open, and
-/// reads it to its end.
+/// Takes away the least recently used entries and records, until nine tenths of the limit hold the others. Whoever reads one of them has
+/// it open, and reads it to its end.
 fn make_free<R: Files + AllocGlobal + Clone + Drop>(
     rt: &R,
     path: &str,
     limit: u64,
 ) -> Result<(), FolderError> {
-    let mut files = all_files(rt, path, Kind::Entries)?;
+    let mut files = all_counted(rt, path)?;
     order_by_use(files.as_mut_slice());
     let count = count_that_fit(files.as_slice(), room_within(limit));
     let (stay, go) = files.as_slice().split_at(count);
@@ -55,14 +78,14 @@ fn make_free<R: Files + AllocGlobal + Clone + Drop>(
     }
 }
 
-/// The sizes, with those of this folder as they are now.
+/// The sizes, with those of this row as they are now.
 fn sizes_with_row<R: Files + AllocGlobal + Clone + Drop>(
     rt: &R,
     path: &str,
     row: u8,
 ) -> Result<Sizes, FolderError> {
     let mut files = Vec::new(rt.alloc());
-    files_in_row(rt, path, Kind::Entries, row, &mut files)?;
+    counted_in_row(rt, path, row, &mut files)?;
     let mut sizes = Sizes::read(rt, path)?;
     sizes.note(rt, path, row, total_of(files.as_slice()))?;
     Ok(sizes)
@@ -73,13 +96,13 @@ fn sizes_anew<R: Files + AllocGlobal + Clone + Drop>(
     rt: &R,
     path: &str,
 ) -> Result<Sizes, FolderError> {
-    let files = all_files(rt, path, Kind::Entries)?;
+    let files = all_counted(rt, path)?;
     let sizes = Sizes::of(rt.alloc(), files.as_slice())?;
     sizes.write(rt, path)?;
     Ok(sizes)
 }
 
-/// Sees to it that the limit holds, where the entries have these sizes.
+/// Sees to it that the limit holds, where entries and records have these sizes.
 fn hold<R: Files + AllocGlobal + Clone + Drop>(
     rt: &R,
     path: &str,
@@ -92,7 +115,7 @@ fn hold<R: Files + AllocGlobal + Clone + Drop>(
     Ok(())
 }
 
-/// Sees to it that the limit holds once an entry of this name was put.
+/// Sees to it that the limit holds once an entry or a record of this name was put.
 pub fn make_room<R: Files + AllocGlobal + Clone + Drop>(
     rt: &R,
     path: &str,
@@ -120,11 +143,11 @@ pub fn hold_limit<R: Files + AllocGlobal + Clone + Drop>(
     hold(rt, path, &sizes)
 }
 
-/// The bytes of all entries.
+/// The bytes of all entries and records.
 pub fn bytes_kept<R: Files + AllocGlobal + Clone + Drop>(
     rt: &R,
     path: &str,
 ) -> Result<u64, FolderError> {
-    let files = all_files(rt, path, Kind::Entries)?;
+    let files = all_counted(rt, path)?;
     Ok(total_of(files.as_slice()))
 }

@@ -1,4 +1,5 @@
-//! How many bytes the entries of each of the 256 folders have, in one file: 256 numbers of eight bytes, low byte first.
+//! How many bytes the entries and records have whose names begin with the same two letters, in one file: 256 numbers of eight bytes, low
+//! byte first.
 
 use crate::error::FolderError;
 use crate::listing::KeptFile;
@@ -9,10 +10,10 @@ use std::fs::OpenOptions;
 use std::io::{Seek, SeekFrom, Write};
 use std::rt::Files;
 
-/// How many folders there are.
+/// How many pairs of letters there are.
 const ROWS: usize = 256;
 
-/// The bytes of the entries of each folder.
+/// The bytes of the files of each row.
 #[derive(Drop)]
 pub struct Sizes {
     numbers: Vec<u64>,
@@ -36,7 +37,7 @@ fn numbers_of(alloc: Global, bytes: &[u8]) -> Result<Vec<u64>, FolderError> {
 }
 
 impl Sizes {
-    /// Those of these entries.
+    /// Those of these files.
     pub fn of(alloc: Global, files: &[KeptFile]) -> Result<Sizes, FolderError> {
         let mut numbers = vec![in alloc; 0u64; ROWS]?;
         for file in files {
@@ -65,7 +66,7 @@ impl Sizes {
         Ok(fs::write(rt, place.as_str(), bytes.as_slice())?)
     }
 
-    /// Notes those of one folder, and leaves the others to whoever notes them at the same time.
+    /// Notes those of one row, and leaves the others to whoever notes them at the same time.
     pub fn note<R: Files + AllocGlobal>(
         &mut self,
         rt: &R,
@@ -84,7 +85,7 @@ impl Sizes {
         Ok(file.write_all(&size.to_le_bytes())?)
     }
 
-    /// The bytes of all entries.
+    /// The bytes of all of them.
     pub fn total(&self) -> u64 {
         let mut total = 0u64;
         for number in self.numbers.as_slice() {
