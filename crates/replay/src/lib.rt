@@ -1,7 +1,8 @@
-//! A tool, files and a store that answer from what was recorded and remember what they lack, and a session's answers over them.
+//! A tool, files and stores that answer from what was recorded and remember what they lack, and a session's answers over them.
 #![tactic(auto)]
 
 pub mod asked_store;
 pub mod replay_tool;
 pub mod replayed;
 pub mod snapshot_files;
+pub mod watched_records;
