@@ -283,6 +283,19 @@ static void watch(int number) {
     if (signal(number, end_by) == SIG_IGN) signal(number, SIG_IGN);
 }
 
+/* How far local clocks are from UTC now, as the rule of a zone: UTC-02:00:00 is two hours east of it. Nothing where that isn't known. */
+static void tell_zone(void) {
+    char zone[48] = "";
+    struct tm local;
+    time_t now = time(NULL);
+    tzset();
+    if (localtime_r(&now, &local)) {
+        long off = labs(local.tm_gmtoff);
+        snprintf(zone, sizeof zone, "UTC%c%02ld:%02ld:%02ld", local.tm_gmtoff > 0 ? '-' : '+', off / 3600, off / 60 % 60, off % 60);
+    }
+    add_string(zone);
+}
+
 static void tell_command_line(void) {
     char dir[PATH_MAX];
     uint64_t count = 0, pairs = 0;
@@ -305,6 +318,7 @@ static void tell_command_line(void) {
         add_bytes(*pair, equals - *pair);
         add_string(equals + 1);
     }
+    tell_zone();
 }
 
 static int send_message(int to) {

@@ -3,20 +3,26 @@
 ghost use Rattle.std.specs.Prelude.{◌≡◌, ◌≤◌};
 
 use crate::answering::{SessionAnswer, answered};
-use crate::entries::Kept;
-use crate::kept::{found, hint_name, hinted, keep, note_hint, renew};
+use crate::kept::{Hint, found, hint_at, hint_name, keep, kept_under, note_hint, renew};
 use crate::known::Known;
-use crate::outputs::{print_again, write_outputs};
 use crate::passing::reason_against;
 use kept_entries::entry::KeptMessages;
+use kept_folder::folder::Kind;
+use kept_folder::making_room::make_room;
+use kept_pairs::entries::Kept;
+use kept_pairs::record_files::{name_of_record, put_record};
 use known_compilers::compilers::{compiler_at, kind_of};
+use loaded_files::outputs::{print_again, write_outputs};
 use os_files::listed::Listed;
 use os_files::os_bytes::OsBytes;
 use sha2::Sha256;
 use std::alloc::Global;
 use std::io::Read;
 use std::rt::Files;
-use wrap::{Answer, CCompilerKind, Fault, How, KeyConfig, Output, Request, Step, StoreKey, Zone};
+use wrap::{
+    Answer, CCompilerKind, EntryKey, Fault, How, KeyConfig, Output, PreprocessorCacheEntry,
+    Request, Step, StoreKey, Zone,
+};
 use wrapper_host::command_line::CommandLine;
 use wrapper_host::host::Host;
 use wrapper_host::stop::Stop;
@@ -47,13 +53,33 @@ fn words_again(alloc: Global, words: &[OsBytes]) -> Result<Listed<OsBytes>, Stop
     Ok(copies)
 }
 
-/// Copies of the variables.
+/// Variables that shells and Make set from call to call, and that no compiler reads.
+const IDLE: [&str; 8] = [
+    "_",
+    "OLDPWD",
+    "SHLVL",
+    "MAKEFLAGS",
+    "MAKELEVEL",
+    "MAKE_TERMERR",
+    "MAKE_TERMOUT",
+    "MFLAGS",
+];
+
+/// Whether it is a variable that no compiler reads.
+fn is_idle(name: &[u8]) -> bool {
+    IDLE.iter().any(|variable| name == variable.as_bytes())
+}
+
+/// Copies of the variables but those that no compiler reads.
 fn env_again(
     alloc: Global,
     env: &[(OsBytes, OsBytes)],
 ) -> Result<Listed<(OsBytes, OsBytes)>, Stop> {
     let mut copies = Listed::new(alloc);
     for (name, value) in env {
+        if is_idle(name.as_bytes()) {
+            continue;
+        }
         let name = name.clone()?;
         copies.push((name, value.clone()?))?;
     }
@@ -79,7 +105,7 @@ fn request_of<P: Print + Files + AllocGlobal, I: Read>(
         words,
         dir,
         env,
-        moment: 0,
+        moment: line.second(),
     })
 }
 
@@ -97,12 +123,27 @@ fn give<R: Files + AllocGlobal>(
     print_again(rt, line, messages)
 }
 
+/// Keeps the record that was put, or notes that the one of that name was used.
+fn finish_record<R: Files + AllocGlobal>(
+    rt: &R,
+    line: &CommandLine,
+    newest: Option<&(EntryKey, PreprocessorCacheEntry)>,
+    name: &str,
+) -> Result<(), Stop> {
+    let folder = &line.folder;
+    let Some((key, entry)) = newest else {
+        return Ok(folder.renew(rt, Kind::Records, name, line.moment)?);
+    };
+    put_record(rt, folder, line.zone.as_str(), name, key, entry)?;
+    Ok(make_room(&rt, folder.path.as_str(), name)?)
+}
+
 /// Keeps outputs that were made afresh, and gives those that were kept, each with what was printed beside them.
 fn finish<R: Files + AllocGlobal>(
     rt: &R,
     line: &CommandLine,
     hint: &str,
-    key: Option<&StoreKey>,
+    answered: &SessionAnswer<Sha256>,
     how: How,
     outputs: &[Output],
     messages: Option<&KeptMessages>,
@@ -112,7 +153,7 @@ fn finish<R: Files + AllocGlobal>(
     if !fresh {
         give(rt, line, outputs, messages)?;
     }
-    let Some(key) = key else {
+    let Some(key) = answered.session.objects().asked() else {
         return Ok(());
     };
     if fresh {
@@ -120,7 +161,11 @@ fn finish<R: Files + AllocGlobal>(
     } else {
         let _ = renew(rt, line, &key.digest);
     }
-    let _ = note_hint(rt, line, hint, &key.digest);
+    let name = known.name_to_note();
+    if !name.is_empty() {
+        let _ = finish_record(rt, line, answered.session.entries().newest(), name);
+    }
+    let _ = note_hint(rt, line, hint, &key.digest, name);
     Ok(())
 }
 
@@ -142,13 +187,70 @@ fn look_up<R: Files + AllocGlobal>(
     Ok(known.entry.is_some())
 }
 
+/// Asks the disk for the record that the session asked for, once. False where it has none, or none was asked for.
+fn look_up_record<R: Files + AllocGlobal>(
+    rt: &R,
+    line: &CommandLine,
+    asked: Option<&EntryKey>,
+    known: &mut Known,
+) -> Result<bool, Stop> {
+    let Some(key) = asked else {
+        return Ok(false);
+    };
+    let name = name_of_record(rt.alloc(), line.zone.as_str(), key)?;
+    known.look_up_record(rt, line, name)
+}
+
+/// Finds out what the text is: by a record, or by the preprocessor. False where it was printed already.
+fn find_text<P: Print + Files + AllocGlobal, I: Read>(
+    rt: &P,
+    line: &CommandLine,
+    host: &mut Host<I>,
+    hint: &str,
+    asked: Option<&EntryKey>,
+    known: &mut Known,
+) -> Result<bool, Stop>
+    requires { host.old.compiled ≤ 1 }
+    ensures { host.new.compiled ≤ 1 }
+{
+    if look_up_record(rt, line, asked, known)? {
+        return Ok(true);
+    }
+    if !known.record(rt, line, host, None)? {
+        return Ok(false);
+    }
+    if asked.is_some() {
+        known.follow_text(rt, line)?;
+        load_entry(rt, line, hint, known)?;
+    }
+    Ok(true)
+}
+
+/// Finds out what was made: by an entry, or by the compiler. False where that ran already.
+fn find_outputs<P: Print + Files + AllocGlobal, I: Read>(
+    rt: &P,
+    line: &CommandLine,
+    host: &mut Host<I>,
+    key: Option<&StoreKey>,
+    known: &mut Known,
+) -> Result<bool, Stop>
+    requires { host.old.compiled ≤ 1 }
+    ensures { host.new.compiled ≤ 1 }
+{
+    if look_up(rt, line, key, known)? || known.drop_record() {
+        return Ok(true);
+    }
+    known.record(rt, line, host, key)
+}
+
 /// Finds out what a fault says is lacking. False where nothing is.
 fn find_out<P: Print + Files + AllocGlobal, I: Read>(
     rt: &P,
     line: &CommandLine,
     host: &mut Host<I>,
+    hint: &str,
     fault: &Fault,
-    key: Option<&StoreKey>,
+    answered: &SessionAnswer<Sha256>,
     known: &mut Known,
 ) -> Result<bool, Stop>
     requires { host.old.compiled ≤ 1 }
@@ -157,13 +259,26 @@ fn find_out<P: Print + Files + AllocGlobal, I: Read>(
     match fault {
         Fault::Read(path) => known.load(rt, path.clone()?),
         Fault::Tool(Step::Compile) => {
-            if look_up(rt, line, key, known)? {
-                return Ok(true);
-            }
-            known.record(rt, line, host, key)
+            let key = answered.session.objects().asked();
+            find_outputs(rt, line, host, key, known)
         }
-        Fault::Tool(_) => known.record(rt, line, host, key),
+        Fault::Tool(_) => {
+            let asked = answered.session.entries().asked();
+            find_text(rt, line, host, hint, asked, known)
+        }
         _ => Ok(false),
+    }
+}
+
+/// What is fixed for the keys of a session: in direct mode days are told in that zone.
+fn config_of(alloc: Global, zone: &Option<Zone>) -> Result<KeyConfig, Stop> {
+    let config = match zone {
+        Some(zone) => KeyConfig::new(alloc, &[], *zone, true),
+        None => KeyConfig::new(alloc, &[], Zone::utc(), false),
+    };
+    match config {
+        Ok(config) => Ok(config),
+        Err(_) => Err(Stop::Memory),
     }
 }
 
@@ -173,9 +288,8 @@ fn answer_by(
     request: &Request,
     known: &mut Known,
 ) -> Result<(SessionAnswer<Sha256>, Option<KeptMessages>), Stop> {
-    let Ok(config) = KeyConfig::new(alloc, &[], Zone::utc(), false) else {
-        return Err(Stop::Memory);
-    };
+    let config = config_of(alloc, &known.zone)?;
+    let record_kept = known.record_again()?;
     let (entry, messages) = match known.entry.take() {
         Some(Kept { pair, messages }) => (Some(pair), Some(messages)),
         None => (None, None),
@@ -183,6 +297,7 @@ fn answer_by(
     let answer = answered::<Sha256>(
         alloc,
         config,
+        record_kept,
         entry,
         request,
         &mut known.files,
@@ -205,20 +320,58 @@ fn act_on<P: Print + Files + AllocGlobal, I: Read>(
     ensures { host.new.compiled ≤ 1 }
 {
     let alloc = rt.alloc();
-    let key = answered.session.objects().asked();
     match &answered.answer {
         Ok(Answer::Outputs { map, how, .. }) => {
-            finish(rt, line, hint, key, *how, map.as_slice(), messages, known)?;
+            let outputs = map.as_slice();
+            finish(rt, line, hint, answered, *how, outputs, messages, known)?;
             Ok(Some(End::Done(*how)))
         }
         Ok(Answer::Pass(reason)) => Ok(Some(End::Pass(format!(in alloc; "pass: {reason}")?))),
         Err(fault) => {
-            if find_out(rt, line, host, fault, key, known)? {
+            if find_out(rt, line, host, hint, fault, answered, known)? {
                 return Ok(None);
             }
             Ok(Some(End::Pass(format!(in alloc; "fault: {fault}")?)))
         }
     }
+}
+
+/// Loads what was kept under the digest that this command line had last.
+fn load_entry<R: Files + AllocGlobal>(
+    rt: &R,
+    line: &CommandLine,
+    hint: &str,
+    known: &mut Known,
+) -> Result<(), Stop> {
+    let Some(had) = hint_at(rt, line, hint)? else {
+        return Ok(());
+    };
+    known.entry = kept_under(rt, line, had.digest, known.preprocessor.as_bytes())?;
+    Ok(())
+}
+
+/// Loads ahead what this command line had last: what was kept, and in direct mode, where no text was printed yet, the record before it.
+/// Without that the text comes first.
+fn load_ahead<R: Files + AllocGlobal>(
+    rt: &R,
+    line: &CommandLine,
+    hint: &str,
+    known: &mut Known,
+) -> Result<(), Stop> {
+    if known.zone.is_none() || known.tool.text.is_some() {
+        return load_entry(rt, line, hint, known);
+    }
+    let Some(had) = hint_at(rt, line, hint)? else {
+        return Ok(());
+    };
+    let Hint {
+        digest,
+        record_name,
+    } = had;
+    if known.look_up_record(rt, line, record_name)? {
+        known.entry = kept_under(rt, line, digest, &[])?;
+    }
+    Ok(())
 }
 
 /// One attempt. None where more is known after it.
@@ -252,7 +405,7 @@ fn ask_until<P: Print + Files + AllocGlobal, I: Read>(
 {
     for number in 0..ATTEMPTS {
         if number == 1 {
-            known.entry = hinted(rt, line, hint, known.preprocessor.as_bytes())?;
+            load_ahead(rt, line, hint, known)?;
         }
         let end = attempt(rt, line, host, request, hint, known)?;
         if let Some(end) = end {
@@ -260,6 +413,14 @@ fn ask_until<P: Print + Files + AllocGlobal, I: Read>(
         }
     }
     pass(rt.alloc(), "fault: too many attempts")
+}
+
+/// The zone in which days are told, where direct mode is asked for.
+fn zone_of(line: &CommandLine) -> Option<Zone> {
+    if line.value_of(b"GULMAAT_DIRECT") != b"1".as_slice() {
+        return None;
+    }
+    Zone::new(line.zone.as_str()).ok()
 }
 
 /// Asks the session about the command line of a compiler of that kind.
@@ -274,7 +435,7 @@ fn ask<P: Print + Files + AllocGlobal, I: Read>(
 {
     let request = request_of(rt, line, host, kind)?;
     let hint = hint_name(rt.alloc(), line)?;
-    let mut known = Known::new(rt.alloc(), kind);
+    let mut known = Known::new(rt.alloc(), kind, zone_of(line));
     ask_until(rt, line, host, &request, hint.as_str(), &mut known)
 }
 

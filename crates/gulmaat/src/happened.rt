@@ -19,7 +19,8 @@ const TRIES: u32 = 16;
 fn line_of(alloc: Global, end: &Result<End, Stop>) -> Result<String, Stop> {
     match end {
         Ok(End::Done(How::Fresh)) => Ok(String::from_str(alloc, "compiled\n")?),
-        Ok(End::Done(_)) => Ok(String::from_str(alloc, "kept\n")?),
+        Ok(End::Done(How::Stored)) => Ok(String::from_str(alloc, "kept\n")?),
+        Ok(End::Done(How::Direct)) => Ok(String::from_str(alloc, "direct\n")?),
         Ok(End::Pass(reason)) => Ok(format!(in alloc; "{reason}\n")?),
         Err(stop) => Ok(format!(in alloc; "stop: {stop}\n")?),
     }
@@ -131,7 +132,7 @@ fn clear_folder<R: Files + AllocGlobal>(rt: &R, place: &str) -> Result<(), Stop>
 
 /// Takes away all that is kept in this folder.
 pub fn clear<R: Files + AllocGlobal>(rt: &R, kept: &str) -> Result<(), Stop> {
-    for part in ["entries", "hints", "compilers", "parts"] {
+    for part in ["entries", "records", "hints", "compilers", "parts"] {
         let place = format!(in rt.alloc(); "{kept}/{part}")?;
         clear_folder(rt, place.as_str())?;
     }

@@ -1,7 +1,6 @@
-//! What is kept on a disk: entries by the digest of their key, and for each command line the digest that it had last. A broken or missing
+//! What is kept on a disk: entries by the digest of their key, and for each command line a hint of what it had last. A broken or missing
 //! file is a miss.
 
-use crate::entries::{Kept, entry_of, kept_of};
 use byte_formats::fields::put_framed;
 use kept_entries::entry::KeptMessages;
 use kept_entries::sealed::{entry_bytes, read_entry};
@@ -9,6 +8,7 @@ use kept_folder::file_digests::digest_of;
 use kept_folder::folder::Kind;
 use kept_folder::limit::takes;
 use kept_folder::making_room::make_room;
+use kept_pairs::entries::{Kept, entry_of, kept_of};
 use os_files::os_bytes::OsBytes;
 use sha2::Sha256;
 use std::alloc::Global;
@@ -18,7 +18,17 @@ use wrapper_host::command_line::CommandLine;
 use wrapper_host::fields::into_text;
 use wrapper_host::stop::Stop;
 
-/// The name under which the digest lies that this command line had last.
+/// How many bytes the digest of a key has.
+const DIGEST: usize = 64;
+
+/// What a command line had last: the digest of its key, and the name of its include record, where it had one.
+#[derive(Drop)]
+pub struct Hint {
+    pub digest: OsBytes,
+    pub record_name: String,
+}
+
+/// The name under which the hint of this command line lies.
 pub fn hint_name(alloc: Global, line: &CommandLine) -> Result<String, Stop> {
     let mut row = Vec::new(alloc);
     put_framed(&mut row, line.executable.as_bytes())?;
@@ -49,31 +59,56 @@ pub fn found<R: Files + AllocGlobal>(
     Ok(Some(kept_of(rt.alloc(), entry)?))
 }
 
-/// What is kept under the digest that this command line had last. A hint that is none is a miss.
-pub fn hinted<R: Files + AllocGlobal>(
+/// What this command line had last. A hint that is none is a miss.
+pub fn hint_at<R: Files + AllocGlobal>(
     rt: &R,
     line: &CommandLine,
     hint: &str,
-    messages: &[u8],
-) -> Result<Option<Kept>, Stop> {
-    let Ok(digest) = line.folder.read(rt, Kind::Hints, hint) else {
+) -> Result<Option<Hint>, Stop> {
+    let Ok(bytes) = line.folder.read(rt, Kind::Hints, hint) else {
         return Ok(None);
     };
-    match found(rt, line, OsBytes::from_vec(digest), messages) {
+    if bytes.len() < DIGEST {
+        return Ok(None);
+    }
+    let (digest, name) = bytes.as_slice().split_at(DIGEST);
+    let Ok(name) = str::from_utf8(name) else {
+        return Ok(None);
+    };
+    let digest = OsBytes::from_slice(rt.alloc(), digest)?;
+    let record_name = String::from_str(rt.alloc(), name)?;
+    Ok(Some(Hint {
+        digest,
+        record_name,
+    }))
+}
+
+/// What is kept under this digest, as `found` says. What can't be read is a miss.
+pub fn kept_under<R: Files + AllocGlobal>(
+    rt: &R,
+    line: &CommandLine,
+    digest: OsBytes,
+    messages: &[u8],
+) -> Result<Option<Kept>, Stop> {
+    match found(rt, line, digest, messages) {
         Err(Stop::Memory) => Err(Stop::Memory),
         Err(_) => Ok(None),
         Ok(entry) => Ok(entry),
     }
 }
 
-/// Notes which digest this command line had.
+/// Notes which digest this command line had, and the name of its include record; an empty one where it had none.
 pub fn note_hint<R: Files + AllocGlobal>(
     rt: &R,
     line: &CommandLine,
     hint: &str,
     digest: &OsBytes,
+    record_name: &str,
 ) -> Result<(), Stop> {
-    Ok(line.folder.put(rt, Kind::Hints, hint, digest.as_bytes())?)
+    let mut bytes = Vec::new(rt.alloc());
+    bytes.extend_from_slice(digest.as_bytes())?;
+    bytes.extend_from_slice(record_name.as_bytes())?;
+    Ok(line.folder.put(rt, Kind::Hints, hint, bytes.as_slice())?)
 }
 
 /// Keeps outputs under the key, with what was printed beside them, where they aren't too large for the limit.

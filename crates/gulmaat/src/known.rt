@@ -2,24 +2,30 @@
 
 ghost use Rattle.std.specs.Prelude.{◌≡◌, ◌≤◌};
 
-use crate::entries::Kept;
-use crate::outputs::{made_at, regular};
 use crate::passing::takes_files;
+use ckeys::hasher::needs_c_preprocessing;
 use ckeys_records::output_name::OutputName;
 use kept_entries::entry::KeptMessages;
-use os_files::file_time::FileTime;
-use os_files::files::Metadata;
+use kept_folder::error::FolderError;
+use kept_pairs::entries::Kept;
+use kept_pairs::record_files::record_under;
+use kept_pairs::records::FoundRecord;
+use loaded_files::loading::{load, load_all, load_named};
+use loaded_files::outputs::made_at;
 use os_files::listed::Listed;
 use os_files::os_bytes::OsBytes;
 use replay::replay_tool::{RecordedOutputs, RecordedText, ReplayTool, Wanted};
-use replay::snapshot_files::{LoadedFile, SnapshotFiles};
+use replay::snapshot_files::SnapshotFiles;
+use replay::watched_records::pair_again;
 use std::alloc::Global;
 use std::fs;
 use std::io::Read;
 use std::rt::Files;
-use wrap::{CCompilerKind, Compiled, Printed, Step, StoreKey};
+use wrap::{
+    CCompilerKind, Compiled, EntryKey, Files as CallFiles, PreprocessorCacheEntry, Printed, Shape,
+    Step, StoreKey, Zone,
+};
 use wrapper_host::command_line::CommandLine;
-use wrapper_host::fields::into_text;
 use wrapper_host::host::{Ended, Host};
 use wrapper_host::stop::Stop;
 
@@ -27,12 +33,18 @@ use wrapper_host::stop::Stop;
 #[derive(Drop)]
 pub struct Known {
     pub kind: CCompilerKind,
+    /// The zone in which days are told, where direct mode is on.
+    pub zone: Option<Zone>,
     pub files: SnapshotFiles,
     pub tool: ReplayTool,
     /// What a disk keeps that may fit.
     pub entry: Option<Kept>,
     /// The digest by which the disk was asked already.
     pub looked_up: Option<OsBytes>,
+    /// The include record that a disk keeps, which may fit.
+    record_kept: Option<(EntryKey, PreprocessorCacheEntry)>,
+    /// The name of the record for which the disk was asked already; an empty one where it wasn't.
+    record_name: String,
     /// The file that was loaded last.
     loaded: Option<OsBytes>,
     /// What the preprocessor printed on its standard error; nothing where it didn't run.
@@ -44,13 +56,16 @@ pub struct Known {
 
 impl Known {
     /// Nothing is known yet.
-    pub fn new(alloc: Global, kind: CCompilerKind) -> Known {
+    pub fn new(alloc: Global, kind: CCompilerKind, zone: Option<Zone>) -> Known {
         Known {
             kind,
+            zone,
             files: SnapshotFiles::new(alloc),
             tool: ReplayTool::new(),
             entry: None,
             looked_up: None,
+            record_kept: None,
+            record_name: String::new(alloc),
             loaded: None,
             preprocessor: OsBytes::empty(alloc),
             printed: OsBytes::empty(alloc),
@@ -58,38 +73,111 @@ impl Known {
         }
     }
 
-    /// Loads the file of that path, as it is there or not. False where it was the last one already.
+    /// Loads the file of that path, as it is there or not. Where that can't be told direct mode goes off. False where it was the last
+    /// one already.
     pub fn load<R: Files + AllocGlobal>(&mut self, rt: &R, path: OsBytes) -> Result<bool, Stop> {
         if self.loaded.as_ref() == Some(&path) {
             return Ok(false);
         }
         self.loaded = Some(path.clone()?);
-        let place = into_text(path.clone()?)?;
-        match regular(rt, place.as_str()) {
-            None => self.files.load_absent(path)?,
-            Some(contents) => {
-                if takes_files(&contents) {
-                    return Err(Stop::TakesFiles);
-                }
-                let canonical = path.clone()?;
-                let time = FileTime::from_seconds(0);
-                let metadata = Metadata {
-                    size: contents.as_bytes().len() as u64,
-                    mtime: time,
-                    ctime: time,
-                };
-                let contents = Some(contents);
-                self.files.load(
-                    path,
-                    LoadedFile {
-                        contents,
-                        canonical,
-                        metadata,
-                    },
-                )?;
-            }
+        if !load(rt, path, &mut self.files)? {
+            self.zone = None;
         }
         Ok(true)
+    }
+
+    /// A copy of the include record that is kept, where direct mode is on.
+    pub fn record_again(&self) -> Result<Option<(EntryKey, PreprocessorCacheEntry)>, Stop> {
+        match (&self.zone, &self.record_kept) {
+            (Some(_), Some((key, entry))) => Ok(Some(pair_again(key, entry)?)),
+            (_, _) => Ok(None),
+        }
+    }
+
+    /// Has the files loaded that a record names, which is taken then. False where one of them can't be told.
+    fn take_record<R: Files + AllocGlobal>(
+        &mut self,
+        rt: &R,
+        line: &CommandLine,
+        found: FoundRecord,
+    ) -> Result<bool, Stop> {
+        let FoundRecord { key, entry, names } = found;
+        if !load_all(rt, line, names.as_slice(), &mut self.files)? {
+            return Ok(false);
+        }
+        self.record_kept = Some((key, entry));
+        Ok(true)
+    }
+
+    /// Asks the disk for the record of that name, once, and for the files that it names. False where it has none.
+    pub fn look_up_record<R: Files + AllocGlobal>(
+        &mut self,
+        rt: &R,
+        line: &CommandLine,
+        name: String,
+    ) -> Result<bool, Stop> {
+        if self.record_name == name {
+            return Ok(false);
+        }
+        self.record_kept = None;
+        let found = record_under(rt, &line.folder, line.zone.as_str(), name.as_str());
+        self.record_name = name;
+        match found {
+            Ok(Some(found)) => self.take_record(rt, line, found),
+            Ok(None) => Ok(false),
+            Err(FolderError::Memory) => Err(Stop::Memory),
+            Err(_) => Ok(false),
+        }
+    }
+
+    /// The name of this request's record; an empty one where it has none.
+    pub fn name_to_note(&self) -> &str {
+        match &self.zone {
+            Some(_) => self.record_name.as_str(),
+            None => "",
+        }
+    }
+
+    /// Lets go of the record by which a key is known that nothing is kept under, since the text is needed then. False where no key came
+    /// from a record.
+    pub fn drop_record(&mut self) -> bool {
+        let dropped = self.record_kept.is_some() && self.tool.text.is_none();
+        if dropped {
+            self.record_kept = None;
+        }
+        dropped
+    }
+
+    /// Loads what the text names that was printed last. Direct mode goes off where what was read for it can't be told, or the preprocessor
+    /// printed messages, which no record has.
+    pub fn follow_text<R: Files + AllocGlobal>(
+        &mut self,
+        rt: &R,
+        line: &CommandLine,
+    ) -> Result<(), Stop> {
+        let Some(recorded) = &self.tool.text else {
+            return Ok(());
+        };
+        let text = recorded.printed.text.as_bytes();
+        let silent = self.preprocessor.as_bytes().is_empty();
+        if !silent || !load_named(rt, line, text, &mut self.files)? {
+            self.zone = None;
+        }
+        Ok(())
+    }
+
+    /// Refuses an input that is compiled as it stands and takes in files.
+    fn refuse_input(&mut self, alloc: Global, key: &StoreKey) -> Result<(), Stop> {
+        if is_preprocessed(key) {
+            return Ok(());
+        }
+        let Some(path) = &self.loaded else {
+            return Ok(());
+        };
+        match self.files.read(alloc, path) {
+            Ok(Some(text)) if takes_files(&text) => Err(Stop::TakesFiles),
+            _ => Ok(()),
+        }
     }
 
     /// Has the host preprocess, and records the text.
@@ -158,6 +246,7 @@ impl Known {
         ensures { host.new.compiled ≤ 1 }
     {
         let names = names_again(rt.alloc(), key.names.as_slice())?;
+        self.refuse_input(rt.alloc(), key)?;
         if host.compiled != 0 {
             return Ok(false);
         }
@@ -199,6 +288,14 @@ impl Known {
             }
             (_, _) => Ok(false),
         }
+    }
+}
+
+/// Whether what is compiled under this key was preprocessed.
+fn is_preprocessed(key: &StoreKey) -> bool {
+    match &key.shape {
+        Shape::C(shape) => needs_c_preprocessing(shape.language),
+        Shape::Rustc(_) => false,
     }
 }
 

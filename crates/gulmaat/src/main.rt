@@ -8,11 +8,9 @@ ghost use Rattle.std.specs.Prelude.{◌≡◌};
 
 mod answering;
 mod deciding;
-mod entries;
 mod happened;
 mod kept;
 mod known;
-mod outputs;
 mod passing;
 
 use deciding::{End, decide};
@@ -43,7 +41,8 @@ gulmaat --clear           takes away all that is kept
 gulmaat --help            prints this
 
 Outputs are kept in the folder that GULMAAT_DIR names, or else in gulmaat in the user's cache folder: 5G of them where no limit was set,
-of which the least recently used ones go first.
+of which the least recently used ones go first. With GULMAAT_DIRECT=1 no preprocessor runs where the files that it read last are as they
+were: docs/WRAPPER.md says what that can't see.
 ";
 
 fn main(rt: HostRuntime) -> ExitCode {

@@ -6,7 +6,7 @@ use kept_folder::folder::KeptFolder;
 use os_files::listed::Listed;
 use os_files::os_bytes::OsBytes;
 use std::alloc::Global;
-use std::time::SystemTime;
+use std::time::{SystemTime, UNIX_EPOCH};
 
 /// A command line, with where it would run, and where this process keeps things.
 #[derive(Drop)]
@@ -26,6 +26,8 @@ pub struct CommandLine {
     /// The words behind the executable.
     pub words: Listed<OsBytes>,
     pub env: Listed<(OsBytes, OsBytes)>,
+    /// How far local clocks are from UTC now, as the rule of a zone.
+    pub zone: String,
 }
 
 impl CommandLine {
@@ -41,6 +43,7 @@ impl CommandLine {
         let dir = fields.bytes(alloc)?;
         let words = fields.words(alloc)?;
         let env = fields.pairs(alloc)?;
+        let zone = fields.text(alloc)?;
         Ok(CommandLine {
             folder: KeptFolder { path, own },
             moment,
@@ -51,7 +54,16 @@ impl CommandLine {
             dir,
             words,
             env,
+            zone,
         })
+    }
+
+    /// The moment in whole seconds since the start of 1970 in UTC, and 0 where it was before.
+    pub fn second(&self) -> i64 {
+        let Ok(since) = self.moment.duration_since(UNIX_EPOCH) else {
+            return 0;
+        };
+        i64::try_from(since.as_secs()).unwrap_or(i64::MAX)
     }
 
     /// The value of a variable, or nothing.

@@ -1,6 +1,7 @@
 use Rattle.std.proofs.Common.{sym, ap, ◌∙◌}
-use Rattle.ckeys_records.specs.Folders.{Settings}
 use Rattle.entry_keys.specs.contracts.entry_key.EntryKeyPartialEq.TheImpl as entry_eq
+use Rattle.entry_keys.specs.declared.entry_key.EntryKey.{EntryKey}
+use Rattle.include_records.specs.Records.{Record}
 use Rattle.replay.specs.contracts.snapshot_files.SnapshotFilesFiles.TheImpl as snapshot
 use Rattle.wrap.specs.Account.{Pairs}
 use Rattle.wrap_base.specs.MapStores.{shelf_of}
@@ -13,12 +14,15 @@ pub returns : goal.returns
 returns g c =
     let session = c.new-session.result in
     let settings = ap (λ s. s.settings) c.new-session.ensures in
+    let entries = ap (λ s. s.entries.inner) c.new-session.ensures ∙ c.new-entries.ensures.inner in
     let store = ap (λ s. s.objects.inner) c.new-session.ensures ∙ c.new-objects.ensures.inner in
     let tree = snapshot.ghosts.tree c.args.files.now in
-    let records = (shelf_of entry_eq.ghosts.eq session.entries).held in
-    rw (sym settings) (λ world gives earlier is premises.
+    let held_records = (shelf_of entry_eq.ghosts.eq session.entries.inner).held in
+    rw (sym settings) (λ world gives earlier recorded is premises.
     c.replayed-answer.ensures.outputs world gives
-    (c.records_that_are_not_kept_change_nothing.ensures.are_true world tree session.settings c.args.request.now records (ap (λ (s : Settings). s.direct) settings ∙ c.requires))
+    (c.records_of_earlier_calls_are_true.ensures world tree session.settings c.args.request.now held_records earlier
+    (λ key held h. recorded key held (c.records_over.ensures key held (ap (λ (m : MapStore EntryKey Record). (shelf_of entry_eq.ghosts.eq m).held key) (sym entries) ∙ h)))
+    premises)
     earlier
     (λ key pairs h. is key pairs (c.store_over.ensures key pairs (ap (λ (m : MapStore StoreKey Pairs). (shelf_of key_eq.ghosts.eq m).held key) (sym store) ∙ h)))
     premises)

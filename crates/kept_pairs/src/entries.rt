@@ -5,7 +5,8 @@ use ckeys_records::shape::CShape;
 use kept_entries::entry::{KeptEntry, KeptMessages, KeptName, KeptOutput, KeptShape};
 use os_files::listed::Listed;
 use std::alloc::Global;
-use wrap::{Family, Output, Pairs, Shape, StoreKey};
+use wrap_base::answer::Output;
+use wrap_base::store_key::{Family, Pairs, Shape, StoreKey};
 use wrapper_host::stop::Stop;
 
 /// The shape as it is kept.

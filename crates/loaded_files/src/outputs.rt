@@ -5,7 +5,7 @@ use os_files::listed::Listed;
 use os_files::os_bytes::OsBytes;
 use std::fs;
 use std::rt::Files;
-use wrap::Output;
+use wrap_base::answer::Output;
 use wrapper_host::command_line::CommandLine;
 use wrapper_host::fields::into_text;
 use wrapper_host::stop::Stop;

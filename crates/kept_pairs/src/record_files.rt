@@ -1,0 +1,55 @@
+//! Records that are put in the folder and read from it. A broken or missing file is as one that isn't there.
+
+use crate::records::{FoundRecord, found_in, kept_of};
+use byte_formats::fields::put_framed;
+use entry_keys::entry_key::EntryKey;
+use include_records::record::PreprocessorCacheEntry;
+use kept_entries::sealed::{read_record, record_bytes};
+use kept_folder::error::FolderError;
+use kept_folder::file_digests::digest_of;
+use kept_folder::folder::{KeptFolder, Kind};
+use sha2::Sha256;
+use std::alloc::Global;
+use std::rt::Files;
+
+/// The name of the record that lies under this key, of calls that told days in that zone.
+pub fn name_of_record(alloc: Global, zone: &str, key: &EntryKey) -> Result<String, FolderError> {
+    let mut row = Vec::new(alloc);
+    put_framed(&mut row, zone.as_bytes())?;
+    put_framed(&mut row, key.identity.as_bytes())?;
+    put_framed(&mut row, key.key.as_bytes())?;
+    digest_of(alloc, row.as_slice())
+}
+
+/// Puts a record of calls that told days in that zone under its key, which has this name.
+pub fn put_record<R: Files + AllocGlobal>(
+    rt: &R,
+    folder: &KeptFolder,
+    zone: &str,
+    name: &str,
+    key: &EntryKey,
+    entry: &PreprocessorCacheEntry,
+) -> Result<(), FolderError> {
+    let kept = kept_of(rt.alloc(), zone, key, entry)?;
+    let bytes = record_bytes::<Sha256>(rt.alloc(), &kept)?;
+    folder.put(rt, Kind::Records, name, bytes.as_slice())
+}
+
+/// The record of this name, if there is one of calls that told days in that zone.
+pub fn record_under<R: Files + AllocGlobal>(
+    rt: &R,
+    folder: &KeptFolder,
+    zone: &str,
+    name: &str,
+) -> Result<Option<FoundRecord>, FolderError> {
+    let Ok(bytes) = folder.read(rt, Kind::Records, name) else {
+        return Ok(None);
+    };
+    let Some(kept) = read_record::<Sha256>(rt.alloc(), bytes.as_slice())? else {
+        return Ok(None);
+    };
+    if kept.zone.as_bytes() != zone.as_bytes() {
+        return Ok(None);
+    }
+    found_in(rt.alloc(), kept)
+}

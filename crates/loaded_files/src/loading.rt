@@ -1,0 +1,204 @@
+//! Files that are loaded from the disk, and those that a text names.
+
+use marker_walk::line::Mark;
+use marker_walk::markers::Markers;
+use marker_walk::names::unescaped;
+use memchr::memmem;
+use os_files::file_time::FileTime;
+use os_files::files::Metadata;
+use os_files::os_bytes::OsBytes;
+use os_files::path::join;
+use replay::snapshot_files::{LoadedFile, SnapshotFiles};
+use std::collections::HashSet;
+use std::io::ErrorKind;
+use std::os::unix::fs::MetadataExt;
+use std::rt::Files;
+use std::time::{Duration, SystemTime, UNIX_EPOCH};
+use std::{fs, io};
+use wrapper_host::command_line::CommandLine;
+use wrapper_host::fields::into_text;
+use wrapper_host::stop::Stop;
+
+/// How many milliseconds the times of files may stand behind the clock: they are told by the ticks of a kernel.
+const TICK: u64 = 20;
+
+/// What a file has in it that takes in another one.
+const EMBEDS: [&str; 2] = ["#embed", "# embed"];
+
+/// What the disk has under a path.
+#[derive(Drop)]
+enum OnDisk {
+    /// A regular file of these contents.
+    File(OsBytes, Metadata),
+    /// Nothing, or something else.
+    NoFile,
+    /// That can't be told.
+    Unknown,
+}
+
+/// A moment by its seconds and nanoseconds.
+fn time_of(seconds: i64, nanoseconds: i64) -> FileTime {
+    let nanoseconds = u32::try_from(nanoseconds).unwrap_or(0);
+    match FileTime::new(seconds, nanoseconds) {
+        Some(time) => time,
+        None => FileTime::from_seconds(seconds),
+    }
+}
+
+/// What a failed look means.
+fn without(error: &io::Error) -> OnDisk {
+    match error.kind() {
+        ErrorKind::NotFound => OnDisk::NoFile,
+        _ => OnDisk::Unknown,
+    }
+}
+
+/// Looks at the path.
+fn look_at<R: Files + AllocGlobal>(rt: &R, path: &str) -> OnDisk {
+    let found = match fs::metadata(rt, path) {
+        Ok(found) => found,
+        Err(error) => return without(&error),
+    };
+    if !found.is_file() {
+        return OnDisk::NoFile;
+    }
+    let Ok(contents) = fs::read(rt, path) else {
+        return OnDisk::Unknown;
+    };
+    let metadata = Metadata {
+        size: contents.len() as u64,
+        mtime: time_of(found.mtime(), found.mtime_nsec()),
+        ctime: time_of(found.ctime(), found.ctime_nsec()),
+    };
+    OnDisk::File(OsBytes::from_vec(contents), metadata)
+}
+
+/// Loads what was found under a path. False where that can't be told.
+fn take(path: OsBytes, found: OnDisk, files: &mut SnapshotFiles) -> Result<bool, Stop> {
+    match found {
+        OnDisk::File(contents, metadata) => {
+            let canonical = path.clone()?;
+            let contents = Some(contents);
+            files.load(
+                path,
+                LoadedFile {
+                    contents,
+                    canonical,
+                    metadata,
+                },
+            )?;
+            Ok(true)
+        }
+        OnDisk::NoFile => {
+            files.load_absent(path)?;
+            Ok(true)
+        }
+        OnDisk::Unknown => Ok(false),
+    }
+}
+
+/// Loads what stands under a path. False where that can't be told.
+pub fn load<R: Files + AllocGlobal>(
+    rt: &R,
+    path: OsBytes,
+    files: &mut SnapshotFiles,
+) -> Result<bool, Stop> {
+    let Ok(place) = into_text(path.clone()?) else {
+        return Ok(false);
+    };
+    take(path, look_at(rt, place.as_str()), files)
+}
+
+/// Whether the one moment comes before the other.
+fn is_before(one: FileTime, other: FileTime) -> bool {
+    one.seconds < other.seconds
+        || (one.seconds == other.seconds && one.nanoseconds < other.nanoseconds)
+}
+
+/// Whether the contents take in another file, which no marker names.
+fn embeds(contents: &OsBytes) -> bool {
+    EMBEDS.iter().any(|word| memmem::find(contents.as_bytes(), word.as_bytes()).is_some())
+}
+
+/// Whether what was found can be recorded as what a preprocessor read: it was changed before that moment and takes in no other file.
+fn is_recorded(found: &OnDisk, before: FileTime) -> bool {
+    match found {
+        OnDisk::File(contents, metadata) => {
+            is_before(metadata.mtime, before)
+                && is_before(metadata.ctime, before)
+                && !embeds(contents)
+        }
+        OnDisk::NoFile => true,
+        OnDisk::Unknown => false,
+    }
+}
+
+/// Until when a file must have been changed so that it's certain to have been the same since that moment.
+fn settled_before(moment: SystemTime) -> FileTime {
+    let Ok(since) = moment.duration_since(UNIX_EPOCH) else {
+        return FileTime::from_seconds(0);
+    };
+    let since = since.saturating_sub(Duration::from_millis(TICK));
+    let seconds = i64::try_from(since.as_secs()).unwrap_or(0);
+    time_of(seconds, i64::from(since.subsec_nanos()))
+}
+
+/// Loads the files of these names. False where one of them can't be told.
+pub fn load_all<R: Files + AllocGlobal>(
+    rt: &R,
+    line: &CommandLine,
+    names: &[OsBytes],
+    files: &mut SnapshotFiles,
+) -> Result<bool, Stop> {
+    for name in names {
+        let path = join(rt.alloc(), line.dir.as_bytes(), name.as_bytes())?;
+        if !load(rt, path, files)? {
+            return Ok(false);
+        }
+    }
+    Ok(true)
+}
+
+/// Loads the file of a marker. False where it can't be recorded.
+fn load_marked<R: Files + AllocGlobal>(
+    rt: &R,
+    line: &CommandLine,
+    raw: &[u8],
+    before: FileTime,
+    files: &mut SnapshotFiles,
+) -> Result<bool, Stop> {
+    if raw.starts_with(b"<") {
+        return Ok(true);
+    }
+    let name = unescaped(rt.alloc(), raw)?.into_owned(rt.alloc())?;
+    let path = join(rt.alloc(), line.dir.as_bytes(), name.as_slice())?;
+    let Ok(place) = into_text(path.clone()?) else {
+        return Ok(false);
+    };
+    let found = look_at(rt, place.as_str());
+    Ok(is_recorded(&found, before) && take(path, found, files)?)
+}
+
+/// Loads the files that the markers of a text name, once the preprocessor printed it. False where what it read can't be told: a line can't
+/// be told from a marker, a file was changed since the call began, or takes in another one.
+pub fn load_named<R: Files + AllocGlobal>(
+    rt: &R,
+    line: &CommandLine,
+    text: &[u8],
+    files: &mut SnapshotFiles,
+) -> Result<bool, Stop> {
+    let before = settled_before(line.moment);
+    let mut seen: HashSet<&[u8]> = HashSet::new(rt.alloc());
+    for mark in Markers::new(text) {
+        let Mark::Named(raw) = mark else {
+            return Ok(false);
+        };
+        if !seen.insert(raw)? {
+            continue;
+        }
+        if !load_marked(rt, line, raw, before, files)? {
+            return Ok(false);
+        }
+    }
+    Ok(true)
+}
