@@ -1,5 +1,8 @@
 //! The report on a database: a line for each entry, and a summary.
 
+ghost use Rattle.std.specs.Prelude.{◌≡◌, [], ◌∷◌, ◌++◌, OnOk};
+ghost use Rattle.recorded_builds.specs.Summaries.{HasTold};
+
 use crate::database::{TakesEntries, read_database};
 use crate::fault::ReportFault;
 use crate::request_texts::{Detail, write_compile, write_kept, write_preprocess};
@@ -145,7 +148,13 @@ impl<'a> Report<'a> {
 }
 
 impl<'a> TakesEntries for Report<'a> {
-    fn take(&mut self, entry: &Entry) -> Result<(), ReportFault> {
+    fn take(&mut self, entry: &Entry) -> Result<(), ReportFault>
+        // The entry is told behind those before it, with the same files.
+        ensures told { OnOk result ((entries : _)
+            → HasTold self.old.files.files entries self.old.telling
+            → HasTold self.old.files.files (entries ++ entry.now ∷ []) self.new.telling) }
+        ensures tree { self.new.files.files ≡ self.old.files.files }
+    {
         let (alloc, compilers) = (self.lines.alloc, self.lines.compilers);
         self.telling
             .tell(alloc, compilers, entry, &mut self.files, &mut self.lines)?;
