@@ -13,16 +13,16 @@ use Rattle.marker_walk.specs.Named.{accepted, asks_for_more, is_named, name_of, 
 use Rattle.marker_walk.specs.Scanning.{Sight, named, refused, sights}
 use Rattle.marker_walk.specs.Seen.{has_come, slice_of}
 use Rattle.marker_walk.specs.Spelling.{meant, spelled}
-use Rattle.marker_walk.specs.Steps.{by_verdict, came_before, names_behind, names_with, or_this, verdict_on}
+use Rattle.marker_walk.specs.Steps.{by_standing, came_before, names_behind, names_with, or_this, standing_on}
 use Rattle.marker_walk.specs.declared.walk.Seen.{Seen}
-use Rattle.marker_walk.specs.declared.walk.Verdict.{Verdict}
-use Rattle.marker_walk.specs.declared.walk.Verdict.TheVariants.{Counts, Refuses, Skipped}
+use Rattle.marker_walk.specs.declared.walk.Standing.{Standing}
+use Rattle.marker_walk.specs.declared.walk.Standing.TheVariants.{Counts, Refuses, Skipped}
 
 -- the names that haven't come
 abbrev pub fresh : (Bytes → Bool) → List Bytes → List Bytes
 fresh came names = filter (λ name. not (came (spelled name))) names
 
-none_by : (v : Verdict) (name : Bytes) → by_verdict v name None ≡ None
+none_by : (v : Standing) (name : Bytes) → by_standing v name None ≡ None
 none_by Counts name = refl
 none_by Skipped name = refl
 none_by Refuses name = refl
@@ -54,13 +54,13 @@ pub filter_both : (first second both : Bytes → Bool) → ((y : Bytes) → both
 filter_both first second both h [] = refl
 filter_both first second both h (y ∷ ys) = both_by first second both y ys (first y) refl (h y) (filter_both first second both h ys)
 
-counts_by : (name : Bytes) (names : List Bytes) (tells any : Bool) → by_verdict (if tells then Refuses else Counts) name (if any then None else Some names) ≡ (if (tells || any) then None else Some (name ∷ names))
+counts_by : (name : Bytes) (names : List Bytes) (tells any : Bool) → by_standing (if tells then Refuses else Counts) name (if any then None else Some names) ≡ (if (tells || any) then None else Some (name ∷ names))
 counts_by name names true any = refl
 counts_by name names false true = refl
 counts_by name names false false = refl
 
 counted_by : (tells : Bytes → Bool) (name : Bytes) (names : List Bytes) (is : Bool) →
-    by_verdict (if is then (if tells name then Refuses else Counts) else Skipped) name (if list_any tells names then None else Some names)
+    by_standing (if is then (if tells name then Refuses else Counts) else Skipped) name (if list_any tells names then None else Some names)
     ≡ (if list_any tells (if is then name ∷ names else names) then None else Some (if is then name ∷ names else names))
 counted_by tells name names true = counts_by name names (tells name) (list_any tells names)
 counted_by tells name names false = refl
@@ -102,7 +102,7 @@ module _ (dir : Bytes) (files : Tree) (input : Bytes) where
   abbrev pub counting : List Bytes → Option (List Bytes)
   counting names = accepted dir files (filter (is_named dir files input) names)
 
-  counted : (name : Bytes) (names : List Bytes) → by_verdict (verdict_on dir files input name) name (counting names) ≡ counting (name ∷ names)
+  counted : (name : Bytes) (names : List Bytes) → by_standing (standing_on dir files input name) name (counting names) ≡ counting (name ∷ names)
   counted name names = counted_by (tells_time dir files) name (filter (is_named dir files input) names) (is_named dir files input name)
 
   -- the named files of these names that haven't come, where no line refuses
@@ -111,22 +111,22 @@ module _ (dir : Bytes) (files : Tree) (input : Bytes) where
 
   step : (came : Bytes → Bool) (raw : Bytes) (names : List Bytes) (refuses seen : Bool) (same more : Option (List Bytes)) → spelled (meant raw) ≡ raw → came raw ≡ seen
       → same ≡ ending came refuses names → more ≡ ending (or_this raw came) refuses names
-      → (if came raw then same else by_verdict (verdict_on dir files input (meant raw)) (meant raw) more) ≡ ending came refuses (meant raw ∷ names)
+      → (if came raw then same else by_standing (standing_on dir files input (meant raw)) (meant raw) more) ≡ ending came refuses (meant raw ∷ names)
   step came raw names true true same more well is h k =
-      ap (λ (t : Bool). cond t same (by_verdict (verdict_on dir files input (meant raw)) (meant raw) more)) is ∙ h
+      ap (λ (t : Bool). cond t same (by_standing (standing_on dir files input (meant raw)) (meant raw) more)) is ∙ h
   step came raw names true false same more well is h k =
-      ap (λ (t : Bool). cond t same (by_verdict (verdict_on dir files input (meant raw)) (meant raw) more)) is
-      ∙ ap (by_verdict (verdict_on dir files input (meant raw)) (meant raw)) k ∙ none_by (verdict_on dir files input (meant raw)) (meant raw)
+      ap (λ (t : Bool). cond t same (by_standing (standing_on dir files input (meant raw)) (meant raw) more)) is
+      ∙ ap (by_standing (standing_on dir files input (meant raw)) (meant raw)) k ∙ none_by (standing_on dir files input (meant raw)) (meant raw)
   step came raw names false true same more well is h k =
       let come : came (spelled (meant raw)) ≡ true = ap came well ∙ is in
       let others = filter (λ other. not (bytes_eq (meant raw) other)) (once names) in
-      ap (λ (t : Bool). cond t same (by_verdict (verdict_on dir files input (meant raw)) (meant raw) more)) is ∙ h
+      ap (λ (t : Bool). cond t same (by_standing (standing_on dir files input (meant raw)) (meant raw) more)) is ∙ h
       ∙ ap counting (sym (ap (λ (t : Bool). cond (not t) (meant raw ∷ fresh came others) (fresh came others)) come ∙ fresh_again came (meant raw) (once names) come))
   step came raw names false false same more well is h k =
       let come : came (spelled (meant raw)) ≡ false = ap came well ∙ is in
       let others = filter (λ other. not (bytes_eq (meant raw) other)) (once names) in
-      ap (λ (t : Bool). cond t same (by_verdict (verdict_on dir files input (meant raw)) (meant raw) more)) is
-      ∙ ap (by_verdict (verdict_on dir files input (meant raw)) (meant raw)) k ∙ counted (meant raw) (fresh (or_this raw came) (once names))
+      ap (λ (t : Bool). cond t same (by_standing (standing_on dir files input (meant raw)) (meant raw) more)) is
+      ∙ ap (by_standing (standing_on dir files input (meant raw)) (meant raw)) k ∙ counted (meant raw) (fresh (or_this raw came) (once names))
       ∙ ap counting (sym (ap (λ (t : Bool). cond (not t) (meant raw ∷ fresh came others) (fresh came others)) come ∙ ap (λ (l : List Bytes). meant raw ∷ l) (fresh_more came raw (once names) well)))
 
   behind_all : (came : Bytes → Bool) (told : List Sight) → AllByRecursion IsSpelledWell told → names_behind dir files input came told ≡ ending came (list_any refuses told) (filter_map name_of told)
@@ -166,20 +166,20 @@ module _ (dir : Bytes) (files : Tree) (input : Bytes) where
 
   module _ (names : List Bytes) (seen : Seen) (raw : Bytes) (told : List Sight) where
     -- one that comes first, with what becomes of it
-    comes_first : (new : Seen) (v : Verdict) → has_come seen (slice_of raw) ≡ false → ((other : Bor Bytes) → has_come new other ≡ (bytes_eq raw other.now || has_come seen other)) → verdict_on dir files input (meant raw) ≡ v
-        → names_with dir files input names seen (named raw ∷ told) ≡ option_map (λ others. names ++ others) (by_verdict v (meant raw) (names_behind dir files input (came_before new) told))
+    comes_first : (new : Seen) (v : Standing) → has_come seen (slice_of raw) ≡ false → ((other : Bor Bytes) → has_come new other ≡ (bytes_eq raw other.now || has_come seen other)) → standing_on dir files input (meant raw) ≡ v
+        → names_with dir files input names seen (named raw ∷ told) ≡ option_map (λ others. names ++ others) (by_standing v (meant raw) (names_behind dir files input (came_before new) told))
     comes_first new v first come is =
         let came : came_before new ≡ or_this raw (came_before seen) = (λ j. λ other. come (slice_of other) j) in
-        ap (λ (t : Bool). option_map (λ others. names ++ others) (cond t (names_behind dir files input (came_before seen) told) (by_verdict (verdict_on dir files input (meant raw)) (meant raw) (names_behind dir files input (or_this raw (came_before seen)) told)))) first
-        ∙ ap (λ (w : Verdict). option_map (λ others. names ++ others) (by_verdict w (meant raw) (names_behind dir files input (or_this raw (came_before seen)) told))) is
-        ∙ sym (ap (λ (f : Bytes → Bool). option_map (λ others. names ++ others) (by_verdict v (meant raw) (names_behind dir files input f told))) came)
+        ap (λ (t : Bool). option_map (λ others. names ++ others) (cond t (names_behind dir files input (came_before seen) told) (by_standing (standing_on dir files input (meant raw)) (meant raw) (names_behind dir files input (or_this raw (came_before seen)) told)))) first
+        ∙ ap (λ (w : Standing). option_map (λ others. names ++ others) (by_standing w (meant raw) (names_behind dir files input (or_this raw (came_before seen)) told))) is
+        ∙ sym (ap (λ (f : Bytes → Bool). option_map (λ others. names ++ others) (by_standing v (meant raw) (names_behind dir files input f told))) came)
 
-    pub comes_first_counts : (new : Seen) (more : List Bytes) → has_come seen (slice_of raw) ≡ false → ((other : Bor Bytes) → has_come new other ≡ (bytes_eq raw other.now || has_come seen other)) → verdict_on dir files input (meant raw) ≡ Counts
+    pub comes_first_counts : (new : Seen) (more : List Bytes) → has_come seen (slice_of raw) ≡ false → ((other : Bor Bytes) → has_come new other ≡ (bytes_eq raw other.now || has_come seen other)) → standing_on dir files input (meant raw) ≡ Counts
         → more ≡ names ++ meant raw ∷ [] → names_with dir files input names seen (named raw ∷ told) ≡ names_with dir files input more new told
     comes_first_counts new more first come is pushed =
         comes_first new Counts first come is ∙ twice names (meant raw) (names_behind dir files input (came_before new) told)
         ∙ sym (ap (λ (l : List Bytes). names_with dir files input l new told) pushed)
 
-    pub comes_first_skipped : (new : Seen) → has_come seen (slice_of raw) ≡ false → ((other : Bor Bytes) → has_come new other ≡ (bytes_eq raw other.now || has_come seen other)) → verdict_on dir files input (meant raw) ≡ Skipped
+    pub comes_first_skipped : (new : Seen) → has_come seen (slice_of raw) ≡ false → ((other : Bor Bytes) → has_come new other ≡ (bytes_eq raw other.now || has_come seen other)) → standing_on dir files input (meant raw) ≡ Skipped
         → names_with dir files input names seen (named raw ∷ told) ≡ names_with dir files input names new told
     comes_first_skipped new first come is = comes_first new Skipped first come is

@@ -9,20 +9,20 @@ use Rattle.marker_walk.specs.Scanning.{Sight, named, refused}
 use Rattle.marker_walk.specs.Seen.{has_come, slice_of}
 use Rattle.marker_walk.specs.Spelling.{meant}
 use Rattle.marker_walk.specs.declared.walk.Seen.{Seen}
-use Rattle.marker_walk.specs.declared.walk.Verdict.{Verdict}
-use Rattle.marker_walk.specs.declared.walk.Verdict.TheVariants.{Counts, Refuses, Skipped}
+use Rattle.marker_walk.specs.declared.walk.Standing.{Standing}
+use Rattle.marker_walk.specs.declared.walk.Standing.TheVariants.{Counts, Refuses, Skipped}
 
 -- what becomes of a name
-abbrev pub verdict_on : Bytes → Tree → Bytes → Bytes → Verdict
-verdict_on dir files input name =
+abbrev pub standing_on : Bytes → Tree → Bytes → Bytes → Standing
+standing_on dir files input name =
     if is_named dir files input name then (if tells_time dir files name then Refuses else Counts)
     else Skipped
 
 -- the names that follow, behind a name that came for the first time
-abbrev pub by_verdict : Verdict → Bytes → Option (List Bytes) → Option (List Bytes)
-by_verdict Counts name rest = option_map (λ names. name ∷ names) rest
-by_verdict Skipped name rest = rest
-by_verdict Refuses name rest = None
+abbrev pub by_standing : Standing → Bytes → Option (List Bytes) → Option (List Bytes)
+by_standing Counts name rest = option_map (λ names. name ∷ names) rest
+by_standing Skipped name rest = rest
+by_standing Refuses name rest = None
 
 -- this name has come too
 abbrev pub or_this : Bytes → (Bytes → Bool) → Bytes → Bool
@@ -35,7 +35,7 @@ names_behind dir files input came [] = Some []
 names_behind dir files input came (refused ∷ told) = None
 names_behind dir files input came (named raw ∷ told) =
     if came raw then names_behind dir files input came told
-    else by_verdict (verdict_on dir files input (meant raw)) (meant raw)
+    else by_standing (standing_on dir files input (meant raw)) (meant raw)
     (names_behind dir files input (or_this raw came) told)
 
 abbrev pub came_before : Seen → Bytes → Bool

@@ -11,7 +11,7 @@ ghost use Rattle.marker_walk.specs.Named.{asks_for_more, named_files_of, walk_na
 ghost use Rattle.marker_walk.specs.Scanning.{Sight, named};
 ghost use Rattle.marker_walk.specs.Seen.{has_come};
 ghost use Rattle.marker_walk.specs.Spelling.{meant};
-ghost use Rattle.marker_walk.specs.Steps.{names_with, verdict_on};
+ghost use Rattle.marker_walk.specs.Steps.{names_with, standing_on};
 
 use crate::answer::Walk;
 use crate::line::Mark;
@@ -28,7 +28,7 @@ use time_macros::holds::holds;
 
 /// What becomes of a name.
 #[derive(Clone, Copy)]
-pub(crate) enum Verdict {
+pub(crate) enum Standing {
     /// It is among the named files.
     Counts,
     /// It isn't.
@@ -72,36 +72,36 @@ fn asks_for_more(text: &[u8]) -> bool
 
 /// What becomes of a name, by one look at its file at most.
 #[tactic(auto, unfolding(time_macros::specs::Macros::holds_time))]
-fn verdict_on<F: Files>(
+fn standing_on<F: Files>(
     alloc: Global,
     name: &[u8],
     input: &[u8],
     dir: &[u8],
     files: &mut F,
-) -> Result<Verdict, ParseFault>
+) -> Result<Standing, ParseFault>
     ensures verdict { IfOk result (λ verdict.
-        verdict ≡ verdict_on dir.now (F.tree files.old) input.now name.now) }
+        verdict ≡ standing_on dir.now (F.tree files.old) input.now name.now) }
     ensures cause { IfErr result (CauseOf (FilesFail F.Files files.old files.new)) }
     ensures tree { F.tree files.new ≡ F.tree files.old }
     ensures steady { OnOk result (F.failed files.new ≡ F.failed files.old) }
     ensures memory { IsErrOf result ParseFault.Memory → F.failed files.new ≡ F.failed files.old }
 {
     if name.starts_with(b"<") {
-        return Ok(Verdict::Skipped);
+        return Ok(Standing::Skipped);
     }
     let path = join(alloc, dir, name)?;
     if path.as_bytes() == input {
-        return Ok(Verdict::Skipped);
+        return Ok(Standing::Skipped);
     }
     match files.read(alloc, &path) {
         Ok(Some(contents)) => {
             if holds(contents.as_bytes(), b"__TIME__") {
-                Ok(Verdict::Refuses)
+                Ok(Standing::Refuses)
             } else {
-                Ok(Verdict::Counts)
+                Ok(Standing::Counts)
             }
         }
-        Ok(None) => Ok(Verdict::Skipped),
+        Ok(None) => Ok(Standing::Skipped),
         Err(FileFail::Memory) => Err(ParseFault::Memory),
         Err(FileFail::Device) => Err(ParseFault::Read(path)),
     }
@@ -139,13 +139,13 @@ fn take_name<'a, F: Files>(
         return Ok(true);
     }
     let name = name_of(alloc, raw)?;
-    match verdict_on(alloc, name.as_bytes(), input, dir, files)? {
-        Verdict::Counts => {
+    match standing_on(alloc, name.as_bytes(), input, dir, files)? {
+        Standing::Counts => {
             names.push(name)?;
             Ok(true)
         }
-        Verdict::Skipped => Ok(true),
-        Verdict::Refuses => Ok(false),
+        Standing::Skipped => Ok(true),
+        Standing::Refuses => Ok(false),
     }
 }
 

@@ -6,9 +6,9 @@ use Rattle.cmdlines.specs.Opening.{opened_words}
 use Rattle.cmdlines.specs.Parsing.{Decision, asks, not_compilation, cannot_cache, decision_of, parse_of}
 use Rattle.cmdlines_tables.specs.declared.compiler.CCompilerKind.{CCompilerKind}
 use Rattle.rustkeys_base.specs.Expansion.{expanded_by_rustc}
-use Rattle.rustkeys_base.specs.Verdict as rust
-use Rattle.recorded_builds.specs.declared.deciding.Verdict.{Verdict}
-use Rattle.recorded_builds.specs.declared.deciding.Verdict.TheVariants as verdicts
+use Rattle.rustkeys_base.specs.Parsing as rust
+use Rattle.recorded_builds.specs.declared.deciding.Decided.{Decided}
+use Rattle.recorded_builds.specs.declared.deciding.Decided.TheVariants as decided
 use Rattle.recorded_builds.specs.declared.entry.Entry.{Entry}
 use Rattle.recorded_builds.specs.declared.executables.EntryCompiler.{EntryCompiler}
 use Rattle.recorded_builds.specs.declared.executables.EntryCompiler.TheVariants as compilers
@@ -16,7 +16,7 @@ use Rattle.recorded_builds.specs.declared.executables.EntryCompiler.TheVariants 
 -- what words come to: by a C compiler of that kind, by rustc, or by no compiler that is known
 pub data Outcome : Type 0 where
   by_c : CCompilerKind → Decision → Outcome
-  by_rustc : rust.Verdict → Outcome
+  by_rustc : rust.Decision → Outcome
   unknown : Outcome
 
 -- the words of an executable, with the files of words that they name opened from that folder
@@ -26,16 +26,16 @@ outcome_by (Some (compilers.C kind)) dir tree words =
     by_c kind (parse_of kind (opened_words kind dir tree words))
 outcome_by (Some compilers.Rustc) dir tree words =
     let reading = rust.request_reading (expanded_by_rustc dir tree words) in
-    by_rustc (rust.verdict_on dir tree reading)
+    by_rustc (rust.decision_on dir tree reading)
 
 abbrev pub outcome_of : Tree → Entry → Outcome
 outcome_of tree entry = outcome_by entry.compiler entry.dir tree entry.words
 
 -- what an answer tells
-abbrev pub outcome_in : Verdict → Outcome
-outcome_in (verdicts.C kind answer) = by_c kind (decision_of answer)
-outcome_in (verdicts.Rustc answer) = by_rustc (rust.verdict_in answer)
-outcome_in verdicts.Unknown = unknown
+abbrev pub outcome_in : Decided → Outcome
+outcome_in (decided.C kind answer) = by_c kind (decision_of answer)
+outcome_in (decided.Rustc answer) = by_rustc (rust.decision_of answer)
+outcome_in decided.Unknown = unknown
 
 -- whether the compiler runs as if there were no cache
 abbrev pub is_passed : Outcome → Bool

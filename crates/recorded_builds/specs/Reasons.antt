@@ -8,7 +8,7 @@ use Rattle.os_files.specs.Bytes.{Bytes}
 use Rattle.os_files.specs.Tree.{Tree}
 use Rattle.cmdlines.specs.Parsing.{asks, not_compilation, cannot_cache}
 use Rattle.cmdlines_tables.specs.declared.compiler.CCompilerKind.TheVariants.{Clang, Gcc}
-use Rattle.rustkeys_base.specs.Verdict as rust
+use Rattle.rustkeys_base.specs.Parsing as rust
 use Rattle.recorded_builds.specs.Beware.{AreOnce, is_among, is_named, is_option}
 use Rattle.recorded_builds.specs.Outcomes.{Outcome, by_c, by_rustc, unknown, outcome_in, outcome_of}
 use Rattle.recorded_builds.specs.declared.entry.Entry.{Entry}
@@ -48,7 +48,7 @@ holds_option option outcome = list_any (is_option option) (words_looked_at outco
 
 -- all this is told of what the words of that executable come to
 pub record Tells (executable : Bytes) (outcome : Outcome) (told : Told) : Type 0 where
-  pub verdict : outcome_in told.verdict ≡ outcome
+  pub decided : outcome_in told.decided ≡ outcome
   pub reason : option_map string_bytes told.reason ≡ reason_for executable outcome
   pub blocker : option_map string_bytes told.blocker ≡ blocker_in outcome
   pub held : (option : Bytes) → is_among option told.beware.items ≡ holds_option option outcome

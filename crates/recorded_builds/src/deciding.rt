@@ -24,7 +24,7 @@ use std::alloc::{AllocError, Global};
 
 /// What the words of an entry come to.
 #[derive(Drop)]
-pub enum Verdict {
+pub enum Decided {
     /// By a C compiler of this kind.
     C(CCompilerKind, CompilerArguments<ParsedArguments>),
     Rustc(CompilerArguments<rust::ParsedArguments>),
@@ -98,21 +98,21 @@ impl Compilers {
         alloc: Global,
         entry: &Entry,
         files: &mut F,
-    ) -> Result<Verdict, ParseFault>
+    ) -> Result<Decided, ParseFault>
         ensures outcome { IfOk result
-            (λ verdict. outcome_in verdict ≡ outcome_of (F.tree files.old) entry.now) }
+            (λ decided. outcome_in decided ≡ outcome_of (F.tree files.old) entry.now) }
         ensures tree { F.tree files.new ≡ F.tree files.old }
     {
         let words = entry.words.as_slice();
         match entry.compiler {
-            None => Ok(Verdict::Unknown),
+            None => Ok(Decided::Unknown),
             Some(EntryCompiler::C(kind)) => {
                 let answer = self.parse(alloc, kind, words, &entry.dir, files)?;
-                Ok(Verdict::C(kind, answer))
+                Ok(Decided::C(kind, answer))
             }
             Some(EntryCompiler::Rustc) => {
                 let answer = parse::parse_arguments(alloc, words, &entry.dir, files)?;
-                Ok(Verdict::Rustc(answer))
+                Ok(Decided::Rustc(answer))
             }
         }
     }

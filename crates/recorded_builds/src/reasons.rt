@@ -5,7 +5,7 @@ ghost use Rattle.std.specs.Option.{option_map};
 ghost use Rattle.recorded_builds.specs.Outcomes.{is_passed, outcome_in};
 ghost use Rattle.recorded_builds.specs.Reasons.{reason_for, reason_with};
 
-use crate::deciding::Verdict;
+use crate::deciding::Decided;
 use cmdlines_base::compiler_arguments::CompilerArguments;
 use os_files::os_bytes::OsBytes;
 use std::alloc::{AllocError, Global};
@@ -25,30 +25,30 @@ fn pass_text(
     }
 }
 
-/// Why the words of a verdict are passed through, and nothing where what they ask for is kept.
+/// Why words that come to this are passed through, and nothing where what they ask for is kept.
 pub fn reason_of(
     alloc: Global,
-    verdict: &Verdict,
+    decided: &Decided,
     executable: &OsBytes,
 ) -> Result<Option<String>, AllocError>
     ensures text { IfOk result (λ reason. option_map string_bytes reason
-        ≡ reason_for executable.now (outcome_in verdict.now)) }
+        ≡ reason_for executable.now (outcome_in decided.now)) }
 
     // There is a reason exactly where they are passed through.
-    ensures reason { IfOk result (λ reason. is_some reason ≡ is_passed (outcome_in verdict.now)) }
+    ensures reason { IfOk result (λ reason. is_some reason ≡ is_passed (outcome_in decided.now)) }
 {
-    match verdict {
-        Verdict::C(_, CompilerArguments::Ok(_)) | Verdict::Rustc(CompilerArguments::Ok(_)) => Ok(
+    match decided {
+        Decided::C(_, CompilerArguments::Ok(_)) | Decided::Rustc(CompilerArguments::Ok(_)) => Ok(
             None,
         ),
-        Verdict::C(_, CompilerArguments::NotCompilation)
-        | Verdict::Rustc(CompilerArguments::NotCompilation) => {
+        Decided::C(_, CompilerArguments::NotCompilation)
+        | Decided::Rustc(CompilerArguments::NotCompilation) => {
             Ok(Some(String::from_str(alloc, "not a compilation")?))
         }
-        Verdict::C(_, CompilerArguments::CannotCache(reason, more))
-        | Verdict::Rustc(CompilerArguments::CannotCache(reason, more)) => {
+        Decided::C(_, CompilerArguments::CannotCache(reason, more))
+        | Decided::Rustc(CompilerArguments::CannotCache(reason, more)) => {
             Ok(Some(pass_text(alloc, reason, more)?))
         }
-        Verdict::Unknown => Ok(Some(format!(in alloc; "unknown compiler {executable}")?)),
+        Decided::Unknown => Ok(Some(format!(in alloc; "unknown compiler {executable}")?)),
     }
 }

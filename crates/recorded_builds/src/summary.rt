@@ -6,7 +6,7 @@ ghost use Rattle.recorded_builds.specs.Beware.{AreOnce, is_among, is_named};
 ghost use Rattle.recorded_builds.specs.Outcomes.{is_kept, outcome_in};
 ghost use Rattle.recorded_builds.specs.Tallies.{AreRowsOf, numbers_in};
 
-use crate::deciding::Verdict;
+use crate::deciding::Decided;
 use crate::tally::{Row, Tally};
 use crate::told::Told;
 use cmdlines_base::compiler_arguments::CompilerArguments;
@@ -36,22 +36,22 @@ pub(crate) struct Noted {
     pub(crate) beware: Tally,
 }
 
-/// Whether a verdict is that the outputs are kept.
-fn keeps(verdict: &Verdict) -> bool
-    ensures { result ≡ is_kept (outcome_in verdict.now) }
+/// Whether what was decided is that the outputs are kept.
+fn keeps(decided: &Decided) -> bool
+    ensures { result ≡ is_kept (outcome_in decided.now) }
 {
     matches!(
-        verdict,
-        Verdict::C(_, CompilerArguments::Ok(_)) | Verdict::Rustc(CompilerArguments::Ok(_))
+        decided,
+        Decided::C(_, CompilerArguments::Ok(_)) | Decided::Rustc(CompilerArguments::Ok(_))
     )
 }
 
-/// One more where a verdict is that the outputs are kept.
-fn kept_with(kept: u64, verdict: &Verdict) -> u64
+/// One more where what was decided is that the outputs are kept.
+fn kept_with(kept: u64, decided: &Decided) -> u64
     requires { kept + 1 < 2 ^ 64 }
-    ensures { result ≡ kept + (if is_kept (outcome_in verdict.now) then 1 else 0) }
+    ensures { result ≡ kept + (if is_kept (outcome_in decided.now) then 1 else 0) }
 {
-    if keeps(verdict) { kept + 1 } else { kept }
+    if keeps(decided) { kept + 1 } else { kept }
 }
 
 impl Noted {
@@ -74,7 +74,7 @@ impl Noted {
         requires room { self.old.kept + 1 < 2 ^ 64 }
         requires once { AreOnce told.beware.items }
         ensures kept { OnOk result (self.new.kept
-            ≡ self.old.kept + (if is_kept (outcome_in told.verdict) then 1 else 0)) }
+            ≡ self.old.kept + (if is_kept (outcome_in told.decided) then 1 else 0)) }
         ensures reasons { OnOk result ((name : _) → numbers_in self.new.reasons name
             ≡ numbers_in self.old.reasons name
             ++ (if is_named name (option_map string_bytes told.reason) then number ∷ [] else [])) }
@@ -85,7 +85,7 @@ impl Noted {
             ≡ numbers_in self.old.beware name
             ++ (if is_among name told.beware.items then number ∷ [] else [])) }
     {
-        self.kept = kept_with(self.kept, &told.verdict);
+        self.kept = kept_with(self.kept, &told.decided);
         self.beware
             .note_each(alloc, told.beware.as_slice(), number)?;
         self.reasons.note_some(told.reason, number)?;

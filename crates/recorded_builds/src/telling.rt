@@ -39,8 +39,8 @@ fn told_of(
         (Tells entry.now.executable (outcome_of files.old.files entry.now)) }
     ensures tree { files.new.files ≡ files.old.files }
 {
-    let verdict = compilers.decide(alloc, entry, files)?;
-    Ok(Told::new(alloc, verdict, &entry.executable)?)
+    let decided = compilers.decide(alloc, entry, files)?;
+    Ok(Told::new(alloc, decided, &entry.executable)?)
 }
 
 /// Decides, tells and notes the entry of this number.

@@ -8,7 +8,7 @@ ghost use Rattle.recorded_builds.specs.Outcomes.{outcome_in};
 ghost use Rattle.recorded_builds.specs.Reasons.{Tells, blocker_in, holds_option};
 
 use crate::beware::options_in;
-use crate::deciding::Verdict;
+use crate::deciding::Decided;
 use crate::reasons::reason_of;
 use cmdlines_base::compiler_arguments::CompilerArguments;
 use cmdlines_tables::compiler::CCompilerKind;
@@ -18,7 +18,7 @@ use std::alloc::{AllocError, Global};
 /// What is told of an entry.
 #[derive(Drop)]
 pub struct Told {
-    pub verdict: Verdict,
+    pub decided: Decided,
     /// Why it is passed through.
     pub reason: Option<String>,
     /// The option that keeps direct mode from being used.
@@ -28,11 +28,11 @@ pub struct Told {
 }
 
 /// The option that keeps direct mode from being used.
-fn blocker_of(alloc: Global, verdict: &Verdict) -> Result<Option<String>, AllocError>
+fn blocker_of(alloc: Global, decided: &Decided) -> Result<Option<String>, AllocError>
     ensures { IfOk result
-        (λ blocker. option_map string_bytes blocker ≡ blocker_in (outcome_in verdict.now)) }
+        (λ blocker. option_map string_bytes blocker ≡ blocker_in (outcome_in decided.now)) }
 {
-    let Verdict::C(_, CompilerArguments::Ok(parsed)) = verdict else {
+    let Decided::C(_, CompilerArguments::Ok(parsed)) = decided else {
         return Ok(None);
     };
     match &parsed.too_hard_for_preprocessor_cache_mode {
@@ -42,18 +42,18 @@ fn blocker_of(alloc: Global, verdict: &Verdict) -> Result<Option<String>, AllocE
 }
 
 /// The options to beware of in what Gcc and Clang keep, each once.
-fn options_to_beware_of(alloc: Global, verdict: &Verdict) -> Result<Vec<&'static str>, AllocError>
+fn options_to_beware_of(alloc: Global, decided: &Decided) -> Result<Vec<&'static str>, AllocError>
     ensures once { IfOk result (λ found. AreOnce found.items) }
     ensures held { IfOk result (λ found. (option : _) →
-        is_among option found.items ≡ holds_option option (outcome_in verdict.now)) }
+        is_among option found.items ≡ holds_option option (outcome_in decided.now)) }
 {
-    match verdict {
-        Verdict::C(CCompilerKind::Gcc, CompilerArguments::Ok(parsed)) => options_in(
+    match decided {
+        Decided::C(CCompilerKind::Gcc, CompilerArguments::Ok(parsed)) => options_in(
             alloc,
             parsed.preprocessor_args.as_slice(),
             parsed.common_args.as_slice(),
         ),
-        Verdict::C(CCompilerKind::Clang, CompilerArguments::Ok(parsed)) => options_in(
+        Decided::C(CCompilerKind::Clang, CompilerArguments::Ok(parsed)) => options_in(
             alloc,
             parsed.preprocessor_args.as_slice(),
             parsed.common_args.as_slice(),
@@ -63,15 +63,15 @@ fn options_to_beware_of(alloc: Global, verdict: &Verdict) -> Result<Vec<&'static
 }
 
 impl Told {
-    /// What is told of the words of that executable, which come to this verdict.
-    pub fn new(alloc: Global, verdict: Verdict, executable: &OsBytes) -> Result<Told, AllocError>
-        ensures { IfOk result (Tells executable.now (outcome_in verdict)) }
+    /// What is told of the words of that executable, which come to this.
+    pub fn new(alloc: Global, decided: Decided, executable: &OsBytes) -> Result<Told, AllocError>
+        ensures { IfOk result (Tells executable.now (outcome_in decided)) }
     {
-        let reason = reason_of(alloc, &verdict, executable)?;
-        let blocker = blocker_of(alloc, &verdict)?;
-        let beware = options_to_beware_of(alloc, &verdict)?;
+        let reason = reason_of(alloc, &decided, executable)?;
+        let blocker = blocker_of(alloc, &decided)?;
+        let beware = options_to_beware_of(alloc, &decided)?;
         Ok(Told {
-            verdict,
+            decided,
             reason,
             blocker,
             beware,

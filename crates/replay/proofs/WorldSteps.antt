@@ -29,12 +29,12 @@ use Rattle.rustc_requests.specs.Asks.{RustAsks}
 use Rattle.wrap_base.specs.Commands.{CFound, NamedBy, by_c, by_rustc, words_at}
 use Rattle.wrap.specs.Account.{Account, passed, worked, Work, Pairs, IsSuccess, account_by, account_named, call_at, collected, rust_account_by, rust_call_at, rust_work_at, scene_at, work_at}
 use Rattle.wrap.specs.RustVerdicts as rust_verdicts
-use Rattle.wrap.specs.RustVerdicts.{RustDecision, rust_verdict_of}
+use Rattle.wrap.specs.RustVerdicts.{RustJudgement, rust_verdict_of}
 use Rattle.wrap.specs.Answers.{Answers, GoesOn, GoesOnWith, SaysBy}
 use Rattle.wrap.specs.CallRecords.{AreDistinct, IsHashedFor, IsTold, family_of, key_of, of_c, record_shape}
 use Rattle.wrap.specs.Asking.{AskedTurn, MatchesFor, RecordsAreTrue, Shelves, WorkKeyFrom}
 use Rattle.wrap.specs.StoreKeys.{HasRecord, Invariant, IsHashedIn, IsOf, Premises, SameRecord, store_key_of, store_key_with}
-use Rattle.wrap.specs.Verdicts.{Decision, passes, asks, verdict_of}
+use Rattle.wrap.specs.Verdicts.{Judgement, passes, asks, verdict_of}
 use Rattle.wrap_base.specs.declared.answer.Answer.{Answer}
 use Rattle.wrap_base.specs.declared.answer.Answer.TheVariants.{Pass, Outputs}
 use Rattle.wrap_base.specs.declared.answer.How.TheVariants.{Direct, Stored, Fresh}
@@ -250,14 +250,14 @@ module _ (digest_of : Bytes → Bytes) (tells : Tells digest_of) (text : Option 
   ]
 
 module _ (digest_of : Bytes → Bytes) (tells : Tells digest_of) (text : Option RecordedText) (outputs : Option RecordedOutputs) (world : Meaning) (tree : Tree) (settings : Settings) (found : CFound) (request : Request) (gives : Gives text outputs (scene_at found.executable request tree) world) (old new : Shelves) (printed printed_new compiled compiled_new : ℕ) (result : Result Answer Fault) (on_file : Bytes → Type 0) (device_in : Step → Type 0) where
-  abbrev Told : Decision → Type 0
+  abbrev Told : Judgement → Type 0
   Told d = AskedTurn digest_of (account_by (recorded text outputs) tree settings found request d) old new printed printed_new compiled compiled_new result × SaysBy GoesOn (account_by (recorded text outputs) tree settings found request d) on_file device_in result
 
-  answers_by : (d : Decision) → Told d → RecordsAreTrue digest_of (account_by world tree settings found request d) old.entries.held → (earlier : List Account) → Invariant digest_of earlier old.objects.held → Premises digest_of (earlier ++ account_by world tree settings found request d ∷ []) → Answers (account_by world tree settings found request d) result
+  answers_by : (d : Judgement) → Told d → RecordsAreTrue digest_of (account_by world tree settings found request d) old.entries.held → (earlier : List Account) → Invariant digest_of earlier old.objects.held → Premises digest_of (earlier ++ account_by world tree settings found request d ∷ []) → Answers (account_by world tree settings found request d) result
   answers_by (passes why) told are_true earlier inv premises = tt
   answers_by (asks p) told are_true earlier inv premises = work_answers digest_of tells text outputs world (call_at found request tree settings p) gives old new printed printed_new compiled compiled_new are_true earlier inv result told.0 on_file device_in told.1 premises
 
-  grows_by : (d : Decision) → Told d → RecordsAreTrue digest_of (account_by world tree settings found request d) old.entries.held → (earlier : List Account) → Invariant digest_of earlier old.objects.held → Invariant digest_of (earlier ++ account_by world tree settings found request d ∷ []) new.objects.held
+  grows_by : (d : Judgement) → Told d → RecordsAreTrue digest_of (account_by world tree settings found request d) old.entries.held → (earlier : List Account) → Invariant digest_of earlier old.objects.held → Invariant digest_of (earlier ++ account_by world tree settings found request d ∷ []) new.objects.held
   grows_by (passes why) told are_true earlier inv key pairs h = elim (told.0.objects.gains key pairs h) [
     | inl was ↦ (let w = inv key pairs was in (w.0, Contains-append_left earlier (passed why ∷ []) (worked w.0) w.1, w.2))
     | inr own ↦ absurd own
@@ -283,31 +283,31 @@ unanswered call meaning told fine =
 
 -- Of rustc no answer is recorded, so that no outputs are answered.
 module _ (digest_of : Bytes → Bytes) (text : Option RecordedText) (outputs : Option RecordedOutputs) (world : Meaning) (tree : Tree) (rust : Rustc) (request : Request) (old new : Shelves) (printed printed_new compiled compiled_new : ℕ) (on_file : Bytes → Type 0) (device_in : Step → Type 0) where
-  abbrev told_account : RustDecision → Account
+  abbrev told_account : RustJudgement → Account
   told_account d = rust_account_by (recorded text outputs) tree rust request d
 
-  abbrev world_account : RustDecision → Account
+  abbrev world_account : RustJudgement → Account
   world_account d = rust_account_by world tree rust request d
 
   no_record : (asked : RustAsks) → HasRecord (rust_work_at (recorded text outputs) (rust_call_at rust request tree asked)) → ⊥
   no_record asked h = unanswered (rust_call_at rust request tree asked) (recorded text outputs) refl h
 
-  abbrev RustTold : RustDecision → Result Answer Fault → Type 0
+  abbrev RustTold : RustJudgement → Result Answer Fault → Type 0
   RustTold d result = AskedTurn digest_of (told_account d) old new printed printed_new compiled compiled_new result × SaysBy GoesOn (told_account d) on_file device_in result
 
-  pub rust_answers : (d : RustDecision) (result : Result Answer Fault) → RustTold d result → Answers (world_account d) result
+  pub rust_answers : (d : RustJudgement) (result : Result Answer Fault) → RustTold d result → Answers (world_account d) result
   rust_answers (rust_verdicts.passes why) result told = tt
   rust_answers (rust_verdicts.asks asked) (Ok (Pass reason)) told = tt
   rust_answers (rust_verdicts.asks asked) (Ok (Outputs map how dep_info)) told = absurd (no_record asked told.1.1)
   rust_answers (rust_verdicts.asks asked) (Err fault) told = tt
 
-  pub rust_grows : (d : RustDecision) (result : Result Answer Fault) → RustTold d result → (earlier : List Account) → Invariant digest_of earlier old.objects.held → Invariant digest_of (earlier ++ world_account d ∷ []) new.objects.held
+  pub rust_grows : (d : RustJudgement) (result : Result Answer Fault) → RustTold d result → (earlier : List Account) → Invariant digest_of earlier old.objects.held → Invariant digest_of (earlier ++ world_account d ∷ []) new.objects.held
   rust_grows d result told earlier inv key pairs h = was (by d result told)
     where
       was : old.objects.held key ≡ Some pairs → (w : Work) × Contains (earlier ++ world_account d ∷ []) (worked w) × IsOf digest_of w key pairs
       was held = let w = inv key pairs held in (w.0, Contains-append_left earlier (world_account d ∷ []) (worked w.0) w.1, w.2)
 
-      by : (e : RustDecision) (r : Result Answer Fault) → RustTold e r → old.objects.held key ≡ Some pairs
+      by : (e : RustJudgement) (r : Result Answer Fault) → RustTold e r → old.objects.held key ≡ Some pairs
       by (rust_verdicts.passes why) r t = elim (t.0.objects.gains key pairs h) [
         | inl held ↦ held
         | inr own ↦ absurd own

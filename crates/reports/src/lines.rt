@@ -85,13 +85,13 @@ pub(crate) fn text_of_lines(
     let compilers = Compilers::new(alloc)?;
     let mut lines = String::new(alloc);
     for entry in entries.as_slice() {
-        let verdict = compilers.decide(alloc, entry, &mut files)?;
-        match (reason_of(alloc, &verdict, &entry.executable)?, shown) {
+        let decided = compilers.decide(alloc, entry, &mut files)?;
+        match (reason_of(alloc, &decided, &entry.executable)?, shown) {
             (Some(reason), _) => lines.push_str(reason.as_str())?,
-            (None, Shown::Lists) => write_kept(&mut lines, &verdict, Detail::Lists)?,
-            (None, Shown::Compile) => write_compile(alloc, &mut lines, &compilers, &verdict)?,
+            (None, Shown::Lists) => write_kept(&mut lines, &decided, Detail::Lists)?,
+            (None, Shown::Compile) => write_compile(alloc, &mut lines, &compilers, &decided)?,
             (None, Shown::Preprocess) => {
-                write_preprocess(alloc, &mut lines, &compilers, &verdict)?;
+                write_preprocess(alloc, &mut lines, &compilers, &decided)?;
             }
         }
         lines.push('\n')?;

@@ -9,7 +9,7 @@ use crate::request_texts::{Detail, write_compile, write_kept, write_preprocess};
 use crate::tally::write_rows;
 use cmdlines_base::compiler_arguments::CompilerArguments;
 use os_files::os_bytes::OsBytes;
-use recorded_builds::deciding::{Compilers, Verdict};
+use recorded_builds::deciding::{Compilers, Decided};
 use recorded_builds::entry::Entry;
 use recorded_builds::snapshot::Asked;
 use recorded_builds::summary::Summary;
@@ -42,19 +42,19 @@ fn write_commands(
     alloc: Global,
     text: &mut String,
     compilers: &Compilers,
-    verdict: &Verdict,
+    decided: &Decided,
 ) -> Result<(), AllocError> {
-    match verdict {
-        Verdict::C(_, CompilerArguments::Ok(_)) => {
+    match decided {
+        Decided::C(_, CompilerArguments::Ok(_)) => {
             text.push_str("  compile")?;
-            write_compile(alloc, text, compilers, verdict)?;
+            write_compile(alloc, text, compilers, decided)?;
             text.push_str("\n  preprocess")?;
-            write_preprocess(alloc, text, compilers, verdict)?;
+            write_preprocess(alloc, text, compilers, decided)?;
             text.push('\n')?;
         }
-        Verdict::Rustc(CompilerArguments::Ok(_)) => {
+        Decided::Rustc(CompilerArguments::Ok(_)) => {
             text.push_str("  compile ")?;
-            write_compile(alloc, text, compilers, verdict)?;
+            write_compile(alloc, text, compilers, decided)?;
             text.push('\n')?;
         }
         _ => {}
@@ -93,12 +93,12 @@ impl<'a> Lines for ReportLines<'a> {
             Some(reason) => write!(text, "{number} pass {reason}")?,
             None => {
                 write!(text, "{number} keeps ")?;
-                write_kept(text, &told.verdict, self.shape.detail)?;
+                write_kept(text, &told.decided, self.shape.detail)?;
             }
         }
         write_marks(text, files.read.as_slice(), told.beware.as_slice())?;
         if self.shape.commands {
-            write_commands(self.alloc, text, self.compilers, &told.verdict)?;
+            write_commands(self.alloc, text, self.compilers, &told.decided)?;
         }
         Ok(())
     }

@@ -9,7 +9,7 @@ use cmdlines_requests::parsed::ParsedArguments;
 use cmdlines_tables::compiler::CCompilerKind;
 use os_files::listed::Listed;
 use os_files::os_bytes::OsBytes;
-use recorded_builds::deciding::{Compilers, Verdict};
+use recorded_builds::deciding::{Compilers, Decided};
 use rustc_options::data::ArgData;
 use rustc_requests::parsed as rust;
 use std::alloc::{AllocError, Global};
@@ -130,15 +130,15 @@ fn write_rust_request(
     Ok(())
 }
 
-/// Adds what the words of a verdict ask for, where that is kept.
+/// Adds what the words ask for, where that is kept.
 pub(crate) fn write_kept(
     text: &mut String,
-    verdict: &Verdict,
+    decided: &Decided,
     detail: Detail,
 ) -> Result<(), AllocError> {
-    match verdict {
-        Verdict::C(_, CompilerArguments::Ok(parsed)) => write_request(text, parsed, detail),
-        Verdict::Rustc(CompilerArguments::Ok(parsed)) => write_rust_request(text, parsed, detail),
+    match decided {
+        Decided::C(_, CompilerArguments::Ok(parsed)) => write_request(text, parsed, detail),
+        Decided::Rustc(CompilerArguments::Ok(parsed)) => write_rust_request(text, parsed, detail),
         _ => Ok(()),
     }
 }
@@ -224,14 +224,14 @@ pub(crate) fn write_compile(
     alloc: Global,
     text: &mut String,
     compilers: &Compilers,
-    verdict: &Verdict,
+    decided: &Decided,
 ) -> Result<(), AllocError> {
-    match verdict {
-        Verdict::C(kind, CompilerArguments::Ok(parsed)) => {
+    match decided {
+        Decided::C(kind, CompilerArguments::Ok(parsed)) => {
             let words = compile_words(alloc, compilers, *kind, parsed)?;
             write_words(text, words.as_slice())?;
         }
-        Verdict::Rustc(CompilerArguments::Ok(parsed)) => {
+        Decided::Rustc(CompilerArguments::Ok(parsed)) => {
             write_arguments(alloc, text, parsed.arguments.as_slice())?;
         }
         _ => {}
@@ -244,9 +244,9 @@ pub(crate) fn write_preprocess(
     alloc: Global,
     text: &mut String,
     compilers: &Compilers,
-    verdict: &Verdict,
+    decided: &Decided,
 ) -> Result<(), AllocError> {
-    if let Verdict::C(kind, CompilerArguments::Ok(parsed)) = verdict {
+    if let Decided::C(kind, CompilerArguments::Ok(parsed)) = decided {
         let words = preprocess_words(alloc, compilers, *kind, parsed)?;
         write_words(text, words.as_slice())?;
     }

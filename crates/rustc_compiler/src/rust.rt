@@ -10,7 +10,7 @@ ghost use Rattle.rustc_parts.specs.Formed.{IsDigest, digest_digits};
 ghost use Rattle.rustkeys_base.specs.Asks.{AsksFor, asks_of};
 ghost use Rattle.rustkeys_base.specs.Expansion.{expanded_by_rustc};
 ghost use Rattle.rustkeys_base.specs.Requests.{IsAsked};
-ghost use Rattle.rustkeys_base.specs.Verdict.{request_reading, verdict_in, verdict_on};
+ghost use Rattle.rustkeys_base.specs.Parsing.{request_reading, decision_of, decision_on};
 ghost use Rattle.rustc_compiler.specs.Causes as why;
 ghost use Rattle.rustc_compiler.specs.Compiler.{has_host, toolchain_files};
 
@@ -144,9 +144,9 @@ impl Rust {
         dir: &OsBytes,
         files: &mut F,
     ) -> Result<CompilerArguments<ParsedArguments>, ParseFault>
-        ensures verdict { let expanded = expanded_by_rustc dir.now (F.tree files.old) words.now in
-            IfOk result (λ answer. verdict_in answer
-            ≡ verdict_on dir.now (F.tree files.old) (request_reading expanded)) }
+        ensures decision { let expanded = expanded_by_rustc dir.now (F.tree files.old) words.now in
+            IfOk result (λ answer. decision_of answer
+            ≡ decision_on dir.now (F.tree files.old) (request_reading expanded)) }
         ensures asked { let expanded = expanded_by_rustc dir.now (F.tree files.old) words.now in
             IfOk result (IsAsked dir.now (F.tree files.old) (request_reading expanded).items) }
         ensures asks { let expanded = expanded_by_rustc dir.now (F.tree files.old) words.now in

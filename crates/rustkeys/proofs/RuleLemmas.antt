@@ -21,7 +21,7 @@ use Rattle.rustc_requests.specs.Asks.{RustAsks}
 use Rattle.rustkeys_base.specs.Facts.{facts_of}
 use Rattle.rustkeys_base.specs.Requests.{dep_info, emits, named_by_crate}
 use Rattle.rustkeys_base.specs.Saying.{token_of}
-use Rattle.rustkeys_base.specs.Verdict.{emitted}
+use Rattle.rustkeys_base.specs.Parsing.{emitted}
 use Rattle.rustkeys_base.specs.declared.facts.Facts.{Facts}
 use Rattle.rustkeys.specs.Calls.{answer_fault_of, dep_info_fault_of, files_fault_of, key_fault_with, rule_fault_of, sources_fault_of}
 use Rattle.rustkeys.specs.Fresh.{ComesOfWords, dep_info_by, emits_dep_info}

@@ -13,20 +13,20 @@ use Rattle.rustc_options.specs.declared.data.ArgData.TheVariants as values
 use Rattle.rustc_options.specs.declared.kind.ArgKind.{ArgKind}
 use Rattle.rustkeys_base.specs.Facts.{facts_of, facts_with, no_facts}
 use Rattle.rustkeys_base.specs.Saying.{Token, loose, says, unread, token_of}
-use Rattle.rustkeys_base.specs.Verdict.{Verdict, asks, not_compilation, cannot_cache, closing, codegen_decides, decides, is_misread, is_unsure, not_parsed, other_types, second_input, unless_decided, verdict_from}
+use Rattle.rustkeys_base.specs.Parsing.{Decision, asks, not_compilation, cannot_cache, closing, codegen_decides, decides, is_misread, is_unsure, not_parsed, other_types, second_input, unless_decided, decision_from}
 use Rattle.rustkeys_base.specs.declared.facts.Facts.{Facts}
 use Rattle.rustkeys_base.proofs.FactLemmas.{facts-more, facts-none}
 
-abbrev is_asks : Verdict → Bool
+abbrev is_asks : Decision → Bool
 is_asks asks = true
 is_asks not_compilation = false
 is_asks (cannot_cache reason more) = false
 
-abbrev asks_in : Option Verdict → Bool
+abbrev asks_in : Option Decision → Bool
 asks_in None = false
-asks_in (Some verdict) = is_asks verdict
+asks_in (Some decision) = is_asks decision
 
-either : (b : Bool) (o p : Option Verdict) → asks_in o ≡ false → asks_in p ≡ false → asks_in (cond b o p) ≡ false
+either : (b : Bool) (o p : Option Decision) → asks_in o ≡ false → asks_in p ≡ false → asks_in (cond b o p) ≡ false
 either true o p h k = h
 either false o p h k = k
 
@@ -63,24 +63,24 @@ module _ (dir : Bytes) (files : Tree) where
   token-refuses f (says flag (values.Unstable o)) = refl
   token-refuses f unread = refl
 
-  abbrev decided : Facts → Item ArgKind → Option Verdict
+  abbrev decided : Facts → Item ArgKind → Option Decision
   decided f item = if is_misread item then Some not_parsed else decides dir files f (token_of item)
 
   -- no item decides that something is asked for
-  refuses : (f : Facts) (item : Item ArgKind) (verdict : Verdict) → decided f item ≡ Some verdict → verdict ≡ asks → ⊥
-  refuses f item verdict h is = false≢true (sym (either (is_misread item) _ _ refl (token-refuses f (token_of item))) ∙ ap asks_in h ∙ ap is_asks is)
+  refuses : (f : Facts) (item : Item ArgKind) (decision : Decision) → decided f item ≡ Some decision → decision ≡ asks → ⊥
+  refuses f item decision h is = false≢true (sym (either (is_misread item) _ _ refl (token-refuses f (token_of item))) ∙ ap asks_in h ∙ ap is_asks is)
 
-  one-by : (misread : Bool) (o : Option Verdict) (later : Verdict) → (if misread then not_parsed else unless_decided o later) ≡ unless_decided (if misread then Some not_parsed else o) later
+  one-by : (misread : Bool) (o : Option Decision) (later : Decision) → (if misread then not_parsed else unless_decided o later) ≡ unless_decided (if misread then Some not_parsed else o) later
   one-by true o later = refl
   one-by false o later = refl
 
   abbrev onto : Facts → Item ArgKind → Facts
   onto f item = facts_with f (token_of item ∷ [])
 
-  one : (f : Facts) (item : Item ArgKind) (items : List (Item ArgKind)) (cut : Bool) (o : Option Verdict) → decided f item ≡ o → verdict_from dir files f (item ∷ items) cut ≡ unless_decided o (verdict_from dir files (onto f item) items cut)
+  one : (f : Facts) (item : Item ArgKind) (items : List (Item ArgKind)) (cut : Bool) (o : Option Decision) → decided f item ≡ o → decision_from dir files f (item ∷ items) cut ≡ unless_decided o (decision_from dir files (onto f item) items cut)
   one f item items cut o h =
-      one-by (is_misread item) (decides dir files f (token_of item)) (verdict_from dir files (onto f item) items cut)
-      ∙ ap (λ d. unless_decided d (verdict_from dir files (onto f item) items cut)) h
+      one-by (is_misread item) (decides dir files f (token_of item)) (decision_from dir files (onto f item) items cut)
+      ∙ ap (λ d. unless_decided d (decision_from dir files (onto f item) items cut)) h
 
   abbrev NoneFrom : Facts → List (Item ArgKind) → Type 0
   NoneFrom f items = (earlier : List (Item ArgKind)) (item : Item ArgKind) (later : List (Item ArgKind)) → items ≡ earlier ++ item ∷ later → decided (facts_with f (map token_of earlier)) item ≡ None
@@ -104,23 +104,23 @@ module _ (dir : Bytes) (files : Tree) where
       ∙ nones earlier other later rest
 
   -- items of which none decides
-  passed : (earlier : List (Item ArgKind)) (f : Facts) (rest : List (Item ArgKind)) (cut : Bool) → NoneFrom f earlier → verdict_from dir files f (earlier ++ rest) cut ≡ verdict_from dir files (facts_with f (map token_of earlier)) rest cut
-  passed [] f rest cut h = ap (λ g. verdict_from dir files g rest cut) (sym (facts-none f))
+  passed : (earlier : List (Item ArgKind)) (f : Facts) (rest : List (Item ArgKind)) (cut : Bool) → NoneFrom f earlier → decision_from dir files f (earlier ++ rest) cut ≡ decision_from dir files (facts_with f (map token_of earlier)) rest cut
+  passed [] f rest cut h = ap (λ g. decision_from dir files g rest cut) (sym (facts-none f))
   passed (item ∷ items) f rest cut h =
       one f item (items ++ rest) cut None (head-none f item items h)
       ∙ passed items (onto f item) rest cut (tail-none f item items h)
-      ∙ ap (λ g. verdict_from dir files g rest cut) (facts-more f (token_of item) (map token_of items))
+      ∙ ap (λ g. decision_from dir files g rest cut) (facts-more f (token_of item) (map token_of items))
 
-  pub first_decides : (earlier later : List (Item ArgKind)) (item : Item ArgKind) (cut : Bool) (verdict : Verdict) → NoneFrom no_facts earlier → decided (facts_of (map token_of earlier)) item ≡ Some verdict → verdict_from dir files no_facts (earlier ++ item ∷ later) cut ≡ verdict
-  first_decides earlier later item cut verdict nones h = passed earlier no_facts (item ∷ later) cut nones ∙ one (facts_of (map token_of earlier)) item later cut (Some verdict) h
+  pub first_decides : (earlier later : List (Item ArgKind)) (item : Item ArgKind) (cut : Bool) (decision : Decision) → NoneFrom no_facts earlier → decided (facts_of (map token_of earlier)) item ≡ Some decision → decision_from dir files no_facts (earlier ++ item ∷ later) cut ≡ decision
+  first_decides earlier later item cut decision nones h = passed earlier no_facts (item ∷ later) cut nones ∙ one (facts_of (map token_of earlier)) item later cut (Some decision) h
 
-  pub none_decides : (items : List (Item ArgKind)) (cut : Bool) → NoneFrom no_facts items → verdict_from dir files no_facts items cut ≡ (if cut then not_parsed else closing (facts_of (map token_of items)))
-  none_decides items cut nones = ap (λ (l : List (Item ArgKind)). verdict_from dir files no_facts l cut) (sym (append-nil items)) ∙ passed items no_facts [] cut nones
+  pub none_decides : (items : List (Item ArgKind)) (cut : Bool) → NoneFrom no_facts items → decision_from dir files no_facts items cut ≡ (if cut then not_parsed else closing (facts_of (map token_of items)))
+  none_decides items cut nones = ap (λ (l : List (Item ArgKind)). decision_from dir files no_facts l cut) (sym (append-nil items)) ∙ passed items no_facts [] cut nones
 
   abbrev Asks : Facts → List (Item ArgKind) → Bool → Type 0
   Asks f items cut = NoneFrom f items × (cut ≡ false) × (closing (facts_with f (map token_of items)) ≡ asks)
 
-  pub asks_for : (items : List (Item ArgKind)) (f : Facts) (cut : Bool) → verdict_from dir files f items cut ≡ asks → Asks f items cut
+  pub asks_for : (items : List (Item ArgKind)) (f : Facts) (cut : Bool) → decision_from dir files f items cut ≡ asks → Asks f items cut
   asks_for [] f true h = absurd (false≢true (ap is_asks h))
   asks_for [] f false h = (nowhere, refl, ap closing (facts-none f) ∙ h)
     where
@@ -129,8 +129,8 @@ module _ (dir : Bytes) (files : Tree) where
       nowhere (first ∷ earlier) item later e = cc
   asks_for (item ∷ items) f cut h = by (decided f item) refl (asks_for items (onto f item) cut)
     where
-      by : (o : Option Verdict) → decided f item ≡ o → (verdict_from dir files (onto f item) items cut ≡ asks → Asks (onto f item) items cut) → Asks f (item ∷ items) cut
+      by : (o : Option Decision) → decided f item ≡ o → (decision_from dir files (onto f item) items cut ≡ asks → Asks (onto f item) items cut) → Asks f (item ∷ items) cut
       by None none later =
           let rest = later (sym (one f item items cut None none) ∙ h) in
           (both-none f item items none rest.0, rest.1, ap closing (sym (facts-more f (token_of item) (map token_of items))) ∙ rest.2)
-      by (Some verdict) some later = absurd (refuses f item verdict some (sym (one f item items cut (Some verdict) some) ∙ h))
+      by (Some decision) some later = absurd (refuses f item decision some (sym (one f item items cut (Some decision) some) ∙ h))

@@ -3,7 +3,7 @@ pub mod TextLaws
 pub mod CauseLemmas
 pub mod FactLemmas
 pub mod ItemLemmas
-pub mod VerdictLemmas
+pub mod ParsingLemmas
 pub mod DeciderLaws
 mod HeldWords
 pub mod AskLemmas

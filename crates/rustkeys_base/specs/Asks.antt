@@ -15,7 +15,7 @@ use Rattle.rustkeys_base.specs.Facts.{facts_of}
 use Rattle.rustkeys_base.specs.Requests.{dep_info, gcno, profile, static_libraries, wanted}
 use Rattle.rustkeys_base.specs.Saying.{token_of}
 use Rattle.rustc_requests.specs.Sorted.{sorted_by}
-use Rattle.rustkeys_base.specs.Verdict.{emitted}
+use Rattle.rustkeys_base.specs.Parsing.{emitted}
 use Rattle.rustkeys_base.specs.declared.facts.Facts.{Facts}
 use Rattle.rustc_requests.specs.declared.parsed.ParsedArguments.{ParsedArguments}
 

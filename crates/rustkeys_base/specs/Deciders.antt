@@ -6,10 +6,10 @@ use Rattle.cmdlines_base.specs.Reading.{Item}
 use Rattle.rustc_options.specs.declared.kind.ArgKind.{ArgKind}
 use Rattle.rustkeys_base.specs.Facts.{facts_of}
 use Rattle.rustkeys_base.specs.Saying.{token_of}
-use Rattle.rustkeys_base.specs.Verdict.{Verdict, decides, is_misread, not_parsed}
+use Rattle.rustkeys_base.specs.Parsing.{Decision, decides, is_misread, not_parsed}
 
 -- what an item decides behind these items; one whose value is refused does
-abbrev pub decides_behind : Bytes → Tree → List (Item ArgKind) → Item ArgKind → Option Verdict
+abbrev pub decides_behind : Bytes → Tree → List (Item ArgKind) → Item ArgKind → Option Decision
 decides_behind dir files earlier item =
     let so_far = facts_of (map token_of earlier) in
     if is_misread item then Some not_parsed else decides dir files so_far (token_of item)

@@ -3,7 +3,7 @@ pub mod Expansion
 pub mod Words
 pub mod Saying
 pub mod Facts
-pub mod Verdict
+pub mod Parsing
 pub mod Deciders
 pub mod Requests
 pub mod Asks

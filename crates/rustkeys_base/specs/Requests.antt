@@ -25,7 +25,7 @@ use Rattle.rustc_options.specs.declared.kind.ArgKind.{ArgKind}
 use Rattle.rustkeys_base.specs.Facts.{facts_of}
 use Rattle.rustkeys_base.specs.Saying.{Token, if_data, token_in, token_of}
 use Rattle.rustc_requests.specs.Sorted.{sorted_by}
-use Rattle.rustkeys_base.specs.Verdict.{closing, emitted, has_kind, verdict_of, verdict_on}
+use Rattle.rustkeys_base.specs.Parsing.{closing, emitted, has_kind, decision_of_refusal, decision_on}
 use Rattle.rustkeys_base.specs.declared.closing.Made.{Made}
 use Rattle.rustkeys_base.specs.declared.deciding.Refusal.{Refusal}
 use Rattle.rustkeys_base.specs.declared.facts.Facts.{Facts}
@@ -137,5 +137,5 @@ IsAsked dir files items (answers.CannotCache reason more) = Unit {0}
 
 -- what was read of the words: something that decides, or all that they say, of which the closing rules decide
 abbrev pub Gathers : Bytes → Tree → Reading ArgKind → Facts → List (Argument ArgData) → Option Refusal → Type 0
-Gathers dir files r f kept (Some why) = verdict_of why ≡ verdict_on dir files r
-Gathers dir files r f kept None = (closing f ≡ verdict_on dir files r) × (f ≡ facts_of (map token_of r.items)) × AllZip IsArgument (wanted r.items) kept
+Gathers dir files r f kept (Some why) = decision_of_refusal why ≡ decision_on dir files r
+Gathers dir files r f kept None = (closing f ≡ decision_on dir files r) × (f ≡ facts_of (map token_of r.items)) × AllZip IsArgument (wanted r.items) kept

@@ -9,7 +9,7 @@ ghost use Rattle.rustc_options.specs.Sets.{in_order};
 ghost use Rattle.response_files.specs.Causes.{CauseOf};
 ghost use Rattle.rustkeys_base.specs.Requests.{IsAskedBy, IsMadeOf, color_mode, named_by_crate, emits, dep_info, gcno, profile, static_libraries};
 ghost use Rattle.rustc_requests.specs.Sorted.{sorted_by};
-ghost use Rattle.rustkeys_base.specs.Verdict.{asks, closing, emitted, has_kind, is_supported, is_unsupported, verdict_in, verdict_of};
+ghost use Rattle.rustkeys_base.specs.Parsing.{asks, closing, emitted, has_kind, is_supported, is_unsupported, decision_of, decision_of_refusal};
 
 use crate::deciding::{Refusal, refused};
 use crate::facts::Facts;
@@ -63,7 +63,7 @@ fn refusal(alloc: Global, facts: &Facts, kinds: &[OsBytes]) -> Result<Option<Ref
     requires { kinds.now ≡ emitted facts.now }
     ensures { IfOk result
         (λ found. MatchOption found (closing facts.now ≡ asks)
-        (λ why. verdict_of why ≡ closing facts.now)) }
+        (λ why. decision_of_refusal why ≡ closing facts.now)) }
 {
     if facts.input.is_none() {
         return Ok(Some(refused("missing input")));
@@ -249,7 +249,7 @@ pub(crate) fn close<F: Files>(
     arguments: Listed<Argument<ArgData>>,
     files: &mut F,
 ) -> Result<CompilerArguments<ParsedArguments>, ParseFault>
-    ensures verdict { IfOk result (λ answer. verdict_in answer ≡ closing facts) }
+    ensures decision { IfOk result (λ answer. decision_of answer ≡ closing facts) }
     ensures asked { IfOk result (IsAskedBy dir.now (F.tree files.old) facts arguments) }
     ensures cause { IfErr result (CauseOf (FilesFail F.Files files.old files.new)) }
     ensures tree { F.tree files.new ≡ F.tree files.old }

@@ -5,7 +5,7 @@ ghost use Rattle.std.specs.Option.{option_map};
 ghost use Rattle.os_files.specs.Views.{FilesFail};
 ghost use Rattle.response_files.specs.Causes.{CauseOf};
 ghost use Rattle.rustkeys_base.specs.Saying.{token_in};
-ghost use Rattle.rustkeys_base.specs.Verdict.{AsksNothing, verdict_in, verdict_of, refused, second_input, other_types, codegen_decides, is_unsure, option_decides, decides};
+ghost use Rattle.rustkeys_base.specs.Parsing.{AsksNothing, decision_of, decision_of_refusal, refused, second_input, other_types, codegen_decides, is_unsure, option_decides, decides};
 
 use crate::facts::Facts;
 use cmdlines_base::argument::Argument;
@@ -33,7 +33,7 @@ pub(crate) enum Refusal {
 impl Refusal {
     /// The same as an answer.
     pub(crate) fn into_answer(self) -> CompilerArguments<ParsedArguments>
-        ensures verdict { verdict_in result ≡ verdict_of self }
+        ensures decision { decision_of result ≡ decision_of_refusal self }
         ensures nothing { AsksNothing result }
     {
         match self {
@@ -45,14 +45,14 @@ impl Refusal {
 
 /// Refused for this reason, with no more text.
 pub(crate) fn refused(reason: &'static str) -> Refusal
-    ensures { verdict_of result ≡ refused reason.now }
+    ensures { decision_of_refusal result ≡ refused reason.now }
 {
     Refusal::CannotCache(reason, None)
 }
 
 /// A second input: both are told.
 fn second_input(alloc: Global, previous: &OsBytes, next: &OsBytes) -> Result<Refusal, AllocError>
-    ensures { IfOk result (λ why. verdict_of why ≡ second_input previous.now next.now) }
+    ensures { IfOk result (λ why. decision_of_refusal why ≡ second_input previous.now next.now) }
 {
     let both = format!(in alloc; "prev = {previous}, next = {next}")?;
     Ok(Refusal::CannotCache("multiple input files", Some(both)))
@@ -60,7 +60,7 @@ fn second_input(alloc: Global, previous: &OsBytes, next: &OsBytes) -> Result<Ref
 
 /// Crates of other types than those that can be cached.
 fn other_types(alloc: Global, names: &[OsBytes]) -> Result<Option<Refusal>, AllocError>
-    ensures { IfOk result (λ why. option_map verdict_of why ≡ other_types names.now) }
+    ensures { IfOk result (λ why. option_map decision_of_refusal why ≡ other_types names.now) }
 {
     if names.is_empty() {
         return Ok(None);
@@ -72,7 +72,7 @@ fn other_types(alloc: Global, names: &[OsBytes]) -> Result<Option<Refusal>, Allo
 
 /// Options of code generation under which nothing is kept.
 fn codegen(option: &ArgOption) -> Option<Refusal>
-    ensures { option_map verdict_of result ≡ codegen_decides option.now.opt option.now.value }
+    ensures { option_map decision_of_refusal result ≡ codegen_decides option.now.opt option.now.value }
 {
     let name = option.opt.as_bytes();
     if name == b"incremental".as_slice() {
@@ -123,7 +123,7 @@ fn option_decides<F: Files>(
     files: &mut F,
 ) -> Result<Option<Refusal>, ParseFault>
     ensures answer { IfOk result
-        (λ why. option_map verdict_of why
+        (λ why. option_map decision_of_refusal why
         ≡ option_decides dir.now (F.tree files.old) so_far.now flag.now value.now) }
     ensures cause { IfErr result (CauseOf (FilesFail F.Files files.old files.new)) }
     ensures tree { F.tree files.new ≡ F.tree files.old }
@@ -158,7 +158,7 @@ pub(crate) fn decides<F: Files>(
     files: &mut F,
 ) -> Result<Option<Refusal>, ParseFault>
     ensures answer { IfOk result
-        (λ why. option_map verdict_of why
+        (λ why. option_map decision_of_refusal why
         ≡ decides dir.now (F.tree files.old) so_far.now (token_in argument.now)) }
     ensures cause { IfErr result (CauseOf (FilesFail F.Files files.old files.new)) }
     ensures tree { F.tree files.new ≡ F.tree files.old }

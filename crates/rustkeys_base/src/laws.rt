@@ -8,26 +8,26 @@ ghost use Rattle.rustc_options.specs.declared.kind.ArgKind.{ArgKind};
 ghost use Rattle.rustkeys_base.specs.Deciders.{NoneDecides, decides_behind};
 ghost use Rattle.rustkeys_base.specs.Facts.{facts_of};
 ghost use Rattle.rustkeys_base.specs.Saying.{token_of};
-ghost use Rattle.rustkeys_base.specs.Verdict.{Verdict, asks, closing, not_parsed, verdict_on};
+ghost use Rattle.rustkeys_base.specs.Parsing.{Decision, asks, closing, not_parsed, decision_on};
 
 /// The first item that decides does, and one whose value is refused decides too; where none does, words that are cut short do, and
 /// else the closing rules. Something is asked for only where no item decides, the words are whole, and the closing rules ask for it.
 pub fn first_that_decides_does()
     ensures item { (dir : Bytes) (files : Tree) (earlier later : List (Item ArgKind))
         (item : Item ArgKind)
-        → (cut_short : Bool) (verdict : Verdict) → NoneDecides dir files earlier
-        → decides_behind dir files earlier item ≡ Some verdict
-        → verdict_on dir files (record { items = earlier ++ item ∷ later; cut_short = cut_short })
-        ≡ verdict }
+        → (cut_short : Bool) (decision : Decision) → NoneDecides dir files earlier
+        → decides_behind dir files earlier item ≡ Some decision
+        → decision_on dir files (record { items = earlier ++ item ∷ later; cut_short = cut_short })
+        ≡ decision }
     ensures cut_short { (dir : Bytes) (files : Tree) (items : List (Item ArgKind))
         → NoneDecides dir files items
-        → verdict_on dir files (record { items = items; cut_short = true }) ≡ not_parsed }
+        → decision_on dir files (record { items = items; cut_short = true }) ≡ not_parsed }
     ensures closing { (dir : Bytes) (files : Tree) (items : List (Item ArgKind))
         → NoneDecides dir files items
         → let facts = facts_of (map token_of items) in
-        verdict_on dir files (record { items = items; cut_short = false }) ≡ closing facts }
+        decision_on dir files (record { items = items; cut_short = false }) ≡ closing facts }
     ensures asks { (dir : Bytes) (files : Tree) (r : Reading ArgKind)
-        → verdict_on dir files r ≡ asks
+        → decision_on dir files r ≡ asks
         → let facts = facts_of (map token_of r.items) in
         NoneDecides dir files r.items × (r.cut_short ≡ false) × (closing facts ≡ asks) }
 {}

@@ -10,7 +10,7 @@ ghost use Rattle.rustkeys_base.specs.Asks.{AsksFor, asks_of};
 ghost use Rattle.rustkeys_base.specs.Facts.{no_facts, facts_with};
 ghost use Rattle.rustkeys_base.specs.Requests.{Gathers, IsAsked, kept_with};
 ghost use Rattle.rustkeys_base.specs.Saying.{token_in};
-ghost use Rattle.rustkeys_base.specs.Verdict.{behind_rustc, decides, request_reading, verdict_in, verdict_of, verdict_on, not_parsed};
+ghost use Rattle.rustkeys_base.specs.Parsing.{behind_rustc, decides, request_reading, decision_of, decision_of_refusal, decision_on, not_parsed};
 
 use crate::closing::close;
 use crate::deciding::{Refusal, decides, refused};
@@ -42,7 +42,7 @@ fn behind_rustc(words: &[OsBytes]) -> &[OsBytes]
 
 /// What words come to that can't be cut.
 fn not_cut(error: ArgParseError) -> Result<Refusal, AllocError>
-    ensures answer { IfOk result (λ why. verdict_of why ≡ not_parsed) }
+    ensures answer { IfOk result (λ why. decision_of_refusal why ≡ not_parsed) }
     ensures error { IsErrOf result alloc_error ↔ (error ≡ ArgParseError.Memory) }
 {
     match error {
@@ -75,7 +75,7 @@ fn note<F: Files>(
     files: &mut F,
 ) -> Result<Option<Refusal>, ParseFault>
     ensures decides { IfOk result
-        (λ why. option_map verdict_of why
+        (λ why. option_map decision_of_refusal why
         ≡ decides dir.now (F.tree files.old) facts.old (token_in argument.now)) }
     ensures noted { IfOk result
         (λ why. MatchOption why (facts.new ≡ facts_with facts.old (token_in argument.now ∷ []))
@@ -102,7 +102,7 @@ fn take<F: Files>(
     files: &mut F,
 ) -> Result<Option<Refusal>, ParseFault>
     ensures decides { IfOk result
-        (λ why. option_map verdict_of why
+        (λ why. option_map decision_of_refusal why
         ≡ decides dir.now (F.tree files.old) facts.old (token_in argument)) }
     ensures noted { IfOk result
         (λ why. MatchOption why (facts.new ≡ facts_with facts.old (token_in argument ∷ []))
@@ -164,9 +164,9 @@ fn parse<F: Files>(
     dir: &OsBytes,
     files: &mut F,
 ) -> Result<CompilerArguments<ParsedArguments>, ParseFault>
-    ensures verdict { IfOk result
-        (λ answer. verdict_in answer
-        ≡ verdict_on dir.now (F.tree files.old) (request_reading words.now)) }
+    ensures decision { IfOk result
+        (λ answer. decision_of answer
+        ≡ decision_on dir.now (F.tree files.old) (request_reading words.now)) }
     ensures asked { IfOk result
         (IsAsked dir.now (F.tree files.old) (request_reading words.now).items) }
     ensures cause { IfErr result (CauseOf (FilesFail F.Files files.old files.new)) }
@@ -192,9 +192,9 @@ pub fn parse_arguments<F: Files>(
     dir: &OsBytes,
     files: &mut F,
 ) -> Result<CompilerArguments<ParsedArguments>, ParseFault>
-    ensures verdict { IfOk result
-        (λ answer. verdict_in answer
-        ≡ verdict_on dir.now (F.tree files.old)
+    ensures decision { IfOk result
+        (λ answer. decision_of answer
+        ≡ decision_on dir.now (F.tree files.old)
         (request_reading (expanded_by_rustc dir.now (F.tree files.old) words.now))) }
     ensures asked { IfOk result
         (IsAsked dir.now (F.tree files.old)

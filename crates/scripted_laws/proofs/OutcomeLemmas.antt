@@ -30,10 +30,10 @@ use Rattle.script_tool.specs.declared.crate_texts.CrateTexts.{CrateTexts}
 use Rattle.script_tool.specs.Scripted.{compiled, language_in, one_in, printed, scripted, takes_as_it_stands, text_at, text_by, without}
 use Rattle.wrap.specs.Account.{Work, account_by, account_named, call_at, rust_account_by, rust_call_at, rust_work_at, work_at, passed, worked}
 use Rattle.wrap.specs.StoreKeys.{HasRecord}
-use Rattle.wrap.specs.Verdicts.{Decision, asks, byte_255, commands_open_file, empty_value, hashed_words, opens_a_file, passes, verdict_of, with_hazards}
+use Rattle.wrap.specs.Verdicts.{Judgement, asks, byte_255, commands_open_file, empty_value, hashed_words, opens_a_file, passes, verdict_of, with_hazards}
 use Rattle.rustc_compiler.specs.Compiler.{Rustc}
 use Rattle.wrap.specs.RustVerdicts as rust_verdicts
-use Rattle.wrap.specs.RustVerdicts.{RustDecision, rust_verdict_of}
+use Rattle.wrap.specs.RustVerdicts.{RustJudgement, rust_verdict_of}
 use Rattle.wrap_base.specs.Commands.{CFound, NamedBy, by_c, by_rustc, named_by, words_at}
 use Rattle.wrap_base.specs.declared.request.Request.{Request}
 use Rattle.scripted_laws.specs.ScriptedCalls.{HasSafeSourceBy, HasSafeSourceFor, IsMadeOfRecord, IsScripted}
@@ -112,7 +112,7 @@ abbrev pub MakeOfRecords : Type 0
 MakeOfRecords = (settings : Settings) (w : Work) → IsScripted settings (worked w) → HasRecord w → IsMadeOfRecord w
 
 module _ (compiles : (kind : CCompilerKind) (p : ParsedArguments) → ReadsAsCompile kind p (compile_words kind p (output_path p))) (preprocesses : (kind : CCompilerKind) (p : ParsedArguments) → ReadsAsPreprocess kind p (preprocess_words kind p)) (known : (kind : CCompilerKind) (words : List Bytes) → HasKnownLanguageIn kind (parse_of kind words)) where
-  decision_made : (settings : Settings) (told : CrateTexts) (tree : Tree) (found : CFound) (request : Request) (w : Work) → HasSafeSourceFor found tree request → (decision : Decision) → verdict_of found.kind (words_at found request tree) ≡ decision
+  decision_made : (settings : Settings) (told : CrateTexts) (tree : Tree) (found : CFound) (request : Request) (w : Work) → HasSafeSourceFor found tree request → (decision : Judgement) → verdict_of found.kind (words_at found request tree) ≡ decision
       → account_by (scripted settings.basedirs told) tree settings found request decision ≡ worked w → HasRecord w → IsMadeOfRecord w
   decision_made settings told tree found request w safe (passes why) is h fine = absurd (other h)
     where
@@ -132,7 +132,7 @@ module _ (compiles : (kind : CCompilerKind) (p : ParsedArguments) → ReadsAsCom
       same : worked (work_at (scripted settings.basedirs told) (call_at found request tree settings p)) ≡ worked w → work_at (scripted settings.basedirs told) (call_at found request tree settings p) ≡ w
       same h = cc
 
-  rust_decision_made : (settings : Settings) (told : CrateTexts) (tree : Tree) (rust : Rustc) (request : Request) (d : RustDecision) (w : Work) → rust_account_by (scripted settings.basedirs told) tree rust request d ≡ worked w → HasRecord w → IsMadeOfRecord w
+  rust_decision_made : (settings : Settings) (told : CrateTexts) (tree : Tree) (rust : Rustc) (request : Request) (d : RustJudgement) (w : Work) → rust_account_by (scripted settings.basedirs told) tree rust request d ≡ worked w → HasRecord w → IsMadeOfRecord w
   rust_decision_made settings told tree rust request (rust_verdicts.passes why) w is fine = absurd (other is)
     where
       other : passed why ≡ worked w → ⊥

@@ -25,8 +25,8 @@ use Rattle.ckeys_records.specs.declared.fault.Fault.{Fault}
 use Rattle.rustc_compiler.specs.Compiler.{Rustc}
 use Rattle.wrap_base.specs.Commands.{CFound, NamedBy, by_c, by_rustc, named_by, words_at}
 use Rattle.wrap_keys.specs.RustVerdicts as rust
-use Rattle.wrap_keys.specs.RustVerdicts.{RustDecision, rust_verdict_of}
-use Rattle.wrap_keys.specs.Verdicts.{Decision, Why, asks, passes, verdict_of}
+use Rattle.wrap_keys.specs.RustVerdicts.{RustJudgement, rust_verdict_of}
+use Rattle.wrap_keys.specs.Verdicts.{Judgement, Why, asks, passes, verdict_of}
 use Rattle.wrap_base.specs.declared.request.Request.{Request}
 use Rattle.wrap_keys.specs.Account.{Account, passed, worked, Work, Pairs, account_at, account_by, account_named, asked_by, call_at, rust_account_by, work_at, collected, all, direct_calls, direct_of, placed, why_passed}
 use Rattle.wrap_keys.specs.Answers.{Answers, SaysPassed}
@@ -35,7 +35,7 @@ use Rattle.wrap_keys.specs.StoreKeys.{store_key_of, IsHashedDirect, IsHashedIn, 
 use Rattle.wrap_keys.specs.Turn.{StoreTurn}
 use Rattle.os_files.specs.Views.{FilesView}
 use Rattle.ckeys_records.specs.Views.{ToolView}
-use Rattle.wrap.specs.Whole.{Ticks, CallTurn, BothRun, SessionRun, Served, Loses, Run, accounts_of, AllAnswer, IsFresh, HaveOneRecord, OneFresh, outputs_in, Agree, SameOutputs, served, Each, begin_of, end_of, served_at, accounts_at}
+use Rattle.wrap_keys.specs.Whole.{Ticks, CallTurn, BothRun, SessionRun, Served, Loses, Run, accounts_of, AllAnswer, IsFresh, HaveOneRecord, OneFresh, outputs_in, Agree, SameOutputs, served, Each, begin_of, end_of, served_at, accounts_at}
 use Rattle.wrap_base.specs.declared.answer.Answer.{Answer}
 use Rattle.wrap_base.specs.declared.answer.Answer.TheVariants.{Pass, Outputs}
 use Rattle.wrap_base.specs.declared.answer.How.TheVariants.{Direct, Stored, Fresh}
@@ -443,14 +443,14 @@ one_call meaning tree settings request = by_named (named_by request.compiler)
     printed call true p h = cc
     printed call false p h = cc
 
-    by : (found : CFound) (d : Decision) → IsOfOneCall settings (account_by meaning tree settings found request d)
+    by : (found : CFound) (d : Judgement) → IsOfOneCall settings (account_by meaning tree settings found request d)
     by found (passes why) = tt
     by found (asks parsed) = λ p h.
         let call = call_at found request tree settings parsed in
         let same : printed_call meaning call ≡ p = printed call (has_entry_key call) p h in
         subst (IsOfCall settings (work_at meaning call)) same (record { settled = refl; rec = refl; fault = refl })
 
-    rust_by : (rustc : Rustc) (d : RustDecision) → IsOfOneCall settings (rust_account_by meaning tree rustc request d)
+    rust_by : (rustc : Rustc) (d : RustJudgement) → IsOfOneCall settings (rust_account_by meaning tree rustc request d)
     rust_by rustc (rust.passes why) = tt
     rust_by rustc (rust.asks asked) = λ p h. cc
 
@@ -462,14 +462,14 @@ one_call meaning tree settings request = by_named (named_by request.compiler)
 pub none_asked : (meaning : Meaning) (tree : Tree) (settings : Settings) (request : Request) → settings.direct ≡ false → direct_of (account_at meaning tree settings request) ≡ None
 none_asked meaning tree settings request off = by_named (named_by request.compiler)
   where
-    by : (found : CFound) (d : Decision) → direct_of (account_by meaning tree settings found request d) ≡ None
+    by : (found : CFound) (d : Judgement) → direct_of (account_by meaning tree settings found request d) ≡ None
     by found (passes why) = refl
     by found (asks parsed) =
         let call = call_at found request tree settings parsed in
         let no : has_entry_key call ≡ false = ap (λ b. (b && (needs_preprocessing call.parsed.language && is_none call.parsed.too_hard_for_preprocessor_cache_mode)) && is_told call (contents_at call.scene.files (input_path call))) off in
         ap (λ b. if b then Some (printed_call meaning call) else None) no
 
-    rust_by : (rustc : Rustc) (d : RustDecision) → direct_of (rust_account_by meaning tree rustc request d) ≡ None
+    rust_by : (rustc : Rustc) (d : RustJudgement) → direct_of (rust_account_by meaning tree rustc request d) ≡ None
     rust_by rustc (rust.passes why) = refl
     rust_by rustc (rust.asks asked) = refl
 

@@ -21,7 +21,7 @@ use Rattle.wrap_keys.specs.Asking.{AskedTurn, EntriesTurn, HowFrom, IsAskedTwice
 use Rattle.wrap_keys.specs.CallRecords.{key_of}
 use Rattle.wrap_turns.specs.Prepared.{IsPrepared}
 use Rattle.wrap_turns.specs.RustPrepared.{IsRustPrepared, rust_command_of}
-use Rattle.wrap_keys.specs.RustVerdicts.{RustDecision, asks, passes}
+use Rattle.wrap_keys.specs.RustVerdicts.{RustJudgement, asks, passes}
 use Rattle.wrap_keys.specs.StoreKeys.{store_key_of, store_key_with}
 use Rattle.wrap_turns.specs.declared.prepared.Prepared.{Prepared}
 use Rattle.wrap_turns.specs.declared.rust_calls.RustPrepared.{RustPrepared}
@@ -33,16 +33,16 @@ use Rattle.wrap_base.specs.declared.request.Request.{Request}
 use Rattle.wrap_base.specs.declared.store_key.StoreKey.{StoreKey}
 
 module _ (digest_of : Bytes → Bytes) (meaning : Meaning) (tree : Tree) (rust : Rustc) (request : Request) where
-  abbrev account : RustDecision → Account
+  abbrev account : RustJudgement → Account
   account d = rust_account_by meaning tree rust request d
 
   -- to go on is to have no fault
-  pub rust_says : (d : RustDecision) (on_file : Bytes → Type 0) (device_in : Step → Type 0) (result : Result Answer Fault) → Says (account d) on_file device_in result → SaysBy GoesOn (account d) on_file device_in result
+  pub rust_says : (d : RustJudgement) (on_file : Bytes → Type 0) (device_in : Step → Type 0) (result : Result Answer Fault) → Says (account d) on_file device_in result → SaysBy GoesOn (account d) on_file device_in result
   rust_says (passes why) on_file device_in result says = says
   rust_says (asks asked) on_file device_in result says = says
 
   -- the include records stay as they are
-  pub rust_quiet : (d : RustDecision) (s : Shelf EntryKey Record) (before after : ℕ) → EntriesTurn digest_of (account d) s s before after
+  pub rust_quiet : (d : RustJudgement) (s : Shelf EntryKey Record) (before after : ℕ) → EntriesTurn digest_of (account d) s s before after
   rust_quiet (passes why) s before after = refl
   rust_quiet (asks asked) s before after = refl
 
@@ -58,7 +58,7 @@ module _ (digest_of : Bytes → Bytes) (meaning : Meaning) (tree : Tree) (rust :
   recorded_by w entries text_key none (Err fault) = tt
 
   -- the object store is asked under the call's own key
-  pub rust_asked : (d : RustDecision) (entries : Shelf EntryKey Record) (old new : Shelf StoreKey Pairs) (printed printed_new compiled compiled_new : ℕ) (on_file : Bytes → Type 0) (device_in : Step → Type 0) (result : Result Answer Fault)
+  pub rust_asked : (d : RustJudgement) (entries : Shelf EntryKey Record) (old new : Shelf StoreKey Pairs) (printed printed_new compiled compiled_new : ℕ) (on_file : Bytes → Type 0) (device_in : Step → Type 0) (result : Result Answer Fault)
       → Says (account d) on_file device_in result → HowFrom false result → RunsOf (account d) false result printed printed_new → StoreTurn digest_of (account d) old new compiled compiled_new result
       → AskedTurn digest_of (account d) (shelves_of entries old) (shelves_of entries new) printed printed_new compiled compiled_new result
   rust_asked (passes why) entries old new printed printed_new compiled compiled_new on_file device_in result says how runs turn = record { from = false; text_key = []; is_key = tt; how = how; fine = tt; runs = runs; recorded = tt; objects = turn }

@@ -1,5 +1,4 @@
 pub mod SameCalls
-pub mod Whole
 pub mod Sessions
 pub mod Example
 pub mod DirectExample
@@ -28,6 +27,7 @@ pub use Rattle.wrap_keys.specs.StoreKeys
 pub use Rattle.wrap_keys.specs.Answers
 pub use Rattle.wrap_keys.specs.Turn
 pub use Rattle.wrap_keys.specs.Asking
+pub use Rattle.wrap_keys.specs.Whole
 pub use Rattle.fingerprints.specs.Fingerprints
 pub use Rattle.fingerprints.specs.Telling
 pub use Rattle.fingerprints.specs.Explaining

@@ -20,7 +20,7 @@ ghost use Rattle.wrap_keys.specs.Asking.{EntriesTurn, RecordsAreTrue, Shelves};
 ghost use Rattle.wrap_base.specs.declared.request.Request.{Request};
 ghost use Rattle.fingerprints.specs.Fingerprints.{fingerprint_of};
 ghost use Rattle.wrap_keys.specs.StoreKeys.{Premises, SameRecord, store_key_of};
-ghost use Rattle.wrap.specs.Whole.{BothRun, Run, SameOutputs, Served, accounts_of};
+ghost use Rattle.wrap_keys.specs.Whole.{BothRun, Run, SameOutputs, Served, accounts_of};
 ghost use Rattle.wrap_base.specs.declared.store_key.StoreKey.{StoreKey};
 ghost use Rattle.wrap.specs.Example.{compile_of, telling_digest, two_compiles};
 

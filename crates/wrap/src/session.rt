@@ -12,7 +12,7 @@ ghost use Rattle.wrap_keys.specs.Asking.{AskedTurn, EntriesTurn, RecordsAreTrue,
 ghost use Rattle.wrap_keys.specs.StoreKeys.{Invariant, Premises};
 ghost use Rattle.wrap_keys.specs.Turn.{StoreTurn};
 ghost use Rattle.fingerprints.specs.Telling.{OnReason, Tells};
-ghost use Rattle.wrap.specs.Whole.{AllAnswer, Each, IsAnswered, OneFresh, Run, SessionRun, accounts_at, served_at};
+ghost use Rattle.wrap_keys.specs.Whole.{AllAnswer, Each, IsAnswered, OneFresh, Run, SessionRun, accounts_at, served_at};
 ghost use Rattle.wrap.specs.Sessions.{held_by};
 
 use crate::laws::call_keys_tell_records;

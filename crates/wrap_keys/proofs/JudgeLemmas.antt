@@ -9,12 +9,12 @@ use Rattle.cmdlines_base.specs.declared.compiler_arguments.CompilerArguments.The
 use Rattle.rustkeys_base.specs.Asks.{AsksFor, asks_of}
 use Rattle.rustc_requests.specs.Asks.{RustAsks, asks_in}
 use Rattle.rustkeys_base.specs.Expansion.{expanded_by_rustc}
-use Rattle.rustkeys_base.specs.Verdict as parsing
-use Rattle.rustkeys_base.specs.Verdict.{request_reading, verdict_in, verdict_on}
+use Rattle.rustkeys_base.specs.Parsing as parsing
+use Rattle.rustkeys_base.specs.Parsing.{request_reading, decision_of, decision_on}
 use Rattle.rustc_requests.specs.declared.parsed.ParsedArguments.{ParsedArguments}
 use Rattle.rustc_texts.specs.Words.{all_words, color_words, compile_words, dep_info_words, file_names_words}
 use Rattle.wrap_keys.specs.RustPlans.{OpensNothing}
-use Rattle.wrap_keys.specs.RustVerdicts.{RustDecision, decided, decided_on, is_text, not_text, rust_verdict_of, with_hazards}
+use Rattle.wrap_keys.specs.RustVerdicts.{RustJudgement, decided, decided_on, is_text, not_text, rust_verdict_of, with_hazards}
 use Rattle.wrap_base.specs.declared.request.Request.{Request}
 
 -- where none of all words has it, none of the first ones has
@@ -37,11 +37,11 @@ opens_nothing dep_info file_names parsed h =
     record { compile = h; dep_info = dep_info asks front; file_names = file_names asks front }
 
 -- what is decided of what the words ask for is the verdict
-pub judged : (request : Request) (tree : Tree) (words : List Bytes) (decision : RustDecision) (answer : CompilerArguments ParsedArguments) (parsed : ParsedArguments) → answer ≡ answers.Ok parsed → words ≡ request.words → is_text request ≡ true
-    → verdict_in answer ≡ verdict_on request.dir tree (request_reading (expanded_by_rustc request.dir tree words)) → AsksFor (asks_of request.dir tree (request_reading (expanded_by_rustc request.dir tree words)).items) answer
+pub judged : (request : Request) (tree : Tree) (words : List Bytes) (decision : RustJudgement) (answer : CompilerArguments ParsedArguments) (parsed : ParsedArguments) → answer ≡ answers.Ok parsed → words ≡ request.words → is_text request ≡ true
+    → decision_of answer ≡ decision_on request.dir tree (request_reading (expanded_by_rustc request.dir tree words)) → AsksFor (asks_of request.dir tree (request_reading (expanded_by_rustc request.dir tree words)).items) answer
     → decision ≡ with_hazards (asks_in parsed) → decision ≡ rust_verdict_of request tree
 judged request tree words decision answer parsed ok same text said asked is =
-    let verdict : parsing.asks ≡ verdict_on request.dir tree (request_reading (expanded_by_rustc request.dir tree words)) = rw ok at said in
+    let verdict : parsing.asks ≡ decision_on request.dir tree (request_reading (expanded_by_rustc request.dir tree words)) = rw ok at said in
     let asks : asks_in parsed ≡ asks_of request.dir tree (request_reading (expanded_by_rustc request.dir tree words)).items = rw ok at asked in
-    let on : List Bytes → RustDecision = λ list. decided (verdict_on request.dir tree (request_reading (expanded_by_rustc request.dir tree list))) (asks_of request.dir tree (request_reading (expanded_by_rustc request.dir tree list)).items) in
+    let on : List Bytes → RustJudgement = λ list. decided (decision_on request.dir tree (request_reading (expanded_by_rustc request.dir tree list))) (asks_of request.dir tree (request_reading (expanded_by_rustc request.dir tree list)).items) in
     is ∙ (λ i. decided (verdict i) (asks i)) ∙ ap on same ∙ sym (ap (λ b. if b then decided_on request tree else not_text) text)

@@ -24,8 +24,8 @@ use Rattle.rustkeys.specs.Hashers.{known_of}
 use Rattle.wrap_base.specs.Commands.{CFound, NamedBy, by_c, by_rustc, named_by, words_at}
 use Rattle.wrap_keys.specs.CallRecords.{CallRecord, of_c, of_rustc}
 use Rattle.wrap_keys.specs.RustVerdicts as verdicts
-use Rattle.wrap_keys.specs.RustVerdicts.{RustDecision, rust_verdict_of}
-use Rattle.wrap_keys.specs.Verdicts.{Why, Decision, passes, asks, verdict_of}
+use Rattle.wrap_keys.specs.RustVerdicts.{RustJudgement, rust_verdict_of}
+use Rattle.wrap_keys.specs.Verdicts.{Why, Judgement, passes, asks, verdict_of}
 use Rattle.wrap_base.specs.declared.answer.Output.{Output}
 use Rattle.wrap_base.specs.declared.request.Request.{Request}
 
@@ -89,11 +89,11 @@ rust_work_at meaning call = record {
   dep_info = dep_info_text_of meaning call;
 }
 
-abbrev pub account_by : Meaning → Tree → Settings → CFound → Request → Decision → Account
+abbrev pub account_by : Meaning → Tree → Settings → CFound → Request → Judgement → Account
 account_by meaning tree settings found request (passes why) = passed why
 account_by meaning tree settings found request (asks p) = worked (work_at meaning (call_at found request tree settings p))
 
-abbrev pub rust_account_by : Meaning → Tree → Rustc → Request → RustDecision → Account
+abbrev pub rust_account_by : Meaning → Tree → Rustc → Request → RustJudgement → Account
 rust_account_by meaning tree rust request (verdicts.passes why) = passed why
 rust_account_by meaning tree rust request (verdicts.asks asked) = worked (rust_work_at meaning (rust_call_at rust request tree asked))
 

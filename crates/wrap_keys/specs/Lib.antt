@@ -6,5 +6,6 @@ pub mod StoreKeys
 pub mod Answers
 pub mod Turn
 pub mod Asking
+pub mod Whole
 pub mod Plans
 pub mod RustPlans

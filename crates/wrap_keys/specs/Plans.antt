@@ -7,16 +7,16 @@ use Rattle.cmdlines.specs.Parsing.{HasSafeInput, IsGivenByOption}
 use Rattle.cmdlines_tables.specs.Tables.{reading_of}
 use Rattle.ckeys_records.specs.Records.{hold_end}
 use Rattle.wrap_base.specs.Commands.{CFound, compile_command_of}
-use Rattle.wrap_keys.specs.Verdicts.{Decision, passes, asks, why_of, hashed_words}
+use Rattle.wrap_keys.specs.Verdicts.{Judgement, passes, asks, why_of, hashed_words}
 use Rattle.wrap_base.specs.declared.request.Request.{Request}
 use Rattle.wrap_keys.specs.declared.verdict.Plan.{Plan}
 use Rattle.wrap_keys.specs.declared.verdict.Verdict.{Verdict}
 use Rattle.wrap_keys.specs.declared.verdict.Verdict.TheVariants.{Passes, Asks}
 
 -- a verdict, without where its texts lie in memory and without its command
-abbrev pub decision_of : Verdict → Decision
-decision_of (Passes reason) = passes (why_of reason)
-decision_of (Asks plan) = asks plan.parsed
+abbrev pub judgement_of : Verdict → Judgement
+judgement_of (Passes reason) = passes (why_of reason)
+judgement_of (Asks plan) = asks plan.parsed
 
 -- The plan's compile command is that of the request, no hashed word holds the byte that ends one, and no word of its two commands makes the compiler open a file of words.
 pub record IsPlanOf (found : CFound) (request : Request) (plan : Plan) : Type 0 where

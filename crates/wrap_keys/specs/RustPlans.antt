@@ -5,15 +5,15 @@ use Rattle.cmdlines_base.specs.Reading.{begins_with_at}
 use Rattle.rustc_requests.specs.Asks.{asks_in}
 use Rattle.rustc_requests.specs.declared.parsed.ParsedArguments.{ParsedArguments}
 use Rattle.rustc_texts.specs.Words.{compile_words, dep_info_words, file_names_words}
-use Rattle.wrap_keys.specs.RustVerdicts.{RustDecision, asks, passes}
+use Rattle.wrap_keys.specs.RustVerdicts.{RustJudgement, asks, passes}
 use Rattle.wrap_keys.specs.Verdicts.{why_of}
 use Rattle.wrap_keys.specs.declared.rust_verdict.RustVerdict.{RustVerdict}
 use Rattle.wrap_keys.specs.declared.rust_verdict.RustVerdict.TheVariants.{Passes, Asks}
 
 -- a verdict, without where its texts and its flags lie in memory
-abbrev pub decision_of : RustVerdict → RustDecision
-decision_of (Passes reason) = passes (why_of reason)
-decision_of (Asks parsed) = asks (asks_in parsed)
+abbrev pub judgement_of : RustVerdict → RustJudgement
+judgement_of (Passes reason) = passes (why_of reason)
+judgement_of (Asks parsed) = asks (asks_in parsed)
 
 -- no word of the commands that are run for it makes rustc open a file of words
 pub record OpensNothing (parsed : ParsedArguments) : Type 0 where

@@ -8,16 +8,16 @@ use Rattle.cmdlines_base.specs.Reading.{begins_with_at}
 use Rattle.rustkeys_base.specs.Asks.{asks_of}
 use Rattle.rustc_requests.specs.Asks.{RustAsks}
 use Rattle.rustkeys_base.specs.Expansion.{expanded_by_rustc}
-use Rattle.rustkeys_base.specs.Verdict as parsing
-use Rattle.rustkeys_base.specs.Verdict.{request_reading, verdict_on}
+use Rattle.rustkeys_base.specs.Parsing as parsing
+use Rattle.rustkeys_base.specs.Parsing.{request_reading, decision_on}
 use Rattle.rustc_texts.specs.Words.{compile_words}
 use Rattle.wrap_keys.specs.Verdicts.{Why, cannot_cache, not_compilation, not_utf8, opens_a_file, profile_data}
 use Rattle.wrap_base.specs.declared.request.Request.{Request}
 
 -- a request is passed through, or it asks for this
-pub data RustDecision : Type 0 where
-  passes : Why → RustDecision
-  asks : RustAsks → RustDecision
+pub data RustJudgement : Type 0 where
+  passes : Why → RustJudgement
+  asks : RustAsks → RustJudgement
 
 -- the name and the value of a variable are UTF-8
 abbrev pub is_text_variable : Bytes × Bytes → Bool
@@ -31,25 +31,25 @@ is_text request = list_all is_utf8 request.words && (is_utf8 request.dir && list
 abbrev pub opens_words : RustAsks → Bool
 opens_words asked = list_any begins_with_at (compile_words asked)
 
-abbrev pub with_hazards : RustAsks → RustDecision
+abbrev pub with_hazards : RustAsks → RustJudgement
 with_hazards asked = if opens_words asked then passes opens_a_file else (if is_some asked.profile_use then passes profile_data else asks asked)
 
 -- what words of that verdict come to, which ask for this if for anything
-abbrev pub decided : parsing.Verdict → RustAsks → RustDecision
+abbrev pub decided : parsing.Decision → RustAsks → RustJudgement
 decided parsing.asks asked = with_hazards asked
 decided parsing.not_compilation asked = passes not_compilation
 decided (parsing.cannot_cache reason more) asked = passes (cannot_cache reason more)
 
 -- its words, read with the files of words opened that they name
-abbrev pub decided_on : Request → Tree → RustDecision
+abbrev pub decided_on : Request → Tree → RustJudgement
 decided_on request tree =
     let reading = request_reading (expanded_by_rustc request.dir tree request.words) in
-    decided (verdict_on request.dir tree reading) (asks_of request.dir tree reading.items)
+    decided (decision_on request.dir tree reading) (asks_of request.dir tree reading.items)
 
 -- what isn't UTF-8 is passed through
-abbrev pub not_text : RustDecision
+abbrev pub not_text : RustJudgement
 not_text = passes not_utf8
 
 -- the verdict on a request to rustc
-abbrev pub rust_verdict_of : Request → Tree → RustDecision
+abbrev pub rust_verdict_of : Request → Tree → RustJudgement
 rust_verdict_of request tree = if is_text request then decided_on request tree else not_text

@@ -33,9 +33,9 @@ why_of NotUtf8 = not_utf8
 why_of ProfileData = profile_data
 
 -- a request is passed through, or it asks for this
-pub data Decision : Type 0 where
-  passes : Why → Decision
-  asks : ParsedArguments → Decision
+pub data Judgement : Type 0 where
+  passes : Why → Judgement
+  asks : ParsedArguments → Judgement
 
 -- a word of one of its commands would make the compiler open a file of words
 abbrev pub commands_open_file : CCompilerKind → ParsedArguments → Bool
@@ -46,11 +46,11 @@ abbrev pub hashed_words : ParsedArguments → List Bytes
 hashed_words p = p.common_args ++ p.arch_args
 
 -- The hazards: an option whose value may stand either way has an empty one, or a word of a command would open a file, or a hashed word holds the byte that ends one.
-abbrev pub with_hazards : CCompilerKind → parsing.Decision → Decision
+abbrev pub with_hazards : CCompilerKind → parsing.Decision → Judgement
 with_hazards kind parsing.not_compilation = passes not_compilation
 with_hazards kind (parsing.cannot_cache reason more) = passes (cannot_cache reason more)
 with_hazards kind (parsing.asks p) = if p.empty_value then passes empty_value else (if commands_open_file kind p then passes opens_a_file else (if hold_end (hashed_words p) then passes byte_255 else asks p))
 
 -- the verdict on words of that compiler, whose files are opened
-abbrev pub verdict_of : CCompilerKind → List Bytes → Decision
+abbrev pub verdict_of : CCompilerKind → List Bytes → Judgement
 verdict_of kind words = with_hazards kind (parse_of kind words)

@@ -6,7 +6,7 @@ ghost use Rattle.std.specs.Str.{is_utf8};
 ghost use Rattle.os_files.specs.Views.{FilesFail};
 ghost use Rattle.rustc_requests.specs.Asks.{asks_in};
 ghost use Rattle.wrap_keys.specs.Answers.{EarlyCause};
-ghost use Rattle.wrap_keys.specs.RustPlans.{OnAsks, OpensNothing, decision_of};
+ghost use Rattle.wrap_keys.specs.RustPlans.{OnAsks, OpensNothing, judgement_of};
 ghost use Rattle.wrap_keys.specs.RustVerdicts.{is_text, is_text_variable, opens_words, rust_verdict_of, with_hazards};
 ghost use Rattle.ckeys_records.specs.Causes.{HasOwnFault};
 
@@ -81,7 +81,7 @@ fn opens_words(alloc: Global, parsed: &ParsedArguments) -> Result<bool, AllocErr
 /// The verdict on a request that asks for this: it names a file of words, or it uses a profile.
 fn after_hazards(alloc: Global, parsed: ParsedArguments) -> Result<RustVerdict, AllocError>
     ensures verdict { IfOk result
-        (λ verdict. decision_of verdict ≡ with_hazards (asks_in parsed)) }
+        (λ verdict. judgement_of verdict ≡ with_hazards (asks_in parsed)) }
     ensures opens { IfOk result (λ verdict. OnAsks verdict OpensNothing) }
 {
     // A law, which costs nothing: what follows from it is said above.
@@ -104,7 +104,7 @@ pub fn judge_rust<F: Files>(
     files: &mut F,
 ) -> Result<RustVerdict, Fault>
     ensures verdict { IfOk result
-        (λ verdict. decision_of verdict ≡ rust_verdict_of request.now (F.tree files.old)) }
+        (λ verdict. judgement_of verdict ≡ rust_verdict_of request.now (F.tree files.old)) }
     // None of the commands of what is asked for makes rustc open a file of words.
     ensures opens { IfOk result (λ verdict. OnAsks verdict OpensNothing) }
     ensures untouched { is_text request.now ≡ false → files.new ≡ files.old }

@@ -9,7 +9,7 @@ ghost use Rattle.cmdlines.specs.ReadBack.{ReadsAsCompile};
 ghost use Rattle.wrap_base.specs.Commands.{compile_command_of, found_of, kind_of, words_at};
 ghost use Rattle.wrap_keys.specs.Answers.{EarlyCause};
 ghost use Rattle.wrap_keys.specs.Verdicts.{with_hazards, verdict_of};
-ghost use Rattle.wrap_keys.specs.Plans.{decision_of, IsPlanOf, IsReadAgain, IsReadAgainUnlessGiven, IsReadAgainWhereSafe, OnAsks};
+ghost use Rattle.wrap_keys.specs.Plans.{judgement_of, IsPlanOf, IsReadAgain, IsReadAgainUnlessGiven, IsReadAgainWhereSafe, OnAsks};
 ghost use Rattle.ckeys_records.specs.Causes.{HasOwnFault};
 
 use ckeys::compiler_impl::CCompilerImpl;
@@ -74,7 +74,7 @@ fn after_hazards(
 ) -> Result<Verdict, AllocError>
     requires object { is_some (object_path parsed) ≡ true }
     ensures verdict { IfOk result
-        (λ verdict. decision_of verdict
+        (λ verdict. judgement_of verdict
         ≡ with_hazards (kind_of compiler.entry) (parsing.asks parsed)) }
     ensures plan { IfOk result
         (λ verdict. OnAsks verdict (IsPlanOf (found_of compiler.entry) request.now)) }
@@ -113,7 +113,7 @@ pub fn judge<F: Files>(
     files: &mut F,
 ) -> Result<Verdict, Fault>
     ensures verdict { let found = found_of compiler.entry in IfOk result
-        (λ verdict. decision_of verdict
+        (λ verdict. judgement_of verdict
         ≡ verdict_of found.kind (words_at found request.now (F.tree files.old))) }
     // The commands are those of the request, and its compiler reads them again as what was wanted, unless an option of Msvc gave an
     // input that can't stand where it's written.

@@ -7,7 +7,7 @@ use Rattle.ckeys_records.specs.Meaning.{FailsIn}
 use Rattle.rustc_requests.specs.Asks.{asks_in}
 use Rattle.wrap_keys.specs.Account.{Account, Work, rust_account_by, rust_call_at, rust_work_at}
 use Rattle.wrap_keys.specs.Asking.{RunsOf}
-use Rattle.wrap_keys.specs.RustVerdicts.{RustDecision, asks, rust_verdict_of}
+use Rattle.wrap_keys.specs.RustVerdicts.{RustJudgement, asks, rust_verdict_of}
 use Rattle.wrap_keys.proofs.KeyLemmas.{fails_on_later}
 use Rattle.wrap_keys.proofs.RunLemmas.{asked_until, early_ran}
 use Rattle.fingerprints.specs.Telling.{Tells}
@@ -30,12 +30,12 @@ returns-in_err-made-in-Asks-clause-tells g c =
     let work_on : Tree → Work = λ files. rust_work_at (meaning c.args.tool.now) (rust_call_at c.args.rust.now request files asked) in
     let before : (name : Bytes) → on_mid name → on_old name = fails_on_later tree g.F.Files.failed g.F.Files.fails_on c.args.files.now c.judge_rust.new.files c.rust_fingerprint.new.files c.in_ok-reason.ensures.tree c.in_ok-reason.ensures.steady in
     let decided : asks asked ≡ rust_verdict_of request (tree c.args.files.now) = rw c.in-Asks.is at c.in_ok-reason.ensures.verdict in
-    let account : RustDecision → Account = rust_account_by (meaning c.args.tool.now) (tree c.args.files.now) c.args.rust.now request in
+    let account : RustJudgement → Account = rust_account_by (meaning c.args.tool.now) (tree c.args.files.now) c.args.rust.now request in
     let fault = c.in_err-made-in-Asks.field-0.0 in
     let early : KeyCause (work_on (tree c.judge_rust.new.files)).fault on_old device fault = key_later (work_on (tree c.judge_rust.new.files)) on_mid on_old device before fault c.in_err-made-in-Asks.ensures.cause in
     let moved : KeyCause (work_on (tree c.args.files.now)).fault on_old device fault = subst (λ (t : Tree). KeyCause (work_on t).fault on_old device fault) c.in_ok-reason.ensures.tree early in
     let told = c.from_residual-in_err-made-in-Asks.result in
-    subst (λ (d : RustDecision). Tells digest_of (account d) on_old device told) decided (fault_tells digest_of (work_on (tree c.args.files.now)) on_old device fault moved told c.from_residual-in_err-made-in-Asks.ensures.1)
+    subst (λ (d : RustJudgement). Tells digest_of (account d) on_old device told) decided (fault_tells digest_of (work_on (tree c.args.files.now)) on_old device fault moved told c.from_residual-in_err-made-in-Asks.ensures.1)
 
 pub returns-in_err-reason-clause-runs : goal.returns-in_err-reason-clause-runs
 returns-in_err-reason-clause-runs g c =
@@ -47,8 +47,8 @@ returns-in_err-made-in-Asks-clause-runs g c =
     let tree = g.F.Files.tree in
     let request = c.args.request.now in
     let decided : asks (asks_in c.in-Asks.parsed) ≡ rust_verdict_of request (tree c.args.files.now) = rw c.in-Asks.is at c.in_ok-reason.ensures.verdict in
-    let account : RustDecision → Account = rust_account_by (g.T.Preprocessor.meaning c.args.tool.now) (tree c.args.files.now) c.args.rust.now request in
+    let account : RustJudgement → Account = rust_account_by (g.T.Preprocessor.meaning c.args.tool.now) (tree c.args.files.now) c.args.rust.now request in
     let before = g.T.Preprocessor.preprocessed c.args.tool.now in
     let after = g.T.Preprocessor.preprocessed c.rust_fingerprint.new.tool in
     let told = c.from_residual-in_err-made-in-Asks.result in
-    subst (λ (d : RustDecision). RunsOf (account d) false told before after) decided (asked_until told c.in_err-made-in-Asks.field-0.0 before after c.from_residual-in_err-made-in-Asks.ensures.1 c.rust_fingerprint.ensures.twice)
+    subst (λ (d : RustJudgement). RunsOf (account d) false told before after) decided (asked_until told c.in_err-made-in-Asks.field-0.0 before after c.from_residual-in_err-made-in-Asks.ensures.1 c.rust_fingerprint.ensures.twice)

@@ -4,7 +4,7 @@ use Rattle.rustkeys_base.proofs.DeciderLaws.{asks_for, first_decides, none_decid
 use Rattle.rustkeys_base.proofs.laws.first_that_decides_does.Goals as goal
 
 pub returns-clause-item : goal.returns-clause-item
-returns-clause-item c = λ dir files earlier later item cut verdict nones decided. first_decides dir files earlier later item cut verdict nones decided
+returns-clause-item c = λ dir files earlier later item cut decision nones decided. first_decides dir files earlier later item cut decision nones decided
 
 pub returns-clause-cut_short : goal.returns-clause-cut_short
 returns-clause-cut_short c = λ dir files items nones. none_decides dir files items true nones

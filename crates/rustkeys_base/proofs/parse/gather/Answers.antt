@@ -11,11 +11,11 @@ use Rattle.rustc_options.specs.declared.kind.ArgKind.{ArgKind}
 use Rattle.rustkeys_base.specs.Facts.{facts_with}
 use Rattle.rustkeys_base.specs.Requests.{IsArgument, wanted}
 use Rattle.rustkeys_base.specs.Saying.{token_of}
-use Rattle.rustkeys_base.specs.Verdict.{decides, verdict_of}
+use Rattle.rustkeys_base.specs.Parsing.{decides, decision_of_refusal}
 use Rattle.rustkeys_base.proofs.CauseLemmas.{cause-later}
 use Rattle.rustkeys_base.proofs.FactLemmas.{facts-more, facts-none}
 use Rattle.rustkeys_base.proofs.ItemLemmas.{Continues, continues-more, token_is}
-use Rattle.rustkeys_base.proofs.VerdictLemmas.{nothing_is, verdict_at, verdict-more}
+use Rattle.rustkeys_base.proofs.ParsingLemmas.{nothing_is, decision_at, decision-more}
 use Rattle.rustkeys_base.proofs.parse.gather.Goals as goal
 
 pub returns-in_err-why-in-Ok-clause-cause : goal.returns-in_err-why-in-Ok-clause-cause
@@ -35,11 +35,11 @@ loop-next-preserved g c =
     let none = nothing_is c.in_ok-why-in-Ok.why c.if-is_some.ensures in
     let token = token_is step.item argument step.is in
     let nothing : decides dir tree f (token_of step.item) ≡ None =
-    ap (λ t. decides dir t f (token_of step.item)) (sym inv.tree) ∙ ap (decides dir (g.F.Files.tree c.loop-next.files) f) (sym token) ∙ sym c.in_ok-why-in-Ok.ensures.decides ∙ ap (option_map verdict_of) none in
+    ap (λ t. decides dir t f (token_of step.item)) (sym inv.tree) ∙ ap (decides dir (g.F.Files.tree c.loop-next.files) f) (sym token) ∙ sym c.in_ok-why-in-Ok.ensures.decides ∙ ap (option_map decision_of_refusal) none in
     let noted : c.take.new.facts ≡ facts_with f (token_of step.item ∷ []) = (rw none at c.in_ok-why-in-Ok.ensures.noted) ∙ ap (λ t. facts_with f (t ∷ [])) token in
     record {
       table = steps.1 ∙ inv.table;
-      verdict = ap (λ h. verdict_at dir tree h left) noted ∙ sym (verdict-more dir tree f step.item left (ap is_some step.accepted) nothing) ∙ ap (verdict_at dir tree f) (sym step.reads) ∙ inv.verdict;
+      decision = ap (λ h. decision_at dir tree h left) noted ∙ sym (decision-more dir tree f step.item left (ap is_some step.accepted) nothing) ∙ ap (decision_at dir tree f) (sym step.reads) ∙ inv.decision;
       facts = ap (λ h. facts_with h (map token_of left.items)) noted ∙ facts-more f (token_of step.item) (map token_of left.items) ∙ ap (λ (r : Reading ArgKind). facts_with f (map token_of r.items)) (sym step.reads) ∙ inv.facts;
       kept = continues-more step.item left.items all.items argument c.loop-next.kept c.take.new.kept step.is (rw none at c.in_ok-why-in-Ok.ensures.kept) (subst (λ (r : Reading ArgKind). Continues r.items c.loop-next.kept all.items) step.reads inv.kept);
       tree = c.in_ok-why-in-Ok.ensures.tree ∙ inv.tree;
@@ -55,7 +55,7 @@ returns-clause-gathered g c =
     let f = c.loop-next.facts in
     let all = rustc_reading c.args.words.now in
     let stands = subst (λ (r : Reading ArgKind). Continues r.items c.loop-next.kept all.items) steps.0.0 inv.kept [] tt in (
-      ap (verdict_at dir tree f) (sym steps.0.0) ∙ inv.verdict,
+      ap (decision_at dir tree f) (sym steps.0.0) ∙ inv.decision,
       sym (facts-none f) ∙ ap (λ (r : Reading ArgKind). facts_with f (map token_of r.items)) (sym steps.0.0) ∙ inv.facts,
       subst (λ (l : List (Argument ArgData)). AllZip IsArgument (wanted all.items) l) (append-nil c.loop-next.kept) stands,
     )

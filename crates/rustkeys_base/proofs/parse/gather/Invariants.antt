@@ -3,9 +3,9 @@ use Rattle.cmdlines_base.specs.Cutting.{place_of, reading_at, table_in}
 use Rattle.rustc_options.specs.Table.{rustc_entries, rustc_reading}
 use Rattle.rustkeys_base.specs.Facts.{facts_of, facts_with}
 use Rattle.rustkeys_base.specs.Saying.{token_of}
-use Rattle.rustkeys_base.specs.Verdict.{verdict_on}
+use Rattle.rustkeys_base.specs.Parsing.{decision_on}
 use Rattle.rustkeys_base.proofs.ItemLemmas.{Continues}
-use Rattle.rustkeys_base.proofs.VerdictLemmas.{verdict_at}
+use Rattle.rustkeys_base.proofs.ParsingLemmas.{decision_at}
 use Rattle.rustkeys_base.proofs.parse.gather.Given as goal
 
 -- what is known and the words that are left come to what all words come to
@@ -16,7 +16,7 @@ invariant-loop-next g l =
     let all = rustc_reading l.fn.words in
     record {
       table : table_in l.arguments ≡ rustc_entries ∷ [];
-      verdict : verdict_at l.fn.dir tree l.facts left ≡ verdict_on l.fn.dir tree all;
+      decision : decision_at l.fn.dir tree l.facts left ≡ decision_on l.fn.dir tree all;
       facts : facts_with l.facts (map token_of left.items) ≡ facts_of (map token_of all.items);
       kept : Continues left.items l.kept all.items;
       tree : g.F.Files.tree l.files ≡ tree;

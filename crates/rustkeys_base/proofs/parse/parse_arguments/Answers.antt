@@ -1,6 +1,6 @@
 use Rattle.std.proofs.lemmas.Result.{IfOk-weaker}
 use Rattle.rustkeys_base.specs.Expansion.{expanded_by_rustc}
-use Rattle.rustkeys_base.specs.Verdict.{request_reading}
+use Rattle.rustkeys_base.specs.Parsing.{request_reading}
 use Rattle.rustkeys_base.proofs.AskLemmas.{asks-from}
 use Rattle.rustkeys_base.proofs.parse.parse_arguments.Goals as goal
 

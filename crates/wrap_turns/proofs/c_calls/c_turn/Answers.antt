@@ -8,7 +8,7 @@ use Rattle.wrap_keys.specs.Answers.{GoesOn, Says, SaysBy, SaysWorked, SaysWorked
 use Rattle.wrap_keys.specs.Asking.{RecordsAreTrue}
 use Rattle.wrap_base.specs.Commands.{by_c, found_of, words_at}
 use Rattle.wrap_keys.specs.Turn.{own_text_key}
-use Rattle.wrap_keys.specs.Verdicts.{Decision, asks, verdict_of}
+use Rattle.wrap_keys.specs.Verdicts.{Judgement, asks, verdict_of}
 use Rattle.wrap_keys.proofs.KeyLemmas.{fails_on_later}
 use Rattle.wrap_base.specs.declared.answer.Answer.{Answer}
 use Rattle.wrap_keys.proofs.RunLemmas.{early_runs}
@@ -47,11 +47,11 @@ returns-in-Asks-clause-says g c =
     let work_on : Tree → Work = λ files. work_at (meaning c.args.tool.now) (call_at found request files c.args.config.now c.in-Asks.plan.parsed) in
     let before : (name : Bytes) → on_mid name → on_old name = fails_on_later tree g.F.Files.failed g.F.Files.fails_on c.args.files.now c.judge.new.files c.answer.new.files c.in_ok-reason.ensures.tree c.in_ok-reason.ensures.steady in
     let decided : asks c.in-Asks.plan.parsed ≡ verdict_of found.kind (words_at found request (tree c.args.files.now)) = rw c.in-Asks.is at c.in_ok-reason.ensures.verdict in
-    let account : Decision → Account = account_by (meaning c.args.tool.now) (tree c.args.files.now) c.args.config.now found request in
+    let account : Judgement → Account = account_by (meaning c.args.tool.now) (tree c.args.files.now) c.args.config.now found request in
     let early = work_on (tree c.judge.new.files) in
     let later : SaysWorkedBy (GoesOn early) early on_old device result = says_later (GoesOn early) early on_mid on_old device before result c.answer.ensures.says in
     let moved : SaysBy GoesOn (account (asks c.in-Asks.plan.parsed)) on_old device result = subst (λ (t : Tree). SaysWorkedBy (GoesOn (work_on t)) (work_on t) on_old device result) c.in_ok-reason.ensures.tree later in
-    subst (λ (d : Decision). SaysBy GoesOn (account d) on_old device result) decided moved
+    subst (λ (d : Judgement). SaysBy GoesOn (account d) on_old device result) decided moved
 
 pub returns-in-Asks-clause-goes_on : goal.returns-in-Asks-clause-goes_on
 returns-in-Asks-clause-goes_on g c =
@@ -66,11 +66,11 @@ returns-in-Asks-clause-goes_on g c =
     let work_on : Tree → Work = λ files. work_at (meaning c.args.tool.now) (call_at found request files c.args.config.now c.in-Asks.plan.parsed) in
     let before : (name : Bytes) → on_mid name → on_old name = fails_on_later tree g.F.Files.failed g.F.Files.fails_on c.args.files.now c.judge.new.files c.answer.new.files c.in_ok-reason.ensures.tree c.in_ok-reason.ensures.steady in
     let decided : asks c.in-Asks.plan.parsed ≡ verdict_of found.kind (words_at found request (tree c.args.files.now)) = rw c.in-Asks.is at c.in_ok-reason.ensures.verdict in
-    let account : Decision → Account = account_by (meaning c.args.tool.now) (tree c.args.files.now) c.args.config.now found request in
+    let account : Judgement → Account = account_by (meaning c.args.tool.now) (tree c.args.files.now) c.args.config.now found request in
     let digest_of = g.H.HashState.digest_of in
     let early = work_on (tree c.judge.new.files) in
     let held = (g.E.Store.shelf c.args.entries.now).held in
     let said : Work → Type 0 = λ w. RecordsAreTrue digest_of (worked w) held → SaysWorked w on_old device result in
     let later : said early = λ are_true. says_later (early.fault ≡ None) early on_mid on_old device before result (c.answer.ensures.goes_on are_true) in
     let moved : said (work_on (tree c.args.files.now)) = subst (λ (t : Tree). said (work_on t)) c.in_ok-reason.ensures.tree later in
-    subst (λ (d : Decision). RecordsAreTrue digest_of (account d) held → Says (account d) on_old device result) decided moved
+    subst (λ (d : Judgement). RecordsAreTrue digest_of (account d) held → Says (account d) on_old device result) decided moved

@@ -7,7 +7,7 @@ use Rattle.rustc_requests.specs.Asks.{asks_in}
 use Rattle.wrap_keys.specs.Account.{Account, Work, rust_account_by, rust_call_at, rust_work_at, worked}
 use Rattle.wrap_keys.specs.Answers.{Says, SaysWorked}
 use Rattle.wrap_keys.specs.Asking.{RunsOf}
-use Rattle.wrap_keys.specs.RustVerdicts.{RustDecision, asks, rust_verdict_of}
+use Rattle.wrap_keys.specs.RustVerdicts.{RustJudgement, asks, rust_verdict_of}
 use Rattle.wrap_keys.specs.Turn.{StoreTurn, own_text_key}
 use Rattle.wrap_keys.proofs.KeyLemmas.{fails_on_later}
 use Rattle.wrap_keys.proofs.RunLemmas.{early_ran}
@@ -41,11 +41,11 @@ returns-in-Asks-clause-says g c =
     let work_on : Tree → Work = λ files. rust_work_at (meaning c.args.tool.now) (rust_call_at c.args.rust.now request files (asks_in c.in-Asks.parsed)) in
     let before : (name : Bytes) → on_mid name → on_old name = fails_on_later tree g.F.Files.failed g.F.Files.fails_on c.args.files.now c.judge_rust.new.files c.rust_answer.new.files c.in_ok-reason.ensures.tree c.in_ok-reason.ensures.steady in
     let decided : asks (asks_in c.in-Asks.parsed) ≡ rust_verdict_of request (tree c.args.files.now) = rw c.in-Asks.is at c.in_ok-reason.ensures.verdict in
-    let account : RustDecision → Account = rust_account_by (meaning c.args.tool.now) (tree c.args.files.now) c.args.rust.now request in
+    let account : RustJudgement → Account = rust_account_by (meaning c.args.tool.now) (tree c.args.files.now) c.args.rust.now request in
     let early = work_on (tree c.judge_rust.new.files) in
     let later : SaysWorked early on_old device result = says_later (early.fault ≡ None) early on_mid on_old device before result c.rust_answer.ensures.says in
     let moved : Says (account (asks (asks_in c.in-Asks.parsed))) on_old device result = subst (λ (t : Tree). SaysWorked (work_on t) on_old device result) c.in_ok-reason.ensures.tree later in
-    subst (λ (d : RustDecision). Says (account d) on_old device result) decided moved
+    subst (λ (d : RustJudgement). Says (account d) on_old device result) decided moved
 
 pub returns-in-Asks-clause-store : goal.returns-in-Asks-clause-store
 returns-in-Asks-clause-store g c =
@@ -55,10 +55,10 @@ returns-in-Asks-clause-store g c =
     let request = c.args.request.now in
     let work_on : Tree → Work = λ files. rust_work_at (meaning c.args.tool.now) (rust_call_at c.args.rust.now request files (asks_in c.in-Asks.parsed)) in
     let decided : asks (asks_in c.in-Asks.parsed) ≡ rust_verdict_of request (tree c.args.files.now) = rw c.in-Asks.is at c.in_ok-reason.ensures.verdict in
-    let account : RustDecision → Account = rust_account_by (meaning c.args.tool.now) (tree c.args.files.now) c.args.rust.now request in
+    let account : RustJudgement → Account = rust_account_by (meaning c.args.tool.now) (tree c.args.files.now) c.args.rust.now request in
     let turned : Account → Type 0 = λ a. StoreTurn digest_of a (g.O.Store.shelf c.args.objects.now) (g.O.Store.shelf c.rust_answer.new.objects) (g.T.Preprocessor.compiled c.args.tool.now) (g.T.Preprocessor.compiled c.rust_answer.new.tool) c.rust_answer.result in
     let moved : turned (account (asks (asks_in c.in-Asks.parsed))) = subst (λ (t : Tree). turned (worked (work_on t))) c.in_ok-reason.ensures.tree c.rust_answer.ensures.store in
-    subst (λ (d : RustDecision). turned (account d)) decided moved
+    subst (λ (d : RustJudgement). turned (account d)) decided moved
 
 pub returns-in-Asks-clause-runs : goal.returns-in-Asks-clause-runs
 returns-in-Asks-clause-runs g c =
@@ -66,5 +66,5 @@ returns-in-Asks-clause-runs g c =
     let meaning = g.T.Preprocessor.meaning in
     let request = c.args.request.now in
     let decided : asks (asks_in c.in-Asks.parsed) ≡ rust_verdict_of request (tree c.args.files.now) = rw c.in-Asks.is at c.in_ok-reason.ensures.verdict in
-    let account : RustDecision → Account = rust_account_by (meaning c.args.tool.now) (tree c.args.files.now) c.args.rust.now request in
-    subst (λ (d : RustDecision). RunsOf (account d) false c.rust_answer.result (g.T.Preprocessor.preprocessed c.args.tool.now) (g.T.Preprocessor.preprocessed c.rust_answer.new.tool)) decided c.rust_answer.ensures.runs
+    let account : RustJudgement → Account = rust_account_by (meaning c.args.tool.now) (tree c.args.files.now) c.args.rust.now request in
+    subst (λ (d : RustJudgement). RunsOf (account d) false c.rust_answer.result (g.T.Preprocessor.preprocessed c.args.tool.now) (g.T.Preprocessor.preprocessed c.rust_answer.new.tool)) decided c.rust_answer.ensures.runs

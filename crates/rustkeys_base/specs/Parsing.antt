@@ -27,20 +27,20 @@ use Rattle.rustkeys_base.specs.declared.facts.Facts.{Facts}
 use Rattle.rustc_requests.specs.declared.parsed.ParsedArguments.{ParsedArguments}
 
 -- the words ask for what can be cached, or don't compile, or can't be cached for a reason, with more text or none
-pub data Verdict : Type 0 where
-  asks : Verdict
-  not_compilation : Verdict
-  cannot_cache : Bytes → Option Bytes → Verdict
+pub data Decision : Type 0 where
+  asks : Decision
+  not_compilation : Decision
+  cannot_cache : Bytes → Option Bytes → Decision
 
 -- an answer, without what is asked for and without where its texts lie in memory
-abbrev pub verdict_in : CompilerArguments ParsedArguments → Verdict
-verdict_in (answers.Ok parsed) = asks
-verdict_in answers.NotCompilation = not_compilation
-verdict_in (answers.CannotCache reason more) = cannot_cache reason.now (option_map string_bytes more)
+abbrev pub decision_of : CompilerArguments ParsedArguments → Decision
+decision_of (answers.Ok parsed) = asks
+decision_of answers.NotCompilation = not_compilation
+decision_of (answers.CannotCache reason more) = cannot_cache reason.now (option_map string_bytes more)
 
-abbrev pub verdict_of : Refusal → Verdict
-verdict_of refusals.NotCompilation = not_compilation
-verdict_of (refusals.CannotCache reason more) = cannot_cache reason.now (option_map string_bytes more)
+abbrev pub decision_of_refusal : Refusal → Decision
+decision_of_refusal refusals.NotCompilation = not_compilation
+decision_of_refusal (refusals.CannotCache reason more) = cannot_cache reason.now (option_map string_bytes more)
 
 -- the answer isn't one that asks for something
 abbrev pub AsksNothing : CompilerArguments ParsedArguments → Type 0
@@ -49,21 +49,21 @@ AsksNothing answers.NotCompilation = Unit {0}
 AsksNothing (answers.CannotCache reason more) = Unit {0}
 
 -- refused for this reason, with no more text
-abbrev pub refused : Bytes → Verdict
+abbrev pub refused : Bytes → Decision
 refused reason = cannot_cache reason None
 
 -- Each item by itself, after what is known of those before it.
 -- a second input: both are told, as text
-abbrev pub second_input : Bytes → Bytes → Verdict
+abbrev pub second_input : Bytes → Bytes → Decision
 second_input previous next = cannot_cache (codes "multiple input files") (Some (codes "prev = " ++ (utf8_lossy previous ++ (codes ", next = " ++ utf8_lossy next))))
 
 -- crates of other types than `lib`, `rlib` and `staticlib`
-abbrev pub other_types : List Bytes → Option Verdict
+abbrev pub other_types : List Bytes → Option Decision
 other_types [] = None
 other_types (name ∷ names) = Some (cannot_cache (codes "crate-type") (Some (utf8_lossy (joined_by_commas (name ∷ names)))))
 
 -- `incremental`, and `extra-filename` without a value
-abbrev pub codegen_decides : Bytes → Option Bytes → Option Verdict
+abbrev pub codegen_decides : Bytes → Option Bytes → Option Decision
 codegen_decides opt value =
     if bytes_eq opt (codes "incremental") then Some (refused (codes "incremental"))
     else if bytes_eq opt (codes "extra-filename") && not (is_some value) then Some (refused (codes "extra-filename"))
@@ -76,7 +76,7 @@ is_unsure dir files (targets.Path path) = false
 is_unsure dir files (targets.Unsure word) = true
 
 -- an option with what it says
-abbrev pub option_decides : Bytes → Tree → Facts → Bytes → ArgData → Option Verdict
+abbrev pub option_decides : Bytes → Tree → Facts → Bytes → ArgData → Option Decision
 option_decides dir files so_far flag values.TooHardFlag = Some (refused flag)
 option_decides dir files so_far flag (values.TooHardPath path) = Some (refused flag)
 option_decides dir files so_far flag values.NotCompilationFlag = Some not_compilation
@@ -87,7 +87,7 @@ option_decides dir files so_far flag (values.CodeGen o) = codegen_decides o.opt 
 option_decides dir files so_far flag (values.Target target) = if is_unsure dir files target then Some (refused (codes "target unsure")) else None
 option_decides dir files so_far flag _ = None
 
-abbrev pub decides : Bytes → Tree → Facts → Token → Option Verdict
+abbrev pub decides : Bytes → Tree → Facts → Token → Option Decision
 decides dir files so_far (loose word) = option_map (λ previous. second_input previous word) so_far.input
 decides dir files so_far (says flag value) = option_decides dir files so_far flag value
 decides dir files so_far unread = None
@@ -107,7 +107,7 @@ abbrev pub is_unsupported : Bytes → Bool
 is_unsupported kind = not (is_supported kind)
 
 -- the words that a request needs, and then the rules on what is emitted and of which type
-abbrev pub closing : Facts → Verdict
+abbrev pub closing : Facts → Decision
 closing f =
     if not (is_some f.input) then refused (codes "missing input")
     else if not (is_some f.output_dir) then refused (codes "missing output_dir")
@@ -118,23 +118,23 @@ closing f =
     else if list_any is_unsupported (emitted f) then refused (codes "unsupported --emit")
     else asks
 
-abbrev pub not_parsed : Verdict
+abbrev pub not_parsed : Decision
 not_parsed = refused (codes "argument parse")
 
 -- whether the item's value is refused
 abbrev pub is_misread : Item ArgKind → Bool
 is_misread item = is_some (refusal_of (values_by IsFlagValue IsWordValue refusal) item)
 
-abbrev pub unless_decided : Option Verdict → Verdict → Verdict
+abbrev pub unless_decided : Option Decision → Decision → Decision
 unless_decided None later = later
-unless_decided (Some verdict) later = verdict
+unless_decided (Some decision) later = decision
 
 -- The first item that decides does; else words that are cut short do; else the closing rules.
-abbrev pub verdict_from : Bytes → Tree → Facts → List (Item ArgKind) → Bool → Verdict
-verdict_from dir files so_far [] cut_short = if cut_short then not_parsed else closing so_far
-verdict_from dir files so_far (item ∷ items) cut_short =
+abbrev pub decision_from : Bytes → Tree → Facts → List (Item ArgKind) → Bool → Decision
+decision_from dir files so_far [] cut_short = if cut_short then not_parsed else closing so_far
+decision_from dir files so_far (item ∷ items) cut_short =
     if is_misread item then not_parsed
-    else unless_decided (decides dir files so_far (token_of item)) (verdict_from dir files (facts_with so_far (token_of item ∷ [])) items cut_short)
+    else unless_decided (decides dir files so_far (token_of item)) (decision_from dir files (facts_with so_far (token_of item ∷ [])) items cut_short)
 
 -- A first word `rustc`, which a wrapper leaves there, is none of the request's.
 abbrev pub behind_rustc : List Bytes → List Bytes
@@ -145,5 +145,5 @@ behind_rustc (word ∷ words) = if bytes_eq word (codes "rustc") then words else
 abbrev pub request_reading : List Bytes → Reading ArgKind
 request_reading words = rustc_reading (behind_rustc words)
 
-abbrev pub verdict_on : Bytes → Tree → Reading ArgKind → Verdict
-verdict_on dir files r = verdict_from dir files no_facts r.items r.cut_short
+abbrev pub decision_on : Bytes → Tree → Reading ArgKind → Decision
+decision_on dir files r = decision_from dir files no_facts r.items r.cut_short

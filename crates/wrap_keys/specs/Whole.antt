@@ -129,7 +129,7 @@ served (b ∷ begins) [] results = []
 served (b ∷ begins) (e ∷ ends) [] = []
 served (b ∷ begins) (e ∷ ends) (r ∷ results) = record { account = b.0; before = b.1; after = e; result = r } ∷ served begins ends results
 
--- what can be seen of files, and of a tool
+-- of calls on such files, by such tools
 module _ {F T : Type 0} (settings : Settings) (files : FilesView F) (tool : ToolView T) where
   abbrev pub ticks_of : F → T → Ticks
   ticks_of f t = record { preprocessed = tool.preprocessed t; compiled = tool.compiled t; failed = tool.failed t; files_failed = files.failed f }

@@ -1,4 +1,4 @@
--- Laws of the verdict, item by item.
+-- Laws of the decision, item by item.
 use Rattle.std.proofs.Common.{◌≡◌, true, false, List, [], ◌∷◌, Option, Some, None, refl, ap, sym, subst, ◌∙◌}
 use Rattle.std.specs.Prelude.{is_some, map}
 use Rattle.std.specs.List.{AllZip}
@@ -19,18 +19,18 @@ use Rattle.rustc_options.specs.declared.kind.ArgKind.{ArgKind}
 use Rattle.rustkeys_base.specs.Facts.{facts_of, facts_with}
 use Rattle.rustkeys_base.specs.Requests.{IsArgument, IsAsked, IsAskedBy, IsParsed, wanted}
 use Rattle.rustkeys_base.specs.Saying.{token_of}
-use Rattle.rustkeys_base.specs.Verdict.{AsksNothing, Verdict, decides, is_misread, not_parsed, verdict_from}
+use Rattle.rustkeys_base.specs.Parsing.{AsksNothing, Decision, decides, is_misread, not_parsed, decision_from}
 use Rattle.rustkeys_base.specs.declared.facts.Facts.{Facts}
 use Rattle.rustc_requests.specs.declared.parsed.ParsedArguments.{ParsedArguments}
 
 -- what is known, and the items that are left
-abbrev pub verdict_at : Bytes → Tree → Facts → Reading ArgKind → Verdict
-verdict_at dir files f r = verdict_from dir files f r.items r.cut_short
+abbrev pub decision_at : Bytes → Tree → Facts → Reading ArgKind → Decision
+decision_at dir files f r = decision_from dir files f r.items r.cut_short
 
 module _ (dir : Bytes) (files : Tree) (f : Facts) (item : Item ArgKind) (left : Reading ArgKind) where
   -- an item that decides nothing
-  pub verdict-more : is_misread item ≡ false → decides dir files f (token_of item) ≡ None → verdict_at dir files f (before item left) ≡ verdict_at dir files (facts_with f (token_of item ∷ [])) left
-  verdict-more accepted nothing = rw (accepted, nothing) refl
+  pub decision-more : is_misread item ≡ false → decides dir files f (token_of item) ≡ None → decision_at dir files f (before item left) ≡ decision_at dir files (facts_with f (token_of item ∷ [])) left
+  decision-more accepted nothing = rw (accepted, nothing) refl
 
 -- what is asked for by what is known of all items, and by arguments that stand for those that are wanted
 pub asked : (dir : Bytes) (files same : Tree) (items : List (Item ArgKind)) (f : Facts) (kept : List (Argument ArgData)) → files ≡ same → f ≡ facts_of (map token_of items) → AllZip IsArgument (wanted items) kept
