@@ -114,11 +114,11 @@ pub good_of : (p : PrintedCall) → has_entry_key p.call ≡ true → text_fault
 good_of p has fine =
     let n = is_preprocessed p.call has in
     let first : preprocess_fault_of p.printed ≡ None = sym (ap (λ b. if b then preprocess_fault_of p.printed else read_fault_of p.call.scene.files (input_path p.call ∷ [])) n) ∙ fine in
-    let text : text_by p ≡ text_in p.printed.files = ap (λ b. if b then text_in p.printed.files else contents_in p.call.scene.files (input_path p.call)) n in
+    let text : text_by p ≡ text_in p.printed.contents = ap (λ b. if b then text_in p.printed.contents else contents_in p.call.scene.files (input_path p.call)) n in
     by (int_eq p.printed.status (pos 0)) refl first ∙ ap Some (sym text)
   where
-    by : (b : Bool) → int_eq p.printed.status (pos 0) ≡ b → (if b then None else Some (PreprocessFailed p.printed.status)) ≡ None → (if int_eq p.printed.status (pos 0) then Some (text_in p.printed.files) else None) ≡ Some (text_in p.printed.files)
-    by true e h = ap (λ b. if b then Some (text_in p.printed.files) else None) e
+    by : (b : Bool) → int_eq p.printed.status (pos 0) ≡ b → (if b then None else Some (PreprocessFailed p.printed.status)) ≡ None → (if int_eq p.printed.status (pos 0) then Some (text_in p.printed.contents) else None) ≡ Some (text_in p.printed.contents)
+    by true e h = ap (λ b. if b then Some (text_in p.printed.contents) else None) e
     by false e h = cc
 
 module _ (digest_of : Bytes → Bytes) (p : PrintedCall) (key : EntryKey) (is_entry : entry_key_of digest_of p.call ≡ Some key) (framed : IsFramed digest_of p.call) (old asked : Shelf EntryKey Record) (asks : Asks old asked key (asked.held key)) where

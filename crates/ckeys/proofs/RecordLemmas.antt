@@ -164,15 +164,15 @@ input_there c h = by (contents_at c.scene.files (input_path c)) refl (and_parts 
 pub is_preprocessed : (c : KeyCall) → has_entry_key c ≡ true → needs_preprocessing c.parsed.language ≡ true
 is_preprocessed c h = (and_parts _ _ (and_parts _ _ (and_parts _ _ h).0).1).0
 
-text_is : (made : Made) (text : Bytes) → good_text made ≡ Some text → (text_in made.files ≡ text) × (made.status ≡ pos 0)
+text_is : (made : Made) (text : Bytes) → good_text made ≡ Some text → (text_in made.contents ≡ text) × (made.status ≡ pos 0)
 text_is made text h = by (int_eq made.status (pos 0)) refl h
   where
-    by : (b : Bool) → int_eq made.status (pos 0) ≡ b → (if b then Some (text_in made.files) else None) ≡ Some text → (text_in made.files ≡ text) × (made.status ≡ pos 0)
+    by : (b : Bool) → int_eq made.status (pos 0) ≡ b → (if b then Some (text_in made.contents) else None) ≡ Some text → (text_in made.contents ≡ text) × (made.status ≡ pos 0)
     by true e h = (some_same _ _ h, (Decides-int_eq made.status (pos 0)).0 e)
     by false e h = cc
 
 text_by_is : (p : PrintedCall) (text : Bytes) → has_entry_key p.call ≡ true → good_text p.printed ≡ Some text → text_by p ≡ text
-text_by_is p text key good = let n = is_preprocessed p.call key in ap (λ b. if b then text_in p.printed.files else contents_in p.call.scene.files (input_path p.call)) n ∙ (text_is p.printed text good).0
+text_by_is p text key good = let n = is_preprocessed p.call key in ap (λ b. if b then text_in p.printed.contents else contents_in p.call.scene.files (input_path p.call)) n ∙ (text_is p.printed text good).0
 
 -- what a digest's text tells
 abbrev pub TextsTell : (Bytes → Bytes) → Type 0

@@ -61,7 +61,7 @@ printed_call meaning c = record { call = c; printed = printed_of meaning c }
 
 -- The text of a call: what the preprocessor prints, or the input's bytes where its language isn't preprocessed.
 abbrev pub text_by : PrintedCall → Bytes
-text_by p = if needs_preprocessing p.call.parsed.language then text_in p.printed.files else contents_in p.call.scene.files (input_path p.call)
+text_by p = if needs_preprocessing p.call.parsed.language then text_in p.printed.contents else contents_in p.call.scene.files (input_path p.call)
 
 abbrev pub text_of : Meaning → KeyCall → Bytes
 text_of meaning c = text_by (printed_call meaning c)

@@ -83,7 +83,7 @@ entry_key_of digest_of c = if has_entry_key c then Some (entry_key_by digest_of 
 
 -- what the preprocessor printed, where it succeeded
 abbrev pub good_text : Made → Option Bytes
-good_text made = if int_eq made.status (pos 0) then Some (text_in made.files) else None
+good_text made = if int_eq made.status (pos 0) then Some (text_in made.contents) else None
 
 -- what is recorded of a text on a call
 abbrev pub includes_by : (Bytes → Bytes) → KeyCall → Bytes → Option (List IncludeEntry)

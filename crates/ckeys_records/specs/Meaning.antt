@@ -27,7 +27,7 @@ pub record Scene : Type 0 where
 -- how a step ended, and for each output that was asked for its contents, or that it wasn't made
 pub record Made : Type 0 where
   pub status : ℤ
-  pub files : List (Option Bytes)
+  pub contents : List (Option Bytes)
 
 -- what a tool is asked: what a C compiler's tables read of a command, the words of one for rustc, or the path of an archive
 pub data Asked : Type 0 where
@@ -55,7 +55,7 @@ abbrev pub names_of : Artifacts → List OutputName
 names_of outputs = map (λ output. record { name = output.0; optional = output.1.optional }) outputs
 
 abbrev pub made_of : ℤ → List (Option Bytes) → Made
-made_of status files = record { status = status; files = files }
+made_of status contents = record { status = status; contents = contents }
 
 -- Why a device failed in a step: a call of that step, from a state of the same meaning with no failure yet, left the tool as it is now, and moved its failure tick.
 pub record FailsIn {T : Type 0} (meaning : T → Meaning) (failed : T → ℕ) (fails_in : T → Step → T → Type 0) (old : T) (new : T) (step : Step) : Type 0 where

@@ -6,7 +6,7 @@ ghost use Rattle.std.specs.Option.{option_map};
 ghost use Rattle.os_files.specs.Views.{FilesFail};
 ghost use Rattle.response_files.specs.Causes.{CauseOf};
 ghost use Rattle.cmdlines_tables.specs.declared.compiler.CCompilerKind.{CCompilerKind};
-ghost use Rattle.cmdlines.specs.Opening.{opened_words};
+ghost use Rattle.cmdlines.specs.Opening.{opened_words, style_of};
 ghost use Rattle.cmdlines.specs.Commands.{object_path, HasObjectIn, preprocess_words, output_path, compile_words};
 ghost use Rattle.cmdlines_requests.specs.Small.{command_at};
 ghost use Rattle.cmdlines.specs.Compilers.{traits_of, text_in};
@@ -14,8 +14,8 @@ ghost use Rattle.cmdlines.specs.Parsing.{decision_of, parse_of, HasSafeInputIn};
 ghost use Rattle.cmdlines.specs.ReadBack.{ReadsAsCompile, ReadsAsPreprocess};
 
 use crate::command::{CommandError, compile_command, preprocess_words_again};
+use crate::engine::parse;
 use crate::laws::{inputs_are_safe, requests_have_an_object};
-use crate::opening::parse_opened;
 use cmdlines_base::byte_tree::ByteTree;
 use cmdlines_base::command::SingleCompileCommand;
 use cmdlines_base::compiler_arguments::CompilerArguments;
@@ -27,7 +27,10 @@ use cmdlines_tables::value::ArgData;
 use os_files::files::Files;
 use os_files::listed::Listed;
 use os_files::os_bytes::OsBytes;
+use response_files::expansion::expand;
 use response_files::fault::ParseFault;
+use response_files::laws::other_words_stay;
+use response_files::style::Style;
 use std::alloc::{AllocError, Global};
 use std::marker::{Model, PhantomData};
 
@@ -60,6 +63,18 @@ impl<K: HasKind> Model for FoundCompiler<K> {
     ghost view = { λ a. traits_of a.plusplus a.version a.assembler_digest };
 
     ghost invariant = { λ a. a.tree ≡ tables_of K.kind };
+}
+
+/// How a compiler opens words; None where it opens none.
+fn style_of(kind: CCompilerKind) -> Option<Style>
+    ensures { result ≡ style_of kind }
+{
+    match kind {
+        CCompilerKind::Gcc | CCompilerKind::Clang => Some(Style::Gnu),
+        CCompilerKind::Diab => Some(Style::Diab),
+        CCompilerKind::Msvc => Some(Style::Msvc),
+        CCompilerKind::TaskingVX => None,
+    }
 }
 
 impl<K: HasKind> FoundCompiler<K> {
@@ -99,8 +114,8 @@ impl<K: HasKind> FoundCompiler<K> {
         self.assembler_digest.as_deref()
     }
 
-    /// What these words come to, with the files of words that they name opened from that directory. `Read` names one on which
-    /// the device failed.
+    /// What these words come to, with the files of words that they name opened from that directory; words that name none aren't
+    /// copied. `Read` names one on which the device failed.
     pub fn parse_arguments<F: Files>(
         &self,
         alloc: Global,
@@ -125,7 +140,14 @@ impl<K: HasKind> FoundCompiler<K> {
         // Laws, which cost nothing: what follows from them is said above.
         inputs_are_safe();
         requests_have_an_object();
-        parse_opened(alloc, K::kind(), &self.tree, dir, words, files)
+        other_words_stay();
+        match style_of(K::kind()) {
+            Some(style) if style.opens_any(words) => {
+                let opened = expand(alloc, style, dir, words, files)?;
+                Ok(parse(alloc, K::kind(), &self.tree, opened.as_slice())?)
+            }
+            _ => Ok(parse(alloc, K::kind(), &self.tree, words)?),
+        }
     }
 
     /// The words of the preprocess command.

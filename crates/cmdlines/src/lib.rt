@@ -14,7 +14,6 @@ pub mod hazards;
 pub mod laws;
 pub mod lists;
 pub mod msvc;
-mod opening;
 pub mod tasking_vx;
 
 pub use clang::Clang;

@@ -20,7 +20,7 @@ use std::alloc::Global;
 use std::io::Read;
 use std::rt::Files;
 use wrap::{
-    Answer, CCompilerKind, EntryKey, Fault, How, KeyConfig, Output, PreprocessorCacheEntry,
+    Answer, CCompilerKind, ConfigError, EntryKey, Fault, How, KeyConfig, Output, PreprocessorCacheEntry,
     Request, Step, StoreKey, Zone,
 };
 use wrapper_host::command_line::CommandLine;
@@ -270,15 +270,16 @@ fn find_out<P: Print + Files + AllocGlobal, I: Read>(
     }
 }
 
-/// What is fixed for the keys of a session: in direct mode days are told in that zone.
-fn config_of(alloc: Global, zone: &Option<Zone>) -> Result<KeyConfig, Stop> {
+/// What is fixed for the keys of a session: which folders don't count, and in direct mode the zone in which days are told.
+fn config_of(alloc: Global, basedirs: &[OsBytes], zone: &Option<Zone>) -> Result<KeyConfig, Stop> {
     let config = match zone {
-        Some(zone) => KeyConfig::new(alloc, &[], *zone, true),
-        None => KeyConfig::new(alloc, &[], Zone::utc(), false),
+        Some(zone) => KeyConfig::new(alloc, basedirs, *zone, true),
+        None => KeyConfig::new(alloc, basedirs, Zone::utc(), false),
     };
     match config {
         Ok(config) => Ok(config),
-        Err(_) => Err(Stop::Memory),
+        Err(ConfigError::Memory) => Err(Stop::Memory),
+        Err(ConfigError::BadFolder(_)) => Err(Stop::Folder),
     }
 }
 
@@ -288,7 +289,7 @@ fn answer_by(
     request: &Request,
     known: &mut Known,
 ) -> Result<(SessionAnswer<Sha256>, Option<KeptMessages>), Stop> {
-    let config = config_of(alloc, &known.zone)?;
+    let config = config_of(alloc, known.basedirs.as_slice(), &known.zone)?;
     let record_kept = known.record_again()?;
     let (entry, messages) = match known.entry.take() {
         Some(Kept { pair, messages }) => (Some(pair), Some(messages)),
@@ -423,6 +424,17 @@ fn zone_of(line: &CommandLine) -> Option<Zone> {
     Zone::new(line.zone.as_str()).ok()
 }
 
+/// The folders that don't count: those that the variable names, with colons between them.
+fn basedirs_of(alloc: Global, line: &CommandLine) -> Result<Listed<OsBytes>, Stop> {
+    let mut folders = Listed::new(alloc);
+    for folder in line.value_of(b"GULMAAT_BASEDIRS").split(|byte| *byte == b':') {
+        if !folder.is_empty() {
+            folders.push(OsBytes::from_slice(alloc, folder)?)?;
+        }
+    }
+    Ok(folders)
+}
+
 /// Asks the session about the command line of a compiler of that kind.
 fn ask<P: Print + Files + AllocGlobal, I: Read>(
     rt: &P,
@@ -435,7 +447,8 @@ fn ask<P: Print + Files + AllocGlobal, I: Read>(
 {
     let request = request_of(rt, line, host, kind)?;
     let hint = hint_name(rt.alloc(), line)?;
-    let mut known = Known::new(rt.alloc(), kind, zone_of(line));
+    let basedirs = basedirs_of(rt.alloc(), line)?;
+    let mut known = Known::new(rt.alloc(), kind, zone_of(line), basedirs);
     ask_until(rt, line, host, &request, hint.as_str(), &mut known)
 }
 

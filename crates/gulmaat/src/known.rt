@@ -35,6 +35,8 @@ pub struct Known {
     pub kind: CCompilerKind,
     /// The zone in which days are told, where direct mode is on.
     pub zone: Option<Zone>,
+    /// The folders that don't count.
+    pub basedirs: Listed<OsBytes>,
     pub files: SnapshotFiles,
     pub tool: ReplayTool,
     /// What a disk keeps that may fit.
@@ -56,10 +58,16 @@ pub struct Known {
 
 impl Known {
     /// Nothing is known yet.
-    pub fn new(alloc: Global, kind: CCompilerKind, zone: Option<Zone>) -> Known {
+    pub fn new(
+        alloc: Global,
+        kind: CCompilerKind,
+        zone: Option<Zone>,
+        basedirs: Listed<OsBytes>,
+    ) -> Known {
         Known {
             kind,
             zone,
+            basedirs,
             files: SnapshotFiles::new(alloc),
             tool: ReplayTool::new(),
             entry: None,
@@ -221,13 +229,13 @@ impl Known {
         let ended = host.compile(rt, rt.alloc(), words.as_slice())?;
         self.printed = printed_at(rt, &ended, line.printed.as_str())?;
         self.errors = printed_at(rt, &ended, line.errors.as_str())?;
-        let files = made_at(rt, paths)?;
+        let contents = made_at(rt, paths)?;
         let status = ended.status;
         self.tool.outputs = Some(RecordedOutputs {
             kind: self.kind,
             words,
             names,
-            made: Compiled { status, files },
+            made: Compiled { status, contents },
         });
         Ok(())
     }

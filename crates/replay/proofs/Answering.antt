@@ -27,9 +27,9 @@ prints_again text r kind words p is k w same =
     whole ∙ taken (same_asked (asked_of kind words) (asked_of r.kind r.words)) (printed_in r) (same_question kind r.kind words r.words k w) ∙ ap (λ t. printed_for t (asked_of kind words)) (sym is)
 
 -- a command to the C compiler of the recorded kind, with the recorded words, for outputs of the recorded names
-pub makes_again : (outputs : Option RecordedOutputs) (r : RecordedOutputs) (kind : Option CCompilerKind) (words : List Bytes) (asked : Artifacts) (m : Compiled) → outputs ≡ Some r → kind ≡ Some r.kind → r.words ≡ words → same_outputs asked r.names ≡ true → m ≡ r.made → made_of m.status m.files ≡ made_for outputs (asked_by kind words) (names_of asked)
+pub makes_again : (outputs : Option RecordedOutputs) (r : RecordedOutputs) (kind : Option CCompilerKind) (words : List Bytes) (asked : Artifacts) (m : Compiled) → outputs ≡ Some r → kind ≡ Some r.kind → r.words ≡ words → same_outputs asked r.names ≡ true → m ≡ r.made → made_of m.status m.contents ≡ made_for outputs (asked_by kind words) (names_of asked)
 makes_again outputs r kind words asked m is k w names same =
-    let whole : made_of m.status m.files ≡ made_in r = ap (λ (q : Compiled). made_of q.status q.files) same in
+    let whole : made_of m.status m.contents ≡ made_in r = ap (λ (q : Compiled). made_of q.status q.contents) same in
     let one = same_question r.kind r.kind words r.words refl w in
     let own = taken (same_asked (asked_of r.kind words) (asked_of r.kind r.words) && same_list same_name (names_of asked) r.names) (made_in r) (and_from (same_asked (asked_of r.kind words) (asked_of r.kind r.words)) (same_list same_name (names_of asked) r.names) one names) in
     whole ∙ own ∙ ap (λ k. made_for (Some r) (asked_by k words) (names_of asked)) (sym k) ∙ ap (λ o. made_for o (asked_by kind words) (names_of asked)) (sym is)

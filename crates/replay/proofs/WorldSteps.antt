@@ -110,7 +110,7 @@ fine_text : (c : KeyCall) (m n : Made) → (m.status ≡ pos 0 → m ≡ n) → 
 fine_text c m n same fine =
     let needs = needs_preprocessing c.parsed.language in
     let needed : needs ≡ true → m ≡ n = λ is. same (none_fails needs (extra_fault c) (input_fault c) (own_fault c) m fine is) in
-    let texts : text_by (with_text c m) ≡ text_by (with_text c n) = same_if needs (λ (x : Made). text_in x.files) m n (contents_in c.scene.files (input_path c)) needed in
+    let texts : text_by (with_text c m) ≡ text_by (with_text c n) = same_if needs (λ (x : Made). text_in x.contents) m n (contents_in c.scene.files (input_path c)) needed in
     let faults : key_fault_by (with_text c m) ≡ key_fault_by (with_text c n) = ap (λ (f : Option Fault). or_else (extra_fault c) (or_else (input_fault c) f)) (same_if needs preprocess_fault_of m n (own_fault c) needed) in
     (ap (λ (t : Bytes). record_with c t) texts, sym faults ∙ fine)
 
@@ -175,7 +175,7 @@ module _ (digest_of : Bytes → Bytes) (tells : Tells digest_of) (w v : Work) (r
   one_success pairs s =
       let same = (tells w v told told_also (λ one other p q. premises.distinct one other (hashed one p) (hashed other q))).0 is_key in
       let fresh : w.fresh ≡ v.fresh = premises.settled w v here there fine also same in
-      record { succeeded = ap (λ (m : Made). m.status) fresh ∙ s.succeeded; made = (λ i. collected (same.names i) (fresh i).files) ∙ s.made }
+      record { succeeded = ap (λ (m : Made). m.status) fresh ∙ s.succeeded; made = (λ i. collected (same.names i) (fresh i).contents) ∙ s.made }
 
 -- what is held under a call's key is what its compiler gives afresh
 held_is : (digest_of : Bytes → Bytes) → Tells digest_of → (w : Work) → HasRecord w → IsTold digest_of w.rec → (held : StoreKey → Option Pairs) (pairs : Pairs) → held (store_key_of digest_of w) ≡ Some pairs → (earlier : List Account) → Invariant digest_of earlier held → Premises digest_of (earlier ++ worked w ∷ []) → IsSuccess w pairs
@@ -194,7 +194,7 @@ module _ (digest_of : Bytes → Bytes) (text : Option RecordedText) (outputs : O
   success : (pairs : Pairs) → IsSuccess told_work pairs → IsSuccess world_work pairs
   success pairs s =
       let e : world_work.fresh ≡ told_work.fresh = sym (made_is world c.scene outputs (asked_of c.kind (compile_words c.kind c.parsed (output_path c.parsed))) (names_of c.parsed.outputs) gives.made s.succeeded) in
-      record { succeeded = ap (λ (m : Made). m.status) e ∙ s.succeeded; made = ap (λ (m : Made). collected (names_of c.parsed.outputs) m.files) e ∙ s.made }
+      record { succeeded = ap (λ (m : Made). m.status) e ∙ s.succeeded; made = ap (λ (m : Made). collected (names_of c.parsed.outputs) m.contents) e ∙ s.made }
 
   -- a call that asked the store asked under the key that it has in the world
   abbrev IsWorlds : Bytes → Type 0
@@ -274,8 +274,8 @@ unanswered call meaning told fine =
     let q = call.question in
     let answers = answers_of meaning q in
     let dep_info : dep_info_fault_of q answers.dep_info ≡ None = or_first (dep_info_fault_of q answers.dep_info) (or_else (answer_fault_of FileNames answers.file_names) (files_fault_of q answers.archives)) fine in
-    let answer : answer_fault_of DepInfo answers.dep_info ≡ None = or_first (answer_fault_of DepInfo answers.dep_info) (sources_fault_of q.scene.files q.scene.dir (text_in answers.dep_info.files)) dep_info in
-    let status : preprocess_fault_of answers.dep_info ≡ None = or_first (preprocess_fault_of answers.dep_info) (utf8_fault_of DepInfo (text_in answers.dep_info.files)) answer in
+    let answer : answer_fault_of DepInfo answers.dep_info ≡ None = or_first (answer_fault_of DepInfo answers.dep_info) (sources_fault_of q.scene.files q.scene.dir (text_in answers.dep_info.contents)) dep_info in
+    let status : preprocess_fault_of answers.dep_info ≡ None = or_first (preprocess_fault_of answers.dep_info) (utf8_fault_of DepInfo (text_in answers.dep_info.contents)) answer in
     failed_status (subst (λ (m : Made). preprocess_fault_of m ≡ None) told status)
   where
     failed_status : preprocess_fault_of unmade ≡ None → ⊥

@@ -20,7 +20,7 @@ abbrev pub printed_in : RecordedText → Made
 printed_in r = made_of r.printed.status (Some r.printed.text ∷ [])
 
 abbrev pub made_in : RecordedOutputs → Made
-made_in r = made_of r.made.status r.made.files
+made_in r = made_of r.made.status r.made.contents
 
 abbrev pub printed_for : Option RecordedText → Asked → Made
 printed_for None asked = unmade

@@ -106,13 +106,13 @@ fn contents_again(contents: &Option<OsBytes>) -> Result<Option<OsBytes>, AllocEr
 fn made_again(alloc: Global, made: &Compiled) -> Result<Compiled, AllocError>
     ensures { IfOk result (λ copy. copy ≡ made.now) }
 {
-    let mut files = Listed::new(alloc);
-    for file in made.files.as_slice() {
-        files.push(contents_again(file)?)?;
+    let mut contents = Listed::new(alloc);
+    for made_one in made.contents.as_slice() {
+        contents.push(contents_again(made_one)?)?;
     }
     Ok(Compiled {
         status: made.status,
-        files,
+        contents,
     })
 }
 

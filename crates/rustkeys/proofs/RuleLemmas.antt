@@ -117,10 +117,10 @@ second_none : (first second : Option Fault) → or_else first second ≡ None �
 second_none None second h = h
 second_none (Some fault) second h = cc
 
-pub rule_fine : (q : Question) (answers : Answers) → key_fault_with q answers ≡ None → rule_fault_of (text_in answers.dep_info.files) ≡ None
+pub rule_fine : (q : Question) (answers : Answers) → key_fault_with q answers ≡ None → rule_fault_of (text_in answers.dep_info.contents) ≡ None
 rule_fine q answers fine =
     let made = answers.dep_info in
-    let text = text_in made.files in
+    let text = text_in made.contents in
     let files = q.scene.files in
     let told : dep_info_fault_of q made ≡ None = first_none (dep_info_fault_of q made) (or_else (answer_fault_of FileNames answers.file_names) (files_fault_of q answers.archives)) fine in
     let sources : sources_fault_of files q.scene.dir text ≡ None = second_none (answer_fault_of DepInfo made) (sources_fault_of files q.scene.dir text) told in

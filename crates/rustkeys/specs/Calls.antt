@@ -33,7 +33,7 @@ pub record RustCall : Type 0 where
 abbrev pub record_with : RustCall → Answers → RustRecord
 record_with c answers =
     let q = c.question in
-    let text = text_in answers.dep_info.files in
+    let text = text_in answers.dep_info.contents in
     record {
       toolchain = c.known.toolchain;
       version = c.known.version;
@@ -55,7 +55,7 @@ abbrev pub utf8_fault_of : Step → Bytes → Option Fault
 utf8_fault_of step text = if is_utf8 text then None else Some (AnswerNotUtf8 step)
 
 abbrev pub answer_fault_of : Step → Made → Option Fault
-answer_fault_of step made = or_else (preprocess_fault_of made) (utf8_fault_of step (text_in made.files))
+answer_fault_of step made = or_else (preprocess_fault_of made) (utf8_fault_of step (text_in made.contents))
 
 -- the fault of a text on dependencies: that it begins with no rule, and then that a source isn't there
 abbrev pub rule_fault_of : Bytes → Option Fault
@@ -66,7 +66,7 @@ sources_fault_of files dir text = or_else (rule_fault_of text) (read_fault_of fi
 
 -- the fault of what is answered on dependencies
 abbrev pub dep_info_fault_of : Question → Made → Option Fault
-dep_info_fault_of q made = or_else (answer_fault_of DepInfo made) (sources_fault_of q.scene.files q.scene.dir (text_in made.files))
+dep_info_fault_of q made = or_else (answer_fault_of DepInfo made) (sources_fault_of q.scene.files q.scene.dir (text_in made.contents))
 
 -- the first static library whose digest isn't one
 abbrev pub digest_fault_of : List (Bytes × Bytes) → Option Fault

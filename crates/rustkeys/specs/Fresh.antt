@@ -19,7 +19,7 @@ use Rattle.rustkeys.specs.Calls.{RustCall}
 
 -- the outputs, by what rustc tells of their names
 abbrev pub call_outputs : Meaning → RustCall → Artifacts
-call_outputs meaning c = outputs_of c.question.asks (text_in (file_names_of meaning c.question).files)
+call_outputs meaning c = outputs_of c.question.asks (text_in (file_names_of meaning c.question).contents)
 
 -- a fresh compile, under the variables with which a request is compiled
 abbrev pub fresh_of : Meaning → RustCall → Made
@@ -34,7 +34,7 @@ dep_info_by asks archive text names = option_and_then (λ name. rewritten_of tex
 abbrev pub dep_info_text_of : Meaning → RustCall → Option Bytes
 dep_info_text_of meaning c =
     let asks = c.question.asks in
-    dep_info_by asks c.known.archive (text_in (dep_info_of meaning c.question).files) (output_names asks.emit (text_in (file_names_of meaning c.question).files))
+    dep_info_by asks c.known.archive (text_in (dep_info_of meaning c.question).contents) (output_names asks.emit (text_in (file_names_of meaning c.question).contents))
 
 -- what a request asks for is what words come to, in some directory with some files
 pub record ComesOfWords (asks : RustAsks) : Type 0 where

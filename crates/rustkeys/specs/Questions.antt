@@ -38,7 +38,7 @@ file_names_of meaning q = meaning FileNames (words (file_names_words q.asks)) []
 
 -- what the tool gives as the digest of a static library
 abbrev pub digest_at : Meaning → Scene → Bytes → Bytes
-digest_at meaning scene path = text_in (meaning ArchiveDigest (archive path) [] scene).files
+digest_at meaning scene path = text_in (meaning ArchiveDigest (archive path) [] scene).contents
 
 -- all answers: on dependencies, on names, and each static library with its digest
 pub record Answers : Type 0 where

@@ -123,7 +123,7 @@ impl<'a> RustPlace<'a> {
     ) -> Result<String, Fault>
         ensures text { (moment : ℤ) → let q = question_of self.now (F.tree files.old) moment in
             let made = dep_info_of (A.meaning answers.old) q in
-            IfOk result (λ text. string_bytes text ≡ text_in made.files) }
+            IfOk result (λ text. string_bytes text ≡ text_in made.contents) }
         ensures fine { (moment : ℤ) → let q = question_of self.now (F.tree files.old) moment in
             let made = dep_info_of (A.meaning answers.old) q in
             OnOk result (answer_fault_of Step.DepInfo made ≡ None) }
@@ -154,7 +154,7 @@ impl<'a> RustPlace<'a> {
     ) -> Result<String, Fault>
         ensures text { (moment : ℤ) → let q = question_of self.now (F.tree files.old) moment in
             let made = file_names_of (A.meaning answers.old) q in
-            IfOk result (λ text. string_bytes text ≡ text_in made.files) }
+            IfOk result (λ text. string_bytes text ≡ text_in made.contents) }
         ensures fine { (moment : ℤ) → let q = question_of self.now (F.tree files.old) moment in
             let made = file_names_of (A.meaning answers.old) q in
             OnOk result (answer_fault_of Step.FileNames made ≡ None) }

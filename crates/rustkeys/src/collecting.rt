@@ -82,7 +82,7 @@ impl<'a> RustPlace<'a> {
         answers: &mut A,
     ) -> Result<Sources, Fault>
         ensures text { (moment : ℤ) → let q = question_of self.now (F.tree files.old) moment in
-            let text = text_in (dep_info_of (A.meaning answers.old) q).files in
+            let text = text_in (dep_info_of (A.meaning answers.old) q).contents in
             IfOk result (λ sources. string_bytes sources.text ≡ text) }
         ensures digests { IfOk result (λ sources. sources.digests
             ≡ source_digests H.digest_of (F.tree files.old) self.now.dir.now
@@ -159,13 +159,13 @@ impl<'a> RustPlace<'a> {
         answers: &mut A,
     ) -> Result<Collected, Fault>
         ensures text { (moment : ℤ) → let q = question_of self.now (F.tree files.old) moment in
-            let text = text_in (dep_info_of (A.meaning answers.old) q).files in
+            let text = text_in (dep_info_of (A.meaning answers.old) q).contents in
             IfOk result (λ found. string_bytes found.sources.text ≡ text) }
         ensures sources { IfOk result (λ found. found.sources.digests
             ≡ source_digests H.digest_of (F.tree files.old) self.now.dir.now
             (string_bytes found.sources.text)) }
         ensures names { (moment : ℤ) → let q = question_of self.now (F.tree files.old) moment in
-            let text = text_in (file_names_of (A.meaning answers.old) q).files in
+            let text = text_in (file_names_of (A.meaning answers.old) q).contents in
             IfOk result (λ found. string_bytes found.names ≡ text) }
         ensures files { (moment : ℤ) → let q = question_of self.now (F.tree files.old) moment in
             let archives = digested (A.meaning answers.old) q.scene q.asks.staticlibs in

@@ -117,7 +117,7 @@ pub fn compiled_crate(
     outputs: &[(OsBytes, ArtifactDescriptor)],
 ) -> Result<Compiled, AllocError>
     ensures { IfOk result
-        (λ made. made_of made.status made.files ≡ compiled_crate text (names_of outputs.now)) }
+        (λ made. made_of made.status made.contents ≡ compiled_crate text (names_of outputs.now)) }
 {
     let Some(text) = text else {
         return Ok(made_nothing(alloc, 1));
@@ -128,6 +128,6 @@ pub fn compiled_crate(
     }
     Ok(Compiled {
         status,
-        files: made(alloc, &text, outputs)?,
+        contents: made(alloc, &text, outputs)?,
     })
 }

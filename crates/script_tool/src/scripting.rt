@@ -221,7 +221,7 @@ pub fn compiled(
     outputs: &[(OsBytes, ArtifactDescriptor)],
 ) -> Result<Compiled, AllocError>
     ensures { IfOk result
-        (λ result. made_of result.status result.files
+        (λ result. made_of result.status result.contents
         ≡ compiled (without folders.now text) (names_of outputs.now)) }
 {
     let Some(text) = text else {
@@ -234,16 +234,16 @@ pub fn compiled(
     }
     Ok(Compiled {
         status,
-        files: made(alloc, &left, outputs)?,
+        contents: made(alloc, &left, outputs)?,
     })
 }
 
 /// A compile that ends with that status and makes nothing.
 pub fn made_nothing(alloc: Global, status: i32) -> Compiled
-    ensures { made_of result.status result.files ≡ made_of status [] }
+    ensures { made_of result.status result.contents ≡ made_of status [] }
 {
     Compiled {
         status,
-        files: Listed::from_vec(Vec::new(alloc)),
+        contents: Listed::from_vec(Vec::new(alloc)),
     }
 }

@@ -48,16 +48,16 @@ module _ (folders : List Bytes) (scene : Scene) (input : Bytes) (names : List Ou
   abbrev MadeOf : Option Bytes → Bytes → Type 0
   MadeOf text recorded = compiled (without folders text) names ≡ compiled (Some (stripped_of text_places folders recorded)) names
 
-  by_printed : (made : Made) (text : Option Bytes) → made ≡ printed text → preprocess_fault_of made ≡ None → MadeOf text (text_in made.files)
+  by_printed : (made : Made) (text : Option Bytes) → made ≡ printed text → preprocess_fault_of made ≡ None → MadeOf text (text_in made.contents)
   by_printed made None is fine = absurd (none_some _ (sym (ap preprocess_fault_of is) ∙ fine))
-  by_printed made (Some text) is fine = ap (λ (m : Made). compiled (Some (stripped_of text_places folders (text_in m.files))) names) (sym is)
+  by_printed made (Some text) is fine = ap (λ (m : Made). compiled (Some (stripped_of text_places folders (text_in m.contents))) names) (sym is)
 
   by_bytes : (bytes : Option Bytes) → option_map Read (cond (is_none bytes) (Some path) None) ≡ None → MadeOf bytes (unwrap_or bytes [])
   by_bytes None fine = absurd (none_some _ fine)
   by_bytes (Some bytes) fine = refl
 
   by_text : (needs : Bool) (made : Made) → made ≡ printed (text_at scene.files scene.dir path) → (if needs then preprocess_fault_of made else read_fault_of scene.files (path ∷ [])) ≡ None
-      → MadeOf (text_by (not needs) scene input) (if needs then text_in made.files else contents_in scene.files path)
+      → MadeOf (text_by (not needs) scene input) (if needs then text_in made.contents else contents_in scene.files path)
   by_text true made is fine = by_printed made (text_at scene.files scene.dir path) is fine
   by_text false made is fine = by_bytes (contents_at scene.files path) fine
 

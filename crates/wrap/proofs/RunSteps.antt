@@ -405,7 +405,7 @@ agree (passed why) b (Ok (Outputs x how dep)) (Ok (Outputs y way more)) on_file 
 agree (worked w) (passed why) (Ok (Outputs x how dep)) (Ok (Outputs y way more)) on_file e n h k = cc
 agree (worked w) (worked v) (Ok (Outputs x how dep)) (Ok (Outputs y way more)) on_file e n h k =
     let same : w ≡ v = cc in
-    let both = both_all h.0 k.0 (sym h.2.made ∙ ap (λ (u : Work). collected (names_of u.outputs) u.fresh.files) same ∙ k.2.made) in
+    let both = both_all h.0 k.0 (sym h.2.made ∙ ap (λ (u : Work). collected (names_of u.outputs) u.fresh.contents) same ∙ k.2.made) in
     h.1 ∙ ap (λ (u : Work). placed u.outputs h.0) same ∙ ap (placed v.outputs) both ∙ sym k.1
 
 -- what the verdict passes through is passed through, in each call of a run

@@ -20,7 +20,7 @@ use std::alloc::Global;
 pub struct Compiled {
     pub status: i32,
     /// For each output that was asked for its contents, or None where it wasn't made.
-    pub files: Listed<Option<OsBytes>>,
+    pub contents: Listed<Option<OsBytes>>,
 }
 
 /// A compiler with its preprocessor and what rustc answers, whose answers are those of one function.
@@ -37,7 +37,7 @@ pub trait Tool: RustcAnswers {
         moment: i64,
     ) -> Result<Compiled, ToolFail>
         ensures answer { IfOk result
-            (λ made. made_of made.status made.files
+            (λ made. made_of made.status made.contents
             ≡ Self.meaning self.old Step.Compile (asked_by kind command.now.arguments)
             (names_of outputs.now) (scene_of command.now (F.tree files.old) moment)) }
         ensures meaning { Self.meaning self.new ≡ Self.meaning self.old }

@@ -158,7 +158,7 @@ collected (o ∷ names) files = gathered o (first_file files) (collected names (
 -- the compiler succeeded and made these outputs: its status is 0, and each demanded one was made
 pub record IsSuccess (w : Work) (pairs : Pairs) : Type 0 where
   pub succeeded : w.fresh.status ≡ pos 0
-  pub made : collected (names_of w.outputs) w.fresh.files ≡ all pairs
+  pub made : collected (names_of w.outputs) w.fresh.contents ≡ all pairs
 
 -- where a request wants the output of a name
 abbrev pub path_of : Artifacts → Bytes → Bytes
@@ -176,4 +176,4 @@ missing_fault_of (all pairs) = None
 
 -- the fault of the compile
 abbrev pub compile_fault_of : Work → Option Fault
-compile_fault_of w = if int_eq w.fresh.status (pos 0) then missing_fault_of (collected (names_of w.outputs) w.fresh.files) else Some (CompileFailed w.fresh.status)
+compile_fault_of w = if int_eq w.fresh.status (pos 0) then missing_fault_of (collected (names_of w.outputs) w.fresh.contents) else Some (CompileFailed w.fresh.status)

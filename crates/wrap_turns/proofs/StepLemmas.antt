@@ -65,8 +65,8 @@ module _ (w : Work) (status : ℤ) (files : List (Option Bytes)) (made : made_of
   status_is : status ≡ w.fresh.status
   status_is = ap (λ m. m.status) made
 
-  collected_is : collected (names_of w.outputs) files ≡ collected (names_of w.outputs) w.fresh.files
-  collected_is = ap (λ (m : Made). collected (names_of w.outputs) m.files) made
+  collected_is : collected (names_of w.outputs) files ≡ collected (names_of w.outputs) w.fresh.contents
+  collected_is = ap (λ (m : Made). collected (names_of w.outputs) m.contents) made
 
   fault_at : (b : Bool) → int_eq status (pos 0) ≡ b → int_eq w.fresh.status (pos 0) ≡ b
   fault_at b h = sym (ap (λ s. int_eq s (pos 0)) status_is) ∙ h

@@ -47,7 +47,7 @@ pub fn compiled_pairs<F: Files, T: Tool>(
     match tool.compile(alloc, kind, command, outputs, files, moment) {
         Ok(made) => {
             if made.status == 0 {
-                collected(alloc, outputs, made.files)
+                collected(alloc, outputs, made.contents)
             } else {
                 Err(Fault::CompileFailed(made.status))
             }

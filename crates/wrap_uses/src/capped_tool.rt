@@ -139,7 +139,7 @@ impl<T: Tool> Tool for CappedTool<T> {
         moment: i64,
     ) -> Result<Compiled, ToolFail>
         ensures answer { IfOk result
-            (λ made. made_of made.status made.files
+            (λ made. made_of made.status made.contents
             ≡ T.meaning self.old.inner Step.Compile (asked_by kind command.now.arguments)
             (names_of outputs.now) (scene_of command.now (F.tree files.old) moment)) }
         ensures meaning { T.meaning self.new.inner ≡ T.meaning self.old.inner }

@@ -18,6 +18,8 @@ pub enum Stop {
     TakesFiles,
     /// The compiler doesn't say what it runs.
     Parts,
+    /// A folder that isn't to count isn't absolute, or is only slashes.
+    Folder,
     /// A size is none.
     Size,
     /// An option is none of this program's, or takes no words.
@@ -32,6 +34,7 @@ impl fmt::Display for Stop {
             Stop::Unreadable => "a path or a message is no text",
             Stop::TakesFiles => "the text takes in files",
             Stop::Parts => "the compiler doesn't name its parts",
+            Stop::Folder => "a folder that GULMAAT_BASEDIRS names isn't absolute, or is only slashes",
             Stop::Size => "a size is a number of bytes, or a number with k, M or G behind it",
             Stop::Option => "no such option, or words behind one that takes none: --help tells all",
         })

@@ -16,7 +16,7 @@ returns-then-made-eq0-clause-made g c w makes =
     let zero : made.status ≡ pos 0 = search rules in
     let at : ℤ → Made = λ m. g.T.Preprocessor.meaning c.args.tool.now Compile (asked_by c.args.kind c.args.command.now.arguments) (names_of c.args.outputs.now) (scene_of c.args.command.now (g.F.Files.tree c.args.files.now) m) in
     let moment : to_z w64 (of_z w64 c.args.moment) ≡ c.args.moment = search rules in
-    let gathered = subst (λ (o : Artifacts). IfOk c.collected.result (λ pairs. collected (names_of o) made.files ≡ all pairs)) makes.outputs c.collected.ensures.made in
+    let gathered = subst (λ (o : Artifacts). IfOk c.collected.result (λ pairs. collected (names_of o) made.contents ≡ all pairs)) makes.outputs c.collected.ensures.made in
     made_fresh w _ _ (c.in-Ok.ensures.answer ∙ ap at moment ∙ makes.fresh) zero c.collected.result gathered
 
 pub returns-then-made-eq0-clause-cause : goal.returns-then-made-eq0-clause-cause
@@ -26,7 +26,7 @@ returns-then-made-eq0-clause-cause g c w makes =
     let at : ℤ → Made = λ m. g.T.Preprocessor.meaning c.args.tool.now Compile (asked_by c.args.kind c.args.command.now.arguments) (names_of c.args.outputs.now) (scene_of c.args.command.now (g.F.Files.tree c.args.files.now) m) in
     let moment : to_z w64 (of_z w64 c.args.moment) ≡ c.args.moment = search rules in
     let device_in = FailsIn g.T.Preprocessor.meaning g.T.Preprocessor.failed g.T.Preprocessor.fails_in c.args.tool.now c.compile.new.self in
-    let cause = subst (λ (o : Artifacts). IfErr c.collected.result (CollectCause (collected (names_of o) made.files))) makes.outputs c.collected.ensures.cause in
+    let cause = subst (λ (o : Artifacts). IfErr c.collected.result (CollectCause (collected (names_of o) made.contents))) makes.outputs c.collected.ensures.cause in
     collect_cause w _ _ (c.in-Ok.ensures.answer ∙ ap at moment ∙ makes.fresh) zero device_in c.collected.result cause
 
 pub returns-then-made-eq0-clause-runs : goal.returns-then-made-eq0-clause-runs

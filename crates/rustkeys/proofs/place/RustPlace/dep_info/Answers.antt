@@ -19,4 +19,4 @@ returns-in_err-text-clause-cause g c = λ moment.
     let device_in = FailsIn g.A.Preprocessor.meaning g.A.Preprocessor.failed g.A.Preprocessor.fails_in c.args.answers.now c.dep_info_text.new.answers in
     let fault = c.in_err-text.field-0.0 in
     on_exit (KeyCause (dep_info_fault_of q made) on_file device_in) c.from_residual.result fault c.from_residual.ensures.1
-    (key_cause_more (answer_fault_of DepInfo made) (dep_info_fault_of q made) no_file on_file device_in device_in (first_is (answer_fault_of DepInfo made) (sources_fault_of tree q.scene.dir (text_in made.files))) (λ name n. absurd n) (λ step d. d) fault (c.in_err-text.ensures.cause moment))
+    (key_cause_more (answer_fault_of DepInfo made) (dep_info_fault_of q made) no_file on_file device_in device_in (first_is (answer_fault_of DepInfo made) (sources_fault_of tree q.scene.dir (text_in made.contents))) (λ name n. absurd n) (λ step d. d) fault (c.in_err-text.ensures.cause moment))
