@@ -42,7 +42,8 @@ gulmaat --help            prints this
 
 Outputs are kept in the folder that GULMAAT_DIR names, or else in gulmaat in the user's cache folder: 5G of them where no limit was set,
 of which the least recently used ones go first. With GULMAAT_DIRECT=1 no preprocessor runs where the files that it read last are as they
-were: docs/WRAPPER.md says what that can't see.
+were: docs/WRAPPER.md says what that can't see. Folders that GULMAAT_BASEDIRS names, with colons between them, don't count in what is
+compared.
 ";
 
 fn main(rt: HostRuntime) -> ExitCode {

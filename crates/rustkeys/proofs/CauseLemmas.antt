@@ -1,9 +1,8 @@
 -- Causes of faults, step by step.
-use Rattle.std.proofs.Common.{◌≡◌, ℕ, Option, Some, None, Result, Ok, Err, IfErr, ap, ◌∙◌}
+use Rattle.std.proofs.Common.{◌≡◌, Option, Some, None, Result, Ok, Err, IfErr, ap, ◌∙◌}
 use Rattle.os_files.specs.Bytes.{Bytes}
 use Rattle.ckeys_records.specs.Faults.{KeyCause, or_else}
 use Rattle.ckeys_records.specs.Causes.{stage_of}
-use Rattle.ckeys_records.specs.Meaning.{FailsIn, Meaning}
 use Rattle.ckeys_records.specs.declared.fault.Fault.{Fault}
 use Rattle.ckeys_records.specs.declared.step.Step.{Step}
 use Rattle.ckeys_records.proofs.CauseLemmas.{by_stage, caused_more}
@@ -18,7 +17,3 @@ first_is first second fault h = ap (λ f. or_else f second) h
 
 pub second_is : (first second : Option Fault) → first ≡ None → (fault : Fault) → second ≡ Some fault → or_else first second ≡ Some fault
 second_is first second none fault h = ap (λ f. or_else f second) none ∙ h
-
--- a tool's device that failed later failed in the call
-pub tool_since : {T : Type 0} (meaning : T → Meaning) (failed : T → ℕ) (fails_in : T → Step → T → Type 0) (old mid new : T) → meaning mid ≡ meaning old → failed mid ≡ failed old → (step : Step) → FailsIn meaning failed fails_in mid new step → FailsIn meaning failed fails_in old new step
-tool_since meaning failed fails_in old mid new same steady step f = record { from = f.from; same = f.same ∙ same; steady = f.steady ∙ steady; ticks = f.ticks; leads = f.leads }

@@ -3,11 +3,11 @@ use Rattle.os_files.specs.Bytes.{Bytes}
 use Rattle.ckeys_records.specs.Faults.{KeyCause}
 use Rattle.ckeys_records.specs.Causes.{no_file}
 use Rattle.ckeys_records.specs.Meaning.{FailsIn, Meaning}
-use Rattle.ckeys_records.proofs.FaultLemmas.{on_exit}
+use Rattle.ckeys_records.proofs.FaultLemmas.{on_exit, tool_since}
 use Rattle.rustkeys.specs.Calls.{digest_fault_of}
 use Rattle.rustkeys.specs.Questions.{digest_at, digested}
 use Rattle.rustkeys.proofs.ArchiveLemmas.{first_fault}
-use Rattle.rustkeys.proofs.CauseLemmas.{key_cause_more, tool_since}
+use Rattle.rustkeys.proofs.CauseLemmas.{key_cause_more}
 use Rattle.rustkeys.proofs.archives.archive_digests.Goals as goal
 
 pub returns-in_err-archive_digest-clause-cause : goal.returns-in_err-archive_digest-clause-cause

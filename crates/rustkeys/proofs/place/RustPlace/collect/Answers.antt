@@ -4,10 +4,10 @@ use Rattle.ckeys_records.specs.Faults.{KeyCause, or_else}
 use Rattle.ckeys_records.specs.Causes.{no_file}
 use Rattle.ckeys_records.specs.Meaning.{FailsIn}
 use Rattle.ckeys_records.specs.declared.step.Step.TheVariants.{FileNames}
-use Rattle.ckeys_records.proofs.FaultLemmas.{on_exit, since}
+use Rattle.ckeys_records.proofs.FaultLemmas.{on_exit, since, tool_since}
 use Rattle.rustkeys.specs.Calls.{answer_fault_of, dep_info_fault_of, files_fault_of, key_fault_with}
 use Rattle.rustkeys.specs.Questions.{Question, answers_of, digested, file_names_of, question_of}
-use Rattle.rustkeys.proofs.CauseLemmas.{first_is, key_cause_more, second_is, tool_since}
+use Rattle.rustkeys.proofs.CauseLemmas.{first_is, key_cause_more, second_is}
 use Rattle.rustkeys.proofs.place.RustPlace.collect.Goals as goal
 
 pub returns-in_err-sources-clause-cause : goal.returns-in_err-sources-clause-cause
