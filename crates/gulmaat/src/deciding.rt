@@ -20,8 +20,8 @@ use std::alloc::Global;
 use std::io::Read;
 use std::rt::Files;
 use wrap::{
-    Answer, CCompilerKind, ConfigError, EntryKey, Fault, How, KeyConfig, Output, PreprocessorCacheEntry,
-    Request, Step, StoreKey, Zone,
+    Answer, CCompilerKind, ConfigError, EntryKey, Fault, How, KeyConfig, Output,
+    PreprocessorCacheEntry, Request, Step, StoreKey, Zone,
 };
 use wrapper_host::command_line::CommandLine;
 use wrapper_host::host::Host;
@@ -427,7 +427,10 @@ fn zone_of(line: &CommandLine) -> Option<Zone> {
 /// The folders that don't count: those that the variable names, with colons between them.
 fn basedirs_of(alloc: Global, line: &CommandLine) -> Result<Listed<OsBytes>, Stop> {
     let mut folders = Listed::new(alloc);
-    for folder in line.value_of(b"GULMAAT_BASEDIRS").split(|byte| *byte == b':') {
+    for folder in line
+        .value_of(b"GULMAAT_BASEDIRS")
+        .split(|byte| *byte == b':')
+    {
         if !folder.is_empty() {
             folders.push(OsBytes::from_slice(alloc, folder)?)?;
         }

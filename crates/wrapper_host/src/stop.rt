@@ -34,7 +34,8 @@ impl fmt::Display for Stop {
             Stop::Unreadable => "a path or a message is no text",
             Stop::TakesFiles => "the text takes in files",
             Stop::Parts => "the compiler doesn't name its parts",
-            Stop::Folder => "a folder that GULMAAT_BASEDIRS names isn't absolute, or is only slashes",
+            Stop::Folder =>
+                "a folder that GULMAAT_BASEDIRS names isn't absolute, or is only slashes",
             Stop::Size => "a size is a number of bytes, or a number with k, M or G behind it",
             Stop::Option => "no such option, or words behind one that takes none: --help tells all",
         })

@@ -11,7 +11,7 @@ pub returns-in_ok-parse-in-Some-clause-decision : goal.returns-in_ok-parse-in-So
 returns-in_ok-parse-in-Some-clause-decision g c =
     let style = sym c.in-Some.is ∙ c.style_of.ensures ∙ ap style_of c.kind.ensures in
     let words = c.as_slice.ensures ∙ c.in_ok-opened-in-Some.ensures.words
-        ∙ ap (λ s. opened_by s c.args.dir.now (g.F.Files.tree c.args.files.now) c.args.words.now) style in
+    ∙ ap (λ s. opened_by s c.args.dir.now (g.F.Files.tree c.args.files.now) c.args.words.now) style in
     c.in_ok-parse-in-Some.ensures ∙ (λ i. decision_by (c.kind-in-Some.ensures i) (all_entries (c.self.invariant i)) (words i))
 
 pub returns-in_ok-parse-in-Some-clause-input : goal.returns-in_ok-parse-in-Some-clause-input
@@ -32,8 +32,9 @@ returns-in_ok-parse-in_default-clause-decision g c =
     let style = c.style_of.ensures ∙ ap style_of c.kind.ensures in
     let opened : Option Style → List Bytes = λ s. opened_by s dir tree given in
     let words : given ≡ opened_words g.K.HasKind.kind dir tree given = elim c.in_default.branch [
-          in_default-via-in-Some+else-opens_any w ↦ sym (c.other_words_stay.ensures w.in-Some.style dir tree given (sym w.opens_any.ensures ∙ w.if-opens_any.false)) ∙ ap opened (sym w.in-Some.is ∙ style)
-        | in_default-via-in_default w ↦ ap opened (sym w.in_default.is ∙ style) ] in
+      | in_default-via-in-Some+else-opens_any w ↦ sym (c.other_words_stay.ensures w.in-Some.style dir tree given (sym w.opens_any.ensures ∙ w.if-opens_any.false)) ∙ ap opened (sym w.in-Some.is ∙ style)
+      | in_default-via-in_default w ↦ ap opened (sym w.in_default.is ∙ style)
+    ] in
     c.in_ok-parse-in_default.ensures ∙ (λ i. decision_by (c.kind-in_default.ensures i) (all_entries (c.self.invariant i)) (words i))
 
 pub returns-in_ok-parse-in_default-clause-input : goal.returns-in_ok-parse-in_default-clause-input
