@@ -151,6 +151,26 @@ impl<'a, I: CCompilerImpl + Drop> CCompilerHasher<'a, I> {
             .with_assembler_digest(self.compiler.assembler_digest())
     }
 
+    /// The key of this request with these digests of extra files and this text.
+    fn key_by<H: HashState>(
+        &self,
+        alloc: Global,
+        place: &CallPlace,
+        extra: &[String],
+        text: &[u8],
+    ) -> Result<(String, CShape), AllocError>
+        ensures key { let handed = handed_by I.traits self.now place.now.env.now
+            place.now.config.now.basedirs (map string_bytes extra.now) text.now in
+            IfOk result
+            (λ made. string_bytes made.0 ≡ hex_of (H.digest_of (material_of (parts_handed handed)))) }
+        ensures shape { let handed = handed_by I.traits self.now place.now.env.now
+            place.now.config.now.basedirs (map string_bytes extra.now) text.now in
+            IfOk result (λ made. made.1 ≡ shape_of (parts_handed handed)) }
+        ensures fit { OnOk result (AllByRecursion FitsLength (filter is_cached place.now.env.now)) }
+    {
+        self.params(place, extra, text).compute::<H>(alloc)
+    }
+
     /// The key of this text, and its shape.
     fn text_key<H: HashState, F: Files, T: Preprocessor>(
         &self,
@@ -200,8 +220,7 @@ impl<'a, I: CCompilerImpl + Drop> CCompilerHasher<'a, I> {
         ensures compiles { T.compiled tool.new ≡ T.compiled tool.old }
     {
         let text = self.text(alloc, place, files, tool)?;
-        let params = self.params(place, extra, text.as_bytes());
-        let (key, shape) = params.compute::<H>(alloc)?;
+        let (key, shape) = self.key_by::<H>(alloc, place, extra, text.as_bytes())?;
         Ok(TextKey { text, key, shape })
     }
 
