@@ -1,7 +1,8 @@
 //! What a C compiler has to offer so that its requests have keys.
 
-ghost use Rattle.std.specs.Prelude.{◌≡◌, ◌↔◌, None, IfOk, IfErr, IsErrOf, OnOk};
+ghost use Rattle.std.specs.Prelude.{◌≡◌, ◌↔◌, ◌⊎◌, [], ◌∷◌, Some, None, IfOk, IfErr, IsErrOf, OnOk};
 ghost use Rattle.std.specs.Option.{option_map};
+ghost use Rattle.os_files.specs.Bytes.{ticked};
 ghost use Rattle.os_files.specs.Views.{FilesFail};
 ghost use Rattle.response_files.specs.Causes.{CauseOf};
 ghost use Rattle.cmdlines.specs.Opening.{opened_words};
@@ -11,12 +12,16 @@ ghost use Rattle.cmdlines.specs.Compilers.{Traits, text_in};
 ghost use Rattle.cmdlines.specs.Parsing.{decision_of, parse_of, HasSafeInputIn};
 ghost use Rattle.cmdlines.specs.ReadBack.{ReadsAsCompile, ReadsAsPreprocess};
 ghost use Rattle.cmdlines_tables.specs.declared.compiler.CCompilerKind.{CCompilerKind};
+ghost use Rattle.ckeys_records.specs.Meaning.{AtMostOnce};
+ghost use Rattle.ckeys_records.specs.Meaning.{scene_with, made_of, asked_of};
 
+use ckeys_records::preprocessor::{Preprocessor, Printed, ToolFail};
+use ckeys_records::step::Step;
 use cmdlines::command::CommandError;
 use cmdlines::found::{FoundCompiler, HasKind};
 use cmdlines_base::command::SingleCompileCommand;
 use cmdlines_base::compiler_arguments::CompilerArguments;
-use cmdlines_requests::command::Cacheable;
+use cmdlines_requests::command::{Cacheable, command_at};
 use cmdlines_requests::parsed::ParsedArguments;
 use cmdlines_tables::compiler::CCompilerKind;
 use os_files::files::Files;
@@ -99,6 +104,40 @@ pub trait CCompilerImpl {
         ensures missing { IsErrOf result CommandError.NoObjOutput ↔ (object_path parsed.now ≡ None) }
         ensures again { IfOk result
             (λ made. ReadsAsCompile (kind_of self.now) parsed.now made.0.arguments) };
+
+    /// Runs the preprocess command: what it prints is what the tool means by what the compiler's tables read of it.
+    fn preprocess<F: Files, T: Preprocessor>(
+        &self,
+        alloc: Global,
+        executable: &OsBytes,
+        parsed: &ParsedArguments,
+        dir: &OsBytes,
+        env: &[(OsBytes, OsBytes)],
+        moment: i64,
+        files: &mut F,
+        tool: &mut T,
+    ) -> Result<Printed, ToolFail>
+        ensures answer { IfOk result
+            (λ p. made_of p.status (Some p.text ∷ [])
+            ≡ T.meaning tool.old Step.Preprocess
+            (asked_of (kind_of self.now) (preprocess_words (kind_of self.now) parsed.now)) []
+            (scene_with executable.now dir.now env.now (F.tree files.old) moment)) }
+        ensures meaning { T.meaning tool.new ≡ T.meaning tool.old }
+        ensures tree { F.tree files.new ≡ F.tree files.old }
+        ensures device { IsErrOf result ToolFail.Device
+            → (T.failed tool.new ≡ ticked (T.failed tool.old))
+            × T.fails_in tool.old Step.Preprocess tool.new }
+        ensures steady { (IsErrOf result ToolFail.Device → ⊥)
+            → (T.failed tool.new ≡ T.failed tool.old) × (F.failed files.new ≡ F.failed files.old) }
+        ensures runs { (IsErrOf result ToolFail.Memory → ⊥)
+            → T.preprocessed tool.new ≡ ticked (T.preprocessed tool.old) }
+        ensures once { AtMostOnce (T.preprocessed tool.old) (T.preprocessed tool.new) }
+        ensures compiles { T.compiled tool.new ≡ T.compiled tool.old }
+    {
+        let words = self.preprocess_words(alloc, parsed)?;
+        let command = command_at(alloc, executable, words, env, dir)?;
+        tool.preprocess(alloc, self.kind(), &command, files, moment)
+    }
 }
 
 impl<K: HasKind> CCompilerImpl for FoundCompiler<K> {

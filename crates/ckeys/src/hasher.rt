@@ -33,7 +33,6 @@ use ckeys_records::params::{HashKeyParams, tell_lengths};
 use ckeys_records::preprocessor::{Preprocessor, ToolFail};
 use ckeys_records::shape::CShape;
 use ckeys_records::step::Step;
-use cmdlines_requests::command::command_at;
 use cmdlines_requests::parsed::ParsedArguments;
 use cmdlines_tables::language::Language;
 use entry_keys::entry_key::{EntryKey, entry_keys_are_their_fields};
@@ -113,10 +112,16 @@ impl<'a, I: CCompilerImpl + Drop> CCompilerHasher<'a, I> {
         if !needs_c_preprocessing(self.parsed.language) {
             return needed_contents(alloc, place.dir, &self.parsed.input, files);
         }
-        let compiler = self.compiler;
-        let words = compiler.preprocess_words(alloc, self.parsed)?;
-        let command = command_at(alloc, self.executable, words, place.env, place.dir)?;
-        match tool.preprocess(alloc, compiler.kind(), &command, files, place.moment) {
+        match self.compiler.preprocess(
+            alloc,
+            self.executable,
+            self.parsed,
+            place.dir,
+            place.env,
+            place.moment,
+            files,
+            tool,
+        ) {
             Ok(printed) if printed.status == 0 => Ok(printed.text),
             Ok(printed) => Err(Fault::PreprocessFailed(printed.status)),
             Err(ToolFail::Memory) => Err(Fault::Memory),
