@@ -3,3 +3,4 @@ pub mod Sealed
 pub mod Layout
 pub mod EntryFormats
 pub mod KeptRecords
+pub mod KeptParts

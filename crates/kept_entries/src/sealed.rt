@@ -2,13 +2,16 @@
 
 ghost use Rattle.std.specs.Prelude.{◌≡◌, IfOk, IfSome, OnOk, Some};
 ghost use Rattle.byte_formats.specs.Reading.{Gives};
+ghost use Rattle.kept_entries.specs.KeptParts.{PartsFit, parts_bytes};
 ghost use Rattle.kept_entries.specs.KeptRecords.{KeptFits, record_bytes};
 ghost use Rattle.kept_entries.specs.Layout.{EntryFits, entry_bytes};
 ghost use Rattle.kept_entries.specs.Sealed.{fields_at, sealed_bytes, whole_at};
 ghost use Rattle.kept_entries.specs.declared.entry.KeptEntry.{KeptEntry};
+ghost use Rattle.kept_entries.specs.declared.kept_parts.KeptParts.{KeptParts};
 ghost use Rattle.kept_entries.specs.declared.kept_record.KeptRecord.{KeptRecord};
 
 use crate::entry::KeptEntry;
+use crate::kept_parts::KeptParts;
 use crate::kept_record::KeptRecord;
 use byte_formats::fault::ReadFault;
 use byte_formats::field::Field;
@@ -20,6 +23,9 @@ const ENTRY_VERSION: u8 = 2;
 
 /// That of include records.
 const RECORD_VERSION: u8 = 1;
+
+/// That of the parts of calls.
+const PARTS_VERSION: u8 = 1;
 
 /// The digest of these bytes.
 fn digest_of<H: HashState>(alloc: Global, bytes: &[u8]) -> Result<Vec<u8>, AllocError>
@@ -148,4 +154,28 @@ pub fn read_record<H: HashState>(
         IfOk result (λ found. found ≡ Some kept) }
 {
     read_sealed::<H, KeptRecord>(alloc, RECORD_VERSION, bytes)
+}
+
+/// The bytes of a call's parts: the version of their layout, they, and the digest of these.
+pub fn parts_bytes<H: HashState>(alloc: Global, kept: &KeptParts) -> Result<Vec<u8>, AllocError>
+    ensures bytes { IfOk result (λ bytes. bytes.items ≡ parts_bytes H.digest_of kept.now) }
+    ensures fits { OnOk result (PartsFit kept.now) }
+{
+    sealed_bytes::<H, KeptParts>(alloc, PARTS_VERSION, kept)
+}
+
+/// The parts whose bytes these are. `None` where they are those of none, as with entries.
+pub fn read_parts<H: HashState>(
+    alloc: Global,
+    bytes: &[u8],
+) -> Result<Option<KeptParts>, AllocError>
+    // What is read is what was written.
+    ensures found { IfOk result (λ found. IfSome found (λ kept. PartsFit kept
+        × (bytes.now ≡ parts_bytes H.digest_of kept))) }
+    // What was written is read.
+    ensures only { (kept : KeptParts) → PartsFit kept →
+        bytes.now ≡ parts_bytes H.digest_of kept →
+        IfOk result (λ found. found ≡ Some kept) }
+{
+    read_sealed::<H, KeptParts>(alloc, PARTS_VERSION, bytes)
 }
