@@ -400,9 +400,10 @@ static const char *program_beside(void) {
     return program;
 }
 
-/* Has the program do what an option says: its name, the folder of what is kept and the words behind it. */
+/* Has the program do what an option says: its name, the folder of what is kept and the words behind it, of which a compiler's command
+ * gets the compiler's file and the folder. */
 static int answer_option(int count, char **list) {
-    char **line = calloc(count + 3, sizeof *line);
+    char **line = calloc(count + 3, sizeof *line), dir[PATH_MAX];
     if (!line) return 127;
     line[0] = "gulmaat";
     line[1] = count < 2 ? "--help" : list[1];
@@ -413,6 +414,14 @@ static int answer_option(int count, char **list) {
         }
         line[2] = kept;
         for (int i = 2; i < count; i++) line[i + 1] = list[i];
+        if (count > 2 && !strcmp(line[1], "--why")) {
+            words = list + 2;
+            if (find_compiler(words[0])) { perror(words[0]); return 127; }
+            if (!getcwd(dir, sizeof dir)) { perror("gulmaat"); return 2; }
+            line[3] = compiler;
+            line[4] = dir;
+            for (int i = 3; i < count; i++) line[i + 2] = list[i];
+        }
         char folder[PATH_MAX];
         snprintf(folder, sizeof folder, "%.*s/own", PATH_MAX - 64, kept);
         remove_old(folder);

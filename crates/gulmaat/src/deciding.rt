@@ -6,6 +6,7 @@ use crate::answering::{SessionAnswer, answered};
 use crate::kept::{Hint, found, hint_at, hint_name, keep, kept_under, note_hint, renew};
 use crate::known::Known;
 use crate::passing::reason_against;
+use crate::why::note_fingerprint;
 use kept_entries::entry::KeptMessages;
 use kept_folder::folder::Kind;
 use kept_folder::making_room::make_room;
@@ -375,6 +376,21 @@ fn load_ahead<R: Files + AllocGlobal>(
     Ok(())
 }
 
+/// Keeps of what the key of a request was made that was compiled. What it takes is known, so that nothing runs.
+fn note_made<R: Files + AllocGlobal>(
+    rt: &R,
+    line: &CommandLine,
+    request: &Request,
+    answered: &SessionAnswer<Sha256>,
+    known: &mut Known,
+) -> Result<(), Stop> {
+    let session = &answered.session;
+    match session.fingerprint(request, &mut known.files, &mut known.tool) {
+        Ok(Ok(fingerprint)) => note_fingerprint(rt, line, request, fingerprint, &mut known.files),
+        Ok(Err(_)) | Err(_) => Ok(()),
+    }
+}
+
 /// One attempt. None where more is known after it.
 fn attempt<P: Print + Files + AllocGlobal, I: Read>(
     rt: &P,
@@ -388,7 +404,12 @@ fn attempt<P: Print + Files + AllocGlobal, I: Read>(
     ensures { host.new.compiled ≤ 1 }
 {
     let (answered, messages) = answer_by(rt.alloc(), request, known)?;
-    act_on(rt, line, host, hint, &answered, messages.as_ref(), known)
+    let end = act_on(rt, line, host, hint, &answered, messages.as_ref(), known)?;
+    if let Some(End::Done(How::Fresh)) = &end {
+        // What was made is there, whatever becomes of this.
+        let _ = note_made(rt, line, request, &answered, known);
+    }
+    Ok(end)
 }
 
 /// Asks the session about the request until it answers, each time with more that is known.
@@ -468,7 +489,7 @@ pub fn decide<P: Print + Files + AllocGlobal, I: Read>(
     if let Some(reason) = reason_against(rt.alloc(), line)? {
         return Ok(End::Pass(format!(in rt.alloc(); "pass: {reason}")?));
     }
-    match kind_of(rt, line)? {
+    match kind_of(rt, line.executable.as_str())? {
         Some(kind) => ask(rt, line, host, kind),
         None => pass(rt.alloc(), "pass: unknown compiler"),
     }

@@ -132,7 +132,14 @@ fn clear_folder<R: Files + AllocGlobal>(rt: &R, place: &str) -> Result<(), Stop>
 
 /// Takes away all that is kept in this folder.
 pub fn clear<R: Files + AllocGlobal>(rt: &R, kept: &str) -> Result<(), Stop> {
-    for part in ["entries", "records", "hints", "compilers", "parts"] {
+    for part in [
+        "entries",
+        "records",
+        "fingerprints",
+        "hints",
+        "compilers",
+        "parts",
+    ] {
         let place = format!(in rt.alloc(); "{kept}/{part}")?;
         clear_folder(rt, place.as_str())?;
     }

@@ -1,7 +1,8 @@
 //! The program `gulmaat`: decides on one command line of a compiler, whose steps its host runs for it.
 //!
 //! With no arguments it talks with its host over standard input and output. `--show FOLDER` prints what happened so far with what is
-//! kept in that folder, `--limit FOLDER SIZE` sets how much that may be, and `--clear FOLDER` takes all of it away.
+//! kept in that folder, `--limit FOLDER SIZE` sets how much that may be, and `--clear FOLDER` takes all of it away. `--why FOLDER
+//! EXECUTABLE DIR WORD..` says what differed at the last call of that command in the folder `DIR` that was compiled.
 #![tactic(auto)]
 
 ghost use Rattle.std.specs.Prelude.{◌≡◌};
@@ -12,6 +13,7 @@ mod happened;
 mod kept;
 mod known;
 mod passing;
+mod why;
 
 use deciding::{End, decide};
 use happened::{clear, note, set, show};
@@ -20,6 +22,7 @@ use std::io::Read;
 use std::process::ExitCode;
 use std::rt::{Clock, Env, Files};
 use std::time::SystemTime;
+use why::why;
 use wrapper_host::command_line::CommandLine;
 use wrapper_host::host::Host;
 use wrapper_host::stop::Stop;
@@ -36,6 +39,7 @@ const FAILED: u8 = 2;
 const HELP: &str = "\
 gulmaat COMPILER WORD..   runs the compiler, or gives the outputs that are kept of it
 gulmaat --show            what happened so far, in falling order, and how much is kept
+gulmaat --why COMMAND ..  what differed, at the last call with the outputs of this command that was compiled, from the one before it
 gulmaat --limit SIZE      keeps no more than that: bytes, or a number with k, M or G behind it; 0 is no limit
 gulmaat --clear           takes away all that is kept
 gulmaat --help            prints this
@@ -82,6 +86,10 @@ fn asked<R: Print + Files + AllocGlobal>(rt: &R, word: &str, rest: &[String]) ->
     match (word, rest) {
         ("--show", []) => show(rt, kept.as_str()),
         ("--clear", []) => clear(rt, kept.as_str()),
+        ("--why", [executable, dir, words @ ..]) => {
+            why(rt, kept.as_str(), executable.as_str(), dir.as_str(), words)
+        }
+        ("--why", _) => Err(Stop::Command),
         ("--limit", [size]) => set(rt, kept.as_str(), size.as_str()),
         ("--limit", _) => Err(Stop::Size),
         (_, _) => Err(Stop::Option),

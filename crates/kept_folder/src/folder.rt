@@ -20,6 +20,8 @@ pub enum Kind {
     Compilers,
     /// The files of which a compiler's driver says that it runs them.
     Parts,
+    /// Of what the key was made of the last call with these outputs that was compiled.
+    Fingerprints,
 }
 
 impl Kind {
@@ -31,6 +33,7 @@ impl Kind {
             Kind::Records => "records",
             Kind::Compilers => "compilers",
             Kind::Parts => "parts",
+            Kind::Fingerprints => "fingerprints",
         }
     }
 }

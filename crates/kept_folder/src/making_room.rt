@@ -43,13 +43,14 @@ fn all_counted<R: Files + AllocGlobal + Clone + Drop>(
     Ok(files)
 }
 
-/// Takes away hints that were used before that moment: what they told of went too.
-fn remove_hints<R: Files + AllocGlobal + Clone + Drop>(
+/// Takes away files of that kind, of which no size is noted, that were used before that moment: what they told of went too.
+fn remove_early<R: Files + AllocGlobal + Clone + Drop>(
     rt: &R,
     path: &str,
+    kind: Kind,
     moment: u128,
 ) -> Result<(), FolderError> {
-    for file in all_files(rt, path, Kind::Hints)? {
+    for file in all_files(rt, path, kind)? {
         if file.used < moment {
             let _ = fs::remove_file(rt, file.place.as_str());
         }
@@ -72,10 +73,11 @@ fn make_free<R: Files + AllocGlobal + Clone + Drop>(
         let _ = fs::remove_file(rt, file.place.as_str());
     }
     Sizes::of(rt.alloc(), stay)?.write(rt, path)?;
-    match go.first() {
-        Some(last) => remove_hints(rt, path, last.used),
-        None => Ok(()),
-    }
+    let Some(last) = go.first() else {
+        return Ok(());
+    };
+    remove_early(rt, path, Kind::Hints, last.used)?;
+    remove_early(rt, path, Kind::Fingerprints, last.used)
 }
 
 /// The sizes, with those of this row as they are now.

@@ -1,7 +1,10 @@
-//! What is kept on a disk as a session has it: outputs under their whole key, and include records under their entry key. A broken file is as
-//! one that isn't there.
+//! What is kept on a disk as a session has it: outputs under their whole key, include records under their entry key, and of what the keys
+//! of compiled calls were made, with their texts in short. A broken file is as one that isn't there.
 #![tactic(auto)]
 
 pub mod entries;
+pub mod part_files;
+pub mod parts;
 pub mod record_files;
 pub mod records;
+pub mod short_text;

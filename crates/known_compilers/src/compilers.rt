@@ -20,11 +20,8 @@ use wrapper_host::host::Host;
 use wrapper_host::stop::Stop;
 
 /// The compiler that the file of this path is, behind all links, where it is one that is answered here.
-pub fn kind_of<R: Files + AllocGlobal>(
-    rt: &R,
-    line: &CommandLine,
-) -> Result<Option<CCompilerKind>, Stop> {
-    let file = fs::canonicalize(rt, line.executable.as_str())?;
+pub fn kind_of<R: Files + AllocGlobal>(rt: &R, path: &str) -> Result<Option<CCompilerKind>, Stop> {
+    let file = fs::canonicalize(rt, path)?;
     match compiler_of(file.as_str().as_bytes()) {
         Some(EntryCompiler::C(CCompilerKind::Gcc)) => Ok(Some(CCompilerKind::Gcc)),
         Some(EntryCompiler::C(CCompilerKind::Clang)) => Ok(Some(CCompilerKind::Clang)),

@@ -22,6 +22,8 @@ pub enum Stop {
     Folder,
     /// A size is none.
     Size,
+    /// No command is there to tell of.
+    Command,
     /// An option is none of this program's, or takes no words.
     Option,
 }
@@ -37,6 +39,7 @@ impl fmt::Display for Stop {
             Stop::Folder =>
                 "a folder that GULMAAT_BASEDIRS names isn't absolute, or is only slashes",
             Stop::Size => "a size is a number of bytes, or a number with k, M or G behind it",
+            Stop::Command => "--why takes a compiler's command: --help tells all",
             Stop::Option => "no such option, or words behind one that takes none: --help tells all",
         })
     }

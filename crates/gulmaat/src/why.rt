@@ -1,0 +1,227 @@
+//! What differed at the last call with the same outputs that was compiled from the one before it.
+
+use ckeys::compiler_impl::CCompilerImpl;
+use cmdlines::clang::Clang;
+use cmdlines::gcc::Gcc;
+use cmdlines_base::command::ArtifactDescriptor;
+use cmdlines_base::compiler_arguments::CompilerArguments;
+use cmdlines_requests::parsed::ParsedArguments;
+use differences::difference::Difference;
+use kept_entries::kept_parts::KeptParts;
+use kept_folder::folder::KeptFolder;
+use kept_pairs::part_files::{name_of_parts, parts_under, put_parts};
+use kept_pairs::parts::{kept_parts, parts_of};
+use kept_pairs::short_text::{TextDifference, short_text};
+use known_compilers::compilers::kind_of;
+use os_files::listed::Listed;
+use os_files::os_bytes::OsBytes;
+use replay::snapshot_files::SnapshotFiles;
+use std::alloc::Global;
+use std::rt::Files;
+use wrap::{
+    CCompilerKind, CParts, Files as CallFiles, Fingerprint, Named, Part, Reason, Request, explain,
+};
+use wrapper_host::command_line::CommandLine;
+use wrapper_host::stop::Stop;
+
+/// What words ask a compiler for.
+type Asked = CompilerArguments<ParsedArguments>;
+
+/// What words ask this compiler for.
+fn asked_of<C: CCompilerImpl, F: CallFiles>(
+    alloc: Global,
+    compiler: &C,
+    words: &[OsBytes],
+    dir: &OsBytes,
+    files: &mut F,
+) -> Result<Asked, Stop> {
+    match compiler.parse_arguments(alloc, words, dir, files) {
+        Ok(asked) => Ok(asked),
+        Err(_) => Err(Stop::Unreadable),
+    }
+}
+
+/// The name under which the parts of this request lie.
+fn name_of_request<F: CallFiles>(
+    alloc: Global,
+    request: &Request,
+    files: &mut F,
+) -> Result<String, Stop> {
+    let Named::C(compiler) = request.compiler.named() else {
+        return Err(Stop::Unreadable);
+    };
+    let words = request.words.as_slice();
+    match asked_of(alloc, &compiler, words, &request.dir, files)? {
+        CompilerArguments::Ok(parsed) => {
+            Ok(name_of_parts(alloc, &request.dir, parsed.outputs.as_slice())?)
+        }
+        _ => Err(Stop::Unreadable),
+    }
+}
+
+/// What differs in the first part in which two requests do, whose texts are in short.
+fn difference_of(alloc: Global, one: &Fingerprint, earlier: &Fingerprint) -> Result<String, Stop> {
+    match (explain(one, earlier), one, earlier) {
+        (Some(Part::Text), Fingerprint::C(parts), Fingerprint::C(others)) => {
+            let told = TextDifference::between(alloc, &parts.text, &others.text)?;
+            Ok(format!(in alloc; "{}: {told}", Part::Text)?)
+        }
+        _ => Ok(format!(in alloc; "{}", Difference { one, earlier })?),
+    }
+}
+
+/// What differs from the request whose parts were kept; nothing where there was none.
+fn difference_from(
+    alloc: Global,
+    one: &Fingerprint,
+    kept: Option<KeptParts>,
+) -> Result<OsBytes, Stop> {
+    let Some(kept) = kept else {
+        return Ok(OsBytes::empty(alloc));
+    };
+    let earlier = Fingerprint::C(parts_of(alloc, &kept)?);
+    let difference = difference_of(alloc, one, &earlier)?;
+    Ok(OsBytes::from_vec(difference.into_bytes()))
+}
+
+/// Keeps these parts of a call that was compiled, whose text is in short, under that name, and what differs from those that lay there.
+fn note_parts<R: Files + AllocGlobal>(
+    rt: &R,
+    folder: &KeptFolder,
+    name: &str,
+    parts: CParts,
+) -> Result<(), Stop> {
+    let alloc = rt.alloc();
+    let earlier = parts_under(rt, folder, name)?;
+    let one = Fingerprint::C(parts);
+    let difference = difference_from(alloc, &one, earlier)?;
+    let Fingerprint::C(parts) = one else {
+        return Err(Stop::Unreadable);
+    };
+    let kept = kept_parts(alloc, &parts, difference)?;
+    Ok(put_parts(rt, folder, name, &kept)?)
+}
+
+/// Keeps of what the key of a request was made that was compiled, by its fingerprint, and what differs from the call before it with these
+/// outputs.
+pub fn note_fingerprint<R: Files + AllocGlobal, F: CallFiles>(
+    rt: &R,
+    line: &CommandLine,
+    request: &Request,
+    fingerprint: Fingerprint,
+    files: &mut F,
+) -> Result<(), Stop> {
+    let alloc = rt.alloc();
+    let Fingerprint::C(mut parts) = fingerprint else {
+        return Err(Stop::Unreadable);
+    };
+    parts.text = short_text(alloc, parts.text.as_bytes())?;
+    let name = name_of_request(alloc, request, files)?;
+    note_parts(rt, &line.folder, name.as_str(), parts)
+}
+
+/// What words ask a compiler of that kind for. No file is opened.
+fn asked_in(
+    alloc: Global,
+    kind: CCompilerKind,
+    words: &[OsBytes],
+    dir: &OsBytes,
+) -> Result<Asked, Stop> {
+    let mut files = SnapshotFiles::new(alloc);
+    match kind {
+        CCompilerKind::Clang => {
+            let clang = Clang::new(alloc, false, None, None)?;
+            asked_of(alloc, &clang, words, dir, &mut files)
+        }
+        _ => {
+            let gcc = Gcc::new(alloc, false, None, None)?;
+            asked_of(alloc, &gcc, words, dir, &mut files)
+        }
+    }
+}
+
+/// The path of the object among outputs.
+fn object_in(outputs: &[(OsBytes, ArtifactDescriptor)]) -> Option<&OsBytes> {
+    let output = outputs
+        .iter()
+        .find(|output| output.0.as_bytes() == b"obj".as_slice())?;
+    Some(&output.1.path)
+}
+
+/// What is known of the last call with these outputs that was compiled.
+fn told_of(alloc: Global, kept: &Option<KeptParts>) -> Result<String, Stop> {
+    match kept {
+        None => Ok(String::from_str(alloc, "nothing is known")?),
+        Some(kept) if kept.difference.as_bytes().is_empty() => {
+            Ok(String::from_str(alloc, "the first call that was compiled")?)
+        }
+        Some(kept) => {
+            let difference = &kept.difference;
+            Ok(format!(in alloc; "{difference}")?)
+        }
+    }
+}
+
+/// Tells of the last call in that folder with these outputs that was compiled.
+fn tell<R: Print + Files + AllocGlobal>(
+    rt: &R,
+    kept: &str,
+    dir: &OsBytes,
+    outputs: &[(OsBytes, ArtifactDescriptor)],
+) -> Result<(), Stop> {
+    let alloc = rt.alloc();
+    let name = name_of_parts(alloc, dir, outputs)?;
+    let folder = KeptFolder {
+        path: String::from_str(alloc, kept)?,
+        own: String::new(alloc),
+    };
+    let found = parts_under(rt, &folder, name.as_str())?;
+    let told = told_of(alloc, &found)?;
+    match object_in(outputs) {
+        Some(path) => println!(rt; "{path}: {told}")?,
+        None => println!(rt; "{told}")?,
+    }
+    Ok(())
+}
+
+/// The words as bytes.
+fn words_in(alloc: Global, words: &[String]) -> Result<Listed<OsBytes>, Stop> {
+    let mut copies = Listed::new(alloc);
+    for word in words {
+        copies.push(OsBytes::from_slice(alloc, word.as_bytes())?)?;
+    }
+    Ok(copies)
+}
+
+/// Says in a line, of the last call in that folder with the outputs of this command that was compiled, what differed from the one before
+/// it. Files of words aren't opened.
+pub fn why<R: Print + Files + AllocGlobal>(
+    rt: &R,
+    kept: &str,
+    executable: &str,
+    dir: &str,
+    words: &[String],
+) -> Result<(), Stop> {
+    let alloc = rt.alloc();
+    if let Some(word) = words.iter().find(|word| word.as_str().starts_with("@")) {
+        println!(rt; "nothing is known: {word} isn't opened")?;
+        return Ok(());
+    }
+    let Some(kind) = kind_of(rt, executable)? else {
+        println!(rt; "pass: unknown compiler")?;
+        return Ok(());
+    };
+    let words = words_in(alloc, words)?;
+    let dir = OsBytes::from_slice(alloc, dir.as_bytes())?;
+    match asked_in(alloc, kind, words.as_slice(), &dir)? {
+        CompilerArguments::Ok(parsed) => tell(rt, kept, &dir, parsed.outputs.as_slice()),
+        CompilerArguments::NotCompilation => {
+            println!(rt; "pass: {}", Reason::NotCompilation)?;
+            Ok(())
+        }
+        CompilerArguments::CannotCache(reason, more) => {
+            println!(rt; "pass: {}", Reason::CannotCache(reason, more))?;
+            Ok(())
+        }
+    }
+}
