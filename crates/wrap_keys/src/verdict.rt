@@ -5,8 +5,7 @@ ghost use Rattle.os_files.specs.Bytes.{Bytes};
 ghost use Rattle.os_files.specs.Views.{FilesFail};
 ghost use Rattle.cmdlines.specs.Commands.{object_path};
 ghost use Rattle.cmdlines.specs.Parsing as parsing;
-ghost use Rattle.cmdlines.specs.ReadBack.{ReadsAsCompile};
-ghost use Rattle.wrap_base.specs.Commands.{compile_command_of, found_of, kind_of, words_at};
+ghost use Rattle.wrap_base.specs.Commands.{found_of, kind_of, words_at};
 ghost use Rattle.wrap_keys.specs.Answers.{EarlyCause};
 ghost use Rattle.wrap_keys.specs.Verdicts.{with_hazards, verdict_of};
 ghost use Rattle.wrap_keys.specs.Plans.{judgement_of, IsPlanOf, IsReadAgain, IsReadAgainUnlessGiven, IsReadAgainWhereSafe, OnAsks};
@@ -41,29 +40,6 @@ pub enum Verdict {
     Asks(Plan),
 }
 
-/// The plan of a request that asks for this.
-fn plan_of(
-    alloc: Global,
-    compiler: AnyC<'_>,
-    request: &Request,
-    parsed: ParsedArguments,
-) -> Result<Plan, AllocError>
-    requires object { is_some (object_path parsed) ≡ true }
-    ensures parsed { IfOk result (λ plan. plan.parsed ≡ parsed) }
-    ensures command { IfOk result
-        (λ plan. plan.compile ≡ compile_command_of (found_of compiler.entry) request.now parsed) }
-    ensures compile { IfOk result
-        (λ plan. ReadsAsCompile (kind_of compiler.entry) parsed plan.compile.arguments) }
-{
-    let executable = compiler.executable();
-    let env = request.env.as_slice();
-    match compiler.generate_compile_commands(alloc, executable, &parsed, &request.dir, env) {
-        Ok((compile, _)) => Ok(Plan { parsed, compile }),
-        Err(CommandError::Memory) => Err(AllocError),
-        Err(CommandError::NoObjOutput) => unreachable!(),
-    }
-}
-
 /// The verdict on a request that asks for this: an option whose value may stand either way has an empty one, or a word
 /// of a command would open a file of words, or a hashed word holds the byte that ends one.
 fn after_hazards(
@@ -91,18 +67,26 @@ fn after_hazards(
     }
     let kind = compiler.kind();
     let preprocess = compiler.preprocess_words(alloc, &parsed)?;
-    let plan = plan_of(alloc, compiler, request, parsed)?;
-    if opens_file(plan.compile.arguments.as_slice(), kind)
-        || opens_file(preprocess.as_slice(), kind)
-    {
+    let executable = compiler.executable();
+    let env = request.env.as_slice();
+    let compile = match compiler.generate_compile_commands(
+        alloc,
+        executable,
+        &parsed,
+        &request.dir,
+        env,
+    ) {
+        Ok((compile, _)) => compile,
+        Err(CommandError::Memory) => return Err(AllocError),
+        Err(CommandError::NoObjOutput) => unreachable!(),
+    };
+    if opens_file(compile.arguments.as_slice(), kind) || opens_file(preprocess.as_slice(), kind) {
         return Ok(Verdict::Passes(Reason::OpensFile));
     }
-    if hold_word_end(plan.parsed.common_args.as_slice())
-        || hold_word_end(plan.parsed.arch_args.as_slice())
-    {
+    if hold_word_end(parsed.common_args.as_slice()) || hold_word_end(parsed.arch_args.as_slice()) {
         return Ok(Verdict::Passes(Reason::Byte255));
     }
-    Ok(Verdict::Asks(plan))
+    Ok(Verdict::Asks(Plan { parsed, compile }))
 }
 
 /// The verdict on a request to this C compiler, with the files of words that it names opened.
