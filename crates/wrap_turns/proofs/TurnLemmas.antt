@@ -1,6 +1,5 @@
 -- How a call ends, by what the look-up and the put said.
 use Rattle.std.proofs.Common.{◌≡◌, ℕ, ℤ, List, [], Bool, true, false, Option, Some, None, IsSome, IsNone, Result, Ok, Err, ◌⊎◌, inl, inr, refl, sym, ap, subst, ◌∙◌, IsErrAnd}
-use Rattle.std.specs.Option.{option_map}
 use Rattle.std.proofs.lemmas.Result.{err_from_is_err_and}
 use Rattle.os_files.specs.Bytes.{Bytes, ticked}
 use Rattle.ckeys_base.specs.Shelf.{Shelf, Asks, Puts, Forgotten}
@@ -38,16 +37,6 @@ some_or_none : {A : Type 0} (o : Option A) → IsSome o ⊎ (o ≡ None)
 some_or_none None = inr refl
 some_or_none (Some x) = inl refl
 
--- what was found is held, on the paths of the request
-some_pairs : (place : Pairs → List Output) (found : List Output) (answer : Option Pairs) → Some found ≡ option_map place answer → (pairs : Pairs) × (answer ≡ Some pairs) × (found ≡ place pairs)
-some_pairs place found None e = cc
-some_pairs place found (Some pairs) e = (pairs, refl, cc)
-
--- nothing was found, so nothing is held
-pub nothing : (place : Pairs → List Output) (found : Option (List Output)) (answer : Option Pairs) → found ≡ None → found ≡ option_map place answer → answer ≡ None
-nothing place found None none e = refl
-nothing place found (Some pairs) none e = let h : None ≡ Some (place pairs) = sym none ∙ e in cc
-
 not_forgotten : (before answer : Option Pairs) (pairs : Pairs) → answer ≡ Some pairs → Forgotten before answer → ⊥
 not_forgotten before answer pairs e f = let h = rw e at f.1 in cc
 
@@ -79,27 +68,25 @@ module _ (digest_of : Bytes → Bytes) (text_key : Bytes) (w : Work) (key : Stor
       })
 
   -- what the look-up found is answered
-  pub turn_stored : (dep_info : Option Bytes) (from : Bool) → (from ≡ true → IsSome w.direct) → (before after : ℕ) → after ≡ before → IsTold digest_of w.rec → (found : List Output) → Some found ≡ option_map (placed w.outputs) answer → KeyedTurn digest_of text_key (worked w) old asked before after (Ok (Outputs found (kept_how from) dep_info))
-  turn_stored dep_info from direct before after same told found e =
-      let it = some_pairs (placed w.outputs) found answer e in
+  pub turn_stored : (dep_info : Option Bytes) (from : Bool) → (from ≡ true → IsSome w.direct) → (before after : ℕ) → after ≡ before → IsTold digest_of w.rec → (found : List Output) (pairs : Pairs) → answer ≡ Some pairs → found ≡ placed w.outputs pairs → KeyedTurn digest_of text_key (worked w) old asked before after (Ok (Outputs found (kept_how from) dep_info))
+  turn_stored dep_info from direct before after same told found pairs held placed_is = record {
+    gains = λ k v h. inl (asks.within k v h);
+    faulted = tt;
+    unrefused = tt;
+    kept = asks_kept old asked key answer asks;
+    cleared = asks.cleared;
+    put = puts_none from asks.put;
+    told = hit from direct (
+      pairs,
+      placed_is,
       record {
-        gains = λ k v h. inl (asks.within k v h);
-        faulted = tt;
-        unrefused = tt;
-        kept = asks_kept old asked key answer asks;
-        cleared = asks.cleared;
-        put = puts_none from asks.put;
-        told = hit from direct (
-          it.0,
-          it.2,
-          record {
-            held = ap old.held (sym is_key) ∙ asks.within key it.0 (sym asks.value ∙ it.1);
-            steady = asks.steady (not_forgotten (old.held key) answer it.0 it.1);
-            no_compile = same;
-            told = told;
-          },
-        );
-      }
+        held = ap old.held (sym is_key) ∙ asks.within key pairs (sym asks.value ∙ held);
+        steady = asks.steady (not_forgotten (old.held key) answer pairs held);
+        no_compile = same;
+        told = told;
+      },
+    );
+  }
     where
       puts_none : (b : Bool) → asked.puts ≡ old.puts → PutsBy (Ok (Outputs found (kept_how b) dep_info)) old asked
       puts_none true h = h

@@ -14,7 +14,6 @@ ghost use Rattle.wrap_keys.specs.Turn.{KeyedTurn};
 use crate::compile::compiled_pairs;
 use crate::outputs::placed;
 use crate::prepared::Prepared;
-use crate::stored::{ask, keep};
 use ckeys_base::store::Store;
 use ckeys_records::fault::Fault;
 use os_files::files::Files;
@@ -61,7 +60,8 @@ pub fn finish<O: Store<StoreKey, Pairs>, F: Files, T: Tool>(
     // A law, which costs nothing: keys that are equal are one.
     keys_are_their_fields();
     let outputs = prepared.outputs;
-    if let Some(map) = ask(alloc, objects, &prepared.key, outputs)? {
+    if let Some(pairs) = objects.get(&prepared.key) {
+        let map = placed(alloc, outputs, pairs.as_slice())?;
         return Ok(Answer::Outputs {
             map,
             how: kept_how(prepared.from_record),
@@ -79,7 +79,7 @@ pub fn finish<O: Store<StoreKey, Pairs>, F: Files, T: Tool>(
     )?;
     let map = placed(alloc, outputs, pairs.as_slice())?;
     let dep_info = prepared.dep_info;
-    let _ = keep(objects, prepared.key, pairs);
+    let _ = objects.put(prepared.key, pairs);
     Ok(Answer::Outputs {
         map,
         how: How::Fresh,

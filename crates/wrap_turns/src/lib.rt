@@ -7,4 +7,3 @@ mod finish;
 mod outputs;
 pub mod prepared;
 pub mod rust_calls;
-mod stored;
