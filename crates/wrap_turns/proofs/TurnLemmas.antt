@@ -1,11 +1,16 @@
 -- How a call ends, by what the look-up and the put said.
-use Rattle.std.proofs.Common.{◌≡◌, ℕ, ℤ, List, [], Bool, true, false, Option, Some, None, IsSome, IsNone, Result, Ok, Err, ◌⊎◌, inl, inr, refl, sym, ap, subst, ◌∙◌, IsErrAnd}
+use Rattle.std.proofs.Common.{◌≡◌, ℕ, ℤ, List, Bool, true, false, Option, Some, None, IsSome, IsNone, Result, Ok, Err, OnOk, ◌⊎◌, inl, inr, refl, sym, ap, subst, ◌∙◌, IsErrAnd}
 use Rattle.std.proofs.lemmas.Result.{err_from_is_err_and}
 use Rattle.os_files.specs.Bytes.{Bytes, ticked}
+use Rattle.os_files.specs.Tree.{Tree}
+use Rattle.os_files.specs.Views.{FilesView}
+use Rattle.cmdlines_requests.specs.declared.parsed.ParsedArguments.{ParsedArguments}
 use Rattle.ckeys_base.specs.Shelf.{Shelf, Asks, Puts, Forgotten}
 use Rattle.ckeys.specs.Calls.{PrintedCall, key_fault_by}
 use Rattle.ckeys_records.specs.Faults.{KeyCause}
-use Rattle.ckeys_records.specs.Causes.{ByStage, no_file, no_step, stage_of}
+use Rattle.ckeys_records.specs.Folders.{Settings}
+use Rattle.ckeys_records.specs.Causes.{ByStage, HasOwnFault, no_file, no_step, stage_of}
+use Rattle.ckeys_records.specs.Views.{AreSteady, ToolView}
 use Rattle.ckeys.specs.Entries.{Held}
 use Rattle.ckeys.specs.EntryTurns.{IsSpared, KeyFine, KeyRecorded, KeyRuns, RunsUntil}
 use Rattle.ckeys_records.specs.Meaning.{AtMostOnce}
@@ -17,15 +22,17 @@ use Rattle.ckeys_records.specs.declared.fault.Fault.{Fault}
 use Rattle.ckeys_records.specs.declared.fault.Fault.TheVariants.{Memory, Read, Tool, PreprocessFailed, CompileFailed, MissingOutput, NoRule, AnswerNotUtf8, BadDigest}
 use Rattle.ckeys_records.specs.declared.step.Step.{Step}
 use Rattle.ckeys_records.specs.declared.step.Step.TheVariants.{Preprocess, Compile, DepInfo, FileNames, ArchiveDigest}
-use Rattle.wrap_keys.specs.Account.{Account, passed, worked, Work, Pairs, IsSuccess, compile_fault_of, direct_of, placed}
+use Rattle.wrap_keys.specs.Account.{Account, passed, worked, Work, Pairs, IsSuccess, account_by, call_at, compile_fault_of, direct_of, placed, work_at}
 use Rattle.wrap_keys.specs.Answers.{EarlyCause, GoesOn, GoesOnWith, OnPass, Placed, SaysBy, SaysWorkedBy}
 use Rattle.wrap_keys.specs.Asking.{AskedTurn, AskedUnder, EntriesBy, EntriesTurn, HowFrom, RanForKey, RecordsAreTrue, RunsOf, RunsOfRecord, Shelves, WorkKeyFrom}
 use Rattle.wrap_turns.specs.Prepared.{SaysFinished}
 use Rattle.wrap_keys.specs.StoreKeys.{store_key_with}
 use Rattle.wrap_keys.specs.Turn.{KeyedTurn, PutsBy, own_text_key, StillKept, StoredTurn, MissTurn, Told, ToldBy}
-use Rattle.wrap_keys.specs.Verdicts.{Why}
-use Rattle.wrap_base.specs.declared.reason.Reason.{Reason}
+use Rattle.wrap_keys.specs.Verdicts as verdicts
+use Rattle.wrap_keys.specs.Verdicts.{Judgement, Why}
+use Rattle.wrap_base.specs.Commands.{CFound}
 use Rattle.wrap_base.specs.declared.answer.Answer.{Answer}
+use Rattle.wrap_base.specs.declared.request.Request.{Request}
 use Rattle.wrap_base.specs.declared.answer.Answer.TheVariants.{Outputs, Pass}
 use Rattle.wrap_base.specs.declared.answer.How.TheVariants.{Fresh}
 use Rattle.wrap_base.specs.declared.answer.Output.{Output}
@@ -169,6 +176,27 @@ module _ (digest_of : Bytes → Bytes) (text_key : Bytes) (w : Work) (key : Stor
 pub fails_in_later : {T : Type 0} (meaning : T → Meaning) (failed : T → ℕ) (fails_in : T → Step → T → Type 0) (old mid new : T) → meaning mid ≡ meaning old → failed mid ≡ failed old → (step : Step) → FailsIn meaning failed fails_in mid new step → FailsIn meaning failed fails_in old new step
 fails_in_later meaning failed fails_in old mid new m f step h = record { from = h.from; same = h.same ∙ m; steady = h.steady ∙ f; ticks = h.ticks; leads = h.leads }
 
+-- what didn't fail in calls, and then in others, didn't fail in all of them
+pub steady_later : {T F A : Type 0} → (tool : ToolView T) (files : FilesView F) (tool_old tool_mid tool_new : T) (files_old files_mid files_new : F) → AreSteady tool files tool_old files_old tool_mid files_mid → (result : Result A Fault) → OnOk result (AreSteady tool files tool_mid files_mid tool_new files_new) → OnOk result (AreSteady tool files tool_old files_old tool_new files_new)
+steady_later tool files tool_old tool_mid tool_new files_old files_mid files_new before (Ok x) h = (h.0 ∙ before.0, h.1 ∙ before.1)
+steady_later tool files tool_old tool_mid tool_new files_old files_mid files_new before (Err fault) h = tt
+
+-- a fault that tells of no device is one before it is handed on
+pub own_fault : {A : Type 0} → (B : Type 0) (result : Result A Fault) (fault : Fault) → IsErrAnd result (λ f. f ≡ fault) → HasOwnFault result → HasOwnFault {A = B} (Err fault)
+own_fault {A} B (Ok x) fault err h = absurd err
+own_fault {A} B (Err f) fault err h = subst (λ (e : Fault). HasOwnFault {A = B} (Err e)) err (by f h)
+  where
+    by : (f : Fault) → HasOwnFault {A = A} (Err f) → HasOwnFault {A = B} (Err f)
+    by Memory h = tt
+    by (Read name) h = absurd h
+    by (Tool step) h = absurd h
+    by (PreprocessFailed status) h = tt
+    by (CompileFailed status) h = tt
+    by (MissingOutput name) h = tt
+    by NoRule h = tt
+    by (AnswerNotUtf8 step) h = tt
+    by (BadDigest path) h = tt
+
 -- once the store is asked, memory can be refused
 pub memory_finishes : (w : Work) (device_in : Step → Type 0) (result : Result Answer Fault) → IsErrAnd result (λ f. f ≡ Memory) → SaysFinished w device_in result
 memory_finishes w device_in result err = let p = err_from_is_err_and result err in rw (p.1, p.2) tt
@@ -178,10 +206,10 @@ pub fault_finishes : (w : Work) (device_in : Step → Type 0) (fault : Fault) �
 fault_finishes w device_in fault cause result err = let p = err_from_is_err_and result err in rw (p.1, p.2) cause
 
 -- the request isn't passed through any more
-pub finished_unpassed : (w : Work) (device_in : Step → Type 0) (result : Result Answer Fault) → SaysFinished w device_in result → OnPass result ⊥
-finished_unpassed w device_in (Ok (Pass reason)) says = says
-finished_unpassed w device_in (Ok (Outputs map how dep_info)) says = tt
-finished_unpassed w device_in (Err fault) says = tt
+pub finished_unpassed : (P : Type 0) (w : Work) (device_in : Step → Type 0) (result : Result Answer Fault) → SaysFinished w device_in result → OnPass result P
+finished_unpassed P w device_in (Ok (Pass reason)) says = absurd says
+finished_unpassed P w device_in (Ok (Outputs map how dep_info)) says = tt
+finished_unpassed P w device_in (Err fault) says = tt
 
 -- what is said then of the whole call
 pub finished_says : (went_on : Type 0) (w : Work) (on_file : Bytes → Type 0) (device_in later_in : Step → Type 0) → ((step : Step) → later_in step → device_in step) → went_on → (result : Result Answer Fault) → SaysFinished w later_in result → SaysWorkedBy went_on w on_file device_in result
@@ -215,6 +243,12 @@ early_turn digest_of text_key a shelf count on_file fault cause result err = let
     told : (b : Account) (f : Fault) → EarlyCause on_file f → ToldBy digest_of text_key b shelf shelf count count (Err f)
     told (passed why) f h = (refl, refl)
     told (worked w) f h = by_stage (stage_of f) (λ u. inl refl) (λ c. (refl, refl)) (λ n. absurd n) (early_stage on_file f h)
+
+-- what holds of the work that the words ask for holds of the request's account
+pub of_asked : (P : Account → Type 0) (meaning : Meaning) (later tree : Tree) (settings : Settings) (found : CFound) (request : Request) (p : ParsedArguments) (d : Judgement) → later ≡ tree → verdicts.asks p ≡ d → P (worked (work_at meaning (call_at found request later settings p))) → P (account_by meaning tree settings found request d)
+of_asked P meaning later tree settings found request p d same decided h =
+    let moved : P (account_by meaning tree settings found request (verdicts.asks p)) = subst (λ (t : Tree). P (worked (work_at meaning (call_at found request t settings p)))) same h in
+    subst (λ (j : Judgement). P (account_by meaning tree settings found request j)) decided moved
 
 -- what is said of files as they were before
 pub says_later : (went_on : Type 0) (w : Work) (one other : Bytes → Type 0) (device_in : Step → Type 0) → ((name : Bytes) → one name → other name) → (result : Result Answer Fault) → SaysWorkedBy went_on w one device_in result → SaysWorkedBy went_on w other device_in result

@@ -4,10 +4,9 @@ ghost use Rattle.std.specs.Prelude.{◌≡◌, OnOk};
 ghost use Rattle.os_files.specs.Views.{FilesFail};
 ghost use Rattle.ckeys_records.specs.Causes.{HasOwnFault};
 ghost use Rattle.ckeys_records.specs.Views.{AreSteady, ToolFails};
-ghost use Rattle.wrap_keys.specs.Account.{account_named, call_at, work_at, worked};
-ghost use Rattle.wrap_keys.specs.Answers.{GoesOn, OnPass, Says, SaysBy, SaysWorked, SaysWorkedBy};
+ghost use Rattle.wrap_keys.specs.Account.{account_named};
+ghost use Rattle.wrap_keys.specs.Answers.{GoesOn, OnPass, Says, SaysBy};
 ghost use Rattle.wrap_keys.specs.Asking.{AskedTurn, EntriesTurn, RecordsAreTrue, shelves_of};
-ghost use Rattle.wrap_keys.specs.Plans.{IsPlanOf};
 ghost use Rattle.wrap_base.specs.Commands.{by_c, found_of};
 
 use crate::finish::finish;
@@ -24,59 +23,7 @@ use wrap_base::compiler::AnyC;
 use wrap_base::request::Request;
 use wrap_base::store_key::{Pairs, StoreKey};
 use wrap_base::tool::Tool;
-use wrap_keys::verdict::{Plan, Verdict, judge};
-
-/// Answers a request to this C compiler that isn't passed through: what the store holds under its key, or what one compile makes, which
-/// is kept then.
-fn answer<
-    H: HashState,
-    E: Store<EntryKey, PreprocessorCacheEntry>,
-    O: Store<StoreKey, Pairs>,
-    F: Files,
-    T: Tool,
->(
-    alloc: Global,
-    config: &KeyConfig,
-    entries: &mut E,
-    objects: &mut O,
-    compiler: AnyC<'_>,
-    request: &Request,
-    plan: &Plan,
-    files: &mut F,
-    tool: &mut T,
-) -> Result<Answer, Fault>
-    requires plan { IsPlanOf (found_of compiler) request.now plan.now }
-    ensures says { let w = work_at (T.meaning tool.old)
-        (call_at (found_of compiler.entry) request.now (F.tree files.old) config.now plan.now.parsed) in
-        SaysWorkedBy (GoesOn w) w (FilesFail F.Files files.old files.new)
-        (ToolFails T.Preprocessor tool.old tool.new) result }
-    ensures goes_on { let w = work_at (T.meaning tool.old)
-        (call_at (found_of compiler.entry) request.now (F.tree files.old) config.now plan.now.parsed) in
-        RecordsAreTrue H.digest_of (worked w) (E.shelf entries.old).held
-        → SaysWorked w (FilesFail F.Files files.old files.new)
-        (ToolFails T.Preprocessor tool.old tool.new) result }
-    ensures asked { let w = work_at (T.meaning tool.old)
-        (call_at (found_of compiler.entry) request.now (F.tree files.old) config.now plan.now.parsed) in
-        AskedTurn H.digest_of (worked w) (shelves_of (E.shelf entries.old) (O.shelf objects.old))
-        (shelves_of (E.shelf entries.new) (O.shelf objects.new)) (T.preprocessed tool.old)
-        (T.preprocessed tool.new) (T.compiled tool.old) (T.compiled tool.new) result }
-    ensures entries { let w = work_at (T.meaning tool.old)
-        (call_at (found_of compiler.entry) request.now (F.tree files.old) config.now plan.now.parsed) in
-        EntriesTurn H.digest_of (worked w) (E.shelf entries.old) (E.shelf entries.new)
-        (T.preprocessed tool.old) (T.preprocessed tool.new) }
-    ensures unpassed { OnPass result ⊥ }
-    ensures meaning { T.meaning tool.new ≡ T.meaning tool.old }
-    ensures tree { F.tree files.new ≡ F.tree files.old }
-    ensures steady { OnOk result
-        (AreSteady T.Preprocessor F.Files tool.old files.old tool.new files.new) }
-    ensures still { HasOwnFault result →
-        AreSteady T.Preprocessor F.Files tool.old files.old tool.new files.new }
-{
-    let prepared = prepare::<H, E, F, T>(
-        alloc, compiler, request, plan, config, entries, files, tool,
-    )?;
-    finish(alloc, objects, prepared, files, tool)
-}
+use wrap_keys::verdict::{Verdict, judge};
 
 /// Answers a request to this C compiler: it is passed through, or it gets what the store holds under its key or what one compile
 /// makes, or there is a fault.
@@ -126,8 +73,11 @@ pub fn c_turn<
 {
     match judge(alloc, compiler, request, files)? {
         Verdict::Passes(reason) => Ok(Answer::Pass(reason)),
-        Verdict::Asks(plan) => answer::<H, E, O, F, T>(
-            alloc, config, entries, objects, compiler, request, &plan, files, tool,
-        ),
+        Verdict::Asks(plan) => {
+            let prepared = prepare::<H, E, F, T>(
+                alloc, compiler, request, &plan, config, entries, files, tool,
+            )?;
+            finish(alloc, objects, prepared, files, tool)
+        }
     }
 }

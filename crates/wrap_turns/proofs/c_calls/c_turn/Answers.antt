@@ -1,18 +1,21 @@
-use Rattle.std.proofs.Common.{◌≡◌, None, false, subst}
+use Rattle.std.proofs.Common.{◌≡◌, ℕ, None, false, refl, subst, sym, ◌∙◌}
 use Rattle.os_files.specs.Bytes.{Bytes}
 use Rattle.os_files.specs.Fails.{FailsOn}
-use Rattle.os_files.specs.Tree.{Tree}
+use Rattle.ckeys.specs.Calls.{KeyCall, PrintedCall, printed_call}
 use Rattle.ckeys_records.specs.Meaning.{FailsIn}
-use Rattle.wrap_keys.specs.Account.{Account, Work, worked, account_by, account_named, call_at, work_at}
-use Rattle.wrap_keys.specs.Answers.{GoesOn, Says, SaysBy, SaysWorked, SaysWorkedBy}
-use Rattle.wrap_keys.specs.Asking.{RecordsAreTrue}
+use Rattle.ckeys_records.specs.declared.step.Step.{Step}
+use Rattle.wrap_keys.specs.Account.{account_named, call_at, work_at, worked}
+use Rattle.wrap_keys.specs.Answers.{GoesOn, Says, SaysBy}
+use Rattle.wrap_keys.specs.Asking.{AskedTurn, RanForKey, RecordsAreTrue, shelves_of}
+use Rattle.wrap_keys.specs.CallRecords.{key_of}
 use Rattle.wrap_base.specs.Commands.{by_c, found_of, words_at}
-use Rattle.wrap_keys.specs.Turn.{own_text_key}
-use Rattle.wrap_keys.specs.Verdicts.{Judgement, asks, verdict_of}
+use Rattle.wrap_keys.specs.Turn.{KeyedTurn, own_text_key}
+use Rattle.wrap_keys.specs.Verdicts.{asks, verdict_of}
 use Rattle.wrap_keys.proofs.KeyLemmas.{fails_on_later}
 use Rattle.wrap_base.specs.declared.answer.Answer.{Answer}
-use Rattle.wrap_keys.proofs.RunLemmas.{early_runs}
-use Rattle.wrap_turns.proofs.TurnLemmas.{asked_fault, early_says, early_turn, own_asked, quiet_entries, says_later}
+use Rattle.wrap_keys.proofs.RunLemmas.{early_runs, key_until}
+use Rattle.wrap_turns.specs.declared.prepared.Prepared.{Prepared}
+use Rattle.wrap_turns.proofs.TurnLemmas.{asked_fault, asked_finished, early_says, early_turn, fails_in_later, finished_says, finished_unpassed, goes_on, key_says, key_turn, of_asked, own_asked, own_fault, own_goes_on, quiet_entries, says_later, steady_later, text_fine}
 use Rattle.wrap_turns.proofs.c_calls.c_turn.Goals as goal
 
 pub returns-in_err-reason-clause-says : goal.returns-in_err-reason-clause-says
@@ -34,43 +37,148 @@ returns-in_err-reason-clause-entries g c =
     let a = account_named (g.T.Preprocessor.meaning c.args.tool.now) (g.F.Files.tree c.args.files.now) c.args.config.now c.args.request.now (by_c (found_of c.args.compiler)) in
     quiet_entries g.H.HashState.digest_of a _ _
 
-pub returns-in-Asks-clause-says : goal.returns-in-Asks-clause-says
-returns-in-Asks-clause-says g c =
-    let tree = g.F.Files.tree in
-    let meaning = g.T.Preprocessor.meaning in
-    let request = c.args.request.now in
-    let found = found_of c.args.compiler in
-    let result = c.answer.result in
-    let on_old = FailsOn tree g.F.Files.failed g.F.Files.fails_on c.args.files.now c.answer.new.files in
-    let on_mid = FailsOn tree g.F.Files.failed g.F.Files.fails_on c.judge.new.files c.answer.new.files in
-    let device = FailsIn meaning g.T.Preprocessor.failed g.T.Preprocessor.fails_in c.args.tool.now c.answer.new.tool in
-    let work_on : Tree → Work = λ files. work_at (meaning c.args.tool.now) (call_at found request files c.args.config.now c.in-Asks.plan.parsed) in
-    let before : (name : Bytes) → on_mid name → on_old name = fails_on_later tree g.F.Files.failed g.F.Files.fails_on c.args.files.now c.judge.new.files c.answer.new.files c.in_ok-reason.ensures.tree c.in_ok-reason.ensures.steady in
-    let decided : asks c.in-Asks.plan.parsed ≡ verdict_of found.kind (words_at found request (tree c.args.files.now)) = rw c.in-Asks.is at c.in_ok-reason.ensures.verdict in
-    let account : Judgement → Account = account_by (meaning c.args.tool.now) (tree c.args.files.now) c.args.config.now found request in
-    let early = work_on (tree c.judge.new.files) in
-    let later : SaysWorkedBy (GoesOn early) early on_old device result = says_later (GoesOn early) early on_mid on_old device before result c.answer.ensures.says in
-    let moved : SaysBy GoesOn (account (asks c.in-Asks.plan.parsed)) on_old device result = subst (λ (t : Tree). SaysWorkedBy (GoesOn (work_on t)) (work_on t) on_old device result) c.in_ok-reason.ensures.tree later in
-    subst (λ (d : Judgement). SaysBy GoesOn (account d) on_old device result) decided moved
-
-pub returns-in-Asks-clause-goes_on : goal.returns-in-Asks-clause-goes_on
-returns-in-Asks-clause-goes_on g c =
-    let tree = g.F.Files.tree in
-    let meaning = g.T.Preprocessor.meaning in
-    let request = c.args.request.now in
-    let found = found_of c.args.compiler in
-    let result = c.answer.result in
-    let on_old = FailsOn tree g.F.Files.failed g.F.Files.fails_on c.args.files.now c.answer.new.files in
-    let on_mid = FailsOn tree g.F.Files.failed g.F.Files.fails_on c.judge.new.files c.answer.new.files in
-    let device = FailsIn meaning g.T.Preprocessor.failed g.T.Preprocessor.fails_in c.args.tool.now c.answer.new.tool in
-    let work_on : Tree → Work = λ files. work_at (meaning c.args.tool.now) (call_at found request files c.args.config.now c.in-Asks.plan.parsed) in
-    let before : (name : Bytes) → on_mid name → on_old name = fails_on_later tree g.F.Files.failed g.F.Files.fails_on c.args.files.now c.judge.new.files c.answer.new.files c.in_ok-reason.ensures.tree c.in_ok-reason.ensures.steady in
-    let decided : asks c.in-Asks.plan.parsed ≡ verdict_of found.kind (words_at found request (tree c.args.files.now)) = rw c.in-Asks.is at c.in_ok-reason.ensures.verdict in
-    let account : Judgement → Account = account_by (meaning c.args.tool.now) (tree c.args.files.now) c.args.config.now found request in
+pub returns-in_err-prepared-in-Asks-clause-says : goal.returns-in_err-prepared-in-Asks-clause-says
+returns-in_err-prepared-in-Asks-clause-says g c =
     let digest_of = g.H.HashState.digest_of in
-    let early = work_on (tree c.judge.new.files) in
+    let tree = g.F.Files.tree in
+    let meaning = g.T.Preprocessor.meaning in
+    let request = c.args.request.now in
+    let found = found_of c.args.compiler in
+    let parsed = c.in-Asks.plan.parsed in
+    let decided : asks parsed ≡ verdict_of found.kind (words_at found request (tree c.args.files.now)) = rw c.in-Asks.is at c.in_ok-reason.ensures.verdict in
+    let own : KeyCall = call_at found request (tree c.judge.new.files) c.args.config.now parsed in
+    let w = work_at (meaning c.args.tool.now) own in
+    let on_mid = FailsOn tree g.F.Files.failed g.F.Files.fails_on c.judge.new.files c.prepare.new.files in
+    let on_old = FailsOn tree g.F.Files.failed g.F.Files.fails_on c.args.files.now c.prepare.new.files in
+    let device = FailsIn meaning g.T.Preprocessor.failed g.T.Preprocessor.fails_in c.args.tool.now c.prepare.new.tool in
+    let before : (name : Bytes) → on_mid name → on_old name = fails_on_later tree g.F.Files.failed g.F.Files.fails_on c.args.files.now c.judge.new.files c.prepare.new.files c.in_ok-reason.ensures.tree c.in_ok-reason.ensures.steady in
+    let result = c.from_residual-in_err-prepared-in-Asks.result in
+    of_asked (λ a. SaysBy GoesOn a on_old device result) (meaning c.args.tool.now) _ _ c.args.config.now found request parsed _ c.in_ok-reason.ensures.tree decided
+    (says_later (GoesOn w) w on_mid on_old device before result (key_says (GoesOn w) w on_mid device c.in_err-prepared-in-Asks.field-0.0 c.in_err-prepared-in-Asks.ensures.cause result c.from_residual-in_err-prepared-in-Asks.ensures.1))
+
+pub returns-in_err-prepared-in-Asks-clause-goes_on : goal.returns-in_err-prepared-in-Asks-clause-goes_on
+returns-in_err-prepared-in-Asks-clause-goes_on g c =
+    let digest_of = g.H.HashState.digest_of in
+    let tree = g.F.Files.tree in
+    let meaning = g.T.Preprocessor.meaning in
+    let request = c.args.request.now in
+    let found = found_of c.args.compiler in
+    let parsed = c.in-Asks.plan.parsed in
+    let decided : asks parsed ≡ verdict_of found.kind (words_at found request (tree c.args.files.now)) = rw c.in-Asks.is at c.in_ok-reason.ensures.verdict in
+    let own : KeyCall = call_at found request (tree c.judge.new.files) c.args.config.now parsed in
+    let w = work_at (meaning c.args.tool.now) own in
+    let on_mid = FailsOn tree g.F.Files.failed g.F.Files.fails_on c.judge.new.files c.prepare.new.files in
+    let on_old = FailsOn tree g.F.Files.failed g.F.Files.fails_on c.args.files.now c.prepare.new.files in
+    let device = FailsIn meaning g.T.Preprocessor.failed g.T.Preprocessor.fails_in c.args.tool.now c.prepare.new.tool in
+    let before : (name : Bytes) → on_mid name → on_old name = fails_on_later tree g.F.Files.failed g.F.Files.fails_on c.args.files.now c.judge.new.files c.prepare.new.files c.in_ok-reason.ensures.tree c.in_ok-reason.ensures.steady in
+    let result = c.from_residual-in_err-prepared-in-Asks.result in
     let held = (g.E.Store.shelf c.args.entries.now).held in
-    let said : Work → Type 0 = λ w. RecordsAreTrue digest_of (worked w) held → SaysWorked w on_old device result in
-    let later : said early = λ are_true. says_later (early.fault ≡ None) early on_mid on_old device before result (c.answer.ensures.goes_on are_true) in
-    let moved : said (work_on (tree c.args.files.now)) = subst (λ (t : Tree). said (work_on t)) c.in_ok-reason.ensures.tree later in
-    subst (λ (d : Judgement). RecordsAreTrue digest_of (account d) held → Says (account d) on_old device result) decided moved
+    of_asked (λ a. RecordsAreTrue digest_of a held → Says a on_old device result) (meaning c.args.tool.now) _ _ c.args.config.now found request parsed _ c.in_ok-reason.ensures.tree decided
+    (λ are_true. says_later (w.fault ≡ None) w on_mid on_old device before result (key_says (w.fault ≡ None) w on_mid device c.in_err-prepared-in-Asks.field-0.0 c.in_err-prepared-in-Asks.ensures.cause result c.from_residual-in_err-prepared-in-Asks.ensures.1))
+
+pub returns-in_err-prepared-in-Asks-clause-asked : goal.returns-in_err-prepared-in-Asks-clause-asked
+returns-in_err-prepared-in-Asks-clause-asked g c =
+    let digest_of = g.H.HashState.digest_of in
+    let tree = g.F.Files.tree in
+    let meaning = g.T.Preprocessor.meaning in
+    let request = c.args.request.now in
+    let found = found_of c.args.compiler in
+    let parsed = c.in-Asks.plan.parsed in
+    let decided : asks parsed ≡ verdict_of found.kind (words_at found request (tree c.args.files.now)) = rw c.in-Asks.is at c.in_ok-reason.ensures.verdict in
+    let own : KeyCall = call_at found request (tree c.judge.new.files) c.args.config.now parsed in
+    let w = work_at (meaning c.args.tool.now) own in
+    let fault = c.in_err-prepared-in-Asks.field-0.0 in
+    let e = c.in_err-prepared-in-Asks.ensures in
+    let old = shelves_of (g.E.Store.shelf c.args.entries.now) (g.O.Store.shelf c.args.objects.now) in
+    let new = shelves_of (g.E.Store.shelf c.prepare.new.entries) (g.O.Store.shelf c.args.objects.now) in
+    of_asked (λ a. AskedTurn digest_of a old new (g.T.Preprocessor.preprocessed c.args.tool.now) (g.T.Preprocessor.preprocessed c.prepare.new.tool) (g.T.Preprocessor.compiled c.args.tool.now) (g.T.Preprocessor.compiled c.prepare.new.tool) c.from_residual-in_err-prepared-in-Asks.result) (meaning c.args.tool.now) _ _ c.args.config.now found request parsed _ c.in_ok-reason.ensures.tree decided
+    (asked_fault digest_of (worked w) old new _ _ _ _ _ fault c.from_residual-in_err-prepared-in-Asks.ensures.1 false (key_of digest_of w.rec) refl
+    (c.prepare.ensures.idle, λ h. key_until false _ _ fault (e.until h))
+    (key_turn digest_of (key_of digest_of w.rec) w w.fault _ _ _ c.prepare.ensures.compiles _ _ fault e.cause _ c.from_residual-in_err-prepared-in-Asks.ensures.1))
+
+pub returns-in_err-prepared-in-Asks-clause-still : goal.returns-in_err-prepared-in-Asks-clause-still
+returns-in_err-prepared-in-Asks-clause-still g c own =
+    let kept = c.in_err-prepared-in-Asks.ensures.still (own_fault Prepared c.from_residual-in_err-prepared-in-Asks.result c.in_err-prepared-in-Asks.field-0.0 c.from_residual-in_err-prepared-in-Asks.ensures.1 own) in
+    (kept.0, kept.1 ∙ c.in_ok-reason.ensures.steady)
+
+pub returns-in_ok-prepared-in-Asks-clause-says : goal.returns-in_ok-prepared-in-Asks-clause-says
+returns-in_ok-prepared-in-Asks-clause-says g c =
+    let digest_of = g.H.HashState.digest_of in
+    let tree = g.F.Files.tree in
+    let meaning = g.T.Preprocessor.meaning in
+    let request = c.args.request.now in
+    let found = found_of c.args.compiler in
+    let parsed = c.in-Asks.plan.parsed in
+    let decided : asks parsed ≡ verdict_of found.kind (words_at found request (tree c.args.files.now)) = rw c.in-Asks.is at c.in_ok-reason.ensures.verdict in
+    let own : KeyCall = call_at found request (tree c.judge.new.files) c.args.config.now parsed in
+    let w = work_at (meaning c.args.tool.now) own in
+    let p : PrintedCall = printed_call (meaning c.args.tool.now) own in
+    let k = c.in_ok-prepared-in-Asks.ensures in
+    let on_old = FailsOn tree g.F.Files.failed g.F.Files.fails_on c.args.files.now c.finish.new.files in
+    let device = FailsIn meaning g.T.Preprocessor.failed g.T.Preprocessor.fails_in c.args.tool.now c.finish.new.tool in
+    let later_in = FailsIn meaning g.T.Preprocessor.failed g.T.Preprocessor.fails_in c.prepare.new.tool c.finish.new.tool in
+    let later : (step : Step) → later_in step → device step = fails_in_later meaning g.T.Preprocessor.failed g.T.Preprocessor.fails_in c.args.tool.now c.prepare.new.tool c.finish.new.tool c.prepare.ensures.meaning k.steady.0 in
+    let result = c.finish.result in
+    of_asked (λ a. SaysBy GoesOn a on_old device result) (meaning c.args.tool.now) _ _ c.args.config.now found request parsed _ c.in_ok-reason.ensures.tree decided
+    (finished_says (GoesOn w) w on_old device later_in later (goes_on digest_of w p refl _ _ _ k.from k.fine) result (c.finish.ensures.says digest_of w k.prepared))
+
+pub returns-in_ok-prepared-in-Asks-clause-goes_on : goal.returns-in_ok-prepared-in-Asks-clause-goes_on
+returns-in_ok-prepared-in-Asks-clause-goes_on g c =
+    let digest_of = g.H.HashState.digest_of in
+    let tree = g.F.Files.tree in
+    let meaning = g.T.Preprocessor.meaning in
+    let request = c.args.request.now in
+    let found = found_of c.args.compiler in
+    let parsed = c.in-Asks.plan.parsed in
+    let decided : asks parsed ≡ verdict_of found.kind (words_at found request (tree c.args.files.now)) = rw c.in-Asks.is at c.in_ok-reason.ensures.verdict in
+    let own : KeyCall = call_at found request (tree c.judge.new.files) c.args.config.now parsed in
+    let w = work_at (meaning c.args.tool.now) own in
+    let p : PrintedCall = printed_call (meaning c.args.tool.now) own in
+    let k = c.in_ok-prepared-in-Asks.ensures in
+    let on_old = FailsOn tree g.F.Files.failed g.F.Files.fails_on c.args.files.now c.finish.new.files in
+    let device = FailsIn meaning g.T.Preprocessor.failed g.T.Preprocessor.fails_in c.args.tool.now c.finish.new.tool in
+    let later_in = FailsIn meaning g.T.Preprocessor.failed g.T.Preprocessor.fails_in c.prepare.new.tool c.finish.new.tool in
+    let later : (step : Step) → later_in step → device step = fails_in_later meaning g.T.Preprocessor.failed g.T.Preprocessor.fails_in c.args.tool.now c.prepare.new.tool c.finish.new.tool c.prepare.ensures.meaning k.steady.0 in
+    let result = c.finish.result in
+    let held = (g.E.Store.shelf c.args.entries.now).held in
+    of_asked (λ a. RecordsAreTrue digest_of a held → Says a on_old device result) (meaning c.args.tool.now) _ _ c.args.config.now found request parsed _ c.in_ok-reason.ensures.tree decided
+    (λ are_true. finished_says (w.fault ≡ None) w on_old device later_in later (own_goes_on digest_of w p refl held _ _ k.from k.fine are_true) result (c.finish.ensures.says digest_of w k.prepared))
+
+pub returns-in_ok-prepared-in-Asks-clause-quiet : goal.returns-in_ok-prepared-in-Asks-clause-quiet
+returns-in_ok-prepared-in-Asks-clause-quiet g c =
+    let tool = g.T.Preprocessor in
+    let old = c.args.tool.now in
+    let new = c.finish.new.tool in
+    let w = work_at (tool.meaning old) (call_at (found_of c.args.compiler) c.args.request.now (g.F.Files.tree c.judge.new.files) c.args.config.now c.in-Asks.plan.parsed) in
+    finished_unpassed ((tool.preprocessed new ≡ tool.preprocessed old) × (tool.compiled new ≡ tool.compiled old) × (tool.failed new ≡ tool.failed old)) w _ c.finish.result
+    (c.finish.ensures.says g.H.HashState.digest_of w c.in_ok-prepared-in-Asks.ensures.prepared)
+
+pub returns-in_ok-prepared-in-Asks-clause-asked : goal.returns-in_ok-prepared-in-Asks-clause-asked
+returns-in_ok-prepared-in-Asks-clause-asked g c =
+    let digest_of = g.H.HashState.digest_of in
+    let tree = g.F.Files.tree in
+    let meaning = g.T.Preprocessor.meaning in
+    let request = c.args.request.now in
+    let found = found_of c.args.compiler in
+    let parsed = c.in-Asks.plan.parsed in
+    let decided : asks parsed ≡ verdict_of found.kind (words_at found request (tree c.args.files.now)) = rw c.in-Asks.is at c.in_ok-reason.ensures.verdict in
+    let own : KeyCall = call_at found request (tree c.judge.new.files) c.args.config.now parsed in
+    let w = work_at (meaning c.args.tool.now) own in
+    let p : PrintedCall = printed_call (meaning c.args.tool.now) own in
+    let k = c.in_ok-prepared-in-Asks.ensures in
+    let from = c.in_ok-prepared-in-Asks.prepared.from_record in
+    let key = c.in_ok-prepared-in-Asks.prepared.key.digest in
+    let old = shelves_of (g.E.Store.shelf c.args.entries.now) (g.O.Store.shelf c.args.objects.now) in
+    let new = shelves_of (g.E.Store.shelf c.prepare.new.entries) (g.O.Store.shelf c.finish.new.objects) in
+    let ran : ℕ → Type 0 = λ after. RanForKey w.rec from (g.T.Preprocessor.preprocessed c.args.tool.now) after in
+    let runs : ran (g.T.Preprocessor.preprocessed c.finish.new.tool) = subst ran (sym c.finish.ensures.preprocesses) (c.prepare.ensures.idle, k.runs) in
+    let turned : ℕ → Type 0 = λ compiled. KeyedTurn digest_of key (worked w) old.objects new.objects compiled (g.T.Preprocessor.compiled c.finish.new.tool) c.finish.result in
+    let turn : turned (g.T.Preprocessor.compiled c.args.tool.now) = subst turned c.prepare.ensures.compiles (c.finish.ensures.turn digest_of w k.prepared) in
+    of_asked (λ a. AskedTurn digest_of a old new (g.T.Preprocessor.preprocessed c.args.tool.now) (g.T.Preprocessor.preprocessed c.finish.new.tool) (g.T.Preprocessor.compiled c.args.tool.now) (g.T.Preprocessor.compiled c.finish.new.tool) c.finish.result) (meaning c.args.tool.now) _ _ c.args.config.now found request parsed _ c.in_ok-reason.ensures.tree decided
+    (asked_finished digest_of w old new _ _ _ _ from key k.from (text_fine w p refl from k.fine) runs k.recorded _ _ (c.finish.ensures.says digest_of w k.prepared) c.finish.ensures.how turn)
+
+pub returns-in_ok-prepared-in-Asks-clause-steady : goal.returns-in_ok-prepared-in-Asks-clause-steady
+returns-in_ok-prepared-in-Asks-clause-steady g c =
+    let prepared = c.in_ok-prepared-in-Asks.ensures.steady in
+    steady_later g.T.Preprocessor g.F.Files c.args.tool.now c.prepare.new.tool c.finish.new.tool c.args.files.now c.prepare.new.files c.finish.new.files
+    (prepared.0, prepared.1 ∙ c.in_ok-reason.ensures.steady) c.finish.result c.finish.ensures.steady

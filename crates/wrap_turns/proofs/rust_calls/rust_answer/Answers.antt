@@ -48,7 +48,7 @@ returns-clause-unpassed g c =
     let w = rust_work_at (meaning c.args.tool.now) (rust_call_at c.args.rust.now c.args.request.now (tree c.args.files.now) asked) in
     let moment : to_z w64 (of_z w64 c.args.request.now.moment) ≡ c.args.request.now.moment = search rules in
     let prepared = is_prepared digest_of (meaning c.args.tool.now) (meaning c.rust_prepare.new.tool) (tree c.args.files.now) (tree c.rust_prepare.new.files) c.args.rust.now c.args.request.now asked c.in_ok-made.made _ c.in_ok-made.ensures.prepared c.rust_prepare.ensures.meaning c.rust_prepare.ensures.tree refl refl c.outputs.ensures refl refl moment refl in
-    finished_unpassed w _ _ (c.finish.ensures.says digest_of w prepared)
+    finished_unpassed ⊥ w _ _ (c.finish.ensures.says digest_of w prepared)
 
 pub returns-clause-store : goal.returns-clause-store
 returns-clause-store g c =
