@@ -2,3 +2,4 @@ pub mod StepLemmas
 pub mod TurnLemmas
 pub mod RustLemmas
 pub mod GatherLemmas
+pub mod PrepareLemmas

@@ -27,9 +27,9 @@ use os_files::os_bytes::OsBytes;
 use std::alloc::Global;
 use wrap_base::compiler::AnyC;
 use wrap_base::request::Request;
-use wrap_base::store_key::StoreKey;
+use wrap_base::store_key::{Family, Shape, StoreKey};
 use wrap_base::tool::Tool;
-use wrap_keys::keys::store_key;
+use wrap_keys::keys::{names_of, place_of};
 use wrap_keys::verdict::Plan;
 
 /// A request with its key, the outputs that it wants, and the command that makes them.
@@ -102,13 +102,23 @@ pub fn prepare<'a, H: HashState, E: Store<EntryKey, PreprocessorCacheEntry>, F: 
 {
     // A law, which costs nothing: words of which none holds the byte that ends one can be told apart without the folders too.
     stripped_words_lack_the_end();
-    let (key, from_record) = store_key::<H, E, F, T>(
-        alloc, compiler, request, plan, config, entries, files, tool,
+    let hasher = compiler.hasher(&plan.parsed);
+    let place = place_of(request, config);
+    let (digest, shape, from_record) = hasher.generate_hash_key::<H, E, F, T>(
+        alloc, &place, entries, files, tool,
     )?;
+    let outputs = plan.parsed.outputs.as_slice();
+    let names = names_of(alloc, outputs)?;
+    let key = StoreKey {
+        family: Family::C,
+        shape: Shape::C(shape),
+        names,
+        digest: OsBytes::from_vec(digest.into_bytes()),
+    };
     Ok(Prepared {
         key,
         from_record,
-        outputs: plan.parsed.outputs.as_slice(),
+        outputs,
         command: &plan.compile,
         kind: Some(compiler.kind()),
         moment: request.moment,

@@ -39,7 +39,6 @@ returns-in_err-reason-clause-entries g c =
 
 pub returns-in_err-prepared-in-Asks-clause-says : goal.returns-in_err-prepared-in-Asks-clause-says
 returns-in_err-prepared-in-Asks-clause-says g c =
-    let digest_of = g.H.HashState.digest_of in
     let tree = g.F.Files.tree in
     let meaning = g.T.Preprocessor.meaning in
     let request = c.args.request.now in
