@@ -376,14 +376,23 @@ fn load_ahead<R: Files + AllocGlobal>(
     Ok(())
 }
 
-/// Keeps of what the key of a request was made that was compiled. What it takes is known, so that nothing runs.
+/// Whether the compiler made the outputs.
+fn was_compiled(end: &Option<End>) -> bool {
+    matches!(end, Some(End::Done(How::Fresh)))
+}
+
+/// Keeps of what the key of a request was made, where it was compiled. What it takes is known, so that nothing runs.
 fn note_made<R: Files + AllocGlobal>(
     rt: &R,
     line: &CommandLine,
     request: &Request,
     answered: &SessionAnswer<Sha256>,
+    end: &Option<End>,
     known: &mut Known,
 ) -> Result<(), Stop> {
+    if !was_compiled(end) {
+        return Ok(());
+    }
     let session = &answered.session;
     match session.fingerprint(request, &mut known.files, &mut known.tool) {
         Ok(Ok(fingerprint)) => note_fingerprint(rt, line, request, fingerprint, &mut known.files),
@@ -405,10 +414,8 @@ fn attempt<P: Print + Files + AllocGlobal, I: Read>(
 {
     let (answered, messages) = answer_by(rt.alloc(), request, known)?;
     let end = act_on(rt, line, host, hint, &answered, messages.as_ref(), known)?;
-    if let Some(End::Done(How::Fresh)) = &end {
-        // What was made is there, whatever becomes of this.
-        let _ = note_made(rt, line, request, &answered, known);
-    }
+    // What was made is there, whatever becomes of this.
+    let _ = note_made(rt, line, request, &answered, &end, known);
     Ok(end)
 }
 
