@@ -18,9 +18,7 @@ use os_files::os_bytes::OsBytes;
 use replay::snapshot_files::SnapshotFiles;
 use std::alloc::Global;
 use std::rt::Files;
-use wrap::{
-    CCompilerKind, CParts, Files as CallFiles, Fingerprint, Named, Part, Reason, Request, explain,
-};
+use wrap::{CCompilerKind, Files as CallFiles, Fingerprint, Named, Part, Reason, Request, explain};
 use wrapper_host::command_line::CommandLine;
 use wrapper_host::stop::Stop;
 
@@ -84,21 +82,28 @@ fn difference_from(
     Ok(OsBytes::from_vec(difference.into_bytes()))
 }
 
-/// Keeps these parts of a call that was compiled, whose text is in short, under that name, and what differs from those that lay there.
+/// The fingerprint with its text in short.
+fn in_short(alloc: Global, fingerprint: Fingerprint) -> Result<Fingerprint, Stop> {
+    let Fingerprint::C(mut parts) = fingerprint else {
+        return Err(Stop::Unreadable);
+    };
+    parts.text = short_text(alloc, parts.text.as_bytes())?;
+    Ok(Fingerprint::C(parts))
+}
+
+/// Keeps the parts of a call that was compiled, whose text is in short, under that name, and what differs from those that lay there.
 fn note_parts<R: Files + AllocGlobal>(
     rt: &R,
     folder: &KeptFolder,
     name: &str,
-    parts: CParts,
+    one: &Fingerprint,
 ) -> Result<(), Stop> {
-    let alloc = rt.alloc();
-    let earlier = parts_under(rt, folder, name)?;
-    let one = Fingerprint::C(parts);
-    let difference = difference_from(alloc, &one, earlier)?;
     let Fingerprint::C(parts) = one else {
         return Err(Stop::Unreadable);
     };
-    let kept = kept_parts(alloc, &parts, difference)?;
+    let earlier = parts_under(rt, folder, name)?;
+    let difference = difference_from(rt.alloc(), one, earlier)?;
+    let kept = kept_parts(rt.alloc(), parts, difference)?;
     Ok(put_parts(rt, folder, name, &kept)?)
 }
 
@@ -112,12 +117,9 @@ pub fn note_fingerprint<R: Files + AllocGlobal, F: CallFiles>(
     files: &mut F,
 ) -> Result<(), Stop> {
     let alloc = rt.alloc();
-    let Fingerprint::C(mut parts) = fingerprint else {
-        return Err(Stop::Unreadable);
-    };
-    parts.text = short_text(alloc, parts.text.as_bytes())?;
+    let one = in_short(alloc, fingerprint)?;
     let name = name_of_request(alloc, request, files)?;
-    note_parts(rt, &line.folder, name.as_str(), parts)
+    note_parts(rt, &line.folder, name.as_str(), &one)
 }
 
 /// What words ask a compiler of that kind for. No file is opened.
