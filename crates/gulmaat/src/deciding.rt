@@ -377,8 +377,8 @@ fn load_ahead<R: Files + AllocGlobal>(
 }
 
 /// Whether the compiler made the outputs.
-fn was_compiled(end: &Option<End>) -> bool {
-    matches!(end, Some(End::Done(How::Fresh)))
+fn was_compiled(end: &Result<Option<End>, Stop>) -> bool {
+    matches!(end, Ok(Some(End::Done(How::Fresh))))
 }
 
 /// Keeps of what the key of a request was made, where it was compiled. What it takes is known, so that nothing runs.
@@ -387,7 +387,7 @@ fn note_made<R: Files + AllocGlobal>(
     line: &CommandLine,
     request: &Request,
     answered: &SessionAnswer<Sha256>,
-    end: &Option<End>,
+    end: &Result<Option<End>, Stop>,
     known: &mut Known,
 ) -> Result<(), Stop> {
     if !was_compiled(end) {
@@ -413,10 +413,10 @@ fn attempt<P: Print + Files + AllocGlobal, I: Read>(
     ensures { host.new.compiled ≤ 1 }
 {
     let (answered, messages) = answer_by(rt.alloc(), request, known)?;
-    let end = act_on(rt, line, host, hint, &answered, messages.as_ref(), known)?;
+    let end = act_on(rt, line, host, hint, &answered, messages.as_ref(), known);
     // What was made is there, whatever becomes of this.
     let _ = note_made(rt, line, request, &answered, &end, known);
-    Ok(end)
+    end
 }
 
 /// Asks the session about the request until it answers, each time with more that is known.
