@@ -7,6 +7,7 @@ use crate::kept::{Hint, found, hint_at, hint_name, keep, kept_under, note_hint, 
 use crate::known::Known;
 use crate::passing::reason_against;
 use crate::why::note_fingerprint;
+use fingerprints::fingerprint::request_fingerprint;
 use kept_entries::entry::KeptMessages;
 use kept_folder::folder::Kind;
 use kept_folder::making_room::make_room;
@@ -376,30 +377,6 @@ fn load_ahead<R: Files + AllocGlobal>(
     Ok(())
 }
 
-/// Whether the compiler made the outputs.
-fn was_compiled(end: &Result<Option<End>, Stop>) -> bool {
-    matches!(end, Ok(Some(End::Done(How::Fresh))))
-}
-
-/// Keeps of what the key of a request was made, where it was compiled. What it takes is known, so that nothing runs.
-fn note_made<R: Files + AllocGlobal>(
-    rt: &R,
-    line: &CommandLine,
-    request: &Request,
-    answered: &SessionAnswer<Sha256>,
-    end: &Result<Option<End>, Stop>,
-    known: &mut Known,
-) -> Result<(), Stop> {
-    if !was_compiled(end) {
-        return Ok(());
-    }
-    let session = &answered.session;
-    match session.fingerprint(request, &mut known.files, &mut known.tool) {
-        Ok(Ok(fingerprint)) => note_fingerprint(rt, line, request, fingerprint, &mut known.files),
-        Ok(Err(_)) | Err(_) => Ok(()),
-    }
-}
-
 /// One attempt. None where more is known after it.
 fn attempt<P: Print + Files + AllocGlobal, I: Read>(
     rt: &P,
@@ -413,10 +390,7 @@ fn attempt<P: Print + Files + AllocGlobal, I: Read>(
     ensures { host.new.compiled ≤ 1 }
 {
     let (answered, messages) = answer_by(rt.alloc(), request, known)?;
-    let end = act_on(rt, line, host, hint, &answered, messages.as_ref(), known);
-    // What was made is there, whatever becomes of this.
-    let _ = note_made(rt, line, request, &answered, &end, known);
-    end
+    act_on(rt, line, host, hint, &answered, messages.as_ref(), known)
 }
 
 /// Asks the session about the request until it answers, each time with more that is known.
@@ -466,6 +440,34 @@ fn basedirs_of(alloc: Global, line: &CommandLine) -> Result<Listed<OsBytes>, Sto
     Ok(folders)
 }
 
+/// Whether the compiler made the outputs.
+fn was_compiled(end: &Result<End, Stop>) -> bool {
+    match end {
+        Ok(End::Done(how)) => *how == How::Fresh,
+        Ok(End::Pass(_)) | Err(_) => false,
+    }
+}
+
+/// Keeps of what the key of a request was made, where it was compiled. What it takes is known, so that nothing runs.
+fn note_made<R: Files + AllocGlobal>(
+    rt: &R,
+    line: &CommandLine,
+    request: &Request,
+    end: &Result<End, Stop>,
+    known: &mut Known,
+) -> Result<(), Stop> {
+    if !was_compiled(end) {
+        return Ok(());
+    }
+    let alloc = rt.alloc();
+    let config = config_of(alloc, known.basedirs.as_slice(), &known.zone)?;
+    let files = &mut known.files;
+    match request_fingerprint::<Sha256, _, _>(alloc, &config, request, files, &mut known.tool) {
+        Ok(Ok(fingerprint)) => note_fingerprint(rt, line, request, fingerprint, &mut known.files),
+        Ok(Err(_)) | Err(_) => Ok(()),
+    }
+}
+
 /// Asks the session about the command line of a compiler of that kind.
 fn ask<P: Print + Files + AllocGlobal, I: Read>(
     rt: &P,
@@ -480,7 +482,10 @@ fn ask<P: Print + Files + AllocGlobal, I: Read>(
     let hint = hint_name(rt.alloc(), line)?;
     let basedirs = basedirs_of(rt.alloc(), line)?;
     let mut known = Known::new(rt.alloc(), kind, zone_of(line), basedirs);
-    ask_until(rt, line, host, &request, hint.as_str(), &mut known)
+    let end = ask_until(rt, line, host, &request, hint.as_str(), &mut known);
+    // What was made is there, whatever becomes of this.
+    let _ = note_made(rt, line, &request, &end, &mut known);
+    end
 }
 
 /// Decides on the command line.
