@@ -468,6 +468,41 @@ fn note_made<R: Files + AllocGlobal>(
     }
 }
 
+/// Asks the session about the request until it answers, and notes what was compiled.
+fn ask_and_note<P: Print + Files + AllocGlobal, I: Read>(
+    rt: &P,
+    line: &CommandLine,
+    host: &mut Host<I>,
+    request: &Request,
+    hint: &str,
+    known: &mut Known,
+) -> Result<End, Stop>
+    requires { host.old.compiled ≡ 0 }
+    ensures once { host.new.compiled ≤ 1 }
+{
+    let end = ask_until(rt, line, host, request, hint, known);
+    // What was made is there, whatever becomes of this.
+    let _ = note_made(rt, line, request, &end, known);
+    end
+}
+
+/// Asks the session about the request to a compiler of that kind, of which nothing is known yet.
+fn ask_about<P: Print + Files + AllocGlobal, I: Read>(
+    rt: &P,
+    line: &CommandLine,
+    host: &mut Host<I>,
+    kind: CCompilerKind,
+    request: &Request,
+) -> Result<End, Stop>
+    requires { host.old.compiled ≡ 0 }
+    ensures once { host.new.compiled ≤ 1 }
+{
+    let basedirs = basedirs_of(rt.alloc(), line)?;
+    let hint = hint_name(rt.alloc(), line)?;
+    let mut known = Known::new(rt.alloc(), kind, zone_of(line), basedirs);
+    ask_and_note(rt, line, host, request, hint.as_str(), &mut known)
+}
+
 /// Asks the session about the command line of a compiler of that kind.
 fn ask<P: Print + Files + AllocGlobal, I: Read>(
     rt: &P,
@@ -479,13 +514,7 @@ fn ask<P: Print + Files + AllocGlobal, I: Read>(
     ensures once { host.new.compiled ≤ 1 }
 {
     let request = request_of(rt, line, host, kind)?;
-    let hint = hint_name(rt.alloc(), line)?;
-    let basedirs = basedirs_of(rt.alloc(), line)?;
-    let mut known = Known::new(rt.alloc(), kind, zone_of(line), basedirs);
-    let end = ask_until(rt, line, host, &request, hint.as_str(), &mut known);
-    // What was made is there, whatever becomes of this.
-    let _ = note_made(rt, line, &request, &end, &mut known);
-    end
+    ask_about(rt, line, host, kind, &request)
 }
 
 /// Decides on the command line.
