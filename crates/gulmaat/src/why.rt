@@ -122,6 +122,20 @@ pub fn note_fingerprint<R: Files + AllocGlobal, F: CallFiles>(
     note_parts(rt, &line.folder, name.as_str(), &one)
 }
 
+/// What words ask Gcc for. No file is opened.
+fn asked_by_gcc(alloc: Global, words: &[OsBytes], dir: &OsBytes) -> Result<Asked, Stop> {
+    let gcc = Gcc::new(alloc, false, None, None)?;
+    let mut files = SnapshotFiles::new(alloc);
+    asked_of(alloc, &gcc, words, dir, &mut files)
+}
+
+/// Likewise Clang.
+fn asked_by_clang(alloc: Global, words: &[OsBytes], dir: &OsBytes) -> Result<Asked, Stop> {
+    let clang = Clang::new(alloc, false, None, None)?;
+    let mut files = SnapshotFiles::new(alloc);
+    asked_of(alloc, &clang, words, dir, &mut files)
+}
+
 /// What words ask a compiler of that kind for. No file is opened.
 fn asked_in(
     alloc: Global,
@@ -129,16 +143,9 @@ fn asked_in(
     words: &[OsBytes],
     dir: &OsBytes,
 ) -> Result<Asked, Stop> {
-    let mut files = SnapshotFiles::new(alloc);
     match kind {
-        CCompilerKind::Clang => {
-            let clang = Clang::new(alloc, false, None, None)?;
-            asked_of(alloc, &clang, words, dir, &mut files)
-        }
-        _ => {
-            let gcc = Gcc::new(alloc, false, None, None)?;
-            asked_of(alloc, &gcc, words, dir, &mut files)
-        }
+        CCompilerKind::Clang => asked_by_clang(alloc, words, dir),
+        _ => asked_by_gcc(alloc, words, dir),
     }
 }
 
@@ -164,6 +171,35 @@ fn told_of(alloc: Global, kept: &Option<KeptParts>) -> Result<String, Stop> {
     }
 }
 
+/// What is kept of the last call in that folder with these outputs that was compiled.
+fn kept_at<R: Files + AllocGlobal>(
+    rt: &R,
+    kept: &str,
+    dir: &OsBytes,
+    outputs: &[(OsBytes, ArtifactDescriptor)],
+) -> Result<Option<KeptParts>, Stop> {
+    let name = name_of_parts(rt.alloc(), dir, outputs)?;
+    let folder = KeptFolder {
+        path: String::from_str(rt.alloc(), kept)?,
+        own: String::new(rt.alloc()),
+    };
+    Ok(parts_under(rt, &folder, name.as_str())?)
+}
+
+/// Tells of the call of which this is kept, and which object it made.
+fn tell_of<R: Print + AllocGlobal>(
+    rt: &R,
+    found: &Option<KeptParts>,
+    object: Option<&OsBytes>,
+) -> Result<(), Stop> {
+    let told = told_of(rt.alloc(), found)?;
+    match object {
+        Some(path) => println!(rt; "{path}: {told}")?,
+        None => println!(rt; "{told}")?,
+    }
+    Ok(())
+}
+
 /// Tells of the last call in that folder with these outputs that was compiled.
 fn tell<R: Print + Files + AllocGlobal>(
     rt: &R,
@@ -171,19 +207,42 @@ fn tell<R: Print + Files + AllocGlobal>(
     dir: &OsBytes,
     outputs: &[(OsBytes, ArtifactDescriptor)],
 ) -> Result<(), Stop> {
-    let alloc = rt.alloc();
-    let name = name_of_parts(alloc, dir, outputs)?;
-    let folder = KeptFolder {
-        path: String::from_str(alloc, kept)?,
-        own: String::new(alloc),
-    };
-    let found = parts_under(rt, &folder, name.as_str())?;
-    let told = told_of(alloc, &found)?;
-    match object_in(outputs) {
-        Some(path) => println!(rt; "{path}: {told}")?,
-        None => println!(rt; "{told}")?,
-    }
+    let found = kept_at(rt, kept, dir, outputs)?;
+    tell_of(rt, &found, object_in(outputs))
+}
+
+/// Says that words are passed through.
+fn tell_pass<R: Print>(rt: &R, reason: Reason) -> Result<(), Stop> {
+    println!(rt; "pass: {reason}")?;
     Ok(())
+}
+
+/// Tells of a call in that folder that asks for this.
+fn tell_asked<R: Print + Files + AllocGlobal>(
+    rt: &R,
+    kept: &str,
+    dir: &OsBytes,
+    asked: Asked,
+) -> Result<(), Stop> {
+    match asked {
+        CompilerArguments::Ok(parsed) => tell(rt, kept, dir, parsed.outputs.as_slice()),
+        CompilerArguments::NotCompilation => tell_pass(rt, Reason::NotCompilation),
+        CompilerArguments::CannotCache(reason, more) => {
+            tell_pass(rt, Reason::CannotCache(reason, more))
+        }
+    }
+}
+
+/// Tells of a call of a compiler of that kind in that folder with these words.
+fn tell_words<R: Print + Files + AllocGlobal>(
+    rt: &R,
+    kept: &str,
+    kind: CCompilerKind,
+    dir: &OsBytes,
+    words: &[OsBytes],
+) -> Result<(), Stop> {
+    let asked = asked_in(rt.alloc(), kind, words, dir)?;
+    tell_asked(rt, kept, dir, asked)
 }
 
 /// The words as bytes.
@@ -195,6 +254,19 @@ fn words_in(alloc: Global, words: &[String]) -> Result<Listed<OsBytes>, Stop> {
     Ok(copies)
 }
 
+/// Tells of a command to a compiler of that kind in that folder.
+fn tell_command<R: Print + Files + AllocGlobal>(
+    rt: &R,
+    kept: &str,
+    kind: CCompilerKind,
+    dir: &str,
+    words: &[String],
+) -> Result<(), Stop> {
+    let dir = OsBytes::from_slice(rt.alloc(), dir.as_bytes())?;
+    let words = words_in(rt.alloc(), words)?;
+    tell_words(rt, kept, kind, &dir, words.as_slice())
+}
+
 /// Says in a line, of the last call in that folder with the outputs of this command that was compiled, what differed from the one before
 /// it. Files of words aren't opened.
 pub fn why<R: Print + Files + AllocGlobal>(
@@ -204,7 +276,6 @@ pub fn why<R: Print + Files + AllocGlobal>(
     dir: &str,
     words: &[String],
 ) -> Result<(), Stop> {
-    let alloc = rt.alloc();
     if let Some(word) = words.iter().find(|word| word.as_str().starts_with("@")) {
         println!(rt; "nothing is known: {word} isn't opened")?;
         return Ok(());
@@ -213,17 +284,5 @@ pub fn why<R: Print + Files + AllocGlobal>(
         println!(rt; "pass: unknown compiler")?;
         return Ok(());
     };
-    let words = words_in(alloc, words)?;
-    let dir = OsBytes::from_slice(alloc, dir.as_bytes())?;
-    match asked_in(alloc, kind, words.as_slice(), &dir)? {
-        CompilerArguments::Ok(parsed) => tell(rt, kept, &dir, parsed.outputs.as_slice()),
-        CompilerArguments::NotCompilation => {
-            println!(rt; "pass: {}", Reason::NotCompilation)?;
-            Ok(())
-        }
-        CompilerArguments::CannotCache(reason, more) => {
-            println!(rt; "pass: {}", Reason::CannotCache(reason, more))?;
-            Ok(())
-        }
-    }
+    tell_command(rt, kept, kind, dir, words)
 }
