@@ -124,7 +124,7 @@ def measure_hits(folder, size, trivial):
 def configure(folder, launcher):
     """Writes the build files of googletest, which call the compilers behind that launcher."""
     words = ["cmake", "-S", str(GOOGLETEST), "-B", folder, "-G", "Ninja", "-DCMAKE_BUILD_TYPE=RelWithDebInfo"]
-    words += ["-Dgtest_build_tests=ON", "-DINSTALL_GTEST=OFF"]
+    words += ["-Dgtest_build_samples=ON", "-DINSTALL_GTEST=OFF"]
     if launcher:
         words += [f"-DCMAKE_C_COMPILER_LAUNCHER={launcher}", f"-DCMAKE_CXX_COMPILER_LAUNCHER={launcher}"]
     subprocess.run(words, check=True, stdout=subprocess.DEVNULL, stderr=subprocess.DEVNULL)
@@ -148,7 +148,7 @@ def measure_builds(folder):
         if name == OURS_DIRECT:
             # Ninja's builds ask for dependency files, for which direct mode isn't used.
             continue
-        place = os.path.join(folder, name.replace(" ", "_"))
+        place = os.path.join(folder, "build_by_" + name.replace(" ", "_"))
         configure(place, before[0])
         kept = next(iter(variables.values()))
 
