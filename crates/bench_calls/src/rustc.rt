@@ -54,6 +54,7 @@ fn parts(alloc: Global, sources: u32) -> Result<Parts, AllocError> {
         externs: Listed::new(alloc),
         archives: Listed::new(alloc),
         target: None,
+        profile: None,
         env_deps: Listed::new(alloc),
         variables: Listed::new(alloc),
         dir: OsBytes::empty(alloc),

@@ -178,7 +178,18 @@ fn write_c<W: fmt::Write>(
         Part::Assembler => write_optional(f, part, &one.assembler, &earlier.assembler),
         Part::Text => write_line(f, &one.text, &earlier.text),
         Part::Names => write_names(f, one.names.as_slice(), earlier.names.as_slice()),
-        _ => write!(f, "{part}"),
+        Part::Family
+        | Part::Toolchain
+        | Part::Version
+        | Part::KeptWords
+        | Part::Sources
+        | Part::Externs
+        | Part::Archives
+        | Part::Target
+        | Part::Profile
+        | Part::EnvDeps
+        | Part::CargoPairs
+        | Part::Directory => write!(f, "{part}"),
     }
 }
 
@@ -217,12 +228,22 @@ fn write_rustc<W: fmt::Write>(
             write_first(f, "static library", one.archives.as_slice(), others)
         }
         Part::Target => write_optional(f, part, &one.target, &earlier.target),
+        Part::Profile => write_optional(f, part, &one.profile, &earlier.profile),
         Part::EnvDeps => write_env_deps(f, one.env_deps.as_slice(), earlier.env_deps.as_slice()),
         Part::CargoPairs => {
             write_variables(f, one.variables.as_slice(), earlier.variables.as_slice())
         }
         Part::Directory => write!(f, "{part}: {}, earlier {}", one.dir, earlier.dir),
-        _ => write!(f, "{part}"),
+        Part::Family
+        | Part::Compiler
+        | Part::Plusplus
+        | Part::Language
+        | Part::Words
+        | Part::Variables
+        | Part::ExtraContents
+        | Part::Assembler
+        | Part::Text
+        | Part::Names => write!(f, "{part}"),
     }
 }
 

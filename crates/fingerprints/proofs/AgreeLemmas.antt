@@ -6,7 +6,7 @@ use Rattle.fingerprints.specs.declared.c_parts.CParts.{CParts}
 use Rattle.fingerprints.specs.declared.fingerprint.Fingerprint.{Fingerprint}
 use Rattle.fingerprints.specs.declared.fingerprint.Fingerprint.TheVariants.{C, Rustc}
 use Rattle.fingerprints.specs.declared.part.Part.{Part}
-use Rattle.fingerprints.specs.declared.part.Part.TheVariants.{Family, Compiler, Plusplus, Language, Words, Variables, ExtraContents, Assembler, Text, Names, Toolchain, Version, KeptWords, Sources, Externs, Archives, Target, EnvDeps, CargoPairs, Directory}
+use Rattle.fingerprints.specs.declared.part.Part.TheVariants.{Family, Compiler, Plusplus, Language, Words, Variables, ExtraContents, Assembler, Text, Names, Toolchain, Version, KeptWords, Sources, Externs, Archives, Target, Profile, EnvDeps, CargoPairs, Directory}
 
 -- where there is no first part of which something doesn't hold, it holds of all
 all_hold : (P : Part → Type 0) (parts : List Part) → IsFirst P parts None → AllByRecursion P parts
@@ -39,6 +39,7 @@ same_c one Sources = tt
 same_c one Externs = tt
 same_c one Archives = tt
 same_c one Target = tt
+same_c one Profile = tt
 same_c one EnvDeps = tt
 same_c one CargoPairs = tt
 same_c one Directory = tt
@@ -62,6 +63,7 @@ same (Rustc one names) Sources = refl
 same (Rustc one names) Externs = refl
 same (Rustc one names) Archives = refl
 same (Rustc one names) Target = refl
+same (Rustc one names) Profile = refl
 same (Rustc one names) EnvDeps = refl
 same (Rustc one names) CargoPairs = refl
 same (Rustc one names) Directory = refl
@@ -89,10 +91,11 @@ equal_where_all (Rustc one names) (Rustc other others) h = λ i. Rustc (record {
   externs = h.1.1.1.1.1.0 i;
   archives = h.1.1.1.1.1.1.0 i;
   target = h.1.1.1.1.1.1.1.0 i;
-  env_deps = h.1.1.1.1.1.1.1.1.0 i;
-  variables = h.1.1.1.1.1.1.1.1.1.0 i;
-  dir = h.1.1.1.1.1.1.1.1.1.1.0 i;
-}) (h.1.1.1.1.1.1.1.1.1.1.1.0 i)
+  profile = h.1.1.1.1.1.1.1.1.0 i;
+  env_deps = h.1.1.1.1.1.1.1.1.1.0 i;
+  variables = h.1.1.1.1.1.1.1.1.1.1.0 i;
+  dir = h.1.1.1.1.1.1.1.1.1.1.1.0 i;
+}) (h.1.1.1.1.1.1.1.1.1.1.1.1.0 i)
 
 pub none_is_equal : (one other : Fingerprint) (found : Option Part) → IsFirst (AgreeIn one other) (parts_in one) found → (found ≡ None) ↔ (one ≡ other)
 none_is_equal one other found first = (

@@ -10,7 +10,7 @@ use Rattle.ckeys_records.proofs.KeyLemmas.{contents_told}
 use Rattle.rustc_parts.specs.declared.parts.Parts.{Parts}
 use Rattle.rustkeys.specs.Records as rustc
 use Rattle.rustkeys.specs.Records.{RustRecord}
-use Rattle.rustkeys.proofs.KeyLemmas.{target_told}
+use Rattle.rustkeys.proofs.KeyLemmas.{optional_told}
 use Rattle.wrap_keys.specs.Account.{Work}
 use Rattle.wrap_keys.specs.CallRecords.{AreDistinct, CallRecord, of_c, of_rustc}
 use Rattle.wrap_keys.specs.StoreKeys.{SameRecord}
@@ -39,7 +39,8 @@ module _ (digest_of : Bytes → Bytes) (tells : (one other : Bytes) → hex_of (
   rustc_told a b distinct parts =
       let sources : a.sources ≡ b.sources = contents_told digest_of tells a.sources b.sources (λ x y u v. distinct x y (inl (inl u)) (inr (inl v))) (ap (λ (h : Parts). h.sources) parts) in
       let externs : a.externs ≡ b.externs = contents_told digest_of tells a.externs b.externs (λ x y u v. distinct x y (inl (inr (inl u))) (inr (inr (inl v)))) (ap (λ (h : Parts). h.externs) parts) in
-      let target : a.target ≡ b.target = target_told digest_of tells a.target b.target (λ x y u v. distinct x y (inl (inr (inr (inl u)))) (inr (inr (inr (inl v))))) (ap (λ (h : Parts). h.target) parts) in
+      let target : a.target ≡ b.target = optional_told digest_of tells a.target b.target (λ x y u v. distinct x y (inl (inr (inr (inl u)))) (inr (inr (inr (inl v))))) (ap (λ (h : Parts). h.target) parts) in
+      let profile : a.profile ≡ b.profile = optional_told digest_of tells a.profile b.profile (λ x y u v. distinct x y (inl (inr (inr (inr (inl u))))) (inr (inr (inr (inr (inl v)))))) (ap (λ (h : Parts). h.profile) parts) in
       λ i. record {
         toolchain = (parts i).toolchain;
         version = (parts i).version;
@@ -48,6 +49,7 @@ module _ (digest_of : Bytes → Bytes) (tells : (one other : Bytes) → hex_of (
         externs = externs i;
         archives = (parts i).archives;
         target = target i;
+        profile = profile i;
         env_deps = (parts i).env_deps;
         variables = (parts i).variables;
         dir = (parts i).dir;

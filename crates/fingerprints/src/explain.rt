@@ -19,10 +19,20 @@ fn agree_by_rustc(one: &Parts, other: &Parts, part: Part) -> bool
         Part::Externs => one.externs == other.externs,
         Part::Archives => one.archives == other.archives,
         Part::Target => one.target == other.target,
+        Part::Profile => one.profile == other.profile,
         Part::EnvDeps => one.env_deps == other.env_deps,
         Part::CargoPairs => one.variables == other.variables,
         Part::Directory => one.dir == other.dir,
-        _ => true,
+        Part::Family
+        | Part::Compiler
+        | Part::Plusplus
+        | Part::Language
+        | Part::Words
+        | Part::Variables
+        | Part::ExtraContents
+        | Part::Assembler
+        | Part::Text
+        | Part::Names => true,
     }
 }
 
@@ -36,7 +46,8 @@ fn agree_in(one: &Fingerprint, other: &Fingerprint, part: Part) -> bool
             Part::Names => names == others,
             _ => agree_by_rustc(one, other, part),
         },
-        _ => false,
+        (Fingerprint::C(_), Fingerprint::Rustc(_, _))
+        | (Fingerprint::Rustc(_, _), Fingerprint::C(_)) => false,
     }
 }
 
@@ -66,6 +77,7 @@ fn parts_in(fingerprint: &Fingerprint) -> &'static [Part]
             Part::Externs,
             Part::Archives,
             Part::Target,
+            Part::Profile,
             Part::EnvDeps,
             Part::CargoPairs,
             Part::Directory,

@@ -40,6 +40,8 @@ pub enum Part {
     Archives,
     /// The contents of the file that describes the target.
     Target,
+    /// The contents of the profile that code generation uses.
+    Profile,
     /// The variables that the source names.
     EnvDeps,
     /// The variables of the call that count.
@@ -67,6 +69,7 @@ impl fmt::Display for Part {
             Part::Externs => "crates",
             Part::Archives => "static libraries",
             Part::Target => "target file",
+            Part::Profile => "profile",
             Part::EnvDeps => "variables of the source",
             Part::Directory => "directory",
         })

@@ -5,7 +5,6 @@ ghost use Rattle.std.specs.Option.{option_copied};
 
 use ckeys_records::output_name::OutputName;
 use ckeys_records::shape::CShape;
-use rustc_parts::parts::RShape;
 use std::alloc::{AllocError, Global};
 use wrap::{Listed, Pairs, Shape, Store, StoreKey};
 
@@ -42,40 +41,13 @@ fn c_shape_again(alloc: Global, shape: &CShape) -> Result<CShape, AllocError>
     })
 }
 
-/// Copies of marks.
-fn marks_again(alloc: Global, marks: &[bool]) -> Result<Listed<bool>, AllocError>
-    ensures { IfOk result (λ copy. copy ≡ marks.now) }
-{
-    let mut copy = Vec::with_capacity(alloc, marks.len())?;
-    for mark in marks {
-        copy.push(*mark)?;
-    }
-    Ok(Listed::from_vec(copy))
-}
-
-/// A copy of the shape of a request to rustc.
-fn rustc_shape_again(alloc: Global, shape: &RShape) -> Result<RShape, AllocError>
-    ensures { IfOk result (λ copy. copy ≡ shape.now) }
-{
-    Ok(RShape {
-        toolchain: shape.toolchain,
-        words: sizes_again(alloc, shape.words.as_slice())?,
-        sources: shape.sources,
-        externs: shape.externs,
-        archives: shape.archives,
-        has_target: shape.has_target,
-        env_deps: marks_again(alloc, shape.env_deps.as_slice())?,
-        variables: shape.variables,
-    })
-}
-
 /// A copy of a shape.
 fn shape_again(alloc: Global, shape: &Shape) -> Result<Shape, AllocError>
     ensures { IfOk result (λ copy. copy ≡ shape.now) }
 {
     match shape {
         Shape::C(shape) => Ok(Shape::C(c_shape_again(alloc, shape)?)),
-        Shape::Rustc(shape) => Ok(Shape::Rustc(rustc_shape_again(alloc, shape)?)),
+        Shape::Rustc(shape) => Ok(Shape::Rustc(shape.clone()?)),
     }
 }
 

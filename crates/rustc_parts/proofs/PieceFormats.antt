@@ -12,7 +12,7 @@ use Rattle.byte_formats.specs.Reading.{Read, ◌>>=◌, framed_at, taken_at, tim
 use Rattle.byte_formats.specs.Spelling.{BothFit, FitsFrame, IfFits, framed, number}
 use Rattle.rustc_parts.specs.Formed.{IsDigest, is_digit}
 use Rattle.rustc_parts.specs.Material.{env_dep_bytes, joined, pair_bytes}
-use Rattle.rustc_parts.specs.Reading.{behind_at, byte_at, digest_at, each_at, env_dep_at, pair_at, target_at, valued, words_at}
+use Rattle.rustc_parts.specs.Reading.{behind_at, byte_at, digest_at, each_at, env_dep_at, pair_at, optional_digest_at, valued, words_at}
 use Rattle.rustc_parts.specs.declared.parts.EnvDep.{EnvDep}
 
 IsBytes-drop : (n : ℕ) (bytes : Bytes) → IsBytes bytes → IsBytes (drop n bytes)
@@ -126,29 +126,29 @@ module _ {X : Type 0} (b : ℕ) (one : Bytes → Read X) (f : X → Bytes) (P : 
   pub behind_format : IsFormat (behind_at b one) (λ x. b ∷ f x) P
   behind_format = record { takes = behind_takes; again = behind_again }
 
--- ---- the target
+-- ---- a digest where there is one
 
-abbrev pub IsTarget : ℕ → Bool → Option Bytes → Type 0
-IsTarget width has_target target = IfFits (IsDigest width) target × (is_some target ≡ has_target)
+abbrev pub IsOptionalDigest : ℕ → Bool → Option Bytes → Type 0
+IsOptionalDigest width is_there digest = IfFits (IsDigest width) digest × (is_some digest ≡ is_there)
 
-target_takes : (width : ℕ) (has_target : Bool) (bytes : Bytes) (x : Option Bytes × Bytes) → IsBytes bytes → target_at width has_target bytes ≡ Some x → Takes bytes (unwrap_or x.0 []) x.1 × IsTarget width has_target x.0
-unfolding target_at
-target_takes width false bytes x fits e =
-    subst (λ (y : Option Bytes × Bytes). Takes bytes (unwrap_or y.0 []) y.1 × IsTarget width false y.0) (some_is (None, bytes) x e) (record { parts = refl; rest_is = fits }, (tt, refl))
-target_takes width true bytes x fits e =
+optional_digest_takes : (width : ℕ) (is_there : Bool) (bytes : Bytes) (x : Option Bytes × Bytes) → IsBytes bytes → optional_digest_at width is_there bytes ≡ Some x → Takes bytes (unwrap_or x.0 []) x.1 × IsOptionalDigest width is_there x.0
+unfolding optional_digest_at
+optional_digest_takes width false bytes x fits e =
+    subst (λ (y : Option Bytes × Bytes). Takes bytes (unwrap_or y.0 []) y.1 × IsOptionalDigest width false y.0) (some_is (None, bytes) x e) (record { parts = refl; rest_is = fits }, (tt, refl))
+optional_digest_takes width true bytes x fits e =
     let b = bind_some (digest_at width bytes) (λ digest. Some (Some digest.0, digest.1)) x e in
     let t = digest_takes width bytes b.0 fits b.1 in
-    subst (λ (y : Option Bytes × Bytes). Takes bytes (unwrap_or y.0 []) y.1 × IsTarget width true y.0) (some_is (Some b.0.0, b.0.1) x b.2) (t.0, (t.1, refl))
+    subst (λ (y : Option Bytes × Bytes). Takes bytes (unwrap_or y.0 []) y.1 × IsOptionalDigest width true y.0) (some_is (Some b.0.0, b.0.1) x b.2) (t.0, (t.1, refl))
 
-target_again : (width : ℕ) (target : Option Bytes) (rest : Bytes) → IfFits (IsDigest width) target → target_at width (is_some target) (unwrap_or target [] ++ rest) ≡ Some (target, rest)
-unfolding target_at
-target_again width None rest fits = refl
-target_again width (Some t) rest fits = rw (digest_again width t rest fits) refl
+optional_digest_again : (width : ℕ) (digest : Option Bytes) (rest : Bytes) → IfFits (IsDigest width) digest → optional_digest_at width (is_some digest) (unwrap_or digest [] ++ rest) ≡ Some (digest, rest)
+unfolding optional_digest_at
+optional_digest_again width None rest fits = refl
+optional_digest_again width (Some t) rest fits = rw (digest_again width t rest fits) refl
 
-pub target_format : (width : ℕ) (has_target : Bool) → IsFormat (target_at width has_target) (λ target. unwrap_or target []) (IsTarget width has_target)
-target_format width has_target = record {
-  takes = target_takes width has_target;
-  again = λ target rest fits. subst (λ (has : Bool). target_at width has (unwrap_or target [] ++ rest) ≡ Some (target, rest)) fits.1 (target_again width target rest fits.0);
+pub optional_digest_format : (width : ℕ) (is_there : Bool) → IsFormat (optional_digest_at width is_there) (λ digest. unwrap_or digest []) (IsOptionalDigest width is_there)
+optional_digest_format width is_there = record {
+  takes = optional_digest_takes width is_there;
+  again = λ digest rest fits. subst (λ (has : Bool). optional_digest_at width has (unwrap_or digest [] ++ rest) ≡ Some (digest, rest)) fits.1 (optional_digest_again width digest rest fits.0);
 }
 
 -- ---- words

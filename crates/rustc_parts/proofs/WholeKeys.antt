@@ -16,7 +16,7 @@ use Rattle.rustc_parts.specs.Reading.{Files, Front, Surroundings, digest_at, fil
 use Rattle.rustc_parts.specs.Shapes.{shape_of}
 use Rattle.rustc_parts.specs.declared.parts.Parts.{Parts}
 use Rattle.rustc_parts.specs.declared.parts.RShape.{RShape}
-use Rattle.rustc_parts.proofs.PieceFormats.{AreWords, EnvDepFits, IsTarget, PairFits, behind_format, digest_format, each_format, env_dep_format, pair_format, row_format, target_format, words_format}
+use Rattle.rustc_parts.proofs.PieceFormats.{AreWords, EnvDepFits, IsOptionalDigest, PairFits, behind_format, digest_format, each_format, env_dep_format, pair_format, row_format, optional_digest_format, words_format}
 use Rattle.rustc_parts.specs.Reading.{env_dep_at, pair_at}
 use Rattle.std.specs.Prelude.{is_some}
 
@@ -29,15 +29,15 @@ digests_format : (width n : ℕ) → IsFormat (times_at (digest_at width) n) joi
 digests_format width n = row_format (digest_at width) (λ t. t) (IsDigest width) (digest_format width) n
 
 abbrev FilesFit : ℕ → RShape → Files → Type 0
-FilesFit width s = BothFit (AreDigests width s.sources) (BothFit (AreDigests width s.externs) (BothFit (AreDigests digest_digits s.archives) (IsTarget width s.has_target)))
+FilesFit width s = BothFit (AreDigests width s.sources) (BothFit (AreDigests width s.externs) (BothFit (AreDigests digest_digits s.archives) (BothFit (IsOptionalDigest width s.has_target) (IsOptionalDigest width s.has_profile))))
 
 abbrev files_spelled : Files → Bytes
-files_spelled = both joined (both joined (both joined (λ target. unwrap_or target [])))
+files_spelled = both joined (both joined (both joined (both (λ digest. unwrap_or digest []) (λ digest. unwrap_or digest []))))
 
 files_format : (width : ℕ) (s : RShape) → IsFormat (files_at width s) files_spelled (FilesFit width s)
 unfolding files_at
 files_format width s =
-    both_format _ _ _ _ _ _ (digests_format width s.sources) (both_format _ _ _ _ _ _ (digests_format width s.externs) (both_format _ _ _ _ _ _ (digests_format digest_digits s.archives) (target_format width s.has_target)))
+    both_format _ _ _ _ _ _ (digests_format width s.sources) (both_format _ _ _ _ _ _ (digests_format width s.externs) (both_format _ _ _ _ _ _ (digests_format digest_digits s.archives) (both_format _ _ _ _ _ _ (optional_digest_format width s.has_target) (optional_digest_format width s.has_profile))))
 
 abbrev SurroundingsFit : RShape → Surroundings → Type 0
 SurroundingsFit s = BothFit (λ deps. AllByRecursion EnvDepFits deps × (map (λ dep. is_some dep.value) deps ≡ s.env_deps)) (BothFit (λ pairs. AllByRecursion PairFits pairs × (length pairs ≡ s.variables)) FitsFrame)
@@ -54,12 +54,12 @@ abbrev FrontFits : ℕ → RShape → Front → Type 0
 FrontFits width s = BothFit (AreDigests digest_digits s.toolchain) (BothFit (AreWords s.words) (BothFit (FilesFit width s) (SurroundingsFit s)))
 
 abbrev front_spelled : Front → Bytes
-front_spelled f = 55 ∷ both joined (both (λ ws. framed (joined ws)) (both files_spelled surroundings_spelled)) f
+front_spelled f = 56 ∷ both joined (both (λ ws. framed (joined ws)) (both files_spelled surroundings_spelled)) f
 
 front_format : (width : ℕ) (s : RShape) → IsFormat (front_at width s) front_spelled (FrontFits width s)
 unfolding front_at
 front_format width s =
-    behind_format 55 _ _ _ (both_format _ _ _ _ _ _ (digests_format digest_digits s.toolchain) (both_format _ _ _ _ _ _ (words_format s.words) (both_format _ _ _ _ _ _ (files_format width s) (surroundings_format s))))
+    behind_format 56 _ _ _ (both_format _ _ _ _ _ _ (digests_format digest_digits s.toolchain) (both_format _ _ _ _ _ _ (words_format s.words) (both_format _ _ _ _ _ _ (files_format width s) (surroundings_format s))))
 
 -- ---- the version
 
@@ -97,14 +97,14 @@ version_again t =
 
 -- ---- the pieces in a row
 
-behind_version : (tc w s e a t deps vars dir v : Bytes) → tc ++ w ++ (s ++ e ++ a ++ t) ++ deps ++ vars ++ dir ++ v ++ (255 ∷ []) ≡ (tc ++ (w ++ ((s ++ (e ++ (a ++ t))) ++ (deps ++ (vars ++ dir))))) ++ (v ++ (255 ∷ []))
-behind_version tc w s e a t deps vars dir v = simp append_assoc
+behind_version : (tc w s e a t pr deps vars dir v : Bytes) → tc ++ w ++ (s ++ e ++ a ++ t ++ pr) ++ deps ++ vars ++ dir ++ v ++ (255 ∷ []) ≡ (tc ++ (w ++ ((s ++ (e ++ (a ++ (t ++ pr)))) ++ (deps ++ (vars ++ dir))))) ++ (v ++ (255 ∷ []))
+behind_version tc w s e a t pr deps vars dir v = simp append_assoc
 
-in_row : (tc w s e a t deps vars dir v : Bytes) → (55 ∷ []) ++ tc ++ w ++ (s ++ e ++ a ++ t) ++ deps ++ vars ++ dir ++ v ++ (255 ∷ []) ≡ (55 ∷ (tc ++ (w ++ ((s ++ (e ++ (a ++ t))) ++ (deps ++ (vars ++ dir)))))) ++ (v ++ (255 ∷ []))
-in_row tc w s e a t deps vars dir v = ap (λ (x : Bytes). 55 ∷ x) (behind_version tc w s e a t deps vars dir v)
+in_row : (tc w s e a t pr deps vars dir v : Bytes) → (56 ∷ []) ++ tc ++ w ++ (s ++ e ++ a ++ t ++ pr) ++ deps ++ vars ++ dir ++ v ++ (255 ∷ []) ≡ (56 ∷ (tc ++ (w ++ ((s ++ (e ++ (a ++ (t ++ pr)))) ++ (deps ++ (vars ++ dir)))))) ++ (v ++ (255 ∷ []))
+in_row tc w s e a t pr deps vars dir v = ap (λ (x : Bytes). 56 ∷ x) (behind_version tc w s e a t pr deps vars dir v)
 
 material_in_row : (p : Parts) → material_of p ≡ front_spelled (front_of p) ++ (p.version ++ (255 ∷ []))
-material_in_row p = in_row (joined p.toolchain) (framed (joined p.words)) (joined p.sources) (joined p.externs) (joined p.archives) (unwrap_or p.target []) (flat_map env_dep_bytes p.env_deps) (flat_map pair_bytes p.variables) (framed p.dir) p.version
+material_in_row p = in_row (joined p.toolchain) (framed (joined p.words)) (joined p.sources) (joined p.externs) (joined p.archives) (unwrap_or p.target []) (unwrap_or p.profile []) (flat_map env_dep_bytes p.env_deps) (flat_map pair_bytes p.variables) (framed p.dir) p.version
 
 -- ---- what stands in bytes that can be counted can be counted
 
@@ -114,7 +114,7 @@ record PiecesFit (words deps pairs place : Bytes) : Type 0 where
   in_pairs : FitsFrame pairs
   in_place : FitsFrame place
 
-pieces_fit : (tc w f deps vars dir v : Bytes) → FitsFrame ((55 ∷ []) ++ tc ++ w ++ f ++ deps ++ vars ++ dir ++ v ++ (255 ∷ [])) → PiecesFit w deps vars dir
+pieces_fit : (tc w f deps vars dir v : Bytes) → FitsFrame ((56 ∷ []) ++ tc ++ w ++ f ++ deps ++ vars ++ dir ++ v ++ (255 ∷ [])) → PiecesFit w deps vars dir
 pieces_fit tc w f deps vars dir v fits =
     let len : length (tc ++ w ++ f ++ deps ++ vars ++ dir ++ v ++ (255 ∷ [])) ≡ length tc + length w + length f + length deps + length vars + length dir + length v + 1 = simp length-append in
     let all : length (tc ++ w ++ f ++ deps ++ vars ++ dir ++ v ++ (255 ∷ [])) < 2 ^ 64 = omega (arith, fits) in
@@ -138,8 +138,8 @@ row_fits f P one (x ∷ xs) fits =
 
 -- ---- all of it
 
-shape_is : (s other : RShape) → s.toolchain ≡ other.toolchain → s.words ≡ other.words → s.sources ≡ other.sources → s.externs ≡ other.externs → s.archives ≡ other.archives → s.has_target ≡ other.has_target → s.env_deps ≡ other.env_deps → s.variables ≡ other.variables → s ≡ other
-shape_is s other a b c d e f g h = λ i. record { toolchain = a i; words = b i; sources = c i; externs = d i; archives = e i; has_target = f i; env_deps = g i; variables = h i }
+shape_is : (s other : RShape) → s.toolchain ≡ other.toolchain → s.words ≡ other.words → s.sources ≡ other.sources → s.externs ≡ other.externs → s.archives ≡ other.archives → s.has_target ≡ other.has_target → s.has_profile ≡ other.has_profile → s.env_deps ≡ other.env_deps → s.variables ≡ other.variables → s ≡ other
+shape_is s other a b c d e f g h k = λ i. record { toolchain = a i; words = b i; sources = c i; externs = d i; archives = e i; has_target = f i; has_profile = g i; env_deps = h i; variables = k i }
 
 pub record IsRead (width : ℕ) (s : RShape) (bytes : Bytes) (p : Parts) : Type 0 where
   pub digests : HasDigests width p
@@ -157,17 +157,17 @@ parts_take width s bytes p fits e =
     let around = t.1.1.1.1 in
     let made = parts_from a.0.0 b.0 in
     let whole : material_of made ≡ bytes = material_in_row made ∙ ap (λ (rest : Bytes). front_spelled a.0.0 ++ rest) (sym v) ∙ sym t.0.parts in
-    let digests : HasDigests width made = record { toolchain = t.1.0.0; sources = files.0.0; externs = files.1.0.0; archives = files.1.1.0.0; target = files.1.1.1.0 } in
-    let shaped : shape_of made ≡ s = shape_is (shape_of made) s t.1.0.1 t.1.1.0.1 files.0.1 files.1.0.1 files.1.1.0.1 files.1.1.1.1 around.0.1 around.1.0.1 in
+    let digests : HasDigests width made = record { toolchain = t.1.0.0; sources = files.0.0; externs = files.1.0.0; archives = files.1.1.0.0; target = files.1.1.1.0.0; profile = files.1.1.1.1.0 } in
+    let shaped : shape_of made ≡ s = shape_is (shape_of made) s t.1.0.1 t.1.1.0.1 files.0.1 files.1.0.1 files.1.1.0.1 files.1.1.1.0.1 files.1.1.1.1.1 around.0.1 around.1.0.1 in
     subst (IsRead width s bytes) (some_is made p b.2) (record { digests = digests; material = whole; shape = shaped })
 
 parts_again : (width : ℕ) (p : Parts) → HasDigests width p → FitsFrame (material_of p) → parts_at width (shape_of p) (material_of p) ≡ Some p
 unfolding parts_at
 parts_again width p is fits =
-    let f = pieces_fit (joined p.toolchain) (framed (joined p.words)) (joined p.sources ++ joined p.externs ++ joined p.archives ++ unwrap_or p.target []) (flat_map env_dep_bytes p.env_deps) (flat_map pair_bytes p.variables) (framed p.dir) p.version fits in
+    let f = pieces_fit (joined p.toolchain) (framed (joined p.words)) (joined p.sources ++ joined p.externs ++ joined p.archives ++ unwrap_or p.target [] ++ unwrap_or p.profile []) (flat_map env_dep_bytes p.env_deps) (flat_map pair_bytes p.variables) (framed p.dir) p.version fits in
     let deps = row_fits env_dep_bytes EnvDepFits (λ dep. pair_fits (dep.name, unwrap_or dep.value [])) p.env_deps f.in_deps in
     let vars = row_fits pair_bytes PairFits pair_fits p.variables f.in_pairs in
-    let all : FrontFits width (shape_of p) (front_of p) = ((is.toolchain, refl), ((frame_fits (joined p.words) f.in_words, refl), (((is.sources, refl), ((is.externs, refl), ((is.archives, refl), (is.target, refl)))), ((deps, refl), ((vars, refl), frame_fits p.dir f.in_place))))) in
+    let all : FrontFits width (shape_of p) (front_of p) = ((is.toolchain, refl), ((frame_fits (joined p.words) f.in_words, refl), (((is.sources, refl), ((is.externs, refl), ((is.archives, refl), ((is.target, refl), (is.profile, refl))))), ((deps, refl), ((vars, refl), frame_fits p.dir f.in_place))))) in
     let read : front_at width (shape_of p) (material_of p) ≡ Some (front_of p, p.version ++ (255 ∷ [])) = ap (front_at width (shape_of p)) (material_in_row p) ∙ (front_format width (shape_of p)).again (front_of p) (p.version ++ (255 ∷ [])) all in
     rw (read, version_again p.version) refl
 

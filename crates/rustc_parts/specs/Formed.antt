@@ -30,6 +30,7 @@ pub record HasDigests (width : ℕ) (p : Parts) : Type 0 where
   pub externs : AllByRecursion (IsDigest width) p.externs
   pub archives : AllByRecursion (IsDigest digest_digits) p.archives
   pub target : IfFits (IsDigest width) p.target
+  pub profile : IfFits (IsDigest width) p.profile
 
 -- variables stand in order; a repeated one may stand
 pub record IsSortedByNames (p : Parts) : Type 0 where

@@ -9,7 +9,7 @@ use Rattle.rustc_parts.specs.declared.parts.Parts.{Parts}
 
 -- the version of this layout
 abbrev pub cache_version : Bytes
-cache_version = codes "7"
+cache_version = codes "8"
 
 -- one right behind the other
 abbrev pub joined : List Bytes → Bytes
@@ -23,9 +23,9 @@ pair_bytes pair = framed pair.0 ++ (byte "=" ∷ framed pair.1)
 abbrev pub env_dep_bytes : EnvDep → Bytes
 env_dep_bytes dep = pair_bytes (dep.name, unwrap_or dep.value [])
 
--- the digests of files: of the sources, of the crates that they name, of static libraries, and of the target's file
+-- the digests of files: of the sources, of the crates that they name, of static libraries, of the target's file, and of the profile
 abbrev pub files_bytes : Parts → Bytes
-files_bytes p = joined p.sources ++ joined p.externs ++ joined p.archives ++ unwrap_or p.target []
+files_bytes p = joined p.sources ++ joined p.externs ++ joined p.archives ++ unwrap_or p.target [] ++ unwrap_or p.profile []
 
 -- The version of this layout, the digests of the toolchain, the words behind their joined length, the digests of files, the variables that the source names, those of the call that count, the directory behind its length, what the compiler says of its version, and the byte 255.
 abbrev pub material_of : Parts → Bytes

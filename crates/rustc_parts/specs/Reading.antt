@@ -35,9 +35,9 @@ digest_at width bytes = do
   if list_all is_digit digest.0 then Some digest else None
 
 -- a digest where there is one
-unfoldable pub target_at : ℕ → Bool → Bytes → Read (Option Bytes)
-target_at width false bytes = Some (None, bytes)
-target_at width true bytes = do
+unfoldable pub optional_digest_at : ℕ → Bool → Bytes → Read (Option Bytes)
+optional_digest_at width false bytes = Some (None, bytes)
+optional_digest_at width true bytes = do
   digest ← digest_at width bytes
   Some (Some digest.0, digest.1)
 
@@ -64,13 +64,13 @@ env_dep_at is_set bytes = do
   value ← valued is_set pair.0.1
   Some (record { name = pair.0.0; value = value }, pair.1)
 
--- the digests of files: sources, externs, archives, and target
+-- the digests of files: sources, externs, archives, target, and profile
 abbrev pub Files : Type 0
-Files = List Bytes × (List Bytes × (List Bytes × Option Bytes))
+Files = List Bytes × (List Bytes × (List Bytes × (Option Bytes × Option Bytes)))
 
 unfoldable pub files_at : ℕ → RShape → Bytes → Read Files
 files_at width shape =
-    both_at (times_at (digest_at width) shape.sources) (both_at (times_at (digest_at width) shape.externs) (both_at (times_at (digest_at digest_digits) shape.archives) (target_at width shape.has_target)))
+    both_at (times_at (digest_at width) shape.sources) (both_at (times_at (digest_at width) shape.externs) (both_at (times_at (digest_at digest_digits) shape.archives) (both_at (optional_digest_at width shape.has_target) (optional_digest_at width shape.has_profile))))
 
 -- the variables that the source names, those of the call, and the directory
 abbrev pub Surroundings : Type 0
@@ -85,7 +85,7 @@ Front = List Bytes × (List Bytes × (Files × Surroundings))
 
 unfoldable pub front_at : ℕ → RShape → Bytes → Read Front
 front_at width shape =
-    behind_at (byte "7") (both_at (times_at (digest_at digest_digits) shape.toolchain) (both_at (words_at shape.words) (both_at (files_at width shape) (surroundings_at shape))))
+    behind_at (byte "8") (both_at (times_at (digest_at digest_digits) shape.toolchain) (both_at (words_at shape.words) (both_at (files_at width shape) (surroundings_at shape))))
 
 -- all that is left, less a last byte 255
 unfoldable pub version_at : Bytes → Option Bytes
@@ -102,14 +102,15 @@ parts_from f version = record {
   sources = f.1.1.0.0;
   externs = f.1.1.0.1.0;
   archives = f.1.1.0.1.1.0;
-  target = f.1.1.0.1.1.1;
+  target = f.1.1.0.1.1.1.0;
+  profile = f.1.1.0.1.1.1.1;
   env_deps = f.1.1.1.0;
   variables = f.1.1.1.1.0;
   dir = f.1.1.1.1.1;
 }
 
 abbrev pub front_of : Parts → Front
-front_of p = (p.toolchain, (p.words, ((p.sources, (p.externs, (p.archives, p.target))), (p.env_deps, (p.variables, p.dir)))))
+front_of p = (p.toolchain, (p.words, ((p.sources, (p.externs, (p.archives, (p.target, p.profile)))), (p.env_deps, (p.variables, p.dir)))))
 
 unfoldable pub parts_at : ℕ → RShape → Bytes → Option Parts
 parts_at width shape bytes = do

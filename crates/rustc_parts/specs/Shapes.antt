@@ -12,6 +12,7 @@ shape_of p = record {
   externs = length p.externs;
   archives = length p.archives;
   has_target = is_some p.target;
+  has_profile = is_some p.profile;
   env_deps = map (λ dep. is_some dep.value) p.env_deps;
   variables = length p.variables;
 }

@@ -31,6 +31,8 @@ pub struct Parts {
     pub archives: Listed<OsBytes>,
     /// The digest of the file that describes the target, where there is one.
     pub target: Option<OsBytes>,
+    /// The digest of the profile that code generation uses, where there is one.
+    pub profile: Option<OsBytes>,
     /// The variables that the source names.
     pub env_deps: Listed<EnvDep>,
     /// The variables of the call that count, each with its value.
@@ -50,6 +52,7 @@ pub struct RShape {
     pub externs: usize,
     pub archives: usize,
     pub has_target: bool,
+    pub has_profile: bool,
     /// For each variable that the source names, whether it is set.
     pub env_deps: Listed<bool>,
     pub variables: usize,
@@ -89,6 +92,7 @@ impl Parts {
             externs: self.externs.len(),
             archives: self.archives.len(),
             has_target: self.target.is_some(),
+            has_profile: self.profile.is_some(),
             env_deps: are_set(alloc, self.env_deps.as_slice())?,
             variables: self.variables.len(),
         })

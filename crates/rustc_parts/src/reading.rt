@@ -6,7 +6,7 @@ ghost use Rattle.byte_formats.specs.Reading.{Gives, taken_at, times_at};
 ghost use Rattle.byte_formats.specs.Spelling.{FitsFrame};
 ghost use Rattle.rustc_parts.specs.Formed.{AreFormed, IsSortedByNames, digest_digits, is_digit};
 ghost use Rattle.rustc_parts.specs.Material.{material_of};
-ghost use Rattle.rustc_parts.specs.Reading.{byte_at, digest_at, each_at, env_dep_at, files_at, front_at, pair_at, parts_at, surroundings_at, target_at, valued, version_at, words_at};
+ghost use Rattle.rustc_parts.specs.Reading.{byte_at, digest_at, each_at, env_dep_at, files_at, front_at, optional_digest_at, pair_at, parts_at, surroundings_at, valued, version_at, words_at};
 ghost use Rattle.rustc_parts.specs.Shapes.{shape_of};
 ghost use Rattle.rustc_parts.specs.declared.parts.Parts.{Parts};
 
@@ -79,15 +79,16 @@ fn read_digests(
 }
 
 /// A digest where there is one, and what stands behind it.
-#[tactic(auto, unfolding(crate::specs::Reading::target_at))]
-fn read_target(
+#[tactic(auto, unfolding(crate::specs::Reading::optional_digest_at))]
+fn read_optional_digest(
     alloc: Global,
-    has_target: bool,
+    is_there: bool,
     bytes: &[u8],
 ) -> Result<(Option<OsBytes>, &[u8]), ReadFault>
-    ensures { Gives (λ x. (x.0, x.1.now)) result (target_at digest_digits has_target bytes.now) }
+    ensures { Gives (λ x. (x.0, x.1.now)) result
+        (optional_digest_at digest_digits is_there bytes.now) }
 {
-    if !has_target {
+    if !is_there {
         return Ok((None, bytes));
     }
     let (digest, rest) = read_digest(alloc, bytes)?;
@@ -225,6 +226,7 @@ struct FileDigests {
     externs: Listed<OsBytes>,
     archives: Listed<OsBytes>,
     target: Option<OsBytes>,
+    profile: Option<OsBytes>,
 }
 
 /// The digests of files, and what stands behind them.
@@ -234,18 +236,23 @@ fn read_files<'a>(
     shape: &RShape,
     bytes: &'a [u8],
 ) -> Result<(FileDigests, &'a [u8]), ReadFault>
-    ensures { Gives (λ x. ((x.0.sources, (x.0.externs, (x.0.archives, x.0.target))), x.1.now))
-        result (files_at digest_digits shape.now bytes.now) }
+    ensures { Gives (λ x. (
+      (x.0.sources, (x.0.externs, (x.0.archives, (x.0.target, x.0.profile)))),
+      x.1.now,
+    )) result
+        (files_at digest_digits shape.now bytes.now) }
 {
     let (sources, rest) = read_digests(alloc, shape.sources, bytes)?;
     let (externs, rest) = read_digests(alloc, shape.externs, rest)?;
     let (archives, rest) = read_digests(alloc, shape.archives, rest)?;
-    let (target, rest) = read_target(alloc, shape.has_target, rest)?;
+    let (target, rest) = read_optional_digest(alloc, shape.has_target, rest)?;
+    let (profile, rest) = read_optional_digest(alloc, shape.has_profile, rest)?;
     let files = FileDigests {
         sources,
         externs,
         archives,
         target,
+        profile,
     };
     Ok((files, rest))
 }
@@ -310,6 +317,7 @@ fn read_parts(alloc: Global, bytes: &[u8], shape: &RShape) -> Result<Parts, Read
         externs: files.externs,
         archives: files.archives,
         target: files.target,
+        profile: files.profile,
         env_deps: around.env_deps,
         variables: around.variables,
         dir: around.dir,

@@ -11,7 +11,7 @@ use os_files::os_bytes::OsBytes;
 use std::alloc::{AllocError, Global};
 
 /// The version of this layout.
-pub(crate) const CACHE_VERSION: u8 = b'7';
+pub(crate) const CACHE_VERSION: u8 = b'8';
 
 /// The last byte, behind the compiler's version.
 pub(crate) const END: u8 = 255;
@@ -74,6 +74,16 @@ fn put_words(alloc: Global, out: &mut Vec<u8>, words: &[OsBytes]) -> Result<(), 
     put_framed(out, &all)
 }
 
+/// Adds the digest where there is one.
+fn put_optional(out: &mut Vec<u8>, digest: &Option<OsBytes>) -> Result<(), AllocError>
+    ensures { OnOk result (out.new.items ≡ out.old.items ++ unwrap_or digest.now []) }
+{
+    match digest {
+        None => Ok(()),
+        Some(digest) => out.extend_from_slice(digest.as_bytes()),
+    }
+}
+
 /// Adds the digests of files.
 fn put_files(out: &mut Vec<u8>, parts: &Parts) -> Result<(), AllocError>
     ensures { OnOk result (out.new.items ≡ out.old.items ++ files_bytes parts.now) }
@@ -81,10 +91,8 @@ fn put_files(out: &mut Vec<u8>, parts: &Parts) -> Result<(), AllocError>
     put_joined(out, parts.sources.as_slice())?;
     put_joined(out, parts.externs.as_slice())?;
     put_joined(out, parts.archives.as_slice())?;
-    match &parts.target {
-        None => Ok(()),
-        Some(digest) => out.extend_from_slice(digest.as_bytes()),
-    }
+    put_optional(out, &parts.target)?;
+    put_optional(out, &parts.profile)
 }
 
 /// The bytes that are hashed of these pieces.

@@ -34,6 +34,7 @@ fn shape_of(alloc: Global, counts: Counts) -> Result<RShape, AllocError> {
         externs,
         archives: 0,
         has_target: false,
+        has_profile: false,
         env_deps,
         variables: 0,
     })
@@ -93,11 +94,11 @@ fn each_reads(alloc: Global, rows: &[(&[u8], Counts, &str)]) -> Result<(), Fail>
 }
 
 /// The words `ab` and `c` stand in a row, as `a` and `bc` do.
-const WORDS: &[u8] = b"7\x03\0\0\0\0\0\0\0abc\0\0\0\0\0\0\0\0\xff";
+const WORDS: &[u8] = b"8\x03\0\0\0\0\0\0\0abc\0\0\0\0\0\0\0\0\xff";
 
 /// The variable `FOO` without a value, or with an empty one.
 const VARIABLE: &[u8] =
-    b"7\0\0\0\0\0\0\0\0\x03\0\0\0\0\0\0\0FOO=\0\0\0\0\0\0\0\0\0\0\0\0\0\0\0\0\xff";
+    b"8\0\0\0\0\0\0\0\0\x03\0\0\0\0\0\0\0FOO=\0\0\0\0\0\0\0\0\0\0\0\0\0\0\0\0\xff";
 
 /// Lengths of words, and whether a variable is set.
 #[test]
@@ -113,7 +114,7 @@ fn shapes_tell_words_and_variables(rt: HostRuntime) -> Result<(), Fail> {
 
 /// Three digests.
 const FILES: &[u8] =
-    b"7\0\0\0\0\0\0\0\0aaaaaaaaaaaaaaaaaaaaaaaaaaaaaaaaaaaaaaaaaaaaaaaaaaaaaaaaaaaaaaaabbbbbbbbbbbbbbbbbbbbbbbbbbbbbbbbbbbbbbbbbbbbbbbbbbbbbbbbbbbbbbbbcccccccccccccccccccccccccccccccccccccccccccccccccccccccccccccccc\0\0\0\0\0\0\0\0\xff";
+    b"8\0\0\0\0\0\0\0\0aaaaaaaaaaaaaaaaaaaaaaaaaaaaaaaaaaaaaaaaaaaaaaaaaaaaaaaaaaaaaaaabbbbbbbbbbbbbbbbbbbbbbbbbbbbbbbbbbbbbbbbbbbbbbbbbbbbbbbbbbbbbbbbcccccccccccccccccccccccccccccccccccccccccccccccccccccccccccccccc\0\0\0\0\0\0\0\0\xff";
 
 /// Counts of sources and of crates.
 #[test]
@@ -138,19 +139,19 @@ fn shapes_tell_files(rt: HostRuntime) -> Result<(), Fail> {
 fn no_byte_is_left_out_or_added(rt: HostRuntime) -> Result<(), Fail> {
     let counts: Counts = (&[2, 1], 0, 0, &[]);
     let rows: [(&[u8], Counts, &str); 4] = [
-        (b"7\x03\0\0\0\0\0\0\0abc\0\0\0\0\0\0\0\0", counts, "none"),
+        (b"8\x03\0\0\0\0\0\0\0abc\0\0\0\0\0\0\0\0", counts, "none"),
         (
-            b"7\x03\0\0\0\0\0\0\0abc\0\0\0\0\0\0\0\0\xfff",
+            b"8\x03\0\0\0\0\0\0\0abc\0\0\0\0\0\0\0\0\xfff",
             counts,
             "none",
         ),
         (
-            b"7\x03\0\0\0\0\0\0\0abcd\0\0\0\0\0\0\0\0\xff",
+            b"8\x03\0\0\0\0\0\0\0abcd\0\0\0\0\0\0\0\0\xff",
             counts,
             "none",
         ),
         (
-            b"8\x03\0\0\0\0\0\0\0abc\0\0\0\0\0\0\0\0\xff",
+            b"7\x03\0\0\0\0\0\0\0abc\0\0\0\0\0\0\0\0\xff",
             counts,
             "none",
         ),

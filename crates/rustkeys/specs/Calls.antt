@@ -15,7 +15,7 @@ use Rattle.ckeys_records.specs.declared.step.Step.TheVariants.{DepInfo, FileName
 use Rattle.rustc_parts.specs.Formed.{digest_digits, is_digest}
 use Rattle.rustc_texts.specs.DepInfo.{rule_of}
 use Rattle.rustc_texts.specs.Words.{kept_words}
-use Rattle.rustkeys.specs.Questions.{Answers, Question, answers_of, counted_in, env_deps_in, extern_paths, sources_in, target_path}
+use Rattle.rustkeys.specs.Questions.{Answers, Question, answers_of, counted_in, env_deps_in, extern_paths, profile_path, sources_in, target_path}
 use Rattle.rustkeys.specs.Records.{RustRecord}
 
 -- what is known of a rustc: the digests of its toolchain, what it says of its version, and the path of its archive, where it has one
@@ -42,6 +42,7 @@ record_with c answers =
       externs = map (contents_in q.scene.files) (extern_paths q);
       archives = map (λ archive. archive.1) answers.archives;
       target = option_map (contents_in q.scene.files) (target_path q);
+      profile = option_map (contents_in q.scene.files) (profile_path q);
       env_deps = env_deps_in text;
       variables = counted_in q.scene.env;
       dir = q.scene.dir;
@@ -72,10 +73,15 @@ dep_info_fault_of q made = or_else (answer_fault_of DepInfo made) (sources_fault
 abbrev pub digest_fault_of : List (Bytes × Bytes) → Option Fault
 digest_fault_of archives = option_map (λ archive. BadDigest archive.0) (find (λ archive. not (is_digest digest_digits archive.1)) archives)
 
--- the fault of other files: a crate that is named isn't there, a static library has no digest, or the target's file isn't there
+-- the target's file isn't there, or the profile isn't
+abbrev pub optional_files_fault_of : Question → Option Fault
+optional_files_fault_of q =
+    or_else (read_fault_of q.scene.files (option_to_list (target_path q))) (read_fault_of q.scene.files (option_to_list (profile_path q)))
+
+-- the fault of other files: a crate that is named isn't there, a static library has no digest, or the target's file or the profile isn't there
 abbrev pub files_fault_of : Question → List (Bytes × Bytes) → Option Fault
 files_fault_of q archives =
-    or_else (read_fault_of q.scene.files (extern_paths q)) (or_else (digest_fault_of archives) (read_fault_of q.scene.files (option_to_list (target_path q))))
+    or_else (read_fault_of q.scene.files (extern_paths q)) (or_else (digest_fault_of archives) (optional_files_fault_of q))
 
 -- The first fault in the order in which rustc and its files are asked, where no growth is refused and no device fails: of the text on dependencies, of the names of outputs, and of other files.
 abbrev pub key_fault_with : Question → Answers → Option Fault

@@ -1,21 +1,32 @@
--- What is known of the files of a request before it has its key.
-use Rattle.std.specs.Prelude.{List, map}
+-- What is collected of rustc's answers and of the files of a request before it has its key.
+use Rattle.std.specs.Prelude.{◌≡◌, List, Option, map, string_bytes}
 use Rattle.std.specs.Option.{option_map}
 use Rattle.os_files.specs.Bytes.{Bytes}
 use Rattle.os_files.specs.Tree.{Tree}
 use Rattle.include_records.specs.Surroundings.{contents_in}
-use Rattle.rustkeys.specs.Questions.{Question, extern_paths, sources_in, target_path}
+use Rattle.ckeys_records.specs.Meaning.{text_in}
+use Rattle.rustkeys.specs.Questions.{Answers, Question, extern_paths, profile_path, sources_in, target_path}
 use Rattle.rustkeys.specs.Records.{digest_text}
+use Rattle.rustkeys.specs.declared.collecting.Collected.{Collected}
 use Rattle.rustkeys.specs.declared.collecting.OtherFiles.{OtherFiles}
 
--- the digests of the sources that a text on dependencies names
-abbrev pub source_digests : (Bytes → Bytes) → Tree → Bytes → Bytes → List Bytes
-source_digests digest_of files dir text = map (digest_text digest_of) (map (contents_in files) (sources_in dir text))
+-- the digests of the files of these paths, and that of a file where there is a path
+abbrev pub file_digests : (Bytes → Bytes) → Tree → List Bytes → List Bytes
+file_digests digest_of files paths = map (digest_text digest_of) (map (contents_in files) paths)
 
--- those of the other files, where static libraries have these
-abbrev pub files_with : (Bytes → Bytes) → Question → List (Bytes × Bytes) → OtherFiles
-files_with digest_of q archives = record {
-  externs = map (digest_text digest_of) (map (contents_in q.scene.files) (extern_paths q));
-  archives = map (λ archive. archive.1) archives;
-  target = option_map (digest_text digest_of) (option_map (contents_in q.scene.files) (target_path q));
-}
+abbrev pub file_digest : (Bytes → Bytes) → Tree → Option Bytes → Option Bytes
+file_digest digest_of files path = option_map (digest_text digest_of) (option_map (contents_in files) path)
+
+-- the digests of all files but the sources, where static libraries have these
+pub record AreFilesOf (digest_of : Bytes → Bytes) (q : Question) (archives : List (Bytes × Bytes)) (found : OtherFiles) : Type 0 where
+  pub externs : found.externs ≡ file_digests digest_of q.scene.files (extern_paths q)
+  pub archives : found.archives ≡ map (λ archive. archive.1) archives
+  pub target : found.target ≡ file_digest digest_of q.scene.files (target_path q)
+  pub profile : found.profile ≡ file_digest digest_of q.scene.files (profile_path q)
+
+-- both texts as they were answered, and the digests of all files
+pub record IsCollected (digest_of : Bytes → Bytes) (q : Question) (answers : Answers) (found : Collected) : Type 0 where
+  pub text : string_bytes found.sources.text ≡ text_in answers.dep_info.contents
+  pub names : string_bytes found.names ≡ text_in answers.file_names.contents
+  pub sources : found.sources.digests ≡ file_digests digest_of q.scene.files (sources_in q.scene.dir (text_in answers.dep_info.contents))
+  pub files : AreFilesOf digest_of q answers.archives found.files

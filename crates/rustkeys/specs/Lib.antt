@@ -3,6 +3,5 @@ pub mod Records
 pub mod Calls
 pub mod Collected
 pub mod Fresh
-pub mod Finished
 pub mod Hashers
 pub mod Runs

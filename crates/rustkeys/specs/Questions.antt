@@ -66,9 +66,12 @@ counted_in env = sorted_by pair_cmp (filter (λ pair. counts pair.0) env)
 abbrev pub compile_env_of : Variables → Variables
 compile_env_of env = sorted_by pair_cmp (filter (λ pair. compiles_with pair.0) env)
 
--- Crates that are named, and the file of the target, are read from the directory.
+-- Crates that are named, the target's file and the profile are read from the directory.
 abbrev pub extern_paths : Question → List Bytes
 extern_paths q = map (join q.scene.dir) q.asks.externs
 
 abbrev pub target_path : Question → Option Bytes
 target_path q = option_map (join q.scene.dir) q.asks.target_json
+
+abbrev pub profile_path : Question → Option Bytes
+profile_path q = option_map (join q.scene.dir) q.asks.profile_use

@@ -14,7 +14,7 @@ use Rattle.rustc_parts.specs.declared.parts.EnvDep.{EnvDep}
 use Rattle.rustc_parts.specs.declared.parts.Parts.{Parts}
 use Rattle.rustc_parts.specs.declared.parts.RShape.{RShape}
 
--- The record: the toolchain's digests, what the compiler says of its version, the words that count, the contents of sources and of named crates, the digests of static libraries, the contents of the target's file, the variables that the sources name, those of the call that count, and the directory.
+-- The record: the toolchain's digests, what the compiler says of its version, the words that count, the contents of sources and of named crates, the digests of static libraries, the contents of the target's file and of the profile, the variables that the sources name, those of the call that count, and the directory.
 pub record RustRecord : Type 0 where
   pub toolchain : List Bytes
   pub version : Bytes
@@ -23,6 +23,7 @@ pub record RustRecord : Type 0 where
   pub externs : List Bytes
   pub archives : List Bytes
   pub target : Option Bytes
+  pub profile : Option Bytes
   pub env_deps : List EnvDep
   pub variables : Variables
   pub dir : Bytes
@@ -41,6 +42,7 @@ parts_of digest_of r = record {
   externs = map (digest_text digest_of) r.externs;
   archives = r.archives;
   target = option_map (digest_text digest_of) r.target;
+  profile = option_map (digest_text digest_of) r.profile;
   env_deps = r.env_deps;
   variables = r.variables;
   dir = r.dir;
@@ -62,10 +64,10 @@ pub record IsTold (digest_of : Bytes → Bytes) (r : RustRecord) : Type 0 where
   pub archives : AllByRecursion (IsDigest digest_digits) r.archives
   pub fits : FitsFrame (record_material digest_of r)
 
--- the strings that are hashed for a record: the contents of its sources, of the crates that it names and of its target's file, and its material
+-- the strings that are hashed for a record: the contents of its sources, of the crates that it names, of its target's file and of its profile, and its material
 abbrev pub IsHashedFor : (Bytes → Bytes) → RustRecord → Bytes → Type 0
 IsHashedFor digest_of r bytes =
-    Contains r.sources bytes ⊎ (Contains r.externs bytes ⊎ (Contains (option_to_list r.target) bytes ⊎ (bytes ≡ record_material digest_of r)))
+    Contains r.sources bytes ⊎ (Contains r.externs bytes ⊎ (Contains (option_to_list r.target) bytes ⊎ (Contains (option_to_list r.profile) bytes ⊎ (bytes ≡ record_material digest_of r))))
 
 -- distinct digests of what is hashed for two records
 abbrev pub AreDistinct : (Bytes → Bytes) → RustRecord → RustRecord → Type 0

@@ -1,6 +1,6 @@
 //! All that rustc and the files tell before a request has its key, in the order in which they are asked.
 
-ghost use Rattle.std.specs.Prelude.{◌≡◌, ℤ, None, map, string_bytes, IfOk, IfErr, OnOk};
+ghost use Rattle.std.specs.Prelude.{◌≡◌, ℤ, None, string_bytes, IfOk, IfErr, OnOk};
 ghost use Rattle.std.specs.List.{AllByRecursion};
 ghost use Rattle.os_files.specs.Bytes.{ticked};
 ghost use Rattle.os_files.specs.Views.{FilesFail};
@@ -11,8 +11,8 @@ ghost use Rattle.ckeys_records.specs.Meaning.{AtMostOnce};
 ghost use Rattle.ckeys_records.specs.Views.{AreSteady, ToolFails};
 ghost use Rattle.rustc_parts.specs.Formed.{IsDigest, digest_digits};
 ghost use Rattle.rustkeys.specs.Calls.{dep_info_fault_of, files_fault_of, key_fault_with, sources_fault_of};
-ghost use Rattle.rustkeys.specs.Questions.{answers_of, dep_info_of, digested, file_names_of, question_of};
-ghost use Rattle.rustkeys.specs.Collected.{files_with, source_digests};
+ghost use Rattle.rustkeys.specs.Questions.{answers_of, dep_info_of, digested, question_of, sources_in};
+ghost use Rattle.rustkeys.specs.Collected.{AreFilesOf, IsCollected, file_digests};
 ghost use Rattle.rustkeys.specs.Runs.{AtMostTwice};
 
 use crate::answers::RustcAnswers;
@@ -34,12 +34,14 @@ pub(crate) struct Sources {
     pub digests: Listed<OsBytes>,
 }
 
-/// The digests of other files: of the crates that are named, of static libraries, and of the target's file.
+/// The digests of other files: of the crates that are named, of static libraries, of the target's file, and of the
+/// profile that code generation uses.
 #[derive(Drop)]
 pub(crate) struct OtherFiles {
     pub externs: Listed<OsBytes>,
     pub archives: Listed<OsBytes>,
     pub target: Option<OsBytes>,
+    pub profile: Option<OsBytes>,
 }
 
 /// All of it, with the text in which rustc tells the names of what it writes.
@@ -58,9 +60,8 @@ impl<'a> RustPlace<'a> {
         text: &str,
         files: &mut F,
     ) -> Result<Listed<OsBytes>, Fault>
-        ensures digests { let wanted = source_digests H.digest_of (F.tree files.old)
-            self.now.dir.now text.now in
-            IfOk result (λ digests. digests ≡ wanted) }
+        ensures digests { let paths = sources_in self.now.dir.now text.now in
+            IfOk result (λ digests. digests ≡ file_digests H.digest_of (F.tree files.old) paths) }
         ensures fine { let fault = sources_fault_of (F.tree files.old) self.now.dir.now text.now in
             OnOk result (fault ≡ None) }
         ensures cause { let fault = sources_fault_of (F.tree files.old) self.now.dir.now text.now in
@@ -85,8 +86,8 @@ impl<'a> RustPlace<'a> {
             let text = text_in (dep_info_of (A.meaning answers.old) q).contents in
             IfOk result (λ sources. string_bytes sources.text ≡ text) }
         ensures digests { IfOk result (λ sources. sources.digests
-            ≡ source_digests H.digest_of (F.tree files.old) self.now.dir.now
-            (string_bytes sources.text)) }
+            ≡ file_digests H.digest_of (F.tree files.old)
+            (sources_in self.now.dir.now (string_bytes sources.text))) }
         ensures fine { (moment : ℤ) → let q = question_of self.now (F.tree files.old) moment in
             let made = dep_info_of (A.meaning answers.old) q in
             OnOk result (dep_info_fault_of q made ≡ None) }
@@ -119,7 +120,7 @@ impl<'a> RustPlace<'a> {
     ) -> Result<OtherFiles, Fault>
         ensures digests { (moment : ℤ) → let q = question_of self.now (F.tree files.old) moment in
             let archives = digested (A.meaning answers.old) q.scene q.asks.staticlibs in
-            IfOk result (λ found. found ≡ files_with H.digest_of q archives) }
+            IfOk result (AreFilesOf H.digest_of q archives) }
         ensures formed { IfOk result
             (λ found. AllByRecursion (IsDigest digest_digits) found.archives) }
         ensures fine { (moment : ℤ) → let q = question_of self.now (F.tree files.old) moment in
@@ -142,10 +143,12 @@ impl<'a> RustPlace<'a> {
         let externs = needed_in::<H, F>(alloc, self.dir, self.parsed.externs.as_slice(), files)?;
         let archives = archive_digests(alloc, self.parsed.staticlibs.as_slice(), files, answers)?;
         let target = needed_where_named::<H, F>(alloc, self.dir, &self.parsed.target_json, files)?;
+        let profile = needed_where_named::<H, F>(alloc, self.dir, &self.parsed.profile_use, files)?;
         Ok(OtherFiles {
             externs,
             archives,
             target,
+            profile,
         })
     }
 
@@ -158,18 +161,9 @@ impl<'a> RustPlace<'a> {
         files: &mut F,
         answers: &mut A,
     ) -> Result<Collected, Fault>
-        ensures text { (moment : ℤ) → let q = question_of self.now (F.tree files.old) moment in
-            let text = text_in (dep_info_of (A.meaning answers.old) q).contents in
-            IfOk result (λ found. string_bytes found.sources.text ≡ text) }
-        ensures sources { IfOk result (λ found. found.sources.digests
-            ≡ source_digests H.digest_of (F.tree files.old) self.now.dir.now
-            (string_bytes found.sources.text)) }
-        ensures names { (moment : ℤ) → let q = question_of self.now (F.tree files.old) moment in
-            let text = text_in (file_names_of (A.meaning answers.old) q).contents in
-            IfOk result (λ found. string_bytes found.names ≡ text) }
-        ensures files { (moment : ℤ) → let q = question_of self.now (F.tree files.old) moment in
-            let archives = digested (A.meaning answers.old) q.scene q.asks.staticlibs in
-            IfOk result (λ found. found.files ≡ files_with H.digest_of q archives) }
+        ensures found { (moment : ℤ) → let q = question_of self.now (F.tree files.old) moment in
+            let told = answers_of (A.meaning answers.old) q in
+            IfOk result (IsCollected H.digest_of q told) }
         ensures formed { IfOk result
             (λ found. AllByRecursion (IsDigest digest_digits) found.files.archives) }
         ensures fine { (moment : ℤ) → let q = question_of self.now (F.tree files.old) moment in

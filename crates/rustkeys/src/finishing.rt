@@ -1,7 +1,9 @@
 //! What is made of all that rustc and the files told: the key, its shape, the compile, and the text on dependencies.
 
-ghost use Rattle.std.specs.Prelude.{◌≡◌, string_bytes, IfOk, OnOk};
+ghost use Rattle.std.specs.Prelude.{◌≡◌, ℤ, string_bytes, IfOk, OnOk};
 ghost use Rattle.std.specs.Option.{option_copied, option_to_list};
+ghost use Rattle.os_files.specs.Bytes.{Bytes};
+ghost use Rattle.os_files.specs.Tree.{Tree};
 ghost use Rattle.byte_formats.specs.Spelling.{FitsFrame};
 ghost use Rattle.cmdlines_requests.specs.Small.{command_at};
 ghost use Rattle.rustc_parts.specs.Material.{material_of};
@@ -9,12 +11,14 @@ ghost use Rattle.rustc_parts.specs.Shapes.{shape_of};
 ghost use Rattle.rustc_texts.specs.Outputs.{output_names, outputs_of};
 ghost use Rattle.rustc_texts.specs.Words.{compile_words};
 ghost use Rattle.rustc_requests.specs.Asks.{asks_in};
-ghost use Rattle.rustkeys.specs.Finished.{known_in, parts_with};
+ghost use Rattle.rustkeys.specs.Calls.{record_with};
+ghost use Rattle.rustkeys.specs.Collected.{IsCollected};
 ghost use Rattle.rustkeys.specs.Fresh.{dep_info_by};
-ghost use Rattle.rustkeys.specs.Questions.{compile_env_of};
-ghost use Rattle.rustkeys.specs.Records.{digest_text};
+ghost use Rattle.rustkeys.specs.Hashers.{call_at, known_in};
+ghost use Rattle.rustkeys.specs.Questions.{Answers, compile_env_of};
+ghost use Rattle.rustkeys.specs.Records.{digest_text, parts_of};
 
-use crate::collecting::{Collected, OtherFiles, Sources};
+use crate::collecting::Collected;
 use crate::compilation::{RustCompilation, compilation, copied};
 use crate::place::{KnownRust, RustPlace};
 use crate::sorting::{counted_in, env_deps_in};
@@ -32,29 +36,30 @@ use rustc_texts::rewriting::dep_info_with_targets;
 use rustc_texts::words::kept_words;
 use std::alloc::{AllocError, Global};
 
-/// The pieces of the key.
+/// The pieces of the key: those of the record of the call for which all this was collected.
 fn parts_by(
     alloc: Global,
     known: &KnownRust,
     place: &RustPlace,
-    text: &str,
-    sources: Listed<OsBytes>,
-    files: OtherFiles,
+    found: Collected,
 ) -> Result<Parts, AllocError>
-    ensures { IfOk result
-        (λ parts. parts ≡ parts_with (known_in known.now) place.now text.now sources files) }
+    ensures { (digest_of : Bytes → Bytes) (files : Tree) (moment : ℤ) (answers : Answers)
+        → let c = call_at known.now place.now files moment in
+        IsCollected digest_of c.question answers found →
+        IfOk result (λ parts. parts ≡ parts_of digest_of (record_with c answers)) }
 {
     Ok(Parts {
         toolchain: copied(alloc, known.toolchain)?,
         version: known.version.clone()?,
         words: kept_words(alloc, place.parsed)?,
-        sources,
-        externs: files.externs,
-        archives: files.archives,
-        target: files.target,
-        env_deps: env_deps_in(alloc, text)?,
+        env_deps: env_deps_in(alloc, found.sources.text.as_str())?,
         variables: counted_in(alloc, place.env)?,
         dir: place.dir.clone()?,
+        sources: found.sources.digests,
+        externs: found.files.externs,
+        archives: found.files.archives,
+        target: found.files.target,
+        profile: found.files.profile,
     })
 }
 
@@ -121,19 +126,15 @@ pub(crate) fn finish<H: HashState>(
     place: &RustPlace,
     found: Collected,
 ) -> Result<(RustCompilation, String, RShape, Option<OsBytes>), AllocError>
-    ensures key { let parts = parts_with (known_in known.now) place.now
-        (string_bytes found.sources.text) found.sources.digests found.files in
-        IfOk result
-        (λ made. string_bytes made.1 ≡ digest_text H.digest_of (material_of parts)) }
-    ensures shape { let parts = parts_with (known_in known.now) place.now
-        (string_bytes found.sources.text) found.sources.digests found.files in
-        IfOk result (λ made. made.2 ≡ shape_of parts) }
-    ensures parts { let parts = parts_with (known_in known.now) place.now
-        (string_bytes found.sources.text) found.sources.digests found.files in
-        IfOk result (λ made. made.0.parts ≡ parts) }
-    ensures fits { let parts = parts_with (known_in known.now) place.now
-        (string_bytes found.sources.text) found.sources.digests found.files in
-        OnOk result (FitsFrame (material_of parts)) }
+    ensures key { IfOk result
+        (λ made. string_bytes made.1 ≡ digest_text H.digest_of (material_of made.0.parts)) }
+    ensures shape { IfOk result (λ made. made.2 ≡ shape_of made.0.parts) }
+    ensures fits { IfOk result (λ made. FitsFrame (material_of made.0.parts)) }
+    // Its pieces are those of the record of the call for which all this was collected.
+    ensures parts { (files : Tree) (moment : ℤ) (answers : Answers)
+        → let c = call_at known.now place.now files moment in
+        IsCollected H.digest_of c.question answers found →
+        IfOk result (λ made. made.0.parts ≡ parts_of H.digest_of (record_with c answers)) }
     ensures command { let words = compile_words (asks_in place.now.parsed.now) in
         let env = compile_env_of place.now.env.now in
         IfOk result (λ made. made.0.command
@@ -145,17 +146,11 @@ pub(crate) fn finish<H: HashState>(
         ≡ dep_info_by asks (known_in known.now).archive (string_bytes found.sources.text)
         (output_names asks.emit (string_bytes found.names))) }
 {
-    let Collected {
-        sources,
-        names,
-        files,
-    } = found;
-    let names = output_names(alloc, place.parsed.emit.as_slice(), names.as_str())?;
+    let names = output_names(alloc, place.parsed.emit.as_slice(), found.names.as_str())?;
     let names = names.as_slice();
-    let Sources { text, digests } = sources;
-    let text = text.as_str();
+    let text = found.sources.text.as_str();
     let dep_info = dep_info_for(alloc, place.parsed, known.archive, text, names)?;
-    let parts = parts_by(alloc, known, place, text, digests, files)?;
+    let parts = parts_by(alloc, known, place, found)?;
     let (key, shape) = key_of_parts::<H>(alloc, &parts)?;
     let made = compilation(alloc, place, names, parts)?;
     Ok((made, key, shape, dep_info))

@@ -14,9 +14,8 @@ ghost use Rattle.rustc_parts.specs.Formed.{IsDigest, digest_digits};
 ghost use Rattle.rustc_texts.specs.Words.{compile_words};
 ghost use Rattle.rustc_requests.specs.Asks.{asks_in};
 ghost use Rattle.rustkeys.specs.Calls.{dep_info_fault_of, key_fault_of, record_of};
-ghost use Rattle.rustkeys.specs.Finished.{known_in};
 ghost use Rattle.rustkeys.specs.Fresh.{ComesOfWords, call_outputs, dep_info_text_of, emits_dep_info};
-ghost use Rattle.rustkeys.specs.Hashers.{call_of, known_of};
+ghost use Rattle.rustkeys.specs.Hashers.{call_of, known_in, known_of};
 ghost use Rattle.rustkeys.specs.Questions.{compile_env_of, dep_info_of, question_of};
 ghost use Rattle.rustkeys.specs.Records.{IsTold, key_of, parts_of, record_shape};
 ghost use Rattle.rustkeys.specs.Runs.{AtMostTwice};
@@ -99,8 +98,8 @@ impl<'a> RustHasher<'a> {
     ///
     /// Refused, by the first that comes in this order: with `PreprocessFailed` where rustc ends with another status than 0, asked
     /// for dependencies, with `AnswerNotUtf8`, with `NoRule`, with `Read` of a source that isn't there; the same of the names of
-    /// outputs; with `Read` of a crate that is named, with `BadDigest` of a static library, with `Read` of the target's file. `Read`
-    /// and `Tool` also say that a device failed.
+    /// outputs; with `Read` of a crate that is named, with `BadDigest` of a static library, with `Read` of the target's file,
+    /// then of the profile. `Read` and `Tool` also say that a device failed.
     pub fn generate_hash_key<H: HashState, F: Files, A: RustcAnswers>(
         &self,
         alloc: Global,

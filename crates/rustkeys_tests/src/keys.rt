@@ -35,7 +35,7 @@ fn digest_of_first(alloc: Global) -> Result<String, AllocError> {
     digest_of_all(
         alloc,
         &[
-            b"7\x3c\0\0\0\0\0\0\0".as_slice(),
+            b"8\x3c\0\0\0\0\0\0\0".as_slice(),
             words.as_slice(),
             source.as_bytes(),
             b"\x02\0\0\0\0\0\0\0/whost: x\xff".as_slice(),
@@ -228,7 +228,7 @@ fn digest_of_request(alloc: Global) -> Result<String, AllocError> {
     digest_of_all(
         alloc,
         &[
-            b"7".as_slice(),
+            b"8".as_slice(),
             nothing,
             b"\x12\0\0\0\0\0\0\0ab--cfgabc--cfgxyz".as_slice(),
             nothing,

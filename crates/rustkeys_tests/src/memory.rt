@@ -22,19 +22,19 @@ struct Row {
 
 const PLAIN: Row = Row {
     line: FIRST,
-    key: "ec599f16df4de395f07a97aa3578baa4d0cf50389f36291e5111482dfec2eb80",
+    key: "89949c0ef5f525810ed79c96752044e1534e7162c33c25447262333147d4a914",
     text: b"",
 };
 
 const TELLING: Row = Row {
     line: "--emit dep-info,link -C opt-level=1 foo.rs --out-dir out --crate-name foo --crate-type lib",
-    key: "860a7288595742306408b604641d13ce139b96068846c0d04ac123213d17673d",
+    key: "b4b42901331c907a5c4b596c0f147d0a316d4440d8c0d5f2f65ee48f5ec2d6b4",
     text: b"out/foo.d: foo.rs\n\nout/libfoo.rlib: foo.rs\n\nfoo.rs:\n",
 };
 
 const LINKED: Row = Row {
     line: WITH_LIBRARY,
-    key: "c12c70120b34a4dbbf1a3f29665a9dc7e1bc1162f42cc301e65207d7d827e328",
+    key: "95c68663cc7bdbcf16e2c5b692a0e53eedd805fa6dda818b29e864df7a51f1e6",
     text: b"",
 };
 

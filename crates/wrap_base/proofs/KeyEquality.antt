@@ -106,9 +106,9 @@ c_shapes_are a b =
 
 rustc_shapes_are : (a b : RShape) → Decides (rustc_shape_eq.ghosts.eq a b) (a ≡ b)
 rustc_shapes_are a b =
-    let parts = both _ _ (unsigned_Decides a.toolchain b.toolchain) (both _ _ (lists nat_eq unsigned_Decides a.words b.words) (both _ _ (unsigned_Decides a.sources b.sources) (both _ _ (unsigned_Decides a.externs b.externs) (both _ _ (unsigned_Decides a.archives b.archives) (both _ _ (booleans_Decides a.has_target b.has_target) (both _ _ (lists _ booleans_Decides a.env_deps b.env_deps) (unsigned_Decides a.variables b.variables))))))) in (
-      (λ h. let p = parts.0 h in λ i. record { toolchain = p.0 i; words = p.1.0 i; sources = p.1.1.0 i; externs = p.1.1.1.0 i; archives = p.1.1.1.1.0 i; has_target = p.1.1.1.1.1.0 i; env_deps = p.1.1.1.1.1.1.0 i; variables = p.1.1.1.1.1.1.1 i }),
-      (λ e. parts.1 (ap (λ (c : RShape). c.toolchain) e, (ap (λ (c : RShape). c.words) e, (ap (λ (c : RShape). c.sources) e, (ap (λ (c : RShape). c.externs) e, (ap (λ (c : RShape). c.archives) e, (ap (λ (c : RShape). c.has_target) e, (ap (λ (c : RShape). c.env_deps) e, ap (λ (c : RShape). c.variables) e)))))))),
+    let parts = both _ _ (unsigned_Decides a.toolchain b.toolchain) (both _ _ (lists nat_eq unsigned_Decides a.words b.words) (both _ _ (unsigned_Decides a.sources b.sources) (both _ _ (unsigned_Decides a.externs b.externs) (both _ _ (unsigned_Decides a.archives b.archives) (both _ _ (booleans_Decides a.has_target b.has_target) (both _ _ (booleans_Decides a.has_profile b.has_profile) (both _ _ (lists _ booleans_Decides a.env_deps b.env_deps) (unsigned_Decides a.variables b.variables)))))))) in (
+      (λ h. let p = parts.0 h in λ i. record { toolchain = p.0 i; words = p.1.0 i; sources = p.1.1.0 i; externs = p.1.1.1.0 i; archives = p.1.1.1.1.0 i; has_target = p.1.1.1.1.1.0 i; has_profile = p.1.1.1.1.1.1.0 i; env_deps = p.1.1.1.1.1.1.1.0 i; variables = p.1.1.1.1.1.1.1.1 i }),
+      (λ e. parts.1 (ap (λ (c : RShape). c.toolchain) e, (ap (λ (c : RShape). c.words) e, (ap (λ (c : RShape). c.sources) e, (ap (λ (c : RShape). c.externs) e, (ap (λ (c : RShape). c.archives) e, (ap (λ (c : RShape). c.has_target) e, (ap (λ (c : RShape). c.has_profile) e, (ap (λ (c : RShape). c.env_deps) e, ap (λ (c : RShape). c.variables) e))))))))),
     )
 
 shapes_are : (a b : Shape) → Decides (shape_eq.ghosts.eq a b) (a ≡ b)

@@ -17,8 +17,6 @@ pub enum Reason {
     Byte255,
     /// A word, the directory, or a variable of a request to rustc isn't UTF-8.
     NotUtf8,
-    /// A request to rustc uses a profile, whose contents no key holds.
-    ProfileData,
 }
 
 impl fmt::Display for Reason {
@@ -31,7 +29,6 @@ impl fmt::Display for Reason {
             Reason::OpensFile => write!(f, "opens file"),
             Reason::Byte255 => write!(f, "byte 255"),
             Reason::NotUtf8 => write!(f, "not utf-8"),
-            Reason::ProfileData => write!(f, "profile data"),
         }
     }
 }

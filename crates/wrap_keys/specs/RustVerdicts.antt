@@ -1,5 +1,5 @@
 -- The verdict on a request to rustc: why it is passed through, or what it asks for.
-use Rattle.std.specs.Prelude.{Bool, ◌&&◌, is_some, if◌then◌else◌}
+use Rattle.std.specs.Prelude.{Bool, ◌&&◌, if◌then◌else◌}
 use Rattle.std.specs.List.{list_all, list_any}
 use Rattle.std.specs.Str.{is_utf8}
 use Rattle.os_files.specs.Bytes.{Bytes}
@@ -11,7 +11,7 @@ use Rattle.rustkeys_base.specs.Expansion.{expanded_by_rustc}
 use Rattle.rustkeys_base.specs.Parsing as parsing
 use Rattle.rustkeys_base.specs.Parsing.{request_reading, decision_on}
 use Rattle.rustc_texts.specs.Words.{compile_words}
-use Rattle.wrap_keys.specs.Verdicts.{Why, cannot_cache, not_compilation, not_utf8, opens_a_file, profile_data}
+use Rattle.wrap_keys.specs.Verdicts.{Why, cannot_cache, not_compilation, not_utf8, opens_a_file}
 use Rattle.wrap_base.specs.declared.request.Request.{Request}
 
 -- a request is passed through, or it asks for this
@@ -27,12 +27,12 @@ is_text_variable pair = is_utf8 pair.0 && is_utf8 pair.1
 abbrev pub is_text : Request → Bool
 is_text request = list_all is_utf8 request.words && (is_utf8 request.dir && list_all is_text_variable request.env)
 
--- The hazards: a word with which it is compiled would make rustc open a file of words, or it uses a profile.
+-- The hazard: a word with which it is compiled would make rustc open a file of words.
 abbrev pub opens_words : RustAsks → Bool
 opens_words asked = list_any begins_with_at (compile_words asked)
 
 abbrev pub with_hazards : RustAsks → RustJudgement
-with_hazards asked = if opens_words asked then passes opens_a_file else (if is_some asked.profile_use then passes profile_data else asks asked)
+with_hazards asked = if opens_words asked then passes opens_a_file else asks asked
 
 -- what words of that verdict come to, which ask for this if for anything
 abbrev pub decided : parsing.Decision → RustAsks → RustJudgement

@@ -10,7 +10,7 @@ use Rattle.cmdlines_requests.specs.declared.parsed.ParsedArguments.{ParsedArgume
 use Rattle.cmdlines_tables.specs.declared.compiler.CCompilerKind.{CCompilerKind}
 use Rattle.ckeys_records.specs.Records.{hold_end}
 use Rattle.wrap_base.specs.declared.reason.Reason.{Reason}
-use Rattle.wrap_base.specs.declared.reason.Reason.TheVariants.{NotCompilation, CannotCache, EmptyValue, OpensFile, Byte255, NotUtf8, ProfileData}
+use Rattle.wrap_base.specs.declared.reason.Reason.TheVariants.{NotCompilation, CannotCache, EmptyValue, OpensFile, Byte255, NotUtf8}
 
 -- why a request is passed through
 pub data Why : Type 0 where
@@ -20,7 +20,6 @@ pub data Why : Type 0 where
   opens_a_file : Why
   byte_255 : Why
   not_utf8 : Why
-  profile_data : Why
 
 -- a reason without where its text lies in memory
 abbrev pub why_of : Reason → Why
@@ -30,7 +29,6 @@ why_of EmptyValue = empty_value
 why_of OpensFile = opens_a_file
 why_of Byte255 = byte_255
 why_of NotUtf8 = not_utf8
-why_of ProfileData = profile_data
 
 -- a request is passed through, or it asks for this
 pub data Judgement : Type 0 where

@@ -78,7 +78,7 @@ fn opens_words(alloc: Global, parsed: &ParsedArguments) -> Result<bool, AllocErr
     Ok(list.iter().any(|word| word.as_bytes().starts_with(b"@")))
 }
 
-/// The verdict on a request that asks for this: it names a file of words, or it uses a profile.
+/// The verdict on a request that asks for this: whether a word of its compile names a file of words.
 fn after_hazards(alloc: Global, parsed: ParsedArguments) -> Result<RustVerdict, AllocError>
     ensures verdict { IfOk result
         (λ verdict. judgement_of verdict ≡ with_hazards (asks_in parsed)) }
@@ -88,9 +88,6 @@ fn after_hazards(alloc: Global, parsed: ParsedArguments) -> Result<RustVerdict, 
     commands_open_nothing();
     if opens_words(alloc, &parsed)? {
         return Ok(RustVerdict::Passes(Reason::OpensFile));
-    }
-    if parsed.profile_use.is_some() {
-        return Ok(RustVerdict::Passes(Reason::ProfileData));
     }
     Ok(RustVerdict::Asks(parsed))
 }

@@ -2,9 +2,8 @@ use Rattle.std.proofs.Common.{◌≡◌, ◌∙◌, None, ap, is_some, pos, stri
 use Rattle.rustc_texts.specs.Outputs.{output_names}
 use Rattle.rustc_requests.specs.Asks.{asks_in}
 use Rattle.rustkeys.specs.Calls.{rule_fault_of}
-use Rattle.rustkeys.specs.Finished.{known_in}
 use Rattle.rustkeys.specs.Fresh.{dep_info_by, dep_info_text_of}
-use Rattle.rustkeys.specs.Questions.{answers_of, question_of}
+use Rattle.rustkeys.specs.Questions.{Answers, answers_of, question_of}
 use Rattle.rustkeys.proofs.RunLemmas.{asked_at, early_of}
 use Rattle.rustkeys.proofs.RuleLemmas.{asked_where_emitted, rule_fine, told_where_asked}
 use Rattle.rustkeys.proofs.hasher.RustHasher.generate_hash_key.Goals as goal
@@ -18,14 +17,14 @@ returns-clause-dep_info g c = λ moment.
     let place = c.place-place.ensures in
     let asked = asked_at c.place-place.result c.args.self.now c.args.dir.now c.args.env.now tree moment place.executable place.parsed place.dir place.env in
     c.in_ok-finish.ensures.dep_info
-    ∙ (λ i. dep_info_by asks archive (c.in_ok-found.ensures.text moment i) (output_names asks.emit (c.in_ok-found.ensures.names moment i)))
+    ∙ (λ i. dep_info_by asks archive ((c.in_ok-found.ensures.found moment).text i) (output_names asks.emit ((c.in_ok-found.ensures.found moment).names i)))
     ∙ (λ i. dep_info_text_of meaning (record { known = c.known-known.ensures.known i; question = asked i }))
 
 told_as_asked : goal.returns-clause-asked
 told_as_asked g c =
     let q = question_of c.place-place.result (g.F.Files.tree c.args.files.now) (pos 0) in
     let asks = asks_in c.place-place.result.parsed.now in
-    let told = c.in_ok-found.ensures.text (pos 0) in
+    let told = (c.in_ok-found.ensures.found (pos 0)).text in
     let fine : rule_fault_of (string_bytes c.in_ok-found.found.sources.text) ≡ None =
     ap rule_fault_of told ∙ rule_fine q (answers_of (g.A.Preprocessor.meaning c.args.answers.now) q) (c.in_ok-found.ensures.fine (pos 0)) in
     ap is_some c.in_ok-finish.ensures.dep_info

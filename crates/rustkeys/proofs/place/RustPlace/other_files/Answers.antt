@@ -1,5 +1,5 @@
 use Rattle.std.proofs.Common.{◌≡◌, List, None, map, ap, sym, ◌∙◌}
-use Rattle.std.specs.Option.{option_map, option_to_list}
+use Rattle.std.specs.Option.{option_map}
 use Rattle.os_files.specs.Bytes.{Bytes}
 use Rattle.os_files.specs.Fails.{FailsOn}
 use Rattle.os_files.specs.Path.{join}
@@ -8,8 +8,8 @@ use Rattle.ckeys_records.specs.Causes.{no_file}
 use Rattle.ckeys_records.specs.Meaning.{FailsIn}
 use Rattle.ckeys_records.specs.declared.fault.Fault.TheVariants.{Read}
 use Rattle.ckeys_records.proofs.FaultLemmas.{on_exit}
-use Rattle.rustkeys.specs.Calls.{digest_fault_of, files_fault_of}
-use Rattle.rustkeys.specs.Questions.{digested, extern_paths, question_of, target_path}
+use Rattle.rustkeys.specs.Calls.{digest_fault_of, files_fault_of, optional_files_fault_of}
+use Rattle.rustkeys.specs.Questions.{digested, extern_paths, question_of}
 use Rattle.rustkeys.proofs.CauseLemmas.{first_is, key_cause_more, second_is}
 use Rattle.rustkeys.proofs.place.RustPlace.other_files.Goals as goal
 
@@ -23,9 +23,9 @@ returns-in_err-archives-clause-cause g c = λ moment.
     let device_in = FailsIn g.A.Preprocessor.meaning g.A.Preprocessor.failed g.A.Preprocessor.fails_in c.args.answers.now c.archive_digests.new.answers in
     let fault = c.in_err-archives.field-0.0 in
     let externs = read_fault_of tree (extern_paths q) in
-    let target = read_fault_of tree (option_to_list (target_path q)) in
+    let optional = optional_files_fault_of q in
     let none : externs ≡ None = ap (λ (names : List Bytes). read_fault_of tree (map (join q.scene.dir) names)) (sym c.as_slice.ensures) ∙ ap (option_map Read) c.in_ok-externs.ensures.there in
     let own = digest_fault_of (digested meaning q.scene c.as_slice-2.result.now) in
     let same : digest_fault_of archives ≡ own = ap (λ (paths : List Bytes). digest_fault_of (digested meaning q.scene paths)) (sym c.as_slice-2.ensures) in
     on_exit (KeyCause (files_fault_of q archives) on_file device_in) c.from_residual-in_err-archives.result fault c.from_residual-in_err-archives.ensures.1
-    (key_cause_more own (files_fault_of q archives) no_file on_file device_in device_in (λ f e. second_is externs (or_else (digest_fault_of archives) target) none f (first_is (digest_fault_of archives) target f (same ∙ e))) (λ name n. absurd n) (λ step d. d) fault (c.in_err-archives.ensures.cause q.scene (sym c.needed_in.ensures.tree)))
+    (key_cause_more own (files_fault_of q archives) no_file on_file device_in device_in (λ f e. second_is externs (or_else (digest_fault_of archives) optional) none f (first_is (digest_fault_of archives) optional f (same ∙ e))) (λ name n. absurd n) (λ step d. d) fault (c.in_err-archives.ensures.cause q.scene (sym c.needed_in.ensures.tree)))
