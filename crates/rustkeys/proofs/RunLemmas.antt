@@ -5,10 +5,11 @@ use Rattle.os_files.specs.Tree.{Tree}
 use Rattle.ckeys_records.specs.Meaning.{AtMostOnce, Meaning, Variables, scene_with}
 use Rattle.rustc_requests.specs.Asks.{asks_in}
 use Rattle.rustkeys.specs.Calls.{dep_info_fault_of}
-use Rattle.rustkeys.specs.Hashers.{call_of}
+use Rattle.rustkeys.specs.Hashers.{call_at, call_of, known_in, known_of}
 use Rattle.rustkeys.specs.Questions.{Question, dep_info_of, question_of}
 use Rattle.rustkeys.specs.Runs.{AtMostTwice}
 use Rattle.rustkeys.specs.declared.hasher.RustHasher.{RustHasher}
+use Rattle.rustkeys.specs.declared.place.KnownRust.{KnownRust}
 use Rattle.rustkeys.specs.declared.place.RustPlace.{RustPlace}
 
 -- at most once is at most twice
@@ -24,6 +25,10 @@ once_more before mid after one (inr h) = inr (inr (h ∙ ap ticked one))
 -- a place that has a call's executable, words, directory and variables asks the call's question
 pub asked_at : (place : RustPlace) (hasher : RustHasher) (dir : Bytes) (env : Variables) (tree : Tree) (moment : ℤ) → place.executable.now ≡ hasher.compiler.now.executable → place.parsed.now ≡ hasher.parsed.now → place.dir.now ≡ dir → place.env.now ≡ env → question_of place tree moment ≡ (call_of hasher dir env tree moment).question
 asked_at place hasher dir env tree moment executable parsed at_dir under = λ i. record { asks = asks_in (parsed i); scene = scene_with (executable i) (at_dir i) (under i) tree moment }
+
+-- and of a rustc that is known alike it is that call
+pub called_at : (known : KnownRust) (place : RustPlace) (hasher : RustHasher) (dir : Bytes) (env : Variables) (tree : Tree) (moment : ℤ) → known_in known ≡ known_of hasher.compiler.now → place.executable.now ≡ hasher.compiler.now.executable → place.parsed.now ≡ hasher.parsed.now → place.dir.now ≡ dir → place.env.now ≡ env → call_at known place tree moment ≡ call_of hasher dir env tree moment
+called_at known place hasher dir env tree moment alike executable parsed at_dir under = λ i. record { known = alike i; question = asked_at place hasher dir env tree moment executable parsed at_dir under i }
 
 -- what is said of the answer on dependencies to one question is said of that to an equal one
 pub early_of : (meaning : Meaning) (asked own : Question) → asked ≡ own → (before after : ℕ) → ((dep_info_fault_of asked (dep_info_of meaning asked) ≡ None → ⊥) → AtMostOnce before after) → (dep_info_fault_of own (dep_info_of meaning own) ≡ None → ⊥) → AtMostOnce before after

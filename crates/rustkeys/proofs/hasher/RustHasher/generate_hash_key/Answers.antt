@@ -1,12 +1,52 @@
-use Rattle.std.proofs.Common.{◌≡◌, ◌∙◌, None, ap, is_some, pos, string_bytes}
+use Rattle.std.proofs.Common.{◌≡◌, ◌∙◌, None, ap, is_some, map, pos, string_bytes, subst}
+use Rattle.std.specs.List.{AllByRecursion}
+use Rattle.byte_formats.specs.Spelling.{FitsFrame}
+use Rattle.rustc_parts.specs.Formed.{IsDigest, digest_digits}
+use Rattle.rustc_parts.specs.Material.{material_of}
+use Rattle.rustc_parts.specs.Shapes.{shape_of}
+use Rattle.rustc_parts.specs.declared.parts.Parts.{Parts}
 use Rattle.rustc_texts.specs.Outputs.{output_names}
 use Rattle.rustc_requests.specs.Asks.{asks_in}
-use Rattle.rustkeys.specs.Calls.{rule_fault_of}
+use Rattle.rustkeys.specs.Calls.{record_of, rule_fault_of}
 use Rattle.rustkeys.specs.Fresh.{dep_info_by, dep_info_text_of}
-use Rattle.rustkeys.specs.Questions.{Answers, answers_of, question_of}
-use Rattle.rustkeys.proofs.RunLemmas.{asked_at, early_of}
+use Rattle.rustkeys.specs.Hashers.{known_in}
+use Rattle.rustkeys.specs.Questions.{answers_of, question_of}
+use Rattle.rustkeys.specs.Records.{digest_text, parts_of}
+use Rattle.rustkeys.proofs.RunLemmas.{asked_at, called_at, early_of}
 use Rattle.rustkeys.proofs.RuleLemmas.{asked_where_emitted, rule_fine, told_where_asked}
 use Rattle.rustkeys.proofs.hasher.RustHasher.generate_hash_key.Goals as goal
+
+-- the pieces are those of the record of this call
+made_parts : goal.returns-clause-parts
+made_parts g c = λ moment.
+    let tree = g.F.Files.tree c.args.files.now in
+    let meaning = g.A.Preprocessor.meaning c.args.answers.now in
+    let place = c.place-place.ensures in
+    let called = called_at c.known-known.result c.place-place.result c.args.self.now c.args.dir.now c.args.env.now tree moment c.known-known.ensures.known place.executable place.parsed place.dir place.env in
+    c.in_ok-finish.ensures.parts tree moment (answers_of meaning (question_of c.place-place.result tree moment)) (c.in_ok-found.ensures.found moment)
+    ∙ (λ i. parts_of g.H.HashState.digest_of (record_of meaning (called i)))
+
+pub returns-clause-parts : goal.returns-clause-parts
+returns-clause-parts g c = made_parts g c
+
+pub returns-clause-key : goal.returns-clause-key
+returns-clause-key g c = λ moment.
+    c.in_ok-finish.ensures.key ∙ ap (λ (p : Parts). digest_text g.H.HashState.digest_of (material_of p)) (made_parts g c moment)
+
+pub returns-clause-shape : goal.returns-clause-shape
+returns-clause-shape g c = λ moment. c.in_ok-finish.ensures.shape ∙ ap shape_of (made_parts g c moment)
+
+pub returns-clause-told : goal.returns-clause-told
+returns-clause-told g c = λ moment.
+    let parts = made_parts g c moment in
+    let meaning = g.A.Preprocessor.meaning c.args.answers.now in
+    let place = c.place-place.ensures in
+    let called = called_at c.known-known.result c.place-place.result c.args.self.now c.args.dir.now c.args.env.now (g.F.Files.tree c.args.files.now) moment c.known-known.ensures.known place.executable place.parsed place.dir place.env in
+    record {
+      toolchain = c.known-known.ensures.formed;
+      archives = subst (AllByRecursion (IsDigest digest_digits)) ((c.in_ok-found.ensures.found moment).files.archives ∙ (λ i. (record_of meaning (called i)).archives)) c.in_ok-found.ensures.formed;
+      fits = subst (λ (p : Parts). FitsFrame (material_of p)) parts c.in_ok-finish.ensures.fits;
+    }
 
 pub returns-clause-dep_info : goal.returns-clause-dep_info
 returns-clause-dep_info g c = λ moment.
