@@ -18,9 +18,9 @@ abbrev pub file_digest : (Bytes → Bytes) → Tree → Option Bytes → Option 
 file_digest digest_of files path = option_map (digest_text digest_of) (option_map (contents_in files) path)
 
 -- the digests of all files but the sources, where static libraries have these
-pub record AreFilesOf (digest_of : Bytes → Bytes) (q : Question) (archives : List (Bytes × Bytes)) (found : OtherFiles) : Type 0 where
+pub record AreFilesOf (digest_of : Bytes → Bytes) (q : Question) (libraries : List (Bytes × Bytes)) (found : OtherFiles) : Type 0 where
   pub externs : found.externs ≡ file_digests digest_of q.scene.files (extern_paths q)
-  pub archives : found.archives ≡ map (λ archive. archive.1) archives
+  pub archives : found.archives ≡ map (λ library. library.1) libraries
   pub target : found.target ≡ file_digest digest_of q.scene.files (target_path q)
   pub profile : found.profile ≡ file_digest digest_of q.scene.files (profile_path q)
 

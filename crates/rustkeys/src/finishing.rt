@@ -18,7 +18,7 @@ ghost use Rattle.rustkeys.specs.Hashers.{call_at, known_in};
 ghost use Rattle.rustkeys.specs.Questions.{Answers, compile_env_of};
 ghost use Rattle.rustkeys.specs.Records.{digest_text, parts_of};
 
-use crate::collecting::Collected;
+use crate::collecting::{Collected, Sources};
 use crate::compilation::{RustCompilation, compilation, copied};
 use crate::place::{KnownRust, RustPlace};
 use crate::sorting::{counted_in, env_deps_in};
@@ -48,18 +48,20 @@ fn parts_by(
         IsCollected digest_of c.question answers found →
         IfOk result (λ parts. parts ≡ parts_of digest_of (record_with c answers)) }
 {
+    let Collected { sources, files, .. } = found;
+    let Sources { text, digests } = sources;
     Ok(Parts {
         toolchain: copied(alloc, known.toolchain)?,
         version: known.version.clone()?,
         words: kept_words(alloc, place.parsed)?,
-        env_deps: env_deps_in(alloc, found.sources.text.as_str())?,
+        sources: digests,
+        externs: files.externs,
+        archives: files.archives,
+        target: files.target,
+        profile: files.profile,
+        env_deps: env_deps_in(alloc, text.as_str())?,
         variables: counted_in(alloc, place.env)?,
         dir: place.dir.clone()?,
-        sources: found.sources.digests,
-        externs: found.files.externs,
-        archives: found.files.archives,
-        target: found.files.target,
-        profile: found.files.profile,
     })
 }
 
