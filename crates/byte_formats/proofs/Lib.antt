@@ -1,3 +1,4 @@
 pub mod RepeatedReads
 pub mod FramedParts
 pub mod Texts
+pub mod Fronts

@@ -1,16 +1,18 @@
 //! Fields from the front of a slice, and fields at the end of a buffer.
 
-ghost use Rattle.std.specs.Prelude.{◌≡◌, ◌++◌, OnOk, string_bytes};
+ghost use Rattle.std.specs.Prelude.{◌≡◌, ◌++◌, IfErr, OnOk, string_bytes};
+ghost use Rattle.std.specs.Io.{StartsWith};
 ghost use Rattle.byte_formats.specs.Reading.{Gives, framed_at, number_at, signed_at, taken_at, text_at};
 ghost use Rattle.byte_formats.specs.Spelling.{FitsFrame, framed, number, signed};
 
 use crate::fault::ReadFault;
 use std::alloc::{AllocError, Global};
 
-/// A number of eight bytes, low byte first, and what stands behind it.
+/// A number of eight bytes, low byte first, and what stands behind it. It takes no memory.
 #[tactic(auto, unfolding(crate::specs::Reading::number_at))]
 pub fn read_number(bytes: &[u8]) -> Result<(u64, &[u8]), ReadFault>
-    ensures { Gives (λ x. (x.0, x.1.now)) result (number_at bytes.now) }
+    ensures value { Gives (λ x. (x.0, x.1.now)) result (number_at bytes.now) }
+    ensures fault { IfErr result (λ fault. fault ≡ ReadFault.Unfit) }
 {
     if bytes.len() < 8 {
         return Err(ReadFault::Unfit);
@@ -22,10 +24,11 @@ pub fn read_number(bytes: &[u8]) -> Result<(u64, &[u8]), ReadFault>
     Ok((number, rest))
 }
 
-/// A signed number by its eight bytes, low byte first, and what stands behind it.
+/// A signed number by its eight bytes, low byte first, and what stands behind it. It takes no memory.
 #[tactic(auto, unfolding(crate::specs::Reading::signed_at))]
 pub fn read_signed(bytes: &[u8]) -> Result<(i64, &[u8]), ReadFault>
-    ensures { Gives (λ x. (x.0, x.1.now)) result (signed_at bytes.now) }
+    ensures value { Gives (λ x. (x.0, x.1.now)) result (signed_at bytes.now) }
+    ensures fault { IfErr result (λ fault. fault ≡ ReadFault.Unfit) }
 {
     let (number, rest) = read_number(bytes)?;
     Ok((number.cast_signed(), rest))
@@ -34,7 +37,8 @@ pub fn read_signed(bytes: &[u8]) -> Result<(i64, &[u8]), ReadFault>
 /// The first `len` bytes, and what stands behind them. It takes no memory.
 #[tactic(auto, unfolding(crate::specs::Reading::taken_at))]
 pub fn read_taken(len: u64, bytes: &[u8]) -> Result<(&[u8], &[u8]), ReadFault>
-    ensures { Gives (λ x. (x.0.now, x.1.now)) result (taken_at len bytes.now) }
+    ensures value { Gives (λ x. (x.0.now, x.1.now)) result (taken_at len bytes.now) }
+    ensures fault { IfErr result (λ fault. fault ≡ ReadFault.Unfit) }
 {
     if (bytes.len() as u64) < len {
         return Err(ReadFault::Unfit);
@@ -45,7 +49,8 @@ pub fn read_taken(len: u64, bytes: &[u8]) -> Result<(&[u8], &[u8]), ReadFault>
 /// Bytes behind their length, and what stands behind them. It takes no memory.
 #[tactic(auto, unfolding(crate::specs::Reading::framed_at))]
 pub fn read_framed(bytes: &[u8]) -> Result<(&[u8], &[u8]), ReadFault>
-    ensures { Gives (λ x. (x.0.now, x.1.now)) result (framed_at bytes.now) }
+    ensures value { Gives (λ x. (x.0.now, x.1.now)) result (framed_at bytes.now) }
+    ensures fault { IfErr result (λ fault. fault ≡ ReadFault.Unfit) }
 {
     let (len, rest) = read_number(bytes)?;
     read_taken(len, rest)
@@ -62,24 +67,30 @@ pub fn read_text(alloc: Global, bytes: &[u8]) -> Result<(String, &[u8]), ReadFau
     }
 }
 
-/// Adds a number of eight bytes, low byte first. Where no memory was left, a part of it may have been added.
+/// Adds a number of eight bytes, low byte first. Where no memory was left, a part of it may have been added
+/// behind what stood there.
 pub fn put_number(out: &mut Vec<u8>, value: u64) -> Result<(), AllocError>
-    ensures { OnOk result (out.new.items ≡ out.old.items ++ number value) }
+    ensures added { OnOk result (out.new.items ≡ out.old.items ++ number value) }
+    ensures front { StartsWith out.new.items out.old.items }
 {
     out.extend_from_slice(&value.to_le_bytes())
 }
 
-/// Adds a signed number by its eight bytes, low byte first. Where no memory was left, a part of it may have been added.
+/// Adds a signed number by its eight bytes, low byte first. Where no memory was left, a part of it may have been added
+/// behind what stood there.
 pub fn put_signed(out: &mut Vec<u8>, value: i64) -> Result<(), AllocError>
-    ensures { OnOk result (out.new.items ≡ out.old.items ++ signed value) }
+    ensures added { OnOk result (out.new.items ≡ out.old.items ++ signed value) }
+    ensures front { StartsWith out.new.items out.old.items }
 {
     put_number(out, value.cast_unsigned())
 }
 
-/// Adds bytes behind their length. Where no memory was left, a part of them may have been added.
+/// Adds bytes behind their length. Where no memory was left, a part of them may have been added behind what stood
+/// there.
 pub fn put_framed(out: &mut Vec<u8>, bytes: &[u8]) -> Result<(), AllocError>
     ensures added { OnOk result (out.new.items ≡ out.old.items ++ framed bytes.now) }
     ensures fits { FitsFrame bytes.now }
+    ensures front { StartsWith out.new.items out.old.items }
 {
     put_number(out, bytes.len() as u64)?;
     out.extend_from_slice(bytes)

@@ -1,6 +1,6 @@
 -- Nodes of a table: entries whose flags begin alike, and those of them with one byte behind that.
 use Rattle.std.proofs.Common.{◌≡◌, ◌≢◌, ◌+◌, ◌-◌, ◌⊎◌, inl, inr, ⊎_elim, Ordering, ◌&&◌, suc, zero, ℕ, ◌≤◌, ◌<◌, List, [], ◌∷◌, ◌++◌, length, take, drop, Option, None, Some, Bool, true, false, nat_lt, nat_le, cond, refl, ap, sym, subst, ◌∙◌, arith, All, get_or, MatchOption}
-use Rattle.std.proofs.lemmas.List.{append-nil, take-append-drop, get_or-take, get_or-drop, length-take, length-drop, length-map, map-append, get_or-map}
+use Rattle.std.proofs.lemmas.List.{append-nil, take-append-drop, take-take, get_or-take, get_or-drop, length-take, length-drop, length-map, map-append, get_or-map}
 use Rattle.std.proofs.lemmas.List.Elements.{All-cons, All-nil, All-head, All-tail, All-weaker, All-map, All-from_all_within, All-get_or}
 use Rattle.std.proofs.Math.Seq.{take-length}
 use Rattle.std.proofs.lemmas.Option.{get_or_from_slice_get}
@@ -319,3 +319,10 @@ root word es rise = record { begin = from_start es; rise = rise }
     from_start : {K : Type 0} (fs : List (Entry K)) → All (Begins 0 word) fs
     from_start [] = All-nil (Begins 0 word)
     from_start (f ∷ fs) = All-cons (Begins 0 word) f fs (record { long = omega arith; alike = refl }) (from_start fs)
+
+-- what begins so far alike begins alike by fewer bytes too
+pub node_less : {K : Type 0} (d least : ℕ) (word : List ℕ) (es : List (Entry K)) → least ≤ d → IsNode d word es → IsNode least word es
+node_less d least word es le node = record {
+  begin = All-weaker (Begins d word) (Begins least word) (λ e b. record { long = omega (arith, b.long); alike = sym (take-take least d e.flag le) ∙ ap (take least) b.alike ∙ take-take least d word le }) es node.begin;
+  rise = node.rise;
+}

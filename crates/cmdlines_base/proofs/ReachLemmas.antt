@@ -1,5 +1,7 @@
 -- How far a node's flags and a word begin alike.
-use Rattle.std.proofs.Common.{◌≡◌, ◌≢◌, ℕ, zero, suc, max, ◌≤◌, ◌<◌, List, [], ◌∷◌, ◌++◌, length, take, drop, get_or, refl, ap, subst, arith, All}
+use Rattle.std.proofs.Common.{◌≡◌, ◌≢◌, ℕ, zero, suc, max, ◌≤◌, ◌<◌, ◌+◌, List, [], ◌∷◌, ◌++◌, length, take, drop, get_or, refl, ap, subst, arith, All}
+use Rattle.std.specs.Prelude.{not, ◌==◌, ◌||◌, nat_lt}
+use mir.Val.{bool_byte}
 use Rattle.std.proofs.lemmas.List.Elements.{All-head, All-tail, All-weaker}
 use Rattle.cmdlines_base.specs.Nodes.{Begins, GoesOn, IsNode, IsPicked, LacksByte}
 use Rattle.cmdlines_base.specs.Reach.{reach, shared}
@@ -76,6 +78,19 @@ pub reach-some : {T K : Type 0} (d : ℕ) (word : List ℕ) (xs : List (ArgInfo 
 reach-some d word [] lt node = absurd (omega (arith, lt))
 reach-some d word (x ∷ xs) lt node = reach-least d word (entry_of x) (entries_of xs) node
 
+-- of two nodes of which one isn't empty, one reaches here
+pub reach-either : {T K : Type 0} (d : ℕ) (word : List ℕ) (xs ys : List (ArgInfo T K)) → 0 < length xs + length ys
+    → IsNode d word (entries_of xs) → IsNode d word (entries_of ys) → d ≤ max (reach (entries_of xs) word) (reach (entries_of ys) word)
+reach-either d word [] ys lt one two = omega (arith, reach-some d word ys (omega (arith, lt)) two)
+reach-either d word (x ∷ xs) ys lt one two = omega (arith, reach-some d word (x ∷ xs) (omega arith) one)
+
+-- and where no byte more is known, whether one reaches here
+pub reach-first : {T K : Type 0} (word : List ℕ) (xs : List (ArgInfo T K)) (r : ℕ) → IsNode 1 word (entries_of xs) → r ≡ reach (entries_of xs) word → not (length xs == 0) ≡ nat_lt 0 r
+reach-first word [] r node is = rw is refl
+reach-first word (x ∷ xs) r node is =
+    let far : 0 < r = omega (arith, is, reach-least 1 word (entry_of x) (entries_of xs) node) in
+    grind (arith, far)
+
 -- none reaches behind the word
 shared-within : (flag word : List ℕ) → shared flag word ≤ length word
 shared-within [] word = omega arith
@@ -85,3 +100,20 @@ shared-within (b ∷ flag) (c ∷ word) = grind (arith, shared-within flag word)
 pub reach-within : {K : Type 0} (es : List (Entry K)) (word : List ℕ) → reach es word ≤ length word
 reach-within [] word = omega arith
 reach-within (e ∷ es) word = omega (arith, shared-within e.flag word, reach-within es word)
+
+-- what two tables' nodes behind two bytes tell of how far their tables are walked
+module _ {K : Type 0} (word : List ℕ) (t u e f : List (Entry K)) (one : max 1 (reach e word) ≡ max 1 (reach t word)) (two : max 1 (reach f word) ≡ max 1 (reach u word)) where
+  pub steps-on : (further : ℕ) → 2 + further ≡ max (reach e word) (reach f word) → 1 + 2 + further ≡ suc (reach (t ++ u) word)
+  steps-on further is = omega (arith, one, two, is, reach-both word t u)
+
+  pub steps-short : reach e word ≡ 0 → reach f word ≡ 0 → (bytes : ℕ) → bytes ≡ bool_byte (nat_lt 0 (reach t word) || nat_lt 0 (reach u word)) → 1 + bytes ≡ suc (reach (t ++ u) word)
+  steps-short none nothing bytes is = omega (arith, is, bit (reach t word) (reach u word) (omega (arith, one, none)) (omega (arith, two, nothing)), reach-both word t u)
+    where
+      bit : (a b : ℕ) → a ≤ 1 → b ≤ 1 → bool_byte (nat_lt 0 a || nat_lt 0 b) ≡ max a b
+      bit zero zero p q = refl
+      bit zero (suc zero) p q = refl
+      bit (suc zero) zero p q = refl
+      bit (suc zero) (suc zero) p q = refl
+      bit zero (suc (suc b)) p q = absurd (omega (arith, q))
+      bit (suc zero) (suc (suc b)) p q = absurd (omega (arith, q))
+      bit (suc (suc a)) b p q = absurd (omega (arith, p))

@@ -1,13 +1,13 @@
 //! One table, searched by the bytes of its flags.
 
-ghost use Rattle.std.specs.Prelude.{◌≡◌, ◌<◌, ◌≤◌, length, nat_le, IfSome, IsTrue};
+ghost use Rattle.std.specs.Prelude.{◌≡◌, ◌<◌, ◌≤◌, ◌+◌, length, max, nat_le, nat_lt, IfSome, IsTrue};
 ghost use Rattle.cmdlines_base.specs.Forks.{IsStemOf};
 ghost use Rattle.cmdlines_base.specs.Nodes.{IsNode, byte_at};
 ghost use Rattle.cmdlines_base.specs.Reach.{reach};
 ghost use Rattle.cmdlines_base.specs.Table.{entries_of, entry_at, entry_of, is_table, longer, longest_fit};
 
 use crate::fork::Fork;
-use crate::table::{ArgInfo, SearchableArgInfo, Table, going_on, past_ended, picked};
+use crate::table::{ArgInfo, SearchableArgInfo, Table, going_on, longer, past_ended, picked};
 use crate::value::ArgumentValue;
 use std::marker::Model;
 
@@ -84,32 +84,84 @@ fn common<T: ArgumentValue>(node: &[ArgInfo<T>], depth: usize, word: &[u8]) -> u
     depth
 }
 
-/// The best with what fits of a node, and how many bytes of the word begin a flag of it at most.
-fn search_node<'a, T: ArgumentValue>(
+/// The same of two nodes, as all flags of both do.
+fn common_of_both<T: ArgumentValue>(
+    first: &[ArgInfo<T>],
+    second: &[ArgInfo<T>],
+    depth: usize,
+    word: &[u8],
+) -> usize
+    requires first { IsNode depth word.now (entries_of first.now) }
+    requires second { IsNode depth word.now (entries_of second.now) }
+    requires some { 0 < length first.now + length second.now }
+    ensures first { IsNode result word.now (entries_of first.now) }
+    ensures second { IsNode result word.now (entries_of second.now) }
+    ensures least { depth ≤ result }
+    ensures reached { result ≤ max (reach (entries_of first.now) word.now)
+        (reach (entries_of second.now) word.now) }
+{
+    if second.is_empty() {
+        return common(first, depth, word);
+    }
+    if first.is_empty() {
+        return common(second, depth, word);
+    }
+    common(first, depth, word).min(common(second, depth, word))
+}
+
+/// One byte further in a table: the best with what ends there, and of a node's entries those that go on as the word does.
+fn step<'a, T: ArgumentValue>(
     best: Option<&'a ArgInfo<T>>,
     node: &'a [ArgInfo<T>],
     depth: usize,
     word: &[u8],
-) -> (Option<&'a ArgInfo<T>>, usize)
+) -> (Option<&'a ArgInfo<T>>, &'a [ArgInfo<T>])
     requires node { IsNode depth word.now (entries_of node.now) }
-    requires some { 0 < length node.now }
-    ensures fit { entry_at result.0
+    ensures fit { longer (entry_at result.0) (longest_fit (entries_of result.1.now) word.now)
         ≡ longer (entry_at best.entry) (longest_fit (entries_of node.now) word.now) }
-    ensures reach { result.1 ≡ reach (entries_of node.now) word.now }
+    ensures node { IsNode (depth + 1) word.now (entries_of result.1.now) }
+    ensures reach { max depth (reach (entries_of result.1.now) word.now)
+        ≡ max depth (reach (entries_of node.now) word.now) }
 {
-    let (mut best, mut node, mut depth) = (best, node, depth);
+    let (found, others) = past_ended(best, node, depth, word);
+    match word.get(depth) {
+        None => (found, &others[..0]),
+        Some(byte) => (found, picked(others, depth, *byte)),
+    }
+}
+
+/// From a node of two tables on, with the best of each so far: the entry of the word, and by how many bytes the walk goes on.
+pub(crate) fn walk<'a, T: ArgumentValue>(
+    best: Option<&'a ArgInfo<T>>,
+    node: &'a [ArgInfo<T>],
+    best_second: Option<&'a ArgInfo<T>>,
+    node_second: &'a [ArgInfo<T>],
+    depth: usize,
+    word: &[u8],
+) -> (Option<&'a ArgInfo<T>>, usize)
+    requires first { IsNode depth word.now (entries_of node.now) }
+    requires second { IsNode depth word.now (entries_of node_second.now) }
+    requires some { 0 < length node.now + length node_second.now }
+    ensures fit { entry_at result.0
+        ≡ longer (longer (entry_at best.entry) (longest_fit (entries_of node.now) word.now))
+        (longer (entry_at best_second.entry) (longest_fit (entries_of node_second.now) word.now)) }
+    ensures steps { depth + result.1
+        ≡ max (reach (entries_of node.now) word.now) (reach (entries_of node_second.now) word.now) }
+{
+    let (mut best, mut node) = (best, node);
+    let (mut best_second, mut node_second) = (best_second, node_second);
+    let (mut depth, mut steps) = (depth, 0);
     'nodes: loop {
-        depth = common(node, depth, word);
-        let (found, others) = past_ended(best, node, depth, word);
-        let Some(byte) = word.get(depth) else {
-            return (found, depth);
-        };
-        best = found;
-        node = picked(others, depth, *byte);
-        if node.is_empty() {
-            return (best, depth);
+        let alike = common_of_both(node, node_second, depth, word);
+        steps += alike - depth;
+        depth = alike;
+        (best, node) = step(best, node, depth, word);
+        (best_second, node_second) = step(best_second, node_second, depth, word);
+        if node.is_empty() && node_second.is_empty() {
+            return (longer(best, best_second), steps);
         }
         depth += 1;
+        steps += 1;
     }
 }
 
@@ -128,23 +180,27 @@ impl<T: ArgumentValue> Branch<T> {
         self.table.check()
     }
 
-    /// The entry of the word, and how many bytes of it begin a flag at most.
-    pub(crate) fn search(&self, word: &[u8]) -> (Option<&ArgInfo<T>>, usize)
-        ensures entry { entry_at result.0 ≡ longest_fit self.now word.now }
-        ensures reach { result.1 ≡ reach self.now word.now }
+    /// Where the word's first two bytes lead: the best of the entries whose flags have ended, those whose flags begin with both
+    /// bytes, and whether any begins with the first one.
+    pub(crate) fn begun(&self, word: &[u8]) -> (Option<&ArgInfo<T>>, &[ArgInfo<T>], bool)
+        ensures fit { longer (entry_at result.0) (longest_fit (entries_of result.1.now) word.now)
+            ≡ longest_fit self.now word.now }
+        ensures node { IsNode 2 word.now (entries_of result.1.now) }
+        ensures reach { max 1 (reach (entries_of result.1.now) word.now)
+            ≡ max 1 (reach self.now word.now) }
+        ensures first { result.2 ≡ nat_lt 0 (reach self.now word.now) }
     {
         let entries = self.table.entries();
         match (&self.stem, word) {
             (Some(stem), [byte, next, ..]) if *byte == stem.byte => {
                 let (found, others) = past_ended(None, &entries[..stem.count], 1, word);
-                let node = stem.fork.picked(others, *next);
-                if node.is_empty() {
-                    return (found, 1);
-                }
-                search_node(found, node, 2, word)
+                (found, stem.fork.picked(others, *next), true)
             }
-            _ if entries.is_empty() => (None, 0),
-            _ => search_node(None, entries, 0, word),
+            _ => {
+                let (best, node) = step(None, entries, 0, word);
+                let (found, below) = step(best, node, 1, word);
+                (found, below, !node.is_empty())
+            }
         }
     }
 }

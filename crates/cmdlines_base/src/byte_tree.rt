@@ -1,10 +1,11 @@
 //! One table or two, searched as one tree of their flags, byte by byte.
 
-ghost use Rattle.std.specs.Prelude.{◌≡◌, ◌∷◌, []};
-ghost use Rattle.cmdlines_base.specs.Reach.{node_steps};
-ghost use Rattle.cmdlines_base.specs.Table.{all_entries, entry_at, longest_fit};
+ghost use Rattle.std.specs.Prelude.{◌≡◌, ◌∷◌, [], ◌≤◌, ◌+◌, length, max, nat_lt, option_to_list};
+ghost use Rattle.cmdlines_base.specs.Nodes.{IsNode};
+ghost use Rattle.cmdlines_base.specs.Reach.{node_steps, reach};
+ghost use Rattle.cmdlines_base.specs.Table.{all_entries, entries_of, entry_at, longer, longest_fit};
 
-use crate::branch::Branch;
+use crate::branch::{Branch, walk};
 use crate::table::{ArgInfo, SearchableArgInfo, Table, longer};
 use crate::value::ArgumentValue;
 use std::marker::Model;
@@ -28,6 +29,24 @@ impl<T: ArgumentValue> Model for ByteTree<T> {
     ghost Value = { List (List (Entry T.Kind)) };
 
     ghost view = { λ a. a.first ∷ option_to_list a.second };
+}
+
+/// Where the word's first two bytes lead in the second table, if there is one.
+fn begun_in<'a, T: ArgumentValue>(
+    branch: &'a Option<Branch<T>>,
+    word: &[u8],
+) -> (Option<&'a ArgInfo<T>>, &'a [ArgInfo<T>], bool)
+    ensures fit { longer (entry_at result.0) (longest_fit (entries_of result.1.now) word.now)
+        ≡ longest_fit (all_entries (option_to_list branch.now)) word.now }
+    ensures node { IsNode 2 word.now (entries_of result.1.now) }
+    ensures reach { max 1 (reach (entries_of result.1.now) word.now)
+        ≡ max 1 (reach (all_entries (option_to_list branch.now)) word.now) }
+    ensures first { result.2 ≡ nat_lt 0 (reach (all_entries (option_to_list branch.now)) word.now) }
+{
+    match branch {
+        Some(branch) => branch.begun(word),
+        None => (None, &[], false),
+    }
 }
 
 impl<T: ArgumentValue> ByteTree<T> {
@@ -56,13 +75,16 @@ impl<T: ArgumentValue> ByteTree<T> {
     pub fn search_counted(&self, word: &[u8]) -> (Option<&ArgInfo<T>>, usize)
         ensures entry { entry_at result.0 ≡ longest_fit (all_entries self.now) word.now }
         ensures steps { result.1 ≡ node_steps (all_entries self.now) word.now }
+        ensures bound { result.1 ≤ length word.now + 1 }
     {
-        let (found, reach) = self.first.search(word);
-        let Some(second) = &self.second else {
-            return (found, reach + 1);
-        };
-        let (found_second, reach_second) = second.search(word);
-        (longer(found, found_second), reach.max(reach_second) + 1)
+        let (best, node, begins) = self.first.begun(word);
+        let (best_second, node_second, begins_second) = begun_in(&self.second, word);
+        if node.is_empty() && node_second.is_empty() {
+            let bytes = usize::from(begins | begins_second);
+            return (longer(best, best_second), 1 + bytes);
+        }
+        let (found, further) = walk(best, node, best_second, node_second, 2, word);
+        (found, 1 + 2 + further)
     }
 }
 

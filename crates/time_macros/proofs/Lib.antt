@@ -3,3 +3,4 @@ pub mod Seams
 pub mod DayLemmas
 pub mod MomentOrder
 pub mod Showing
+pub mod UtcRule

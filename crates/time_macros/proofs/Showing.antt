@@ -1,8 +1,7 @@
 -- What was read of a reader, fed to a digest and shown to a finder, piece by piece.
-use Rattle.std.proofs.Common.{◌++◌, Option, Some, None, sym, ap, subst, ◌∙◌, append_assoc, append-nil}
-use Rattle.std.specs.Io.KnownBytes.{Consumes, IsAtEnd}
+use Rattle.std.proofs.Common.{◌++◌, Option, Some, None, sym, ap, subst, ◌∙◌, append_assoc}
+use Rattle.std.specs.Io.KnownBytes.{Consumes}
 use Rattle.os_files.specs.Bytes.{Bytes}
-use Rattle.ckeys_base.specs.Feeding.{WasAll}
 
 pub record IsShown {S T : Type 0} (holds : S → Bytes → Type 0) (seen : T → Bytes → Type 0) (first : T) (known : Option Bytes) (now : T) (left : Option Bytes) (state : S) : Type 0 where
   pub bytes : Bytes

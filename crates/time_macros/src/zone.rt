@@ -1,6 +1,6 @@
 //! Zones, by the rules that POSIX gives for them.
 
-ghost use Rattle.std.specs.Prelude.{◌≡◌, ◌↔◌, ℤ, IsOk, IfOk, IsSome, Some};
+ghost use Rattle.std.specs.Prelude.{◌≡◌, ◌↔◌, ℤ, IsOk, IfOk, IsSome, Some, codes};
 ghost use Rattle.jiff_tz.specs.PosixReader.{read_whole};
 ghost use Rattle.jiff_tz.specs.PosixText.{tz_view};
 ghost use Rattle.time_macros.specs.Days.{ZoneRule, shown};
@@ -46,9 +46,10 @@ impl Zone {
         }
     }
 
-    /// UTC, whose clocks show each moment as it is.
+    /// UTC, whose clocks show each moment as it is: the zone whose rule is `UTC0`.
     pub fn utc() -> Zone
-        ensures { (moment : ℤ) → shown result moment ≡ moment }
+        ensures shown { (moment : ℤ) → shown result moment ≡ moment }
+        ensures rule { read_whole (codes "UTC0") ≡ Some (tz_view result) }
     {
         let rule = TimeZone {
             std_abbrev: Abbreviation::utc(),
