@@ -52,6 +52,13 @@ impl From<AllocError> for Error {
 /// How many bytes a read of a reader asks for.
 pub const HASH_BUFFER_SIZE: usize = 131072;
 
+/// It is 128 KiB.
+pub fn hash_buffer_size() -> usize
+    ensures { result ≡ 131072 }
+{
+    HASH_BUFFER_SIZE
+}
+
 /// A digest in the making. Contracts see the state of its hash function.
 #[derive(Drop)]
 pub struct Digest<H: HashState> {

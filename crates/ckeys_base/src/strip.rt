@@ -1,6 +1,6 @@
 //! Texts and arguments without the folders that are no part of a key.
 
-ghost use Rattle.std.specs.Prelude.{◌≡◌, ◌↔◌, ◌<◌, ◌≤◌, ℕ, Bool, false, List, [], IfOk, length};
+ghost use Rattle.std.specs.Prelude.{◌≡◌, ◌↔◌, ◌<◌, ◌≤◌, ℕ, Bool, false, List, [], IfOk, IsOk, length};
 ghost use Rattle.std.specs.List.{AllByRecursion, list_any};
 ghost use Rattle.std.specs.Cow.{cow_slice_items, IsBorrowedSlice};
 ghost use Rattle.os_files.specs.Bytes.{Bytes};
@@ -41,6 +41,7 @@ pub fn strip_basedirs<'a>(
         → IfOk result (λ cut. IsBorrowedSlice cut ↔ (starts ≡ [])) }
     ensures value { IfOk result
         (λ cut. cow_slice_items cut ≡ stripped_of text_places folders.now text.now) }
+    ensures memory { IsStripping (longest text_places folders.now text.now) 0 (length text.now) [] → IsOk result }
 {
     strip(alloc, Kind::Text, text, folders)
 }
@@ -87,6 +88,7 @@ pub fn strip_basedirs_from_arg<'a>(
         → IfOk result (λ cut. IsBorrowedSlice cut ↔ (starts ≡ [])) }
     ensures value { IfOk result
         (λ cut. cow_slice_items cut ≡ stripped_of argument_places folders.now argument.now) }
+    ensures memory { IsStripping (longest argument_places folders.now argument.now) 0 (length argument.now) [] → IsOk result }
 {
     strip(alloc, Kind::Argument, argument, folders)
 }
@@ -110,6 +112,8 @@ fn strip<'a>(
         → IfOk result (λ cut. IsBorrowedSlice cut ↔ (starts ≡ [])) }
     ensures value { IfOk result
         (λ cut. cow_slice_items cut ≡ stripped_of (places_of kind) folders.now text.now) }
+    ensures memory { IsStripping (longest (places_of kind) folders.now text.now) 0 (length text.now) []
+        → IsOk result }
 {
     let first = next_place(kind, folders, text, 0);
     if first == text.len() {

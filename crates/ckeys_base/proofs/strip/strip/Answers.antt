@@ -1,4 +1,4 @@
-use Rattle.std.proofs.Common.{◌<◌, length, ◌∙◌, arith}
+use Rattle.std.proofs.Common.{◌<◌, length, ◌∙◌, refl, [], arith}
 use Rattle.ckeys_base.specs.FromTheLeft.{places_of}
 use Rattle.ckeys_base.proofs.OneStripping.{has_exactly_one, left-by_any, none-goes, all-left, some-goes}
 use Rattle.ckeys_base.proofs.strip.strip.Goals as goal
@@ -36,3 +36,9 @@ returns-clause-borrowed c = λ starts is.
       λ empty. some-goes (places_of c.args.kind) c.args.folders.now c.args.text.now c.next_place-first.result at
           (λ k lt. c.next_place-first.ensures.none_before k (omega arith) lt) (c.next_place-first.ensures.found at) starts is empty,
     )
+
+pub returns-in_err-joined-clause-memory : goal.returns-in_err-joined-clause-memory
+returns-in_err-joined-clause-memory c = λ none.
+    let at : c.next_place-first.result < length c.args.text.now = omega arith in
+    absurd (some-goes (places_of c.args.kind) c.args.folders.now c.args.text.now c.next_place-first.result at
+    (λ k lt. c.next_place-first.ensures.none_before k (omega arith) lt) (c.next_place-first.ensures.found at) [] none refl)
