@@ -21,7 +21,7 @@ use replay::watched_records::WatchedRecords;
 use std::alloc::Global;
 use wrap::laws::records_of_earlier_calls_are_true;
 use wrap::{
-    Answer, EntryKey, Fault, Files, HashState, KeyConfig, MapStore, Pairs, PreprocessorCacheEntry,
+    Answer, Config, EntryKey, Fault, Files, HashState, MapStore, Pairs, PreprocessorCacheEntry,
     Request, Session, Store, StoreKey,
 };
 use wrap_base::store_key::keys_are_their_fields;
@@ -78,7 +78,7 @@ fn records_over(
 /// Answers the request by what was recorded of its compiler and its files, and by what a disk keeps.
 pub fn answered<H: HashState>(
     alloc: Global,
-    config: KeyConfig,
+    config: Config,
     record_kept: Option<(EntryKey, PreprocessorCacheEntry)>,
     entry: Option<(StoreKey, Pairs)>,
     request: &Request,
@@ -88,10 +88,10 @@ pub fn answered<H: HashState>(
     // In each world that gives what was recorded, outputs are those that its compiler gives afresh, if what the disk keeps
     // is of earlier calls there: outputs, and in direct mode the results of the include record.
     ensures { (world : Meaning) → let tree = ⟦<SnapshotFiles as Files>⟧.tree files.old in
-        let a = account_at world tree config request.now in
+        let a = account_at world tree config.keys request.now in
         GivesTo tool.old.text tool.old.outputs request.now tree world
         → (earlier : List Account)
-        → RecordIsOfEarlier H.digest_of config earlier record_kept
+        → RecordIsOfEarlier H.digest_of config.keys earlier record_kept
         → IsOfEarlier H.digest_of earlier entry
         → Premises H.digest_of (earlier ++ a ∷ [])
         → Answers a result.answer }

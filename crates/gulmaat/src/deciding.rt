@@ -22,7 +22,7 @@ use std::alloc::Global;
 use std::io::Read;
 use std::rt::Files;
 use wrap::{
-    Answer, CCompilerKind, ConfigError, EntryKey, Fault, How, KeyConfig, Output,
+    Answer, CCompilerKind, Config, ConfigError, EntryKey, Fault, How, Output,
     PreprocessorCacheEntry, Request, Step, StoreKey, Zone,
 };
 use wrapper_host::command_line::CommandLine;
@@ -272,11 +272,12 @@ fn find_out<P: Print + Files + AllocGlobal, I: Read>(
     }
 }
 
-/// What is fixed for the keys of a session: which folders don't count, and in direct mode the zone in which days are told.
-fn config_of(alloc: Global, basedirs: &[OsBytes], zone: &Option<Zone>) -> Result<KeyConfig, Stop> {
+/// What is fixed for a session: which folders don't count, and in direct mode the zone in which days are told. Outputs of any size are
+/// kept: `kept_folder` has a rule of its own on what is larger than most of its limit.
+fn config_of(alloc: Global, basedirs: &[OsBytes], zone: &Option<Zone>) -> Result<Config, Stop> {
     let config = match zone {
-        Some(zone) => KeyConfig::new(alloc, basedirs, *zone, true),
-        None => KeyConfig::new(alloc, basedirs, Zone::utc(), false),
+        Some(zone) => Config::new(alloc, basedirs, *zone, true, None),
+        None => Config::new(alloc, basedirs, Zone::utc(), false, None),
     };
     match config {
         Ok(config) => Ok(config),
@@ -462,7 +463,13 @@ fn note_made<R: Files + AllocGlobal>(
     let alloc = rt.alloc();
     let config = config_of(alloc, known.basedirs.as_slice(), &known.zone)?;
     let files = &mut known.files;
-    match request_fingerprint::<Sha256, _, _>(alloc, &config, request, files, &mut known.tool) {
+    match request_fingerprint::<Sha256, _, _>(
+        alloc,
+        &config.keys,
+        request,
+        files,
+        &mut known.tool,
+    ) {
         Ok(Ok(fingerprint)) => note_fingerprint(rt, line, request, fingerprint, &mut known.files),
         Ok(Err(_)) | Err(_) => Ok(()),
     }

@@ -219,9 +219,9 @@ module _ (digest_of : Bytes → Bytes) (text : Option RecordedText) (outputs : O
   key_is true text_key is_key fine goes are_true = by_record text_key is_key goes are_true
   key_is false text_key is_key fine goes are_true = by_text text_key is_key (fine refl)
 
-module _ (digest_of : Bytes → Bytes) (tells : Tells digest_of) (text : Option RecordedText) (outputs : Option RecordedOutputs) (world : Meaning) (c : KeyCall) (gives : Gives text outputs c.scene world) (old new : Shelves) (printed printed_new compiled compiled_new : ℕ) (are_true : RecordsAreTrue digest_of (worked (work_at world c)) old.entries.held) (earlier : List Account) (inv : Invariant digest_of earlier old.objects.held) where
+module _ (digest_of : Bytes → Bytes) (max_kept : Option ℕ) (tells : Tells digest_of) (text : Option RecordedText) (outputs : Option RecordedOutputs) (world : Meaning) (c : KeyCall) (gives : Gives text outputs c.scene world) (old new : Shelves) (printed printed_new compiled compiled_new : ℕ) (are_true : RecordsAreTrue digest_of (worked (work_at world c)) old.entries.held) (earlier : List Account) (inv : Invariant digest_of earlier old.objects.held) where
   abbrev Turned : Result Answer Fault → Type 0
-  Turned result = AskedTurn digest_of (worked (work_at (recorded text outputs) c)) old new printed printed_new compiled compiled_new result
+  Turned result = AskedTurn digest_of max_kept (worked (work_at (recorded text outputs) c)) old new printed printed_new compiled compiled_new result
 
   work_answers : (result : Result Answer Fault) → Turned result → (on_file : Bytes → Type 0) (device_in : Step → Type 0) → SaysBy GoesOn (worked (work_at (recorded text outputs) c)) on_file device_in result → Premises digest_of (earlier ++ worked (work_at world c) ∷ []) → Answers (worked (work_at world c)) result
   work_answers (Ok (Pass reason)) turn on_file device_in says premises = tt
@@ -249,20 +249,20 @@ module _ (digest_of : Bytes → Bytes) (tells : Tells digest_of) (text : Option 
         (work_at world c, Contains-push earlier (worked (work_at world c)), (it.0, record { is_key = own.is_key ∙ it.1; made = success digest_of text outputs world c gives old.entries.held pairs own.made; told = own.told })))
   ]
 
-module _ (digest_of : Bytes → Bytes) (tells : Tells digest_of) (text : Option RecordedText) (outputs : Option RecordedOutputs) (world : Meaning) (tree : Tree) (settings : Settings) (found : CFound) (request : Request) (gives : Gives text outputs (scene_at found.executable request tree) world) (old new : Shelves) (printed printed_new compiled compiled_new : ℕ) (result : Result Answer Fault) (on_file : Bytes → Type 0) (device_in : Step → Type 0) where
+module _ (digest_of : Bytes → Bytes) (max_kept : Option ℕ) (tells : Tells digest_of) (text : Option RecordedText) (outputs : Option RecordedOutputs) (world : Meaning) (tree : Tree) (settings : Settings) (found : CFound) (request : Request) (gives : Gives text outputs (scene_at found.executable request tree) world) (old new : Shelves) (printed printed_new compiled compiled_new : ℕ) (result : Result Answer Fault) (on_file : Bytes → Type 0) (device_in : Step → Type 0) where
   abbrev Told : Judgement → Type 0
-  Told d = AskedTurn digest_of (account_by (recorded text outputs) tree settings found request d) old new printed printed_new compiled compiled_new result × SaysBy GoesOn (account_by (recorded text outputs) tree settings found request d) on_file device_in result
+  Told d = AskedTurn digest_of max_kept (account_by (recorded text outputs) tree settings found request d) old new printed printed_new compiled compiled_new result × SaysBy GoesOn (account_by (recorded text outputs) tree settings found request d) on_file device_in result
 
   answers_by : (d : Judgement) → Told d → RecordsAreTrue digest_of (account_by world tree settings found request d) old.entries.held → (earlier : List Account) → Invariant digest_of earlier old.objects.held → Premises digest_of (earlier ++ account_by world tree settings found request d ∷ []) → Answers (account_by world tree settings found request d) result
   answers_by (passes why) told are_true earlier inv premises = tt
-  answers_by (asks p) told are_true earlier inv premises = work_answers digest_of tells text outputs world (call_at found request tree settings p) gives old new printed printed_new compiled compiled_new are_true earlier inv result told.0 on_file device_in told.1 premises
+  answers_by (asks p) told are_true earlier inv premises = work_answers digest_of max_kept tells text outputs world (call_at found request tree settings p) gives old new printed printed_new compiled compiled_new are_true earlier inv result told.0 on_file device_in told.1 premises
 
   grows_by : (d : Judgement) → Told d → RecordsAreTrue digest_of (account_by world tree settings found request d) old.entries.held → (earlier : List Account) → Invariant digest_of earlier old.objects.held → Invariant digest_of (earlier ++ account_by world tree settings found request d ∷ []) new.objects.held
   grows_by (passes why) told are_true earlier inv key pairs h = elim (told.0.objects.gains key pairs h) [
     | inl was ↦ (let w = inv key pairs was in (w.0, Contains-append_left earlier (passed why ∷ []) (worked w.0) w.1, w.2))
     | inr own ↦ absurd own
   ]
-  grows_by (asks p) told are_true earlier inv key pairs h = work_grows digest_of tells text outputs world (call_at found request tree settings p) gives old new printed printed_new compiled compiled_new are_true earlier inv result told.0 on_file device_in told.1 key pairs h
+  grows_by (asks p) told are_true earlier inv key pairs h = work_grows digest_of max_kept tells text outputs world (call_at found request tree settings p) gives old new printed printed_new compiled compiled_new are_true earlier inv result told.0 on_file device_in told.1 key pairs h
 
 or_first : (first second : Option Fault) → or_else first second ≡ None → first ≡ None
 or_first None second h = refl
@@ -282,7 +282,7 @@ unanswered call meaning told fine =
     failed_status h = cc
 
 -- Of rustc no answer is recorded, so that no outputs are answered.
-module _ (digest_of : Bytes → Bytes) (text : Option RecordedText) (outputs : Option RecordedOutputs) (world : Meaning) (tree : Tree) (rust : Rustc) (request : Request) (old new : Shelves) (printed printed_new compiled compiled_new : ℕ) (on_file : Bytes → Type 0) (device_in : Step → Type 0) where
+module _ (digest_of : Bytes → Bytes) (max_kept : Option ℕ) (text : Option RecordedText) (outputs : Option RecordedOutputs) (world : Meaning) (tree : Tree) (rust : Rustc) (request : Request) (old new : Shelves) (printed printed_new compiled compiled_new : ℕ) (on_file : Bytes → Type 0) (device_in : Step → Type 0) where
   abbrev told_account : RustJudgement → Account
   told_account d = rust_account_by (recorded text outputs) tree rust request d
 
@@ -293,7 +293,7 @@ module _ (digest_of : Bytes → Bytes) (text : Option RecordedText) (outputs : O
   no_record asked h = unanswered (rust_call_at rust request tree asked) (recorded text outputs) refl h
 
   abbrev RustTold : RustJudgement → Result Answer Fault → Type 0
-  RustTold d result = AskedTurn digest_of (told_account d) old new printed printed_new compiled compiled_new result × SaysBy GoesOn (told_account d) on_file device_in result
+  RustTold d result = AskedTurn digest_of max_kept (told_account d) old new printed printed_new compiled compiled_new result × SaysBy GoesOn (told_account d) on_file device_in result
 
   pub rust_answers : (d : RustJudgement) (result : Result Answer Fault) → RustTold d result → Answers (world_account d) result
   rust_answers (rust_verdicts.passes why) result told = tt
@@ -317,14 +317,14 @@ module _ (digest_of : Bytes → Bytes) (text : Option RecordedText) (outputs : O
       by (rust_verdicts.asks asked) (Err fault) t = t.0.objects.faulted key pairs h
 
 -- of whichever compiler
-module _ (digest_of : Bytes → Bytes) (tells : Tells digest_of) (text : Option RecordedText) (outputs : Option RecordedOutputs) (world : Meaning) (tree : Tree) (settings : Settings) (request : Request) (old new : Shelves) (printed printed_new compiled compiled_new : ℕ) (result : Result Answer Fault) (on_file : Bytes → Type 0) (device_in : Step → Type 0) where
+module _ (digest_of : Bytes → Bytes) (max_kept : Option ℕ) (tells : Tells digest_of) (text : Option RecordedText) (outputs : Option RecordedOutputs) (world : Meaning) (tree : Tree) (settings : Settings) (request : Request) (old new : Shelves) (printed printed_new compiled compiled_new : ℕ) (result : Result Answer Fault) (on_file : Bytes → Type 0) (device_in : Step → Type 0) where
   abbrev NamedTold : NamedBy → Type 0
-  NamedTold n = AskedTurn digest_of (account_named (recorded text outputs) tree settings request n) old new printed printed_new compiled compiled_new result × SaysBy GoesOn (account_named (recorded text outputs) tree settings request n) on_file device_in result
+  NamedTold n = AskedTurn digest_of max_kept (account_named (recorded text outputs) tree settings request n) old new printed printed_new compiled compiled_new result × SaysBy GoesOn (account_named (recorded text outputs) tree settings request n) on_file device_in result
 
   pub answers_named : (n : NamedBy) → GivesNamed n text outputs request tree world → NamedTold n → RecordsAreTrue digest_of (account_named world tree settings request n) old.entries.held → (earlier : List Account) → Invariant digest_of earlier old.objects.held → Premises digest_of (earlier ++ account_named world tree settings request n ∷ []) → Answers (account_named world tree settings request n) result
-  answers_named (by_c found) gives told are_true earlier inv premises = answers_by digest_of tells text outputs world tree settings found request gives old new printed printed_new compiled compiled_new result on_file device_in (verdict_of found.kind (words_at found request tree)) told are_true earlier inv premises
-  answers_named (by_rustc rust) gives told are_true earlier inv premises = rust_answers digest_of text outputs world tree rust request old new printed printed_new compiled compiled_new on_file device_in (rust_verdict_of request tree) result told
+  answers_named (by_c found) gives told are_true earlier inv premises = answers_by digest_of max_kept tells text outputs world tree settings found request gives old new printed printed_new compiled compiled_new result on_file device_in (verdict_of found.kind (words_at found request tree)) told are_true earlier inv premises
+  answers_named (by_rustc rust) gives told are_true earlier inv premises = rust_answers digest_of max_kept text outputs world tree rust request old new printed printed_new compiled compiled_new on_file device_in (rust_verdict_of request tree) result told
 
   pub grows_named : (n : NamedBy) → GivesNamed n text outputs request tree world → NamedTold n → RecordsAreTrue digest_of (account_named world tree settings request n) old.entries.held → (earlier : List Account) → Invariant digest_of earlier old.objects.held → Invariant digest_of (earlier ++ account_named world tree settings request n ∷ []) new.objects.held
-  grows_named (by_c found) gives told are_true earlier inv = grows_by digest_of tells text outputs world tree settings found request gives old new printed printed_new compiled compiled_new result on_file device_in (verdict_of found.kind (words_at found request tree)) told are_true earlier inv
-  grows_named (by_rustc rust) gives told are_true earlier inv = rust_grows digest_of text outputs world tree rust request old new printed printed_new compiled compiled_new on_file device_in (rust_verdict_of request tree) result told earlier inv
+  grows_named (by_c found) gives told are_true earlier inv = grows_by digest_of max_kept tells text outputs world tree settings found request gives old new printed printed_new compiled compiled_new result on_file device_in (verdict_of found.kind (words_at found request tree)) told are_true earlier inv
+  grows_named (by_rustc rust) gives told are_true earlier inv = rust_grows digest_of max_kept text outputs world tree rust request old new printed printed_new compiled compiled_new on_file device_in (rust_verdict_of request tree) result told earlier inv

@@ -48,7 +48,8 @@ pub fn replayed<
         → Invariant H.digest_of earlier (O.shelf session.old.objects).held
         → Invariant H.digest_of (earlier ++ a ∷ []) (O.shelf session.new.objects).held }
 
-    ensures settings { session.new.settings ≡ session.old.settings }
+    ensures settings { (session.new.settings ≡ session.old.settings)
+        × (session.new.max_kept ≡ session.old.max_kept) }
     ensures tree { F.tree files.new ≡ F.tree files.old }
 {
     store_keys_tell_records::<H>();

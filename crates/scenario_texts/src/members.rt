@@ -59,13 +59,18 @@ pub(crate) fn read_whole(member: Option<Value>, default: i64) -> Result<i64, Sce
     }
 }
 
+/// A whole number of 64 bits without a sign, and none where the member isn't there.
+pub(crate) fn read_limit(member: Option<Value>) -> Result<Option<u64>, ScenarioFault> {
+    match member {
+        Some(number) => Ok(Some(number.as_u64().ok_or(ScenarioFault::Unreadable)?)),
+        None => Ok(None),
+    }
+}
+
 /// A whole number of 64 bits without a sign, and none where it is 0 or the member isn't there.
 pub(crate) fn read_capacity(member: Option<Value>) -> Result<Option<NonZeroUsize>, ScenarioFault> {
-    match member {
-        Some(number) => {
-            let capacity = number.as_u64().ok_or(ScenarioFault::Unreadable)?;
-            Ok(NonZeroUsize::new(capacity as usize))
-        }
+    match read_limit(member)? {
+        Some(capacity) => Ok(NonZeroUsize::new(capacity as usize)),
         None => Ok(None),
     }
 }

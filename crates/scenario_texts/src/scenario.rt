@@ -5,7 +5,9 @@
 //! - `basedirs`: a list of byte texts, else empty: the folders that don't count. Each is absolute and not only slashes;
 //! - `zone`: a text, the rule of POSIX for the zone in which days are told, else `UTC0`;
 //! - `direct`: a truth value, whether include records are kept, else false;
-//! - `capacity`: a whole number of 64 bits without a sign, how many objects are kept at most, else 0, by which all are.
+//! - `capacity`: a whole number of 64 bits without a sign, how many objects are kept at most, else 0, by which all are;
+//! - `max_kept`: a whole number of 64 bits without a sign, of how many bytes the outputs of a request may be together to be kept, else none,
+//!   by which all are.
 //!
 //! A request is an object with these members, of which `compiler` and `words` are required:
 //!
@@ -42,7 +44,7 @@ use crate::byte_text::{read_byte_text, read_byte_texts, read_hex};
 use crate::compilers::read_compiler;
 use crate::crates::read_crate;
 use crate::members::{
-    into_list, into_object, into_text, read_capacity, read_truth, read_whole, required,
+    into_list, into_object, into_text, read_capacity, read_limit, read_truth, read_whole, required,
 };
 use ckeys_records::config::{ConfigError, KeyConfig};
 use os_files::file_time::FileTime;
@@ -54,6 +56,7 @@ use serde_json::{Map, Value};
 use std::alloc::{AllocError, AllocFailed, Global};
 use std::num::NonZeroUsize;
 use time_macros::zone::{Zone, ZoneError};
+use wrap_base::config::Config;
 use wrap_base::request::Request;
 
 /// The directory of a request that names none.
@@ -65,9 +68,9 @@ const DEFAULT_MOMENT: i64 = 1_700_000_000;
 /// What is fixed for all requests, and the calls in order.
 #[derive(Drop)]
 pub struct Scenario {
-    /// What is fixed for keys.
-    pub session_config: KeyConfig,
-    /// The same, of whose folders the tool's compiler strips texts.
+    /// What is fixed for keys, and how large a result is kept.
+    pub session_config: Config,
+    /// The same for keys, of whose folders the tool's compiler strips texts.
     pub tool_config: KeyConfig,
     /// How many objects are kept at most, or all.
     pub capacity: Option<NonZeroUsize>,
@@ -150,8 +153,9 @@ pub fn read_scenario(alloc: Global, bytes: &[u8]) -> Result<Scenario, ScenarioFa
     let zone = read_zone(members.remove("zone"))?;
     let direct = read_truth(members.remove("direct"))?;
     let capacity = read_capacity(members.remove("capacity"))?;
+    let max_kept = read_limit(members.remove("max_kept"))?;
     Ok(Scenario {
-        session_config: KeyConfig::new(alloc, folders, zone, direct)?,
+        session_config: Config::new(alloc, folders, zone, direct, max_kept)?,
         tool_config: KeyConfig::new(alloc, folders, zone, direct)?,
         capacity,
         calls: read_calls(alloc, required(members.remove("requests"))?)?,

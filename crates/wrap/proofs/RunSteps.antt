@@ -31,30 +31,32 @@ use Rattle.wrap_base.specs.declared.request.Request.{Request}
 use Rattle.wrap_keys.specs.Account.{Account, passed, worked, Work, Pairs, account_at, account_by, account_named, asked_by, call_at, rust_account_by, work_at, collected, all, direct_calls, direct_of, placed, why_passed}
 use Rattle.wrap_keys.specs.Answers.{Answers, SaysPassed}
 use Rattle.wrap_keys.specs.Asking.{EntriesBy, EntriesTurn, IsOfCall, IsOfOneCall, RecordsAreTrue, Shelves}
+use Rattle.wrap_keys.specs.Sizes.{is_within, size_in, size_of}
 use Rattle.wrap_keys.specs.StoreKeys.{store_key_of, IsHashedDirect, IsHashedIn, Premises, Invariant}
 use Rattle.wrap_keys.specs.Turn.{StoreTurn}
 use Rattle.os_files.specs.Views.{FilesView}
 use Rattle.ckeys_records.specs.Views.{ToolView}
-use Rattle.wrap_keys.specs.Whole.{Ticks, CallTurn, BothRun, SessionRun, Served, Loses, Run, accounts_of, AllAnswer, IsFresh, HaveOneRecord, OneFresh, outputs_in, Agree, SameOutputs, served, Each, begin_of, end_of, served_at, accounts_at}
+use Rattle.wrap_keys.specs.Whole.{Ticks, CallTurn, BothRun, SessionRun, Served, Loses, Run, accounts_of, AllAnswer, IsFresh, IsFreshWithin, HaveOneRecord, OneFresh, outputs_in, Agree, SameOutputs, served, Each, begin_of, end_of, served_at, accounts_at}
 use Rattle.wrap_base.specs.declared.answer.Answer.{Answer}
 use Rattle.wrap_base.specs.declared.answer.Answer.TheVariants.{Pass, Outputs}
 use Rattle.wrap_base.specs.declared.answer.How.TheVariants.{Direct, Stored, Fresh}
 use Rattle.wrap_base.specs.declared.call.Call.{Call}
 use Rattle.wrap_base.specs.declared.store_key.StoreKey.{StoreKey}
+use Rattle.wrap_keys.proofs.SizeLemmas.{size_placed}
 use Rattle.wrap.proofs.CallSteps.{Tells, invariant_step, answers_step, one_key}
 
 loses_nothing : {K V : Type 0} (s : Shelf K V) → Loses s s
 loses_nothing s = record { within = λ q v h. h; kept = λ h. (h, λ q i. i) }
 
 -- a run goes on by one call
-pub run_more : (digest_of : Bytes → Bytes) (settings : Settings) (old mid new : Shelves) (run : List Served) (s : Served) → SessionRun digest_of settings old run mid → CallTurn digest_of settings s.account mid new s.before s.after s.result → SessionRun digest_of settings old (run ++ s ∷ []) new
-run_more digest_of settings old mid new [] s r turn = (new, subst (λ (begin : Shelves). CallTurn digest_of settings s.account begin new s.before s.after s.result) r turn, refl)
-run_more digest_of settings old mid new (x ∷ run) s r turn = (r.0, r.1, run_more digest_of settings r.0 mid new run s r.2 turn)
+pub run_more : (digest_of : Bytes → Bytes) (max_kept : Option ℕ) (settings : Settings) (old mid new : Shelves) (run : List Served) (s : Served) → SessionRun digest_of max_kept settings old run mid → CallTurn digest_of max_kept settings s.account mid new s.before s.after s.result → SessionRun digest_of max_kept settings old (run ++ s ∷ []) new
+run_more digest_of max_kept settings old mid new [] s r turn = (new, subst (λ (begin : Shelves). CallTurn digest_of max_kept settings s.account begin new s.before s.after s.result) r turn, refl)
+run_more digest_of max_kept settings old mid new (x ∷ run) s r turn = (r.0, r.1, run_more digest_of max_kept settings r.0 mid new run s r.2 turn)
 
 -- a session's calls are a run in which nothing is lost between them
-both_run : (digest_of : Bytes → Bytes) (settings : Settings) (old new : Shelves) (run : List Served) → SessionRun digest_of settings old run new → BothRun digest_of settings old run new
-both_run digest_of settings old new [] r = subst (λ (end : Shelves). Loses old.entries end.entries × Loses old.objects end.objects) (sym r) (loses_nothing old.entries, loses_nothing old.objects)
-both_run digest_of settings old new (s ∷ run) r = (old, r.0, loses_nothing old.entries, loses_nothing old.objects, r.1, both_run digest_of settings r.0 new run r.2)
+both_run : (digest_of : Bytes → Bytes) (max_kept : Option ℕ) (settings : Settings) (old new : Shelves) (run : List Served) → SessionRun digest_of max_kept settings old run new → BothRun digest_of max_kept settings old run new
+both_run digest_of max_kept settings old new [] r = subst (λ (end : Shelves). Loses old.entries end.entries × Loses old.objects end.objects) (sym r) (loses_nothing old.entries, loses_nothing old.objects)
+both_run digest_of max_kept settings old new (s ∷ run) r = (old, r.0, loses_nothing old.entries, loses_nothing old.objects, r.1, both_run digest_of max_kept settings r.0 new run r.2)
 
 -- three lists that grow together
 served_more : (bs : List (Account × Ticks)) (es : List Ticks) (rs : List (Result Answer Fault)) (b : Account × Ticks) (e : Ticks) (r : Result Answer Fault) → length bs ≡ length rs → length es ≡ length rs
@@ -160,75 +162,77 @@ loses_invariant : (digest_of : Bytes → Bytes) (earlier : List Account) (old ne
 loses_invariant digest_of earlier old new l inv k v h = inv k v (l.within k v h)
 
 -- all outputs that are answered in a run are the fresh ones
-run_answers : (digest_of : Bytes → Bytes) → Tells digest_of → (earlier : List Account) (old new : Shelf StoreKey Pairs) (run : List Served) → Run digest_of old run new → Invariant digest_of earlier old.held → Premises digest_of (earlier ++ accounts_of run) → AllAnswer run
-run_answers digest_of tells earlier old new [] r inv p = tt
-run_answers digest_of tells earlier old new (s ∷ run) r inv p =
+run_answers : (digest_of : Bytes → Bytes) (max_kept : Option ℕ) → Tells digest_of → (earlier : List Account) (old new : Shelf StoreKey Pairs) (run : List Served) → Run digest_of max_kept old run new → Invariant digest_of earlier old.held → Premises digest_of (earlier ++ accounts_of run) → AllAnswer run
+run_answers digest_of max_kept tells earlier old new [] r inv p = tt
+run_answers digest_of max_kept tells earlier old new (s ∷ run) r inv p =
     let begins = loses_invariant digest_of earlier old r.0 r.2 inv in
     let regrouped : earlier ++ accounts_of (s ∷ run) ≡ (earlier ++ s.account ∷ []) ++ accounts_of run = sym (append_assoc earlier (s.account ∷ []) (accounts_of run)) in
     let all = subst (Premises digest_of) regrouped p in (
-      answers_step digest_of tells s.account r.0 r.1 s.before.compiled s.after.compiled s.result r.3.store r.3.fine earlier begins (premises_front digest_of (earlier ++ s.account ∷ []) (accounts_of run) all),
-      run_answers digest_of tells (earlier ++ s.account ∷ []) r.1 new run r.4 (invariant_step digest_of s.account r.0 r.1 s.before.compiled s.after.compiled s.result r.3.store r.3.fine earlier begins) all,
+      answers_step digest_of max_kept tells s.account r.0 r.1 s.before.compiled s.after.compiled s.result r.3.store r.3.fine earlier begins (premises_front digest_of (earlier ++ s.account ∷ []) (accounts_of run) all),
+      run_answers digest_of max_kept tells (earlier ++ s.account ∷ []) r.1 new run r.4 (invariant_step digest_of max_kept s.account r.0 r.1 s.before.compiled s.after.compiled s.result r.3.store r.3.fine earlier begins) all,
     )
 
 -- what is kept at the end was kept before
-run_kept : (digest_of : Bytes → Bytes) (old new : Shelf StoreKey Pairs) (run : List Served) → Run digest_of old run new → new.kept ≡ true → old.kept ≡ true
-run_kept digest_of old new [] r h = (r.kept h).0
-run_kept digest_of old new (s ∷ run) r h = (r.2.kept ((r.3.store.kept (run_kept digest_of r.1 new run r.4 h)).was)).0
+run_kept : (digest_of : Bytes → Bytes) (max_kept : Option ℕ) (old new : Shelf StoreKey Pairs) (run : List Served) → Run digest_of max_kept old run new → new.kept ≡ true → old.kept ≡ true
+run_kept digest_of max_kept old new [] r h = (r.kept h).0
+run_kept digest_of max_kept old new (s ∷ run) r h = (r.2.kept ((r.3.store.kept (run_kept digest_of max_kept r.1 new run r.4 h)).was)).0
 
 never_ticks : (n : ℕ) → n ≡ ticked n → ⊥
 never_ticks n e = omega arith
 
 -- a fresh answer comes only where the key was lacked
-lacked_before : (digest_of : Bytes → Bytes) (w : Work) (old new : Shelf StoreKey Pairs) (before after : ℕ) (result : Result Answer Fault) → StoreTurn digest_of (worked w) old new before after result → new.kept ≡ true → IsFresh result → IsSome (old.held (store_key_of digest_of w)) → ⊥
-lacked_before digest_of w old new before after (Ok (Pass reason)) turn kept fresh key = fresh
-lacked_before digest_of w old new before after (Ok (Outputs map Direct dep_info)) turn kept fresh key = fresh
-lacked_before digest_of w old new before after (Ok (Outputs map Stored dep_info)) turn kept fresh key = fresh
-lacked_before digest_of w old new before after (Err fault) turn kept fresh key = fresh
-lacked_before digest_of w old new before after (Ok (Outputs map Fresh dep_info)) turn kept fresh key =
+lacked_before : (digest_of : Bytes → Bytes) (max_kept : Option ℕ) (w : Work) (old new : Shelf StoreKey Pairs) (before after : ℕ) (result : Result Answer Fault) → StoreTurn digest_of max_kept (worked w) old new before after result → new.kept ≡ true → IsFresh result → IsSome (old.held (store_key_of digest_of w)) → ⊥
+lacked_before digest_of max_kept w old new before after (Ok (Pass reason)) turn kept fresh key = fresh
+lacked_before digest_of max_kept w old new before after (Ok (Outputs map Direct dep_info)) turn kept fresh key = fresh
+lacked_before digest_of max_kept w old new before after (Ok (Outputs map Stored dep_info)) turn kept fresh key = fresh
+lacked_before digest_of max_kept w old new before after (Err fault) turn kept fresh key = fresh
+lacked_before digest_of max_kept w old new before after (Ok (Outputs map Fresh dep_info)) turn kept fresh key =
     elim turn.told.2.miss.lacked [
       | inl none ↦ let some = rw none at key in cc
       | inr moved ↦ never_ticks old.forgets (sym (turn.kept kept).steady ∙ moved)
     ]
 
--- after a fresh answer the key is there
-held_after : (digest_of : Bytes → Bytes) (w : Work) (old new : Shelf StoreKey Pairs) (before after : ℕ) (result : Result Answer Fault) → StoreTurn digest_of (worked w) old new before after result → new.kept ≡ true → IsFresh result → IsSome (new.held (store_key_of digest_of w))
-held_after digest_of w old new before after (Ok (Pass reason)) turn kept fresh = absurd fresh
-held_after digest_of w old new before after (Ok (Outputs map Direct dep_info)) turn kept fresh = absurd fresh
-held_after digest_of w old new before after (Ok (Outputs map Stored dep_info)) turn kept fresh = absurd fresh
-held_after digest_of w old new before after (Err fault) turn kept fresh = absurd fresh
-held_after digest_of w old new before after (Ok (Outputs map Fresh dep_info)) turn kept fresh = rw (turn.told.2.holds kept) refl
+-- after a fresh answer whose size is within the limit the key is there
+held_after : (digest_of : Bytes → Bytes) (max_kept : Option ℕ) (w : Work) (old new : Shelf StoreKey Pairs) (before after : ℕ) (result : Result Answer Fault) → StoreTurn digest_of max_kept (worked w) old new before after result → new.kept ≡ true → IsFreshWithin max_kept result → IsSome (new.held (store_key_of digest_of w))
+held_after digest_of max_kept w old new before after (Ok (Pass reason)) turn kept fresh = absurd fresh
+held_after digest_of max_kept w old new before after (Ok (Outputs map Direct dep_info)) turn kept fresh = absurd fresh
+held_after digest_of max_kept w old new before after (Ok (Outputs map Stored dep_info)) turn kept fresh = absurd fresh
+held_after digest_of max_kept w old new before after (Err fault) turn kept fresh = absurd fresh
+held_after digest_of max_kept w old new before after (Ok (Outputs map Fresh dep_info)) turn kept fresh =
+    let size : size_of turn.told.0 ≡ size_in map = sym (ap size_in turn.told.1 ∙ size_placed w.outputs turn.told.0) in
+    rw (turn.told.2.holds kept (ap (is_within max_kept) size ∙ fresh)) refl
 
 -- while the key is there, no call of that record is answered afresh
-none_fresh : (digest_of : Bytes → Bytes) (w : Work) (old new : Shelf StoreKey Pairs) (run : List Served) → Run digest_of old run new → new.kept ≡ true → IsSome (old.held (store_key_of digest_of w))
+none_fresh : (digest_of : Bytes → Bytes) (max_kept : Option ℕ) (w : Work) (old new : Shelf StoreKey Pairs) (run : List Served) → Run digest_of max_kept old run new → new.kept ≡ true → IsSome (old.held (store_key_of digest_of w))
     → AllByRecursion (λ t. IsFresh t.result → HaveOneRecord (worked w) t.account → ⊥) run
-none_fresh digest_of w old new [] r h key = tt
-none_fresh digest_of w old new (s ∷ run) r h key =
-    let mid_kept = run_kept digest_of r.1 new run r.4 h in
+none_fresh digest_of max_kept w old new [] r h key = tt
+none_fresh digest_of max_kept w old new (s ∷ run) r h key =
+    let mid_kept = run_kept digest_of max_kept r.1 new run r.4 h in
     let still = r.3.store.kept mid_kept in
     let begin : IsSome (r.0.held (store_key_of digest_of w)) = (r.2.kept still.was).1 _ key in
     let mid : IsSome (r.1.held (store_key_of digest_of w)) = still.keys _ begin in (
       λ fresh both. later s.account r.3.store mid_kept fresh both begin,
-      none_fresh digest_of w r.1 new run r.4 h mid,
+      none_fresh digest_of max_kept w r.1 new run r.4 h mid,
     )
   where
-    later : (a : Account) {old new : Shelf StoreKey Pairs} {before after : ℕ} {result : Result Answer Fault} → StoreTurn digest_of a old new before after result → new.kept ≡ true → IsFresh result → HaveOneRecord (worked w) a → IsSome (old.held (store_key_of digest_of w)) → ⊥
+    later : (a : Account) {old new : Shelf StoreKey Pairs} {before after : ℕ} {result : Result Answer Fault} → StoreTurn digest_of max_kept a old new before after result → new.kept ≡ true → IsFresh result → HaveOneRecord (worked w) a → IsSome (old.held (store_key_of digest_of w)) → ⊥
     later (passed why) turn kept fresh both key = both
-    later (worked v) {old} {new} {before} {after} {result} turn kept fresh both key = lacked_before digest_of v old new before after result turn kept fresh (subst (λ k. IsSome (old.held k)) (one_key digest_of w v both) key)
+    later (worked v) {old} {new} {before} {after} {result} turn kept fresh both key = lacked_before digest_of max_kept v old new before after result turn kept fresh (subst (λ k. IsSome (old.held k)) (one_key digest_of w v both) key)
 
--- of the answers whose records are equal at most one is fresh
-pub run_once : (digest_of : Bytes → Bytes) (old new : Shelf StoreKey Pairs) (run : List Served) → Run digest_of old run new → new.kept ≡ true → OneFresh run
-run_once digest_of old new [] r h = tt
-run_once digest_of old new (s ∷ run) r h =
-    let mid_kept = run_kept digest_of r.1 new run r.4 h in
-    (λ fresh. first s.account r.3.store mid_kept fresh, run_once digest_of r.1 new run r.4 h)
+-- of the answers whose records are equal, and whose size is within the limit, at most one is fresh
+pub run_once : (digest_of : Bytes → Bytes) (max_kept : Option ℕ) (old new : Shelf StoreKey Pairs) (run : List Served) → Run digest_of max_kept old run new → new.kept ≡ true → OneFresh max_kept run
+run_once digest_of max_kept old new [] r h = tt
+run_once digest_of max_kept old new (s ∷ run) r h =
+    let mid_kept = run_kept digest_of max_kept r.1 new run r.4 h in
+    (λ fresh. first s.account r.3.store mid_kept fresh, run_once digest_of max_kept r.1 new run r.4 h)
   where
     none_of : (why : Why) (rest : List Served) → AllByRecursion (λ t. IsFresh t.result → HaveOneRecord (passed why) t.account → ⊥) rest
     none_of why [] = tt
     none_of why (t ∷ rest) = (λ fresh both. both, none_of why rest)
 
-    first : (a : Account) {begin : Shelf StoreKey Pairs} {before after : ℕ} {result : Result Answer Fault} → StoreTurn digest_of a begin r.1 before after result → r.1.kept ≡ true → IsFresh result → AllByRecursion (λ t. IsFresh t.result → HaveOneRecord a t.account → ⊥) run
+    first : (a : Account) {begin : Shelf StoreKey Pairs} {before after : ℕ} {result : Result Answer Fault} → StoreTurn digest_of max_kept a begin r.1 before after result → r.1.kept ≡ true → IsFreshWithin max_kept result → AllByRecursion (λ t. IsFresh t.result → HaveOneRecord a t.account → ⊥) run
     first (passed why) turn kept fresh = none_of why run
-    first (worked w) {begin} {before} {after} {result} turn kept fresh = none_fresh digest_of w r.1 new run r.4 h (held_after digest_of w begin r.1 before after result turn kept fresh)
+    first (worked w) {begin} {before} {after} {result} turn kept fresh = none_fresh digest_of max_kept w r.1 new run r.4 h (held_after digest_of max_kept w begin r.1 before after result turn kept fresh)
 
 -- a front of a mapped list, one more
 front_more : {C A : Type 0} (f : C → A) (first now : List C) (i : ℕ) (d : C) → drop i now ≡ drop i first → i < length now → take (i + 1) (map f first) ≡ take i (map f first) ++ f (get_or now i d) ∷ []
@@ -296,11 +300,11 @@ served_accounts : {F T : Type 0} (settings : Settings) (files : FilesView F) (to
 served_accounts settings files tool old new results len same = accounts_of-served (map (begin_of settings files tool) old) (map (end_of settings files tool) new) results (omega (arith, length-map old (begin_of settings files tool), length-map new (end_of settings files tool))) (omega (arith, length-map old (begin_of settings files tool))) ∙ accounts_begin settings files tool old
 
 -- from an empty store all outputs that are answered in a run are the fresh ones
-pub served_outputs : (digest_of : Bytes → Bytes) → Tells digest_of → {F T : Type 0} (settings : Settings) (files : FilesView F) (tool : ToolView T) (shelf_old shelf_new : Shelf StoreKey Pairs) (old new : List (Call F T)) (results : List (Result Answer Fault)) → length results ≡ length old → length new ≡ length old
-    → Run digest_of shelf_old (served_at settings files tool old new results) shelf_new → IsEmpty shelf_old → Premises digest_of (accounts_at settings files tool old) → AllAnswer (served_at settings files tool old new results)
-served_outputs digest_of tells settings files tool shelf_old shelf_new old new results len same run empty premises =
+pub served_outputs : (digest_of : Bytes → Bytes) (max_kept : Option ℕ) → Tells digest_of → {F T : Type 0} (settings : Settings) (files : FilesView F) (tool : ToolView T) (shelf_old shelf_new : Shelf StoreKey Pairs) (old new : List (Call F T)) (results : List (Result Answer Fault)) → length results ≡ length old → length new ≡ length old
+    → Run digest_of max_kept shelf_old (served_at settings files tool old new results) shelf_new → IsEmpty shelf_old → Premises digest_of (accounts_at settings files tool old) → AllAnswer (served_at settings files tool old new results)
+served_outputs digest_of max_kept tells settings files tool shelf_old shelf_new old new results len same run empty premises =
     let accounts = served_accounts settings files tool old new results len same in
-    run_answers digest_of tells [] shelf_old shelf_new (served_at settings files tool old new results) run (empty_invariant digest_of shelf_old empty) (subst (Premises digest_of) (sym accounts) premises)
+    run_answers digest_of max_kept tells [] shelf_old shelf_new (served_at settings files tool old new results) run (empty_invariant digest_of shelf_old empty) (subst (Premises digest_of) (sym accounts) premises)
 
 -- what the records of earlier calls say
 abbrev pub Agree_on : (Bytes → Bytes) → Type 0
@@ -369,28 +373,28 @@ plain_step digest_of (passed why) held none = tt
 plain_step digest_of (worked w) held none = λ text_key m. absurd (let h : None ≡ Some m.p = sym none ∙ m.has in cc)
 
 -- A run over both stores is one over the store of outputs alone, where the records are true of each of its calls: they are where no call has an entry key,
-pub plain_run : (digest_of : Bytes → Bytes) (settings : Settings) (old new : Shelves) (run : List Served) → BothRun digest_of settings old run new → AllByRecursion (λ s. direct_of s.account ≡ None) run → Run digest_of old.objects run new.objects
-plain_run digest_of settings old new [] r none = r.1
-plain_run digest_of settings old new (s ∷ run) r none = (r.0.objects, r.1.objects, r.3, r.4.own (plain_step digest_of s.account r.0.entries.held none.0), plain_run digest_of settings r.1 new run r.5 none.1)
+pub plain_run : (digest_of : Bytes → Bytes) (max_kept : Option ℕ) (settings : Settings) (old new : Shelves) (run : List Served) → BothRun digest_of max_kept settings old run new → AllByRecursion (λ s. direct_of s.account ≡ None) run → Run digest_of max_kept old.objects run new.objects
+plain_run digest_of max_kept settings old new [] r none = r.1
+plain_run digest_of max_kept settings old new (s ∷ run) r none = (r.0.objects, r.1.objects, r.3, r.4.own (plain_step digest_of s.account r.0.entries.held none.0), plain_run digest_of max_kept settings r.1 new run r.5 none.1)
 
 loses_records : (digest_of : Bytes → Bytes) (settings : Settings) (calls : List PrintedCall) (old new : Shelf EntryKey Record) → Loses old new → EntryInvariant digest_of settings calls old.held → EntryInvariant digest_of settings calls new.held
 loses_records digest_of settings calls old new l inv k e h r among = inv k e (l.within k e h) r among
 
 -- or from records of earlier calls
-pub true_run : (digest_of : Bytes → Bytes) → Agree_on digest_of → Stay_on digest_of → (settings : Settings) (earlier : List Account) (old new : Shelves) (run : List Served) → BothRun digest_of settings old run new → EntryInvariant digest_of settings (direct_calls earlier) old.entries.held → EntryPremises digest_of (direct_calls (earlier ++ accounts_of run)) → Run digest_of old.objects run new.objects
-true_run digest_of agree stay settings earlier old new [] r inv p = r.1
-true_run digest_of agree stay settings earlier old new (s ∷ run) r inv p =
+pub true_run : (digest_of : Bytes → Bytes) (max_kept : Option ℕ) → Agree_on digest_of → Stay_on digest_of → (settings : Settings) (earlier : List Account) (old new : Shelves) (run : List Served) → BothRun digest_of max_kept settings old run new → EntryInvariant digest_of settings (direct_calls earlier) old.entries.held → EntryPremises digest_of (direct_calls (earlier ++ accounts_of run)) → Run digest_of max_kept old.objects run new.objects
+true_run digest_of max_kept agree stay settings earlier old new [] r inv p = r.1
+true_run digest_of max_kept agree stay settings earlier old new (s ∷ run) r inv p =
     let begins = loses_records digest_of settings (direct_calls earlier) old.entries r.0.entries r.2 inv in
     let regrouped : earlier ++ accounts_of (s ∷ run) ≡ (earlier ++ s.account ∷ []) ++ accounts_of run = sym (append_assoc earlier (s.account ∷ []) (accounts_of run)) in
     let all = subst (λ (l : List Account). EntryPremises digest_of (direct_calls l)) regrouped p in
     let are_true = true_step digest_of agree settings earlier s.account r.0.entries.held r.4.configured begins (entry_front digest_of (earlier ++ s.account ∷ []) (accounts_of run) all) in
-    (r.0.objects, r.1.objects, r.3, r.4.own are_true, true_run digest_of agree stay settings (earlier ++ s.account ∷ []) r.1 new run r.5 (records_step digest_of stay settings earlier s.account r.0.entries r.1.entries s.before.preprocessed s.after.preprocessed r.4.configured r.4.entries begins) all)
+    (r.0.objects, r.1.objects, r.3, r.4.own are_true, true_run digest_of max_kept agree stay settings (earlier ++ s.account ∷ []) r.1 new run r.5 (records_step digest_of stay settings earlier s.account r.0.entries r.1.entries s.before.preprocessed s.after.preprocessed r.4.configured r.4.entries begins) all)
 
 no_records : (digest_of : Bytes → Bytes) (settings : Settings) (s : Shelf EntryKey Record) → IsEmpty s → EntryInvariant digest_of settings [] s.held
 no_records digest_of settings s empty k e h = let none = empty k in cc
 
-pub empty_run : (digest_of : Bytes → Bytes) → Agree_on digest_of → Stay_on digest_of → (settings : Settings) (old new : Shelves) (run : List Served) → BothRun digest_of settings old run new → IsEmpty old.entries → EntryPremises digest_of (direct_calls (accounts_of run)) → Run digest_of old.objects run new.objects
-empty_run digest_of agree stay settings old new run r empty p = true_run digest_of agree stay settings [] old new run r (no_records digest_of settings old.entries empty) p
+pub empty_run : (digest_of : Bytes → Bytes) (max_kept : Option ℕ) → Agree_on digest_of → Stay_on digest_of → (settings : Settings) (old new : Shelves) (run : List Served) → BothRun digest_of max_kept settings old run new → IsEmpty old.entries → EntryPremises digest_of (direct_calls (accounts_of run)) → Run digest_of max_kept old.objects run new.objects
+empty_run digest_of max_kept agree stay settings old new run r empty p = true_run digest_of max_kept agree stay settings [] old new run r (no_records digest_of settings old.entries empty) p
 
 both_all : (p q : Pairs) → all p ≡ all q → p ≡ q
 both_all p q e = cc
@@ -412,9 +416,9 @@ agree (worked w) (worked v) (Ok (Outputs x how dep)) (Ok (Outputs y way more)) o
 abbrev AllPass : List Served → Type 0
 AllPass run = AllByRecursion (λ s. (why : Why) → why_passed s.account ≡ Some why → SaysPassed why (λ name. s.after.files_failed ≡ ticked s.before.files_failed) s.result) run
 
-run_passes : (digest_of : Bytes → Bytes) (old new : Shelf StoreKey Pairs) (run : List Served) → Run digest_of old run new → AllPass run
-run_passes digest_of old new [] r = tt
-run_passes digest_of old new (s ∷ run) r = (r.3.passes, run_passes digest_of r.1 new run r.4)
+run_passes : (digest_of : Bytes → Bytes) (max_kept : Option ℕ) (old new : Shelf StoreKey Pairs) (run : List Served) → Run digest_of max_kept old run new → AllPass run
+run_passes digest_of max_kept old new [] r = tt
+run_passes digest_of max_kept old new (s ∷ run) r = (r.3.passes, run_passes digest_of max_kept r.1 new run r.4)
 
 all_agree : (one two : List Served) → accounts_of one ≡ accounts_of two → AllPass one → AllAnswer one → AllAnswer two → SameOutputs one two
 all_agree [] two e n h k = tt
@@ -424,13 +428,13 @@ all_agree (s ∷ one) (t ∷ two) e n h k =
     let tail : accounts_of one ≡ accounts_of two = cc in
     (agree s.account t.account s.result t.result (λ name. s.after.files_failed ≡ ticked s.before.files_failed) head n.0 h.0 k.0, all_agree one two tail n.1 h.1 k.1)
 
-pub two_runs_agree : (digest_of : Bytes → Bytes) → Tells digest_of → (one two : List Served) (one_old one_new two_old two_new : Shelf StoreKey Pairs)
-    → Run digest_of one_old one one_new → Run digest_of two_old two two_new → IsEmpty one_old → IsEmpty two_old
+pub two_runs_agree : (digest_of : Bytes → Bytes) (max_kept other : Option ℕ) → Tells digest_of → (one two : List Served) (one_old one_new two_old two_new : Shelf StoreKey Pairs)
+    → Run digest_of max_kept one_old one one_new → Run digest_of other two_old two two_new → IsEmpty one_old → IsEmpty two_old
     → accounts_of one ≡ accounts_of two → Premises digest_of (accounts_of one) → SameOutputs one two
-two_runs_agree digest_of tells one two one_old one_new two_old two_new r q e f same p =
-    all_agree one two same (run_passes digest_of one_old one_new one r)
-    (run_answers digest_of tells [] one_old one_new one r (empty_invariant digest_of one_old e) p)
-    (run_answers digest_of tells [] two_old two_new two q (empty_invariant digest_of two_old f) (subst (Premises digest_of) same p))
+two_runs_agree digest_of max_kept other tells one two one_old one_new two_old two_new r q e f same p =
+    all_agree one two same (run_passes digest_of max_kept one_old one_new one r)
+    (run_answers digest_of max_kept tells [] one_old one_new one r (empty_invariant digest_of one_old e) p)
+    (run_answers digest_of other tells [] two_old two_new two q (empty_invariant digest_of two_old f) (subst (Premises digest_of) same p))
 
 pub not_both : (b : Bool) → b ≡ true → b ≡ false → ⊥
 not_both b p q = let h = sym p ∙ q in cc
@@ -500,27 +504,27 @@ none_served settings files tool off (c ∷ calls) (e ∷ ends) [] = tt
 none_served settings files tool off (c ∷ calls) (e ∷ ends) (r ∷ results) = (none_asked (tool.meaning c.tool) (files.tree c.files) settings c.request off, none_served settings files tool off calls ends results)
 
 -- a run over both stores is one over the store of outputs alone
-pub served_run : (digest_of : Bytes → Bytes) → Agree_on digest_of → Stay_on digest_of → {F T : Type 0} (settings : Settings) (files : FilesView F) (tool : ToolView T) (shelves shelves_new : Shelves) (old new : List (Call F T)) (results : List (Result Answer Fault)) → length results ≡ length old → length new ≡ length old
-    → SessionRun digest_of settings shelves (served_at settings files tool old new results) shelves_new → (settings.direct ≡ true → IsEmpty shelves.entries × EntryPremises digest_of (direct_calls (accounts_at settings files tool old))) → Run digest_of shelves.objects (served_at settings files tool old new results) shelves_new.objects
-served_run digest_of agree stay settings files tool shelves shelves_new old new results len same run assumed = by settings.direct refl
+pub served_run : (digest_of : Bytes → Bytes) (max_kept : Option ℕ) → Agree_on digest_of → Stay_on digest_of → {F T : Type 0} (settings : Settings) (files : FilesView F) (tool : ToolView T) (shelves shelves_new : Shelves) (old new : List (Call F T)) (results : List (Result Answer Fault)) → length results ≡ length old → length new ≡ length old
+    → SessionRun digest_of max_kept settings shelves (served_at settings files tool old new results) shelves_new → (settings.direct ≡ true → IsEmpty shelves.entries × EntryPremises digest_of (direct_calls (accounts_at settings files tool old))) → Run digest_of max_kept shelves.objects (served_at settings files tool old new results) shelves_new.objects
+served_run digest_of max_kept agree stay settings files tool shelves shelves_new old new results len same run assumed = by settings.direct refl
   where
-    calls : BothRun digest_of settings shelves (served_at settings files tool old new results) shelves_new
-    calls = both_run digest_of settings shelves shelves_new (served_at settings files tool old new results) run
+    calls : BothRun digest_of max_kept settings shelves (served_at settings files tool old new results) shelves_new
+    calls = both_run digest_of max_kept settings shelves shelves_new (served_at settings files tool old new results) run
 
-    by : (b : Bool) → settings.direct ≡ b → Run digest_of shelves.objects (served_at settings files tool old new results) shelves_new.objects
+    by : (b : Bool) → settings.direct ≡ b → Run digest_of max_kept shelves.objects (served_at settings files tool old new results) shelves_new.objects
     by true on =
         let both = assumed on in
         let accounts = served_accounts settings files tool old new results len same in
-        empty_run digest_of agree stay settings shelves shelves_new (served_at settings files tool old new results) calls both.0 (subst (λ (l : List Account). EntryPremises digest_of (direct_calls l)) (sym accounts) both.1)
-    by false off = plain_run digest_of settings shelves shelves_new (served_at settings files tool old new results) calls (none_served settings files tool off old (map (end_of settings files tool) new) results)
+        empty_run digest_of max_kept agree stay settings shelves shelves_new (served_at settings files tool old new results) calls both.0 (subst (λ (l : List Account). EntryPremises digest_of (direct_calls l)) (sym accounts) both.1)
+    by false off = plain_run digest_of max_kept settings shelves shelves_new (served_at settings files tool old new results) calls (none_served settings files tool off old (map (end_of settings files tool) new) results)
 
-pub direct_runs_agree : (digest_of : Bytes → Bytes) → Tells digest_of → Agree_on digest_of → Stay_on digest_of → (settings : Settings) (one two : List Served) (one_old one_new two_old two_new : Shelves)
-    → BothRun digest_of settings one_old one one_new → BothRun digest_of settings two_old two two_new
+pub direct_runs_agree : (digest_of : Bytes → Bytes) (max_kept other : Option ℕ) → Tells digest_of → Agree_on digest_of → Stay_on digest_of → (settings : Settings) (one two : List Served) (one_old one_new two_old two_new : Shelves)
+    → BothRun digest_of max_kept settings one_old one one_new → BothRun digest_of other settings two_old two two_new
     → IsEmpty one_old.entries → IsEmpty two_old.entries → IsEmpty one_old.objects → IsEmpty two_old.objects
     → accounts_of one ≡ accounts_of two → Premises digest_of (accounts_of one) → SameOutputs one two
-direct_runs_agree digest_of tells agree stay settings one two one_old one_new two_old two_new r q a b e f same p =
+direct_runs_agree digest_of max_kept other tells agree stay settings one two one_old one_new two_old two_new r q a b e f same p =
     let assumed = entry_premises digest_of (accounts_of one) p in
-    two_runs_agree digest_of tells one two one_old.objects one_new.objects two_old.objects two_new.objects
-    (empty_run digest_of agree stay settings one_old one_new one r a assumed)
-    (empty_run digest_of agree stay settings two_old two_new two q b (subst (λ (l : List Account). EntryPremises digest_of (direct_calls l)) same assumed))
+    two_runs_agree digest_of max_kept other tells one two one_old.objects one_new.objects two_old.objects two_new.objects
+    (empty_run digest_of max_kept agree stay settings one_old one_new one r a assumed)
+    (empty_run digest_of other agree stay settings two_old two_new two q b (subst (λ (l : List Account). EntryPremises digest_of (direct_calls l)) same assumed))
     e f same p

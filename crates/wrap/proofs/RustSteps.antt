@@ -1,5 +1,5 @@
 -- Calls to rustc, which ask for no include records.
-use Rattle.std.proofs.Common.{◌≡◌, ℕ, [], None, Some, true, false, Result, Ok, Err, IsErrAnd, inr, refl, sym, ap, ◌∙◌}
+use Rattle.std.proofs.Common.{◌≡◌, ℕ, [], Option, None, Some, true, false, Result, Ok, Err, IsErrAnd, inr, refl, sym, ap, ◌∙◌}
 use Rattle.std.proofs.lemmas.Result.{err_from_is_err_and}
 use Rattle.os_files.specs.Bytes.{Bytes, ticked}
 use Rattle.os_files.specs.Tree.{Tree}
@@ -58,10 +58,10 @@ module _ (digest_of : Bytes → Bytes) (meaning : Meaning) (tree : Tree) (rust :
   recorded_by w entries text_key none (Err fault) = tt
 
   -- the object store is asked under the call's own key
-  pub rust_asked : (d : RustJudgement) (entries : Shelf EntryKey Record) (old new : Shelf StoreKey Pairs) (printed printed_new compiled compiled_new : ℕ) (on_file : Bytes → Type 0) (device_in : Step → Type 0) (result : Result Answer Fault)
-      → Says (account d) on_file device_in result → HowFrom false result → RunsOf (account d) false result printed printed_new → StoreTurn digest_of (account d) old new compiled compiled_new result
-      → AskedTurn digest_of (account d) (shelves_of entries old) (shelves_of entries new) printed printed_new compiled compiled_new result
-  rust_asked (passes why) entries old new printed printed_new compiled compiled_new on_file device_in result says how runs turn = record { from = false; text_key = []; is_key = tt; how = how; fine = tt; runs = runs; recorded = tt; objects = turn }
-  rust_asked (asks asked) entries old new printed printed_new compiled compiled_new on_file device_in result says how runs turn =
+  pub rust_asked : (max_kept : Option ℕ) (d : RustJudgement) (entries : Shelf EntryKey Record) (old new : Shelf StoreKey Pairs) (printed printed_new compiled compiled_new : ℕ) (on_file : Bytes → Type 0) (device_in : Step → Type 0) (result : Result Answer Fault)
+      → Says (account d) on_file device_in result → HowFrom false result → RunsOf (account d) false result printed printed_new → StoreTurn digest_of max_kept (account d) old new compiled compiled_new result
+      → AskedTurn digest_of max_kept (account d) (shelves_of entries old) (shelves_of entries new) printed printed_new compiled compiled_new result
+  rust_asked max_kept (passes why) entries old new printed printed_new compiled compiled_new on_file device_in result says how runs turn = record { from = false; text_key = []; is_key = tt; how = how; fine = tt; runs = runs; recorded = tt; objects = turn }
+  rust_asked max_kept (asks asked) entries old new printed printed_new compiled compiled_new on_file device_in result says how runs turn =
       let w = rust_work_at meaning (rust_call_at rust request tree asked) in
       record { from = false; text_key = key_of digest_of w.rec; is_key = refl; how = how; fine = fine_by w on_file device_in result says; runs = runs; recorded = recorded_by w entries (key_of digest_of w.rec) refl result; objects = turn }

@@ -1,6 +1,6 @@
 //! Laws over runs. Calls of them do nothing.
 
-ghost use Rattle.std.specs.Prelude.{◌≡◌, ◌↔◌, ◌∷◌, ◌++◌, [], ℕ, ℤ, true, false, List, Some, codes, length};
+ghost use Rattle.std.specs.Prelude.{◌≡◌, ◌↔◌, ◌∷◌, ◌++◌, [], ℕ, ℤ, true, false, List, Option, None, Some, Result, Ok, codes, length};
 ghost use Rattle.os_files.specs.Tree.{Tree};
 ghost use Rattle.include_records.specs.Records.{Record};
 ghost use Rattle.entry_keys.specs.declared.entry_key.EntryKey.{EntryKey};
@@ -10,7 +10,7 @@ ghost use Rattle.ckeys.specs.Entries.{EntryInvariant, HasMatch, Held, entry_key_
 ghost use Rattle.wrap.specs.DirectExample.{call_on, header_include, first_byte_digest, printed_text, record_on, text_key_on, two_moments};
 ghost use Rattle.ckeys.specs.Calls.{KeyCall};
 ghost use Rattle.ckeys_records.specs.Meaning.{Meaning};
-ghost use Rattle.os_files.specs.Bytes.{Bytes};
+ghost use Rattle.os_files.specs.Bytes.{Bytes, ticked};
 ghost use Rattle.ckeys_base.specs.Shelf.{IsEmpty, Shelf};
 ghost use Rattle.wrap_keys.specs.CallRecords.{AreDistinct, CallRecord, IsTold, key_of, record_shape};
 ghost use Rattle.wrap_keys.specs.Account.{Account, Pairs, Work, account_at, direct_calls, work_at};
@@ -19,8 +19,15 @@ ghost use Rattle.ckeys_records.specs.Folders.{Settings};
 ghost use Rattle.wrap_keys.specs.Asking.{EntriesTurn, RecordsAreTrue, Shelves};
 ghost use Rattle.wrap_base.specs.declared.request.Request.{Request};
 ghost use Rattle.fingerprints.specs.Fingerprints.{fingerprint_of};
-ghost use Rattle.wrap_keys.specs.StoreKeys.{Premises, SameRecord, store_key_of};
-ghost use Rattle.wrap_keys.specs.Whole.{BothRun, Run, SameOutputs, Served, accounts_of};
+ghost use Rattle.wrap_keys.specs.Sizes.{is_within};
+ghost use Rattle.wrap_keys.specs.StoreKeys.{Premises, SameRecord, store_key_of, store_key_with};
+ghost use Rattle.wrap_keys.specs.Turn.{FreshTurn, PutsBy};
+ghost use Rattle.wrap_keys.specs.Whole.{BothRun, IsFresh, IsFreshWithin, Run, SameOutputs, Served, accounts_of};
+ghost use Rattle.ckeys_records.specs.declared.fault.Fault.{Fault};
+ghost use Rattle.wrap_base.specs.declared.answer.Answer.{Answer};
+ghost use Rattle.wrap_base.specs.declared.answer.Answer.TheVariants.{Outputs};
+ghost use Rattle.wrap_base.specs.declared.answer.How.TheVariants.{Fresh};
+ghost use Rattle.wrap_base.specs.declared.answer.Output.{Output};
 ghost use Rattle.wrap_base.specs.declared.store_key.StoreKey.{StoreKey};
 ghost use Rattle.wrap.specs.Example.{compile_of, telling_digest, two_compiles};
 
@@ -31,10 +38,12 @@ use fingerprints::laws::fingerprints_tell_records;
 use rustkeys::laws::rustc_keys_tell_records;
 
 /// Two runs of one list of calls, over stores that forget and refuse as they like, give equal outputs wherever both answer
-/// with outputs.
+/// with outputs, whatever the limits are on what they keep.
 pub fn two_runs_agree<H: HashState>()
-    ensures { (one two : List Served) (one_old one_new two_old two_new : Shelf StoreKey Pairs)
-        → Run H.digest_of one_old one one_new → Run H.digest_of two_old two two_new
+    ensures { (max_kept other : Option ℕ) (one two : List Served)
+        (one_old one_new two_old two_new : Shelf StoreKey Pairs)
+        → Run H.digest_of max_kept one_old one one_new
+        → Run H.digest_of other two_old two two_new
         → IsEmpty one_old → IsEmpty two_old → accounts_of one ≡ accounts_of two
         → Premises H.digest_of (accounts_of one) → SameOutputs one two }
 {
@@ -43,10 +52,10 @@ pub fn two_runs_agree<H: HashState>()
 
 /// Likewise of two runs over both stores, from empty ones: their include records may give keys or forget as they like.
 pub fn two_direct_runs_agree<H: HashState>()
-    ensures { (settings : Settings) (one two : List Served)
+    ensures { (settings : Settings) (max_kept other : Option ℕ) (one two : List Served)
         (one_old one_new two_old two_new : Shelves)
-        → BothRun H.digest_of settings one_old one one_new
-        → BothRun H.digest_of settings two_old two two_new → IsEmpty one_old.entries
+        → BothRun H.digest_of max_kept settings one_old one one_new
+        → BothRun H.digest_of other settings two_old two two_new → IsEmpty one_old.entries
         → IsEmpty two_old.entries → IsEmpty one_old.objects → IsEmpty two_old.objects
         → accounts_of one ≡ accounts_of two → Premises H.digest_of (accounts_of one)
         → SameOutputs one two }
@@ -113,6 +122,22 @@ pub fn fingerprints_tell_store_keys<H: HashState>()
     store_keys_tell_records::<H>();
     fingerprints_tell_records::<H>();
 }
+
+/// Where there is no limit, each result is within it: a fresh answer comes with exactly one put, its pair is held then unless something
+/// was dropped or refused, and at most one fresh answer of a record means just that.
+pub fn no_limit_is_passed_by_none<H: HashState>()
+    ensures within { (size : ℕ) → is_within None size ≡ true }
+    ensures put { (outputs : List Output) (dep_info : Option Bytes)
+        (old new : Shelf StoreKey Pairs)
+        → PutsBy None (Ok (Outputs outputs Fresh dep_info)) old new
+        ↔ (new.puts ≡ ticked old.puts) }
+    ensures holds { (text_key : Bytes) (w : Work) (old new : Shelf StoreKey Pairs)
+        (before after : ℕ) (pairs : Pairs)
+        → FreshTurn H.digest_of None text_key w old new before after pairs
+        → new.kept ≡ true → new.held (store_key_with H.digest_of w text_key) ≡ Some pairs }
+    ensures once { (result : Result Answer Fault)
+        → IsFreshWithin None result ↔ IsFresh result }
+{}
 
 /// What is assumed of runs can be met: two calls whose records differ meet it under a digest of 32 bytes.
 pub fn premises_can_be_met()

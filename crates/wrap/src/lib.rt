@@ -38,6 +38,7 @@ pub use time_macros::zone::{Zone, ZoneError};
 pub use wrap_base::answer::{Answer, How, Output};
 pub use wrap_base::call::Call;
 pub use wrap_base::compiler::{AnyC, Compiler, Named};
+pub use wrap_base::config::Config;
 pub use wrap_base::map_store::MapStore;
 pub use wrap_base::reason::Reason;
 pub use wrap_base::request::Request;

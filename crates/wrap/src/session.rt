@@ -20,7 +20,6 @@ use ckeys::laws::records_are_true;
 use ckeys::{EntryKey, PreprocessorCacheEntry};
 use ckeys_base::hash_state::HashState;
 use ckeys_base::store::Store;
-use ckeys_records::config::KeyConfig;
 use ckeys_records::fault::Fault;
 use fingerprints::fingerprint::{Fingerprint, request_fingerprint};
 use os_files::files::Files;
@@ -29,6 +28,7 @@ use std::marker::{Model, PhantomData};
 use wrap_base::answer::Answer;
 use wrap_base::call::Call;
 use wrap_base::compiler::Named;
+use wrap_base::config::Config;
 use wrap_base::reason::Reason;
 use wrap_base::request::Request;
 use wrap_base::store_key::{Pairs, StoreKey};
@@ -41,7 +41,7 @@ use wrap_turns::rust_calls::rust_turn;
 #[derive(Drop)]
 pub struct Session<H, E, O> {
     alloc: Global,
-    config: KeyConfig,
+    config: Config,
     entries: E,
     objects: O,
     hash: PhantomData<H>,
@@ -61,7 +61,7 @@ impl<
     O: Store<StoreKey, Pairs> + Drop,
 > Session<H, E, O> {
     /// A session under that configuration over these stores, whose calls take their memory from the allocator.
-    pub fn new(alloc: Global, config: KeyConfig, entries: E, objects: O) -> Session<H, E, O>
+    pub fn new(alloc: Global, config: Config, entries: E, objects: O) -> Session<H, E, O>
         ensures { result ≡ held_by config entries objects }
     {
         Session {
@@ -71,6 +71,14 @@ impl<
             objects,
             hash: PhantomData,
         }
+    }
+
+    /// The configuration.
+    pub fn config(&self) -> &Config
+        ensures keys { result.now.keys ≡ self.now.settings }
+        ensures limit { result.now.max_kept ≡ self.now.max_kept }
+    {
+        &self.config
     }
 
     /// The store of include records.
@@ -91,7 +99,8 @@ impl<
     pub fn forget_all(&mut self)
         ensures entries { Clears (E.shelf self.old.entries) (E.shelf self.new.entries) }
         ensures objects { Clears (O.shelf self.old.objects) (O.shelf self.new.objects) }
-        ensures settings { self.new.settings ≡ self.old.settings }
+        ensures settings { (self.new.settings ≡ self.old.settings)
+            × (self.new.max_kept ≡ self.old.max_kept) }
     {
         self.entries.forget_all();
         self.objects.forget_all();
@@ -130,7 +139,7 @@ impl<
         ensures still { HasOwnFault result →
             AreSteady T.Preprocessor F.Files tool.old files.old tool.new files.new }
     {
-        request_fingerprint::<H, F, T>(self.alloc, &self.config, request, files, tool)
+        request_fingerprint::<H, F, T>(self.alloc, &self.config.keys, request, files, tool)
     }
 
     /// Answers one request on these files by that tool: it is passed through, or it gets the outputs that its compiler
@@ -155,7 +164,7 @@ impl<
         // Under which key it asks the store of outputs, and what it does to that, whatever the records hold.
         ensures asked { let a = account_at (T.meaning tool.old) (F.tree files.old) self.old.settings
             request.now in
-            AskedTurn H.digest_of a
+            AskedTurn H.digest_of self.old.max_kept a
             (shelves_of (E.shelf self.old.entries) (O.shelf self.old.objects))
             (shelves_of (E.shelf self.new.entries) (O.shelf self.new.objects))
             (T.preprocessed tool.old) (T.preprocessed tool.new) (T.compiled tool.old)
@@ -204,8 +213,8 @@ impl<
         ensures store { let a = account_at (T.meaning tool.old) (F.tree files.old) self.old.settings
             request.now in
             RecordsAreTrue H.digest_of a (E.shelf self.old.entries).held
-            → StoreTurn H.digest_of a (O.shelf self.old.objects) (O.shelf self.new.objects)
-            (T.compiled tool.old) (T.compiled tool.new) result }
+            → StoreTurn H.digest_of self.old.max_kept a (O.shelf self.old.objects)
+            (O.shelf self.new.objects) (T.compiled tool.old) (T.compiled tool.new) result }
 
         // Then, whatever list of earlier calls meets the invariant, that list followed by this call meets it at the end.
         ensures invariant { let a = account_at (T.meaning tool.old) (F.tree files.old)
@@ -221,7 +230,8 @@ impl<
             → Invariant H.digest_of earlier (O.shelf self.old.objects).held
             → Premises H.digest_of (earlier ++ a ∷ []) → Answers a result }
 
-        ensures settings { self.new.settings ≡ self.old.settings }
+        ensures settings { (self.new.settings ≡ self.old.settings)
+            × (self.new.max_kept ≡ self.old.max_kept) }
         ensures meaning { T.meaning tool.new ≡ T.meaning tool.old }
         ensures tree { F.tree files.new ≡ F.tree files.old }
 
@@ -245,7 +255,7 @@ impl<
 
         // Each answer is one call's, in order, as `serve` says; and nothing else is done to the stores.
         ensures run { IfOk result
-            (λ answers. SessionRun H.digest_of self.old.settings
+            (λ answers. SessionRun H.digest_of self.old.max_kept self.old.settings
             (shelves_of (E.shelf self.old.entries) (O.shelf self.old.objects))
             (served_at self.old.settings F.Files T.Preprocessor calls.old calls.new answers.items)
             (shelves_of (E.shelf self.new.entries) (O.shelf self.new.objects))) }
@@ -257,7 +267,7 @@ impl<
             (direct_calls
             (accounts_at self.old.settings F.Files T.Preprocessor calls.old)))
             → IfOk result
-            (λ answers. Run H.digest_of (O.shelf self.old.objects)
+            (λ answers. Run H.digest_of self.old.max_kept (O.shelf self.old.objects)
             (served_at self.old.settings F.Files T.Preprocessor calls.old calls.new answers.items)
             (O.shelf self.new.objects)) }
 
@@ -275,7 +285,7 @@ impl<
             (λ answers. AllAnswer
             (served_at self.old.settings F.Files T.Preprocessor calls.old calls.new answers.items)) }
 
-        // With nothing forgotten or refused, equal records get at most one fresh answer.
+        // With nothing forgotten or refused, equal records get at most one fresh answer, where their outputs are no larger than the limit.
         ensures once { (self.old.settings.direct ≡ true
             → IsEmpty (E.shelf self.old.entries)
             × EntryPremises H.digest_of
@@ -283,10 +293,11 @@ impl<
             (accounts_at self.old.settings F.Files T.Preprocessor calls.old)))
             → (O.shelf self.new.objects).kept ≡ true
             → IfOk result
-            (λ answers. OneFresh
+            (λ answers. OneFresh self.old.max_kept
             (served_at self.old.settings F.Files T.Preprocessor calls.old calls.new answers.items)) }
 
-        ensures settings { self.new.settings ≡ self.old.settings }
+        ensures settings { (self.new.settings ≡ self.old.settings)
+            × (self.new.max_kept ≡ self.old.max_kept) }
         ensures unchanged { OnErr result
             ((calls.new ≡ calls.old) × (E.shelf self.new.entries ≡ E.shelf self.old.entries)
             × (O.shelf self.new.objects ≡ O.shelf self.old.objects)) }
@@ -302,14 +313,15 @@ impl<
     ) -> Result<Vec<Result<Answer, Fault>>, AllocError>
         ensures length { IfOk result (λ answers. length answers.items ≡ length calls.old) }
         ensures run { IfOk result
-            (λ answers. SessionRun H.digest_of self.old.settings
+            (λ answers. SessionRun H.digest_of self.old.max_kept self.old.settings
             (shelves_of (E.shelf self.old.entries) (O.shelf self.old.objects))
             (served_at self.old.settings F.Files T.Preprocessor calls.old calls.new answers.items)
             (shelves_of (E.shelf self.new.entries) (O.shelf self.new.objects))) }
         ensures says { IfOk result
             (λ answers. Each (IsAnswered self.old.settings F.Files T.Preprocessor)
             calls.old calls.new answers.items) }
-        ensures settings { self.new.settings ≡ self.old.settings }
+        ensures settings { (self.new.settings ≡ self.old.settings)
+            × (self.new.max_kept ≡ self.old.max_kept) }
         ensures unchanged { OnErr result
             ((calls.new ≡ calls.old) × (E.shelf self.new.entries ≡ E.shelf self.old.entries)
             × (O.shelf self.new.objects ≡ O.shelf self.old.objects)) }
@@ -342,7 +354,7 @@ impl<
             × (T.compiled tool.new ≡ T.compiled tool.old) × (T.failed tool.new ≡ T.failed tool.old)) }
         ensures asked { let a = account_at (T.meaning tool.old) (F.tree files.old) self.old.settings
             request.now in
-            AskedTurn H.digest_of a
+            AskedTurn H.digest_of self.old.max_kept a
             (shelves_of (E.shelf self.old.entries) (O.shelf self.old.objects))
             (shelves_of (E.shelf self.new.entries) (O.shelf self.new.objects))
             (T.preprocessed tool.old) (T.preprocessed tool.new) (T.compiled tool.old)
@@ -351,7 +363,8 @@ impl<
             self.old.settings request.now in
             EntriesTurn H.digest_of a (E.shelf self.old.entries) (E.shelf self.new.entries)
             (T.preprocessed tool.old) (T.preprocessed tool.new) }
-        ensures settings { self.new.settings ≡ self.old.settings }
+        ensures settings { (self.new.settings ≡ self.old.settings)
+            × (self.new.max_kept ≡ self.old.max_kept) }
         ensures meaning { T.meaning tool.new ≡ T.meaning tool.old }
         ensures tree { F.tree files.new ≡ F.tree files.old }
         ensures steady { OnOk result
@@ -372,7 +385,15 @@ impl<
             ),
             Named::Rustc(rust) => {
                 let objects = &mut self.objects;
-                rust_turn::<H, O, F, T>(self.alloc, objects, rust, request, files, tool)
+                rust_turn::<H, O, F, T>(
+                    self.alloc,
+                    self.config.max_kept,
+                    objects,
+                    rust,
+                    request,
+                    files,
+                    tool,
+                )
             }
         }
     }

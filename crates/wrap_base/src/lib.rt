@@ -4,6 +4,7 @@
 pub mod answer;
 pub mod call;
 pub mod compiler;
+pub mod config;
 pub mod map_store;
 pub mod reason;
 pub mod request;

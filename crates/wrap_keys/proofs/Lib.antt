@@ -2,3 +2,4 @@ pub mod KeyLemmas
 pub mod Utf8Lemmas
 pub mod JudgeLemmas
 pub mod RunLemmas
+pub mod SizeLemmas

@@ -103,7 +103,7 @@ RunsOf (passed why) from result before after = after ≡ before
 RunsOf (worked w) from result before after = RunsOfRecord w.rec from result before after
 
 -- One call: under which key it asks the object store and what it does to that, whatever the records hold; and how often the preprocessor ran. Where the key came from the text and outputs are answered, the call has no fault before the store is asked; and a text that is recorded is found under this key again.
-pub record AskedTurn (digest_of : Bytes → Bytes) (a : Account) (old new : Shelves) (printed printed_new compiled compiled_new : ℕ) (result : Result Answer Fault) : Type 0 where
+pub record AskedTurn (digest_of : Bytes → Bytes) (max_kept : Option ℕ) (a : Account) (old new : Shelves) (printed printed_new compiled compiled_new : ℕ) (result : Result Answer Fault) : Type 0 where
   pub from : Bool
   pub text_key : Bytes
   pub is_key : AskedUnder digest_of a old.entries.held from text_key
@@ -111,7 +111,7 @@ pub record AskedTurn (digest_of : Bytes → Bytes) (a : Account) (old new : Shel
   pub fine : OnOutputs a result (λ w. from ≡ false → w.fault ≡ None)
   pub runs : RunsOf a from result printed printed_new
   pub recorded : OnOutputs a result (λ w. (p : PrintedCall) → w.direct ≡ Some p → KeyRecorded digest_of p old.entries new.entries from text_key)
-  pub objects : KeyedTurn digest_of text_key a old.objects new.objects compiled compiled_new result
+  pub objects : KeyedTurn digest_of max_kept text_key a old.objects new.objects compiled compiled_new result
 
 -- what one call does to the include records: nothing where it has no entry key
 abbrev pub EntriesBy : (Bytes → Bytes) → Option PrintedCall → Shelf EntryKey Record → Shelf EntryKey Record → ℕ → ℕ → Type 0

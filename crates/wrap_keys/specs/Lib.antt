@@ -4,6 +4,7 @@ pub mod CallRecords
 pub mod Account
 pub mod StoreKeys
 pub mod Answers
+pub mod Sizes
 pub mod Turn
 pub mod Asking
 pub mod Whole

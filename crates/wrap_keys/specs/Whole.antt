@@ -13,6 +13,7 @@ use Rattle.wrap_keys.specs.Verdicts.{Why}
 use Rattle.wrap_keys.specs.Account.{Account, passed, worked, Pairs, account_at, why_passed}
 use Rattle.wrap_keys.specs.Answers.{Answers, GoesOn, OnPass, Says, SaysBy, SaysPassed, settled, settled_by}
 use Rattle.wrap_keys.specs.Asking.{AskedTurn, EntriesTurn, IsOfOneCall, OnOutputs, RecordsAreTrue, Shelves}
+use Rattle.wrap_keys.specs.Sizes.{is_within, size_in}
 use Rattle.wrap_keys.specs.StoreKeys.{HasRecord, SameRecord}
 use Rattle.wrap_keys.specs.Turn.{StoreTurn}
 use Rattle.wrap_base.specs.declared.answer.Answer.{Answer}
@@ -34,8 +35,8 @@ abbrev pub SameFailures : Ticks → Ticks → Type 0
 SameFailures before after = (after.failed ≡ before.failed) × (after.files_failed ≡ before.files_failed)
 
 -- One call, by plain values: what it does to the store and what its answer tells; what the verdict passes through is passed through, unless memory was refused before or a file's device failed, and then no tick of the tool moves; outputs are answered only where the call has a record; and where no growth is refused and no device fails, what is said before the compile is the account's alone.
-pub record Turn (digest_of : Bytes → Bytes) (a : Account) (old new : Shelf StoreKey Pairs) (before after : Ticks) (result : Result Answer Fault) : Type 0 where
-  pub store : StoreTurn digest_of a old new before.compiled after.compiled result
+pub record Turn (digest_of : Bytes → Bytes) (max_kept : Option ℕ) (a : Account) (old new : Shelf StoreKey Pairs) (before after : Ticks) (result : Result Answer Fault) : Type 0 where
+  pub store : StoreTurn digest_of max_kept a old new before.compiled after.compiled result
   pub passes : (why : Why) → why_passed a ≡ Some why → SaysPassed why (λ name. after.files_failed ≡ ticked before.files_failed) result
   pub quiet : OnPass result ((after.preprocessed ≡ before.preprocessed) × (after.compiled ≡ before.compiled) × (after.failed ≡ before.failed))
   pub fine : OnOutputs a result HasRecord
@@ -54,14 +55,14 @@ pub record Loses {K V : Type 0} (old new : Shelf K V) : Type 0 where
   pub kept : new.kept ≡ true → (old.kept ≡ true) × KeepsKeys old.held new.held
 
 -- calls one after another, from what the store holds before them to what it holds after them
-abbrev pub Run : (Bytes → Bytes) → Shelf StoreKey Pairs → List Served → Shelf StoreKey Pairs → Type 0
-Run digest_of old [] new = Loses old new
-Run digest_of old (s ∷ rest) new = (begin : Shelf StoreKey Pairs) × (mid : Shelf StoreKey Pairs) × Loses old begin × Turn digest_of s.account begin mid s.before s.after s.result × Run digest_of mid rest new
+abbrev pub Run : (Bytes → Bytes) → Option ℕ → Shelf StoreKey Pairs → List Served → Shelf StoreKey Pairs → Type 0
+Run digest_of max_kept old [] new = Loses old new
+Run digest_of max_kept old (s ∷ rest) new = (begin : Shelf StoreKey Pairs) × (mid : Shelf StoreKey Pairs) × Loses old begin × Turn digest_of max_kept s.account begin mid s.before s.after s.result × Run digest_of max_kept mid rest new
 
 -- One call over both stores, by plain values: where the records are true of it, it is a turn over the object store alone; and, whether they are or not, it asks that store under a key and does to both what its answer tells; what the verdict passes through is passed through; and no failure tick has moved, unless the fault tells of a device.
-pub record CallTurn (digest_of : Bytes → Bytes) (settings : Settings) (a : Account) (old new : Shelves) (before after : Ticks) (result : Result Answer Fault) : Type 0 where
-  pub own : RecordsAreTrue digest_of a old.entries.held → Turn digest_of a old.objects new.objects before after result
-  pub asked : AskedTurn digest_of a old new before.preprocessed after.preprocessed before.compiled after.compiled result
+pub record CallTurn (digest_of : Bytes → Bytes) (max_kept : Option ℕ) (settings : Settings) (a : Account) (old new : Shelves) (before after : Ticks) (result : Result Answer Fault) : Type 0 where
+  pub own : RecordsAreTrue digest_of a old.entries.held → Turn digest_of max_kept a old.objects new.objects before after result
+  pub asked : AskedTurn digest_of max_kept a old new before.preprocessed after.preprocessed before.compiled after.compiled result
   pub entries : EntriesTurn digest_of a old.entries new.entries before.preprocessed after.preprocessed
   pub configured : IsOfOneCall settings a
   pub steady : OnOk result (SameFailures before after)
@@ -70,14 +71,14 @@ pub record CallTurn (digest_of : Bytes → Bytes) (settings : Settings) (a : Acc
   pub quiet : OnPass result ((after.preprocessed ≡ before.preprocessed) × (after.compiled ≡ before.compiled) × (after.failed ≡ before.failed))
 
 -- calls one after another over both stores
-abbrev pub BothRun : (Bytes → Bytes) → Settings → Shelves → List Served → Shelves → Type 0
-BothRun digest_of settings old [] new = Loses old.entries new.entries × Loses old.objects new.objects
-BothRun digest_of settings old (s ∷ rest) new = (begin : Shelves) × (mid : Shelves) × Loses old.entries begin.entries × Loses old.objects begin.objects × CallTurn digest_of settings s.account begin mid s.before s.after s.result × BothRun digest_of settings mid rest new
+abbrev pub BothRun : (Bytes → Bytes) → Option ℕ → Settings → Shelves → List Served → Shelves → Type 0
+BothRun digest_of max_kept settings old [] new = Loses old.entries new.entries × Loses old.objects new.objects
+BothRun digest_of max_kept settings old (s ∷ rest) new = (begin : Shelves) × (mid : Shelves) × Loses old.entries begin.entries × Loses old.objects begin.objects × CallTurn digest_of max_kept settings s.account begin mid s.before s.after s.result × BothRun digest_of max_kept settings mid rest new
 
 -- a session's calls over both stores: each begins at what the one before it left
-abbrev pub SessionRun : (Bytes → Bytes) → Settings → Shelves → List Served → Shelves → Type 0
-SessionRun digest_of settings old [] new = new ≡ old
-SessionRun digest_of settings old (s ∷ rest) new = (mid : Shelves) × CallTurn digest_of settings s.account old mid s.before s.after s.result × SessionRun digest_of settings mid rest new
+abbrev pub SessionRun : (Bytes → Bytes) → Option ℕ → Settings → Shelves → List Served → Shelves → Type 0
+SessionRun digest_of max_kept settings old [] new = new ≡ old
+SessionRun digest_of max_kept settings old (s ∷ rest) new = (mid : Shelves) × CallTurn digest_of max_kept settings s.account old mid s.before s.after s.result × SessionRun digest_of max_kept settings mid rest new
 
 abbrev pub accounts_of : List Served → List Account
 accounts_of run = map (λ s. s.account) run
@@ -94,16 +95,24 @@ IsFresh (Ok (Outputs map Stored dep_info)) = ⊥
 IsFresh (Ok (Outputs map Fresh dep_info)) = Unit {0}
 IsFresh (Err fault) = ⊥
 
+-- fresh outputs were answered, of a size that is within the limit
+abbrev pub IsFreshWithin : Option ℕ → Result Answer Fault → Type 0
+IsFreshWithin max_kept (Ok (Pass reason)) = ⊥
+IsFreshWithin max_kept (Ok (Outputs map Direct dep_info)) = ⊥
+IsFreshWithin max_kept (Ok (Outputs map Stored dep_info)) = ⊥
+IsFreshWithin max_kept (Ok (Outputs map Fresh dep_info)) = is_within max_kept (size_in map) ≡ true
+IsFreshWithin max_kept (Err fault) = ⊥
+
 -- both calls have one record
 abbrev pub HaveOneRecord : Account → Account → Type 0
 HaveOneRecord (passed why) other = ⊥
 HaveOneRecord (worked w) (passed why) = ⊥
 HaveOneRecord (worked w) (worked v) = SameRecord w v
 
--- of the answers whose records are equal at most one is fresh
-abbrev pub OneFresh : List Served → Type 0
-OneFresh [] = Unit {0}
-OneFresh (s ∷ rest) = (IsFresh s.result → AllByRecursion (λ t. IsFresh t.result → HaveOneRecord s.account t.account → ⊥) rest) × OneFresh rest
+-- of the answers whose records are equal, and whose size is within the limit, at most one is fresh: behind a fresh one of such a size there is no other
+abbrev pub OneFresh : Option ℕ → List Served → Type 0
+OneFresh max_kept [] = Unit {0}
+OneFresh max_kept (s ∷ rest) = (IsFreshWithin max_kept s.result → AllByRecursion (λ t. IsFresh t.result → HaveOneRecord s.account t.account → ⊥) rest) × OneFresh max_kept rest
 
 -- the outputs of an answer
 abbrev pub outputs_in : Result Answer Fault → Option (List Output)

@@ -3,13 +3,13 @@
 use ckeys::{EntryKey, PreprocessorCacheEntry};
 use ckeys_base::hash_state::HashState;
 use ckeys_base::store::Store;
-use ckeys_records::config::KeyConfig;
 use ckeys_records::fault::Fault;
 use os_files::files::Files;
 use std::alloc::{AllocError, Global};
 use wrap::session::Session;
 use wrap_base::answer::Answer;
 use wrap_base::call::Call;
+use wrap_base::config::Config;
 use wrap_base::request::Request;
 use wrap_base::store_key::{Pairs, StoreKey};
 use wrap_base::tool::Tool;
@@ -19,7 +19,7 @@ pub(crate) fn session_over<
     H: HashState,
     E: Store<EntryKey, PreprocessorCacheEntry> + Drop,
     O: Store<StoreKey, Pairs> + Drop,
->(alloc: Global, config: KeyConfig, entries: E, objects: O) -> Session<H, E, O> {
+>(alloc: Global, config: Config, entries: E, objects: O) -> Session<H, E, O> {
     Session::new(alloc, config, entries, objects)
 }
 

@@ -23,6 +23,7 @@ use time_macros::zone::Zone;
 use wrap::session::Session;
 use wrap_base::answer::Answer;
 use wrap_base::compiler::Compiler;
+use wrap_base::config::Config;
 use wrap_base::map_store::MapStore;
 use wrap_base::request::Request;
 use wrap_base::store_key::{Pairs, StoreKey};
@@ -36,9 +37,9 @@ pub(crate) type Kept = MapStore<StoreKey, Pairs>;
 /// The session of most tests.
 pub(crate) type MapSession = Session<Sha256, Entries, Kept>;
 
-/// The configuration without folders, in UTC. Include records are kept where `direct` says so.
-pub(crate) fn config(alloc: Global, direct: bool) -> Result<KeyConfig, Fail> {
-    Ok(KeyConfig::new(alloc, &[], Zone::utc(), direct)?)
+/// The configuration without folders and without a limit, in UTC. Include records are kept where `direct` says so.
+pub(crate) fn config(alloc: Global, direct: bool) -> Result<Config, Fail> {
+    Ok(Config::new(alloc, &[], Zone::utc(), direct, None)?)
 }
 
 /// A session over empty stores.
@@ -67,9 +68,9 @@ fn crate_texts(alloc: Global) -> Result<CrateTexts, AllocError> {
 
 /// A scripted tool without folders that has not run yet, whose compilers end with these statuses.
 pub(crate) fn script_tool(alloc: Global, statuses: Statuses) -> Result<ScriptTool, Fail> {
-    let config = config(alloc, false)?;
+    let keys = KeyConfig::new(alloc, &[], Zone::utc(), false)?;
     let told = crate_texts(alloc)?;
-    Ok(ScriptTool::new(config, told, Trees::new(alloc)?, statuses))
+    Ok(ScriptTool::new(keys, told, Trees::new(alloc)?, statuses))
 }
 
 /// A gcc with the digest `d`.

@@ -1,5 +1,6 @@
 -- How a call ends, by what the look-up and the put said.
-use Rattle.std.proofs.Common.{◌≡◌, ℕ, ℤ, List, Bool, true, false, Option, Some, None, IsSome, IsNone, Result, Ok, Err, OnOk, ◌⊎◌, inl, inr, refl, sym, ap, subst, ◌∙◌, IsErrAnd}
+use Rattle.std.proofs.Common.{◌≡◌, ℕ, ℤ, List, if◌then◌else◌, Bool, true, false, Option, Some, None, IsSome, IsNone, Result, Ok, Err, OnOk, ◌⊎◌, inl, inr, refl, sym, ap, subst, ◌∙◌, IsErrAnd}
+use Rattle.std.proofs.lemmas.Bool.{true≢false}
 use Rattle.std.proofs.lemmas.Result.{err_from_is_err_and}
 use Rattle.os_files.specs.Bytes.{Bytes, ticked}
 use Rattle.os_files.specs.Tree.{Tree}
@@ -26,6 +27,7 @@ use Rattle.wrap_keys.specs.Account.{Account, passed, worked, Work, Pairs, IsSucc
 use Rattle.wrap_keys.specs.Answers.{EarlyCause, GoesOn, GoesOnWith, OnPass, Placed, SaysBy, SaysWorkedBy}
 use Rattle.wrap_keys.specs.Asking.{AskedTurn, AskedUnder, EntriesBy, EntriesTurn, HowFrom, RanForKey, RecordsAreTrue, RunsOf, RunsOfRecord, Shelves, WorkKeyFrom}
 use Rattle.wrap_turns.specs.Prepared.{SaysFinished}
+use Rattle.wrap_keys.specs.Sizes.{is_within, size_in, size_of}
 use Rattle.wrap_keys.specs.StoreKeys.{store_key_with}
 use Rattle.wrap_keys.specs.Turn.{KeyedTurn, PutsBy, own_text_key, StillKept, StoredTurn, MissTurn, Told, ToldBy}
 use Rattle.wrap_keys.specs.Verdicts as verdicts
@@ -39,6 +41,7 @@ use Rattle.wrap_base.specs.declared.answer.Output.{Output}
 use Rattle.wrap_base.specs.declared.store_key.StoreKey.{StoreKey}
 use Rattle.wrap_turns.specs.Steps.{CompileCause, RanOnce, kept_how}
 use Rattle.ckeys_records.proofs.CauseLemmas.{by_stage, caused_more, file_early}
+use Rattle.wrap_keys.proofs.SizeLemmas.{size_placed}
 
 some_or_none : {A : Type 0} (o : Option A) → IsSome o ⊎ (o ≡ None)
 some_or_none None = inr refl
@@ -59,9 +62,9 @@ put_holds : (eq : StoreKey → StoreKey → Bool) (new : Shelf StoreKey Pairs) (
 put_holds eq new key value asked (Ok u) puts kept = puts.outcome
 put_holds eq new key value asked (Err pair) puts kept = let refused = (puts.kept.0 kept).2 in cc
 
-module _ (digest_of : Bytes → Bytes) (text_key : Bytes) (w : Work) (key : StoreKey) (is_key : key ≡ store_key_with digest_of w text_key) (old asked : Shelf StoreKey Pairs) (answer : Option Pairs) (asks : Asks old asked key answer) where
+module _ (digest_of : Bytes → Bytes) (max_kept : Option ℕ) (text_key : Bytes) (w : Work) (key : StoreKey) (is_key : key ≡ store_key_with digest_of w text_key) (old asked : Shelf StoreKey Pairs) (answer : Option Pairs) (asks : Asks old asked key answer) where
   -- the look-up failed for memory
-  pub turn_ask_failed : (before after : ℕ) → after ≡ before → (result : Result Answer Fault) → IsErrAnd result (λ f. f ≡ Memory) → KeyedTurn digest_of text_key (worked w) old asked before after result
+  pub turn_ask_failed : (before after : ℕ) → after ≡ before → (result : Result Answer Fault) → IsErrAnd result (λ f. f ≡ Memory) → KeyedTurn digest_of max_kept text_key (worked w) old asked before after result
   turn_ask_failed before after same result err =
       let p = err_from_is_err_and result err in
       rw (p.1, p.2) (record {
@@ -75,7 +78,7 @@ module _ (digest_of : Bytes → Bytes) (text_key : Bytes) (w : Work) (key : Stor
       })
 
   -- what the look-up found is answered
-  pub turn_stored : (dep_info : Option Bytes) (from : Bool) → (from ≡ true → IsSome w.direct) → (before after : ℕ) → after ≡ before → IsTold digest_of w.rec → (found : List Output) (pairs : Pairs) → answer ≡ Some pairs → found ≡ placed w.outputs pairs → KeyedTurn digest_of text_key (worked w) old asked before after (Ok (Outputs found (kept_how from) dep_info))
+  pub turn_stored : (dep_info : Option Bytes) (from : Bool) → (from ≡ true → IsSome w.direct) → (before after : ℕ) → after ≡ before → IsTold digest_of w.rec → (found : List Output) (pairs : Pairs) → answer ≡ Some pairs → found ≡ placed w.outputs pairs → KeyedTurn digest_of max_kept text_key (worked w) old asked before after (Ok (Outputs found (kept_how from) dep_info))
   turn_stored dep_info from direct before after same told found pairs held placed_is = record {
     gains = λ k v h. inl (asks.within k v h);
     faulted = tt;
@@ -95,11 +98,11 @@ module _ (digest_of : Bytes → Bytes) (text_key : Bytes) (w : Work) (key : Stor
     );
   }
     where
-      puts_none : (b : Bool) → asked.puts ≡ old.puts → PutsBy (Ok (Outputs found (kept_how b) dep_info)) old asked
+      puts_none : (b : Bool) → asked.puts ≡ old.puts → PutsBy max_kept (Ok (Outputs found (kept_how b) dep_info)) old asked
       puts_none true h = h
       puts_none false h = h
 
-      hit : (b : Bool) → (b ≡ true → IsSome w.direct) → Placed w found (StoredTurn digest_of text_key w old asked before after) → Told digest_of text_key w old asked before after (Ok (Outputs found (kept_how b) dep_info))
+      hit : (b : Bool) → (b ≡ true → IsSome w.direct) → Placed w found (StoredTurn digest_of text_key w old asked before after) → Told digest_of max_kept text_key w old asked before after (Ok (Outputs found (kept_how b) dep_info))
       hit true direct placed = (direct refl, placed)
       hit false direct placed = placed
 
@@ -114,14 +117,14 @@ module _ (digest_of : Bytes → Bytes) (text_key : Bytes) (w : Work) (key : Stor
     miss : (new : Shelf StoreKey Pairs) → new.forgets ≡ asked.forgets → after ≡ ticked mid → MissTurn digest_of text_key w old new before after
     miss new same ran = record { lacked = lacked none new same; compile = ran ∙ ap ticked steady }
 
-    told_fault : (fault : Fault) → RanOnce {A = Pairs} (Err fault) mid after → Told digest_of text_key w old asked before after (Err fault)
+    told_fault : (fault : Fault) → RanOnce {A = Pairs} (Err fault) mid after → Told digest_of max_kept text_key w old asked before after (Err fault)
     told_fault fault ran = by_stage (stage_of fault) (λ o. elim o [
       | inl same ↦ inl (same ∙ steady)
       | inr once ↦ inr (miss asked refl once)
     ]) (λ n. absurd n) (λ once. miss asked refl once) ran
 
     -- the compile failed
-    pub turn_compile_failed : (fault : Fault) → RanOnce {A = Pairs} (Err fault) mid after → (result : Result Answer Fault) → IsErrAnd result (λ f. f ≡ fault) → KeyedTurn digest_of text_key (worked w) old asked before after result
+    pub turn_compile_failed : (fault : Fault) → RanOnce {A = Pairs} (Err fault) mid after → (result : Result Answer Fault) → IsErrAnd result (λ f. f ≡ fault) → KeyedTurn digest_of max_kept text_key (worked w) old asked before after result
     turn_compile_failed fault ran result err =
         let p = err_from_is_err_and result err in
         rw (p.1, p.2) (record {
@@ -135,7 +138,7 @@ module _ (digest_of : Bytes → Bytes) (text_key : Bytes) (w : Work) (key : Stor
         })
 
     -- the copy failed for memory
-    pub turn_copy_failed : after ≡ ticked mid → (result : Result Answer Fault) → IsErrAnd result (λ f. f ≡ Memory) → KeyedTurn digest_of text_key (worked w) old asked before after result
+    pub turn_copy_failed : after ≡ ticked mid → (result : Result Answer Fault) → IsErrAnd result (λ f. f ≡ Memory) → KeyedTurn digest_of max_kept text_key (worked w) old asked before after result
     turn_copy_failed ran result err =
         let p = err_from_is_err_and result err in
         rw (p.1, p.2) (record {
@@ -148,10 +151,16 @@ module _ (digest_of : Bytes → Bytes) (text_key : Bytes) (w : Work) (key : Stor
           told = inr (miss asked refl ran);
         })
 
+    -- where it's within the limit, one is put, and else none
+    puts_within : (b : Bool) (new : Shelf StoreKey Pairs) (value : Pairs) (map : List Output) (dep_info : Option Bytes) → is_within max_kept (size_of value) ≡ b → map ≡ placed w.outputs value → new.puts ≡ (if b then ticked old.puts else old.puts) → PutsBy max_kept (Ok (Outputs map Fresh dep_info)) old new
+    puts_within b new value map dep_info within same h =
+        let size : size_in map ≡ size_of value = ap size_in same ∙ size_placed w.outputs value in
+        subst (λ (x : Bool). new.puts ≡ (if x then ticked old.puts else old.puts)) (sym (ap (is_within max_kept) size ∙ within)) h
+
     -- a fresh output is put, and answered
     pub turn_fresh : (dep_info : Option Bytes) → after ≡ ticked mid → IsTold digest_of w.rec → (eq : StoreKey → StoreKey → Bool) → ((a b : StoreKey) → eq a b ≡ true → a ≡ b)
-        → (new : Shelf StoreKey Pairs) (value : Pairs) (map : List Output) (put : Result (Unit {0}) (StoreKey × Pairs)) → Puts eq asked new key value put → IsSuccess w value → map ≡ placed w.outputs value → KeyedTurn digest_of text_key (worked w) old new before after (Ok (Outputs map Fresh dep_info))
-    turn_fresh dep_info ran told eq equal new value map put puts made same = record {
+        → (new : Shelf StoreKey Pairs) (value : Pairs) (map : List Output) (put : Result (Unit {0}) (StoreKey × Pairs)) → is_within max_kept (size_of value) ≡ true → Puts eq asked new key value put → IsSuccess w value → map ≡ placed w.outputs value → KeyedTurn digest_of max_kept text_key (worked w) old new before after (Ok (Outputs map Fresh dep_info))
+    turn_fresh dep_info ran told eq equal new value map put within puts made same = record {
       gains = λ k v h. elim (puts.gains k v h) [
         | inl was ↦ inl (asks.within k v was)
         | inr own ↦ inr (record { is_key = equal k key own.0 ∙ is_key; made = subst (IsSuccess w) (sym own.1) made; told = told })
@@ -160,14 +169,36 @@ module _ (digest_of : Bytes → Bytes) (text_key : Bytes) (w : Work) (key : Stor
       unrefused = tt;
       kept = λ h. let p = puts.kept.0 h in let q = asks_kept old asked key answer asks p.0 in record { was = q.was; keys = λ k s. p.1 k (q.keys k s); steady = puts.steady ∙ q.steady };
       cleared = puts.cleared ∙ asks.cleared;
-      put = puts.put ∙ ap ticked asks.put;
+      put = puts_within true new value map dep_info within same (puts.put ∙ ap ticked asks.put);
       told = (
         value,
         same,
         record {
           miss = miss new puts.steady ran;
           made = made;
-          holds = λ h. ap new.held (sym is_key) ∙ put_holds eq new key value asked put puts h;
+          holds = λ h _. ap new.held (sym is_key) ∙ put_holds eq new key value asked put puts h;
+          large = λ h. absurd (true≢false (sym within ∙ h));
+        },
+      );
+    }
+
+    -- one that is larger than the limit is answered alone
+    pub turn_large : (dep_info : Option Bytes) → after ≡ ticked mid → (value : Pairs) (map : List Output) → is_within max_kept (size_of value) ≡ false → IsSuccess w value → map ≡ placed w.outputs value → KeyedTurn digest_of max_kept text_key (worked w) old asked before after (Ok (Outputs map Fresh dep_info))
+    turn_large dep_info ran value map within made same = record {
+      gains = λ k v h. inl (asks.within k v h);
+      faulted = tt;
+      unrefused = tt;
+      kept = asks_kept old asked key answer asks;
+      cleared = asks.cleared;
+      put = puts_within false asked value map dep_info within same asks.put;
+      told = (
+        value,
+        same,
+        record {
+          miss = miss asked refl ran;
+          made = made;
+          holds = λ h fits. absurd (true≢false (sym fits ∙ within));
+          large = λ h. (asks.within, λ was keys. asks.kept.1 (was, keys));
         },
       );
     }
@@ -229,8 +260,8 @@ early_says went_on a on_file device_in fault cause result err = let p = err_from
     says (passed why) f h = h
     says (worked w) f h = by_stage (stage_of f) (λ u. u) (caused_more None w.fault on_file on_file no_step device_in (λ g e. cc) (λ name d. d) (λ step n. absurd n) f) (λ n. absurd n) (early_stage on_file f h)
 
-pub early_turn : (digest_of : Bytes → Bytes) (text_key : Bytes) (a : Account) (shelf : Shelf StoreKey Pairs) (count : ℕ) (on_file : Bytes → Type 0) (fault : Fault) → EarlyCause on_file fault → (result : Result Answer Fault) → IsErrAnd result (λ f. f ≡ fault) → KeyedTurn digest_of text_key a shelf shelf count count result
-early_turn digest_of text_key a shelf count on_file fault cause result err = let p = err_from_is_err_and result err in rw (p.1, p.2) (record {
+pub early_turn : (digest_of : Bytes → Bytes) (max_kept : Option ℕ) (text_key : Bytes) (a : Account) (shelf : Shelf StoreKey Pairs) (count : ℕ) (on_file : Bytes → Type 0) (fault : Fault) → EarlyCause on_file fault → (result : Result Answer Fault) → IsErrAnd result (λ f. f ≡ fault) → KeyedTurn digest_of max_kept text_key a shelf shelf count count result
+early_turn digest_of max_kept text_key a shelf count on_file fault cause result err = let p = err_from_is_err_and result err in rw (p.1, p.2) (record {
   gains = λ key pairs h. inl h;
   faulted = λ key pairs h. h;
   unrefused = λ was keys. was;
@@ -240,7 +271,7 @@ early_turn digest_of text_key a shelf count on_file fault cause result err = let
   told = told a fault cause;
 })
   where
-    told : (b : Account) (f : Fault) → EarlyCause on_file f → ToldBy digest_of text_key b shelf shelf count count (Err f)
+    told : (b : Account) (f : Fault) → EarlyCause on_file f → ToldBy digest_of max_kept text_key b shelf shelf count count (Err f)
     told (passed why) f h = (refl, refl)
     told (worked w) f h = by_stage (stage_of f) (λ u. inl refl) (λ c. (refl, refl)) (λ n. absurd n) (early_stage on_file f h)
 
@@ -257,8 +288,8 @@ says_later went_on w one other device_in more (Ok (Outputs map how dep_info)) h 
 says_later went_on w one other device_in more (Err fault) h = by_stage (stage_of fault) (λ u. u) (caused_more w.fault w.fault one other device_in device_in (λ f e. e) more (λ step d. d) fault) (λ c. c) h
 
 -- there is no key
-pub key_turn : (digest_of : Bytes → Bytes) (text_key : Bytes) (w : Work) (first : Option Fault) (shelf : Shelf StoreKey Pairs) (before after : ℕ) → after ≡ before → (on_file : Bytes → Type 0) (device_in : Step → Type 0) (fault : Fault) → KeyCause first on_file device_in fault → (result : Result Answer Fault) → IsErrAnd result (λ f. f ≡ fault) → KeyedTurn digest_of text_key (worked w) shelf shelf before after result
-key_turn digest_of text_key w first shelf before after same on_file device_in fault cause result err = let p = err_from_is_err_and result err in rw (p.1, p.2) (record {
+pub key_turn : (digest_of : Bytes → Bytes) (max_kept : Option ℕ) (text_key : Bytes) (w : Work) (first : Option Fault) (shelf : Shelf StoreKey Pairs) (before after : ℕ) → after ≡ before → (on_file : Bytes → Type 0) (device_in : Step → Type 0) (fault : Fault) → KeyCause first on_file device_in fault → (result : Result Answer Fault) → IsErrAnd result (λ f. f ≡ fault) → KeyedTurn digest_of max_kept text_key (worked w) shelf shelf before after result
+key_turn digest_of max_kept text_key w first shelf before after same on_file device_in fault cause result err = let p = err_from_is_err_and result err in rw (p.1, p.2) (record {
   gains = λ key pairs h. inl h;
   faulted = λ key pairs h. h;
   unrefused = λ was keys. was;
@@ -268,7 +299,7 @@ key_turn digest_of text_key w first shelf before after same on_file device_in fa
   told = told fault cause;
 })
   where
-    told : (f : Fault) → KeyCause first on_file device_in f → Told digest_of text_key w shelf shelf before after (Err f)
+    told : (f : Fault) → KeyCause first on_file device_in f → Told digest_of max_kept text_key w shelf shelf before after (Err f)
     told f h = by_stage (stage_of f) (λ u. inl same) (λ c. (refl, same)) (λ n. absurd n) h
 
 pub key_says : (went_on : Type 0) (w : Work) (on_file : Bytes → Type 0) (device_in : Step → Type 0) (fault : Fault) → KeyCause w.fault on_file device_in fault → (result : Result Answer Fault) → IsErrAnd result (λ f. f ≡ fault) → SaysWorkedBy went_on w on_file device_in result
@@ -329,10 +360,10 @@ compile_until w device_in from before after (AnswerNotUtf8 step) cause h = absur
 compile_until w device_in from before after (BadDigest path) cause h = absurd cause
 
 -- a call that ends with a fault
-pub asked_fault : (digest_of : Bytes → Bytes) (a : Account) (old new : Shelves) (printed printed_new compiled compiled_new : ℕ) (result : Result Answer Fault) (fault : Fault) → IsErrAnd result (λ f. f ≡ fault) → (from : Bool) (text_key : Bytes) → AskedUnder digest_of a old.entries.held from text_key → RunsOf {A = Answer} a from (Err fault) printed printed_new → KeyedTurn digest_of text_key a old.objects new.objects compiled compiled_new result → AskedTurn digest_of a old new printed printed_new compiled compiled_new result
-asked_fault digest_of a old new printed printed_new compiled compiled_new (Ok answer) fault err from text_key is_key runs turn = absurd err
-asked_fault digest_of (passed why) old new printed printed_new compiled compiled_new (Err f) fault err from text_key is_key runs turn = record { from = from; text_key = text_key; is_key = is_key; how = tt; fine = tt; runs = runs; recorded = tt; objects = turn }
-asked_fault digest_of (worked w) old new printed printed_new compiled compiled_new (Err f) fault err from text_key is_key runs turn = record { from = from; text_key = text_key; is_key = is_key; how = tt; fine = tt; runs = subst (λ (e : Fault). RunsOf {A = Answer} (worked w) from (Err e) printed printed_new) (sym err) runs; recorded = tt; objects = turn }
+pub asked_fault : (digest_of : Bytes → Bytes) (max_kept : Option ℕ) (a : Account) (old new : Shelves) (printed printed_new compiled compiled_new : ℕ) (result : Result Answer Fault) (fault : Fault) → IsErrAnd result (λ f. f ≡ fault) → (from : Bool) (text_key : Bytes) → AskedUnder digest_of a old.entries.held from text_key → RunsOf {A = Answer} a from (Err fault) printed printed_new → KeyedTurn digest_of max_kept text_key a old.objects new.objects compiled compiled_new result → AskedTurn digest_of max_kept a old new printed printed_new compiled compiled_new result
+asked_fault digest_of max_kept a old new printed printed_new compiled compiled_new (Ok answer) fault err from text_key is_key runs turn = absurd err
+asked_fault digest_of max_kept (passed why) old new printed printed_new compiled compiled_new (Err f) fault err from text_key is_key runs turn = record { from = from; text_key = text_key; is_key = is_key; how = tt; fine = tt; runs = runs; recorded = tt; objects = turn }
+asked_fault digest_of max_kept (worked w) old new printed printed_new compiled compiled_new (Err f) fault err from text_key is_key runs turn = record { from = from; text_key = text_key; is_key = is_key; how = tt; fine = tt; runs = subst (λ (e : Fault). RunsOf {A = Answer} (worked w) from (Err e) printed printed_new) (sym err) runs; recorded = tt; objects = turn }
 
 -- a hit
 pub how_kept : (from : Bool) (map : List Output) (dep_info : Option Bytes) → HowFrom from (Ok (Outputs map (kept_how from) dep_info))
@@ -355,10 +386,10 @@ ran_until : (r : CallRecord) (from : Bool) (before after : ℕ) (fault : Fault) 
 ran_until (of_c r) from before after fault until ran = (ran.0, λ h. until (ran.1 h))
 ran_until (of_rustc r) from before after fault until ran = inr (inr ran)
 
-module _ (digest_of : Bytes → Bytes) (w : Work) (old new : Shelves) (printed printed_new compiled compiled_new : ℕ) (from : Bool) (text_key : Bytes) (is_key : WorkKeyFrom digest_of w old.entries.held from text_key)
+module _ (digest_of : Bytes → Bytes) (max_kept : Option ℕ) (w : Work) (old new : Shelves) (printed printed_new compiled compiled_new : ℕ) (from : Bool) (text_key : Bytes) (is_key : WorkKeyFrom digest_of w old.entries.held from text_key)
     (fine : from ≡ false → w.fault ≡ None) (runs : RanForKey w.rec from printed printed_new) (recorded : (p : PrintedCall) → w.direct ≡ Some p → KeyRecorded digest_of p old.entries new.entries from text_key) where
   -- however the request is finished
-  pub asked_finished : (device_in : Step → Type 0) (result : Result Answer Fault) → SaysFinished w device_in result → HowFrom from result → KeyedTurn digest_of text_key (worked w) old.objects new.objects compiled compiled_new result → AskedTurn digest_of (worked w) old new printed printed_new compiled compiled_new result
+  pub asked_finished : (device_in : Step → Type 0) (result : Result Answer Fault) → SaysFinished w device_in result → HowFrom from result → KeyedTurn digest_of max_kept text_key (worked w) old.objects new.objects compiled compiled_new result → AskedTurn digest_of max_kept (worked w) old new printed printed_new compiled compiled_new result
   asked_finished device_in (Ok (Pass reason)) says how turn = absurd says
   asked_finished device_in (Ok (Outputs map kept dep_info)) says how turn = record { from = from; text_key = text_key; is_key = is_key; how = how; fine = fine; runs = ran_with w.rec _ from _ _ runs; recorded = recorded; objects = turn }
   asked_finished device_in (Err fault) says how turn = record { from = from; text_key = text_key; is_key = is_key; how = tt; fine = tt; runs = ran_until w.rec from _ _ fault (compile_until w device_in from _ _ fault says) runs; recorded = tt; objects = turn }

@@ -14,12 +14,12 @@ use crate::prepared::prepare;
 use ckeys::{EntryKey, PreprocessorCacheEntry};
 use ckeys_base::hash_state::HashState;
 use ckeys_base::store::Store;
-use ckeys_records::config::KeyConfig;
 use ckeys_records::fault::Fault;
 use os_files::files::Files;
 use std::alloc::Global;
 use wrap_base::answer::Answer;
 use wrap_base::compiler::AnyC;
+use wrap_base::config::Config;
 use wrap_base::request::Request;
 use wrap_base::store_key::{Pairs, StoreKey};
 use wrap_base::tool::Tool;
@@ -35,7 +35,7 @@ pub fn c_turn<
     T: Tool,
 >(
     alloc: Global,
-    config: &KeyConfig,
+    config: &Config,
     entries: &mut E,
     objects: &mut O,
     compiler: AnyC<'_>,
@@ -43,11 +43,11 @@ pub fn c_turn<
     files: &mut F,
     tool: &mut T,
 ) -> Result<Answer, Fault>
-    ensures says { let a = account_named (T.meaning tool.old) (F.tree files.old) config.now
+    ensures says { let a = account_named (T.meaning tool.old) (F.tree files.old) config.now.keys
         request.now (by_c (found_of compiler.entry)) in
         SaysBy GoesOn a (FilesFail F.Files files.old files.new)
         (ToolFails T.Preprocessor tool.old tool.new) result }
-    ensures goes_on { let a = account_named (T.meaning tool.old) (F.tree files.old) config.now
+    ensures goes_on { let a = account_named (T.meaning tool.old) (F.tree files.old) config.now.keys
         request.now (by_c (found_of compiler.entry)) in
         RecordsAreTrue H.digest_of a (E.shelf entries.old).held
         → Says a (FilesFail F.Files files.old files.new)
@@ -55,12 +55,13 @@ pub fn c_turn<
     ensures quiet { OnPass result
         ((T.preprocessed tool.new ≡ T.preprocessed tool.old)
         × (T.compiled tool.new ≡ T.compiled tool.old) × (T.failed tool.new ≡ T.failed tool.old)) }
-    ensures asked { let a = account_named (T.meaning tool.old) (F.tree files.old) config.now
+    ensures asked { let a = account_named (T.meaning tool.old) (F.tree files.old) config.now.keys
         request.now (by_c (found_of compiler.entry)) in
-        AskedTurn H.digest_of a (shelves_of (E.shelf entries.old) (O.shelf objects.old))
+        AskedTurn H.digest_of config.now.max_kept a
+        (shelves_of (E.shelf entries.old) (O.shelf objects.old))
         (shelves_of (E.shelf entries.new) (O.shelf objects.new)) (T.preprocessed tool.old)
         (T.preprocessed tool.new) (T.compiled tool.old) (T.compiled tool.new) result }
-    ensures entries { let a = account_named (T.meaning tool.old) (F.tree files.old) config.now
+    ensures entries { let a = account_named (T.meaning tool.old) (F.tree files.old) config.now.keys
         request.now (by_c (found_of compiler.entry)) in
         EntriesTurn H.digest_of a (E.shelf entries.old) (E.shelf entries.new)
         (T.preprocessed tool.old) (T.preprocessed tool.new) }
@@ -75,9 +76,16 @@ pub fn c_turn<
         Verdict::Passes(reason) => Ok(Answer::Pass(reason)),
         Verdict::Asks(plan) => {
             let prepared = prepare::<H, E, F, T>(
-                alloc, compiler, request, &plan, config, entries, files, tool,
+                alloc,
+                compiler,
+                request,
+                &plan,
+                &config.keys,
+                entries,
+                files,
+                tool,
             )?;
-            finish(alloc, objects, prepared, files, tool)
+            finish(alloc, config.max_kept, objects, prepared, files, tool)
         }
     }
 }

@@ -1,5 +1,5 @@
 //! What is done for a request once all is known of it: the store is asked, and where it hands back nothing the command runs, and what
-//! it made is kept.
+//! it made is kept, unless it's larger than the limit.
 
 ghost use Rattle.std.specs.Prelude.{◌≡◌, OnOk};
 ghost use Rattle.os_files.specs.Bytes.{Bytes};
@@ -14,6 +14,7 @@ ghost use Rattle.wrap_keys.specs.Turn.{KeyedTurn};
 use crate::compile::compiled_pairs;
 use crate::outputs::placed;
 use crate::prepared::Prepared;
+use crate::sizes::is_within;
 use ckeys_base::store::Store;
 use ckeys_records::fault::Fault;
 use os_files::files::Files;
@@ -33,9 +34,11 @@ fn kept_how(from_record: bool) -> How
     }
 }
 
-/// Answers a prepared request: what the store holds under its key, or what one compile makes, which is kept then.
+/// Answers a prepared request: what the store holds under its key, or what one compile makes, which is kept then, unless it's larger
+/// than the limit.
 pub fn finish<O: Store<StoreKey, Pairs>, F: Files, T: Tool>(
     alloc: Global,
+    max_kept: Option<u64>,
     objects: &mut O,
     prepared: Prepared<'_>,
     files: &mut F,
@@ -43,7 +46,7 @@ pub fn finish<O: Store<StoreKey, Pairs>, F: Files, T: Tool>(
 ) -> Result<Answer, Fault>
     ensures turn { (digest_of : Bytes → Bytes) (w : Work)
         → IsPrepared digest_of (T.meaning tool.old) (F.tree files.old) w prepared.entry
-        → KeyedTurn digest_of prepared.entry.key.digest (worked w) (O.shelf objects.old)
+        → KeyedTurn digest_of max_kept prepared.entry.key.digest (worked w) (O.shelf objects.old)
         (O.shelf objects.new) (T.compiled tool.old) (T.compiled tool.new) result }
     ensures says { (digest_of : Bytes → Bytes) (w : Work)
         → IsPrepared digest_of (T.meaning tool.old) (F.tree files.old) w prepared.entry
@@ -79,7 +82,9 @@ pub fn finish<O: Store<StoreKey, Pairs>, F: Files, T: Tool>(
     )?;
     let map = placed(alloc, outputs, pairs.as_slice())?;
     let dep_info = prepared.dep_info;
-    let _ = objects.put(prepared.key, pairs);
+    if is_within(max_kept, pairs.as_slice()) {
+        let _ = objects.put(prepared.key, pairs);
+    }
     Ok(Answer::Outputs {
         map,
         how: How::Fresh,

@@ -7,3 +7,4 @@ mod finish;
 mod outputs;
 pub mod prepared;
 pub mod rust_calls;
+mod sizes;

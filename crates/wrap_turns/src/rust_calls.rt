@@ -101,6 +101,7 @@ fn rust_prepare<H: HashState, F: Files, T: Tool>(
 /// is kept then; and beside it the text on dependencies for its own targets, where it asks for one.
 fn rust_answer<H: HashState, O: Store<StoreKey, Pairs>, F: Files, T: Tool>(
     alloc: Global,
+    max_kept: Option<u64>,
     objects: &mut O,
     rust: &Rust,
     request: &Request,
@@ -114,7 +115,7 @@ fn rust_answer<H: HashState, O: Store<StoreKey, Pairs>, F: Files, T: Tool>(
         (ToolFails T.Preprocessor tool.old tool.new) result }
     ensures store { let w = rust_work_at (T.meaning tool.old)
         (rust_call_at rust.now request.now (F.tree files.old) (asks_in parsed.now)) in
-        KeyedTurn H.digest_of (key_of H.digest_of w.rec) (worked w) (O.shelf objects.old)
+        KeyedTurn H.digest_of max_kept (key_of H.digest_of w.rec) (worked w) (O.shelf objects.old)
         (O.shelf objects.new) (T.compiled tool.old) (T.compiled tool.new) result }
     ensures how { HowFrom false result }
     ensures runs { IsAskedTwice result (T.preprocessed tool.old) (T.preprocessed tool.new) }
@@ -139,13 +140,14 @@ fn rust_answer<H: HashState, O: Store<StoreKey, Pairs>, F: Files, T: Tool>(
         moment: request.moment,
         dep_info,
     };
-    finish(alloc, objects, prepared, files, tool)
+    finish(alloc, max_kept, objects, prepared, files, tool)
 }
 
 /// Answers a request to this rustc: it is passed through, or it gets what the store holds under its key or what one compile makes,
 /// or there is a fault.
 pub fn rust_turn<H: HashState, O: Store<StoreKey, Pairs>, F: Files, T: Tool>(
     alloc: Global,
+    max_kept: Option<u64>,
     objects: &mut O,
     rust: &Rust,
     request: &Request,
@@ -161,8 +163,8 @@ pub fn rust_turn<H: HashState, O: Store<StoreKey, Pairs>, F: Files, T: Tool>(
         × (T.compiled tool.new ≡ T.compiled tool.old) × (T.failed tool.new ≡ T.failed tool.old)) }
     ensures store { let a = rust_account_by (T.meaning tool.old) (F.tree files.old) rust.now
         request.now (rust_verdict_of request.now (F.tree files.old)) in
-        StoreTurn H.digest_of a (O.shelf objects.old) (O.shelf objects.new) (T.compiled tool.old)
-        (T.compiled tool.new) result }
+        StoreTurn H.digest_of max_kept a (O.shelf objects.old) (O.shelf objects.new)
+        (T.compiled tool.old) (T.compiled tool.new) result }
     ensures how { HowFrom false result }
     ensures runs { let a = rust_account_by (T.meaning tool.old) (F.tree files.old) rust.now
         request.now (rust_verdict_of request.now (F.tree files.old)) in
@@ -177,7 +179,9 @@ pub fn rust_turn<H: HashState, O: Store<StoreKey, Pairs>, F: Files, T: Tool>(
     match judge_rust(alloc, rust, request, files)? {
         RustVerdict::Passes(reason) => Ok(Answer::Pass(reason)),
         RustVerdict::Asks(parsed) => {
-            rust_answer::<H, O, F, T>(alloc, objects, rust, request, &parsed, files, tool)
+            rust_answer::<H, O, F, T>(
+                alloc, max_kept, objects, rust, request, &parsed, files, tool,
+            )
         }
     }
 }

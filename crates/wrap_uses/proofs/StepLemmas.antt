@@ -1,5 +1,5 @@
 -- What follows for a step from what a session answers.
-use Rattle.std.proofs.Common.{ℕ, Ok}
+use Rattle.std.proofs.Common.{ℕ, Option, Ok}
 use Rattle.wrap.specs.Bytes.{Bytes}
 use Rattle.wrap.specs.Account.{Account, passed, worked}
 use Rattle.wrap.specs.Answers.{Answers, GoesOn, SaysBy}
@@ -11,13 +11,13 @@ use Rattle.wrap_base.specs.declared.answer.How.TheVariants.{Direct, Stored, Fres
 use Rattle.wrap_uses.specs.Steps.{Costs, GivesFresh, came_to}
 
 -- a step costs what its answer tells
-pub costs_of : (digest_of : Bytes → Bytes) (a : Account) (on_file : Bytes → Type 0) (device_in : Step → Type 0) (answer : Answer) (old new : Shelves) (printed printed_new before after : ℕ) → SaysBy GoesOn a on_file device_in (Ok answer) → AskedTurn digest_of a old new printed printed_new before after (Ok answer) → Costs (came_to answer) before after
-costs_of digest_of (passed why) on_file device_in (Pass reason) old new printed printed_new before after says turn = turn.objects.told.1
-costs_of digest_of (passed why) on_file device_in (Outputs map how dep_info) old new printed printed_new before after says turn = absurd says
-costs_of digest_of (worked w) on_file device_in (Pass reason) old new printed printed_new before after says turn = absurd says
-costs_of digest_of (worked w) on_file device_in (Outputs map Direct dep_info) old new printed printed_new before after says turn = turn.objects.told.1.2.no_compile
-costs_of digest_of (worked w) on_file device_in (Outputs map Stored dep_info) old new printed printed_new before after says turn = turn.objects.told.2.no_compile
-costs_of digest_of (worked w) on_file device_in (Outputs map Fresh dep_info) old new printed printed_new before after says turn = turn.objects.told.2.miss.compile
+pub costs_of : (digest_of : Bytes → Bytes) (max_kept : Option ℕ) (a : Account) (on_file : Bytes → Type 0) (device_in : Step → Type 0) (answer : Answer) (old new : Shelves) (printed printed_new before after : ℕ) → SaysBy GoesOn a on_file device_in (Ok answer) → AskedTurn digest_of max_kept a old new printed printed_new before after (Ok answer) → Costs (came_to answer) before after
+costs_of digest_of max_kept (passed why) on_file device_in (Pass reason) old new printed printed_new before after says turn = turn.objects.told.1
+costs_of digest_of max_kept (passed why) on_file device_in (Outputs map how dep_info) old new printed printed_new before after says turn = absurd says
+costs_of digest_of max_kept (worked w) on_file device_in (Pass reason) old new printed printed_new before after says turn = absurd says
+costs_of digest_of max_kept (worked w) on_file device_in (Outputs map Direct dep_info) old new printed printed_new before after says turn = turn.objects.told.1.2.no_compile
+costs_of digest_of max_kept (worked w) on_file device_in (Outputs map Stored dep_info) old new printed printed_new before after says turn = turn.objects.told.2.no_compile
+costs_of digest_of max_kept (worked w) on_file device_in (Outputs map Fresh dep_info) old new printed printed_new before after says turn = turn.objects.told.2.miss.compile
 
 -- a step gives what its answer does
 pub fresh_of : (a : Account) (answer : Answer) → Answers a (Ok answer) → GivesFresh a (came_to answer)

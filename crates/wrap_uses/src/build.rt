@@ -8,7 +8,7 @@ ghost use Rattle.wrap.specs.Whole.{OneFresh, accounts_at, served_at};
 ghost use Rattle.wrap_uses.specs.Builds.{SkippedAreMade};
 
 use std::alloc::{AllocError, Global};
-use wrap::{Answer, Call, Fault, Files, HashState, KeyConfig, MapStore, Session, Store, Tool};
+use wrap::{Answer, Call, Config, Fault, Files, HashState, MapStore, Session, Store, Tool};
 
 /// What the steps of a build were answered, in order, and whether all that was to be kept is.
 #[derive(Drop)]
@@ -21,19 +21,19 @@ pub struct Build {
 /// the answers is taken before the first step.
 pub fn run_steps<H: HashState, F: Files, T: Tool>(
     alloc: Global,
-    config: KeyConfig,
+    config: Config,
     calls: &mut [Call<F, T>],
 ) -> Result<Build, AllocError>
     // A step that is skipped has the outputs that it would have made.
-    ensures skipped { Premises H.digest_of (accounts_at config F.Files T.Preprocessor calls.old)
+    ensures skipped { Premises H.digest_of (accounts_at config.keys F.Files T.Preprocessor calls.old)
         → IfOk result (λ build. SkippedAreMade
-        (served_at config F.Files T.Preprocessor calls.old calls.new build.answers.items)) }
+        (served_at config.keys F.Files T.Preprocessor calls.old calls.new build.answers.items)) }
 
-    // Where all is kept, no two steps of one record are run.
-    ensures once { (config.direct ≡ true → EntryPremises H.digest_of
-        (direct_calls (accounts_at config F.Files T.Preprocessor calls.old)))
-        → IfOk result (λ build. build.kept_all ≡ true → OneFresh
-        (served_at config F.Files T.Preprocessor calls.old calls.new build.answers.items)) }
+    // Where all is kept, no two steps of one record are run whose outputs are within the limit.
+    ensures once { (config.keys.direct ≡ true → EntryPremises H.digest_of
+        (direct_calls (accounts_at config.keys F.Files T.Preprocessor calls.old)))
+        → IfOk result (λ build. build.kept_all ≡ true → OneFresh config.max_kept
+        (served_at config.keys F.Files T.Preprocessor calls.old calls.new build.answers.items)) }
 {
     let entries = MapStore::new(alloc);
     let objects = MapStore::new(alloc);

@@ -7,11 +7,11 @@ returns-clause-outputs g c = λ world gives.
     let tool = c.args.tool.now in
     let tree = g.F.Files.tree c.args.files.now in
     let request = c.args.request.now in
-    answers_named g.H.HashState.digest_of c.store_keys_tell_records.ensures tool.text tool.outputs world tree c.args.session.now.settings request _ _ _ _ _ _ _ _ _ (named_by request.compiler) gives (c.serve.ensures.asked, c.serve.ensures.says)
+    answers_named g.H.HashState.digest_of c.args.session.now.max_kept c.store_keys_tell_records.ensures tool.text tool.outputs world tree c.args.session.now.settings request _ _ _ _ _ _ _ _ _ (named_by request.compiler) gives (c.serve.ensures.asked, c.serve.ensures.says)
 
 pub returns-clause-invariant : goal.returns-clause-invariant
 returns-clause-invariant g c = λ world gives.
     let tool = c.args.tool.now in
     let tree = g.F.Files.tree c.args.files.now in
     let request = c.args.request.now in
-    grows_named g.H.HashState.digest_of c.store_keys_tell_records.ensures tool.text tool.outputs world tree c.args.session.now.settings request _ _ _ _ _ _ _ _ _ (named_by request.compiler) gives (c.serve.ensures.asked, c.serve.ensures.says)
+    grows_named g.H.HashState.digest_of c.args.session.now.max_kept c.store_keys_tell_records.ensures tool.text tool.outputs world tree c.args.session.now.settings request _ _ _ _ _ _ _ _ _ (named_by request.compiler) gives (c.serve.ensures.asked, c.serve.ensures.says)

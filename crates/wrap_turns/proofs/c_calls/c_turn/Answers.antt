@@ -27,14 +27,14 @@ returns-in_err-reason-clause-goes_on g c are_true = early_says (λ w. w.fault �
 pub returns-in_err-reason-clause-asked : goal.returns-in_err-reason-clause-asked
 returns-in_err-reason-clause-asked g c =
     let digest_of = g.H.HashState.digest_of in
-    let a = account_named (g.T.Preprocessor.meaning c.args.tool.now) (g.F.Files.tree c.args.files.now) c.args.config.now c.args.request.now (by_c (found_of c.args.compiler)) in
-    asked_fault digest_of a _ _ _ _ _ _ _ c.in_err-reason.field-0.0 c.from_residual.ensures.1 false (own_text_key digest_of a) (own_asked digest_of a _)
+    let a = account_named (g.T.Preprocessor.meaning c.args.tool.now) (g.F.Files.tree c.args.files.now) c.args.config.now.keys c.args.request.now (by_c (found_of c.args.compiler)) in
+    asked_fault digest_of c.args.config.now.max_kept a _ _ _ _ _ _ _ c.in_err-reason.field-0.0 c.from_residual.ensures.1 false (own_text_key digest_of a) (own_asked digest_of a _)
     (early_runs Answer a _ _ c.in_err-reason.field-0.0 c.in_err-reason.ensures.cause)
-    (early_turn digest_of (own_text_key digest_of a) a _ _ _ c.in_err-reason.field-0.0 c.in_err-reason.ensures.cause _ c.from_residual.ensures.1)
+    (early_turn digest_of c.args.config.now.max_kept (own_text_key digest_of a) a _ _ _ c.in_err-reason.field-0.0 c.in_err-reason.ensures.cause _ c.from_residual.ensures.1)
 
 pub returns-in_err-reason-clause-entries : goal.returns-in_err-reason-clause-entries
 returns-in_err-reason-clause-entries g c =
-    let a = account_named (g.T.Preprocessor.meaning c.args.tool.now) (g.F.Files.tree c.args.files.now) c.args.config.now c.args.request.now (by_c (found_of c.args.compiler)) in
+    let a = account_named (g.T.Preprocessor.meaning c.args.tool.now) (g.F.Files.tree c.args.files.now) c.args.config.now.keys c.args.request.now (by_c (found_of c.args.compiler)) in
     quiet_entries g.H.HashState.digest_of a _ _
 
 pub returns-in_err-prepared-in-Asks-clause-says : goal.returns-in_err-prepared-in-Asks-clause-says
@@ -45,14 +45,14 @@ returns-in_err-prepared-in-Asks-clause-says g c =
     let found = found_of c.args.compiler in
     let parsed = c.in-Asks.plan.parsed in
     let decided : asks parsed ≡ verdict_of found.kind (words_at found request (tree c.args.files.now)) = rw c.in-Asks.is at c.in_ok-reason.ensures.verdict in
-    let own : KeyCall = call_at found request (tree c.judge.new.files) c.args.config.now parsed in
+    let own : KeyCall = call_at found request (tree c.judge.new.files) c.args.config.now.keys parsed in
     let w = work_at (meaning c.args.tool.now) own in
     let on_mid = FailsOn tree g.F.Files.failed g.F.Files.fails_on c.judge.new.files c.prepare.new.files in
     let on_old = FailsOn tree g.F.Files.failed g.F.Files.fails_on c.args.files.now c.prepare.new.files in
     let device = FailsIn meaning g.T.Preprocessor.failed g.T.Preprocessor.fails_in c.args.tool.now c.prepare.new.tool in
     let before : (name : Bytes) → on_mid name → on_old name = fails_on_later tree g.F.Files.failed g.F.Files.fails_on c.args.files.now c.judge.new.files c.prepare.new.files c.in_ok-reason.ensures.tree c.in_ok-reason.ensures.steady in
     let result = c.from_residual-in_err-prepared-in-Asks.result in
-    of_asked (λ a. SaysBy GoesOn a on_old device result) (meaning c.args.tool.now) _ _ c.args.config.now found request parsed _ c.in_ok-reason.ensures.tree decided
+    of_asked (λ a. SaysBy GoesOn a on_old device result) (meaning c.args.tool.now) _ _ c.args.config.now.keys found request parsed _ c.in_ok-reason.ensures.tree decided
     (says_later (GoesOn w) w on_mid on_old device before result (key_says (GoesOn w) w on_mid device c.in_err-prepared-in-Asks.field-0.0 c.in_err-prepared-in-Asks.ensures.cause result c.from_residual-in_err-prepared-in-Asks.ensures.1))
 
 pub returns-in_err-prepared-in-Asks-clause-goes_on : goal.returns-in_err-prepared-in-Asks-clause-goes_on
@@ -64,7 +64,7 @@ returns-in_err-prepared-in-Asks-clause-goes_on g c =
     let found = found_of c.args.compiler in
     let parsed = c.in-Asks.plan.parsed in
     let decided : asks parsed ≡ verdict_of found.kind (words_at found request (tree c.args.files.now)) = rw c.in-Asks.is at c.in_ok-reason.ensures.verdict in
-    let own : KeyCall = call_at found request (tree c.judge.new.files) c.args.config.now parsed in
+    let own : KeyCall = call_at found request (tree c.judge.new.files) c.args.config.now.keys parsed in
     let w = work_at (meaning c.args.tool.now) own in
     let on_mid = FailsOn tree g.F.Files.failed g.F.Files.fails_on c.judge.new.files c.prepare.new.files in
     let on_old = FailsOn tree g.F.Files.failed g.F.Files.fails_on c.args.files.now c.prepare.new.files in
@@ -72,7 +72,7 @@ returns-in_err-prepared-in-Asks-clause-goes_on g c =
     let before : (name : Bytes) → on_mid name → on_old name = fails_on_later tree g.F.Files.failed g.F.Files.fails_on c.args.files.now c.judge.new.files c.prepare.new.files c.in_ok-reason.ensures.tree c.in_ok-reason.ensures.steady in
     let result = c.from_residual-in_err-prepared-in-Asks.result in
     let held = (g.E.Store.shelf c.args.entries.now).held in
-    of_asked (λ a. RecordsAreTrue digest_of a held → Says a on_old device result) (meaning c.args.tool.now) _ _ c.args.config.now found request parsed _ c.in_ok-reason.ensures.tree decided
+    of_asked (λ a. RecordsAreTrue digest_of a held → Says a on_old device result) (meaning c.args.tool.now) _ _ c.args.config.now.keys found request parsed _ c.in_ok-reason.ensures.tree decided
     (λ are_true. says_later (w.fault ≡ None) w on_mid on_old device before result (key_says (w.fault ≡ None) w on_mid device c.in_err-prepared-in-Asks.field-0.0 c.in_err-prepared-in-Asks.ensures.cause result c.from_residual-in_err-prepared-in-Asks.ensures.1))
 
 pub returns-in_err-prepared-in-Asks-clause-asked : goal.returns-in_err-prepared-in-Asks-clause-asked
@@ -84,16 +84,16 @@ returns-in_err-prepared-in-Asks-clause-asked g c =
     let found = found_of c.args.compiler in
     let parsed = c.in-Asks.plan.parsed in
     let decided : asks parsed ≡ verdict_of found.kind (words_at found request (tree c.args.files.now)) = rw c.in-Asks.is at c.in_ok-reason.ensures.verdict in
-    let own : KeyCall = call_at found request (tree c.judge.new.files) c.args.config.now parsed in
+    let own : KeyCall = call_at found request (tree c.judge.new.files) c.args.config.now.keys parsed in
     let w = work_at (meaning c.args.tool.now) own in
     let fault = c.in_err-prepared-in-Asks.field-0.0 in
     let e = c.in_err-prepared-in-Asks.ensures in
     let old = shelves_of (g.E.Store.shelf c.args.entries.now) (g.O.Store.shelf c.args.objects.now) in
     let new = shelves_of (g.E.Store.shelf c.prepare.new.entries) (g.O.Store.shelf c.args.objects.now) in
-    of_asked (λ a. AskedTurn digest_of a old new (g.T.Preprocessor.preprocessed c.args.tool.now) (g.T.Preprocessor.preprocessed c.prepare.new.tool) (g.T.Preprocessor.compiled c.args.tool.now) (g.T.Preprocessor.compiled c.prepare.new.tool) c.from_residual-in_err-prepared-in-Asks.result) (meaning c.args.tool.now) _ _ c.args.config.now found request parsed _ c.in_ok-reason.ensures.tree decided
-    (asked_fault digest_of (worked w) old new _ _ _ _ _ fault c.from_residual-in_err-prepared-in-Asks.ensures.1 false (key_of digest_of w.rec) refl
+    of_asked (λ a. AskedTurn digest_of c.args.config.now.max_kept a old new (g.T.Preprocessor.preprocessed c.args.tool.now) (g.T.Preprocessor.preprocessed c.prepare.new.tool) (g.T.Preprocessor.compiled c.args.tool.now) (g.T.Preprocessor.compiled c.prepare.new.tool) c.from_residual-in_err-prepared-in-Asks.result) (meaning c.args.tool.now) _ _ c.args.config.now.keys found request parsed _ c.in_ok-reason.ensures.tree decided
+    (asked_fault digest_of c.args.config.now.max_kept (worked w) old new _ _ _ _ _ fault c.from_residual-in_err-prepared-in-Asks.ensures.1 false (key_of digest_of w.rec) refl
     (c.prepare.ensures.idle, λ h. key_until false _ _ fault (e.until h))
-    (key_turn digest_of (key_of digest_of w.rec) w w.fault _ _ _ c.prepare.ensures.compiles _ _ fault e.cause _ c.from_residual-in_err-prepared-in-Asks.ensures.1))
+    (key_turn digest_of c.args.config.now.max_kept (key_of digest_of w.rec) w w.fault _ _ _ c.prepare.ensures.compiles _ _ fault e.cause _ c.from_residual-in_err-prepared-in-Asks.ensures.1))
 
 pub returns-in_err-prepared-in-Asks-clause-still : goal.returns-in_err-prepared-in-Asks-clause-still
 returns-in_err-prepared-in-Asks-clause-still g c own =
@@ -109,7 +109,7 @@ returns-in_ok-prepared-in-Asks-clause-says g c =
     let found = found_of c.args.compiler in
     let parsed = c.in-Asks.plan.parsed in
     let decided : asks parsed ≡ verdict_of found.kind (words_at found request (tree c.args.files.now)) = rw c.in-Asks.is at c.in_ok-reason.ensures.verdict in
-    let own : KeyCall = call_at found request (tree c.judge.new.files) c.args.config.now parsed in
+    let own : KeyCall = call_at found request (tree c.judge.new.files) c.args.config.now.keys parsed in
     let w = work_at (meaning c.args.tool.now) own in
     let p : PrintedCall = printed_call (meaning c.args.tool.now) own in
     let k = c.in_ok-prepared-in-Asks.ensures in
@@ -118,7 +118,7 @@ returns-in_ok-prepared-in-Asks-clause-says g c =
     let later_in = FailsIn meaning g.T.Preprocessor.failed g.T.Preprocessor.fails_in c.prepare.new.tool c.finish.new.tool in
     let later : (step : Step) → later_in step → device step = fails_in_later meaning g.T.Preprocessor.failed g.T.Preprocessor.fails_in c.args.tool.now c.prepare.new.tool c.finish.new.tool c.prepare.ensures.meaning k.steady.0 in
     let result = c.finish.result in
-    of_asked (λ a. SaysBy GoesOn a on_old device result) (meaning c.args.tool.now) _ _ c.args.config.now found request parsed _ c.in_ok-reason.ensures.tree decided
+    of_asked (λ a. SaysBy GoesOn a on_old device result) (meaning c.args.tool.now) _ _ c.args.config.now.keys found request parsed _ c.in_ok-reason.ensures.tree decided
     (finished_says (GoesOn w) w on_old device later_in later (goes_on digest_of w p refl _ _ _ k.from k.fine) result (c.finish.ensures.says digest_of w k.prepared))
 
 pub returns-in_ok-prepared-in-Asks-clause-goes_on : goal.returns-in_ok-prepared-in-Asks-clause-goes_on
@@ -130,7 +130,7 @@ returns-in_ok-prepared-in-Asks-clause-goes_on g c =
     let found = found_of c.args.compiler in
     let parsed = c.in-Asks.plan.parsed in
     let decided : asks parsed ≡ verdict_of found.kind (words_at found request (tree c.args.files.now)) = rw c.in-Asks.is at c.in_ok-reason.ensures.verdict in
-    let own : KeyCall = call_at found request (tree c.judge.new.files) c.args.config.now parsed in
+    let own : KeyCall = call_at found request (tree c.judge.new.files) c.args.config.now.keys parsed in
     let w = work_at (meaning c.args.tool.now) own in
     let p : PrintedCall = printed_call (meaning c.args.tool.now) own in
     let k = c.in_ok-prepared-in-Asks.ensures in
@@ -140,7 +140,7 @@ returns-in_ok-prepared-in-Asks-clause-goes_on g c =
     let later : (step : Step) → later_in step → device step = fails_in_later meaning g.T.Preprocessor.failed g.T.Preprocessor.fails_in c.args.tool.now c.prepare.new.tool c.finish.new.tool c.prepare.ensures.meaning k.steady.0 in
     let result = c.finish.result in
     let held = (g.E.Store.shelf c.args.entries.now).held in
-    of_asked (λ a. RecordsAreTrue digest_of a held → Says a on_old device result) (meaning c.args.tool.now) _ _ c.args.config.now found request parsed _ c.in_ok-reason.ensures.tree decided
+    of_asked (λ a. RecordsAreTrue digest_of a held → Says a on_old device result) (meaning c.args.tool.now) _ _ c.args.config.now.keys found request parsed _ c.in_ok-reason.ensures.tree decided
     (λ are_true. finished_says (w.fault ≡ None) w on_old device later_in later (own_goes_on digest_of w p refl held _ _ k.from k.fine are_true) result (c.finish.ensures.says digest_of w k.prepared))
 
 pub returns-in_ok-prepared-in-Asks-clause-quiet : goal.returns-in_ok-prepared-in-Asks-clause-quiet
@@ -148,7 +148,7 @@ returns-in_ok-prepared-in-Asks-clause-quiet g c =
     let tool = g.T.Preprocessor in
     let old = c.args.tool.now in
     let new = c.finish.new.tool in
-    let w = work_at (tool.meaning old) (call_at (found_of c.args.compiler) c.args.request.now (g.F.Files.tree c.judge.new.files) c.args.config.now c.in-Asks.plan.parsed) in
+    let w = work_at (tool.meaning old) (call_at (found_of c.args.compiler) c.args.request.now (g.F.Files.tree c.judge.new.files) c.args.config.now.keys c.in-Asks.plan.parsed) in
     finished_unpassed ((tool.preprocessed new ≡ tool.preprocessed old) × (tool.compiled new ≡ tool.compiled old) × (tool.failed new ≡ tool.failed old)) w _ c.finish.result
     (c.finish.ensures.says g.H.HashState.digest_of w c.in_ok-prepared-in-Asks.ensures.prepared)
 
@@ -161,7 +161,7 @@ returns-in_ok-prepared-in-Asks-clause-asked g c =
     let found = found_of c.args.compiler in
     let parsed = c.in-Asks.plan.parsed in
     let decided : asks parsed ≡ verdict_of found.kind (words_at found request (tree c.args.files.now)) = rw c.in-Asks.is at c.in_ok-reason.ensures.verdict in
-    let own : KeyCall = call_at found request (tree c.judge.new.files) c.args.config.now parsed in
+    let own : KeyCall = call_at found request (tree c.judge.new.files) c.args.config.now.keys parsed in
     let w = work_at (meaning c.args.tool.now) own in
     let p : PrintedCall = printed_call (meaning c.args.tool.now) own in
     let k = c.in_ok-prepared-in-Asks.ensures in
@@ -171,10 +171,10 @@ returns-in_ok-prepared-in-Asks-clause-asked g c =
     let new = shelves_of (g.E.Store.shelf c.prepare.new.entries) (g.O.Store.shelf c.finish.new.objects) in
     let ran : ℕ → Type 0 = λ after. RanForKey w.rec from (g.T.Preprocessor.preprocessed c.args.tool.now) after in
     let runs : ran (g.T.Preprocessor.preprocessed c.finish.new.tool) = subst ran (sym c.finish.ensures.preprocesses) (c.prepare.ensures.idle, k.runs) in
-    let turned : ℕ → Type 0 = λ compiled. KeyedTurn digest_of key (worked w) old.objects new.objects compiled (g.T.Preprocessor.compiled c.finish.new.tool) c.finish.result in
+    let turned : ℕ → Type 0 = λ compiled. KeyedTurn digest_of c.args.config.now.max_kept key (worked w) old.objects new.objects compiled (g.T.Preprocessor.compiled c.finish.new.tool) c.finish.result in
     let turn : turned (g.T.Preprocessor.compiled c.args.tool.now) = subst turned c.prepare.ensures.compiles (c.finish.ensures.turn digest_of w k.prepared) in
-    of_asked (λ a. AskedTurn digest_of a old new (g.T.Preprocessor.preprocessed c.args.tool.now) (g.T.Preprocessor.preprocessed c.finish.new.tool) (g.T.Preprocessor.compiled c.args.tool.now) (g.T.Preprocessor.compiled c.finish.new.tool) c.finish.result) (meaning c.args.tool.now) _ _ c.args.config.now found request parsed _ c.in_ok-reason.ensures.tree decided
-    (asked_finished digest_of w old new _ _ _ _ from key k.from (text_fine w p refl from k.fine) runs k.recorded _ _ (c.finish.ensures.says digest_of w k.prepared) c.finish.ensures.how turn)
+    of_asked (λ a. AskedTurn digest_of c.args.config.now.max_kept a old new (g.T.Preprocessor.preprocessed c.args.tool.now) (g.T.Preprocessor.preprocessed c.finish.new.tool) (g.T.Preprocessor.compiled c.args.tool.now) (g.T.Preprocessor.compiled c.finish.new.tool) c.finish.result) (meaning c.args.tool.now) _ _ c.args.config.now.keys found request parsed _ c.in_ok-reason.ensures.tree decided
+    (asked_finished digest_of c.args.config.now.max_kept w old new _ _ _ _ from key k.from (text_fine w p refl from k.fine) runs k.recorded _ _ (c.finish.ensures.says digest_of w k.prepared) c.finish.ensures.how turn)
 
 pub returns-in_ok-prepared-in-Asks-clause-steady : goal.returns-in_ok-prepared-in-Asks-clause-steady
 returns-in_ok-prepared-in-Asks-clause-steady g c =

@@ -18,7 +18,7 @@ pub returns-in_err-made-clause-store : goal.returns-in_err-made-clause-store
 returns-in_err-made-clause-store g c =
     let digest_of = g.H.HashState.digest_of in
     let w = rust_work_at (g.T.Preprocessor.meaning c.args.tool.now) (rust_call_at c.args.rust.now c.args.request.now (g.F.Files.tree c.args.files.now) (asks_in c.args.parsed.now)) in
-    key_turn digest_of (key_of digest_of w.rec) w w.fault _ _ _ c.rust_prepare.ensures.compiles _ _ c.in_err-made.field-0.0 c.in_err-made.ensures.cause _ c.from_residual.ensures.1
+    key_turn digest_of c.args.max_kept (key_of digest_of w.rec) w w.fault _ _ _ c.rust_prepare.ensures.compiles _ _ c.in_err-made.field-0.0 c.in_err-made.ensures.cause _ c.from_residual.ensures.1
 
 pub returns-in_err-made-clause-how : goal.returns-in_err-made-clause-how
 returns-in_err-made-clause-how g c = how_of_fault false c.in_err-made.field-0.0 _ c.from_residual.ensures.1
@@ -60,7 +60,7 @@ returns-clause-store g c =
     let k = c.in_ok-made.ensures.prepared in
     let moment : to_z w64 (of_z w64 c.args.request.now.moment) ≡ c.args.request.now.moment = search rules in
     let prepared = is_prepared digest_of (meaning c.args.tool.now) (meaning c.rust_prepare.new.tool) (tree c.args.files.now) (tree c.rust_prepare.new.files) c.args.rust.now c.args.request.now asked c.in_ok-made.made _ k c.rust_prepare.ensures.meaning c.rust_prepare.ensures.tree refl refl c.outputs.ensures refl refl moment refl in
-    let turned : Bytes × ℕ → Type 0 = λ x. KeyedTurn digest_of x.0 (worked w) (g.O.Store.shelf c.args.objects.now) (g.O.Store.shelf c.finish.new.objects) x.1 (g.T.Preprocessor.compiled c.finish.new.tool) c.finish.result in
+    let turned : Bytes × ℕ → Type 0 = λ x. KeyedTurn digest_of c.args.max_kept x.0 (worked w) (g.O.Store.shelf c.args.objects.now) (g.O.Store.shelf c.finish.new.objects) x.1 (g.T.Preprocessor.compiled c.finish.new.tool) c.finish.result in
     let own : c.in_ok-made.made.key.digest ≡ key_of digest_of w.rec = λ i. (k.is_key i).digest in
     subst turned (λ i. (own i, c.rust_prepare.ensures.compiles i)) (c.finish.ensures.turn digest_of w prepared)
 

@@ -21,7 +21,7 @@ pub returns-in_err-reason-clause-store : goal.returns-in_err-reason-clause-store
 returns-in_err-reason-clause-store g c =
     let digest_of = g.H.HashState.digest_of in
     let a = rust_account_by (g.T.Preprocessor.meaning c.args.tool.now) (g.F.Files.tree c.args.files.now) c.args.rust.now c.args.request.now (rust_verdict_of c.args.request.now (g.F.Files.tree c.args.files.now)) in
-    early_turn digest_of (own_text_key digest_of a) a _ _ _ c.in_err-reason.field-0.0 c.in_err-reason.ensures.cause _ c.from_residual.ensures.1
+    early_turn digest_of c.args.max_kept (own_text_key digest_of a) a _ _ _ c.in_err-reason.field-0.0 c.in_err-reason.ensures.cause _ c.from_residual.ensures.1
 
 pub returns-in_err-reason-clause-how : goal.returns-in_err-reason-clause-how
 returns-in_err-reason-clause-how g c = how_of_fault false c.in_err-reason.field-0.0 _ c.from_residual.ensures.1
@@ -56,7 +56,7 @@ returns-in-Asks-clause-store g c =
     let work_on : Tree → Work = λ files. rust_work_at (meaning c.args.tool.now) (rust_call_at c.args.rust.now request files (asks_in c.in-Asks.parsed)) in
     let decided : asks (asks_in c.in-Asks.parsed) ≡ rust_verdict_of request (tree c.args.files.now) = rw c.in-Asks.is at c.in_ok-reason.ensures.verdict in
     let account : RustJudgement → Account = rust_account_by (meaning c.args.tool.now) (tree c.args.files.now) c.args.rust.now request in
-    let turned : Account → Type 0 = λ a. StoreTurn digest_of a (g.O.Store.shelf c.args.objects.now) (g.O.Store.shelf c.rust_answer.new.objects) (g.T.Preprocessor.compiled c.args.tool.now) (g.T.Preprocessor.compiled c.rust_answer.new.tool) c.rust_answer.result in
+    let turned : Account → Type 0 = λ a. StoreTurn digest_of c.args.max_kept a (g.O.Store.shelf c.args.objects.now) (g.O.Store.shelf c.rust_answer.new.objects) (g.T.Preprocessor.compiled c.args.tool.now) (g.T.Preprocessor.compiled c.rust_answer.new.tool) c.rust_answer.result in
     let moved : turned (account (asks (asks_in c.in-Asks.parsed))) = subst (λ (t : Tree). turned (worked (work_on t))) c.in_ok-reason.ensures.tree c.rust_answer.ensures.store in
     subst (λ (d : RustJudgement). turned (account d)) decided moved
 

@@ -4,7 +4,7 @@ use Rattle.wrap_uses.proofs.StepLemmas.{costs_of, fresh_of}
 use Rattle.wrap_uses.proofs.step.run_step.Goals as goal
 
 pub returns-clause-costs : goal.returns-clause-costs
-returns-clause-costs g c = rw c.outcome_of.ensures (costs_of _ _ _ _ _ _ _ _ _ _ _ c.in_ok-answer.ensures.says c.in_ok-answer.ensures.asked)
+returns-clause-costs g c = rw c.outcome_of.ensures (costs_of _ _ _ _ _ _ _ _ _ _ _ _ c.in_ok-answer.ensures.says c.in_ok-answer.ensures.asked)
 
 pub returns-clause-right : goal.returns-clause-right
 returns-clause-right g c off earlier held premises =
