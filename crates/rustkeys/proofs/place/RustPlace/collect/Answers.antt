@@ -1,12 +1,14 @@
-use Rattle.std.proofs.Common.{◌≡◌, None, sym, ◌∙◌}
+use Rattle.std.proofs.Common.{◌≡◌, None, subst, sym, ◌∙◌}
 use Rattle.os_files.specs.Fails.{FailsOn}
+use Rattle.os_files.specs.Tree.{Tree}
 use Rattle.ckeys_records.specs.Faults.{KeyCause, or_else}
 use Rattle.ckeys_records.specs.Causes.{no_file}
-use Rattle.ckeys_records.specs.Meaning.{FailsIn}
+use Rattle.ckeys_records.specs.Meaning.{FailsIn, Meaning, text_in}
 use Rattle.ckeys_records.specs.declared.step.Step.TheVariants.{FileNames}
 use Rattle.ckeys_records.proofs.FaultLemmas.{on_exit, since, tool_since}
 use Rattle.rustkeys.specs.Calls.{answer_fault_of, dep_info_fault_of, files_fault_of, key_fault_with}
-use Rattle.rustkeys.specs.Questions.{Question, answers_of, digested, file_names_of, question_of}
+use Rattle.rustkeys.specs.Collected.{AreFilesOf, file_digests}
+use Rattle.rustkeys.specs.Questions.{Question, answers_of, digested, file_names_of, question_of, sources_in}
 use Rattle.rustkeys.proofs.CauseLemmas.{first_is, key_cause_more, second_is}
 use Rattle.rustkeys.proofs.place.RustPlace.collect.Goals as goal
 
@@ -70,3 +72,18 @@ returns-in_err-files-clause-cause g c = λ moment.
     let none : names ≡ None = (λ i. answer_fault_of FileNames (file_names_of (sym c.dep_info.ensures.meaning i) (question_of c.args.self.now (sym c.dep_info.ensures.tree i) moment))) ∙ c.in_ok-names.ensures.fine moment in
     on_exit (KeyCause (key_fault_with q told) on_file device_in) c.from_residual-in_err-files.result fault c.from_residual-in_err-files.ensures.1
     (key_cause_more own (key_fault_with q told) on_later on_file later device_in (λ f e. second_is sources (or_else names files) (c.in_ok-sources.ensures.fine moment) f (second_is names files none f (sym same ∙ e))) (since tree files_failed fails_on c.args.files.now c.file_names_text.new.files c.other_files.new.files trees files_steady) (tool_since meaning failed fails_in c.args.answers.now c.file_names_text.new.answers c.other_files.new.answers meanings steady) fault (c.in_err-files.ensures.cause moment))
+
+pub returns-clause-found : goal.returns-clause-found
+returns-clause-found g c = λ moment.
+    let tree = g.F.Files.tree in
+    let meaning = g.A.Preprocessor.meaning in
+    let digest_of = g.H.HashState.digest_of in
+    let asked : Tree → Question = λ files. question_of c.args.self.now files moment in
+    let trees : tree c.file_names_text.new.files ≡ tree c.args.files.now = c.file_names_text.ensures.tree ∙ c.dep_info.ensures.tree in
+    let meanings : meaning c.file_names_text.new.answers ≡ meaning c.args.answers.now = c.file_names_text.ensures.meaning ∙ c.dep_info.ensures.meaning in
+    record {
+      text = c.in_ok-sources.ensures.text moment;
+      names = c.in_ok-names.ensures.text moment ∙ (λ i. text_in (file_names_of (c.dep_info.ensures.meaning i) (asked (c.dep_info.ensures.tree i))).contents);
+      sources = c.in_ok-sources.ensures.digests ∙ (λ i. file_digests digest_of (tree c.args.files.now) (sources_in c.args.self.now.dir.now (c.in_ok-sources.ensures.text moment i)));
+      files = subst (λ (x : Tree × Meaning). AreFilesOf digest_of (asked x.0) (digested x.1 (asked x.0).scene (asked x.0).asks.staticlibs) c.in_ok-files.files) (λ i. (trees i, meanings i)) (c.in_ok-files.ensures.digests moment);
+    }
