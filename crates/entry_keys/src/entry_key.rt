@@ -1,6 +1,8 @@
 //! What an include record is kept under.
 
-ghost use Rattle.std.specs.Prelude.{◌≡◌, ◌↔◌, true, IfOk, IfSome, map, string_bytes};
+ghost use Rattle.std.specs.Prelude.{◌≡◌, ◌↔◌, ◌++◌, true, IfOk, IfSome, map, string_bytes};
+ghost use Rattle.std.specs.Ordering.{ordering_then};
+ghost use Rattle.std.specs.declared.cmp.Ordering.TheVariants.{Equal};
 ghost use Rattle.entry_keys.specs.Identity.{IdentityFits, identity_of};
 ghost use Rattle.entry_keys.specs.Sights.{SightsFit, seen_by, sights_of};
 ghost use Rattle.entry_keys.specs.Telling.{entry_key_over};
@@ -11,6 +13,7 @@ use crate::sights::{SeenInput, preprocessor_cache_entry_hash_key};
 use ckeys_base::hash_state::HashState;
 use os_files::os_bytes::OsBytes;
 use std::alloc::{AllocError, Global};
+use std::hash::Hash;
 
 /// What a call's include record is kept under: the digest of who asks, and that of what the preprocessor would be
 /// told, both as text of two hexadecimal digits a byte.
@@ -24,6 +27,26 @@ pub struct EntryKey {
 pub fn entry_keys_are_their_fields()
     ensures { (one other : EntryKey) →
         (⟦<EntryKey as PartialEq>⟧.eq one other ≡ true) ↔ (one ≡ other) }
+{}
+
+/// Keys are told apart by their order exactly if their fields are. They are ordered by the identity, then the key, and what is hashed of
+/// one is what is hashed of these, in this order.
+pub fn entry_keys_are_ordered_by_their_fields()
+    ensures tied { (one other : EntryKey) →
+        (⟦<EntryKey as Ord>⟧.cmp one other ≡ Equal) ↔ (one ≡ other) }
+    ensures ordered { (one other : EntryKey) → ⟦<EntryKey as Ord>⟧.cmp one other
+        ≡ ordering_then (⟦<OsBytes as Ord>⟧.cmp one.identity other.identity)
+        (⟦<OsBytes as Ord>⟧.cmp one.key other.key) }
+    ensures hashed { (key : EntryKey) → ⟦<EntryKey as Hash>⟧.hash_input key
+        ≡ ⟦<OsBytes as Hash>⟧.hash_input key.identity ++ ⟦<OsBytes as Hash>⟧.hash_input key.key }
+{
+    entry_keys_are_their_fields();
+    ties_are_equal::<EntryKey>();
+}
+
+/// What an order doesn't tell apart is equal.
+fn ties_are_equal<K: Ord>()
+    ensures { (one other : K) → (K.cmp one other ≡ Equal) ↔ (K.eq one other ≡ true) }
 {}
 
 /// The entry key of who asks, with these digests of extra files, over this input. `None` exactly where the input asks for the

@@ -1,5 +1,5 @@
 -- How large files are together, and which of two was used later.
-use Rattle.std.specs.Prelude.{ℕ, Bool, List}
+use Rattle.std.specs.Prelude.{ℕ, ◌-◌, ◌^◌, min, Bool, List}
 use Rattle.std.specs.List.{sum_by}
 use Rattle.std.specs.Ordering.{is_lt, nat_cmp}
 use Rattle.kept_folder.specs.declared.listing.KeptFile.{KeptFile}
@@ -7,6 +7,10 @@ use Rattle.kept_folder.specs.declared.listing.KeptFile.{KeptFile}
 -- their sizes in bytes, added up
 abbrev pub bytes_together : List KeptFile → ℕ
 bytes_together files = sum_by (λ f. f.size) files
+
+-- a sum, or the largest number of eight bytes where that is less
+abbrev pub saturated : ℕ → ℕ
+saturated total = min total (2 ^ 64 - 1)
 
 -- one was used later than the other
 abbrev pub used_later : KeptFile → KeptFile → Bool

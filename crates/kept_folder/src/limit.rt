@@ -1,5 +1,7 @@
 //! How many bytes entries and records may have together.
 
+ghost use Rattle.std.specs.Prelude.{◌≡◌, ◌-◌, ◌/◌};
+
 use crate::error::FolderError;
 use std::alloc::Global;
 use std::fs;
@@ -26,7 +28,9 @@ pub fn limit_of<R: Files + AllocGlobal>(rt: &R, path: &str) -> Result<u64, Folde
 }
 
 /// How many bytes stay where the limit is passed: nine tenths of it, so that it isn't passed again soon.
-pub fn room_within(limit: u64) -> u64 {
+pub fn room_within(limit: u64) -> u64
+    ensures { result ≡ limit - limit / 10 }
+{
     limit - limit / 10
 }
 

@@ -3,6 +3,9 @@
 //! What is kept of sizes is noted once an entry or a record was put, by looking into the folders of its own two letters alone. All folders
 //! are looked into only where the limit is passed, and then a tenth of it is made free, so that it isn't passed again soon.
 
+ghost use Rattle.std.specs.Prelude.{◌≡◌};
+ghost use Rattle.kept_folder.specs.Together.{bytes_together, saturated};
+
 use crate::error::FolderError;
 use crate::folder::Kind;
 use crate::limit::{limit_of, room_within};
@@ -11,8 +14,10 @@ use crate::sizes::Sizes;
 use std::fs;
 use std::rt::Files;
 
-/// The bytes of these files.
-fn total_of(files: &[KeptFile]) -> u64 {
+/// The bytes of these files, or the largest number that there is.
+fn total_of(files: &[KeptFile]) -> u64
+    ensures { result ≡ saturated (bytes_together files.now) }
+{
     let mut total = 0u64;
     for file in files {
         total = total.saturating_add(file.size);

@@ -1,6 +1,9 @@
 //! How many bytes the entries and records have whose names begin with the same two letters, in one file: 256 numbers of eight bytes, low
 //! byte first.
 
+ghost use Rattle.std.specs.Prelude.{◌≡◌, sum};
+ghost use Rattle.kept_folder.specs.Together.{saturated};
+
 use crate::error::FolderError;
 use crate::listing::KeptFile;
 use byte_formats::fields::{put_number, read_number};
@@ -8,15 +11,24 @@ use std::alloc::Global;
 use std::fs;
 use std::fs::OpenOptions;
 use std::io::{Seek, SeekFrom, Write};
+use std::marker::Model;
 use std::rt::Files;
 
 /// How many pairs of letters there are.
 const ROWS: usize = 256;
 
-/// The bytes of the files of each row.
+/// The bytes of the files of each row. Contracts see them in order.
 #[derive(Drop)]
 pub struct Sizes {
     numbers: Vec<u64>,
+}
+
+impl Model for Sizes {
+    ghost use Rattle.std.specs.Prelude.{ℕ, List};
+
+    ghost Value = { List ℕ };
+
+    ghost view = { λ a. a.numbers.items };
 }
 
 /// Where the file is.
@@ -34,6 +46,17 @@ fn numbers_of(alloc: Global, bytes: &[u8]) -> Result<Vec<u64>, FolderError> {
         rest = behind;
     }
     Ok(numbers)
+}
+
+/// These numbers together, or the largest number that there is.
+fn sum_of(numbers: &[u64]) -> u64
+    ensures { result ≡ saturated (sum numbers.now) }
+{
+    let mut total = 0u64;
+    for number in numbers {
+        total = total.saturating_add(*number);
+    }
+    total
 }
 
 impl Sizes {
@@ -85,12 +108,10 @@ impl Sizes {
         Ok(file.write_all(&size.to_le_bytes())?)
     }
 
-    /// The bytes of all of them.
-    pub fn total(&self) -> u64 {
-        let mut total = 0u64;
-        for number in self.numbers.as_slice() {
-            total = total.saturating_add(*number);
-        }
-        total
+    /// The bytes of all of them, or the largest number that there is.
+    pub fn total(&self) -> u64
+        ensures { result ≡ saturated (sum self.now) }
+    {
+        sum_of(self.numbers.as_slice())
     }
 }
