@@ -16,6 +16,7 @@
 #include <stdio.h>
 #include <stdlib.h>
 #include <string.h>
+#include <sys/auxv.h>
 #include <sys/stat.h>
 #include <sys/wait.h>
 #include <time.h>
@@ -181,10 +182,17 @@ static int run(char **line, const char *output, const char *errors) {
     return WIFEXITED(status) ? WEXITSTATUS(status) : 128 + WTERMSIG(status);
 }
 
+/* Finds this host's own file, also where /proc isn't there. */
+static void find_self(void) {
+    ssize_t size = readlink("/proc/self/exe", self, sizeof self - 1);
+    self[size < 0 ? 0 : size] = 0;
+    if (size < 0 && !realpath((const char *)getauxval(AT_EXECFN), self)) self[0] = 0;
+}
+
 /* Whether a file is this host under another name. */
 static int is_self(const char *path) {
     struct stat one, other;
-    return !stat(path, &one) && !stat("/proc/self/exe", &other) && one.st_dev == other.st_dev && one.st_ino == other.st_ino;
+    return !stat(path, &one) && !stat(self, &other) && one.st_dev == other.st_dev && one.st_ino == other.st_ino;
 }
 
 /* The file of that name, where it can be run, by the usual search; a link to this host is none, and its name is searched. */
@@ -418,30 +426,26 @@ static const char *find_program(void) {
     return NULL;
 }
 
-/* Has the program do what an option says: its name, the folder of what is kept and the words behind it, of which a compiler's command
- * gets the compiler's file and the folder. */
-static int answer_option(int count, char **list) {
-    char **line = calloc(count + 3, sizeof *line), dir[PATH_MAX];
+/* Has the program do what options say. They stand behind this host's file, the program's, the folder of what is kept, the folder in which
+ * it is asked and, where what differed is asked for, the file of that compiler. */
+static int answer_options(int count, char **list) {
+    char **line = calloc(count + 8, sizeof *line), dir[PATH_MAX], folder[PATH_MAX];
     const char *program = find_program();
+    int size = 0, asks_why = count > 2 && !strcmp(list[1], "--why");
     if (!line || !program) return 127;
-    line[0] = "gulmaat";
-    line[1] = count < 2 ? "--help" : list[1];
-    if (strcmp(line[1], "--help")) {
-        if (find_kept()) return 2;
-        line[2] = kept;
-        for (int i = 2; i < count; i++) line[i + 1] = list[i];
-        if (count > 2 && !strcmp(line[1], "--why")) {
-            words = list + 2;
-            if (find_compiler(words[0])) { perror(words[0]); return 127; }
-            if (!getcwd(dir, sizeof dir)) { perror("gulmaat"); return 2; }
-            line[3] = compiler;
-            line[4] = dir;
-            for (int i = 3; i < count; i++) line[i + 2] = list[i];
-        }
-        char folder[PATH_MAX];
-        snprintf(folder, sizeof folder, "%.*s/own", PATH_MAX - 64, kept);
-        remove_old(folder);
+    if (find_kept()) return 2;
+    if (!getcwd(dir, sizeof dir)) { perror("gulmaat"); return 2; }
+    if (asks_why) {
+        words = list + 2;
+        if (find_compiler(words[0])) { perror(words[0]); return 127; }
     }
+    snprintf(folder, sizeof folder, "%.*s/own", PATH_MAX - 64, kept);
+    remove_old(folder);
+    char *before[] = {"gulmaat", self, (char *)program, kept, dir, asks_why ? compiler : ""};
+    for (size_t i = 0; i < sizeof before / sizeof *before; i++) line[size++] = before[i];
+    for (int i = 1; i < count; i++)
+        if (!asks_why || i != 2) line[size++] = list[i];
+    if (count < 2) line[size++] = "--help";
     execv(program, line);
     perror(program);
     return 127;
@@ -451,12 +455,11 @@ int main(int count, char **list) {
     for (int file = 0; file < 3; file++)
         if (fcntl(file, F_GETFD) < 0 && open("/dev/null", O_RDWR) < 0) return 127;
     signal(SIGCHLD, SIG_DFL);
-    ssize_t size = readlink("/proc/self/exe", self, sizeof self - 1);
-    self[size < 0 ? 0 : size] = 0;
+    find_self();
     const char *name = strrchr(list[0], '/') ? strrchr(list[0], '/') + 1 : list[0];
     int is_link = strncmp(name, "gulmaat", 7) != 0;
     words = is_link ? list : list + 1;
-    if (!is_link && (count < 2 || list[1][0] == '-')) return answer_option(count, list);
+    if (!is_link && (count < 2 || list[1][0] == '-')) return answer_options(count, list);
     if (find_compiler(is_link ? name : words[0])) { perror(words[0]); return 127; }
     if (is_link) words[0] = compiler;
     const char *program = find_program();

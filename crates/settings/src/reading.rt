@@ -103,7 +103,7 @@ fn sets(line: &str, key: Key) -> bool {
     }
 }
 
-/// The text with this key set to that value: in the place of the lines that set it, or at the end.
+/// The text with this key set to that value by a line at its end, and without the lines that set it before.
 pub fn text_with(
     alloc: Global,
     text: &str,

@@ -1,7 +1,12 @@
-//! Texts that are sizes and truth values.
+//! Texts that are sizes, ages and truth values.
+
+ghost use Rattle.std.specs.Prelude.{◌≡◌};
+ghost use Rattle.settings.specs.Values.{truth_in, unit_in};
 
 /// How many bytes a unit means; no unit means `G`, as for ccache.
-fn unit_named(text: &str) -> Option<u64> {
+fn unit_named(text: &str) -> Option<u64>
+    ensures { result ≡ unit_in text.now }
+{
     match text {
         "" | "G" => Some(1_000_000_000),
         "k" => Some(1_000),
@@ -28,7 +33,9 @@ pub fn size_named(text: &str) -> Option<u64> {
 }
 
 /// The truth value that a text means; nothing where it means none.
-pub fn truth_named(text: &str) -> Option<bool> {
+pub fn truth_named(text: &str) -> Option<bool>
+    ensures { result ≡ truth_in text.now }
+{
     match text {
         "1" | "yes" | "true" | "on" => Some(true),
         "0" | "no" | "false" | "off" => Some(false),

@@ -1,5 +1,8 @@
 //! Numbers by name.
 
+ghost use Rattle.std.specs.Prelude.{◌≡◌, OnOk};
+ghost use Rattle.statistics.specs.Counting.{number_in, with_more};
+
 use crate::record::{SIZE, put_record, read_record};
 use std::alloc::{AllocError, Global};
 use std::collections::BTreeMap;
@@ -18,14 +21,18 @@ pub struct Counts {
 
 impl Counts {
     /// Nothing was counted.
-    pub fn new(alloc: Global) -> Counts {
+    pub fn new(alloc: Global) -> Counts
+        ensures { (name : _) → number_in result name ≡ 0 }
+    {
         Counts {
             numbers: BTreeMap::new(alloc),
         }
     }
 
     /// The number of this name; 0 where it wasn't counted.
-    pub fn number_of(&self, name: &str) -> u64 {
+    pub fn number_of(&self, name: &str) -> u64
+        ensures { result ≡ number_in self.now name.now }
+    {
         match self.numbers.get(name) {
             Some(number) => *number,
             None => 0,
@@ -33,17 +40,24 @@ impl Counts {
     }
 
     /// Counts a name so many times more.
-    pub fn add(&mut self, alloc: Global, name: &str, number: u64) -> Result<(), AllocError> {
-        let name = match self.numbers.len() < MOST || self.numbers.contains_key(name) {
-            true => name,
-            false => OTHER,
-        };
-        let entry = self
+    pub fn add(&mut self, alloc: Global, name: &str, number: u64) -> Result<(), AllocError>
+        ensures { OnOk result ((other : _) → number_in self.new other
+            ≡ with_more (number_in self.old) name.now number other) }
+    {
+        let counted = self
             .numbers
             .entry(String::from_str(alloc, name)?)?
             .or_default();
-        *entry = entry.saturating_add(number);
+        *counted = counted.saturating_add(number);
         Ok(())
+    }
+
+    /// The name under which one is counted: `OTHER` where there are too many names already.
+    fn name_for<'a>(&self, name: &'a str) -> &'a str {
+        match self.numbers.len() < MOST || self.numbers.contains_key(name) {
+            true => name,
+            false => OTHER,
+        }
     }
 
     /// Counts what a record says. One that is none is left out.
@@ -52,7 +66,10 @@ impl Counts {
             return Ok(());
         };
         match str::from_utf8(name) {
-            Ok(name) => self.add(alloc, name, number),
+            Ok(name) => {
+                let name = self.name_for(name);
+                self.add(alloc, name, number)
+            }
             Err(_) => Ok(()),
         }
     }

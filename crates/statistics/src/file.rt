@@ -6,11 +6,11 @@ use crate::error::StatisticsError;
 use crate::names::ZEROED;
 use crate::record::{SIZE, put_record};
 use std::alloc::Global;
-use std::fs;
 use std::fs::{File, OpenOptions};
 use std::io::{ErrorKind, Read, Write};
 use std::os::unix::fs::MetadataExt;
 use std::rt::Files;
+use std::{fs, io};
 
 /// A file that is longer is folded.
 const LONG: u64 = 64 * 1024;
@@ -23,11 +23,24 @@ fn place_of(alloc: Global, path: &str) -> Result<String, StatisticsError> {
     Ok(format!(in alloc; "{path}/statistics")?)
 }
 
-/// Opens the file of that name and waits for its lock, which it has until it is closed. Nothing where it isn't the one of that name any more.
-fn lock_once<R: Files<File = File>>(rt: &R, place: &str) -> Result<Option<File>, StatisticsError> {
+/// Where it lies in the folder of this path, which is made where it isn't there.
+fn place_in<R: Files + AllocGlobal>(rt: &R, path: &str) -> Result<String, StatisticsError> {
+    if fs::metadata(rt, path).is_err() {
+        fs::create_dir_all(rt, path)?;
+    }
+    place_of(rt.alloc(), path)
+}
+
+/// Opens the file of that name, to be read and to have records put behind the others.
+fn open_file<R: Files<File = File>>(rt: &R, place: &str) -> io::Result<File> {
     let mut options = OpenOptions::new();
     options.read(true).append(true).create(true);
-    let file = options.open(rt, place)?;
+    options.open(rt, place)
+}
+
+/// Opens the file of that name and waits for its lock, which it has until it is closed. Nothing where it isn't the one of that name any more.
+fn lock_once<R: Files<File = File>>(rt: &R, place: &str) -> Result<Option<File>, StatisticsError> {
+    let file = open_file(rt, place)?;
     file.lock()?;
     let held = file.metadata()?;
     match fs::metadata(rt, place) {
@@ -81,7 +94,7 @@ pub fn count<R: Files<File = File> + AllocGlobal>(
     path: &str,
     names: &[&str],
 ) -> Result<(), StatisticsError> {
-    let place = place_of(rt.alloc(), path)?;
+    let place = place_in(rt, path)?;
     let mut file = locked(rt, place.as_str())?;
     let size = file.metadata()?.len();
     let rest = size % SIZE as u64;
@@ -124,7 +137,7 @@ pub fn zero<R: Files<File = File> + AllocGlobal>(
     path: &str,
     second: u64,
 ) -> Result<(), StatisticsError> {
-    let place = place_of(rt.alloc(), path)?;
+    let place = place_in(rt, path)?;
     let _file = locked(rt, place.as_str())?;
     let mut records = Vec::new(rt.alloc());
     put_record(&mut records, ZEROED.as_bytes(), second)?;

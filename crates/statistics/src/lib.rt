@@ -2,6 +2,7 @@
 //! are folded, one for each name, once there are many.
 #![tactic(auto)]
 
+pub mod calls;
 pub mod counts;
 pub mod error;
 pub mod file;
