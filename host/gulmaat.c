@@ -16,6 +16,7 @@
 #include <stdio.h>
 #include <stdlib.h>
 #include <string.h>
+#include <sys/auxv.h>
 #include <sys/stat.h>
 #include <sys/wait.h>
 #include <time.h>
@@ -181,10 +182,17 @@ static int run(char **line, const char *output, const char *errors) {
     return WIFEXITED(status) ? WEXITSTATUS(status) : 128 + WTERMSIG(status);
 }
 
+/* Finds this host's own file, also where /proc isn't there. */
+static void find_self(void) {
+    ssize_t size = readlink("/proc/self/exe", self, sizeof self - 1);
+    self[size < 0 ? 0 : size] = 0;
+    if (size < 0 && !realpath((const char *)getauxval(AT_EXECFN), self)) self[0] = 0;
+}
+
 /* Whether a file is this host under another name. */
 static int is_self(const char *path) {
-    char other[PATH_MAX];
-    return realpath(path, other) && !strcmp(self, other);
+    struct stat one, other;
+    return !stat(path, &one) && !stat(self, &other) && one.st_dev == other.st_dev && one.st_ino == other.st_ino;
 }
 
 /* The file of that name, where it can be run, by the usual search; a link to this host is none, and its name is searched. */
@@ -211,15 +219,17 @@ static int find_compiler(const char *name) {
 
 /* ---- What the program is told, and what it asks. */
 
-/* The folder of what is kept: GULMAAT_DIR, or gulmaat in the user's cache folder. */
+/* The folder of what is kept: GULMAAT_DIR, or gulmaat in the user's cache folder. Says why there is none. */
 static int find_kept(void) {
     const char *dir = getenv("GULMAAT_DIR"), *cache = getenv("XDG_CACHE_HOME"), *home = getenv("HOME");
-    int size;
+    int size = 0;
     if (dir && *dir) size = snprintf(kept, sizeof kept, "%s", dir);
     else if (cache && *cache == '/') size = snprintf(kept, sizeof kept, "%s/gulmaat", cache);
     else if (home && *home == '/') size = snprintf(kept, sizeof kept, "%s/.cache/gulmaat", home);
-    else return -1;
-    return kept[0] == '/' && size < PATH_MAX - 64 ? 0 : -1;
+    if (kept[0] == '/' && size < PATH_MAX - 64) return 0;
+    if (size) fprintf(stderr, "gulmaat: GULMAAT_DIR is %s: set it to an absolute path\n", dir && *dir ? dir : "too long");
+    else fputs("gulmaat: no folder to keep anything in: set GULMAAT_DIR to an absolute path, or HOME\n", stderr);
+    return -1;
 }
 
 /* Makes a folder, and those above it. */
@@ -391,43 +401,53 @@ static int start(const char *program, int *to, int *from, pid_t *child) {
     return 0;
 }
 
-/* The program that lies beside this host. */
-static const char *program_beside(void) {
-    static char program[PATH_MAX];
-    const char *named = getenv("GULMAAT_BIN"), *slash = strrchr(self, '/');
-    if (named) return named;
-    snprintf(program, sizeof program, "%.*s/gulmaat", slash ? (int)(slash - self) : 0, self);
-    return program;
+/* Whether this is a program that can be started, and not this host. */
+static int is_program(const char *path) {
+    struct stat state;
+    return !access(path, X_OK) && !stat(path, &state) && S_ISREG(state.st_mode) && !is_self(path);
 }
 
-/* Has the program do what an option says: its name, the folder of what is kept and the words behind it, of which a compiler's command
- * gets the compiler's file and the folder. */
-static int answer_option(int count, char **list) {
-    char **line = calloc(count + 3, sizeof *line), dir[PATH_MAX];
-    if (!line) return 127;
-    line[0] = "gulmaat";
-    line[1] = count < 2 ? "--help" : list[1];
-    if (strcmp(line[1], "--help")) {
-        if (find_kept()) {
-            fputs("gulmaat: no folder to keep anything in: GULMAAT_DIR names one by an absolute path, or HOME that of its user\n", stderr);
-            return 2;
-        }
-        line[2] = kept;
-        for (int i = 2; i < count; i++) line[i + 1] = list[i];
-        if (count > 2 && !strcmp(line[1], "--why")) {
-            words = list + 2;
-            if (find_compiler(words[0])) { perror(words[0]); return 127; }
-            if (!getcwd(dir, sizeof dir)) { perror("gulmaat"); return 2; }
-            line[3] = compiler;
-            line[4] = dir;
-            for (int i = 3; i < count; i++) line[i + 2] = list[i];
-        }
-        char folder[PATH_MAX];
-        snprintf(folder, sizeof folder, "%.*s/own", PATH_MAX - 64, kept);
-        remove_old(folder);
+/* The program: the one that GULMAAT_BIN names, or where an installation has it, or beside this host. Says where it isn't. */
+static const char *find_program(void) {
+    static char program[PATH_MAX];
+    const char *named = getenv("GULMAAT_BIN"), *slash = strrchr(self, '/');
+    int size = slash ? (int)(slash - self) : 0;
+    if (named && is_program(named)) return named;
+    if (named) {
+        fprintf(stderr, "gulmaat: its program isn't at %s: set GULMAAT_BIN to it\n", named);
+        return NULL;
     }
-    execv(program_beside(), line);
-    perror(program_beside());
+    snprintf(program, sizeof program, "%.*s/../lib/gulmaat/gulmaat", size, self);
+    if (is_program(program)) return program;
+    snprintf(program, sizeof program, "%.*s/gulmaat", size, self);
+    if (is_program(program)) return program;
+    fprintf(stderr, "gulmaat: its program isn't at %.*s/../lib/gulmaat/gulmaat nor, beside this, at %s: set GULMAAT_BIN to it, or run "
+        "bin/build\n", size, self, program);
+    return NULL;
+}
+
+/* Has the program do what options say. They stand behind this host's file, the program's, the folder of what is kept, the folder in which
+ * it is asked and, where what differed is asked for, the file of that compiler. */
+static int answer_options(int count, char **list) {
+    char **line = calloc(count + 8, sizeof *line), dir[PATH_MAX], folder[PATH_MAX];
+    const char *program = find_program();
+    int size = 0, asks_why = count > 2 && !strcmp(list[1], "--why");
+    if (!line || !program) return 127;
+    if (find_kept()) return 2;
+    if (!getcwd(dir, sizeof dir)) { perror("gulmaat"); return 2; }
+    if (asks_why) {
+        words = list + 2;
+        if (find_compiler(words[0])) { perror(words[0]); return 127; }
+    }
+    snprintf(folder, sizeof folder, "%.*s/own", PATH_MAX - 64, kept);
+    remove_old(folder);
+    char *before[] = {"gulmaat", self, (char *)program, kept, dir, asks_why ? compiler : ""};
+    for (size_t i = 0; i < sizeof before / sizeof *before; i++) line[size++] = before[i];
+    for (int i = 1; i < count; i++)
+        if (!asks_why || i != 2) line[size++] = list[i];
+    if (count < 2) line[size++] = "--help";
+    execv(program, line);
+    perror(program);
     return 127;
 }
 
@@ -435,15 +455,16 @@ int main(int count, char **list) {
     for (int file = 0; file < 3; file++)
         if (fcntl(file, F_GETFD) < 0 && open("/dev/null", O_RDWR) < 0) return 127;
     signal(SIGCHLD, SIG_DFL);
-    ssize_t size = readlink("/proc/self/exe", self, sizeof self - 1);
-    self[size < 0 ? 0 : size] = 0;
+    find_self();
     const char *name = strrchr(list[0], '/') ? strrchr(list[0], '/') + 1 : list[0];
     int is_link = strncmp(name, "gulmaat", 7) != 0;
     words = is_link ? list : list + 1;
-    if (!is_link && (count < 2 || !strncmp(list[1], "--", 2))) return answer_option(count, list);
+    if (!is_link && (count < 2 || list[1][0] == '-')) return answer_options(count, list);
     if (find_compiler(is_link ? name : words[0])) { perror(words[0]); return 127; }
     if (is_link) words[0] = compiler;
-    if (find_kept() || make_own()) pass_through();
+    const char *program = find_program();
+    if (!program || find_kept()) pass_through();
+    if (make_own()) { fprintf(stderr, "gulmaat: can't make a folder in %s: %s\n", kept, strerror(errno)); pass_through(); }
     watch(SIGINT);
     watch(SIGTERM);
     watch(SIGHUP);
@@ -452,7 +473,7 @@ int main(int count, char **list) {
 
     int to, from, status = 1 << 8;
     pid_t child;
-    if (start(program_beside(), &to, &from, &child)) pass_through();
+    if (start(program, &to, &from, &child)) { perror(program); pass_through(); }
     int compiled = send_message(to) ? -1 : answer_questions(from, to);
     close(to);
     close(from);

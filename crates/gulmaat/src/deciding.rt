@@ -17,6 +17,7 @@ use known_compilers::compilers::{compiler_at, kind_of};
 use loaded_files::outputs::{print_again, write_outputs};
 use os_files::listed::Listed;
 use os_files::os_bytes::OsBytes;
+use settings::key::Key;
 use sha2::Sha256;
 use std::alloc::Global;
 use std::io::Read;
@@ -137,7 +138,7 @@ fn finish_record<R: Files + AllocGlobal>(
         return Ok(folder.renew(rt, Kind::Records, name, line.moment)?);
     };
     put_record(rt, folder, line.zone.as_str(), name, key, entry)?;
-    Ok(make_room(&rt, folder.path.as_str(), name)?)
+    Ok(make_room(&rt, folder, name)?)
 }
 
 /// Keeps outputs that were made afresh, and gives those that were kept, each with what was printed beside them.
@@ -168,6 +169,9 @@ fn finish<R: Files + AllocGlobal>(
         let _ = finish_record(rt, line, answered.session.entries().newest(), name);
     }
     let _ = note_hint(rt, line, hint, &key.digest, name);
+    if fresh {
+        let _ = make_room(&rt, &line.folder, hint);
+    }
     Ok(())
 }
 
@@ -421,21 +425,18 @@ fn ask_until<P: Print + Files + AllocGlobal, I: Read>(
 
 /// The zone in which days are told, where direct mode is asked for.
 fn zone_of(line: &CommandLine) -> Option<Zone> {
-    if line.value_of(b"GULMAAT_DIRECT") != b"1".as_slice() {
+    if !line.settings.is_on(Key::DirectMode) {
         return None;
     }
     Zone::new(line.zone.as_str()).ok()
 }
 
-/// The folders that don't count: those that the variable names, with colons between them.
+/// The folders that don't count: those that are set, with colons between them.
 fn basedirs_of(alloc: Global, line: &CommandLine) -> Result<Listed<OsBytes>, Stop> {
     let mut folders = Listed::new(alloc);
-    for folder in line
-        .value_of(b"GULMAAT_BASEDIRS")
-        .split(|byte| *byte == b':')
-    {
+    for folder in line.settings.value_of(Key::BaseDir).split(':') {
         if !folder.is_empty() {
-            folders.push(OsBytes::from_slice(alloc, folder)?)?;
+            folders.push(OsBytes::from_slice(alloc, folder.as_bytes())?)?;
         }
     }
     Ok(folders)
@@ -534,6 +535,9 @@ pub fn decide<P: Print + Files + AllocGlobal, I: Read>(
     // The host is asked to compile at most once, whatever it, the disk and the compiler do.
     ensures once { host.new.compiled ≤ 1 }
 {
+    if line.settings.is_on(Key::Disable) {
+        return pass(rt.alloc(), "pass: disabled");
+    }
     if let Some(reason) = reason_against(rt.alloc(), line)? {
         return Ok(End::Pass(format!(in rt.alloc(); "pass: {reason}")?));
     }

@@ -10,6 +10,7 @@ use kept_folder::limit::takes;
 use kept_folder::making_room::make_room;
 use kept_pairs::entries::{Kept, entry_of, kept_of};
 use os_files::os_bytes::OsBytes;
+use settings::key::Key;
 use sha2::Sha256;
 use std::alloc::Global;
 use std::rt::Files;
@@ -39,13 +40,17 @@ pub fn hint_name(alloc: Global, line: &CommandLine) -> Result<String, Stop> {
     Ok(digest_of(alloc, row.as_slice())?)
 }
 
-/// What is kept under this digest, where the preprocessor printed these messages then: it may print others beside the same text.
+/// What is kept under this digest, where the preprocessor printed these messages then: it may print others beside the same text. Nothing
+/// where all is to be kept anew.
 pub fn found<R: Files + AllocGlobal>(
     rt: &R,
     line: &CommandLine,
     digest: OsBytes,
     messages: &[u8],
 ) -> Result<Option<Kept>, Stop> {
+    if line.settings.is_on(Key::Recache) {
+        return Ok(None);
+    }
     let name = into_text(digest)?;
     let Ok(bytes) = line.folder.read(rt, Kind::Entries, name.as_str()) else {
         return Ok(None);
@@ -123,12 +128,12 @@ pub fn keep<R: Files + AllocGlobal>(
     let bytes = entry_bytes::<Sha256>(rt.alloc(), &entry)?;
     let name = into_text(key.digest.clone()?)?;
     let folder = &line.folder;
-    if !takes(rt, folder.path.as_str(), bytes.len() as u64)? {
+    if !takes(folder.limit, bytes.len() as u64) {
         return Ok(());
     }
     folder.put(rt, Kind::Entries, name.as_str(), bytes.as_slice())?;
     // What was made is there, whatever becomes of the limit.
-    let _ = make_room(&rt, folder.path.as_str(), name.as_str());
+    let _ = make_room(&rt, folder, name.as_str());
     Ok(())
 }
 

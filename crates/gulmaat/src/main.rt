@@ -1,27 +1,32 @@
 //! The program `gulmaat`: decides on one command line of a compiler, whose steps its host runs for it.
 //!
-//! With no arguments it talks with its host over standard input and output. `--show FOLDER` prints what happened so far with what is
-//! kept in that folder, `--limit FOLDER SIZE` sets how much that may be, and `--clear FOLDER` takes all of it away. `--why FOLDER
-//! EXECUTABLE DIR WORD..` says what differed at the last call of that command in the folder `DIR` that was compiled.
+//! With no arguments it talks with its host over standard input and output. With them it does what a user's options ask for: they stand
+//! behind the host's own file, the program's, the folder of what is kept, the folder in which it is asked and, for `--why`, the compiler's
+//! file. `--help` stands alone too.
 #![tactic(auto)]
 
 ghost use Rattle.std.specs.Prelude.{◌≡◌};
 
 mod answering;
+mod counting;
 mod deciding;
-mod happened;
 mod kept;
 mod known;
 mod passing;
 mod why;
 
+use counting::note;
 use deciding::{End, decide};
-use happened::{clear, note, set, show};
+use settings::reading::read_settings;
 use std::env;
+use std::fmt::Display;
+use std::fs::File;
 use std::io::Read;
 use std::process::ExitCode;
 use std::rt::{Clock, Env, Files};
 use std::time::SystemTime;
+use user_options::doing::{Caller, do_options};
+use user_options::help::help;
 use why::why;
 use wrapper_host::command_line::CommandLine;
 use wrapper_host::host::Host;
@@ -36,20 +41,6 @@ const PASS: u8 = 12;
 /// The status of a program that couldn't do what its arguments say.
 const FAILED: u8 = 2;
 
-const HELP: &str = "\
-gulmaat COMPILER WORD..   runs the compiler, or gives the outputs that are kept of it
-gulmaat --show            what happened so far, in falling order, and how much is kept
-gulmaat --why COMMAND ..  what differed, at the last call with the outputs of this command that was compiled, from the one before it
-gulmaat --limit SIZE      keeps no more than that: bytes, or a number with k, M or G behind it; 0 is no limit
-gulmaat --clear           takes away all that is kept
-gulmaat --help            prints this
-
-Outputs are kept in the folder that GULMAAT_DIR names, or else in gulmaat in the user's cache folder: 5G of them where no limit was set,
-of which the least recently used ones go first. With GULMAAT_DIRECT=1 no preprocessor runs where the files that it read last are as they
-were: docs/WRAPPER.md says what that can't see. Folders that GULMAAT_BASEDIRS names, with colons between them, don't count in what is
-compared.
-";
-
 fn main(rt: HostRuntime) -> ExitCode {
     let args = match arguments(&rt) {
         Ok(args) => args,
@@ -59,40 +50,40 @@ fn main(rt: HostRuntime) -> ExitCode {
 }
 
 /// Does what the arguments say.
-fn run<R: Print + Eprint + Input + Files + Clock + AllocGlobal>(
-    rt: &R,
-    args: &[String],
-) -> ExitCode {
-    let Some((word, rest)) = args.split_first() else {
-        return talk(rt);
-    };
-    match asked(rt, word.as_str(), rest) {
-        Ok(()) => ExitCode::SUCCESS,
-        Err(stop) => {
-            let _ = eprintln!(rt; "gulmaat: {stop}");
-            ExitCode::from(FAILED)
+fn run<R>(rt: &R, args: &[String]) -> ExitCode
+where
+    R: Print + Eprint + Input + Files<File = File> + Env + Clock + AllocGlobal + Clone + Drop,
+{
+    match args {
+        [] => talk(rt),
+        [_] => ended(rt, &help(rt)),
+        [host, program, kept, dir, compiler, words @ ..] => {
+            let caller = Caller {
+                host: host.as_str(),
+                program: program.as_str(),
+                kept: kept.as_str(),
+                dir: dir.as_str(),
+            };
+            match words.split_first() {
+                Some((word, command)) if word.as_str() == "--why" => ended(
+                    rt,
+                    &why(rt, kept.as_str(), compiler.as_str(), dir.as_str(), command),
+                ),
+                _ => ended(rt, &do_options(rt, &caller, words)),
+            }
         }
+        _ => ExitCode::from(FAILED),
     }
 }
 
-/// Does what a user asks for, with what is kept in the folder that is named behind that.
-fn asked<R: Print + Files + AllocGlobal>(rt: &R, word: &str, rest: &[String]) -> Result<(), Stop> {
-    let Some((kept, rest)) = rest.split_first() else {
-        return match word {
-            "--help" => help(rt),
-            _ => Err(Stop::Option),
-        };
-    };
-    match (word, rest) {
-        ("--show", []) => show(rt, kept.as_str()),
-        ("--clear", []) => clear(rt, kept.as_str()),
-        ("--why", [executable, dir, words @ ..]) => {
-            why(rt, kept.as_str(), executable.as_str(), dir.as_str(), words)
+/// Says why what a user asked for wasn't done, if so.
+fn ended<R: Eprint, E: Display + Drop>(rt: &R, done: &Result<(), E>) -> ExitCode {
+    match done {
+        Ok(()) => ExitCode::SUCCESS,
+        Err(error) => {
+            let _ = eprintln!(rt; "gulmaat: {error}");
+            ExitCode::from(FAILED)
         }
-        ("--why", _) => Err(Stop::Command),
-        ("--limit", [size]) => set(rt, kept.as_str(), size.as_str()),
-        ("--limit", _) => Err(Stop::Size),
-        (_, _) => Err(Stop::Option),
     }
 }
 
@@ -100,11 +91,6 @@ fn asked<R: Print + Files + AllocGlobal>(rt: &R, word: &str, rest: &[String]) ->
 fn arguments<R: Env + AllocGlobal>(rt: &R) -> Result<Vec<String>, Stop> {
     let words = env::args(rt)?;
     Ok(words.skip(1).collect(rt.alloc())?)
-}
-
-fn help<R: Print>(rt: &R) -> Result<(), Stop> {
-    print!(rt; "{HELP}")?;
-    Ok(())
 }
 
 /// The command line that the host asks about.
@@ -118,14 +104,31 @@ fn line_from<R: Clock + AllocGlobal, I: Read>(
     CommandLine::read(rt.alloc(), message.as_slice(), SystemTime::now(rt)?)
 }
 
-/// Decides on the command line that the host asks about, and notes what it came to.
-fn talk<R: Print + Input + Files + Clock + AllocGlobal>(rt: &R) -> ExitCode {
+/// Has the line take what a user sets. False where that is wrong, which is said.
+fn set_line<R: Eprint + Files + AllocGlobal>(rt: &R, line: &mut CommandLine) -> bool {
+    match read_settings(rt, &line.variables()) {
+        Ok(settings) => line.take_settings(rt.alloc(), settings).is_ok(),
+        Err(error) => {
+            let _ = eprintln!(rt; "gulmaat: {error}");
+            false
+        }
+    }
+}
+
+/// Decides on the command line that the host asks about, and counts what it came to.
+fn talk<R>(rt: &R) -> ExitCode
+where
+    R: Print + Eprint + Input + Files<File = File> + Clock + AllocGlobal,
+{
     let mut host = Host::new(rt.reader());
-    let Ok(line) = line_from(rt, &mut host) else {
+    let Ok(mut line) = line_from(rt, &mut host) else {
         return ExitCode::from(PASS);
     };
+    if !set_line(rt, &mut line) {
+        return ExitCode::from(PASS);
+    }
     let end = decide(rt, &line, &mut host);
-    let _ = note(rt, line.folder.path.as_str(), &end);
+    let _ = note(rt, &line, &end);
     match end {
         Ok(End::Done(_)) => ExitCode::from(DONE),
         Ok(End::Pass(_)) | Err(_) => ExitCode::from(PASS),

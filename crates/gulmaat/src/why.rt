@@ -9,6 +9,7 @@ use cmdlines_requests::parsed::ParsedArguments;
 use differences::difference::Difference;
 use kept_entries::kept_parts::KeptParts;
 use kept_folder::folder::KeptFolder;
+use kept_folder::making_room::make_room;
 use kept_pairs::part_files::{name_of_parts, parts_under, put_parts};
 use kept_pairs::parts::{kept_parts, parts_of};
 use kept_pairs::short_text::{TextDifference, short_text};
@@ -104,7 +105,8 @@ fn note_parts<R: Files + AllocGlobal>(
     let earlier = parts_under(rt, folder, name)?;
     let difference = difference_from(rt.alloc(), one, earlier)?;
     let kept = kept_parts(rt.alloc(), parts, difference)?;
-    Ok(put_parts(rt, folder, name, &kept)?)
+    put_parts(rt, folder, name, &kept)?;
+    Ok(make_room(&rt, folder, name)?)
 }
 
 /// Keeps of what the key of a request was made that was compiled, by its fingerprint, and what differs from the call before it with these
@@ -179,10 +181,8 @@ fn kept_at<R: Files + AllocGlobal>(
     outputs: &[(OsBytes, ArtifactDescriptor)],
 ) -> Result<Option<KeptParts>, Stop> {
     let name = name_of_parts(rt.alloc(), dir, outputs)?;
-    let folder = KeptFolder {
-        path: String::from_str(rt.alloc(), kept)?,
-        own: String::new(rt.alloc()),
-    };
+    let path = String::from_str(rt.alloc(), kept)?;
+    let folder = KeptFolder::new(path, String::new(rt.alloc()));
     Ok(parts_under(rt, &folder, name.as_str())?)
 }
 

@@ -2,6 +2,7 @@
 
 use crate::error::FolderError;
 use std::alloc::Global;
+use std::cell::Cell;
 use std::fs;
 use std::fs::{FileTimes, OpenFile};
 use std::rt::Files;
@@ -25,6 +26,16 @@ pub enum Kind {
 }
 
 impl Kind {
+    /// All kinds.
+    pub const ALL: [Kind; 6] = [
+        Kind::Entries,
+        Kind::Records,
+        Kind::Fingerprints,
+        Kind::Hints,
+        Kind::Compilers,
+        Kind::Parts,
+    ];
+
     /// The folder's name.
     pub fn name(self) -> &'static str {
         match self {
@@ -44,6 +55,12 @@ pub struct KeptFolder {
     pub path: String,
     /// What makes names of files this process's own.
     pub own: String,
+    /// How many bytes all that is kept may take on the disk; 0 is no limit.
+    pub limit: u64,
+    /// Whether nothing is put here.
+    pub is_read_only: bool,
+    /// Whether this process took files away to hold the limit.
+    pub has_made_room: Cell<bool>,
 }
 
 /// Where a file lies: under the first two letters of its name.
@@ -54,6 +71,17 @@ struct Place {
 }
 
 impl KeptFolder {
+    /// The folder of this path, without a limit.
+    pub fn new(path: String, own: String) -> KeptFolder {
+        KeptFolder {
+            path,
+            own,
+            limit: 0,
+            is_read_only: false,
+            has_made_room: Cell::new(false),
+        }
+    }
+
     fn place(&self, alloc: Global, kind: Kind, name: &str) -> Result<Place, FolderError> {
         let Some((front, end)) = name.split_at_checked(2) else {
             return Err(FolderError::Unreadable);
@@ -66,7 +94,7 @@ impl KeptFolder {
     }
 
     /// Puts bytes in a file all at once: they are written under a name of this process, which is renamed. So whoever reads it has all of
-    /// the old bytes or all of the new ones.
+    /// the old bytes or all of the new ones. Where nothing is to be put here nothing is done.
     pub fn put<R: Files + AllocGlobal>(
         &self,
         rt: &R,
@@ -74,6 +102,9 @@ impl KeptFolder {
         name: &str,
         bytes: &[u8],
     ) -> Result<(), FolderError> {
+        if self.is_read_only {
+            return Ok(());
+        }
         let Place { folder, file } = self.place(rt.alloc(), kind, name)?;
         let own = self.own.as_str();
         let early = format!(in rt.alloc(); "{file}.{own}")?;
@@ -99,7 +130,7 @@ impl KeptFolder {
         Ok(fs::read(rt, place.file.as_str())?)
     }
 
-    /// Notes that a file was used at that moment.
+    /// Notes that a file was used at that moment, where anything is to be put here.
     pub fn renew<R: Files + AllocGlobal>(
         &self,
         rt: &R,
@@ -107,6 +138,9 @@ impl KeptFolder {
         name: &str,
         moment: SystemTime,
     ) -> Result<(), FolderError> {
+        if self.is_read_only {
+            return Ok(());
+        }
         let place = self.place(rt.alloc(), kind, name)?;
         let file = fs::open(rt, place.file.as_str())?;
         Ok(file.set_times(FileTimes::new().set_modified(moment))?)

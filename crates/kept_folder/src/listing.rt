@@ -7,9 +7,13 @@ ghost use Rattle.kept_folder.specs.Together.{bytes_together, used_later};
 use crate::error::FolderError;
 use crate::folder::Kind;
 use std::alloc::Global;
+use std::os::unix::fs::MetadataExt;
 use std::rt::Files;
 use std::time::{SystemTime, UNIX_EPOCH};
 use std::{fs, io};
+
+/// The bytes in which a system counts what files take on the disk.
+const BLOCK: u64 = 512;
 
 /// A file that is kept.
 #[derive(Drop)]
@@ -17,7 +21,7 @@ pub struct KeptFile {
     pub place: String,
     /// The number of the folder that it lies in.
     pub row: u8,
-    /// In bytes.
+    /// The bytes that it takes on the disk, in whole blocks.
     pub size: u64,
     /// When it was used last, in nanoseconds since 1970.
     pub used: u128,
@@ -49,7 +53,7 @@ fn file_in<R: Files>(
     if !metadata.is_file() {
         return Ok(None);
     }
-    let size = metadata.len();
+    let size = metadata.blocks().saturating_mul(BLOCK);
     let used = nanoseconds(metadata.modified());
     Ok(Some(KeptFile {
         place,
@@ -60,7 +64,7 @@ fn file_in<R: Files>(
 }
 
 /// Adds the files of that kind whose names begin with the two letters of this number.
-pub fn files_in_row<R: Files + AllocGlobal + Clone + Drop>(
+fn files_in_row<R: Files + AllocGlobal + Clone + Drop>(
     rt: &R,
     path: &str,
     kind: Kind,
@@ -85,15 +89,27 @@ pub fn files_in_row<R: Files + AllocGlobal + Clone + Drop>(
     Ok(())
 }
 
-/// All files of that kind.
+/// Adds the files of each kind whose names begin with the two letters of this number.
+pub fn add_row<R: Files + AllocGlobal + Clone + Drop>(
+    rt: &R,
+    path: &str,
+    row: u8,
+    files: &mut Vec<KeptFile>,
+) -> Result<(), FolderError> {
+    for kind in Kind::ALL {
+        files_in_row(rt, path, kind, row, files)?;
+    }
+    Ok(())
+}
+
+/// All files that are kept.
 pub fn all_files<R: Files + AllocGlobal + Clone + Drop>(
     rt: &R,
     path: &str,
-    kind: Kind,
 ) -> Result<Vec<KeptFile>, FolderError> {
     let mut files = Vec::new(rt.alloc());
     for row in 0..=u8::MAX {
-        files_in_row(rt, path, kind, row, &mut files)?;
+        add_row(rt, path, row, &mut files)?;
     }
     Ok(files)
 }

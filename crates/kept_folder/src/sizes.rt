@@ -1,4 +1,4 @@
-//! How many bytes the entries and records have whose names begin with the same two letters, in one file: 256 numbers of eight bytes, low
+//! How many bytes of the disk the files take whose names begin with the same two letters, in one file: 256 numbers of eight bytes, low
 //! byte first.
 
 ghost use Rattle.std.specs.Prelude.{◌≡◌, sum};

@@ -5,6 +5,9 @@ use crate::stop::Stop;
 use kept_folder::folder::KeptFolder;
 use os_files::listed::Listed;
 use os_files::os_bytes::OsBytes;
+use settings::key::Key;
+use settings::places::Variables;
+use settings::settings::Settings;
 use std::alloc::Global;
 use std::time::{SystemTime, UNIX_EPOCH};
 
@@ -28,10 +31,31 @@ pub struct CommandLine {
     pub env: Listed<(OsBytes, OsBytes)>,
     /// How far local clocks are from UTC now, as the rule of a zone.
     pub zone: String,
+    /// What a user sets.
+    pub settings: Settings,
+}
+
+/// The variables of a command line.
+#[derive(Clone, Copy)]
+pub struct LineVariables<'a> {
+    pairs: &'a [(OsBytes, OsBytes)],
+}
+
+impl<'a> Variables for LineVariables<'a> {
+    fn value_of(&self, name: &str) -> Option<&str> {
+        let pair = self
+            .pairs
+            .iter()
+            .find(|pair| pair.0.as_bytes() == name.as_bytes())?;
+        match str::from_utf8(pair.1.as_bytes()) {
+            Ok(value) if !value.is_empty() => Some(value),
+            _ => None,
+        }
+    }
 }
 
 impl CommandLine {
-    /// The one that the message tells, at that moment.
+    /// The one that the message tells, at that moment. Nothing is set yet.
     pub fn read(alloc: Global, message: &[u8], moment: SystemTime) -> Result<CommandLine, Stop> {
         let mut fields = Fields::of(message);
         let path = fields.text(alloc)?;
@@ -45,7 +69,7 @@ impl CommandLine {
         let env = fields.pairs(alloc)?;
         let zone = fields.text(alloc)?;
         Ok(CommandLine {
-            folder: KeptFolder { path, own },
+            folder: KeptFolder::new(path, own),
             moment,
             text,
             errors,
@@ -55,7 +79,27 @@ impl CommandLine {
             words,
             env,
             zone,
+            settings: Settings::new(alloc),
         })
+    }
+
+    /// Its variables.
+    pub fn variables(&self) -> LineVariables<'_> {
+        LineVariables {
+            pairs: self.env.as_slice(),
+        }
+    }
+
+    /// Takes what a user sets: where things are kept and how much, and the rest.
+    pub fn take_settings(&mut self, alloc: Global, settings: Settings) -> Result<(), Stop> {
+        let dir = settings.value_of(Key::CacheDir);
+        if !dir.is_empty() {
+            self.folder.path = String::from_str(alloc, dir)?;
+        }
+        self.folder.limit = settings.max_size();
+        self.folder.is_read_only = settings.is_on(Key::ReadOnly);
+        self.settings = settings;
+        Ok(())
     }
 
     /// The moment in whole seconds since the start of 1970 in UTC, and 0 where it was before.

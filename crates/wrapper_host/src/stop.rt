@@ -20,12 +20,8 @@ pub enum Stop {
     Parts,
     /// A folder that isn't to count isn't absolute, or is only slashes.
     Folder,
-    /// A size is none.
-    Size,
     /// No command is there to tell of.
     Command,
-    /// An option is none of this program's, or takes no words.
-    Option,
 }
 
 impl fmt::Display for Stop {
@@ -36,11 +32,8 @@ impl fmt::Display for Stop {
             Stop::Unreadable => "a path or a message is no text",
             Stop::TakesFiles => "the text takes in files",
             Stop::Parts => "the compiler doesn't name its parts",
-            Stop::Folder =>
-                "a folder that GULMAAT_BASEDIRS names isn't absolute, or is only slashes",
-            Stop::Size => "a size is a number of bytes, or a number with k, M or G behind it",
+            Stop::Folder => "a folder that base_dir names isn't absolute, or is only slashes",
             Stop::Command => "--why takes a compiler's command: --help tells all",
-            Stop::Option => "no such option, or words behind one that takes none: --help tells all",
         })
     }
 }

@@ -1,0 +1,112 @@
+//! What a call came to is counted, and told in a line of the log where one is kept.
+
+use crate::deciding::End;
+use settings::key::Key;
+use statistics::calls::counters_of;
+use statistics::file::count;
+use std::alloc::Global;
+use std::fs::{File, OpenOptions};
+use std::io::Write;
+use std::rt::{Clock, Files};
+use std::time::SystemTime;
+use wrap::How;
+use wrapper_host::command_line::CommandLine;
+use wrapper_host::stop::Stop;
+
+/// The counter of a call whose outputs are there.
+fn counter_of(line: &CommandLine, how: How) -> &'static str {
+    match how {
+        How::Direct => "direct_cache_hit",
+        How::Stored => "preprocessed_cache_hit",
+        How::Fresh if line.settings.is_on(Key::Recache) => "recache",
+        How::Fresh => "cache_miss",
+    }
+}
+
+/// Why a call was passed through; nothing where its outputs are there.
+fn reason_of(alloc: Global, end: &Result<End, Stop>) -> Result<String, Stop> {
+    match end {
+        Ok(End::Done(_)) => Ok(String::new(alloc)),
+        Ok(End::Pass(reason)) => Ok(String::from_str(alloc, reason.as_str())?),
+        Err(stop) => Ok(format!(in alloc; "stop: {stop}")?),
+    }
+}
+
+/// The counters of a call.
+fn counters(
+    alloc: Global,
+    line: &CommandLine,
+    end: &Result<End, Stop>,
+    reason: &str,
+) -> Result<Vec<String>, Stop> {
+    let Ok(End::Done(how)) = end else {
+        return Ok(counters_of(alloc, reason, line.words.as_slice())?);
+    };
+    let mut counters = Vec::new(alloc);
+    counters.push(String::from_str(alloc, counter_of(line, *how))?)?;
+    if line.folder.has_made_room.get() {
+        counters.push(String::from_str(alloc, "cleanups_performed")?)?;
+    }
+    Ok(counters)
+}
+
+/// How many milliseconds went by since the call began.
+fn milliseconds<R: Clock>(rt: &R, line: &CommandLine) -> u128 {
+    let Ok(now) = SystemTime::now(rt) else {
+        return 0;
+    };
+    match now.duration_since(line.moment) {
+        Ok(since) => since.as_millis(),
+        Err(_) => 0,
+    }
+}
+
+/// Puts a line into the log: when, what it came to, how long it took, the command, and why where it was passed through.
+fn log<R: Files + Clock + AllocGlobal>(
+    rt: &R,
+    line: &CommandLine,
+    counter: &str,
+    reason: &str,
+) -> Result<(), Stop> {
+    let alloc = rt.alloc();
+    let second = line.second();
+    let time = milliseconds(rt, line);
+    let executable = line.executable.as_str();
+    let mut text = format!(in alloc; "{second} {counter} {time} ms: {executable}")?;
+    for word in line.words.as_slice() {
+        let word = word.clone()?;
+        text.push_str(format!(in alloc; " {word}")?.as_str())?;
+    }
+    if !reason.is_empty() {
+        text.push_str(format!(in alloc; " ({reason})")?.as_str())?;
+    }
+    text.push('\n')?;
+    let mut options = OpenOptions::new();
+    options.append(true).create(true);
+    let mut file = options.open(rt, line.settings.value_of(Key::LogFile))?;
+    Ok(file.write_all(text.as_bytes())?)
+}
+
+/// Counts what a call came to, and logs it, as the settings have it.
+pub fn note<R: Files<File = File> + Clock + AllocGlobal>(
+    rt: &R,
+    line: &CommandLine,
+    end: &Result<End, Stop>,
+) -> Result<(), Stop> {
+    let alloc = rt.alloc();
+    let reason = reason_of(alloc, end)?;
+    let counters = counters(alloc, line, end, reason.as_str())?;
+    let mut names = Vec::new(alloc);
+    for counter in counters.as_slice() {
+        names.push(counter.as_str())?;
+    }
+    if !line.settings.value_of(Key::LogFile).is_empty() {
+        if let Some(first) = names.first() {
+            let _ = log(rt, line, first, reason.as_str());
+        }
+    }
+    if line.settings.is_on(Key::Stats) {
+        let _ = count(rt, line.folder.path.as_str(), names.as_slice());
+    }
+    Ok(())
+}

@@ -1,0 +1,136 @@
+//! The keys that can be set.
+
+use crate::values::{size_named, truth_named};
+
+/// A key, with ccache's name where it means the same.
+#[derive(Clone, Copy, PartialEq, Eq)]
+pub enum Key {
+    /// Folders that don't count in what is compared, with colons between them.
+    BaseDir,
+    /// The folder of what is kept.
+    CacheDir,
+    /// Whether records are used, so that a hit needs no preprocessor.
+    DirectMode,
+    /// Whether each call is the compiler's own.
+    Disable,
+    /// The file that gets a line for each call; none where it is empty.
+    LogFile,
+    /// How much is kept.
+    MaxSize,
+    /// Whether nothing is kept that isn't yet.
+    ReadOnly,
+    /// Whether nothing that is kept is given, and all is kept anew.
+    Recache,
+    /// Whether calls are counted.
+    Stats,
+}
+
+/// What the values of a key are.
+#[derive(Clone, Copy, PartialEq, Eq)]
+pub enum Kind {
+    Truth,
+    Size,
+    /// An absolute path, or nothing.
+    Path,
+    /// Absolute paths with colons between them, or nothing.
+    Paths,
+}
+
+impl Key {
+    /// All of them, in the order of their names.
+    pub const ALL: [Key; 9] = [
+        Key::BaseDir,
+        Key::CacheDir,
+        Key::DirectMode,
+        Key::Disable,
+        Key::LogFile,
+        Key::MaxSize,
+        Key::ReadOnly,
+        Key::Recache,
+        Key::Stats,
+    ];
+
+    /// Its name in a file.
+    pub fn name(self) -> &'static str {
+        match self {
+            Key::BaseDir => "base_dir",
+            Key::CacheDir => "cache_dir",
+            Key::DirectMode => "direct_mode",
+            Key::Disable => "disable",
+            Key::LogFile => "log_file",
+            Key::MaxSize => "max_size",
+            Key::ReadOnly => "read_only",
+            Key::Recache => "recache",
+            Key::Stats => "stats",
+        }
+    }
+
+    /// Its variable.
+    pub fn variable(self) -> &'static str {
+        match self {
+            Key::BaseDir => "GULMAAT_BASEDIRS",
+            Key::CacheDir => "GULMAAT_DIR",
+            Key::DirectMode => "GULMAAT_DIRECT",
+            Key::Disable => "GULMAAT_DISABLE",
+            Key::LogFile => "GULMAAT_LOGFILE",
+            Key::MaxSize => "GULMAAT_MAXSIZE",
+            Key::ReadOnly => "GULMAAT_READONLY",
+            Key::Recache => "GULMAAT_RECACHE",
+            Key::Stats => "GULMAAT_STATS",
+        }
+    }
+
+    /// Its value where none is set.
+    pub fn usual(self) -> &'static str {
+        match self {
+            Key::BaseDir | Key::CacheDir | Key::LogFile => "",
+            Key::DirectMode | Key::Disable | Key::ReadOnly | Key::Recache => "false",
+            Key::MaxSize => "5G",
+            Key::Stats => "true",
+        }
+    }
+
+    /// What its values are.
+    pub fn kind(self) -> Kind {
+        match self {
+            Key::BaseDir => Kind::Paths,
+            Key::CacheDir | Key::LogFile => Kind::Path,
+            Key::MaxSize => Kind::Size,
+            Key::DirectMode | Key::Disable | Key::ReadOnly | Key::Recache | Key::Stats =>
+                Kind::Truth,
+        }
+    }
+
+    /// The key of that name.
+    pub fn named(name: &str) -> Option<Key> {
+        Key::ALL.iter().copied().find(|key| key.name() == name)
+    }
+}
+
+/// Whether a path is absolute, or nothing.
+fn is_path(text: &str) -> bool {
+    text.is_empty() || text.starts_with('/')
+}
+
+impl Kind {
+    /// What is right, for people.
+    pub fn wanted(self) -> &'static str {
+        match self {
+            Kind::Truth => "1, yes, true or on, or 0, no, false or off",
+            Kind::Size =>
+                "a whole number with k, M, G, T, Ki, Mi, Gi or Ti behind it, or none for G; 0 is no limit",
+            Kind::Path => "an absolute path",
+            Kind::Paths => "absolute paths with colons between them",
+        }
+    }
+
+    /// Whether a text is such a value.
+    pub fn allows(self, text: &str) -> bool {
+        match self {
+            Kind::Truth => truth_named(text).is_some(),
+            Kind::Size => size_named(text).is_some(),
+            Kind::Path => is_path(text),
+            Kind::Paths => text.split(':').all(is_path),
+        }
+    }
+}

@@ -1,0 +1,145 @@
+//! The file of records, which processes write at once: whoever writes holds its lock, and sees first that it is still the file of that name,
+//! since records are folded into a new one.
+
+use crate::counts::Counts;
+use crate::error::StatisticsError;
+use crate::names::ZEROED;
+use crate::record::{SIZE, put_record};
+use std::alloc::Global;
+use std::fs::{File, OpenOptions};
+use std::io::{ErrorKind, Read, Write};
+use std::os::unix::fs::MetadataExt;
+use std::rt::Files;
+use std::{fs, io};
+
+/// A file that is longer is folded.
+const LONG: u64 = 64 * 1024;
+
+/// How often the file is opened again, where another process has folded it meanwhile.
+const TRIES: u32 = 1000;
+
+/// Where it lies in the folder of this path.
+fn place_of(alloc: Global, path: &str) -> Result<String, StatisticsError> {
+    Ok(format!(in alloc; "{path}/statistics")?)
+}
+
+/// Where it lies in the folder of this path, which is made where it isn't there.
+fn place_in<R: Files + AllocGlobal>(rt: &R, path: &str) -> Result<String, StatisticsError> {
+    if fs::metadata(rt, path).is_err() {
+        fs::create_dir_all(rt, path)?;
+    }
+    place_of(rt.alloc(), path)
+}
+
+/// Opens the file of that name, to be read and to have records put behind the others.
+fn open_file<R: Files<File = File>>(rt: &R, place: &str) -> io::Result<File> {
+    let mut options = OpenOptions::new();
+    options.read(true).append(true).create(true);
+    options.open(rt, place)
+}
+
+/// Opens the file of that name and waits for its lock, which it has until it is closed. Nothing where it isn't the one of that name any more.
+fn lock_once<R: Files<File = File>>(rt: &R, place: &str) -> Result<Option<File>, StatisticsError> {
+    let file = open_file(rt, place)?;
+    file.lock()?;
+    let held = file.metadata()?;
+    match fs::metadata(rt, place) {
+        Ok(named) if named.ino() == held.ino() && named.dev() == held.dev() => Ok(Some(file)),
+        _ => Ok(None),
+    }
+}
+
+/// The file of that name, with its lock.
+fn locked<R: Files<File = File>>(rt: &R, place: &str) -> Result<File, StatisticsError> {
+    for _ in 0..TRIES {
+        if let Some(file) = lock_once(rt, place)? {
+            return Ok(file);
+        }
+    }
+    Err(StatisticsError::Device)
+}
+
+/// Puts these records in the place of the file all at once, whose lock is held. Whoever waits for that opens the new one then.
+fn replace<R: Files + AllocGlobal>(
+    rt: &R,
+    place: &str,
+    bytes: &[u8],
+) -> Result<(), StatisticsError> {
+    let early = format!(in rt.alloc(); "{place}.new")?;
+    fs::write(rt, early.as_str(), bytes)?;
+    Ok(fs::rename(rt, early.as_str(), place)?)
+}
+
+/// The bytes of a file, from its start.
+fn bytes_of(alloc: Global, file: &mut File) -> Result<Vec<u8>, StatisticsError> {
+    let mut bytes = Vec::new(alloc);
+    file.read_to_end(&mut bytes)?;
+    Ok(bytes)
+}
+
+/// Folds the records of the file, whose lock is held.
+fn fold<R: Files + AllocGlobal>(
+    rt: &R,
+    place: &str,
+    file: &mut File,
+) -> Result<(), StatisticsError> {
+    let bytes = bytes_of(rt.alloc(), file)?;
+    let counts = Counts::read(rt.alloc(), bytes.as_slice())?;
+    replace(rt, place, counts.records(rt.alloc())?.as_slice())
+}
+
+/// Counts these names once more each. A record that a full disk cut short is taken away first.
+pub fn count<R: Files<File = File> + AllocGlobal>(
+    rt: &R,
+    path: &str,
+    names: &[&str],
+) -> Result<(), StatisticsError> {
+    let place = place_in(rt, path)?;
+    let mut file = locked(rt, place.as_str())?;
+    let size = file.metadata()?.len();
+    let rest = size % SIZE as u64;
+    if rest != 0 {
+        file.set_len(size - rest)?;
+    }
+    let mut records = Vec::new(rt.alloc());
+    for name in names {
+        put_record(&mut records, name.as_bytes(), 1)?;
+    }
+    file.write_all(records.as_slice())?;
+    if size > LONG {
+        fold(rt, place.as_str(), &mut file)?;
+    }
+    Ok(())
+}
+
+/// What was counted so far in the folder of this path; nothing where there is no file.
+pub fn counts_at<R: Files + AllocGlobal>(rt: &R, path: &str) -> Result<Counts, StatisticsError> {
+    let place = place_of(rt.alloc(), path)?;
+    match fs::read(rt, place.as_str()) {
+        Ok(bytes) => Ok(Counts::read(rt.alloc(), bytes.as_slice())?),
+        Err(error) if error.kind() == ErrorKind::NotFound => Ok(Counts::new(rt.alloc())),
+        Err(_) => Err(StatisticsError::Device),
+    }
+}
+
+/// When a counter moved last, in seconds since 1970; 0 where none did.
+pub fn updated_at<R: Files + AllocGlobal>(rt: &R, path: &str) -> Result<u64, StatisticsError> {
+    let place = place_of(rt.alloc(), path)?;
+    match fs::metadata(rt, place.as_str()) {
+        Ok(metadata) => Ok(u64::try_from(metadata.mtime()).unwrap_or(0)),
+        Err(_) => Ok(0),
+    }
+}
+
+/// Begins to count at 0 again, and notes that this was at that second since 1970.
+pub fn zero<R: Files<File = File> + AllocGlobal>(
+    rt: &R,
+    path: &str,
+    second: u64,
+) -> Result<(), StatisticsError> {
+    let place = place_in(rt, path)?;
+    let _file = locked(rt, place.as_str())?;
+    let mut records = Vec::new(rt.alloc());
+    put_record(&mut records, ZEROED.as_bytes(), second)?;
+    replace(rt, place.as_str(), records.as_slice())
+}

@@ -1,0 +1,113 @@
+//! Options as they are read from words, in order. `-zs` is `-z -s`, `-M5G` is `-M 5G`, and `--max-size=5G` is `--max-size 5G`.
+
+use crate::asked::Asked;
+use crate::error::OptionError;
+use std::alloc::Global;
+
+/// A word that is no option, or lacks its value.
+fn wrong(alloc: Global, word: &str) -> Result<OptionError, OptionError> {
+    Ok(OptionError::Wrong(format!(in alloc;
+        "{word} is no option, or lacks its value: gulmaat --help tells all"
+    )?))
+}
+
+/// The words that are left.
+#[derive(Drop)]
+struct Words<'a> {
+    words: &'a [String],
+    next: usize,
+}
+
+impl<'a> Words<'a> {
+    fn take(&mut self) -> Option<&'a str> {
+        let word = self.words.get(self.next)?;
+        self.next = self.next.wrapping_add(1);
+        Some(word.as_str())
+    }
+}
+
+/// Reads a long option.
+fn read_long<'a>(
+    alloc: Global,
+    word: &'a str,
+    words: &mut Words<'a>,
+    asked: &mut Vec<Asked<'a>>,
+) -> Result<(), OptionError> {
+    if let Some(option) = Asked::plain(word) {
+        asked.push(option)?;
+        return Ok(());
+    }
+    let option = match word.split_once('=') {
+        Some((name, value)) => Asked::with_value(name, value),
+        None => match words.take() {
+            Some(value) => Asked::with_value(word, value),
+            None => None,
+        },
+    };
+    match option {
+        Some(option) => asked.push(option)?,
+        None => return Err(wrong(alloc, word)?),
+    }
+    Ok(())
+}
+
+/// The value of a short option: what stands behind its letter, or the next word.
+fn value_behind<'a>(rest: &'a str, words: &mut Words<'a>) -> Option<&'a str> {
+    match rest.is_empty() {
+        true => words.take(),
+        false => Some(rest),
+    }
+}
+
+/// Reads a word of short options, each a letter, of which the last may have a value.
+fn read_short<'a>(
+    alloc: Global,
+    word: &'a str,
+    words: &mut Words<'a>,
+    asked: &mut Vec<Asked<'a>>,
+) -> Result<(), OptionError> {
+    let Some((_, letters)) = word.split_at_checked(1) else {
+        return Err(wrong(alloc, word)?);
+    };
+    for (place, letter) in letters.char_indices() {
+        let name = format!(in alloc; "-{letter}")?;
+        if let Some(option) = Asked::plain(name.as_str()) {
+            asked.push(option)?;
+            continue;
+        }
+        let rest = match letters.split_at_checked(place.saturating_add(letter.len_utf8())) {
+            Some((_, rest)) => rest,
+            None => "",
+        };
+        let value = value_behind(rest, words);
+        let option = match value {
+            Some(value) => Asked::with_value(name.as_str(), value),
+            None => None,
+        };
+        match option {
+            Some(option) => asked.push(option)?,
+            None => return Err(wrong(alloc, word)?),
+        }
+        return Ok(());
+    }
+    Ok(())
+}
+
+/// What these words ask for, in order.
+pub fn read_options<'a>(alloc: Global, words: &'a [String]) -> Result<Vec<Asked<'a>>, OptionError> {
+    let mut asked = Vec::new(alloc);
+    let mut words = Words { words, next: 0 };
+    for _ in 0..words.words.len() {
+        let Some(word) = words.take() else {
+            break;
+        };
+        if word.starts_with("--") {
+            read_long(alloc, word, &mut words, &mut asked)?;
+        } else if word.starts_with('-') && word.len() > 1 {
+            read_short(alloc, word, &mut words, &mut asked)?;
+        } else {
+            return Err(wrong(alloc, word)?);
+        }
+    }
+    Ok(asked)
+}
