@@ -67,12 +67,26 @@ where
             match words.split_first() {
                 Some((word, command)) if word.as_str() == "--why" => ended(
                     rt,
-                    &why(rt, kept.as_str(), compiler.as_str(), dir.as_str(), command),
+                    &told(rt, &caller, compiler.as_str(), command),
                 ),
                 _ => ended(rt, &do_options(rt, &caller, words)),
             }
         }
         _ => ExitCode::from(FAILED),
+    }
+}
+
+/// Says what differed at the last call of this command, of which the first word is dropped for the compiler's file; that is empty where no
+/// command is there.
+fn told<R: Print + Files + AllocGlobal>(
+    rt: &R,
+    caller: &Caller<'_>,
+    compiler: &str,
+    command: &[String],
+) -> Result<(), Stop> {
+    match compiler.is_empty() {
+        true => Err(Stop::Command),
+        false => why(rt, caller.kept, compiler, caller.dir, command),
     }
 }
 

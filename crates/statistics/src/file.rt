@@ -7,7 +7,7 @@ use crate::names::ZEROED;
 use crate::record::{SIZE, put_record};
 use std::alloc::Global;
 use std::fs::{File, OpenOptions};
-use std::io::{ErrorKind, Read, Write};
+use std::io::{ErrorKind, Write};
 use std::os::unix::fs::MetadataExt;
 use std::rt::Files;
 use std::{fs, io};
@@ -70,20 +70,9 @@ fn replace<R: Files + AllocGlobal>(
     Ok(fs::rename(rt, early.as_str(), place)?)
 }
 
-/// The bytes of a file, from its start.
-fn bytes_of(alloc: Global, file: &mut File) -> Result<Vec<u8>, StatisticsError> {
-    let mut bytes = Vec::new(alloc);
-    file.read_to_end(&mut bytes)?;
-    Ok(bytes)
-}
-
-/// Folds the records of the file, whose lock is held.
-fn fold<R: Files + AllocGlobal>(
-    rt: &R,
-    place: &str,
-    file: &mut File,
-) -> Result<(), StatisticsError> {
-    let bytes = bytes_of(rt.alloc(), file)?;
+/// Folds the records of the file of that name, whose lock is held.
+fn fold<R: Files + AllocGlobal>(rt: &R, place: &str) -> Result<(), StatisticsError> {
+    let bytes = fs::read(rt, place)?;
     let counts = Counts::read(rt.alloc(), bytes.as_slice())?;
     replace(rt, place, counts.records(rt.alloc())?.as_slice())
 }
@@ -107,7 +96,7 @@ pub fn count<R: Files<File = File> + AllocGlobal>(
     }
     file.write_all(records.as_slice())?;
     if size > LONG {
-        fold(rt, place.as_str(), &mut file)?;
+        fold(rt, place.as_str())?;
     }
     Ok(())
 }
