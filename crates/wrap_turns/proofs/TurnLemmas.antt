@@ -39,7 +39,7 @@ use Rattle.wrap_base.specs.declared.answer.Answer.TheVariants.{Outputs, Pass}
 use Rattle.wrap_base.specs.declared.answer.How.TheVariants.{Fresh}
 use Rattle.wrap_base.specs.declared.answer.Output.{Output}
 use Rattle.wrap_base.specs.declared.store_key.StoreKey.{StoreKey}
-use Rattle.wrap_turns.specs.Steps.{CompileCause, RanOnce, kept_how}
+use Rattle.wrap_turns.specs.Steps.{CompileCause, IsKept, RanOnce, kept_how}
 use Rattle.ckeys_records.proofs.CauseLemmas.{by_stage, caused_more, file_early}
 use Rattle.wrap_keys.proofs.SizeLemmas.{size_placed}
 
@@ -158,7 +158,7 @@ module _ (digest_of : Bytes → Bytes) (max_kept : Option ℕ) (text_key : Bytes
         subst (λ (x : Bool). new.puts ≡ (if x then ticked old.puts else old.puts)) (sym (ap (is_within max_kept) size ∙ within)) h
 
     -- a fresh output is put, and answered
-    pub turn_fresh : (dep_info : Option Bytes) → after ≡ ticked mid → IsTold digest_of w.rec → (eq : StoreKey → StoreKey → Bool) → ((a b : StoreKey) → eq a b ≡ true → a ≡ b)
+    turn_fresh : (dep_info : Option Bytes) → after ≡ ticked mid → IsTold digest_of w.rec → (eq : StoreKey → StoreKey → Bool) → ((a b : StoreKey) → eq a b ≡ true → a ≡ b)
         → (new : Shelf StoreKey Pairs) (value : Pairs) (map : List Output) (put : Result (Unit {0}) (StoreKey × Pairs)) → is_within max_kept (size_of value) ≡ true → Puts eq asked new key value put → IsSuccess w value → map ≡ placed w.outputs value → KeyedTurn digest_of max_kept text_key (worked w) old new before after (Ok (Outputs map Fresh dep_info))
     turn_fresh dep_info ran told eq equal new value map put within puts made same = record {
       gains = λ k v h. elim (puts.gains k v h) [
@@ -183,7 +183,7 @@ module _ (digest_of : Bytes → Bytes) (max_kept : Option ℕ) (text_key : Bytes
     }
 
     -- one that is larger than the limit is answered alone
-    pub turn_large : (dep_info : Option Bytes) → after ≡ ticked mid → (value : Pairs) (map : List Output) → is_within max_kept (size_of value) ≡ false → IsSuccess w value → map ≡ placed w.outputs value → KeyedTurn digest_of max_kept text_key (worked w) old asked before after (Ok (Outputs map Fresh dep_info))
+    turn_large : (dep_info : Option Bytes) → after ≡ ticked mid → (value : Pairs) (map : List Output) → is_within max_kept (size_of value) ≡ false → IsSuccess w value → map ≡ placed w.outputs value → KeyedTurn digest_of max_kept text_key (worked w) old asked before after (Ok (Outputs map Fresh dep_info))
     turn_large dep_info ran value map within made same = record {
       gains = λ k v h. inl (asks.within k v h);
       faulted = tt;
@@ -202,6 +202,15 @@ module _ (digest_of : Bytes → Bytes) (max_kept : Option ℕ) (text_key : Bytes
         },
       );
     }
+
+    -- either way
+    pub turn_kept : (dep_info : Option Bytes) → after ≡ ticked mid → IsTold digest_of w.rec → (eq : StoreKey → StoreKey → Bool) → ((a b : StoreKey) → eq a b ≡ true → a ≡ b)
+        → (new : Shelf StoreKey Pairs) (value : Pairs) (map : List Output) → IsKept eq (is_within max_kept (size_of value)) asked new key value → IsSuccess w value → map ≡ placed w.outputs value → KeyedTurn digest_of max_kept text_key (worked w) old new before after (Ok (Outputs map Fresh dep_info))
+    turn_kept dep_info ran told eq equal new value map kept made same = by (is_within max_kept (size_of value)) refl kept
+      where
+        by : (b : Bool) → is_within max_kept (size_of value) ≡ b → IsKept eq b asked new key value → KeyedTurn digest_of max_kept text_key (worked w) old new before after (Ok (Outputs map Fresh dep_info))
+        by true within k = turn_fresh dep_info ran told eq equal new value map k.0 within k.1 made same
+        by false within k = subst (λ (s : Shelf StoreKey Pairs). KeyedTurn digest_of max_kept text_key (worked w) old s before after (Ok (Outputs map Fresh dep_info))) (sym k) (turn_large dep_info ran value map within made same)
 
 -- a failure after calls that didn't fail
 pub fails_in_later : {T : Type 0} (meaning : T → Meaning) (failed : T → ℕ) (fails_in : T → Step → T → Type 0) (old mid new : T) → meaning mid ≡ meaning old → failed mid ≡ failed old → (step : Step) → FailsIn meaning failed fails_in mid new step → FailsIn meaning failed fails_in old new step

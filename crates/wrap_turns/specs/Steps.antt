@@ -1,9 +1,11 @@
 -- Why the steps of a call fail.
 use Rattle.std.specs.Prelude.{◌≡◌, ◌⊎◌, ℕ, Bool, true, false, Result, Ok, Err}
-use Rattle.wrap_keys.specs.Account.{Work, Collected, compile_fault_of, missing_fault_of}
+use Rattle.ckeys_base.specs.Shelf.{Puts, Shelf}
+use Rattle.wrap_keys.specs.Account.{Work, Pairs, Collected, compile_fault_of, missing_fault_of}
 use Rattle.os_files.specs.Bytes.{ticked}
 use Rattle.ckeys_records.specs.Causes.{ByStage, IsCaused, no_file, no_step, stage_of}
 use Rattle.ckeys_records.specs.declared.fault.Fault.{Fault}
+use Rattle.wrap_base.specs.declared.store_key.StoreKey.{StoreKey}
 use Rattle.wrap_base.specs.declared.answer.How.{How}
 use Rattle.wrap_base.specs.declared.answer.How.TheVariants.{Direct, Stored}
 use Rattle.ckeys_records.specs.declared.step.Step.{Step}
@@ -24,6 +26,11 @@ Once before after = after ≡ ticked before
 abbrev pub RanOnce : {A : Type 0} → Result A Fault → ℕ → ℕ → Type 0
 RanOnce (Ok outputs) before after = Once before after
 RanOnce (Err fault) before after = ByStage (stage_of fault) ((after ≡ before) ⊎ Once before after) ⊥ (Once before after)
+
+-- what a compile made is put where it's within the limit, and else nothing is done to the store
+abbrev pub IsKept : (StoreKey → StoreKey → Bool) → Bool → Shelf StoreKey Pairs → Shelf StoreKey Pairs → StoreKey → Pairs → Type 0
+IsKept eq true old new key pairs = (put : Result (Unit {0}) (StoreKey × Pairs)) × Puts eq old new key pairs put
+IsKept eq false old new key pairs = new ≡ old
 
 -- how a hit is told, by whether a record gave its key
 abbrev pub kept_how : Bool → How

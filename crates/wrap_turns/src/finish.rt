@@ -8,7 +8,8 @@ ghost use Rattle.ckeys_records.specs.Views.{AreSteady, ToolFails};
 ghost use Rattle.wrap_keys.specs.Account.{Work, worked};
 ghost use Rattle.wrap_keys.specs.Asking.{HowFrom};
 ghost use Rattle.wrap_turns.specs.Prepared.{IsPrepared, SaysFinished};
-ghost use Rattle.wrap_turns.specs.Steps.{kept_how};
+ghost use Rattle.wrap_keys.specs.Sizes.{is_within, size_of};
+ghost use Rattle.wrap_turns.specs.Steps.{IsKept, kept_how};
 ghost use Rattle.wrap_keys.specs.Turn.{KeyedTurn};
 
 use crate::compile::compiled_pairs;
@@ -31,6 +32,21 @@ fn kept_how(from_record: bool) -> How
         How::Direct
     } else {
         How::Stored
+    }
+}
+
+/// Keeps what a compile made, unless it's larger than the limit. A refused put changes no answer.
+fn keep<O: Store<StoreKey, Pairs>>(
+    objects: &mut O,
+    max_kept: Option<u64>,
+    key: StoreKey,
+    pairs: Pairs,
+)
+    ensures { IsKept ⟦<StoreKey as PartialEq>⟧.eq (is_within max_kept (size_of pairs))
+        (O.shelf objects.old) (O.shelf objects.new) key pairs }
+{
+    if is_within(max_kept, pairs.as_slice()) {
+        let _ = objects.put(key, pairs);
     }
 }
 
@@ -82,9 +98,7 @@ pub fn finish<O: Store<StoreKey, Pairs>, F: Files, T: Tool>(
     )?;
     let map = placed(alloc, outputs, pairs.as_slice())?;
     let dep_info = prepared.dep_info;
-    if is_within(max_kept, pairs.as_slice()) {
-        let _ = objects.put(prepared.key, pairs);
-    }
+    keep(objects, max_kept, prepared.key, pairs);
     Ok(Answer::Outputs {
         map,
         how: How::Fresh,

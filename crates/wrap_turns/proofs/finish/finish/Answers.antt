@@ -1,14 +1,13 @@
-use Rattle.std.proofs.Common.{◌≡◌, rules, true, false, Ok, None, Some, refl, ap, sym, subst, ◌∙◌, to_z, of_z, w64}
+use Rattle.std.proofs.Common.{◌≡◌, rules, Ok, None, Some, refl, ap, sym, subst, ◌∙◌, to_z, of_z, w64}
 use Rattle.std.specs.Option.{option_copied}
 use Rattle.ckeys_base.specs.Shelf.{Asks}
-use Rattle.wrap_keys.specs.Account.{IsSuccess, placed, worked}
+use Rattle.wrap_keys.specs.Account.{placed, worked}
 use Rattle.wrap_keys.specs.Asking.{HowFrom}
-use Rattle.wrap_keys.specs.Sizes.{is_within, size_of}
 use Rattle.wrap_keys.specs.Turn.{KeyedTurn}
 use Rattle.wrap_base.specs.declared.answer.Answer.TheVariants.{Outputs}
 use Rattle.wrap_base.specs.contracts.store_key.StoreKeyPartialEq.TheImpl as key_eq
 use Rattle.wrap_turns.proofs.StepLemmas.{makes_then}
-use Rattle.wrap_turns.proofs.TurnLemmas.{fault_finishes, how_kept, how_of_fault, memory_finishes, turn_ask_failed, turn_compile_failed, turn_copy_failed, turn_fresh, turn_large, turn_stored}
+use Rattle.wrap_turns.proofs.TurnLemmas.{fault_finishes, how_kept, how_of_fault, memory_finishes, turn_ask_failed, turn_compile_failed, turn_copy_failed, turn_kept, turn_stored}
 use Rattle.wrap_turns.proofs.finish.finish.Goals as goal
 
 pub returns-in_err-map-clause-turn : goal.returns-in_err-map-clause-turn
@@ -62,28 +61,13 @@ returns-in_err-map-2-clause-says g c digest_of w p = memory_finishes w _ _ c.fro
 pub returns-in_err-map-2-clause-how : goal.returns-in_err-map-2-clause-how
 returns-in_err-map-2-clause-how g c = how_of_fault _ _ _ c.from_residual-in_err-map-2.ensures.1
 
-pub returns-then-is_within-clause-turn : goal.returns-then-is_within-clause-turn
-returns-then-is_within-clause-turn g c digest_of w p =
+pub returns-clause-turn : goal.returns-clause-turn
+returns-clause-turn g c digest_of w p =
     let asks : Asks (g.O.Store.shelf c.args.objects.now) (g.O.Store.shelf c.get.follows.lender-at-none) c.args.prepared.key (option_copied c.get.result) = c.get.follows.holds-at-none in
     let none : option_copied c.get.result ≡ None = ap option_copied c.in_default.is in
     let moment : to_z w64 (of_z w64 c.args.prepared.moment) ≡ c.args.prepared.moment = search rules in
     let map : c.in_ok-map-2.map ≡ placed w.outputs c.in_ok-pairs.pairs = c.in_ok-map-2.ensures ∙ (λ i. placed (p.makes.outputs i) (c.as_slice-2.ensures i)) in
-    let made : IsSuccess w c.in_ok-pairs.pairs = c.in_ok-pairs.ensures.made w (makes_then _ _ _ _ _ _ _ w moment p.makes) in
-    let within : is_within c.args.max_kept (size_of c.in_ok-pairs.pairs) ≡ true = ap (λ pairs. is_within c.args.max_kept (size_of pairs)) (sym c.as_slice-3.ensures) ∙ sym c.is_within.ensures ∙ c.if-is_within.true in
-    turn_fresh digest_of _ _ w _ p.is_key _ _ _ asks none _ _ _ refl c.args.prepared.dep_info c.in_ok-pairs.ensures.runs p.told key_eq.ghosts.eq (λ a b. (c.keys_are_their_fields.ensures.equal a b).0) _ c.in_ok-pairs.pairs c.in_ok-map-2.map _ within c.put.ensures made map
+    turn_kept digest_of _ _ w _ p.is_key _ _ _ asks none _ _ _ refl c.args.prepared.dep_info c.in_ok-pairs.ensures.runs p.told key_eq.ghosts.eq (λ a b. (c.keys_are_their_fields.ensures.equal a b).0) _ c.in_ok-pairs.pairs c.in_ok-map-2.map c.keep.ensures (c.in_ok-pairs.ensures.made w (makes_then _ _ _ _ _ _ _ w moment p.makes)) map
 
-pub returns-then-is_within-clause-says : goal.returns-then-is_within-clause-says
-returns-then-is_within-clause-says g c digest_of w p = p.dep_info
-
-pub returns-else-is_within-clause-turn : goal.returns-else-is_within-clause-turn
-returns-else-is_within-clause-turn g c digest_of w p =
-    let asks : Asks (g.O.Store.shelf c.args.objects.now) (g.O.Store.shelf c.get.follows.lender-at-none) c.args.prepared.key (option_copied c.get.result) = c.get.follows.holds-at-none in
-    let none : option_copied c.get.result ≡ None = ap option_copied c.in_default.is in
-    let moment : to_z w64 (of_z w64 c.args.prepared.moment) ≡ c.args.prepared.moment = search rules in
-    let map : c.in_ok-map-2.map ≡ placed w.outputs c.in_ok-pairs.pairs = c.in_ok-map-2.ensures ∙ (λ i. placed (p.makes.outputs i) (c.as_slice-2.ensures i)) in
-    let made : IsSuccess w c.in_ok-pairs.pairs = c.in_ok-pairs.ensures.made w (makes_then _ _ _ _ _ _ _ w moment p.makes) in
-    let within : is_within c.args.max_kept (size_of c.in_ok-pairs.pairs) ≡ false = ap (λ pairs. is_within c.args.max_kept (size_of pairs)) (sym c.as_slice-3.ensures) ∙ sym c.is_within.ensures ∙ c.if-is_within.false in
-    turn_large digest_of _ _ w _ p.is_key _ _ _ asks none _ _ _ refl c.args.prepared.dep_info c.in_ok-pairs.ensures.runs c.in_ok-pairs.pairs c.in_ok-map-2.map within made map
-
-pub returns-else-is_within-clause-says : goal.returns-else-is_within-clause-says
-returns-else-is_within-clause-says g c digest_of w p = p.dep_info
+pub returns-clause-says : goal.returns-clause-says
+returns-clause-says g c digest_of w p = p.dep_info
