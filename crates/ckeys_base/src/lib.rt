@@ -4,7 +4,6 @@
 
 pub mod digest;
 pub mod duration;
-pub mod error;
 pub mod hash_state;
 pub mod hexadecimal;
 pub mod normalize;

@@ -5,7 +5,6 @@
 mod calls;
 #[cfg(test)]
 mod commands;
-pub mod door;
 #[cfg(test)]
 mod expansion;
 #[cfg(test)]

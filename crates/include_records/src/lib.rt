@@ -2,6 +2,7 @@
 #![tactic(auto)]
 
 pub mod entry;
+pub mod error;
 pub mod includes;
 pub mod key_text;
 mod layout;

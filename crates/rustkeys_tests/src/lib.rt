@@ -5,7 +5,6 @@
 mod answer_tool;
 #[cfg(test)]
 mod asking;
-pub mod door;
 #[cfg(test)]
 mod faults;
 #[cfg(test)]
