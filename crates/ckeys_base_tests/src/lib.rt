@@ -2,8 +2,6 @@
 #![tactic(auto)]
 
 #[cfg(test)]
-mod bounded_store;
-#[cfg(test)]
 mod digest;
 #[cfg(test)]
 mod duration;

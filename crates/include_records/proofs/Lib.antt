@@ -4,4 +4,3 @@ pub mod Insertion
 pub mod WholeRecords
 pub mod PartsInRow
 pub mod Looking
-pub mod Greatest
