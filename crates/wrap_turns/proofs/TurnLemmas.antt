@@ -251,6 +251,12 @@ finished_unpassed P w device_in (Ok (Pass reason)) says = absurd says
 finished_unpassed P w device_in (Ok (Outputs map how dep_info)) says = tt
 finished_unpassed P w device_in (Err fault) says = tt
 
+-- where no request is passed through, whatever is said of one that is
+pub unpassed : (P : Type 0) (result : Result Answer Fault) → OnPass result ⊥ → OnPass result P
+unpassed P (Ok (Pass reason)) never = absurd never
+unpassed P (Ok (Outputs map how dep_info)) never = tt
+unpassed P (Err fault) never = tt
+
 -- what is said then of the whole call
 pub finished_says : (went_on : Type 0) (w : Work) (on_file : Bytes → Type 0) (device_in later_in : Step → Type 0) → ((step : Step) → later_in step → device_in step) → went_on → (result : Result Answer Fault) → SaysFinished w later_in result → SaysWorkedBy went_on w on_file device_in result
 finished_says went_on w on_file device_in later_in more goes (Ok (Pass reason)) says = says

@@ -6,7 +6,7 @@ use Rattle.wrap_keys.specs.CallRecords.{key_of}
 use Rattle.wrap_keys.specs.Turn.{KeyedTurn}
 use Rattle.wrap_keys.proofs.RunLemmas.{asked_twice, asked_until}
 use Rattle.wrap_turns.proofs.RustLemmas.{is_prepared}
-use Rattle.wrap_turns.proofs.TurnLemmas.{fails_in_later, finished_says, finished_unpassed, how_of_fault, key_says, key_turn}
+use Rattle.wrap_turns.proofs.TurnLemmas.{fails_in_later, finished_says, finished_unpassed, how_of_fault, key_says, key_turn, steady_later}
 use Rattle.wrap_turns.proofs.rust_calls.rust_answer.Goals as goal
 
 pub returns-in_err-made-clause-says : goal.returns-in_err-made-clause-says
@@ -68,3 +68,7 @@ pub returns-clause-runs : goal.returns-clause-runs
 returns-clause-runs g c =
     let before = g.T.Preprocessor.preprocessed c.args.tool.now in
     asked_twice _ before _ (c.finish.ensures.preprocesses ∙ c.in_ok-made.ensures.runs)
+
+pub returns-clause-steady : goal.returns-clause-steady
+returns-clause-steady g c =
+    steady_later g.T.Preprocessor g.F.Files c.args.tool.now c.rust_prepare.new.tool c.finish.new.tool c.args.files.now c.rust_prepare.new.files c.finish.new.files c.in_ok-made.ensures.steady c.finish.result c.finish.ensures.steady

@@ -11,7 +11,7 @@ use Rattle.wrap_keys.specs.RustVerdicts.{RustJudgement, asks, rust_verdict_of}
 use Rattle.wrap_keys.specs.Turn.{StoreTurn, own_text_key}
 use Rattle.wrap_keys.proofs.KeyLemmas.{fails_on_later}
 use Rattle.wrap_keys.proofs.RunLemmas.{early_ran}
-use Rattle.wrap_turns.proofs.TurnLemmas.{early_says, early_turn, how_of_fault, says_later}
+use Rattle.wrap_turns.proofs.TurnLemmas.{early_says, early_turn, how_of_fault, says_later, unpassed}
 use Rattle.wrap_turns.proofs.rust_calls.rust_turn.Goals as goal
 
 pub returns-in_err-reason-clause-says : goal.returns-in_err-reason-clause-says
@@ -68,3 +68,6 @@ returns-in-Asks-clause-runs g c =
     let decided : asks (asks_in c.in-Asks.parsed) ≡ rust_verdict_of request (tree c.args.files.now) = rw c.in-Asks.is at c.in_ok-reason.ensures.verdict in
     let account : RustJudgement → Account = rust_account_by (meaning c.args.tool.now) (tree c.args.files.now) c.args.rust.now request in
     subst (λ (d : RustJudgement). RunsOf (account d) false c.rust_answer.result (g.T.Preprocessor.preprocessed c.args.tool.now) (g.T.Preprocessor.preprocessed c.rust_answer.new.tool)) decided c.rust_answer.ensures.runs
+
+pub returns-in-Asks-clause-quiet : goal.returns-in-Asks-clause-quiet
+returns-in-Asks-clause-quiet g c = unpassed _ c.rust_answer.result c.rust_answer.ensures.unpassed
