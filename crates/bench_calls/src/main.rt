@@ -24,8 +24,8 @@ use crate::rustc::{key_copies, key_readings, key_writings, rewritings, source_re
 use crate::stores::{bounded_turns, map_turns};
 use crate::walking::{byte_searches, marker_tallies, walks};
 use crate::words::{Tally, chain_copies, gnu_splittings, msvc_splittings, openings};
-use ckeys_base::digest;
 use ckeys_base::digest::Digest;
+use ckeys_base::error;
 use ckeys_base::strip::strip_basedirs;
 use cmdlines_tables::compiler::CCompilerKind;
 use os_files::os_bytes::OsBytes;
@@ -72,11 +72,11 @@ impl<T: Drop> From<AllocFailed<T>> for Fault {
     }
 }
 
-impl From<digest::Error> for Fault {
-    fn from(error: digest::Error) -> Fault {
+impl From<error::Error> for Fault {
+    fn from(error: error::Error) -> Fault {
         match error {
-            digest::Error::Io => Fault::File,
-            digest::Error::Memory => Fault::Memory,
+            error::Error::Memory => Fault::Memory,
+            _ => Fault::File,
         }
     }
 }

@@ -21,7 +21,7 @@ use Rattle.ckeys.specs.HashCalls.{AsksOver, CallView, KeyAnswer, KeyRun, asking_
 use Rattle.ckeys.specs.Hashers.{call_by, call_of}
 use Rattle.ckeys_records.specs.Keys.{key_of}
 use Rattle.ckeys_records.specs.Meaning.{Variables}
-use Rattle.ckeys.specs.declared.hash_keys.HashCall.{HashCall}
+use Rattle.ckeys.specs.declared.call_list.HashCall.{HashCall}
 use Rattle.ckeys.specs.declared.hasher.CCompilerHasher.{CCompilerHasher}
 use Rattle.ckeys.specs.declared.place.CallPlace.{CallPlace}
 

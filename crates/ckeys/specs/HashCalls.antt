@@ -19,7 +19,7 @@ use Rattle.ckeys_records.specs.Views.{AreSteady, ToolFails, ToolView}
 use Rattle.ckeys_records.specs.Params.{is_cached}
 use Rattle.ckeys_records.specs.Records.{FitsLength}
 use Rattle.ckeys_records.specs.declared.fault.Fault.{Fault}
-use Rattle.ckeys.specs.declared.hash_keys.HashCall.{HashCall}
+use Rattle.ckeys.specs.declared.call_list.HashCall.{HashCall}
 use Rattle.ckeys_records.specs.declared.shape.CShape.{CShape}
 use Rattle.ckeys.specs.declared.compiler_impl.CCompilerImpl.{Ghosts}
 

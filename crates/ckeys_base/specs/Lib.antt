@@ -2,6 +2,7 @@ pub mod Hex
 pub mod ShaBytes
 pub mod Feeding
 pub mod FileDigests
+pub mod Errors
 pub mod Shelf
 pub mod FolderPlaces
 pub mod Stripping

@@ -1,53 +1,23 @@
 //! Digests of byte strings that come in pieces, from a reader, or from files.
 
-ghost use Rattle.std.specs.Prelude.{◌≡◌, ℕ, ◌*◌, ◌<◌, List, [], ◌++◌, IfOk, IsErrOf, length, map, vec_len, string_bytes};
+ghost use Rattle.std.specs.Prelude.{◌≡◌, ℕ, ◌*◌, ◌<◌, List, [], ◌++◌, IfOk, IfErr, IsErrOf, length, map, vec_len, string_bytes};
 ghost use Rattle.std.specs.Option.{option_map};
 ghost use Rattle.std.specs.List.{Contains};
 ghost use Rattle.os_files.specs.Bytes.{Bytes, ticked};
 ghost use Rattle.os_files.specs.Views.{FilesFail};
+ghost use Rattle.ckeys_base.specs.Errors.{IsIoError};
 ghost use Rattle.ckeys_base.specs.Hex.{hex_of};
 ghost use Rattle.ckeys_base.specs.Feeding.{delimiter_of, IsReadAndShown, WasAll};
 ghost use Rattle.ckeys_base.specs.FileDigests.{file_digest, file_digests};
 
+use crate::error::Error;
 use crate::hash_state::HashState;
 use crate::hexadecimal::hex;
 use os_files::files::{FileFail, Files};
 use os_files::os_bytes::OsBytes;
 use std::alloc::{AllocError, Global};
-use std::io;
 use std::io::Read;
 use std::marker::Model;
-
-/// Why a reader has no digest.
-#[derive(Clone, Copy, Debug, PartialEq, Eq, thiserror::Error)]
-pub enum Error {
-    /// A read of the reader failed, or 2 ^ 64 reads didn't come to its end.
-    #[error("the bytes cannot be read")]
-    Io,
-    /// A growth was refused.
-    #[error("out of memory")]
-    Memory,
-}
-
-impl From<io::Error> for Error {
-    ghost use Rattle.ckeys_base.specs.declared.digest.Error.TheVariants.{Io};
-
-    ghost from_gives = { λ _ e. e ≡ Io };
-
-    fn from(_error: io::Error) -> Error {
-        Error::Io
-    }
-}
-
-impl From<AllocError> for Error {
-    ghost use Rattle.ckeys_base.specs.declared.digest.Error.TheVariants.{Memory};
-
-    ghost from_gives = { λ _ e. e ≡ Memory };
-
-    fn from(_error: AllocError) -> Error {
-        Error::Memory
-    }
-}
 
 /// How many bytes a read of a reader asks for.
 pub const HASH_BUFFER_SIZE: usize = 131072;
@@ -133,8 +103,9 @@ impl<H: HashState> Digest<H> {
     ) -> Result<String, Error>
         requires some_room { 0 < length room.old }
         requires callable { F.IsAlwaysCallable each }
-        ensures { IfOk result (λ text.
+        ensures shown { IfOk result (λ text.
             IsReadAndShown F.FnMut each (R.remaining reader.old) H.digest_of (string_bytes text)) }
+        ensures cause { IfErr result (λ e. IsIoError e) }
     {
         let mut digest: Digest<H> = Digest::new();
         'pieces: for _ in 0..u64::MAX {
@@ -158,8 +129,9 @@ impl<H: HashState> Digest<H> {
         each: F,
     ) -> Result<String, Error>
         requires { F.IsAlwaysCallable each }
-        ensures { IfOk result (λ text.
+        ensures shown { IfOk result (λ text.
             IsReadAndShown F.FnMut each (R.remaining reader) H.digest_of (string_bytes text)) }
+        ensures cause { IfErr result (λ e. IsIoError e) }
     {
         let mut room = zeros(alloc, HASH_BUFFER_SIZE)?;
         Digest::<H>::read_pieces(alloc, room.as_mut_slice(), &mut reader, each)
@@ -169,8 +141,9 @@ impl<H: HashState> Digest<H> {
     ///
     /// `Io` where a read fails.
     pub fn reader_sync<R: Read + Drop>(alloc: Global, reader: R) -> Result<String, Error>
-        ensures { IfOk result (λ text. (bytes : Bytes) × WasAll (R.remaining reader) bytes
+        ensures told { IfOk result (λ text. (bytes : Bytes) × WasAll (R.remaining reader) bytes
             × (string_bytes text ≡ hex_of (H.digest_of bytes))) }
+        ensures cause { IfErr result (λ e. IsIoError e) }
     {
         Digest::<H>::reader_sync_with(alloc, reader, |_piece: &[u8]| {})
     }

@@ -4,6 +4,7 @@
 
 pub mod digest;
 pub mod duration;
+pub mod error;
 pub mod hash_state;
 pub mod hexadecimal;
 pub mod normalize;

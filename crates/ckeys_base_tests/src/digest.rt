@@ -6,7 +6,8 @@ ghost use Rattle.sha2.specs.Sha512.{sha512};
 ghost use Rattle.sha2.proofs.Facts512.{length-sha512};
 ghost use Rattle.ckeys_base_tests.specs.WideBytes.{AreBytes-sha512};
 
-use ckeys_base::digest::{Digest, Error, HASH_BUFFER_SIZE, texts_tell_digests};
+use ckeys_base::digest::{Digest, HASH_BUFFER_SIZE, texts_tell_digests};
+use ckeys_base::error::Error;
 use ckeys_base::hash_state::HashState;
 use os_files::file_time::FileTime;
 use os_files::memory_files::{MemoryFile, MemoryFiles};
@@ -180,12 +181,12 @@ fn errors_are_printed(rt: HostRuntime) -> Result<(), Fail> {
     let alloc = rt.alloc();
     is_that(
         format!(in alloc; "{}", Error::Io)?.as_str(),
-        "the bytes cannot be read",
+        "the bytes cannot be read or written",
         "a reader",
     )?;
     is_that(
         format!(in alloc; "{}", Error::Memory)?.as_str(),
-        "out of memory",
+        "no memory was left",
         "memory",
     )
 }

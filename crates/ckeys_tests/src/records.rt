@@ -6,7 +6,7 @@ use crate::keys::digest_of;
 use crate::print_tool::PrintTool;
 use bounded_store::lru_store::LruStore;
 use ckeys::compiler::CCompiler;
-use ckeys::hash_keys::{HashCall, hash_keys};
+use ckeys::{HashCall, hash_keys};
 use ckeys_records::config::KeyConfig;
 use ckeys_records::fault::Fault;
 use ckeys_records::preprocessor::Preprocessor;

@@ -17,8 +17,10 @@ pub mod msvc;
 pub mod tasking_vx;
 
 pub use clang::Clang;
-pub use cmdlines_base::argument::{ArgDisposition, Argument, NormalizedDisposition};
-pub use cmdlines_base::argument_error::{ArgParseError, ArgToStringError};
+pub use cmdlines_base::argument::{ArgDisposition, Argument, Delimiter, NormalizedDisposition};
+pub use cmdlines_base::argument_error::{
+    ArgParseError, ArgParseResult, ArgToStringError, ArgToStringResult,
+};
 pub use cmdlines_base::byte_tree::ByteTree;
 pub use cmdlines_base::color_mode::ColorMode;
 pub use cmdlines_base::command::{ArtifactDescriptor, SingleCompileCommand};

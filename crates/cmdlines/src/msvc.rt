@@ -4,6 +4,7 @@ ghost use Rattle.cmdlines_tables.specs.declared.compiler.CCompilerKind.TheVarian
 
 use crate::found::{FoundCompiler, HasKind};
 use cmdlines_tables::compiler::CCompilerKind;
+pub use response_files::msvc::ExpandIncludeFile;
 
 /// The kind of Msvc.
 #[derive(Drop)]

@@ -5,6 +5,7 @@
 mod calls;
 #[cfg(test)]
 mod commands;
+pub mod door;
 #[cfg(test)]
 mod expansion;
 #[cfg(test)]

@@ -15,8 +15,8 @@ use Rattle.include_records.specs.RecordFormats.{result_format}
 use Rattle.include_records.specs.Records.{Record, is_record, rises}
 use Rattle.include_records.specs.Refusals.{IsNoRecord, IsUnread}
 use Rattle.include_records.specs.declared.entry.CachedResult.{CachedResult}
-use Rattle.include_records.specs.declared.error.Error.{Error}
-use Rattle.include_records.specs.declared.error.Error.TheVariants.{Io, Deserialization, UnknownFormat, Memory}
+use Rattle.ckeys_base.specs.declared.error.Error.{Error}
+use Rattle.ckeys_base.specs.declared.error.Error.TheVariants.{Io, Deserialization, UnknownFormat, Memory}
 
 results_format : IsFormat (counted_at result_at) (counted result_bytes) (CountFits ResultFits)
 results_format = counted_format _ _ _ result_format

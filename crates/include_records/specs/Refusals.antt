@@ -1,10 +1,10 @@
--- Why bytes are no record, and why a record isn't written.
+-- Why bytes are no record.
 use Rattle.std.specs.Prelude.{◌≡◌, ◌≢◌, List, ◌∷◌, None}
 use Rattle.os_files.specs.Bytes.{Bytes}
 use Rattle.include_records.specs.Layout.{IsRecord, record_bytes, results_at}
 use Rattle.include_records.specs.declared.entry.CachedResult.{CachedResult}
-use Rattle.include_records.specs.declared.error.Error.{Error}
-use Rattle.include_records.specs.declared.error.Error.TheVariants.{Io, Deserialization, UnknownFormat, Memory}
+use Rattle.ckeys_base.specs.declared.error.Error.{Error}
+use Rattle.ckeys_base.specs.declared.error.Error.TheVariants.{Io, Deserialization, UnknownFormat, Memory}
 
 -- Memory was refused, or another byte than 1 stands first, or behind the 1 stands what isn't written for any record.
 abbrev pub IsNoRecord : Bytes → Error → Type 0
@@ -19,10 +19,3 @@ IsUnread bytes Memory = Unit {0}
 IsUnread bytes Io = ⊥
 IsUnread bytes (UnknownFormat first) = ⊥
 IsUnread bytes Deserialization = results_at bytes ≡ None
-
--- Memory was refused, or the writer failed.
-abbrev pub IsWriteError : Error → Type 0
-IsWriteError Memory = Unit {0}
-IsWriteError Io = Unit {0}
-IsWriteError (UnknownFormat first) = ⊥
-IsWriteError Deserialization = ⊥

@@ -3,18 +3,19 @@
 ghost use Rattle.std.specs.Prelude.{◌≡◌, ◌⊎◌, List, [], MatchResult, IfOk, IfErr, OnOk, IsOk};
 ghost use Rattle.std.specs.Io.KnownBytes.{Appends};
 ghost use Rattle.byte_formats.specs.Reading.{Gives};
+ghost use Rattle.ckeys_base.specs.Errors.{IsIoError};
 ghost use Rattle.include_records.specs.RecordFormats.{include_format, result_format};
 ghost use Rattle.include_records.specs.Layout.{IncludeFits, IsRecord, ResultFits, include_at, include_bytes, record_bytes, result_at, result_bytes, results_at};
-ghost use Rattle.include_records.specs.Refusals.{IsNoRecord, IsUnread, IsWriteError};
+ghost use Rattle.include_records.specs.Refusals.{IsNoRecord, IsUnread};
 ghost use Rattle.include_records.specs.declared.entry.CachedResult.{CachedResult};
 
 use crate::entry::{CachedResult, IncludeEntry};
-use crate::error::Error;
 use crate::key_text::KeyText;
 use crate::record::PreprocessorCacheEntry;
 use byte_formats::fault::ReadFault;
 use byte_formats::field::{Field, put_all};
 use byte_formats::fields::put_number;
+use ckeys_base::error::Error;
 use os_files::listed::Listed;
 use os_files::os_bytes::OsBytes;
 use std::alloc::{AllocError, Global};
@@ -149,7 +150,7 @@ impl PreprocessorCacheEntry {
         ensures written { OnOk result
             (Appends (W.contents writer.old) (W.contents writer.new) (record_bytes self.now.results)) }
         ensures record { OnOk result (IsRecord self.now.results) }
-        ensures cause { IfErr result (λ e. IsWriteError e) }
+        ensures cause { IfErr result (λ e. IsIoError e) }
     {
         let bytes = self.bytes()?;
         match writer.write_all(&bytes) {

@@ -2,7 +2,6 @@
 #![tactic(auto)]
 
 pub mod entry;
-pub mod error;
 pub mod includes;
 pub mod key_text;
 mod layout;

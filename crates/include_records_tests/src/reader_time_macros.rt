@@ -1,6 +1,6 @@
 //! Digests and macros of what readers give.
 
-use ckeys_base::digest::Error;
+use ckeys_base::error::Error;
 use sha2::Sha256;
 use std::io;
 use std::io::Read;

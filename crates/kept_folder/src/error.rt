@@ -1,7 +1,7 @@
 //! Why something isn't in the folder, or couldn't be put there.
 
 use byte_formats::fault::ReadFault;
-use ckeys_base::digest;
+use ckeys_base::error::Error;
 use std::alloc::{AllocError, AllocFailed};
 use std::{fmt, io};
 
@@ -49,11 +49,12 @@ impl From<ReadFault> for FolderError {
     }
 }
 
-impl From<digest::Error> for FolderError {
-    fn from(error: digest::Error) -> FolderError {
+impl From<Error> for FolderError {
+    fn from(error: Error) -> FolderError {
         match error {
-            digest::Error::Memory => FolderError::Memory,
-            digest::Error::Io => FolderError::Device,
+            Error::Memory => FolderError::Memory,
+            Error::Io => FolderError::Device,
+            Error::Deserialization | Error::UnknownFormat(_) => FolderError::Unreadable,
         }
     }
 }

@@ -4,9 +4,9 @@ ghost use Rattle.std.specs.Prelude.{◌≡◌, ◌⊎◌, [], IfOk, IfSome};
 ghost use Rattle.include_records.specs.Layout.{record_bytes};
 
 use byte_formats::field::Field;
+use ckeys_base::error::Error;
 use entry_keys::entry_key::EntryKey;
 use include_records::entry::{CachedResult, IncludeEntry};
-use include_records::error::Error;
 use include_records::record::PreprocessorCacheEntry;
 use kept_entries::kept_record::KeptRecord;
 use kept_folder::error::FolderError;

@@ -5,6 +5,7 @@
 mod answer_tool;
 #[cfg(test)]
 mod asking;
+pub mod door;
 #[cfg(test)]
 mod faults;
 #[cfg(test)]

@@ -1,13 +1,15 @@
 //! The digest of all that a reader gives, and the macros of date and time in it.
 
-ghost use Rattle.std.specs.Prelude.{◌≡◌, ◌<◌, ◌++◌, IfOk, length, vec_len, string_bytes};
+ghost use Rattle.std.specs.Prelude.{◌≡◌, ◌<◌, ◌++◌, IfOk, IfErr, length, vec_len, string_bytes};
 ghost use Rattle.os_files.specs.Bytes.{Bytes};
+ghost use Rattle.ckeys_base.specs.Errors.{IsIoError};
 ghost use Rattle.ckeys_base.specs.Feeding.{WasAll};
 ghost use Rattle.ckeys_base.specs.Hex.{hex_of};
 ghost use Rattle.time_macros.specs.Seen.{HasSeen};
 
 use crate::time_macro_finder::TimeMacroFinder;
-use ckeys_base::digest::{Digest, Error, HASH_BUFFER_SIZE};
+use ckeys_base::digest::{Digest, HASH_BUFFER_SIZE};
+use ckeys_base::error::Error;
 use ckeys_base::hash_state::HashState;
 use std::alloc::{AllocError, Global};
 use std::io::Read;
@@ -27,9 +29,10 @@ pub fn reader_sync_time_macros<H: HashState, R: Read + Drop>(
     alloc: Global,
     mut reader: R,
 ) -> Result<(String, TimeMacroFinder), Error>
-    ensures { IfOk result (λ found. (bytes : Bytes) × WasAll (R.remaining reader) bytes
+    ensures told { IfOk result (λ found. (bytes : Bytes) × WasAll (R.remaining reader) bytes
         × (string_bytes found.0 ≡ hex_of (H.digest_of bytes))
         × HasSeen found.1 bytes) }
+    ensures cause { IfErr result (λ e. IsIoError e) }
 {
     let mut finder = TimeMacroFinder::new();
     let mut room = zeros(alloc, HASH_BUFFER_SIZE)?;
@@ -45,9 +48,10 @@ fn read_and_find<H: HashState, R: Read>(
     finder: &mut TimeMacroFinder,
 ) -> Result<String, Error>
     requires { 0 < length room.old }
-    ensures { IfOk result (λ text. (bytes : Bytes) × WasAll (R.remaining reader.old) bytes
+    ensures told { IfOk result (λ text. (bytes : Bytes) × WasAll (R.remaining reader.old) bytes
         × (string_bytes text ≡ hex_of (H.digest_of bytes))
         × ((before : Bytes) → HasSeen finder.old before → HasSeen finder.new (before ++ bytes))) }
+    ensures cause { IfErr result (λ e. IsIoError e) }
 {
     let mut digest: Digest<H> = Digest::new();
     'pieces: for _ in 0..u64::MAX {

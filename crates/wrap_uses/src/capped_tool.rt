@@ -6,11 +6,10 @@ ghost use Rattle.wrap.specs.Meaning.{made_of, names_of, scene_of};
 ghost use Rattle.wrap_base.specs.AskedBy.{asked_by};
 ghost use Rattle.wrap_uses.specs.Caps.{TakesOne};
 
-use rustkeys::answers::RustcAnswers;
 use std::alloc::Global;
 use wrap::{
     ArtifactDescriptor, CCompilerKind, Compiled, Files, OsBytes, Preprocessor, Printed,
-    SingleCompileCommand, Step, Ticks, Tool, ToolFail,
+    RustcAnswers, SingleCompileCommand, Step, Ticks, Tool, ToolFail,
 };
 
 /// Runs the steps of another tool, but no more than so many compiles: a further one fails as a device does, and nothing runs.

@@ -4,6 +4,7 @@
 pub mod budget;
 pub mod build;
 pub mod capped_tool;
+pub mod door;
 pub mod misses;
 pub mod step;
 pub mod within;

@@ -3,7 +3,7 @@ use Rattle.std.specs.List.{zip}
 use Rattle.ckeys.specs.Calls.{PrintedCall}
 use Rattle.ckeys.specs.Entries.{EntryInvariant, EntryPremises}
 use Rattle.ckeys.specs.HashCalls.{AreKeyed, AreOwnKeys, KeyRun, asking_among, call_view, printed_all}
-use Rattle.ckeys.proofs.hash_keys.hash_keys.Given as goal
+use Rattle.ckeys.proofs.call_list.hash_keys.Given as goal
 
 -- what is said of all calls holds of those so far, and those to come are as they were
 abbrev pub invariant-loop-call : goal.invariant-loop-call

@@ -14,9 +14,9 @@ use Rattle.ckeys_records.specs.Keys.{record_shape}
 use Rattle.ckeys_records.specs.Views.{ToolFails}
 use Rattle.ckeys_records.specs.Params.{is_cached}
 use Rattle.ckeys_records.specs.Records.{FitsLength}
-use Rattle.ckeys.specs.declared.hash_keys.HashCall.{HashCall}
+use Rattle.ckeys.specs.declared.call_list.HashCall.{HashCall}
 use Rattle.ckeys.proofs.HashSteps.{all_more, asked_more, call_at_place, front_premises, map_more, mapped_more, no_records, rest_more, run_more, text_key, zipped_more}
-use Rattle.ckeys.proofs.hash_keys.hash_keys.Goals as goal
+use Rattle.ckeys.proofs.call_list.hash_keys.Goals as goal
 
 pub loop-call-init : goal.loop-call-init
 loop-call-init g c = record {
