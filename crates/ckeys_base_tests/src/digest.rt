@@ -6,7 +6,7 @@ ghost use Rattle.sha2.specs.Sha512.{sha512};
 ghost use Rattle.sha2.proofs.Facts512.{length-sha512};
 ghost use Rattle.ckeys_base_tests.specs.WideBytes.{AreBytes-sha512};
 
-use ckeys_base::digest::{Digest, HASH_BUFFER_SIZE, texts_tell_digests};
+use ckeys_base::digest::{Digest, hash_buffer_size, texts_tell_digests};
 use ckeys_base::error::Error;
 use ckeys_base::hash_state::HashState;
 use os_files::file_time::FileTime;
@@ -34,6 +34,9 @@ const OF_TWO_BLOCKS: &str = "42d8a6162d60838b5e0c6239c0e306933ac34e9546ff12766fc
 
 /// The digest of a million times `a`, which the standard prints as `cdc76e5c..`.
 const OF_A_MILLION: &str = "dc7ce6c59941bf29181a7c2e487de3761f08a9844a7902e040d693cc7c11c20d";
+
+/// The digest of 70,000 times `a`, which other programs print as `66915c08..`.
+const OF_70000: &str = "6619c5802739d35b407e758882dd587b7ea4e4a060f1796597b3984c51b14d5b";
 
 /// The digest of `abc` under SHA-512, which the standard prints as `ddaf35a1..`.
 const OF_ABC_WIDE: &str =
@@ -138,6 +141,7 @@ fn another_hash_has_a_longer_text(rt: HostRuntime) -> Result<(), Fail> {
 #[test]
 fn reads_past_its_buffer(rt: HostRuntime) -> Result<(), Fail> {
     let long = vec![in rt.alloc(); b'a'; 1_000_000]?;
+    assert!(rt; hash_buffer_size() < long.len());
     is_that(
         in_pieces(rt.alloc(), &long, 999)?.as_str(),
         OF_A_MILLION,
@@ -145,6 +149,16 @@ fn reads_past_its_buffer(rt: HostRuntime) -> Result<(), Fail> {
     )?;
     let read = Digest::<Sha256>::reader_sync(rt.alloc(), long.as_slice())?;
     is_that(read.as_str(), OF_A_MILLION, "a reader")
+}
+
+#[test]
+fn reads_a_byte_at_a_time(rt: HostRuntime) -> Result<(), Fail> {
+    let long = vec![in rt.alloc(); b'a'; 70_000]?;
+    is_that(
+        read_in_sips(rt.alloc(), &long)?.as_str(),
+        OF_70000,
+        "single bytes",
+    )
 }
 
 #[test]

@@ -2,6 +2,8 @@
 #![tactic(auto)]
 
 #[cfg(test)]
+mod bounded_store;
+#[cfg(test)]
 mod digest;
 #[cfg(test)]
 mod duration;

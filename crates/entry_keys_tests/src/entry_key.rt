@@ -1,6 +1,8 @@
 //! Entry keys as values, and calls of the laws.
 
-use entry_keys::entry_key::{EntryKey, entry_keys_are_their_fields};
+use entry_keys::entry_key::{
+    EntryKey, entry_keys_are_ordered_by_their_fields, entry_keys_are_their_fields,
+};
 use entry_keys::laws::{entry_keys_tell_calls, materials_tell_calls};
 use os_files::os_bytes::OsBytes;
 use sha2::Sha256;
@@ -29,6 +31,7 @@ fn keys_are_ordered_by_identity_first(rt: HostRuntime) -> Result<(), Fail> {
         assert_eq!(rt; key.cmp(&key_of(alloc, identity, text)?), order);
     }
     entry_keys_are_their_fields();
+    entry_keys_are_ordered_by_their_fields();
     materials_tell_calls();
     entry_keys_tell_calls::<Sha256>();
     Ok(())

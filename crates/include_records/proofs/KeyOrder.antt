@@ -55,7 +55,7 @@ rises-two : (q r : CachedResult) (results : List CachedResult) → is_before q.k
 unfolding rises
 rises-two q r results before h = rw (before, h) refl
 
-rises-first : (q r : CachedResult) (results : List CachedResult) → rises (q ∷ r ∷ results) ≡ true → (is_before q.key r.key ≡ true) × (rises (r ∷ results) ≡ true)
+pub rises-first : (q r : CachedResult) (results : List CachedResult) → rises (q ∷ r ∷ results) ≡ true → (is_before q.key r.key ≡ true) × (rises (r ∷ results) ≡ true)
 unfolding rises
 rises-first q r results h = and_parts _ _ h
 

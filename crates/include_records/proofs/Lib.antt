@@ -4,3 +4,4 @@ pub mod Insertion
 pub mod WholeRecords
 pub mod PartsInRow
 pub mod Looking
+pub mod Greatest

@@ -55,7 +55,7 @@ module _ (digest_of : Bytes → Bytes) (place : Place) where
     last_there-before gone = one_more ∙ ap (λ (b : Bool). cond b (Some r.key) (last_there digest_of place (take at results))) gone
 
 -- what is found is among the items and passes, and where nothing is found none does
-first_or_later : {X : Type 0} (x y : X) (xs : List X) → Contains (x ∷ xs) y → (x ≡ y) ⊎ Contains xs y
+pub first_or_later : {X : Type 0} (x y : X) (xs : List X) → Contains (x ∷ xs) y → (x ≡ y) ⊎ Contains xs y
 first_or_later x y xs c = elim (Contains-append_cases (x ∷ []) xs y c) [
   | inl first ↦ elim (Contains-push_cases [] x y first) [
     | inl none ↦ absurd (omega (arith, none.1))
@@ -64,7 +64,7 @@ first_or_later x y xs c = elim (Contains-append_cases (x ∷ []) xs y c) [
   | inr rest ↦ inr rest
 ]
 
-find_none : {X : Type 0} (p : X → Bool) (xs : List X) → find p xs ≡ None → (x : X) → Contains xs x → p x ≡ false
+pub find_none : {X : Type 0} (p : X → Bool) (xs : List X) → find p xs ≡ None → (x : X) → Contains xs x → p x ≡ false
 find_none p [] h x c = absurd (omega (arith, c.1))
 find_none {X} p (y ∷ xs) h x c = by (λ rest among. find_none p xs rest x among) (p y) refl
   where
@@ -75,7 +75,7 @@ find_none {X} p (y ∷ xs) h x c = by (λ rest among. find_none p xs rest x amon
       | inr later ↦ deeper (rw e at h) later
     ]
 
-find_some : {X : Type 0} (p : X → Bool) (xs : List X) (x : X) → find p xs ≡ Some x → Contains xs x × (p x ≡ true)
+pub find_some : {X : Type 0} (p : X → Bool) (xs : List X) (x : X) → find p xs ≡ Some x → Contains xs x × (p x ≡ true)
 find_some p [] x h = absurd cc
 find_some {X} p (y ∷ xs) x h = by (λ rest. find_some p xs x rest) (p y) refl
   where

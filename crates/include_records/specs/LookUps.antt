@@ -3,6 +3,7 @@ use Rattle.std.specs.Prelude.{◌≡◌, true, false, List, reverse, Option, Non
 use Rattle.std.specs.List.{Contains, find}
 use Rattle.std.specs.Option.{option_map}
 use Rattle.os_files.specs.Bytes.{Bytes}
+use Rattle.include_records.specs.Records.{is_before}
 use Rattle.include_records.specs.Surroundings.{Place, are_there}
 use Rattle.include_records.specs.declared.entry.CachedResult.{CachedResult}
 
@@ -10,6 +11,10 @@ use Rattle.include_records.specs.declared.entry.CachedResult.{CachedResult}
 abbrev pub LooksUp : (Bytes → Bytes) → Place → List CachedResult → Option Bytes → Type 0
 LooksUp digest_of place results None = (r : CachedResult) → Contains results r → are_there place digest_of r.includes ≡ false
 LooksUp digest_of place results (Some text_key) = (r : CachedResult) × Contains results r × (r.key ≡ text_key) × (are_there place digest_of r.includes ≡ true)
+
+-- no result whose include list is there has a greater key
+abbrev pub NoneAbove : (Bytes → Bytes) → Place → List CachedResult → Bytes → Type 0
+NoneAbove digest_of place results text_key = (r : CachedResult) → Contains results r → are_there place digest_of r.includes ≡ true → is_before text_key r.key ≡ false
 
 -- the key of the last result whose include list is there: the greatest such key, since keys rise
 abbrev pub last_there : (Bytes → Bytes) → Place → List CachedResult → Option Bytes

@@ -1,9 +1,9 @@
 //! Which text a call prints, told from what is recorded.
 
-ghost use Rattle.std.specs.Prelude.{◌≡◌, IfOk, IfErr, OnOk, IsErrOf};
+ghost use Rattle.std.specs.Prelude.{◌≡◌, IfOk, IfErr, IfSome, OnOk, IsErrOf};
 ghost use Rattle.os_files.specs.Views.{FilesFail};
 ghost use Rattle.response_files.specs.Causes.{CauseOf};
-ghost use Rattle.include_records.specs.LookUps.{LooksUp, last_there};
+ghost use Rattle.include_records.specs.LookUps.{LooksUp, NoneAbove, last_there};
 ghost use Rattle.include_records.specs.Surroundings.{place_with};
 ghost use Rattle.time_macros.specs.Days.{local_day};
 
@@ -19,7 +19,7 @@ use std::alloc::Global;
 use time_macros::zone::Zone;
 
 impl PreprocessorCacheEntry {
-    /// The key of the last result whose files are as they were recorded, on these files from that directory, at a moment in seconds
+    /// The key of the last result whose files are as they were recorded, which is the greatest of those keys, on these files from that directory, at a moment in seconds
     /// since the start of 1970 in UTC, in a zone; `None` where no result's are. Each file is looked at once.
     ///
     /// `Read` names a file on which the device failed.
@@ -37,6 +37,9 @@ impl PreprocessorCacheEntry {
         ensures found { let place = place_with dir.now (F.tree files.old)
             (local_day zone.now moment) in
             IfOk result (LooksUp H.digest_of place self.now.results) }
+        ensures greatest { let place = place_with dir.now (F.tree files.old)
+            (local_day zone.now moment) in
+            IfOk result (λ key. IfSome key (NoneAbove H.digest_of place self.now.results)) }
         ensures cause { IfErr result
             (CauseOf (FilesFail F.Files files.old files.new)) }
         ensures tree { F.tree files.new ≡ F.tree files.old }

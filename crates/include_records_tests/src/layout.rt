@@ -83,6 +83,35 @@ fn other_bytes_are_refused(rt: HostRuntime) -> Result<(), Fail> {
     Ok(())
 }
 
+/// A record that says that it has 2 ^ 60 results, and has none.
+const ENDLESS: &[u8] = b"\x01\0\0\0\0\0\0\0\x10";
+
+#[test]
+fn a_count_takes_no_memory(rt: HostRuntime) -> Result<(), Fail> {
+    let read = PreprocessorCacheEntry::read(rt.alloc(), ENDLESS);
+    assert_eq!(rt; read.err(), Some(Error::Deserialization));
+    Ok(())
+}
+
+#[test]
+fn a_long_record_is_written(rt: HostRuntime) -> Result<(), Fail> {
+    let alloc = rt.alloc();
+    let mut includes = Listed::new(alloc);
+    includes.push(IncludeEntry {
+        path: OsBytes::from_vec(vec![in alloc; b'a'; 1_048_577]?),
+        size: 3,
+        digest: KeyText::new(String::from_str(alloc, "ab")?),
+        day: None,
+        second: None,
+    })?;
+    let mut entry = PreprocessorCacheEntry::new(alloc);
+    entry.add_result(KeyText::new(String::from_str(alloc, "a")?), includes)?;
+    let bytes = bytes_of(alloc, &entry)?;
+    assert_eq!(rt; bytes.len(), 1_048_577 + OF_AN_INCLUDE.len() - 3 - 8);
+    assert_eq!(rt; again(alloc, &bytes)?.as_slice(), bytes.as_slice());
+    Ok(())
+}
+
 /// Two results whose keys are equal, and two whose keys fall.
 const DOUBLED: &[u8] =
     b"\x01\x02\0\0\0\0\0\0\0\x01\0\0\0\0\0\0\0k\0\0\0\0\0\0\0\0\x01\0\0\0\0\0\0\0k\0\0\0\0\0\0\0\0";

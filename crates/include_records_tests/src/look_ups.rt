@@ -1,5 +1,6 @@
 //! What records tell of files.
 
+use crate::watched_files::WatchedFiles;
 use include_records::entry::IncludeEntry;
 use include_records::includes::includes_of;
 use include_records::key_text::KeyText;
@@ -121,6 +122,39 @@ fn past_the_calendar_nothing_is_recorded(rt: HostRuntime) -> Result<(), Fail> {
         Some(_) => Err("recorded".into()),
         None => Ok(()),
     }
+}
+
+#[test]
+fn each_file_is_looked_at_once(rt: HostRuntime) -> Result<(), Fail> {
+    let alloc = rt.alloc();
+    let mut files = WatchedFiles {
+        files: files_with(
+            alloc,
+            &[("a.h", b"abc", 7), ("b.h", b"b", 7), ("c.h", b"c", 7)],
+        )?,
+        calls: 0,
+        broken: b"",
+        failed: 0,
+    };
+    let mut entry = PreprocessorCacheEntry::new(alloc);
+    record_of(alloc, &mut entry, "one", &["a.h", "b.h"], &mut files)?;
+    record_of(alloc, &mut entry, "two", &["a.h", "c.h"], &mut files)?;
+    let changed = MemoryFile {
+        contents: OsBytes::from_slice(alloc, b"C")?,
+        mtime: FileTime::from_seconds(7),
+    };
+    files
+        .files
+        .insert(OsBytes::from_slice(alloc, b"/w/c.h")?, changed)?;
+    files.calls = 0;
+    is_that(
+        told(alloc, &entry, MOMENT, &mut files)?.as_str(),
+        "one",
+        "the first",
+    )?;
+    // The contents and the second of each of the three.
+    assert_eq!(rt; files.calls, 6);
+    Ok(())
 }
 
 #[test]
