@@ -1,9 +1,10 @@
 //! Which text a call prints, told from what is recorded.
 
-ghost use Rattle.std.specs.Prelude.{◌≡◌, IfOk, IfErr, IfSome, OnOk, IsErrOf};
+ghost use Rattle.std.specs.Prelude.{◌≡◌, true, IfOk, IfErr, IfSome, OnOk, IsErrOf};
 ghost use Rattle.os_files.specs.Views.{FilesFail};
 ghost use Rattle.response_files.specs.Causes.{CauseOf};
 ghost use Rattle.include_records.specs.LookUps.{LooksUp, NoneAbove, last_there};
+ghost use Rattle.include_records.specs.Records.{is_record};
 ghost use Rattle.include_records.specs.Surroundings.{place_with};
 ghost use Rattle.time_macros.specs.Days.{local_day};
 
@@ -19,8 +20,8 @@ use std::alloc::Global;
 use time_macros::zone::Zone;
 
 impl PreprocessorCacheEntry {
-    /// The key of the last result whose files are as they were recorded, which is the greatest of those keys, on these files from that directory, at a moment in seconds
-    /// since the start of 1970 in UTC, in a zone; `None` where no result's are. Each file is looked at once.
+    /// The greatest key of those results whose files are as they were recorded, on these files from that directory, at a moment in
+    /// seconds since the start of 1970 in UTC, in a zone; `None` where no result's are. Each file is looked at once.
     ///
     /// `Read` names a file on which the device failed.
     pub fn lookup_result_digest<H: HashState, F: Files>(
@@ -50,7 +51,7 @@ impl PreprocessorCacheEntry {
         self.last_there::<H, F>(alloc, dir, day_of(moment, zone), files)
     }
 
-    /// The same on a day.
+    /// The same on a day. The keys of a record rise, so the last is the greatest.
     fn last_there<H: HashState, F: Files>(
         &self,
         alloc: Global,
@@ -60,6 +61,7 @@ impl PreprocessorCacheEntry {
     ) -> Result<Option<KeyText>, ParseFault>
         ensures last { let place = place_with dir.now (F.tree files.old) day in
             IfOk result (λ key. key ≡ last_there H.digest_of place self.now.results) }
+        ensures record { is_record self.now.results ≡ true }
         ensures cause { IfErr result
             (CauseOf (FilesFail F.Files files.old files.new)) }
         ensures tree { F.tree files.new ≡ F.tree files.old }

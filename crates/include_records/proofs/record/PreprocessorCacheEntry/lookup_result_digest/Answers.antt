@@ -1,9 +1,9 @@
-use Rattle.std.proofs.Common.{◌≡◌, true, ℤ, Option, sym, ap, ◌∙◌}
+use Rattle.std.proofs.Common.{◌≡◌, true, ℤ, Option, ap, ◌∙◌}
 use Rattle.std.proofs.lemmas.Int.{to_z-of_z}
 use Rattle.std.proofs.lemmas.Result.{IfOk-weaker}
 use Rattle.std.proofs.lemmas.Bool.{and_parts}
 use Rattle.include_records.specs.LookUps.{last_there}
-use Rattle.include_records.specs.Records.{Record, is_small, rises}
+use Rattle.include_records.specs.Records.{is_small, rises}
 use Rattle.include_records.specs.Surroundings.{place_with}
 use Rattle.include_records.proofs.Greatest.{last_there-greatest}
 use Rattle.include_records.proofs.Looking.{last_there-looks_up}
@@ -27,6 +27,6 @@ returns-clause-greatest g c =
     let moment_fits = c.ranges.moment in
     let day : c.day_of.result ≡ local_day c.args.zone.now c.args.moment = simp to_z-of_z at c.day_of.ensures in
     let results = c.args.self.now.results in
-    let up : rises results ≡ true = ap (λ (r : Record). rises r.results) (sym c.self.view_is) ∙ (and_parts (is_small c.self.inside.results.items) (rises c.self.inside.results.items) c.self.invariant.1).1 in
+    let up : rises results ≡ true = (and_parts (is_small results) (rises results) c.last_there.ensures.record).1 in
     IfOk-weaker c.last_there.result _ _ (λ key is. last_there-greatest digest_of (place_with c.args.dir.now tree (local_day c.args.zone.now c.args.moment)) results up key
     (is ∙ ap (λ (d : Option ℤ). last_there digest_of (place_with c.args.dir.now tree d) results) day)) c.last_there.ensures.last
