@@ -1,6 +1,7 @@
 //! What can stand as a field of a layout.
 
 ghost use Rattle.std.specs.Prelude.{◌≡◌, ◌++◌, OnOk, None};
+ghost use Rattle.std.specs.Io.{StartsWith};
 ghost use Rattle.std.specs.List.{flat_map, AllByRecursion};
 ghost use Rattle.os_files.specs.Bytes.{Bytes};
 ghost use Rattle.byte_formats.specs.Formats.{IsFormat};
@@ -32,10 +33,11 @@ pub trait Field: Drop {
     fn read(alloc: Global, bytes: &[u8]) -> Result<(Self, &[u8]), ReadFault>
         ensures { Gives (λ x. (x.0, x.1.now)) result (reads bytes.now) };
 
-    /// Adds the bytes of this value. Where no memory was left, a part of them may have been added.
+    /// Adds the bytes of this value. Where no memory was left, a part of them may have been added behind what stood there.
     fn put(&self, out: &mut Vec<u8>) -> Result<(), AllocError>
         ensures added { OnOk result (out.new.items ≡ out.old.items ++ spells self.now) }
-        ensures fits { OnOk result (fits self.now) };
+        ensures fits { OnOk result (fits self.now) }
+        ensures front { StartsWith out.new.items out.old.items };
 }
 
 /// A number of eight bytes, low byte first.
@@ -148,10 +150,11 @@ fn read_times<T: Field>(
     Ok((all, rest))
 }
 
-/// Adds the bytes of each value. Where no memory was left, a part of them may have been added.
+/// Adds the bytes of each value. Where no memory was left, a part of them may have been added behind what stood there.
 pub fn put_all<T: Field>(out: &mut Vec<u8>, values: &[T]) -> Result<(), AllocError>
     ensures added { OnOk result (out.new.items ≡ out.old.items ++ flat_map T.spells values.now) }
     ensures fits { OnOk result (AllByRecursion T.fits values.now) }
+    ensures front { StartsWith out.new.items out.old.items }
 {
     for value in values {
         value.put(out)?;

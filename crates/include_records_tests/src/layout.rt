@@ -1,7 +1,7 @@
 //! The bytes of records.
 
-use include_records::entry::IncludeEntry;
 use ckeys_base::error::Error;
+use include_records::entry::IncludeEntry;
 use include_records::key_text::KeyText;
 use include_records::record::PreprocessorCacheEntry;
 use os_files::listed::Listed;
