@@ -1,5 +1,5 @@
-//! Keys of C requests: what is hashed of a request, in which order, and what its bytes alone don't tell; and with it all that a caller
-//! of a key names.
+//! Keys of C requests: what is hashed of a request, in which order, and what its bytes alone don't tell; and with it the names of the
+//! layers below that a caller of a key uses. Words, compilers and files are handed on by `cmdlines`.
 #![tactic(auto)]
 
 pub mod call_list;
@@ -35,6 +35,7 @@ pub use ckeys_records::step::Step;
 pub use cmdlines_base::command::ArtifactDescriptor;
 pub use cmdlines_requests::parsed::ParsedArguments;
 pub use cmdlines_tables::compiler::CCompilerKind;
+pub use cmdlines_tables::language::Language;
 pub use compiler::CCompiler;
 pub use compiler_impl::CCompilerImpl;
 pub use entry_keys::entry_key::EntryKey;
@@ -52,4 +53,4 @@ pub use time_macros::metadata_ctime_ext::MetadataCtimeExt;
 pub use time_macros::reader_time_macros::reader_sync_time_macros;
 pub use time_macros::time_macro_finder::TimeMacroFinder;
 pub use time_macros::timestamp::Timestamp;
-pub use time_macros::zone::Zone;
+pub use time_macros::zone::{Zone, ZoneError};

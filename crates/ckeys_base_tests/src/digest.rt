@@ -177,6 +177,24 @@ fn shows_each_piece_in_order(rt: HostRuntime) -> Result<(), Fail> {
     is_that(text.as_str(), OF_ABC, "abc")
 }
 
+/// Three pieces were read before the failure, and none is empty.
+#[test]
+fn what_came_before_a_failure_is_shown(rt: HostRuntime) -> Result<(), Fail> {
+    let sips = Sips {
+        rest: b"abc",
+        most: 1,
+        fails: true,
+    };
+    let mut shown = 0u64;
+    let text = Digest::<Sha256>::reader_sync_with(rt.alloc(), sips, |piece: &[u8]| {
+        let first = piece.first().copied().unwrap_or(0);
+        shown = shown.wrapping_mul(256).wrapping_add(u64::from(first));
+    });
+    assert_eq!(rt; shown, 0x61_62_63);
+    assert_eq!(rt; text.err(), Some(Error::Io));
+    Ok(())
+}
+
 #[test]
 fn a_failed_read_is_told(rt: HostRuntime) -> Result<(), Fail> {
     let sips = Sips {

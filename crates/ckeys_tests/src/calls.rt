@@ -14,7 +14,7 @@ use ckeys_records::preprocessor::Preprocessor;
 use ckeys_records::shape::CShape;
 use cmdlines::gcc::Gcc;
 use cmdlines_tables::language::Language;
-use os_files::memory_files::MemoryFiles;
+use os_files::files::Files;
 use os_files::os_bytes::OsBytes;
 use sha2::Sha256;
 use std::alloc::{AllocError, Global};
@@ -22,6 +22,7 @@ use std::num::NonZeroUsize;
 use std::test::Fail;
 use test_kit::rows::files_of;
 use test_kit::texts::is_that;
+use test_kit::watched_files::WatchedFiles;
 use time_macros::zone::Zone;
 
 /// The include records of earlier calls.
@@ -34,12 +35,12 @@ pub(crate) fn known<I: Drop>(alloc: Global, compiler: I) -> Result<CCompiler<I>,
 }
 
 /// What is answered of the key of this call of gcc from an empty store of records.
-fn key_by(
+fn key_by<F: Files>(
     alloc: Global,
     hasher: &CCompilerHasher<'_, Gcc>,
     dir: &OsBytes,
     config: &KeyConfig,
-    files: &mut MemoryFiles,
+    files: &mut F,
     tool: &mut PrintTool,
 ) -> Result<(String, CShape, bool), Fault> {
     let mut records: Records = LruStore::new(alloc, NonZeroUsize::MIN)?;
@@ -49,7 +50,7 @@ fn key_by(
         moment: 0,
         config,
     };
-    hasher.generate_hash_key::<Sha256, Records, MemoryFiles, PrintTool>(
+    hasher.generate_hash_key::<Sha256, Records, F, PrintTool>(
         alloc,
         &at,
         &mut records,
@@ -67,10 +68,10 @@ fn told(alloc: Global, answer: Result<(String, CShape, bool), Fault>) -> Result<
 }
 
 /// The key of this line of gcc in `/w` on these files, or the fault as text.
-fn key_on(
+fn key_on<F: Files>(
     alloc: Global,
     line: &str,
-    files: &mut MemoryFiles,
+    files: &mut F,
     tool: &mut PrintTool,
 ) -> Result<String, Fail> {
     let dir = OsBytes::from_slice(alloc, b"/w")?;
@@ -133,6 +134,22 @@ fn requests_by_their_bytes(rt: HostRuntime) -> Result<(), Fail> {
     for row in ROWS.iter() {
         is_hashed(rt.alloc(), row)?;
     }
+    Ok(())
+}
+
+#[test]
+fn a_missing_file_is_looked_for_once(rt: HostRuntime) -> Result<(), Fail> {
+    let alloc = rt.alloc();
+    let mut files = WatchedFiles {
+        files: files_of(alloc, &[("/w/foo.c", b"int x;".as_slice())])?,
+        calls: 0,
+        broken: b"",
+        failed: 0,
+    };
+    let mut tool = PrintTool::new(alloc, b"int x;")?;
+    let told = key_on(alloc, "-c foo.c -fplugin=p.so", &mut files, &mut tool)?;
+    is_that(told.as_str(), "read /w/p.so", "the fault")?;
+    assert_eq!(rt; files.calls, 1);
     Ok(())
 }
 

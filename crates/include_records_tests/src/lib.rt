@@ -27,5 +27,3 @@ mod timestamps;
 mod told;
 #[cfg(test)]
 mod walk;
-#[cfg(test)]
-mod watched_files;

@@ -1,6 +1,5 @@
 //! What records tell of files.
 
-use crate::watched_files::WatchedFiles;
 use include_records::entry::IncludeEntry;
 use include_records::includes::includes_of;
 use include_records::key_text::KeyText;
@@ -16,6 +15,7 @@ use std::alloc::{AllocError, Global};
 use std::test::Fail;
 use test_kit::fail_files::FailFiles;
 use test_kit::texts::is_that;
+use test_kit::watched_files::WatchedFiles;
 use time_macros::zone::Zone;
 
 /// 2023-11-14 22:13:20 in UTC, of day 19675; the next day began at 1700006400.

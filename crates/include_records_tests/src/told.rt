@@ -1,6 +1,5 @@
 //! What a walk tells of a text, as bytes to compare.
 
-use crate::watched_files::WatchedFiles;
 use marker_walk::answer::Walk;
 use marker_walk::walk::walk;
 use os_files::file_time::FileTime;
@@ -8,6 +7,7 @@ use os_files::memory_files::{MemoryFile, MemoryFiles};
 use os_files::os_bytes::OsBytes;
 use std::alloc::{AllocError, Global};
 use std::test::Fail;
+use test_kit::watched_files::WatchedFiles;
 
 /// The name of a file whose contents can't be read.
 pub(crate) const BROKEN: &[u8] = b"/w/broken.h";

@@ -1,12 +1,12 @@
 //! Lines that refuse a text, plain ones, markers, and devices that fail.
 
 use crate::told::{BROKEN, told};
-use crate::watched_files::WatchedFiles;
 use marker_walk::walk::walk;
 use os_files::memory_files::MemoryFiles;
 use os_files::os_bytes::OsBytes;
 use response_files::fault::ParseFault;
 use std::test::Fail;
+use test_kit::watched_files::WatchedFiles;
 
 #[test]
 fn refuses_what_it_cannot_tell(rt: HostRuntime) -> Result<(), Fail> {
@@ -73,6 +73,19 @@ fn reads_markers_with_anything_behind(rt: HostRuntime) -> Result<(), Fail> {
             text.escape_ascii()
         );
         assert_eq!(rt; calls, 1);
+    }
+    Ok(())
+}
+
+#[test]
+fn a_name_that_comes_again_costs_no_call(rt: HostRuntime) -> Result<(), Fail> {
+    let once = b"# 1 \"x.h\" 1\n# 1 \"gone.h\" 1\n";
+    let again =
+        b"# 1 \"x.h\" 1\n# 1 \"gone.h\" 1\n# 3 \"x.h\" 2\n# 1 \"gone.h\" 1\n# 9 \"x.h\" 2\n";
+    for text in [once.as_slice(), again.as_slice()] {
+        let (lines, calls) = told(rt.alloc(), text, b"a.c", b"/w/x.h")?;
+        assert_eq!(rt; lines.as_slice(), b"x.h\n".as_slice());
+        assert_eq!(rt; calls, 2);
     }
     Ok(())
 }

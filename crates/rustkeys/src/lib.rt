@@ -1,5 +1,5 @@
-//! Keys of requests to rustc: what is asked for one, what is hashed of it, and what a compile of it runs; and with it all that a caller of
-//! a key names.
+//! Keys of requests to rustc: what is asked for one, what is hashed of it, and what a compile of it runs; and with it the
+//! names of the layers below that a caller of a key uses. Words and files are handed on by `cmdlines`, texts and faults by `ckeys`.
 #![tactic(auto)]
 
 pub mod answers;

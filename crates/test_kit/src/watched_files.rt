@@ -8,15 +8,16 @@ use os_files::memory_files::MemoryFiles;
 use os_files::os_bytes::OsBytes;
 use std::alloc::Global;
 
+/// Files in memory, the number of the calls of them, and the name at which the device fails.
 #[derive(Drop)]
-pub(crate) struct WatchedFiles<'a> {
-    pub(crate) files: MemoryFiles,
+pub struct WatchedFiles<'a> {
+    pub files: MemoryFiles,
     /// How often they were asked.
-    pub(crate) calls: u64,
+    pub calls: u64,
     /// The name whose contents can't be read.
-    pub(crate) broken: &'a [u8],
+    pub broken: &'a [u8],
     /// How often the device failed.
-    pub(crate) failed: u64,
+    pub failed: u64,
 }
 
 impl<'a> WatchedFiles<'a> {
