@@ -50,13 +50,7 @@ fn key_by<F: Files>(
         moment: 0,
         config,
     };
-    hasher.generate_hash_key::<Sha256, Records, F, PrintTool>(
-        alloc,
-        &at,
-        &mut records,
-        files,
-        tool,
-    )
+    hasher.generate_hash_key::<Sha256, Records, F, PrintTool>(alloc, &at, &mut records, files, tool)
 }
 
 /// The key, or the fault as text.

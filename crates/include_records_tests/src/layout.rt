@@ -7,9 +7,8 @@ use include_records::record::PreprocessorCacheEntry;
 use os_files::listed::Listed;
 use os_files::os_bytes::OsBytes;
 use std::alloc::Global;
-use std::io;
-use std::io::Write;
 use std::test::Fail;
+use test_kit::narrow_writer::NarrowWriter;
 
 /// The result `k` without includes.
 const OF_K: &[u8] = b"\x01\x01\0\0\0\0\0\0\0\x01\0\0\0\0\0\0\0k\0\0\0\0\0\0\0\0";
@@ -128,24 +127,11 @@ fn keys_must_rise(rt: HostRuntime) -> Result<(), Fail> {
     Ok(())
 }
 
-/// Takes nothing.
-#[derive(Drop)]
-struct BrokenWriter {}
-
-impl Write for BrokenWriter {
-    fn write(&mut self, _buf: &[u8]) -> io::Result<usize> {
-        Err(io::Error::from(io::ErrorKind::Other))
-    }
-
-    fn flush(&mut self) -> io::Result<()> {
-        Ok(())
-    }
-}
-
 #[test]
-fn a_writer_that_fails_is_told(rt: HostRuntime) -> Result<(), Fail> {
+fn a_writer_that_fails_holds_a_beginning(rt: HostRuntime) -> Result<(), Fail> {
     let entry = PreprocessorCacheEntry::new(rt.alloc());
-    let written = entry.serialize_to(&mut BrokenWriter {});
-    assert_eq!(rt; written.err(), Some(Error::Io));
+    let mut narrow = NarrowWriter::new(rt.alloc(), 4);
+    assert_eq!(rt; entry.serialize_to(&mut narrow).err(), Some(Error::Io));
+    assert_eq!(rt; narrow.held.as_slice(), b"\x01\0\0\0".as_slice());
     Ok(())
 }

@@ -12,6 +12,8 @@ mod fail_tool;
 #[cfg(test)]
 mod forgetful;
 #[cfg(test)]
+mod map_store;
+#[cfg(test)]
 mod marks;
 #[cfg(test)]
 mod scene;
