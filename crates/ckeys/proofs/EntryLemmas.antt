@@ -17,7 +17,7 @@ use Rattle.time_macros.specs.Macros.{holds_date, holds_timestamp}
 use Rattle.include_records.specs.LookUps.{LooksUp}
 use Rattle.include_records.specs.Records.{Record, result_with}
 use Rattle.include_records.specs.Results.{with_result}
-use Rattle.include_records.specs.Surroundings.{Place, are_there, contents_in, dated, fits_contents, include_with, includes_of, is_the, lacks_day, path_at, second_at, stamped}
+use Rattle.include_records.specs.Surroundings.{Place, are_there, contents_in, dated, fits_contents, in_front, include_with, included, includes_of, is_the, lacks_day, path_at, second_at, stamped}
 use Rattle.include_records.specs.declared.entry.CachedResult.{CachedResult}
 use Rattle.include_records.specs.declared.entry.IncludeEntry.{IncludeEntry}
 use Rattle.entry_keys.specs.declared.entry_key.EntryKey.{EntryKey}
@@ -56,29 +56,29 @@ module _ (place : Place) (digest_of : Bytes → Bytes) where
   own_fits : (name contents : Bytes) → fits_contents place digest_of (include_with place digest_of name contents) (Some contents) ≡ true
   own_fits name contents = and_from _ _ ((Decides-eqb (length contents) (length contents)).1 refl) (and_from _ _ ((bytes_eq-Decides (hex_of (digest_of contents)) (hex_of (digest_of contents))).1 refl) (and_from _ _ (the_dated contents place.day) (the_stamped contents (second_at place.files (path_at place name)))))
 
-  own_next : (name : Bytes) (names : List Bytes) → is_file_at place.files (path_at place name) ≡ true → (lacks : Bool) (rest : Option (List IncludeEntry)) → ((tail : List IncludeEntry) → rest ≡ Some tail → are_there place digest_of tail ≡ true)
-      → (includes : List IncludeEntry) → (if lacks then None else option_map (λ tail. include_with place digest_of name (contents_in place.files (path_at place name)) ∷ tail) rest) ≡ Some includes → are_there place digest_of includes ≡ true
-  own_next name names file true rest on includes e = cc
-  own_next name names file false None on includes e = cc
-  own_next name names file false (Some tail) on includes e =
+  own_next : (name contents : Bytes) → contents_at place.files (path_at place name) ≡ Some contents → (lacks : Bool) (rest : Option (List IncludeEntry)) → ((tail : List IncludeEntry) → rest ≡ Some tail → are_there place digest_of tail ≡ true)
+      → (includes : List IncludeEntry) → in_front place digest_of (if lacks then None else Some (include_with place digest_of name contents)) rest ≡ Some includes → are_there place digest_of includes ≡ true
+  own_next name contents read true rest on includes e = cc
+  own_next name contents read false None on includes e = cc
+  own_next name contents read false (Some tail) on includes e =
       let whole = some_same _ _ e in
-      let it = there_of place.files (path_at place name) file in
-      let read = contents_are place.files (path_at place name) it.0 it.1 in
-      let first : fits_contents place digest_of (include_with place digest_of name (contents_in place.files (path_at place name))) (contents_at place.files (path_at place name)) ≡ true = subst (λ o. fits_contents place digest_of (include_with place digest_of name (contents_in place.files (path_at place name))) o ≡ true) (ap Some read ∙ sym it.1) (own_fits name (contents_in place.files (path_at place name))) in
+      let first : fits_contents place digest_of (include_with place digest_of name contents) (contents_at place.files (path_at place name)) ≡ true = subst (λ o. fits_contents place digest_of (include_with place digest_of name contents) o ≡ true) (sym read) (own_fits name contents) in
       subst (λ (l : List IncludeEntry). are_there place digest_of l ≡ true) whole (and_from _ _ first (on tail refl))
 
+  own_file : (name : Bytes) (o : Option Bytes) → contents_at place.files (path_at place name) ≡ o → (rest : Option (List IncludeEntry)) → ((tail : List IncludeEntry) → rest ≡ Some tail → are_there place digest_of tail ≡ true)
+      → (includes : List IncludeEntry) → in_front place digest_of (included place digest_of name o) rest ≡ Some includes → are_there place digest_of includes ≡ true
+  own_file name None read rest on includes e = cc
+  own_file name (Some contents) read rest on includes e = own_next name contents read (lacks_day contents place.day) rest on includes e
+
   -- a call's own include list is there
-  own_there : (names : List Bytes) → ((name : Bytes) → Contains names name → is_file_at place.files (path_at place name) ≡ true) → (includes : List IncludeEntry) → includes_of place digest_of names ≡ Some includes → are_there place digest_of includes ≡ true
-  own_there [] files includes e = let whole = some_same _ _ e in subst (λ (l : List IncludeEntry). are_there place digest_of l ≡ true) whole refl
-  own_there (name ∷ names) files includes e = own_next name names (files name (0, omega arith, refl)) (lacks_day (contents_in place.files (path_at place name)) place.day) (includes_of place digest_of names) (λ tail f. own_there names (λ n c. files n (further c)) tail f) includes e
-    where
-      further : {n : Bytes} → Contains names n → Contains (name ∷ names) n
-      further c = (suc c.0, omega (arith, c.1), c.2)
+  own_there : (names : List Bytes) (includes : List IncludeEntry) → includes_of place digest_of names ≡ Some includes → are_there place digest_of includes ≡ true
+  own_there [] includes e = let whole = some_same _ _ e in subst (λ (l : List IncludeEntry). are_there place digest_of l ≡ true) whole refl
+  own_there (name ∷ names) includes e = own_file name (contents_at place.files (path_at place name)) refl (includes_of place digest_of names) (own_there names) includes e
 
   pub recorded_there : (input text : Bytes) (includes : List IncludeEntry) → recorded_of place digest_of input text ≡ Some includes → are_there place digest_of includes ≡ true
   recorded_there input text includes e =
       let parts = recorded_parts place digest_of (named_at place input text) includes e in
-      own_there parts.0 (names_there place input text parts.0 parts.1) includes parts.2
+      own_there parts.0 includes parts.2
 
 no_key : (c : KeyCall) → has_entry_key c ≡ true → has_entry_key c ≡ false → ⊥
 no_key c p q = let h = sym p ∙ q in cc

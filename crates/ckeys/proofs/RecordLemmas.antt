@@ -18,7 +18,7 @@ use Rattle.ckeys_base.specs.Shelf.{Shelf}
 use Rattle.time_macros.specs.Macros.{holds_date, holds_timestamp}
 use Rattle.marker_walk.specs.Named.{accepted, is_named, marker_names, tells_time}
 use Rattle.include_records.specs.Records.{Record}
-use Rattle.include_records.specs.Surroundings.{Place, are_there, contents_in, dated, fits_contents, include_with, includes_of, is_the, lacks_day, path_at, second_at, stamped}
+use Rattle.include_records.specs.Surroundings.{Place, are_there, contents_in, dated, fits_contents, in_front, include_with, included, includes_of, is_the, lacks_day, path_at, second_at, stamped}
 use Rattle.include_records.specs.declared.entry.IncludeEntry.{IncludeEntry}
 use Rattle.entry_keys.specs.Identity.{Identity}
 use Rattle.entry_keys.specs.Sights.{Sights}
@@ -107,8 +107,8 @@ module _ (digest_of : Bytes → Bytes) (before now : Place) where
   abbrev pub Goal : List Bytes → List IncludeEntry → Type 0
   Goal names includes = (name : Bytes) → Contains names name → (was : Bytes) → contents_at before.files (path_at before name) ≡ Some was → Found name was
 
-  found_next : (first : Bytes) (names : List Bytes) (was : Bytes) → contents_in before.files (path_at before first) ≡ was → (lacks : Bool) → lacks_day was before.day ≡ lacks → (rest : Option (List IncludeEntry)) → ((tail : List IncludeEntry) → rest ≡ Some tail → are_there now digest_of tail ≡ true → Goal names tail)
-      → (includes : List IncludeEntry) → (if lacks then None else option_map (λ tail. include_with before digest_of first was ∷ tail) rest) ≡ Some includes → are_there now digest_of includes ≡ true → Goal (first ∷ names) includes
+  found_next : (first : Bytes) (names : List Bytes) (was : Bytes) → contents_at before.files (path_at before first) ≡ Some was → (lacks : Bool) → lacks_day was before.day ≡ lacks → (rest : Option (List IncludeEntry)) → ((tail : List IncludeEntry) → rest ≡ Some tail → are_there now digest_of tail ≡ true → Goal names tail)
+      → (includes : List IncludeEntry) → in_front before digest_of (if lacks then None else Some (include_with before digest_of first was)) rest ≡ Some includes → are_there now digest_of includes ≡ true → Goal (first ∷ names) includes
   found_next first names was same true l rest on includes e h = cc
   found_next first names was same false l None on includes e h = cc
   found_next first names was same false l (Some tail) on includes e h =
@@ -117,14 +117,19 @@ module _ (digest_of : Bytes → Bytes) (before now : Place) where
       λ name among contents there. elim (cons_cases first names name among) [
         | inl at ↦
             let path : path_at before first ≡ path_at before name = ap (path_at before) at in
-            let it : was ≡ contents = sym same ∙ ap (contents_in before.files) path ∙ contents_are before.files (path_at before name) contents there in
+            let it : was ≡ contents = some_same _ _ (sym same ∙ ap (contents_at before.files) path ∙ there) in
             subst (λ (n : Bytes). Found n contents) at (subst (λ (c : Bytes). Found first c) it (found_one first was l (contents_at now.files (path_at now first)) refl both.0))
         | inr later ↦ on tail refl both.1 name later contents there
       ]
 
+  found_file : (first : Bytes) (names : List Bytes) (o : Option Bytes) → contents_at before.files (path_at before first) ≡ o → (rest : Option (List IncludeEntry)) → ((tail : List IncludeEntry) → rest ≡ Some tail → are_there now digest_of tail ≡ true → Goal names tail)
+      → (includes : List IncludeEntry) → in_front before digest_of (included before digest_of first o) rest ≡ Some includes → are_there now digest_of includes ≡ true → Goal (first ∷ names) includes
+  found_file first names None same rest on includes e h = cc
+  found_file first names (Some was) same rest on includes e h = found_next first names was same (lacks_day was before.day) refl rest on includes e h
+
   pub found_all : (names : List Bytes) (includes : List IncludeEntry) → includes_of before digest_of names ≡ Some includes → are_there now digest_of includes ≡ true → Goal names includes
   found_all [] includes e h = λ name among was there. let within = among.1 in absurd (omega arith)
-  found_all (first ∷ names) includes e h = found_next first names (contents_in before.files (path_at before first)) refl (lacks_day (contents_in before.files (path_at before first)) before.day) refl (includes_of before digest_of names) (λ tail f t. found_all names tail f t) includes e h
+  found_all (first ∷ names) includes e h = found_file first names (contents_at before.files (path_at before first)) refl (includes_of before digest_of names) (λ tail f t. found_all names tail f t) includes e h
 
 -- the named files of a text are there
 pub names_there : (place : Place) (input text : Bytes) (names : List Bytes) → named_at place input text ≡ Some names → (name : Bytes) → Contains names name → is_file_at place.files (path_at place name) ≡ true
