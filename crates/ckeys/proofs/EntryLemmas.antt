@@ -10,9 +10,9 @@ use Rattle.std.proofs.lemmas.Bool.{and_from}
 use Rattle.std.proofs.lemmas.Bool.Decides.{Decides-eqb, Decides-int_eq}
 use Rattle.std.proofs.lemmas.Slice.Eq.{bytes_eq-Decides}
 use Rattle.os_files.specs.Bytes.{Bytes, ticked}
-use Rattle.os_files.specs.Tree.{contents_at, is_file_at}
+use Rattle.os_files.specs.Tree.{contents_at}
 use Rattle.ckeys_base.specs.Hex.{hex_of}
-use Rattle.ckeys_base.specs.Shelf.{Shelf, Asks, Puts}
+use Rattle.ckeys_base.specs.Shelf.{Shelf, Asks, Puts, Within}
 use Rattle.time_macros.specs.Macros.{holds_date, holds_timestamp}
 use Rattle.include_records.specs.LookUps.{LooksUp}
 use Rattle.include_records.specs.Records.{Record, result_with}
@@ -21,16 +21,16 @@ use Rattle.include_records.specs.Surroundings.{Place, are_there, contents_in, da
 use Rattle.include_records.specs.declared.entry.CachedResult.{CachedResult}
 use Rattle.include_records.specs.declared.entry.IncludeEntry.{IncludeEntry}
 use Rattle.entry_keys.specs.declared.entry_key.EntryKey.{EntryKey}
-use Rattle.ckeys.specs.Calls.{KeyCall, PrintedCall, input_path, key_fault_by, needs_preprocessing, record_by, text_by, text_fault_by, extra_paths, missing_input}
+use Rattle.ckeys.specs.Calls.{KeyCall, PrintedCall, early_fault_of, input_path, key_fault_by, needs_preprocessing, record_by, text_by, text_fault_by, extra_paths, missing_input}
 use Rattle.ckeys_records.specs.Faults.{preprocess_fault_of, read_fault_of, first_missing, or_else}
 use Rattle.ckeys_records.specs.Meaning.{text_in}
 use Rattle.ckeys.specs.Entries.{AreTrue, HasMatch, Held, IsFramed, IsOwnResult, entry_key_of, good_text, has_entry_key, includes_by}
-use Rattle.ckeys.specs.EntryTurns.{EntryTurn, Gains, IsHeldFor, IsJoined, IsOwnPair, IsSpared, Keeps, KeptOn, KeyFine, KeyFrom, KeyRecorded, PutsNone, TextFine, results_of}
+use Rattle.ckeys.specs.EntryTurns.{EntryTurn, Gains, IsHeldFor, IsJoined, IsOwnPair, IsPut, IsSpared, IsToldOf, Keeps, KeptOn, KeyFine, KeyFrom, KeyRecorded, PutsJoined, PutsNone, TextFine, results_of}
 use Rattle.ckeys_records.specs.Keys.{key_of}
 use Rattle.ckeys.specs.Surroundings.{named_at, place_of, recorded_of}
 use Rattle.ckeys_records.specs.declared.fault.Fault.{Fault}
 use Rattle.ckeys_records.specs.declared.fault.Fault.TheVariants.{Read, PreprocessFailed}
-use Rattle.ckeys.proofs.RecordLemmas.{contents_are, has_key, is_preprocessed, names_there, recorded_parts, some_same, there_of}
+use Rattle.ckeys.proofs.RecordLemmas.{has_key, is_preprocessed, recorded_parts, some_same}
 
 -- a day is the day itself
 the_same : (d : Option ℤ) → is_the d d ≡ true
@@ -109,6 +109,15 @@ put_holds : (eq : EntryKey → EntryKey → Bool) (new : Shelf EntryKey Record) 
 put_holds eq new key value asked (Ok u) puts kept = puts.outcome
 put_holds eq new key value asked (Err pair) puts kept = let refused = (puts.kept.0 kept).2 in cc
 
+-- a put takes its pair, or it's refused
+is_put_of : (eq : EntryKey → EntryKey → Bool) (old asked new : Shelf EntryKey Record) (key : EntryKey) (value : Record) (put : Result (Unit {0}) (EntryKey × Record)) → Within old.held asked.held → Puts eq asked new key value put → IsPut old new key value
+is_put_of eq old asked new key value (Ok u) within puts = inl puts.outcome
+is_put_of eq old asked new key value (Err pair) within puts = inr (record { within = λ k e h. within k e (puts.outcome.1 k e h); told = by new.kept refl })
+  where
+    by : (b : Bool) → new.kept ≡ b → b ≡ false
+    by true e = let refused = (puts.kept.0 e).2 in cc
+    by false e = refl
+
 -- the text of a call with an entry key, whose preprocessor didn't fail
 pub good_of : (p : PrintedCall) → has_entry_key p.call ≡ true → text_fault_by p ≡ None → good_text p.printed ≡ Some (text_by p)
 good_of p has fine =
@@ -183,6 +192,25 @@ module _ (digest_of : Bytes → Bytes) (p : PrintedCall) (key : EntryKey) (is_en
             let before : results ≡ results_of (old.held k) = known ∙ ap results_of held ∙ ap (λ q. results_of (old.held q)) (sym same) in
             (value, ap new.held same ∙ put_holds eq new key value asked put puts h, gained.exact ∙ ap (λ l. with_result l own) before)
 
+        told_of : (o : Option Record) → asked.held key ≡ o → IsToldOf old new key o
+        told_of (Some x) h = inl (sym (asks.within key x h))
+        told_of None h = by (old.held key) refl
+          where
+            by : (before : Option Record) → old.held key ≡ before → IsToldOf old new key None
+            by None e = inl (sym e)
+            by (Some x) e = inr (refl, puts.steady ∙ asks.forgot (rw e refl, rw h refl))
+
+        exact : (k : EntryKey) → entry_key_of digest_of p.call ≡ Some k → PutsJoined old new k own
+        exact k is =
+            let same : key ≡ k = some_same _ _ (sym is_entry ∙ is) in
+            subst (λ (q : EntryKey). PutsJoined old new q own) same (record {
+              told = asked.held key;
+              looked_up = told_of (asked.held key) refl;
+              entry = value;
+              exact = gained.exact ∙ ap (λ l. with_result l own) known;
+              is_put = is_put_of eq old asked new key value put asks.within puts;
+            })
+
         turn_put : EntryTurn digest_of p old new before after
         turn_put = record {
           gains = λ k e h. elim (puts.gains k e h) [
@@ -191,7 +219,7 @@ module _ (digest_of : Bytes → Bytes) (p : PrintedCall) (key : EntryKey) (is_en
           ];
           kept = λ h. let q = puts.kept.0 h in let s = still q.0 in record { was = s.was; keys = λ k i. q.1 k (s.keys k i); steady = puts.steady ∙ s.steady };
           cleared = puts.cleared ∙ asks.cleared;
-          put = inr (record { own = own; is_own = is_own; put = put_one; joined = joined });
+          put = inr (record { own = own; is_own = is_own; put = put_one; exact = exact; joined = joined });
           asked = λ k m. inr (puts.steady ∙ missed k m);
           idle = λ h. absurd (no_key p.call has h);
         }
@@ -215,6 +243,10 @@ module _ (digest_of : Bytes → Bytes) (p : PrintedCall) (key : EntryKey) (is_en
 -- where extra files and the input are there
 pub first_is : (p : PrintedCall) → first_missing p.call.scene.files (extra_paths p.call) ≡ None → missing_input p.call ≡ None → key_fault_by p ≡ text_fault_by p
 first_is p h k = λ i. or_else (option_map Read (h i)) (or_else (option_map Read (k i)) (text_fault_by p))
+
+-- then there is no fault before the text
+pub none_early : (p : PrintedCall) → first_missing p.call.scene.files (extra_paths p.call) ≡ None → missing_input p.call ≡ None → early_fault_of p.call ≡ None
+none_early p h k = λ i. or_else (option_map Read (h i)) (option_map Read (k i))
 
 -- where extra files are there, and the input isn't
 pub input_first : (p : PrintedCall) → first_missing p.call.scene.files (extra_paths p.call) ≡ None → (fault : Fault) → option_map Read (missing_input p.call) ≡ Some fault → key_fault_by p ≡ Some fault

@@ -251,19 +251,20 @@ module _ (digest_of : Bytes → Bytes) (texts : TextsTell digest_of) (identities
           second = stamped_same was.0 _ _ seconds;
         }
 
+    same_extra : map (contents_in b.call.scene.files) (extra_paths b.call) ≡ map (contents_in p.call.scene.files) (extra_paths p.call)
+    same_extra = contents_told digest_of texts (map (contents_in b.call.scene.files) (extra_paths b.call)) (map (contents_in p.call.scene.files) (extra_paths p.call)) (λ x y u v e. premises.distinct x y (record { by = b; among = in_b; is = of_extra_file u }) (record { by = p; among = in_p; is = of_extra_file v }) e) sights_extra
+
     -- where its include list is there, the surroundings are the same
     same_surroundings : (text : Bytes) (names : List Bytes) (includes : List IncludeEntry) → named_at (place_of b.call) (input_path b.call) text ≡ Some names → includes_of (place_of b.call) digest_of names ≡ Some includes → are_there (place_of p.call) digest_of includes ≡ true → SameSurroundings b.call p.call names
     same_surroundings text names includes named list there = record {
       input = same_input;
+      extra = same_extra;
       named = λ name among.
           let was = there_of b.call.scene.files (join b.call.scene.dir name) (names_there (place_of b.call) (input_path b.call) text names named name among) in
           let found = found_all digest_of (place_of b.call) (place_of p.call) names includes list there name among was.0 was.1 in
           let same : found.is ≡ was.0 = equal found.is was.0 (record { by = p; among = in_p; is = of_file (join p.call.scene.dir name) found.there }) (record { by = b; among = in_b; is = of_file (join b.call.scene.dir name) was.1 }) found.alike in
           record { contents = was.0; was = was.1; is = found.there ∙ ap Some same; day = found.day; second = found.second };
     }
-
-    same_extra : map (contents_in b.call.scene.files) (extra_paths b.call) ≡ map (contents_in p.call.scene.files) (extra_paths p.call)
-    same_extra = contents_told digest_of texts (map (contents_in b.call.scene.files) (extra_paths b.call)) (map (contents_in p.call.scene.files) (extra_paths p.call)) (λ x y u v e. premises.distinct x y (record { by = b; among = in_b; is = of_extra_file u }) (record { by = p; among = in_p; is = of_extra_file v }) e) sights_extra
 
     -- the records are the same, where the texts and the configuration are
     same_record : b.call.settings ≡ p.call.settings → text_by b ≡ text_by p → record_by b ≡ record_by p

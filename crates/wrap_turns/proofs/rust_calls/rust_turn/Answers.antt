@@ -6,7 +6,7 @@ use Rattle.ckeys_records.specs.Meaning.{FailsIn}
 use Rattle.rustc_requests.specs.Asks.{asks_in}
 use Rattle.wrap_keys.specs.Account.{Account, Work, rust_account_by, rust_call_at, rust_work_at, worked}
 use Rattle.wrap_keys.specs.Answers.{Says, SaysWorked}
-use Rattle.wrap_keys.specs.Asking.{RunsOf}
+use Rattle.wrap_keys.specs.Asking.{RunsOf, StopsEarly}
 use Rattle.wrap_keys.specs.RustVerdicts.{RustJudgement, asks, rust_verdict_of}
 use Rattle.wrap_keys.specs.Turn.{StoreTurn, own_text_key}
 use Rattle.wrap_keys.proofs.KeyLemmas.{fails_on_later}
@@ -67,7 +67,9 @@ returns-in-Asks-clause-runs g c =
     let request = c.args.request.now in
     let decided : asks (asks_in c.in-Asks.parsed) ≡ rust_verdict_of request (tree c.args.files.now) = rw c.in-Asks.is at c.in_ok-reason.ensures.verdict in
     let account : RustJudgement → Account = rust_account_by (meaning c.args.tool.now) (tree c.args.files.now) c.args.rust.now request in
-    subst (λ (d : RustJudgement). RunsOf (account d) false c.rust_answer.result (g.T.Preprocessor.preprocessed c.args.tool.now) (g.T.Preprocessor.preprocessed c.rust_answer.new.tool)) decided c.rust_answer.ensures.runs
+    let work_on : Tree → Work = λ files. rust_work_at (meaning c.args.tool.now) (rust_call_at c.args.rust.now request files (asks_in c.in-Asks.parsed)) in
+    let early = subst (λ (t : Tree). StopsEarly (work_on t) (g.T.Preprocessor.preprocessed c.args.tool.now) (g.T.Preprocessor.preprocessed c.rust_answer.new.tool)) c.in_ok-reason.ensures.tree c.rust_answer.ensures.early in
+    subst (λ (d : RustJudgement). RunsOf (account d) false c.rust_answer.result (g.T.Preprocessor.preprocessed c.args.tool.now) (g.T.Preprocessor.preprocessed c.rust_answer.new.tool)) decided (c.rust_answer.ensures.runs, early)
 
 pub returns-in-Asks-clause-quiet : goal.returns-in-Asks-clause-quiet
 returns-in-Asks-clause-quiet g c = unpassed _ c.rust_answer.result c.rust_answer.ensures.unpassed
