@@ -1,5 +1,5 @@
 -- Calls to rustc, which ask for no include records.
-use Rattle.std.proofs.Common.{◌≡◌, ℕ, [], Option, None, Some, true, false, Result, Ok, Err, IsErrAnd, inr, refl, sym, ap, ◌∙◌}
+use Rattle.std.proofs.Common.{◌≡◌, ℕ, Bool, not, [], Option, None, Some, true, false, Result, Ok, Err, IsErrAnd, inr, refl, sym, ap, ◌∙◌}
 use Rattle.std.proofs.lemmas.Result.{err_from_is_err_and}
 use Rattle.os_files.specs.Bytes.{Bytes, ticked}
 use Rattle.os_files.specs.Tree.{Tree}
@@ -32,6 +32,11 @@ use Rattle.wrap_base.specs.declared.answer.Answer.{Answer}
 use Rattle.wrap_base.specs.declared.answer.Answer.TheVariants.{Outputs, Pass}
 use Rattle.wrap_base.specs.declared.request.Request.{Request}
 use Rattle.wrap_base.specs.declared.store_key.StoreKey.{StoreKey}
+
+-- what isn't text
+pub no_text : (b : Bool) → not b ≡ true → b ≡ false
+no_text true h = cc
+no_text false h = refl
 
 module _ (digest_of : Bytes → Bytes) (meaning : Meaning) (tree : Tree) (rust : Rustc) (request : Request) where
   abbrev account : RustJudgement → Account

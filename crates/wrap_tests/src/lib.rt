@@ -12,6 +12,8 @@ mod fail_tool;
 #[cfg(test)]
 mod forgetful;
 #[cfg(test)]
+mod idle_tool;
+#[cfg(test)]
 mod marks;
 #[cfg(test)]
 mod scene;
@@ -19,3 +21,5 @@ mod scene;
 mod sessions;
 #[cfg(test)]
 mod support;
+#[cfg(test)]
+mod uses;

@@ -13,7 +13,7 @@ ghost use Rattle.wrap_keys.specs.Answers.{OnPass, Says, SaysWorked};
 ghost use Rattle.wrap_keys.specs.Asking.{HowFrom, IsAskedTwice, RunsOf, StopsEarly};
 ghost use Rattle.wrap_keys.specs.CallRecords.{key_of};
 ghost use Rattle.wrap_turns.specs.RustPrepared.{IsRustPrepared};
-ghost use Rattle.wrap_keys.specs.RustVerdicts.{rust_verdict_of};
+ghost use Rattle.wrap_keys.specs.RustVerdicts.{is_text, rust_verdict_of};
 ghost use Rattle.wrap_keys.specs.Turn.{KeyedTurn, StoreTurn};
 
 use crate::finish::finish;
@@ -175,6 +175,7 @@ pub fn rust_turn<H: HashState, O: Store<StoreKey, Pairs>, F: Files, T: Tool>(
     ensures runs { let a = rust_account_by (T.meaning tool.old) (F.tree files.old) rust.now
         request.now (rust_verdict_of request.now (F.tree files.old)) in
         RunsOf a false result (T.preprocessed tool.old) (T.preprocessed tool.new) }
+    ensures untouched { is_text request.now ≡ false → files.new ≡ files.old }
     ensures meaning { T.meaning tool.new ≡ T.meaning tool.old }
     ensures tree { F.tree files.new ≡ F.tree files.old }
     ensures steady { OnOk result

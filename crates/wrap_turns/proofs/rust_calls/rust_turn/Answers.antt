@@ -11,6 +11,7 @@ use Rattle.wrap_keys.specs.RustVerdicts.{RustJudgement, asks, rust_verdict_of}
 use Rattle.wrap_keys.specs.Turn.{StoreTurn, own_text_key}
 use Rattle.wrap_keys.proofs.KeyLemmas.{fails_on_later}
 use Rattle.wrap_keys.proofs.RunLemmas.{early_ran}
+use Rattle.wrap_turns.proofs.RustLemmas.{asks_text}
 use Rattle.wrap_turns.proofs.TurnLemmas.{early_says, early_turn, how_of_fault, says_later, unpassed}
 use Rattle.wrap_turns.proofs.rust_calls.rust_turn.Goals as goal
 
@@ -73,3 +74,10 @@ returns-in-Asks-clause-runs g c =
 
 pub returns-in-Asks-clause-quiet : goal.returns-in-Asks-clause-quiet
 returns-in-Asks-clause-quiet g c = unpassed _ c.rust_answer.result c.rust_answer.ensures.unpassed
+
+pub returns-in-Asks-clause-untouched : goal.returns-in-Asks-clause-untouched
+returns-in-Asks-clause-untouched g c no_text =
+    let request = c.args.request.now in
+    let tree = g.F.Files.tree c.args.files.now in
+    let decided : asks (asks_in c.in-Asks.parsed) ≡ rust_verdict_of request tree = rw c.in-Asks.is at c.in_ok-reason.ensures.verdict in
+    absurd (asks_text request tree (asks_in c.in-Asks.parsed) no_text decided)
