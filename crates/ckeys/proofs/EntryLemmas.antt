@@ -1,5 +1,5 @@
 -- How the key of a call is made, by what the look-up of its include record and the put said.
-use Rattle.std.proofs.Common.{◌≡◌, ℕ, suc, ℤ, pos, List, [], ◌∷◌, Bool, true, false, if◌then◌else◌, Option, Some, None, IsSome, IsNone, Result, Ok, Err, IfOk, inl, inr, refl, sym, ap, subst, ◌∙◌, length, arith}
+use Rattle.std.proofs.Common.{◌≡◌, ℕ, ℤ, pos, List, [], ◌∷◌, Bool, true, false, if◌then◌else◌, Option, Some, None, IsSome, IsNone, Result, Ok, Err, IfOk, inl, inr, refl, sym, ap, subst, ◌∙◌, length, arith}
 use Rattle.std.specs.Prelude.{String, string_bytes}
 use Rattle.std.specs.declared.alloc.Global.{Global}
 use Rattle.ckeys_records.specs.declared.shape.CShape.{CShape}
@@ -10,27 +10,27 @@ use Rattle.std.proofs.lemmas.Bool.{and_from}
 use Rattle.std.proofs.lemmas.Bool.Decides.{Decides-eqb, Decides-int_eq}
 use Rattle.std.proofs.lemmas.Slice.Eq.{bytes_eq-Decides}
 use Rattle.os_files.specs.Bytes.{Bytes, ticked}
-use Rattle.os_files.specs.Tree.{contents_at, is_file_at}
+use Rattle.os_files.specs.Tree.{contents_at}
 use Rattle.ckeys_base.specs.Hex.{hex_of}
-use Rattle.ckeys_base.specs.Shelf.{Shelf, Asks, Puts}
+use Rattle.ckeys_base.specs.Shelf.{Shelf, Asks, Puts, Within}
 use Rattle.time_macros.specs.Macros.{holds_date, holds_timestamp}
 use Rattle.include_records.specs.LookUps.{LooksUp}
 use Rattle.include_records.specs.Records.{Record, result_with}
 use Rattle.include_records.specs.Results.{with_result}
-use Rattle.include_records.specs.Surroundings.{Place, are_there, contents_in, dated, fits_contents, include_with, includes_of, is_the, lacks_day, path_at, second_at, stamped}
+use Rattle.include_records.specs.Surroundings.{Place, are_there, contents_in, dated, fits_contents, in_front, include_with, included, includes_of, is_the, lacks_day, path_at, second_at, stamped}
 use Rattle.include_records.specs.declared.entry.CachedResult.{CachedResult}
 use Rattle.include_records.specs.declared.entry.IncludeEntry.{IncludeEntry}
 use Rattle.entry_keys.specs.declared.entry_key.EntryKey.{EntryKey}
-use Rattle.ckeys.specs.Calls.{KeyCall, PrintedCall, input_path, key_fault_by, needs_preprocessing, record_by, text_by, text_fault_by, extra_paths, missing_input}
+use Rattle.ckeys.specs.Calls.{KeyCall, PrintedCall, early_fault_of, input_path, key_fault_by, needs_preprocessing, record_by, text_by, text_fault_by, extra_paths, missing_input}
 use Rattle.ckeys_records.specs.Faults.{preprocess_fault_of, read_fault_of, first_missing, or_else}
 use Rattle.ckeys_records.specs.Meaning.{text_in}
 use Rattle.ckeys.specs.Entries.{AreTrue, HasMatch, Held, IsFramed, IsOwnResult, entry_key_of, good_text, has_entry_key, includes_by}
-use Rattle.ckeys.specs.EntryTurns.{EntryTurn, Gains, IsHeldFor, IsJoined, IsOwnPair, IsSpared, Keeps, KeptOn, KeyFine, KeyFrom, KeyRecorded, PutsNone, TextFine, results_of}
+use Rattle.ckeys.specs.EntryTurns.{EntryTurn, Gains, IsHeldFor, IsJoined, IsOwnPair, IsPut, IsSpared, IsToldOf, Keeps, KeptOn, KeyFine, KeyFrom, KeyRecorded, PutsJoined, PutsNone, TextFine, results_of}
 use Rattle.ckeys_records.specs.Keys.{key_of}
 use Rattle.ckeys.specs.Surroundings.{named_at, place_of, recorded_of}
 use Rattle.ckeys_records.specs.declared.fault.Fault.{Fault}
 use Rattle.ckeys_records.specs.declared.fault.Fault.TheVariants.{Read, PreprocessFailed}
-use Rattle.ckeys.proofs.RecordLemmas.{contents_are, has_key, is_preprocessed, names_there, recorded_parts, some_same, there_of}
+use Rattle.ckeys.proofs.RecordLemmas.{has_key, is_preprocessed, recorded_parts, some_same}
 
 -- a day is the day itself
 the_same : (d : Option ℤ) → is_the d d ≡ true
@@ -56,29 +56,29 @@ module _ (place : Place) (digest_of : Bytes → Bytes) where
   own_fits : (name contents : Bytes) → fits_contents place digest_of (include_with place digest_of name contents) (Some contents) ≡ true
   own_fits name contents = and_from _ _ ((Decides-eqb (length contents) (length contents)).1 refl) (and_from _ _ ((bytes_eq-Decides (hex_of (digest_of contents)) (hex_of (digest_of contents))).1 refl) (and_from _ _ (the_dated contents place.day) (the_stamped contents (second_at place.files (path_at place name)))))
 
-  own_next : (name : Bytes) (names : List Bytes) → is_file_at place.files (path_at place name) ≡ true → (lacks : Bool) (rest : Option (List IncludeEntry)) → ((tail : List IncludeEntry) → rest ≡ Some tail → are_there place digest_of tail ≡ true)
-      → (includes : List IncludeEntry) → (if lacks then None else option_map (λ tail. include_with place digest_of name (contents_in place.files (path_at place name)) ∷ tail) rest) ≡ Some includes → are_there place digest_of includes ≡ true
-  own_next name names file true rest on includes e = cc
-  own_next name names file false None on includes e = cc
-  own_next name names file false (Some tail) on includes e =
+  own_next : (name contents : Bytes) → contents_at place.files (path_at place name) ≡ Some contents → (lacks : Bool) (rest : Option (List IncludeEntry)) → ((tail : List IncludeEntry) → rest ≡ Some tail → are_there place digest_of tail ≡ true)
+      → (includes : List IncludeEntry) → in_front place digest_of (if lacks then None else Some (include_with place digest_of name contents)) rest ≡ Some includes → are_there place digest_of includes ≡ true
+  own_next name contents read true rest on includes e = cc
+  own_next name contents read false None on includes e = cc
+  own_next name contents read false (Some tail) on includes e =
       let whole = some_same _ _ e in
-      let it = there_of place.files (path_at place name) file in
-      let read = contents_are place.files (path_at place name) it.0 it.1 in
-      let first : fits_contents place digest_of (include_with place digest_of name (contents_in place.files (path_at place name))) (contents_at place.files (path_at place name)) ≡ true = subst (λ o. fits_contents place digest_of (include_with place digest_of name (contents_in place.files (path_at place name))) o ≡ true) (ap Some read ∙ sym it.1) (own_fits name (contents_in place.files (path_at place name))) in
+      let first : fits_contents place digest_of (include_with place digest_of name contents) (contents_at place.files (path_at place name)) ≡ true = subst (λ o. fits_contents place digest_of (include_with place digest_of name contents) o ≡ true) (sym read) (own_fits name contents) in
       subst (λ (l : List IncludeEntry). are_there place digest_of l ≡ true) whole (and_from _ _ first (on tail refl))
 
+  own_file : (name : Bytes) (o : Option Bytes) → contents_at place.files (path_at place name) ≡ o → (rest : Option (List IncludeEntry)) → ((tail : List IncludeEntry) → rest ≡ Some tail → are_there place digest_of tail ≡ true)
+      → (includes : List IncludeEntry) → in_front place digest_of (included place digest_of name o) rest ≡ Some includes → are_there place digest_of includes ≡ true
+  own_file name None read rest on includes e = cc
+  own_file name (Some contents) read rest on includes e = own_next name contents read (lacks_day contents place.day) rest on includes e
+
   -- a call's own include list is there
-  own_there : (names : List Bytes) → ((name : Bytes) → Contains names name → is_file_at place.files (path_at place name) ≡ true) → (includes : List IncludeEntry) → includes_of place digest_of names ≡ Some includes → are_there place digest_of includes ≡ true
-  own_there [] files includes e = let whole = some_same _ _ e in subst (λ (l : List IncludeEntry). are_there place digest_of l ≡ true) whole refl
-  own_there (name ∷ names) files includes e = own_next name names (files name (0, omega arith, refl)) (lacks_day (contents_in place.files (path_at place name)) place.day) (includes_of place digest_of names) (λ tail f. own_there names (λ n c. files n (further c)) tail f) includes e
-    where
-      further : {n : Bytes} → Contains names n → Contains (name ∷ names) n
-      further c = (suc c.0, omega (arith, c.1), c.2)
+  own_there : (names : List Bytes) (includes : List IncludeEntry) → includes_of place digest_of names ≡ Some includes → are_there place digest_of includes ≡ true
+  own_there [] includes e = let whole = some_same _ _ e in subst (λ (l : List IncludeEntry). are_there place digest_of l ≡ true) whole refl
+  own_there (name ∷ names) includes e = own_file name (contents_at place.files (path_at place name)) refl (includes_of place digest_of names) (own_there names) includes e
 
   pub recorded_there : (input text : Bytes) (includes : List IncludeEntry) → recorded_of place digest_of input text ≡ Some includes → are_there place digest_of includes ≡ true
   recorded_there input text includes e =
       let parts = recorded_parts place digest_of (named_at place input text) includes e in
-      own_there parts.0 (names_there place input text parts.0 parts.1) includes parts.2
+      own_there parts.0 includes parts.2
 
 no_key : (c : KeyCall) → has_entry_key c ≡ true → has_entry_key c ≡ false → ⊥
 no_key c p q = let h = sym p ∙ q in cc
@@ -108,6 +108,15 @@ same_none shelf = record { within = λ k e h. h; put = refl }
 put_holds : (eq : EntryKey → EntryKey → Bool) (new : Shelf EntryKey Record) (key : EntryKey) (value : Record) (asked : Shelf EntryKey Record) (put : Result (Unit {0}) (EntryKey × Record)) → Puts eq asked new key value put → new.kept ≡ true → new.held key ≡ Some value
 put_holds eq new key value asked (Ok u) puts kept = puts.outcome
 put_holds eq new key value asked (Err pair) puts kept = let refused = (puts.kept.0 kept).2 in cc
+
+-- a put takes its pair, or it's refused
+is_put_of : (eq : EntryKey → EntryKey → Bool) (old asked new : Shelf EntryKey Record) (key : EntryKey) (value : Record) (put : Result (Unit {0}) (EntryKey × Record)) → Within old.held asked.held → Puts eq asked new key value put → IsPut old new key value
+is_put_of eq old asked new key value (Ok u) within puts = inl puts.outcome
+is_put_of eq old asked new key value (Err pair) within puts = inr (record { within = λ k e h. within k e (puts.outcome.1 k e h); told = by new.kept refl })
+  where
+    by : (b : Bool) → new.kept ≡ b → b ≡ false
+    by true e = let refused = (puts.kept.0 e).2 in cc
+    by false e = refl
 
 -- the text of a call with an entry key, whose preprocessor didn't fail
 pub good_of : (p : PrintedCall) → has_entry_key p.call ≡ true → text_fault_by p ≡ None → good_text p.printed ≡ Some (text_by p)
@@ -183,6 +192,25 @@ module _ (digest_of : Bytes → Bytes) (p : PrintedCall) (key : EntryKey) (is_en
             let before : results ≡ results_of (old.held k) = known ∙ ap results_of held ∙ ap (λ q. results_of (old.held q)) (sym same) in
             (value, ap new.held same ∙ put_holds eq new key value asked put puts h, gained.exact ∙ ap (λ l. with_result l own) before)
 
+        told_of : (o : Option Record) → asked.held key ≡ o → IsToldOf old new key o
+        told_of (Some x) h = inl (sym (asks.within key x h))
+        told_of None h = by (old.held key) refl
+          where
+            by : (before : Option Record) → old.held key ≡ before → IsToldOf old new key None
+            by None e = inl (sym e)
+            by (Some x) e = inr (refl, puts.steady ∙ asks.forgot (rw e refl, rw h refl))
+
+        exact : (k : EntryKey) → entry_key_of digest_of p.call ≡ Some k → PutsJoined old new k own
+        exact k is =
+            let same : key ≡ k = some_same _ _ (sym is_entry ∙ is) in
+            subst (λ (q : EntryKey). PutsJoined old new q own) same (record {
+              told = asked.held key;
+              looked_up = told_of (asked.held key) refl;
+              entry = value;
+              exact = gained.exact ∙ ap (λ l. with_result l own) known;
+              is_put = is_put_of eq old asked new key value put asks.within puts;
+            })
+
         turn_put : EntryTurn digest_of p old new before after
         turn_put = record {
           gains = λ k e h. elim (puts.gains k e h) [
@@ -191,7 +219,7 @@ module _ (digest_of : Bytes → Bytes) (p : PrintedCall) (key : EntryKey) (is_en
           ];
           kept = λ h. let q = puts.kept.0 h in let s = still q.0 in record { was = s.was; keys = λ k i. q.1 k (s.keys k i); steady = puts.steady ∙ s.steady };
           cleared = puts.cleared ∙ asks.cleared;
-          put = inr (record { own = own; is_own = is_own; put = put_one; joined = joined });
+          put = inr (record { own = own; is_own = is_own; put = put_one; exact = exact; joined = joined });
           asked = λ k m. inr (puts.steady ∙ missed k m);
           idle = λ h. absurd (no_key p.call has h);
         }
@@ -215,6 +243,10 @@ module _ (digest_of : Bytes → Bytes) (p : PrintedCall) (key : EntryKey) (is_en
 -- where extra files and the input are there
 pub first_is : (p : PrintedCall) → first_missing p.call.scene.files (extra_paths p.call) ≡ None → missing_input p.call ≡ None → key_fault_by p ≡ text_fault_by p
 first_is p h k = λ i. or_else (option_map Read (h i)) (or_else (option_map Read (k i)) (text_fault_by p))
+
+-- then there is no fault before the text
+pub none_early : (p : PrintedCall) → first_missing p.call.scene.files (extra_paths p.call) ≡ None → missing_input p.call ≡ None → early_fault_of p.call ≡ None
+none_early p h k = λ i. or_else (option_map Read (h i)) (option_map Read (k i))
 
 -- where extra files are there, and the input isn't
 pub input_first : (p : PrintedCall) → first_missing p.call.scene.files (extra_paths p.call) ≡ None → (fault : Fault) → option_map Read (missing_input p.call) ≡ Some fault → key_fault_by p ≡ Some fault

@@ -2,7 +2,7 @@
 use Rattle.std.proofs.Common.{◌≡◌, ℕ, ℤ, pos, zero, suc, ◌<◌, List, [], ◌∷◌, ◌++◌, map, filter, length, get_or, Bool, true, false, ◌&&◌, if◌then◌else◌, Option, Some, None, ◌⊎◌, inl, inr, refl, sym, ap, subst, ◌∙◌, arith}
 use Rattle.std.specs.Prelude.{is_none, is_some, unwrap_or}
 use Rattle.std.specs.List.{Contains, list_any}
-use Rattle.std.specs.Option.{option_map, option_and_then}
+use Rattle.std.specs.Option.{option_and_then}
 use Rattle.std.specs.Ordering.{int_eq}
 use Rattle.std.proofs.lemmas.Bool.{and_parts}
 use Rattle.std.proofs.lemmas.Bool.Decides.{Decides-int_eq}
@@ -18,7 +18,7 @@ use Rattle.ckeys_base.specs.Shelf.{Shelf}
 use Rattle.time_macros.specs.Macros.{holds_date, holds_timestamp}
 use Rattle.marker_walk.specs.Named.{accepted, is_named, marker_names, tells_time}
 use Rattle.include_records.specs.Records.{Record}
-use Rattle.include_records.specs.Surroundings.{Place, are_there, contents_in, dated, fits_contents, include_with, includes_of, is_the, lacks_day, path_at, second_at, stamped}
+use Rattle.include_records.specs.Surroundings.{Place, are_there, contents_in, dated, fits_contents, in_front, include_with, included, includes_of, is_the, lacks_day, path_at, second_at, stamped}
 use Rattle.include_records.specs.declared.entry.IncludeEntry.{IncludeEntry}
 use Rattle.entry_keys.specs.Identity.{Identity}
 use Rattle.entry_keys.specs.Sights.{Sights}
@@ -107,8 +107,8 @@ module _ (digest_of : Bytes → Bytes) (before now : Place) where
   abbrev pub Goal : List Bytes → List IncludeEntry → Type 0
   Goal names includes = (name : Bytes) → Contains names name → (was : Bytes) → contents_at before.files (path_at before name) ≡ Some was → Found name was
 
-  found_next : (first : Bytes) (names : List Bytes) (was : Bytes) → contents_in before.files (path_at before first) ≡ was → (lacks : Bool) → lacks_day was before.day ≡ lacks → (rest : Option (List IncludeEntry)) → ((tail : List IncludeEntry) → rest ≡ Some tail → are_there now digest_of tail ≡ true → Goal names tail)
-      → (includes : List IncludeEntry) → (if lacks then None else option_map (λ tail. include_with before digest_of first was ∷ tail) rest) ≡ Some includes → are_there now digest_of includes ≡ true → Goal (first ∷ names) includes
+  found_next : (first : Bytes) (names : List Bytes) (was : Bytes) → contents_at before.files (path_at before first) ≡ Some was → (lacks : Bool) → lacks_day was before.day ≡ lacks → (rest : Option (List IncludeEntry)) → ((tail : List IncludeEntry) → rest ≡ Some tail → are_there now digest_of tail ≡ true → Goal names tail)
+      → (includes : List IncludeEntry) → in_front before digest_of (if lacks then None else Some (include_with before digest_of first was)) rest ≡ Some includes → are_there now digest_of includes ≡ true → Goal (first ∷ names) includes
   found_next first names was same true l rest on includes e h = cc
   found_next first names was same false l None on includes e h = cc
   found_next first names was same false l (Some tail) on includes e h =
@@ -117,14 +117,19 @@ module _ (digest_of : Bytes → Bytes) (before now : Place) where
       λ name among contents there. elim (cons_cases first names name among) [
         | inl at ↦
             let path : path_at before first ≡ path_at before name = ap (path_at before) at in
-            let it : was ≡ contents = sym same ∙ ap (contents_in before.files) path ∙ contents_are before.files (path_at before name) contents there in
+            let it : was ≡ contents = some_same _ _ (sym same ∙ ap (contents_at before.files) path ∙ there) in
             subst (λ (n : Bytes). Found n contents) at (subst (λ (c : Bytes). Found first c) it (found_one first was l (contents_at now.files (path_at now first)) refl both.0))
         | inr later ↦ on tail refl both.1 name later contents there
       ]
 
+  found_file : (first : Bytes) (names : List Bytes) (o : Option Bytes) → contents_at before.files (path_at before first) ≡ o → (rest : Option (List IncludeEntry)) → ((tail : List IncludeEntry) → rest ≡ Some tail → are_there now digest_of tail ≡ true → Goal names tail)
+      → (includes : List IncludeEntry) → in_front before digest_of (included before digest_of first o) rest ≡ Some includes → are_there now digest_of includes ≡ true → Goal (first ∷ names) includes
+  found_file first names None same rest on includes e h = cc
+  found_file first names (Some was) same rest on includes e h = found_next first names was same (lacks_day was before.day) refl rest on includes e h
+
   pub found_all : (names : List Bytes) (includes : List IncludeEntry) → includes_of before digest_of names ≡ Some includes → are_there now digest_of includes ≡ true → Goal names includes
   found_all [] includes e h = λ name among was there. let within = among.1 in absurd (omega arith)
-  found_all (first ∷ names) includes e h = found_next first names (contents_in before.files (path_at before first)) refl (lacks_day (contents_in before.files (path_at before first)) before.day) refl (includes_of before digest_of names) (λ tail f t. found_all names tail f t) includes e h
+  found_all (first ∷ names) includes e h = found_file first names (contents_at before.files (path_at before first)) refl (includes_of before digest_of names) (λ tail f t. found_all names tail f t) includes e h
 
 -- the named files of a text are there
 pub names_there : (place : Place) (input text : Bytes) (names : List Bytes) → named_at place input text ≡ Some names → (name : Bytes) → Contains names name → is_file_at place.files (path_at place name) ≡ true
@@ -246,19 +251,20 @@ module _ (digest_of : Bytes → Bytes) (texts : TextsTell digest_of) (identities
           second = stamped_same was.0 _ _ seconds;
         }
 
+    same_extra : map (contents_in b.call.scene.files) (extra_paths b.call) ≡ map (contents_in p.call.scene.files) (extra_paths p.call)
+    same_extra = contents_told digest_of texts (map (contents_in b.call.scene.files) (extra_paths b.call)) (map (contents_in p.call.scene.files) (extra_paths p.call)) (λ x y u v e. premises.distinct x y (record { by = b; among = in_b; is = of_extra_file u }) (record { by = p; among = in_p; is = of_extra_file v }) e) sights_extra
+
     -- where its include list is there, the surroundings are the same
     same_surroundings : (text : Bytes) (names : List Bytes) (includes : List IncludeEntry) → named_at (place_of b.call) (input_path b.call) text ≡ Some names → includes_of (place_of b.call) digest_of names ≡ Some includes → are_there (place_of p.call) digest_of includes ≡ true → SameSurroundings b.call p.call names
     same_surroundings text names includes named list there = record {
       input = same_input;
+      extra = same_extra;
       named = λ name among.
           let was = there_of b.call.scene.files (join b.call.scene.dir name) (names_there (place_of b.call) (input_path b.call) text names named name among) in
           let found = found_all digest_of (place_of b.call) (place_of p.call) names includes list there name among was.0 was.1 in
           let same : found.is ≡ was.0 = equal found.is was.0 (record { by = p; among = in_p; is = of_file (join p.call.scene.dir name) found.there }) (record { by = b; among = in_b; is = of_file (join b.call.scene.dir name) was.1 }) found.alike in
           record { contents = was.0; was = was.1; is = found.there ∙ ap Some same; day = found.day; second = found.second };
     }
-
-    same_extra : map (contents_in b.call.scene.files) (extra_paths b.call) ≡ map (contents_in p.call.scene.files) (extra_paths p.call)
-    same_extra = contents_told digest_of texts (map (contents_in b.call.scene.files) (extra_paths b.call)) (map (contents_in p.call.scene.files) (extra_paths p.call)) (λ x y u v e. premises.distinct x y (record { by = b; among = in_b; is = of_extra_file u }) (record { by = p; among = in_p; is = of_extra_file v }) e) sights_extra
 
     -- the records are the same, where the texts and the configuration are
     same_record : b.call.settings ≡ p.call.settings → text_by b ≡ text_by p → record_by b ≡ record_by p

@@ -100,6 +100,10 @@ asks_records c = c.settings.direct && (needs_preprocessing c.parsed.language && 
 abbrev pub missing_input : KeyCall → Option Bytes
 missing_input c = if asks_records c then first_missing c.scene.files (input_path c ∷ []) else None
 
+-- the first fault before there is a text: an extra file that isn't there, then the input where an include record is asked for
+abbrev pub early_fault_of : KeyCall → Option Fault
+early_fault_of c = or_else (read_fault_of c.scene.files (extra_paths c)) (option_map Read (missing_input c))
+
 -- The first fault in the order of the steps, where no growth is refused and no device fails: an extra file that isn't there, then the input where an include record is asked for, and then the text's.
 abbrev pub key_fault_by : PrintedCall → Option Fault
 key_fault_by p = or_else (read_fault_of p.call.scene.files (extra_paths p.call)) (or_else (option_map Read (missing_input p.call)) (text_fault_by p))

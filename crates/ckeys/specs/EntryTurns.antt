@@ -101,11 +101,33 @@ pub record PutsNone (old new : Shelf EntryKey Record) : Type 0 where
   pub within : Within old.held new.held
   pub put : new.puts ≡ old.puts
 
--- one pair is put: a result of the call's own text is recorded, and where nothing was dropped or refused it has joined what lay under the entry key
+-- what a look-up told of a key: what lay under it; or nothing, though something did, which is counted
+abbrev pub IsToldOf : Shelf EntryKey Record → Shelf EntryKey Record → EntryKey → Option Record → Type 0
+IsToldOf old new key told = (told ≡ old.held key) ⊎ ((told ≡ None) × (new.forgets ≡ ticked old.forgets))
+
+-- a put was refused: no pair is gained, and it's told
+pub record Refuses {K V : Type 0} (old new : Shelf K V) : Type 0 where
+  pub within : Within old.held new.held
+  pub told : new.kept ≡ false
+
+-- this pair was put: it's held, or it was refused
+abbrev pub IsPut : {K V : Type 0} → Shelf K V → Shelf K V → K → V → Type 0
+IsPut old new key value = (new.held key ≡ Some value) ⊎ Refuses old new
+
+-- a record was put under this key: what the look-up told of it with this result joined, whatever was dropped or refused
+pub record PutsJoined (old new : Shelf EntryKey Record) (key : EntryKey) (own : CachedResult) : Type 0 where
+  pub told : Option Record
+  pub looked_up : IsToldOf old new key told
+  pub entry : Record
+  pub exact : entry.results ≡ with_result (results_of told) own
+  pub is_put : IsPut old new key entry
+
+-- one pair is put: a result of the call's own text is recorded beside what the look-up told of the entry key, and where nothing was dropped or refused it has joined what lay there
 pub record PutsOwn (digest_of : Bytes → Bytes) (p : PrintedCall) (old new : Shelf EntryKey Record) : Type 0 where
   pub own : CachedResult
   pub is_own : IsOwnResult digest_of p own
   pub put : new.puts ≡ ticked old.puts
+  pub exact : (key : EntryKey) → entry_key_of digest_of p.call ≡ Some key → PutsJoined old new key own
   pub joined : (key : EntryKey) → entry_key_of digest_of p.call ≡ Some key → new.kept ≡ true → IsJoined (old.held key) own (new.held key)
 
 -- what one call does to the store of include records, and to the preprocessor's tick

@@ -1,5 +1,5 @@
 -- The files that the text of a call names, what is recorded of them, and when another call finds them as they were.
-use Rattle.std.specs.Prelude.{◌≡◌, true, List, Option, Some, option_and_then}
+use Rattle.std.specs.Prelude.{◌≡◌, true, List, map, Option, Some, option_and_then}
 use Rattle.std.specs.List.{Contains}
 use Rattle.os_files.specs.Bytes.{Bytes}
 use Rattle.os_files.specs.Path.{join}
@@ -7,9 +7,9 @@ use Rattle.os_files.specs.Tree.{contents_at}
 use Rattle.time_macros.specs.Days.{local_day}
 use Rattle.time_macros.specs.Macros.{holds_date, holds_timestamp}
 use Rattle.marker_walk.specs.Named.{named_files_of}
-use Rattle.include_records.specs.Surroundings.{Place, place_with, includes_of, second_at}
+use Rattle.include_records.specs.Surroundings.{Place, place_with, contents_in, includes_of, second_at}
 use Rattle.include_records.specs.declared.entry.IncludeEntry.{IncludeEntry}
-use Rattle.ckeys.specs.Calls.{KeyCall, input_path}
+use Rattle.ckeys.specs.Calls.{KeyCall, extra_paths, input_path}
 
 -- where a call looks names up
 abbrev pub place_of : KeyCall → Place
@@ -34,4 +34,5 @@ pub record SameFile (then_at now_at : Place) (then_path now_path : Bytes) : Type
 -- `now` has the surroundings of `earlier`, of whose text these are the named files
 pub record SameSurroundings (earlier now : KeyCall) (names : List Bytes) : Type 0 where
   pub input : SameFile (place_of earlier) (place_of now) (input_path earlier) (input_path now)
+  pub extra : map (contents_in earlier.scene.files) (extra_paths earlier) ≡ map (contents_in now.scene.files) (extra_paths now)  -- the extra files hold the same
   pub named : (name : Bytes) → Contains names name → SameFile (place_of earlier) (place_of now) (join earlier.scene.dir name) (join now.scene.dir name)

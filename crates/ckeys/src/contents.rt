@@ -4,7 +4,7 @@ ghost use Rattle.std.specs.Prelude.{◌≡◌, false, true, None, filter, map, s
 ghost use Rattle.std.specs.List.{AllByRecursion};
 ghost use Rattle.os_files.specs.Bytes.{ticked};
 ghost use Rattle.os_files.specs.Views.{FilesFail};
-ghost use Rattle.ckeys.specs.Calls.{key_fault_of, needs_preprocessing, record_of};
+ghost use Rattle.ckeys.specs.Calls.{early_fault_of, key_fault_of, needs_preprocessing, record_of};
 ghost use Rattle.ckeys_records.specs.Causes.{HasOwnFault};
 ghost use Rattle.ckeys_records.specs.Faults.{KeyCause};
 ghost use Rattle.ckeys.specs.EntryTurns.{RunsUntilKey};
@@ -88,6 +88,11 @@ impl<'a, I: CCompilerImpl + Drop> CCompilerHasher<'a, I> {
         // How often the preprocessor ran before a fault.
         ensures until { needs_preprocessing self.now.parsed.now.language ≡ true →
             IfErr result (RunsUntilKey (T.preprocessed tool.old) (T.preprocessed tool.new)) }
+        // Where an extra file isn't there, or an input that would be read for its include record, the preprocessor isn't started.
+        ensures early { let call = call_by I.kind_of I.traits self.now place.now (F.tree files.old)
+            in
+            (early_fault_of call ≡ None → ⊥)
+            → T.preprocessed tool.new ≡ T.preprocessed tool.old }
         ensures compiles { T.compiled tool.new ≡ T.compiled tool.old }
     {
         let names = self.parsed.extra_hash_files.as_slice();

@@ -7,7 +7,7 @@ ghost use Rattle.ckeys_records.specs.Causes.{HasOwnFault};
 ghost use Rattle.ckeys_base.specs.Shelf.{Asks};
 ghost use Rattle.os_files.specs.Path.{join};
 ghost use Rattle.os_files.specs.Views.{FilesFail};
-ghost use Rattle.ckeys.specs.Calls.{key_fault_of, PrintedCall, needs_preprocessing, printed_call, record_by, record_of, text_fault_by, text_fault_of, text_of};
+ghost use Rattle.ckeys.specs.Calls.{early_fault_of, key_fault_of, PrintedCall, needs_preprocessing, printed_call, record_by, record_of, text_fault_by, text_fault_of, text_of};
 ghost use Rattle.ckeys_records.specs.Faults.{FileCause, KeyCause};
 ghost use Rattle.ckeys.specs.Entries.{EntryInvariant, EntryPremises, IsFramed, asking, entry_key_of, has_entry_key};
 ghost use Rattle.ckeys.specs.EntryTurns.{EntryTurn, IsKnown, Keeps, KeyFine, KeyFrom, KeyRecorded, KeyRuns, PutsNone, RunsUntilKey, TextFine};
@@ -406,6 +406,11 @@ impl<'a, I: CCompilerImpl + Drop> CCompilerHasher<'a, I> {
         // How often the preprocessor ran before a fault.
         ensures until { needs_preprocessing self.now.parsed.now.language ≡ true →
             IfErr result (RunsUntilKey (T.preprocessed tool.old) (T.preprocessed tool.new)) }
+        // Where an extra file isn't there, or an input that is read for its include record, the preprocessor isn't started.
+        ensures early { let call = call_by I.kind_of I.traits self.now place.now (F.tree files.old)
+            in
+            (early_fault_of call ≡ None → ⊥)
+            → T.preprocessed tool.new ≡ T.preprocessed tool.old }
         ensures compiles { T.compiled tool.new ≡ T.compiled tool.old }
     {
         records_are_true::<H>();
@@ -463,6 +468,10 @@ impl<'a, I: CCompilerImpl + Drop> CCompilerHasher<'a, I> {
             (λ made. KeyRuns made.2 (T.preprocessed tool.old) (T.preprocessed tool.new)) }
         ensures until { needs_preprocessing self.now.parsed.now.language ≡ true →
             IfErr result (RunsUntilKey (T.preprocessed tool.old) (T.preprocessed tool.new)) }
+        ensures early { let call = call_by I.kind_of I.traits self.now place.now (F.tree files.old)
+            in
+            (early_fault_of call ≡ None → ⊥)
+            → T.preprocessed tool.new ≡ T.preprocessed tool.old }
         ensures compiles { T.compiled tool.new ≡ T.compiled tool.old }
     {
         let names = self.parsed.extra_hash_files.as_slice();

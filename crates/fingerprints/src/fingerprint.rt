@@ -13,7 +13,7 @@ ghost use Rattle.rustc_requests.specs.Asks.{asks_in};
 ghost use Rattle.rustkeys.specs.Runs.{AtMostTwice};
 ghost use Rattle.wrap_base.specs.Commands.{by_c, found_of};
 ghost use Rattle.wrap_keys.specs.Account.{account_at, account_named, call_at, rust_account_by, rust_call_at, rust_work_at, work_at};
-ghost use Rattle.wrap_keys.specs.Asking.{RunsOf};
+ghost use Rattle.wrap_keys.specs.Asking.{RunsOf, StopsEarly};
 ghost use Rattle.wrap_keys.specs.RustVerdicts.{rust_verdict_of};
 ghost use Rattle.wrap_keys.specs.Verdicts.{hashed_words};
 ghost use Rattle.fingerprints.specs.Fingerprints.{IsFingerprintOf};
@@ -83,6 +83,9 @@ fn c_fingerprint<H: HashState, F: Files, T: Tool>(
         IfErr result (RunsUntilKey (T.preprocessed tool.old) (T.preprocessed tool.new)) }
     ensures idle { needs_preprocessing parsed.now.language ≡ false →
         T.preprocessed tool.new ≡ T.preprocessed tool.old }
+    ensures early { let w = work_at (T.meaning tool.old)
+        (call_at (found_of compiler.entry) request.now (F.tree files.old) config.now parsed.now) in
+        StopsEarly w (T.preprocessed tool.old) (T.preprocessed tool.new) }
     ensures compiles { T.compiled tool.new ≡ T.compiled tool.old }
 {
     // A law, which costs nothing: what follows from it is said above.
@@ -140,6 +143,9 @@ fn rust_fingerprint<H: HashState, F: Files, T: Tool>(
     ensures runs { OnOk result
         (T.preprocessed tool.new ≡ ticked (ticked (T.preprocessed tool.old))) }
     ensures twice { AtMostTwice (T.preprocessed tool.old) (T.preprocessed tool.new) }
+    ensures early { let w = rust_work_at (T.meaning tool.old)
+        (rust_call_at rust.now request.now (F.tree files.old) (asks_in parsed.now)) in
+        StopsEarly w (T.preprocessed tool.old) (T.preprocessed tool.new) }
     ensures compiles { T.compiled tool.new ≡ T.compiled tool.old }
 {
     let hasher = RustHasher {

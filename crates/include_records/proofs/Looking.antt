@@ -12,7 +12,7 @@ use Rattle.os_files.specs.Tree.{contents_at}
 use Rattle.byte_formats.specs.FieldFormats.{some_is}
 use Rattle.include_records.specs.LookUps.{LooksUp, last_there}
 use Rattle.include_records.specs.Sightings.{fits_seen, seen_at, seen_with}
-use Rattle.include_records.specs.Surroundings.{Place, are_there, contents_in, fits_contents, include_with, includes_of, is_there, lacks_day, path_at}
+use Rattle.include_records.specs.Surroundings.{Place, are_there, fits_contents, in_front, included, includes_of, is_there, path_at}
 use Rattle.include_records.specs.declared.entry.CachedResult.{CachedResult}
 use Rattle.include_records.specs.declared.entry.IncludeEntry.{IncludeEntry}
 
@@ -101,22 +101,8 @@ option_map-after front i None = refl
 option_map-after front i (Some rest) = ap (λ (l : List IncludeEntry). Some l) (sym (append_assoc front (i ∷ []) rest))
 
 module _ (digest_of : Bytes → Bytes) (place : Place) (name : Bytes) (names : List Bytes) where
-  contents : Bytes
-  contents = contents_in place.files (path_at place name)
-
   abbrev pub Recorded : Option IncludeEntry → Type 0
-  Recorded found = found ≡ cond (lacks_day (contents_in place.files (path_at place name)) place.day) None (Some (include_with place digest_of name (contents_in place.files (path_at place name))))
+  Recorded found = found ≡ included place digest_of name (contents_at place.files (path_at place name))
 
   pub includes_of-goes_on : (front : List IncludeEntry) (i : IncludeEntry) → Recorded (Some i) → option_map (λ rest. (front ++ i ∷ []) ++ rest) (includes_of place digest_of names) ≡ option_map (λ rest. front ++ rest) (includes_of place digest_of (name ∷ names))
-  includes_of-goes_on front i is = by (lacks_day (contents_in place.files (path_at place name)) place.day) refl
-    where
-      whole : IncludeEntry
-      whole = include_with place digest_of name (contents_in place.files (path_at place name))
-
-      by : (b : Bool) → lacks_day (contents_in place.files (path_at place name)) place.day ≡ b → option_map (λ rest. (front ++ i ∷ []) ++ rest) (includes_of place digest_of names) ≡ option_map (λ rest. front ++ rest) (includes_of place digest_of (name ∷ names))
-      by true e = let clash : Some i ≡ None = is ∙ ap (λ (b : Bool). cond b None (Some whole)) e in absurd cc
-      by false e =
-          let same : i ≡ whole = some_is i whole (is ∙ ap (λ (b : Bool). cond b None (Some whole)) e) in
-          sym (ap (λ (b : Bool). option_map (λ (rest : List IncludeEntry). front ++ rest) (cond b None (option_map (λ (rest : List IncludeEntry). whole ∷ rest) (includes_of place digest_of names)))) e
-          ∙ option_map-after front whole (includes_of place digest_of names)
-          ∙ ap (λ (x : IncludeEntry). option_map (λ rest. (front ++ x ∷ []) ++ rest) (includes_of place digest_of names)) (sym same))
+  includes_of-goes_on front i is = sym (ap (λ (o : Option IncludeEntry). option_map (λ rest. front ++ rest) (in_front place digest_of o (includes_of place digest_of names))) (sym is) ∙ option_map-after front i (includes_of place digest_of names))

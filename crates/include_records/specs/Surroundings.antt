@@ -60,13 +60,19 @@ module _ (place : Place) where
       second = stamped contents (second_at place.files (path_at name));
     }
 
-    abbrev pub in_front : Bytes → Bytes → Option (List IncludeEntry) → Option (List IncludeEntry)
-    in_front name contents rest = if lacks_day contents place.day then None else option_map (λ includes. include_with name contents ∷ includes) rest
+    -- what is recorded of a name: nothing where there is no such file, or where it needs a day that doesn't exist
+    abbrev pub included : Bytes → Option Bytes → Option IncludeEntry
+    included name None = None
+    included name (Some contents) = if lacks_day contents place.day then None else Some (include_with name contents)
 
-    -- the include list of named files, unless a day that is needed doesn't exist
+    abbrev pub in_front : Option IncludeEntry → Option (List IncludeEntry) → Option (List IncludeEntry)
+    in_front None rest = None
+    in_front (Some include) rest = option_map (λ includes. include ∷ includes) rest
+
+    -- the include list of named files: there is none unless something is recorded of each
     abbrev pub includes_of : List Bytes → Option (List IncludeEntry)
     includes_of [] = Some []
-    includes_of (name ∷ names) = in_front name (contents_in place.files (path_at name)) (includes_of names)
+    includes_of (name ∷ names) = in_front (included name (contents_at place.files (path_at name))) (includes_of names)
 
     -- a regular file of that size and digest, and its day and second, where they were recorded
     abbrev pub fits_contents : IncludeEntry → Option Bytes → Bool

@@ -1,9 +1,10 @@
 //! What is recorded of files.
 
-ghost use Rattle.std.specs.Prelude.{◌≡◌, IfOk, IfErr, OnOk, None, Some, if◌then◌else◌, IsErrOf};
+ghost use Rattle.std.specs.Prelude.{◌≡◌, IfOk, IfErr, OnOk, IsErrOf};
+ghost use Rattle.os_files.specs.Tree.{contents_at};
 ghost use Rattle.os_files.specs.Views.{FilesFail};
 ghost use Rattle.response_files.specs.Causes.{CauseOf};
-ghost use Rattle.include_records.specs.Surroundings.{contents_in, include_with, includes_of, lacks_day, path_at, place_with};
+ghost use Rattle.include_records.specs.Surroundings.{included, includes_of, path_at, place_with};
 ghost use Rattle.time_macros.specs.Days.{local_day};
 ghost use Rattle.time_macros.specs.Macros as macros;
 
@@ -36,7 +37,7 @@ fn holds_timestamp(contents: &[u8]) -> bool
     holds(contents, b"__TIMESTAMP__")
 }
 
-/// What is recorded of the file of that name, unless it needs a day and there is none.
+/// What is recorded of the file of that name: nothing where there is none, or where it needs a day and there is none.
 fn include_of<H: HashState, F: Files>(
     alloc: Global,
     dir: &OsBytes,
@@ -45,9 +46,8 @@ fn include_of<H: HashState, F: Files>(
     files: &mut F,
 ) -> Result<Option<IncludeEntry>, ParseFault>
     ensures include { let place = place_with dir.now (F.tree files.old) day in
-        let contents = contents_in place.files (path_at place name.now) in
-        let recorded = include_with place H.digest_of name.now contents in
-        IfOk result (λ found. found ≡ (if lacks_day contents day then None else Some recorded)) }
+        let contents = contents_at place.files (path_at place name.now) in
+        IfOk result (λ found. found ≡ included place H.digest_of name.now contents) }
     ensures cause { IfErr result (CauseOf (FilesFail F.Files files.old files.new)) }
     ensures tree { F.tree files.new ≡ F.tree files.old }
     ensures steady { OnOk result (F.failed files.new ≡ F.failed files.old) }
@@ -56,7 +56,7 @@ fn include_of<H: HashState, F: Files>(
     let path = join(alloc, dir.as_bytes(), name.as_bytes())?;
     let contents = match files.read(alloc, &path) {
         Ok(Some(contents)) => contents,
-        Ok(None) => OsBytes::empty(alloc),
+        Ok(None) => return Ok(None),
         Err(FileFail::Memory) => return Err(ParseFault::Memory),
         Err(FileFail::Device) => return Err(ParseFault::Read(path)),
     };
@@ -104,7 +104,7 @@ fn includes_on<H: HashState, F: Files>(
 }
 
 /// What is recorded of the files of these names, on these files from that directory, at a moment in seconds since the start of 1970
-/// in UTC, in a zone; `None` where one of them needs a day and the calendar has none.
+/// in UTC, in a zone; `None` where one of them isn't there, or needs a day and the calendar has none.
 ///
 /// `Read` names a file on which the device failed.
 pub fn includes_of<H: HashState, F: Files>(

@@ -36,7 +36,7 @@ use Rattle.wrap_keys.specs.StoreKeys.{store_key_of, IsHashedDirect, IsHashedIn, 
 use Rattle.wrap_keys.specs.Turn.{StoreTurn}
 use Rattle.os_files.specs.Views.{FilesView}
 use Rattle.ckeys_records.specs.Views.{ToolView}
-use Rattle.wrap_keys.specs.Whole.{Ticks, CallTurn, BothRun, SessionRun, Served, Loses, Run, accounts_of, AllAnswer, IsFresh, IsFreshWithin, HaveOneRecord, OneFresh, outputs_in, Agree, SameOutputs, served, Each, begin_of, end_of, served_at, accounts_at}
+use Rattle.wrap_keys.specs.Whole.{Ticks, CallTurn, BothRun, SessionRun, Served, Loses, Run, accounts_of, AllAnswer, IsFresh, IsFreshWithin, HaveOneRecord, OneFresh, TellsDependencies, outputs_in, Agree, SameOutputs, served, Each, begin_of, end_of, served_at, accounts_at}
 use Rattle.wrap_base.specs.declared.answer.Answer.{Answer}
 use Rattle.wrap_base.specs.declared.answer.Answer.TheVariants.{Pass, Outputs}
 use Rattle.wrap_base.specs.declared.answer.How.TheVariants.{Direct, Stored, Fresh}
@@ -400,17 +400,19 @@ both_all : (p q : Pairs) → all p ≡ all q → p ≡ q
 both_all p q e = cc
 
 -- two right answers of one account agree
-agree : (a b : Account) (x y : Result Answer Fault) (on_file : Bytes → Type 0) → a ≡ b → ((why : Why) → why_passed a ≡ Some why → SaysPassed why on_file x) → Answers a x → Answers b y → Agree (outputs_in x) (outputs_in y)
-agree a b (Ok (Pass reason)) y on_file e n h k = tt
-agree a b (Err fault) y on_file e n h k = tt
-agree a b (Ok (Outputs x how dep)) (Ok (Pass reason)) on_file e n h k = tt
-agree a b (Ok (Outputs x how dep)) (Err fault) on_file e n h k = tt
-agree (passed why) b (Ok (Outputs x how dep)) (Ok (Outputs y way more)) on_file e n h k = absurd (n why refl)
-agree (worked w) (passed why) (Ok (Outputs x how dep)) (Ok (Outputs y way more)) on_file e n h k = cc
-agree (worked w) (worked v) (Ok (Outputs x how dep)) (Ok (Outputs y way more)) on_file e n h k =
+agree : (a b : Account) (x y : Result Answer Fault) (on_file : Bytes → Type 0) → a ≡ b → ((why : Why) → why_passed a ≡ Some why → SaysPassed why on_file x) → Answers a x → Answers b y → TellsDependencies a x → TellsDependencies b y → Agree (outputs_in x) (outputs_in y)
+agree a b (Ok (Pass reason)) y on_file e n h k d f = tt
+agree a b (Err fault) y on_file e n h k d f = tt
+agree a b (Ok (Outputs x how dep)) (Ok (Pass reason)) on_file e n h k d f = tt
+agree a b (Ok (Outputs x how dep)) (Err fault) on_file e n h k d f = tt
+agree (passed why) b (Ok (Outputs x how dep)) (Ok (Outputs y way more)) on_file e n h k d f = absurd (n why refl)
+agree (worked w) (passed why) (Ok (Outputs x how dep)) (Ok (Outputs y way more)) on_file e n h k d f = cc
+agree (worked w) (worked v) (Ok (Outputs x how dep)) (Ok (Outputs y way more)) on_file e n h k d f =
     let same : w ≡ v = cc in
     let both = both_all h.0 k.0 (sym h.2.made ∙ ap (λ (u : Work). collected (names_of u.outputs) u.fresh.contents) same ∙ k.2.made) in
-    h.1 ∙ ap (λ (u : Work). placed u.outputs h.0) same ∙ ap (placed v.outputs) both ∙ sym k.1
+    let outputs : x ≡ y = h.1 ∙ ap (λ (u : Work). placed u.outputs h.0) same ∙ ap (placed v.outputs) both ∙ sym k.1 in
+    let text : dep ≡ more = d ∙ ap (λ (u : Work). u.dep_info) same ∙ sym f in
+    λ i. (outputs i, text i)
 
 -- what the verdict passes through is passed through, in each call of a run
 abbrev AllPass : List Served → Type 0
@@ -420,13 +422,21 @@ run_passes : (digest_of : Bytes → Bytes) (max_kept : Option ℕ) (old new : Sh
 run_passes digest_of max_kept old new [] r = tt
 run_passes digest_of max_kept old new (s ∷ run) r = (r.3.passes, run_passes digest_of max_kept r.1 new run r.4)
 
-all_agree : (one two : List Served) → accounts_of one ≡ accounts_of two → AllPass one → AllAnswer one → AllAnswer two → SameOutputs one two
-all_agree [] two e n h k = tt
-all_agree (s ∷ one) [] e n h k = tt
-all_agree (s ∷ one) (t ∷ two) e n h k =
+-- beside outputs stands the call's own text on dependencies, in each call of a run
+abbrev AllTell : List Served → Type 0
+AllTell run = AllByRecursion (λ s. TellsDependencies s.account s.result) run
+
+run_tells : (digest_of : Bytes → Bytes) (max_kept : Option ℕ) (old new : Shelf StoreKey Pairs) (run : List Served) → Run digest_of max_kept old run new → AllTell run
+run_tells digest_of max_kept old new [] r = tt
+run_tells digest_of max_kept old new (s ∷ run) r = (r.3.dep_info, run_tells digest_of max_kept r.1 new run r.4)
+
+all_agree : (one two : List Served) → accounts_of one ≡ accounts_of two → AllPass one → AllAnswer one → AllAnswer two → AllTell one → AllTell two → SameOutputs one two
+all_agree [] two e n h k d f = tt
+all_agree (s ∷ one) [] e n h k d f = tt
+all_agree (s ∷ one) (t ∷ two) e n h k d f =
     let head : s.account ≡ t.account = cc in
     let tail : accounts_of one ≡ accounts_of two = cc in
-    (agree s.account t.account s.result t.result (λ name. s.after.files_failed ≡ ticked s.before.files_failed) head n.0 h.0 k.0, all_agree one two tail n.1 h.1 k.1)
+    (agree s.account t.account s.result t.result (λ name. s.after.files_failed ≡ ticked s.before.files_failed) head n.0 h.0 k.0 d.0 f.0, all_agree one two tail n.1 h.1 k.1 d.1 f.1)
 
 pub two_runs_agree : (digest_of : Bytes → Bytes) (max_kept other : Option ℕ) → Tells digest_of → (one two : List Served) (one_old one_new two_old two_new : Shelf StoreKey Pairs)
     → Run digest_of max_kept one_old one one_new → Run digest_of other two_old two two_new → IsEmpty one_old → IsEmpty two_old
@@ -435,6 +445,8 @@ two_runs_agree digest_of max_kept other tells one two one_old one_new two_old tw
     all_agree one two same (run_passes digest_of max_kept one_old one_new one r)
     (run_answers digest_of max_kept tells [] one_old one_new one r (empty_invariant digest_of one_old e) p)
     (run_answers digest_of other tells [] two_old two_new two q (empty_invariant digest_of two_old f) (subst (Premises digest_of) same p))
+    (run_tells digest_of max_kept one_old one_new one r)
+    (run_tells digest_of other two_old two_new two q)
 
 pub not_both : (b : Bool) → b ≡ true → b ≡ false → ⊥
 not_both b p q = let h = sym p ∙ q in cc

@@ -9,6 +9,8 @@ ghost use Rattle.ckeys_records.specs.Views.{AreSteady, ToolFails};
 ghost use Rattle.wrap_keys.specs.Account.{Account, account_at, direct_calls};
 ghost use Rattle.wrap_keys.specs.Answers.{Answers, GoesOn, OnPass, Says, SaysBy, settled, settled_by};
 ghost use Rattle.wrap_keys.specs.Asking.{AskedTurn, EntriesTurn, RecordsAreTrue, RunsOf, shelves_of};
+ghost use Rattle.wrap_base.specs.Commands.{named_by};
+ghost use Rattle.wrap_keys.specs.RustVerdicts.{is_rust_no_text};
 ghost use Rattle.wrap_keys.specs.StoreKeys.{Invariant, Premises};
 ghost use Rattle.wrap_keys.specs.Turn.{StoreTurn};
 ghost use Rattle.fingerprints.specs.Telling.{OnReason, Tells};
@@ -160,6 +162,10 @@ impl<
         ensures quiet { OnPass result
             ((T.preprocessed tool.new ≡ T.preprocessed tool.old)
             × (T.compiled tool.new ≡ T.compiled tool.old) × (T.failed tool.new ≡ T.failed tool.old)) }
+
+        // A request to rustc that isn't UTF-8 touches no file.
+        ensures untouched { is_rust_no_text (named_by request.now.compiler) request.now ≡ true
+            → files.new ≡ files.old }
 
         // Under which key it asks the store of outputs, and what it does to that, whatever the records hold.
         ensures asked { let a = account_at (T.meaning tool.old) (F.tree files.old) self.old.settings
@@ -352,6 +358,8 @@ impl<
         ensures quiet { OnPass result
             ((T.preprocessed tool.new ≡ T.preprocessed tool.old)
             × (T.compiled tool.new ≡ T.compiled tool.old) × (T.failed tool.new ≡ T.failed tool.old)) }
+        ensures untouched { is_rust_no_text (named_by request.now.compiler) request.now ≡ true
+            → files.new ≡ files.old }
         ensures asked { let a = account_at (T.meaning tool.old) (F.tree files.old) self.old.settings
             request.now in
             AskedTurn H.digest_of self.old.max_kept a

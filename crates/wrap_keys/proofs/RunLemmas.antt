@@ -10,7 +10,7 @@ use Rattle.ckeys_records.specs.declared.step.Step.TheVariants.{Preprocess, Compi
 use Rattle.rustkeys.specs.Runs.{AtMostTwice}
 use Rattle.wrap_keys.specs.Account.{Account, passed, worked}
 use Rattle.wrap_keys.specs.Answers.{EarlyCause}
-use Rattle.wrap_keys.specs.Asking.{IsAskedTwice, RunsIn, RunsOf, RunsOfRecord}
+use Rattle.wrap_keys.specs.Asking.{IsAskedTwice, RunsEarly, RunsIn, RunsOf, RunsOfRecord}
 use Rattle.wrap_keys.specs.CallRecords.{CallRecord, of_c, of_rustc}
 
 -- before a fault of the key
@@ -41,11 +41,15 @@ none_ran : (A : Type 0) (r : CallRecord) (n : ℕ) (fault : Fault) → RunsIn {A
 none_ran A (of_c r) n fault idle = (λ h. refl, λ h. idle)
 none_ran A (of_rustc r) n fault idle = inl refl
 
+none_early : (r : CallRecord) (n : ℕ) → RunsEarly r n n
+none_early (of_c r) n = refl
+none_early (of_rustc r) n = inl refl
+
 -- before there is a verdict
 pub early_runs : (A : Type 0) (a : Account) (on_file : Bytes → Type 0) (n : ℕ) (fault : Fault) → EarlyCause on_file fault → RunsOf {A = A} a false (Err fault) n n
 early_runs A (passed why) on_file n fault cause = refl
-early_runs A (worked w) on_file n Memory cause = none_ran A w.rec n Memory (inl refl)
-early_runs A (worked w) on_file n (Read name) cause = none_ran A w.rec n (Read name) (inl refl)
+early_runs A (worked w) on_file n Memory cause = (none_ran A w.rec n Memory (inl refl), λ some. none_early w.rec n)
+early_runs A (worked w) on_file n (Read name) cause = (none_ran A w.rec n (Read name) (inl refl), λ some. none_early w.rec n)
 early_runs A (worked w) on_file n (Tool step) cause = absurd cause
 early_runs A (worked w) on_file n (PreprocessFailed status) cause = cc
 early_runs A (worked w) on_file n (CompileFailed status) cause = cc

@@ -7,7 +7,7 @@ use Rattle.os_files.specs.Tree.{Tree}
 use Rattle.cmdlines.specs.Commands.{compile_words, output_path}
 use Rattle.cmdlines_base.specs.Artifacts.{Artifacts}
 use Rattle.cmdlines_requests.specs.declared.parsed.ParsedArguments.{ParsedArguments}
-use Rattle.ckeys.specs.Calls.{KeyCall, PrintedCall, key_fault_of, printed_call, record_of}
+use Rattle.ckeys.specs.Calls.{KeyCall, PrintedCall, early_fault_of, key_fault_of, printed_call, record_of}
 use Rattle.ckeys.specs.Entries.{asking, has_entry_key}
 use Rattle.ckeys_records.specs.Folders.{Settings}
 use Rattle.ckeys_records.specs.Meaning.{Scene, Made, Meaning, names_of, asked_of, scene_with}
@@ -21,6 +21,7 @@ use Rattle.rustkeys.specs.Calls as keys
 use Rattle.rustkeys.specs.Calls.{RustCall}
 use Rattle.rustkeys.specs.Fresh.{call_outputs, dep_info_text_of, fresh_of}
 use Rattle.rustkeys.specs.Hashers.{known_of}
+use Rattle.rustkeys.specs.Questions.{dep_info_of}
 use Rattle.wrap_base.specs.Commands.{CFound, NamedBy, by_c, by_rustc, named_by, words_at}
 use Rattle.wrap_keys.specs.CallRecords.{CallRecord, of_c, of_rustc}
 use Rattle.wrap_keys.specs.RustVerdicts as verdicts
@@ -29,11 +30,12 @@ use Rattle.wrap_keys.specs.Verdicts.{Why, Judgement, passes, asks, verdict_of}
 use Rattle.wrap_base.specs.declared.answer.Output.{Output}
 use Rattle.wrap_base.specs.declared.request.Request.{Request}
 
--- a call that isn't passed through: its outputs, its record, its first fault before the store is asked, and its fresh outcome, which is what the tool's meaning gives for its compile command; where it has an entry key, all that its include record depends on; and, of rustc, the text on dependencies for its own targets, where that is asked for
+-- a call that isn't passed through: its outputs, its record, its first fault before the store is asked, and that before its text is printed, or before rustc is asked for names; and its fresh outcome, which is what the tool's meaning gives for its compile command; where it has an entry key, all that its include record depends on; and, of rustc, the text on dependencies for its own targets, where that is asked for
 pub record Work : Type 0 where
   pub outputs : Artifacts
   pub rec : CallRecord
   pub fault : Option Fault
+  pub early : Option Fault
   pub fresh : Made
   pub direct : Option PrintedCall
   pub dep_info : Option Bytes
@@ -74,6 +76,7 @@ work_at meaning call = record {
   outputs = call.parsed.outputs;
   rec = of_c (record_of meaning call);
   fault = key_fault_of meaning call;
+  early = early_fault_of call;
   fresh = meaning Compile (asked_of call.kind (compile_words call.kind call.parsed (output_path call.parsed))) (names_of call.parsed.outputs) call.scene;
   direct = direct_at meaning call;
   dep_info = None;
@@ -84,6 +87,7 @@ rust_work_at meaning call = record {
   outputs = call_outputs meaning call;
   rec = of_rustc (keys.record_of meaning call);
   fault = keys.key_fault_of meaning call;
+  early = keys.dep_info_fault_of call.question (dep_info_of meaning call.question);
   fresh = fresh_of meaning call;
   direct = None;
   dep_info = dep_info_text_of meaning call;

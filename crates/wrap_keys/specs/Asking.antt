@@ -4,8 +4,10 @@ use Rattle.os_files.specs.Bytes.{Bytes, ticked}
 use Rattle.ckeys_base.specs.Shelf.{Shelf}
 use Rattle.ckeys.specs.Calls.{PrintedCall, key_fault_by, needs_preprocessing, record_by}
 use Rattle.ckeys.specs.Entries.{HasMatch, Held, IsFramed}
-use Rattle.ckeys.specs.EntryTurns.{EntryTurn, KeyRecorded, KeyRuns, RunsUntil}
+use Rattle.ckeys.specs.EntryTurns.{EntryTurn, KeyRecorded, KeyRuns, PutsNone, RunsUntil}
+use Rattle.ckeys_records.specs.Causes.{ByStage, stage_of}
 use Rattle.ckeys_records.specs.Folders.{Settings}
+use Rattle.ckeys_records.specs.Meaning.{AtMostOnce}
 use Rattle.entry_keys.specs.declared.entry_key.EntryKey.{EntryKey}
 use Rattle.include_records.specs.Records.{Record}
 use Rattle.ckeys_records.specs.declared.fault.Fault.{Fault}
@@ -92,17 +94,37 @@ abbrev pub RunsOfRecord : {A : Type 0} → CallRecord → Bool → Result A Faul
 RunsOfRecord (of_c r) from result before after = (needs_preprocessing r.language ≡ false → after ≡ before) × (needs_preprocessing r.language ≡ true → RunsIn from result before after)
 RunsOfRecord (of_rustc r) from result before after = IsAskedTwice result before after
 
+-- a fact where the call has its key: there are outputs, or a fault of the compile
+abbrev pub OnKeyed : Account → Result Answer Fault → (Work → Type 0) → Type 0
+OnKeyed (passed why) result P = Unit {0}
+OnKeyed (worked w) (Ok (Pass reason)) P = Unit {0}
+OnKeyed (worked w) (Ok (Outputs map how dep_info)) P = P w
+OnKeyed (worked w) (Err fault) P = ByStage (stage_of fault) (Unit {0}) (Unit {0}) (P w)
+
+-- a fact where a fault comes before the compile
+abbrev pub OnUnkeyed : {A : Type 0} → Result A Fault → Type 0 → Type 0
+OnUnkeyed (Ok answer) P = Unit {0}
+OnUnkeyed (Err fault) P = ByStage (stage_of fault) (Unit {0}) P (Unit {0})
+
 -- how often it ran before the store of outputs is asked, where the call has its key
 abbrev pub RanForKey : CallRecord → Bool → ℕ → ℕ → Type 0
 RanForKey (of_c r) from before after = (needs_preprocessing r.language ≡ false → after ≡ before) × (needs_preprocessing r.language ≡ true → KeyRuns from before after)
 RanForKey (of_rustc r) from before after = after ≡ ticked (ticked before)
 
+-- Where a fault comes before the text, the preprocessor didn't run; where one comes before rustc is asked for names, that was asked once at most.
+abbrev pub RunsEarly : CallRecord → ℕ → ℕ → Type 0
+RunsEarly (of_c r) before after = after ≡ before
+RunsEarly (of_rustc r) before after = AtMostOnce before after
+
+abbrev pub StopsEarly : Work → ℕ → ℕ → Type 0
+StopsEarly w before after = (w.early ≡ None → ⊥) → RunsEarly w.rec before after
+
 -- How often it ran: not where the request is passed through.
 abbrev pub RunsOf : {A : Type 0} → Account → Bool → Result A Fault → ℕ → ℕ → Type 0
 RunsOf (passed why) from result before after = after ≡ before
-RunsOf (worked w) from result before after = RunsOfRecord w.rec from result before after
+RunsOf (worked w) from result before after = RunsOfRecord w.rec from result before after × StopsEarly w before after
 
--- One call: under which key it asks the object store and what it does to that, whatever the records hold; and how often the preprocessor ran. Where the key came from the text and outputs are answered, the call has no fault before the store is asked; and a text that is recorded is found under this key again.
+-- One call: under which key it asks the object store and what it does to that, whatever the records hold; and how often the preprocessor ran. Where the key came from the text and outputs are answered, the call has no fault before the store is asked; and a text that is recorded is found under this key again, whatever comes of the compile. A call that has no key puts no record, so a refused put of one is no fault.
 pub record AskedTurn (digest_of : Bytes → Bytes) (max_kept : Option ℕ) (a : Account) (old new : Shelves) (printed printed_new compiled compiled_new : ℕ) (result : Result Answer Fault) : Type 0 where
   pub from : Bool
   pub text_key : Bytes
@@ -110,7 +132,8 @@ pub record AskedTurn (digest_of : Bytes → Bytes) (max_kept : Option ℕ) (a : 
   pub how : HowFrom from result
   pub fine : OnOutputs a result (λ w. from ≡ false → w.fault ≡ None)
   pub runs : RunsOf a from result printed printed_new
-  pub recorded : OnOutputs a result (λ w. (p : PrintedCall) → w.direct ≡ Some p → KeyRecorded digest_of p old.entries new.entries from text_key)
+  pub recorded : OnKeyed a result (λ w. (p : PrintedCall) → w.direct ≡ Some p → KeyRecorded digest_of p old.entries new.entries from text_key)
+  pub unput : OnUnkeyed result (PutsNone old.entries new.entries)
   pub objects : KeyedTurn digest_of max_kept text_key a old.objects new.objects compiled compiled_new result
 
 -- what one call does to the include records: nothing where it has no entry key

@@ -1,5 +1,5 @@
 -- The verdict on a request to rustc: why it is passed through, or what it asks for.
-use Rattle.std.specs.Prelude.{Bool, ◌&&◌, if◌then◌else◌}
+use Rattle.std.specs.Prelude.{Bool, false, not, ◌&&◌, if◌then◌else◌}
 use Rattle.std.specs.List.{list_all, list_any}
 use Rattle.std.specs.Str.{is_utf8}
 use Rattle.os_files.specs.Bytes.{Bytes}
@@ -12,6 +12,7 @@ use Rattle.rustkeys_base.specs.Parsing as parsing
 use Rattle.rustkeys_base.specs.Parsing.{request_reading, decision_on}
 use Rattle.rustc_texts.specs.Words.{compile_words}
 use Rattle.wrap_keys.specs.Verdicts.{Why, cannot_cache, not_compilation, not_utf8, opens_a_file}
+use Rattle.wrap_base.specs.Commands.{NamedBy, by_c, by_rustc}
 use Rattle.wrap_base.specs.declared.request.Request.{Request}
 
 -- a request is passed through, or it asks for this
@@ -26,6 +27,11 @@ is_text_variable pair = is_utf8 pair.0 && is_utf8 pair.1
 -- so are its words, its directory and its variables
 abbrev pub is_text : Request → Bool
 is_text request = list_all is_utf8 request.words && (is_utf8 request.dir && list_all is_text_variable request.env)
+
+-- whether this is a request to rustc that isn't text
+abbrev pub is_rust_no_text : NamedBy → Request → Bool
+is_rust_no_text (by_c found) request = false
+is_rust_no_text (by_rustc rust) request = not (is_text request)
 
 -- The hazard: a word with which it is compiled would make rustc open a file of words.
 abbrev pub opens_words : RustAsks → Bool

@@ -2,6 +2,7 @@
 use Rattle.std.specs.Prelude.{◌≡◌, ◌⊎◌, ℕ, true, false, if◌then◌else◌, [], Option, Some, None, IsSome, Result, Ok, Err, OnErr}
 use Rattle.os_files.specs.Bytes.{Bytes, ticked}
 use Rattle.ckeys_base.specs.Shelf.{Shelf, Within, KeepsKeys}
+use Rattle.ckeys.specs.EntryTurns.{IsPut}
 use Rattle.ckeys_records.specs.Causes.{ByStage, stage_of}
 use Rattle.ckeys_records.specs.declared.fault.Fault.{Fault}
 use Rattle.wrap_keys.specs.CallRecords.{IsTold, key_of}
@@ -32,10 +33,11 @@ abbrev pub RefusesNothing : Shelf StoreKey Pairs → Shelf StoreKey Pairs → Ty
 RefusesNothing old new = old.kept ≡ true → KeepsKeys old.held new.held → new.kept ≡ true
 
 module _ (digest_of : Bytes → Bytes) (max_kept : Option ℕ) (text_key : Bytes) (w : Work) (old new : Shelf StoreKey Pairs) (before after : ℕ) where
-  -- a fresh output is answered: it is what the compiler gives, and it is held then, or something was refused or dropped, or its size is greater than the limit; where that is so, no pair is new and nothing is refused
+  -- a fresh output is answered: it is what the compiler gives; it is put under the call's key, unless its size is greater than the limit, and is held then, or something was refused or dropped; where that is so, no pair is new and nothing is refused
   pub record FreshTurn (pairs : Pairs) : Type 0 where
     pub miss : MissTurn digest_of text_key w old new before after
     pub made : IsSuccess w pairs
+    pub puts : is_within max_kept (size_of pairs) ≡ true → IsPut old new (store_key_with digest_of w text_key) pairs
     pub holds : new.kept ≡ true → is_within max_kept (size_of pairs) ≡ true → new.held (store_key_with digest_of w text_key) ≡ Some pairs
     pub large : is_within max_kept (size_of pairs) ≡ false → Within old.held new.held × RefusesNothing old new
 

@@ -34,12 +34,20 @@ pub record Ticks : Type 0 where
 abbrev pub SameFailures : Ticks → Ticks → Type 0
 SameFailures before after = (after.failed ≡ before.failed) × (after.files_failed ≡ before.files_failed)
 
--- One call, by plain values: what it does to the store and what its answer tells; what the verdict passes through is passed through, unless memory was refused before or a file's device failed, and then no tick of the tool moves; outputs are answered only where the call has a record; and where no growth is refused and no device fails, what is said before the compile is the account's alone.
+-- beside outputs stands the call's own text on dependencies
+abbrev pub TellsDependencies : Account → Result Answer Fault → Type 0
+TellsDependencies (passed why) result = Unit {0}
+TellsDependencies (worked w) (Ok (Pass reason)) = Unit {0}
+TellsDependencies (worked w) (Ok (Outputs map how dep_info)) = dep_info ≡ w.dep_info
+TellsDependencies (worked w) (Err fault) = Unit {0}
+
+-- One call, by plain values: what it does to the store and what its answer tells; what the verdict passes through is passed through, unless memory was refused before or a file's device failed, and then no tick of the tool moves; outputs are answered only where the call has a record, beside its own text on dependencies; and where no growth is refused and no device fails, what is said before the compile is the account's alone.
 pub record Turn (digest_of : Bytes → Bytes) (max_kept : Option ℕ) (a : Account) (old new : Shelf StoreKey Pairs) (before after : Ticks) (result : Result Answer Fault) : Type 0 where
   pub store : StoreTurn digest_of max_kept a old new before.compiled after.compiled result
   pub passes : (why : Why) → why_passed a ≡ Some why → SaysPassed why (λ name. after.files_failed ≡ ticked before.files_failed) result
   pub quiet : OnPass result ((after.preprocessed ≡ before.preprocessed) × (after.compiled ≡ before.compiled) × (after.failed ≡ before.failed))
   pub fine : OnOutputs a result HasRecord
+  pub dep_info : TellsDependencies a result
   pub exact : (IsErrOf result Memory → ⊥) → after.files_failed ≡ before.files_failed → after.failed ≡ before.failed → settled_by result ≡ settled a
 
 -- a call that was answered: its account, the ticks before and after it, and its answer
@@ -114,14 +122,14 @@ abbrev pub OneFresh : Option ℕ → List Served → Type 0
 OneFresh max_kept [] = Unit {0}
 OneFresh max_kept (s ∷ rest) = (IsFreshWithin max_kept s.result → AllByRecursion (λ t. IsFresh t.result → HaveOneRecord s.account t.account → ⊥) rest) × OneFresh max_kept rest
 
--- the outputs of an answer
-abbrev pub outputs_in : Result Answer Fault → Option (List Output)
+-- the outputs of an answer, and the text on dependencies beside them
+abbrev pub outputs_in : Result Answer Fault → Option (List Output × Option Bytes)
 outputs_in (Ok (Pass reason)) = None
-outputs_in (Ok (Outputs map how dep_info)) = Some map
+outputs_in (Ok (Outputs map how dep_info)) = Some (map, dep_info)
 outputs_in (Err fault) = None
 
--- where both runs answer a call with outputs, these are the same
-abbrev pub Agree : Option (List Output) → Option (List Output) → Type 0
+-- where both runs answer a call with outputs, these are the same, and so is the text on dependencies
+abbrev pub Agree : Option (List Output × Option Bytes) → Option (List Output × Option Bytes) → Type 0
 Agree None other = Unit {0}
 Agree (Some x) None = Unit {0}
 Agree (Some x) (Some y) = x ≡ y

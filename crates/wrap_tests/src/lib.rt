@@ -12,6 +12,8 @@ mod fail_tool;
 #[cfg(test)]
 mod forgetful;
 #[cfg(test)]
+mod idle_tool;
+#[cfg(test)]
 mod map_store;
 #[cfg(test)]
 mod marks;
@@ -21,3 +23,5 @@ mod scene;
 mod sessions;
 #[cfg(test)]
 mod support;
+#[cfg(test)]
+mod uses;

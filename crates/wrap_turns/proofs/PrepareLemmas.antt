@@ -1,15 +1,19 @@
 -- What the hasher of a request's call says of its key, said of the request's work.
-use Rattle.std.proofs.Common.{◌≡◌, ℕ, Bool, true, false, if◌then◌else◌, Some, None, refl, sym, ap, subst}
+use Rattle.std.proofs.Common.{◌≡◌, ℕ, Bool, true, false, if◌then◌else◌, Some, None, Result, Ok, Err, IsErrAnd, refl, sym, ap, subst}
+use Rattle.std.proofs.lemmas.Result.{err_from_is_err_and}
 use Rattle.os_files.specs.Bytes.{Bytes}
 use Rattle.ckeys.specs.Calls.{KeyCall, PrintedCall, printed_call}
 use Rattle.ckeys.specs.Entries.{Held, entry_key_of, entry_key_by, has_entry_key}
 use Rattle.ckeys.specs.EntryTurns.{EntryTurn, KeyFrom, KeyRecorded}
 use Rattle.ckeys_base.specs.Shelf.{Shelf}
+use Rattle.ckeys_records.specs.Causes.{ByStage, Stage, any_time, before_compile, in_compile, stage_of}
 use Rattle.ckeys_records.specs.Meaning.{Meaning}
+use Rattle.ckeys_records.specs.declared.fault.Fault.{Fault}
+use Rattle.ckeys_records.specs.declared.fault.Fault.TheVariants.{Memory}
 use Rattle.entry_keys.specs.declared.entry_key.EntryKey.{EntryKey}
 use Rattle.include_records.specs.Records.{Record}
 use Rattle.wrap_keys.specs.Account.{direct_at, work_at, worked}
-use Rattle.wrap_keys.specs.Asking.{EntriesBy, EntriesTurn, WorkKeyFrom}
+use Rattle.wrap_keys.specs.Asking.{EntriesBy, EntriesTurn, OnUnkeyed, WorkKeyFrom}
 
 -- a call that has an entry key
 has_one : (digest_of : Bytes → Bytes) (call : KeyCall) (key : EntryKey) → entry_key_of digest_of call ≡ Some key → has_entry_key call ≡ true
@@ -49,3 +53,16 @@ module _ (digest_of : Bytes → Bytes) (meaning : Meaning) (made call : KeyCall)
       by : (b : Bool) → (if b then Some (printed_call meaning call) else None) ≡ Some p → printed_call meaning call ≡ p
       by true h = cc
       by false h = cc
+
+-- a fault of the key, or want of memory behind it
+pub unkeyed_exit : {A : Type 0} → (P : Type 0) (result : Result A Fault) → P → OnUnkeyed result P
+unkeyed_exit P (Ok answer) h = tt
+unkeyed_exit P (Err fault) h = by (stage_of fault)
+  where
+    by : (s : Stage) → ByStage s (Unit {0}) P (Unit {0})
+    by any_time = tt
+    by before_compile = h
+    by in_compile = tt
+
+pub unkeyed_memory : {A : Type 0} → (P : Type 0) (result : Result A Fault) → IsErrAnd result (λ f. f ≡ Memory) → OnUnkeyed result P
+unkeyed_memory P result err = let p = err_from_is_err_and result err in rw (p.1, p.2) tt

@@ -6,14 +6,14 @@ use Rattle.os_files.specs.Bytes.{Bytes, ticked}
 use Rattle.os_files.specs.Tree.{Tree}
 use Rattle.os_files.specs.Views.{FilesView}
 use Rattle.cmdlines_requests.specs.declared.parsed.ParsedArguments.{ParsedArguments}
-use Rattle.ckeys_base.specs.Shelf.{Shelf, Asks, Puts, Forgotten}
+use Rattle.ckeys_base.specs.Shelf.{Shelf, Asks, Puts, Forgotten, Within}
 use Rattle.ckeys.specs.Calls.{PrintedCall, key_fault_by}
 use Rattle.ckeys_records.specs.Faults.{KeyCause}
 use Rattle.ckeys_records.specs.Folders.{Settings}
 use Rattle.ckeys_records.specs.Causes.{ByStage, HasOwnFault, no_file, no_step, stage_of}
 use Rattle.ckeys_records.specs.Views.{AreSteady, ToolView}
 use Rattle.ckeys.specs.Entries.{Held}
-use Rattle.ckeys.specs.EntryTurns.{IsSpared, KeyFine, KeyRecorded, KeyRuns, RunsUntil}
+use Rattle.ckeys.specs.EntryTurns.{IsPut, IsSpared, KeyFine, KeyRecorded, KeyRuns, PutsNone, RunsUntil}
 use Rattle.ckeys_records.specs.Meaning.{AtMostOnce}
 use Rattle.wrap_keys.specs.CallRecords.{CallRecord, IsTold, of_c, of_rustc}
 use Rattle.ckeys_records.specs.Meaning.{Meaning, FailsIn}
@@ -25,7 +25,7 @@ use Rattle.ckeys_records.specs.declared.step.Step.{Step}
 use Rattle.ckeys_records.specs.declared.step.Step.TheVariants.{Preprocess, Compile, DepInfo, FileNames, ArchiveDigest}
 use Rattle.wrap_keys.specs.Account.{Account, passed, worked, Work, Pairs, IsSuccess, account_by, call_at, compile_fault_of, direct_of, placed, work_at}
 use Rattle.wrap_keys.specs.Answers.{EarlyCause, GoesOn, GoesOnWith, OnPass, Placed, SaysBy, SaysWorkedBy}
-use Rattle.wrap_keys.specs.Asking.{AskedTurn, AskedUnder, EntriesBy, EntriesTurn, HowFrom, RanForKey, RecordsAreTrue, RunsOf, RunsOfRecord, Shelves, WorkKeyFrom}
+use Rattle.wrap_keys.specs.Asking.{AskedTurn, AskedUnder, EntriesBy, EntriesTurn, HowFrom, OnUnkeyed, RanForKey, RecordsAreTrue, RunsOf, RunsOfRecord, Shelves, StopsEarly, WorkKeyFrom}
 use Rattle.wrap_turns.specs.Prepared.{SaysFinished}
 use Rattle.wrap_keys.specs.Sizes.{is_within, size_in, size_of}
 use Rattle.wrap_keys.specs.StoreKeys.{store_key_with}
@@ -61,6 +61,15 @@ asks_kept old asked key answer asks h = record { was = (asks.kept.0 h).0; keys =
 put_holds : (eq : StoreKey → StoreKey → Bool) (new : Shelf StoreKey Pairs) (key : StoreKey) (value : Pairs) (asked : Shelf StoreKey Pairs) (put : Result (Unit {0}) (StoreKey × Pairs)) → Puts eq asked new key value put → new.kept ≡ true → new.held key ≡ Some value
 put_holds eq new key value asked (Ok u) puts kept = puts.outcome
 put_holds eq new key value asked (Err pair) puts kept = let refused = (puts.kept.0 kept).2 in cc
+
+-- a put takes its pair, or it's refused
+is_put_of : (eq : StoreKey → StoreKey → Bool) (old asked new : Shelf StoreKey Pairs) (key : StoreKey) (value : Pairs) (put : Result (Unit {0}) (StoreKey × Pairs)) → Within old.held asked.held → Puts eq asked new key value put → IsPut old new key value
+is_put_of eq old asked new key value (Ok u) within puts = inl puts.outcome
+is_put_of eq old asked new key value (Err pair) within puts = inr (record { within = λ k e h. within k e (puts.outcome.1 k e h); told = by new.kept refl })
+  where
+    by : (b : Bool) → new.kept ≡ b → b ≡ false
+    by true e = let refused = (puts.kept.0 e).2 in cc
+    by false e = refl
 
 module _ (digest_of : Bytes → Bytes) (max_kept : Option ℕ) (text_key : Bytes) (w : Work) (key : StoreKey) (is_key : key ≡ store_key_with digest_of w text_key) (old asked : Shelf StoreKey Pairs) (answer : Option Pairs) (asks : Asks old asked key answer) where
   -- the look-up failed for memory
@@ -176,6 +185,7 @@ module _ (digest_of : Bytes → Bytes) (max_kept : Option ℕ) (text_key : Bytes
         record {
           miss = miss new puts.steady ran;
           made = made;
+          puts = λ fits. subst (λ (k : StoreKey). IsPut old new k value) is_key (is_put_of eq old asked new key value put asks.within puts);
           holds = λ h _. ap new.held (sym is_key) ∙ put_holds eq new key value asked put puts h;
           large = λ h. absurd (true≢false (sym within ∙ h));
         },
@@ -197,6 +207,7 @@ module _ (digest_of : Bytes → Bytes) (max_kept : Option ℕ) (text_key : Bytes
         record {
           miss = miss asked refl ran;
           made = made;
+          puts = λ fits. absurd (true≢false (sym fits ∙ within));
           holds = λ h fits. absurd (true≢false (sym fits ∙ within));
           large = λ h. (asks.within, λ was keys. asks.kept.1 (was, keys));
         },
@@ -264,7 +275,7 @@ finished_says went_on w on_file device_in later_in more goes (Ok (Outputs map ho
 finished_says went_on w on_file device_in later_in more goes (Err fault) says = by_stage (stage_of fault) (λ u. u) (λ n. absurd n) (λ h. (goes, caused_more (compile_fault_of w) (compile_fault_of w) no_file no_file later_in device_in (λ f e. e) (λ name n. n) more fault h)) says
 
 -- a fault that comes before there is a verdict is none of the compile
-early_stage : (on_file : Bytes → Type 0) (fault : Fault) → EarlyCause on_file fault → ByStage (stage_of fault) (Unit {0}) (EarlyCause on_file fault) ⊥
+pub early_stage : (on_file : Bytes → Type 0) (fault : Fault) → EarlyCause on_file fault → ByStage (stage_of fault) (Unit {0}) (EarlyCause on_file fault) ⊥
 early_stage on_file fault h = file_early None on_file fault h
 
 -- a fault that comes before there is a verdict
@@ -375,10 +386,10 @@ compile_until w device_in from before after (AnswerNotUtf8 step) cause h = absur
 compile_until w device_in from before after (BadDigest path) cause h = absurd cause
 
 -- a call that ends with a fault
-pub asked_fault : (digest_of : Bytes → Bytes) (max_kept : Option ℕ) (a : Account) (old new : Shelves) (printed printed_new compiled compiled_new : ℕ) (result : Result Answer Fault) (fault : Fault) → IsErrAnd result (λ f. f ≡ fault) → (from : Bool) (text_key : Bytes) → AskedUnder digest_of a old.entries.held from text_key → RunsOf {A = Answer} a from (Err fault) printed printed_new → KeyedTurn digest_of max_kept text_key a old.objects new.objects compiled compiled_new result → AskedTurn digest_of max_kept a old new printed printed_new compiled compiled_new result
-asked_fault digest_of max_kept a old new printed printed_new compiled compiled_new (Ok answer) fault err from text_key is_key runs turn = absurd err
-asked_fault digest_of max_kept (passed why) old new printed printed_new compiled compiled_new (Err f) fault err from text_key is_key runs turn = record { from = from; text_key = text_key; is_key = is_key; how = tt; fine = tt; runs = runs; recorded = tt; objects = turn }
-asked_fault digest_of max_kept (worked w) old new printed printed_new compiled compiled_new (Err f) fault err from text_key is_key runs turn = record { from = from; text_key = text_key; is_key = is_key; how = tt; fine = tt; runs = subst (λ (e : Fault). RunsOf {A = Answer} (worked w) from (Err e) printed printed_new) (sym err) runs; recorded = tt; objects = turn }
+pub asked_fault : (digest_of : Bytes → Bytes) (max_kept : Option ℕ) (a : Account) (old new : Shelves) (printed printed_new compiled compiled_new : ℕ) (result : Result Answer Fault) (fault : Fault) → IsErrAnd result (λ f. f ≡ fault) → (Q : Type 0) → ByStage (stage_of fault) (Unit {0}) Q ⊥ → OnUnkeyed {A = Answer} (Err fault) (PutsNone old.entries new.entries) → (from : Bool) (text_key : Bytes) → AskedUnder digest_of a old.entries.held from text_key → RunsOf {A = Answer} a from (Err fault) printed printed_new → KeyedTurn digest_of max_kept text_key a old.objects new.objects compiled compiled_new result → AskedTurn digest_of max_kept a old new printed printed_new compiled compiled_new result
+asked_fault digest_of max_kept a old new printed printed_new compiled compiled_new (Ok answer) fault err Q stage unput from text_key is_key runs turn = absurd err
+asked_fault digest_of max_kept (passed why) old new printed printed_new compiled compiled_new (Err f) fault err Q stage unput from text_key is_key runs turn = record { from = from; text_key = text_key; is_key = is_key; how = tt; fine = tt; runs = runs; recorded = tt; unput = subst (λ (e : Fault). OnUnkeyed {A = Answer} (Err e) (PutsNone old.entries new.entries)) (sym err) unput; objects = turn }
+asked_fault digest_of max_kept (worked w) old new printed printed_new compiled compiled_new (Err f) fault err Q stage unput from text_key is_key runs turn = record { from = from; text_key = text_key; is_key = is_key; how = tt; fine = tt; runs = subst (λ (e : Fault). RunsOf {A = Answer} (worked w) from (Err e) printed printed_new) (sym err) runs; recorded = by_stage (stage_of f) (λ u. u) (λ c. tt) (λ n. absurd n) (subst (λ (e : Fault). ByStage (stage_of e) (Unit {0}) Q ⊥) (sym err) stage); unput = subst (λ (e : Fault). OnUnkeyed {A = Answer} (Err e) (PutsNone old.entries new.entries)) (sym err) unput; objects = turn }
 
 -- a hit
 pub how_kept : (from : Bool) (map : List Output) (dep_info : Option Bytes) → HowFrom from (Ok (Outputs map (kept_how from) dep_info))
@@ -402,17 +413,21 @@ ran_until (of_c r) from before after fault until ran = (ran.0, λ h. until (ran.
 ran_until (of_rustc r) from before after fault until ran = inr (inr ran)
 
 module _ (digest_of : Bytes → Bytes) (max_kept : Option ℕ) (w : Work) (old new : Shelves) (printed printed_new compiled compiled_new : ℕ) (from : Bool) (text_key : Bytes) (is_key : WorkKeyFrom digest_of w old.entries.held from text_key)
-    (fine : from ≡ false → w.fault ≡ None) (runs : RanForKey w.rec from printed printed_new) (recorded : (p : PrintedCall) → w.direct ≡ Some p → KeyRecorded digest_of p old.entries new.entries from text_key) where
+    (fine : from ≡ false → w.fault ≡ None) (runs : RanForKey w.rec from printed printed_new) (early : StopsEarly w printed printed_new) (recorded : (p : PrintedCall) → w.direct ≡ Some p → KeyRecorded digest_of p old.entries new.entries from text_key) where
   -- however the request is finished
   pub asked_finished : (device_in : Step → Type 0) (result : Result Answer Fault) → SaysFinished w device_in result → HowFrom from result → KeyedTurn digest_of max_kept text_key (worked w) old.objects new.objects compiled compiled_new result → AskedTurn digest_of max_kept (worked w) old new printed printed_new compiled compiled_new result
   asked_finished device_in (Ok (Pass reason)) says how turn = absurd says
-  asked_finished device_in (Ok (Outputs map kept dep_info)) says how turn = record { from = from; text_key = text_key; is_key = is_key; how = how; fine = fine; runs = ran_with w.rec _ from _ _ runs; recorded = recorded; objects = turn }
-  asked_finished device_in (Err fault) says how turn = record { from = from; text_key = text_key; is_key = is_key; how = tt; fine = tt; runs = ran_until w.rec from _ _ fault (compile_until w device_in from _ _ fault says) runs; recorded = tt; objects = turn }
+  asked_finished device_in (Ok (Outputs map kept dep_info)) says how turn = record { from = from; text_key = text_key; is_key = is_key; how = how; fine = fine; runs = (ran_with w.rec _ from _ _ runs, early); recorded = recorded; unput = tt; objects = turn }
+  asked_finished device_in (Err fault) says how turn = record { from = from; text_key = text_key; is_key = is_key; how = tt; fine = tt; runs = (ran_until w.rec from _ _ fault (compile_until w device_in from _ _ fault says) runs, early); recorded = by_stage (stage_of fault) (λ u. u) (λ n. absurd n) (λ c. recorded) says; unput = by_stage (stage_of fault) (λ u. u) (λ n. absurd n) (λ c. tt) says; objects = turn }
 
 -- its own key, where there is no other
 pub own_asked : (digest_of : Bytes → Bytes) (a : Account) (held : Held) → AskedUnder digest_of a held false (own_text_key digest_of a)
 own_asked digest_of (passed why) held = tt
 own_asked digest_of (worked w) held = refl
+
+-- records that stay as they are, before a fault that comes before there is a verdict
+pub early_unput : (on_file : Bytes → Type 0) (fault : Fault) (s : Shelf EntryKey Record) → EarlyCause on_file fault → OnUnkeyed {A = Answer} (Err fault) (PutsNone s s)
+early_unput on_file fault s h = by_stage (stage_of fault) (λ u. u) (λ c. record { within = λ k e h. h; put = refl }) (λ n. absurd n) (early_stage on_file fault h)
 
 -- a call that asks no store
 pub quiet_entries : (digest_of : Bytes → Bytes) (a : Account) (s : Shelf EntryKey Record) (n : ℕ) → EntriesTurn digest_of a s s n n

@@ -5,10 +5,10 @@ ghost use Rattle.os_files.specs.Views.{FilesFail};
 ghost use Rattle.ckeys.specs.Calls.{PrintedCall, needs_preprocessing, printed_call};
 ghost use Rattle.ckeys_records.specs.Causes.{HasOwnFault};
 ghost use Rattle.ckeys_records.specs.Faults.{KeyCause};
-ghost use Rattle.ckeys.specs.EntryTurns.{KeyFine, KeyRecorded, KeyRuns, RunsUntilKey};
+ghost use Rattle.ckeys.specs.EntryTurns.{KeyFine, KeyRecorded, KeyRuns, PutsNone, RunsUntilKey};
 ghost use Rattle.ckeys_records.specs.Views.{AreSteady, ToolFails};
 ghost use Rattle.wrap_keys.specs.Account.{call_at, work_at, worked};
-ghost use Rattle.wrap_keys.specs.Asking.{EntriesTurn, WorkKeyFrom};
+ghost use Rattle.wrap_keys.specs.Asking.{EntriesTurn, OnUnkeyed, StopsEarly, WorkKeyFrom};
 ghost use Rattle.wrap_keys.specs.Plans.{IsPlanOf};
 ghost use Rattle.wrap_turns.specs.Prepared.{IsPrepared};
 ghost use Rattle.wrap_base.specs.Commands.{found_of};
@@ -85,6 +85,10 @@ pub fn prepare<'a, H: HashState, E: Store<EntryKey, PreprocessorCacheEntry>, F: 
         (λ p. (printed : PrintedCall) → w.direct ≡ Some printed
         → KeyRecorded H.digest_of printed (E.shelf entries.old) (E.shelf entries.new)
         p.from_record p.key.digest) }
+    ensures unput { OnUnkeyed result (PutsNone (E.shelf entries.old) (E.shelf entries.new)) }
+    ensures early { let w = work_at (T.meaning tool.old)
+        (call_at (found_of compiler.entry) request.now (F.tree files.old) config.now plan.now.parsed) in
+        StopsEarly w (T.preprocessed tool.old) (T.preprocessed tool.new) }
     ensures runs { needs_preprocessing plan.now.parsed.language ≡ true
         → IfOk result
         (λ p. KeyRuns p.from_record (T.preprocessed tool.old) (T.preprocessed tool.new)) }

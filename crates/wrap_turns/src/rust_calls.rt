@@ -10,10 +10,10 @@ ghost use Rattle.rustc_requests.specs.Asks.{asks_in};
 ghost use Rattle.rustkeys.specs.Runs.{AtMostTwice};
 ghost use Rattle.wrap_keys.specs.Account.{rust_account_by, rust_call_at, rust_work_at, worked};
 ghost use Rattle.wrap_keys.specs.Answers.{OnPass, Says, SaysWorked};
-ghost use Rattle.wrap_keys.specs.Asking.{HowFrom, IsAskedTwice, RunsOf};
+ghost use Rattle.wrap_keys.specs.Asking.{HowFrom, IsAskedTwice, RunsOf, StopsEarly};
 ghost use Rattle.wrap_keys.specs.CallRecords.{key_of};
 ghost use Rattle.wrap_turns.specs.RustPrepared.{IsRustPrepared};
-ghost use Rattle.wrap_keys.specs.RustVerdicts.{rust_verdict_of};
+ghost use Rattle.wrap_keys.specs.RustVerdicts.{is_text, rust_verdict_of};
 ghost use Rattle.wrap_keys.specs.Turn.{KeyedTurn, StoreTurn};
 
 use crate::finish::finish;
@@ -69,6 +69,9 @@ fn rust_prepare<H: HashState, F: Files, T: Tool>(
     ensures runs { OnOk result
         (T.preprocessed tool.new ≡ ticked (ticked (T.preprocessed tool.old))) }
     ensures twice { AtMostTwice (T.preprocessed tool.old) (T.preprocessed tool.new) }
+    ensures early { let w = rust_work_at (T.meaning tool.old)
+        (rust_call_at rust.now request.now (F.tree files.old) (asks_in parsed.now)) in
+        StopsEarly w (T.preprocessed tool.old) (T.preprocessed tool.new) }
     ensures compiles { T.compiled tool.new ≡ T.compiled tool.old }
 {
     let hasher = RustHasher {
@@ -119,6 +122,9 @@ fn rust_answer<H: HashState, O: Store<StoreKey, Pairs>, F: Files, T: Tool>(
         (O.shelf objects.new) (T.compiled tool.old) (T.compiled tool.new) result }
     ensures how { HowFrom false result }
     ensures runs { IsAskedTwice result (T.preprocessed tool.old) (T.preprocessed tool.new) }
+    ensures early { let w = rust_work_at (T.meaning tool.old)
+        (rust_call_at rust.now request.now (F.tree files.old) (asks_in parsed.now)) in
+        StopsEarly w (T.preprocessed tool.old) (T.preprocessed tool.new) }
     ensures unpassed { OnPass result ⊥ }
     ensures meaning { T.meaning tool.new ≡ T.meaning tool.old }
     ensures tree { F.tree files.new ≡ F.tree files.old }
@@ -169,6 +175,7 @@ pub fn rust_turn<H: HashState, O: Store<StoreKey, Pairs>, F: Files, T: Tool>(
     ensures runs { let a = rust_account_by (T.meaning tool.old) (F.tree files.old) rust.now
         request.now (rust_verdict_of request.now (F.tree files.old)) in
         RunsOf a false result (T.preprocessed tool.old) (T.preprocessed tool.new) }
+    ensures untouched { is_text request.now ≡ false → files.new ≡ files.old }
     ensures meaning { T.meaning tool.new ≡ T.meaning tool.old }
     ensures tree { F.tree files.new ≡ F.tree files.old }
     ensures steady { OnOk result

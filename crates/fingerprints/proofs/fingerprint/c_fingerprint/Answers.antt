@@ -1,7 +1,7 @@
 use Rattle.std.proofs.Common.{◌≡◌, ◌++◌, None, ap, filter, subst, ◌∙◌}
 use Rattle.std.specs.List.{AllByRecursion}
 use Rattle.os_files.specs.Fails.{FailsOn}
-use Rattle.ckeys.specs.Calls.{KeyCall, key_fault_of, record_of}
+use Rattle.ckeys.specs.Calls.{KeyCall, early_fault_of, key_fault_of, record_of}
 use Rattle.ckeys_records.specs.Faults.{KeyCause}
 use Rattle.ckeys.specs.Entries.{extra_digests}
 use Rattle.ckeys.specs.Hashers.{call_by}
@@ -60,3 +60,66 @@ returns-clause-is g c =
       fine = subst (λ (k : KeyCall). key_fault_of meaning k ≡ None) call made.fine;
       told = record { words = c.stripped_words_lack_the_end.ensures c.args.config.now.basedirs (hashed_words c.args.parsed.now) c.requires.told; variables = subst (λ (env : Variables). AllByRecursion FitsLength (filter is_cached env)) p.env made.fit };
     }
+
+pub returns-in_err-made-clause-early : goal.returns-in_err-made-clause-early
+returns-in_err-made-clause-early g c =
+    let tree = g.F.Files.tree c.args.files.now in
+    let h = c.hasher-hasher.ensures in
+    let p = c.place_of-place.ensures in
+    let own : KeyCall = call_at (found_of c.args.compiler) c.args.request.now tree c.args.config.now c.args.parsed.now in
+    let call : call_by kind_of traits_of c.hasher-hasher.result c.place_of-place.result tree ≡ own = call_is c.args.compiler c.args.request.now tree c.args.config.now c.args.parsed.now c.hasher-hasher.result c.place_of-place.result h.compiler h.executable h.digest h.parsed p.dir p.env p.moment p.config in
+    subst (λ (k : KeyCall). (early_fault_of k ≡ None → ⊥) → g.T.Preprocessor.preprocessed c.key_contents.new.tool ≡ g.T.Preprocessor.preprocessed c.args.tool.now) call c.key_contents.ensures.early
+
+pub returns-in_err-executable-clause-early : goal.returns-in_err-executable-clause-early
+returns-in_err-executable-clause-early g c =
+    let tree = g.F.Files.tree c.args.files.now in
+    let h = c.hasher-hasher.ensures in
+    let p = c.place_of-place.ensures in
+    let own : KeyCall = call_at (found_of c.args.compiler) c.args.request.now tree c.args.config.now c.args.parsed.now in
+    let call : call_by kind_of traits_of c.hasher-hasher.result c.place_of-place.result tree ≡ own = call_is c.args.compiler c.args.request.now tree c.args.config.now c.args.parsed.now c.hasher-hasher.result c.place_of-place.result h.compiler h.executable h.digest h.parsed p.dir p.env p.moment p.config in
+    subst (λ (k : KeyCall). (early_fault_of k ≡ None → ⊥) → g.T.Preprocessor.preprocessed c.key_contents.new.tool ≡ g.T.Preprocessor.preprocessed c.args.tool.now) call c.key_contents.ensures.early
+
+pub returns-in_err-words-clause-early : goal.returns-in_err-words-clause-early
+returns-in_err-words-clause-early g c =
+    let tree = g.F.Files.tree c.args.files.now in
+    let h = c.hasher-hasher.ensures in
+    let p = c.place_of-place.ensures in
+    let own : KeyCall = call_at (found_of c.args.compiler) c.args.request.now tree c.args.config.now c.args.parsed.now in
+    let call : call_by kind_of traits_of c.hasher-hasher.result c.place_of-place.result tree ≡ own = call_is c.args.compiler c.args.request.now tree c.args.config.now c.args.parsed.now c.hasher-hasher.result c.place_of-place.result h.compiler h.executable h.digest h.parsed p.dir p.env p.moment p.config in
+    subst (λ (k : KeyCall). (early_fault_of k ≡ None → ⊥) → g.T.Preprocessor.preprocessed c.key_contents.new.tool ≡ g.T.Preprocessor.preprocessed c.args.tool.now) call c.key_contents.ensures.early
+
+pub returns-in_err-variables-clause-early : goal.returns-in_err-variables-clause-early
+returns-in_err-variables-clause-early g c =
+    let tree = g.F.Files.tree c.args.files.now in
+    let h = c.hasher-hasher.ensures in
+    let p = c.place_of-place.ensures in
+    let own : KeyCall = call_at (found_of c.args.compiler) c.args.request.now tree c.args.config.now c.args.parsed.now in
+    let call : call_by kind_of traits_of c.hasher-hasher.result c.place_of-place.result tree ≡ own = call_is c.args.compiler c.args.request.now tree c.args.config.now c.args.parsed.now c.hasher-hasher.result c.place_of-place.result h.compiler h.executable h.digest h.parsed p.dir p.env p.moment p.config in
+    subst (λ (k : KeyCall). (early_fault_of k ≡ None → ⊥) → g.T.Preprocessor.preprocessed c.key_contents.new.tool ≡ g.T.Preprocessor.preprocessed c.args.tool.now) call c.key_contents.ensures.early
+
+pub returns-in_err-assembler-clause-early : goal.returns-in_err-assembler-clause-early
+returns-in_err-assembler-clause-early g c =
+    let tree = g.F.Files.tree c.args.files.now in
+    let h = c.hasher-hasher.ensures in
+    let p = c.place_of-place.ensures in
+    let own : KeyCall = call_at (found_of c.args.compiler) c.args.request.now tree c.args.config.now c.args.parsed.now in
+    let call : call_by kind_of traits_of c.hasher-hasher.result c.place_of-place.result tree ≡ own = call_is c.args.compiler c.args.request.now tree c.args.config.now c.args.parsed.now c.hasher-hasher.result c.place_of-place.result h.compiler h.executable h.digest h.parsed p.dir p.env p.moment p.config in
+    subst (λ (k : KeyCall). (early_fault_of k ≡ None → ⊥) → g.T.Preprocessor.preprocessed c.key_contents.new.tool ≡ g.T.Preprocessor.preprocessed c.args.tool.now) call c.key_contents.ensures.early
+
+pub returns-in_err-names-clause-early : goal.returns-in_err-names-clause-early
+returns-in_err-names-clause-early g c =
+    let tree = g.F.Files.tree c.args.files.now in
+    let h = c.hasher-hasher.ensures in
+    let p = c.place_of-place.ensures in
+    let own : KeyCall = call_at (found_of c.args.compiler) c.args.request.now tree c.args.config.now c.args.parsed.now in
+    let call : call_by kind_of traits_of c.hasher-hasher.result c.place_of-place.result tree ≡ own = call_is c.args.compiler c.args.request.now tree c.args.config.now c.args.parsed.now c.hasher-hasher.result c.place_of-place.result h.compiler h.executable h.digest h.parsed p.dir p.env p.moment p.config in
+    subst (λ (k : KeyCall). (early_fault_of k ≡ None → ⊥) → g.T.Preprocessor.preprocessed c.key_contents.new.tool ≡ g.T.Preprocessor.preprocessed c.args.tool.now) call c.key_contents.ensures.early
+
+pub returns-clause-early : goal.returns-clause-early
+returns-clause-early g c =
+    let tree = g.F.Files.tree c.args.files.now in
+    let h = c.hasher-hasher.ensures in
+    let p = c.place_of-place.ensures in
+    let own : KeyCall = call_at (found_of c.args.compiler) c.args.request.now tree c.args.config.now c.args.parsed.now in
+    let call : call_by kind_of traits_of c.hasher-hasher.result c.place_of-place.result tree ≡ own = call_is c.args.compiler c.args.request.now tree c.args.config.now c.args.parsed.now c.hasher-hasher.result c.place_of-place.result h.compiler h.executable h.digest h.parsed p.dir p.env p.moment p.config in
+    subst (λ (k : KeyCall). (early_fault_of k ≡ None → ⊥) → g.T.Preprocessor.preprocessed c.key_contents.new.tool ≡ g.T.Preprocessor.preprocessed c.args.tool.now) call c.key_contents.ensures.early

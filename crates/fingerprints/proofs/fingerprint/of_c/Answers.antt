@@ -6,7 +6,7 @@ use Rattle.ckeys_records.specs.Faults.{KeyCause}
 use Rattle.ckeys_records.specs.Meaning.{FailsIn}
 use Rattle.wrap_base.specs.Commands.{by_c, found_of, words_at}
 use Rattle.wrap_keys.specs.Account.{Account, Work, account_by, account_named, call_at, work_at}
-use Rattle.wrap_keys.specs.Asking.{RunsOf}
+use Rattle.wrap_keys.specs.Asking.{RunsOf, StopsEarly}
 use Rattle.wrap_keys.specs.Verdicts.{Judgement, asks, verdict_of}
 use Rattle.wrap_keys.proofs.KeyLemmas.{fails_on_later}
 use Rattle.wrap_keys.proofs.RunLemmas.{early_ran}
@@ -55,7 +55,9 @@ returns-in_err-made-in-Asks-clause-runs g c =
     let before = g.T.Preprocessor.preprocessed c.args.tool.now in
     let after = g.T.Preprocessor.preprocessed c.c_fingerprint.new.tool in
     let told = c.from_residual-in_err-made-in-Asks.result in
-    subst (λ (d : Judgement). RunsOf (account d) false told before after) decided (until_told parsed.language before after c.in_err-made-in-Asks.field-0.0 c.c_fingerprint.ensures.idle c.in_err-made-in-Asks.ensures.until told c.from_residual-in_err-made-in-Asks.ensures.1)
+    let work_on : Tree → Work = λ files. work_at (g.T.Preprocessor.meaning c.args.tool.now) (call_at found request files c.args.config.now parsed) in
+    let early = subst (λ (t : Tree). StopsEarly (work_on t) before after) c.in_ok-reason.ensures.tree c.c_fingerprint.ensures.early in
+    subst (λ (d : Judgement). RunsOf (account d) false told before after) decided (until_told parsed.language before after c.in_err-made-in-Asks.field-0.0 c.c_fingerprint.ensures.idle c.in_err-made-in-Asks.ensures.until told c.from_residual-in_err-made-in-Asks.ensures.1, early)
 
 pub returns-in_ok-made-in-Asks-clause-runs : goal.returns-in_ok-made-in-Asks-clause-runs
 returns-in_ok-made-in-Asks-clause-runs g c =
@@ -65,4 +67,6 @@ returns-in_ok-made-in-Asks-clause-runs g c =
     let decided : asks c.in-Asks.plan.parsed ≡ verdict_of found.kind (words_at found request (tree c.args.files.now)) = rw c.in-Asks.is at c.in_ok-reason.ensures.verdict in
     let account : Judgement → Account = account_by (g.T.Preprocessor.meaning c.args.tool.now) (tree c.args.files.now) c.args.config.now found request in
     let told : Told = Ok (Ok c.in_ok-made-in-Asks.made) in
-    subst (λ (d : Judgement). RunsOf (account d) false told (g.T.Preprocessor.preprocessed c.args.tool.now) (g.T.Preprocessor.preprocessed c.c_fingerprint.new.tool)) decided (c.c_fingerprint.ensures.idle, c.in_ok-made-in-Asks.ensures.runs)
+    let work_on : Tree → Work = λ files. work_at (g.T.Preprocessor.meaning c.args.tool.now) (call_at found request files c.args.config.now c.in-Asks.plan.parsed) in
+    let early = subst (λ (t : Tree). StopsEarly (work_on t) (g.T.Preprocessor.preprocessed c.args.tool.now) (g.T.Preprocessor.preprocessed c.c_fingerprint.new.tool)) c.in_ok-reason.ensures.tree c.c_fingerprint.ensures.early in
+    subst (λ (d : Judgement). RunsOf (account d) false told (g.T.Preprocessor.preprocessed c.args.tool.now) (g.T.Preprocessor.preprocessed c.c_fingerprint.new.tool)) decided ((c.c_fingerprint.ensures.idle, c.in_ok-made-in-Asks.ensures.runs), early)

@@ -1,4 +1,4 @@
-use Rattle.std.proofs.Common.{◌≡◌, false, subst}
+use Rattle.std.proofs.Common.{◌≡◌, Ok, false, subst}
 use Rattle.os_files.specs.Bytes.{Bytes}
 use Rattle.os_files.specs.Fails.{FailsOn}
 use Rattle.os_files.specs.Tree.{Tree}
@@ -6,11 +6,11 @@ use Rattle.ckeys_records.specs.Faults.{KeyCause}
 use Rattle.ckeys_records.specs.Meaning.{FailsIn}
 use Rattle.rustc_requests.specs.Asks.{asks_in}
 use Rattle.wrap_keys.specs.Account.{Account, Work, rust_account_by, rust_call_at, rust_work_at}
-use Rattle.wrap_keys.specs.Asking.{RunsOf}
+use Rattle.wrap_keys.specs.Asking.{RunsOf, StopsEarly}
 use Rattle.wrap_keys.specs.RustVerdicts.{RustJudgement, asks, rust_verdict_of}
 use Rattle.wrap_keys.proofs.KeyLemmas.{fails_on_later}
 use Rattle.wrap_keys.proofs.RunLemmas.{asked_until, early_ran}
-use Rattle.fingerprints.specs.Telling.{Tells}
+use Rattle.fingerprints.specs.Telling.{Tells, Told}
 use Rattle.fingerprints.proofs.TellLemmas.{early_tells, fault_tells, key_later}
 use Rattle.fingerprints.proofs.fingerprint.of_rustc.Goals as goal
 
@@ -51,4 +51,19 @@ returns-in_err-made-in-Asks-clause-runs g c =
     let before = g.T.Preprocessor.preprocessed c.args.tool.now in
     let after = g.T.Preprocessor.preprocessed c.rust_fingerprint.new.tool in
     let told = c.from_residual-in_err-made-in-Asks.result in
-    subst (λ (d : RustJudgement). RunsOf (account d) false told before after) decided (asked_until told c.in_err-made-in-Asks.field-0.0 before after c.from_residual-in_err-made-in-Asks.ensures.1 c.rust_fingerprint.ensures.twice)
+    let work_on : Tree → Work = λ files. rust_work_at (g.T.Preprocessor.meaning c.args.tool.now) (rust_call_at c.args.rust.now request files (asks_in c.in-Asks.parsed)) in
+    let early = subst (λ (t : Tree). StopsEarly (work_on t) before after) c.in_ok-reason.ensures.tree c.rust_fingerprint.ensures.early in
+    subst (λ (d : RustJudgement). RunsOf (account d) false told before after) decided (asked_until told c.in_err-made-in-Asks.field-0.0 before after c.from_residual-in_err-made-in-Asks.ensures.1 c.rust_fingerprint.ensures.twice, early)
+
+pub returns-in_ok-made-in-Asks-clause-runs : goal.returns-in_ok-made-in-Asks-clause-runs
+returns-in_ok-made-in-Asks-clause-runs g c =
+    let tree = g.F.Files.tree in
+    let request = c.args.request.now in
+    let decided : asks (asks_in c.in-Asks.parsed) ≡ rust_verdict_of request (tree c.args.files.now) = rw c.in-Asks.is at c.in_ok-reason.ensures.verdict in
+    let account : RustJudgement → Account = rust_account_by (g.T.Preprocessor.meaning c.args.tool.now) (tree c.args.files.now) c.args.rust.now request in
+    let before = g.T.Preprocessor.preprocessed c.args.tool.now in
+    let after = g.T.Preprocessor.preprocessed c.rust_fingerprint.new.tool in
+    let told : Told = Ok (Ok c.in_ok-made-in-Asks.made) in
+    let work_on : Tree → Work = λ files. rust_work_at (g.T.Preprocessor.meaning c.args.tool.now) (rust_call_at c.args.rust.now request files (asks_in c.in-Asks.parsed)) in
+    let early = subst (λ (t : Tree). StopsEarly (work_on t) before after) c.in_ok-reason.ensures.tree c.rust_fingerprint.ensures.early in
+    subst (λ (d : RustJudgement). RunsOf (account d) false told before after) decided (c.in_ok-made-in-Asks.ensures.runs, early)

@@ -1,12 +1,13 @@
 use Rattle.std.proofs.Common.{◌≡◌, None, ap, subst, ◌∙◌}
 use Rattle.os_files.specs.Fails.{FailsOn}
 use Rattle.ckeys_records.specs.Faults.{KeyCause}
-use Rattle.ckeys_records.specs.Meaning.{FailsIn, Variables, names_of, scene_with}
+use Rattle.ckeys_records.specs.Meaning.{AtMostOnce, FailsIn, Variables, names_of, scene_with}
 use Rattle.ckeys_records.specs.declared.fault.Fault.TheVariants.{Memory}
 use Rattle.rustc_requests.specs.Asks.{asks_in}
-use Rattle.rustkeys.specs.Calls.{RustCall, key_fault_of, record_of}
+use Rattle.rustkeys.specs.Calls.{RustCall, dep_info_fault_of, key_fault_of, record_of}
 use Rattle.rustkeys.specs.Fresh.{call_outputs}
 use Rattle.rustkeys.specs.Hashers.{known_of}
+use Rattle.rustkeys.specs.Questions.{Question, dep_info_of}
 use Rattle.rustkeys.specs.Records.{IsTold, parts_of}
 use Rattle.wrap_keys.specs.Account.{rust_call_at}
 use Rattle.wrap_keys.proofs.KeyLemmas.{on_exit}
@@ -41,3 +42,33 @@ returns-clause-is g c =
       fine = subst (λ (k : RustCall). key_fault_of meaning k ≡ None) call (made.fine request.moment);
       told = subst (λ (k : RustCall). IsTold digest_of (record_of meaning k)) call (made.told request.moment);
     }
+
+pub returns-in_err-compilation-clause-early : goal.returns-in_err-compilation-clause-early
+returns-in_err-compilation-clause-early g c =
+    let meaning = g.T.Preprocessor.meaning c.args.tool.now in
+    let tree = g.F.Files.tree c.args.files.now in
+    let rust = c.args.rust.now in
+    let request = c.args.request.now in
+    let under : Variables → Question = λ env. record { asks = asks_in c.args.parsed.now; scene = scene_with rust.executable request.dir env tree request.moment } in
+    let asked = AtMostOnce (g.T.Preprocessor.preprocessed c.args.tool.now) (g.T.Preprocessor.preprocessed c.generate_hash_key.new.answers) in
+    subst (λ (env : Variables). (dep_info_fault_of (under env) (dep_info_of meaning (under env)) ≡ None → ⊥) → asked) c.as_slice-env.ensures (c.generate_hash_key.ensures.early request.moment)
+
+pub returns-in_err-names-clause-early : goal.returns-in_err-names-clause-early
+returns-in_err-names-clause-early g c =
+    let meaning = g.T.Preprocessor.meaning c.args.tool.now in
+    let tree = g.F.Files.tree c.args.files.now in
+    let rust = c.args.rust.now in
+    let request = c.args.request.now in
+    let under : Variables → Question = λ env. record { asks = asks_in c.args.parsed.now; scene = scene_with rust.executable request.dir env tree request.moment } in
+    let asked = AtMostOnce (g.T.Preprocessor.preprocessed c.args.tool.now) (g.T.Preprocessor.preprocessed c.generate_hash_key.new.answers) in
+    subst (λ (env : Variables). (dep_info_fault_of (under env) (dep_info_of meaning (under env)) ≡ None → ⊥) → asked) c.as_slice-env.ensures (c.generate_hash_key.ensures.early request.moment)
+
+pub returns-clause-early : goal.returns-clause-early
+returns-clause-early g c =
+    let meaning = g.T.Preprocessor.meaning c.args.tool.now in
+    let tree = g.F.Files.tree c.args.files.now in
+    let rust = c.args.rust.now in
+    let request = c.args.request.now in
+    let under : Variables → Question = λ env. record { asks = asks_in c.args.parsed.now; scene = scene_with rust.executable request.dir env tree request.moment } in
+    let asked = AtMostOnce (g.T.Preprocessor.preprocessed c.args.tool.now) (g.T.Preprocessor.preprocessed c.generate_hash_key.new.answers) in
+    subst (λ (env : Variables). (dep_info_fault_of (under env) (dep_info_of meaning (under env)) ≡ None → ⊥) → asked) c.as_slice-env.ensures (c.generate_hash_key.ensures.early request.moment)

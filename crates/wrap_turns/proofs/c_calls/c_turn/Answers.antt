@@ -6,7 +6,7 @@ use Rattle.ckeys_records.specs.Meaning.{FailsIn}
 use Rattle.ckeys_records.specs.declared.step.Step.{Step}
 use Rattle.wrap_keys.specs.Account.{account_named, call_at, work_at, worked}
 use Rattle.wrap_keys.specs.Answers.{GoesOn, Says, SaysBy}
-use Rattle.wrap_keys.specs.Asking.{AskedTurn, RanForKey, RecordsAreTrue, shelves_of}
+use Rattle.wrap_keys.specs.Asking.{AskedTurn, RanForKey, RecordsAreTrue, StopsEarly, shelves_of}
 use Rattle.wrap_keys.specs.CallRecords.{key_of}
 use Rattle.wrap_base.specs.Commands.{by_c, found_of, words_at}
 use Rattle.wrap_keys.specs.Turn.{KeyedTurn, own_text_key}
@@ -15,7 +15,7 @@ use Rattle.wrap_keys.proofs.KeyLemmas.{fails_on_later}
 use Rattle.wrap_base.specs.declared.answer.Answer.{Answer}
 use Rattle.wrap_keys.proofs.RunLemmas.{early_runs, key_until}
 use Rattle.wrap_turns.specs.declared.prepared.Prepared.{Prepared}
-use Rattle.wrap_turns.proofs.TurnLemmas.{asked_fault, asked_finished, early_says, early_turn, fails_in_later, finished_says, finished_unpassed, goes_on, key_says, key_turn, of_asked, own_asked, own_fault, own_goes_on, quiet_entries, says_later, steady_later, text_fine}
+use Rattle.wrap_turns.proofs.TurnLemmas.{asked_fault, asked_finished, early_says, early_stage, early_turn, early_unput, fails_in_later, finished_says, finished_unpassed, goes_on, key_says, key_turn, of_asked, own_asked, own_fault, own_goes_on, quiet_entries, says_later, steady_later, text_fine}
 use Rattle.wrap_turns.proofs.c_calls.c_turn.Goals as goal
 
 pub returns-in_err-reason-clause-says : goal.returns-in_err-reason-clause-says
@@ -28,7 +28,7 @@ pub returns-in_err-reason-clause-asked : goal.returns-in_err-reason-clause-asked
 returns-in_err-reason-clause-asked g c =
     let digest_of = g.H.HashState.digest_of in
     let a = account_named (g.T.Preprocessor.meaning c.args.tool.now) (g.F.Files.tree c.args.files.now) c.args.config.now.keys c.args.request.now (by_c (found_of c.args.compiler)) in
-    asked_fault digest_of c.args.config.now.max_kept a _ _ _ _ _ _ _ c.in_err-reason.field-0.0 c.from_residual.ensures.1 false (own_text_key digest_of a) (own_asked digest_of a _)
+    asked_fault digest_of c.args.config.now.max_kept a _ _ _ _ _ _ _ c.in_err-reason.field-0.0 c.from_residual.ensures.1 _ (early_stage _ c.in_err-reason.field-0.0 c.in_err-reason.ensures.cause) (early_unput _ c.in_err-reason.field-0.0 _ c.in_err-reason.ensures.cause) false (own_text_key digest_of a) (own_asked digest_of a _)
     (early_runs Answer a _ _ c.in_err-reason.field-0.0 c.in_err-reason.ensures.cause)
     (early_turn digest_of c.args.config.now.max_kept (own_text_key digest_of a) a _ _ _ c.in_err-reason.field-0.0 c.in_err-reason.ensures.cause _ c.from_residual.ensures.1)
 
@@ -91,8 +91,8 @@ returns-in_err-prepared-in-Asks-clause-asked g c =
     let old = shelves_of (g.E.Store.shelf c.args.entries.now) (g.O.Store.shelf c.args.objects.now) in
     let new = shelves_of (g.E.Store.shelf c.prepare.new.entries) (g.O.Store.shelf c.args.objects.now) in
     of_asked (λ a. AskedTurn digest_of c.args.config.now.max_kept a old new (g.T.Preprocessor.preprocessed c.args.tool.now) (g.T.Preprocessor.preprocessed c.prepare.new.tool) (g.T.Preprocessor.compiled c.args.tool.now) (g.T.Preprocessor.compiled c.prepare.new.tool) c.from_residual-in_err-prepared-in-Asks.result) (meaning c.args.tool.now) _ _ c.args.config.now.keys found request parsed _ c.in_ok-reason.ensures.tree decided
-    (asked_fault digest_of c.args.config.now.max_kept (worked w) old new _ _ _ _ _ fault c.from_residual-in_err-prepared-in-Asks.ensures.1 false (key_of digest_of w.rec) refl
-    (c.prepare.ensures.idle, λ h. key_until false _ _ fault (e.until h))
+    (asked_fault digest_of c.args.config.now.max_kept (worked w) old new _ _ _ _ _ fault c.from_residual-in_err-prepared-in-Asks.ensures.1 _ e.cause e.unput false (key_of digest_of w.rec) refl
+    ((c.prepare.ensures.idle, λ h. key_until false _ _ fault (e.until h)), c.prepare.ensures.early)
     (key_turn digest_of c.args.config.now.max_kept (key_of digest_of w.rec) w w.fault _ _ _ c.prepare.ensures.compiles _ _ fault e.cause _ c.from_residual-in_err-prepared-in-Asks.ensures.1))
 
 pub returns-in_err-prepared-in-Asks-clause-still : goal.returns-in_err-prepared-in-Asks-clause-still
@@ -171,10 +171,11 @@ returns-in_ok-prepared-in-Asks-clause-asked g c =
     let new = shelves_of (g.E.Store.shelf c.prepare.new.entries) (g.O.Store.shelf c.finish.new.objects) in
     let ran : ℕ → Type 0 = λ after. RanForKey w.rec from (g.T.Preprocessor.preprocessed c.args.tool.now) after in
     let runs : ran (g.T.Preprocessor.preprocessed c.finish.new.tool) = subst ran (sym c.finish.ensures.preprocesses) (c.prepare.ensures.idle, k.runs) in
+    let early : StopsEarly w (g.T.Preprocessor.preprocessed c.args.tool.now) (g.T.Preprocessor.preprocessed c.finish.new.tool) = subst (StopsEarly w (g.T.Preprocessor.preprocessed c.args.tool.now)) (sym c.finish.ensures.preprocesses) c.prepare.ensures.early in
     let turned : ℕ → Type 0 = λ compiled. KeyedTurn digest_of c.args.config.now.max_kept key (worked w) old.objects new.objects compiled (g.T.Preprocessor.compiled c.finish.new.tool) c.finish.result in
     let turn : turned (g.T.Preprocessor.compiled c.args.tool.now) = subst turned c.prepare.ensures.compiles (c.finish.ensures.turn digest_of w k.prepared) in
     of_asked (λ a. AskedTurn digest_of c.args.config.now.max_kept a old new (g.T.Preprocessor.preprocessed c.args.tool.now) (g.T.Preprocessor.preprocessed c.finish.new.tool) (g.T.Preprocessor.compiled c.args.tool.now) (g.T.Preprocessor.compiled c.finish.new.tool) c.finish.result) (meaning c.args.tool.now) _ _ c.args.config.now.keys found request parsed _ c.in_ok-reason.ensures.tree decided
-    (asked_finished digest_of c.args.config.now.max_kept w old new _ _ _ _ from key k.from (text_fine w p refl from k.fine) runs k.recorded _ _ (c.finish.ensures.says digest_of w k.prepared) c.finish.ensures.how turn)
+    (asked_finished digest_of c.args.config.now.max_kept w old new _ _ _ _ from key k.from (text_fine w p refl from k.fine) runs early k.recorded _ _ (c.finish.ensures.says digest_of w k.prepared) c.finish.ensures.how turn)
 
 pub returns-in_ok-prepared-in-Asks-clause-steady : goal.returns-in_ok-prepared-in-Asks-clause-steady
 returns-in_ok-prepared-in-Asks-clause-steady g c =

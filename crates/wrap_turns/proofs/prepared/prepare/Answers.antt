@@ -1,9 +1,9 @@
 use Rattle.std.specs.declared.alloc.Global.{Global}
 use Rattle.std.specs.declared.vec.Vec.{Vec}
 use Rattle.std.specs.List.{AllByRecursion}
-use Rattle.std.proofs.Common.{◌≡◌, ℕ, ap, filter, refl, rules, string_bytes, subst, ◌∙◌, to_z, of_z, w64}
+use Rattle.std.proofs.Common.{◌≡◌, ℕ, None, ap, filter, refl, rules, string_bytes, subst, ◌∙◌, to_z, of_z, w64}
 use Rattle.os_files.specs.Fails.{FailsOn}
-use Rattle.ckeys.specs.Calls.{KeyCall, key_fault_of, printed_call, record_of}
+use Rattle.ckeys.specs.Calls.{KeyCall, early_fault_of, key_fault_of, printed_call, record_of}
 use Rattle.ckeys.specs.EntryTurns.{KeyFine}
 use Rattle.ckeys.specs.Hashers.{call_by}
 use Rattle.ckeys_records.specs.Faults.{KeyCause}
@@ -17,7 +17,7 @@ use Rattle.wrap_keys.proofs.KeyLemmas.{call_is, on_exit}
 use Rattle.wrap_base.specs.Commands.{found_of, kind_of, traits_of}
 use Rattle.wrap_base.specs.declared.store_key.Family.TheVariants.{C}
 use Rattle.wrap_base.specs.declared.store_key.Shape.TheVariants as shapes
-use Rattle.wrap_turns.proofs.PrepareLemmas.{entries_by, key_from, recorded_by}
+use Rattle.wrap_turns.proofs.PrepareLemmas.{entries_by, key_from, recorded_by, unkeyed_exit, unkeyed_memory}
 use Rattle.wrap_turns.proofs.StepLemmas.{makes_then, plan_makes}
 use Rattle.wrap_turns.proofs.TurnLemmas.{has_direct}
 use Rattle.wrap_turns.proofs.prepared.prepare.Goals as goal
@@ -128,3 +128,36 @@ returns-clause-prepared g c =
       direct = has_direct digest_of w (g.E.Store.shelf c.args.entries.now).held c.in_ok-digest.from_record c.from_vec.result from;
       dep_info = refl;
     }
+
+pub returns-in_err-digest-clause-early : goal.returns-in_err-digest-clause-early
+returns-in_err-digest-clause-early g c =
+    let tree = g.F.Files.tree c.args.files.now in
+    let h = c.hasher-hasher.ensures in
+    let p = c.place_of-place.ensures in
+    let own : KeyCall = call_at (found_of c.args.compiler) c.args.request.now tree c.args.config.now c.args.plan.now.parsed in
+    let call : call_by kind_of traits_of c.hasher-hasher.result c.place_of-place.result tree ≡ own = call_is c.args.compiler c.args.request.now tree c.args.config.now c.args.plan.now.parsed c.hasher-hasher.result c.place_of-place.result h.compiler h.executable h.digest h.parsed p.dir p.env p.moment p.config in
+    subst (λ (k : KeyCall). (early_fault_of k ≡ None → ⊥) → g.T.Preprocessor.preprocessed c.generate_hash_key.new.tool ≡ g.T.Preprocessor.preprocessed c.args.tool.now) call c.generate_hash_key.ensures.early
+
+pub returns-in_err-names-clause-early : goal.returns-in_err-names-clause-early
+returns-in_err-names-clause-early g c =
+    let tree = g.F.Files.tree c.args.files.now in
+    let h = c.hasher-hasher.ensures in
+    let p = c.place_of-place.ensures in
+    let own : KeyCall = call_at (found_of c.args.compiler) c.args.request.now tree c.args.config.now c.args.plan.now.parsed in
+    let call : call_by kind_of traits_of c.hasher-hasher.result c.place_of-place.result tree ≡ own = call_is c.args.compiler c.args.request.now tree c.args.config.now c.args.plan.now.parsed c.hasher-hasher.result c.place_of-place.result h.compiler h.executable h.digest h.parsed p.dir p.env p.moment p.config in
+    subst (λ (k : KeyCall). (early_fault_of k ≡ None → ⊥) → g.T.Preprocessor.preprocessed c.generate_hash_key.new.tool ≡ g.T.Preprocessor.preprocessed c.args.tool.now) call c.generate_hash_key.ensures.early
+
+pub returns-clause-early : goal.returns-clause-early
+returns-clause-early g c =
+    let tree = g.F.Files.tree c.args.files.now in
+    let h = c.hasher-hasher.ensures in
+    let p = c.place_of-place.ensures in
+    let own : KeyCall = call_at (found_of c.args.compiler) c.args.request.now tree c.args.config.now c.args.plan.now.parsed in
+    let call : call_by kind_of traits_of c.hasher-hasher.result c.place_of-place.result tree ≡ own = call_is c.args.compiler c.args.request.now tree c.args.config.now c.args.plan.now.parsed c.hasher-hasher.result c.place_of-place.result h.compiler h.executable h.digest h.parsed p.dir p.env p.moment p.config in
+    subst (λ (k : KeyCall). (early_fault_of k ≡ None → ⊥) → g.T.Preprocessor.preprocessed c.generate_hash_key.new.tool ≡ g.T.Preprocessor.preprocessed c.args.tool.now) call c.generate_hash_key.ensures.early
+
+pub returns-in_err-digest-clause-unput : goal.returns-in_err-digest-clause-unput
+returns-in_err-digest-clause-unput g c = unkeyed_exit _ c.from_residual.result c.in_err-digest.ensures.unput
+
+pub returns-in_err-names-clause-unput : goal.returns-in_err-names-clause-unput
+returns-in_err-names-clause-unput g c = unkeyed_memory _ c.from_residual-in_err-names.result c.from_residual-in_err-names.ensures.1

@@ -1,7 +1,8 @@
-use Rattle.std.proofs.Common.{◌≡◌, ℕ, None, false, rules, refl, subst, ◌∙◌, to_z, of_z, w64}
+use Rattle.std.proofs.Common.{◌≡◌, ℕ, None, false, rules, refl, subst, sym, ◌∙◌, to_z, of_z, w64}
 use Rattle.os_files.specs.Bytes.{Bytes}
 use Rattle.rustc_requests.specs.Asks.{asks_in}
 use Rattle.wrap_keys.specs.Account.{rust_call_at, rust_work_at, worked}
+use Rattle.wrap_keys.specs.Asking.{StopsEarly}
 use Rattle.wrap_keys.specs.CallRecords.{key_of}
 use Rattle.wrap_keys.specs.Turn.{KeyedTurn}
 use Rattle.wrap_keys.proofs.RunLemmas.{asked_twice, asked_until}
@@ -72,3 +73,8 @@ returns-clause-runs g c =
 pub returns-clause-steady : goal.returns-clause-steady
 returns-clause-steady g c =
     steady_later g.T.Preprocessor g.F.Files c.args.tool.now c.rust_prepare.new.tool c.finish.new.tool c.args.files.now c.rust_prepare.new.files c.finish.new.files c.in_ok-made.ensures.steady c.finish.result c.finish.ensures.steady
+
+pub returns-clause-early : goal.returns-clause-early
+returns-clause-early g c =
+    let w = rust_work_at (g.T.Preprocessor.meaning c.args.tool.now) (rust_call_at c.args.rust.now c.args.request.now (g.F.Files.tree c.args.files.now) (asks_in c.args.parsed.now)) in
+    subst (StopsEarly w (g.T.Preprocessor.preprocessed c.args.tool.now)) (sym c.finish.ensures.preprocesses) c.rust_prepare.ensures.early

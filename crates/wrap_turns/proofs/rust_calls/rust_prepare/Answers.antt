@@ -4,13 +4,13 @@ use Rattle.std.proofs.Common.{◌≡◌, ℕ, None, ap, subst, ◌∙◌}
 use Rattle.os_files.specs.Fails.{FailsOn}
 use Rattle.cmdlines_requests.specs.Small.{command_at}
 use Rattle.ckeys_records.specs.Faults.{KeyCause}
-use Rattle.ckeys_records.specs.Meaning.{FailsIn, Variables, names_of, scene_with}
+use Rattle.ckeys_records.specs.Meaning.{AtMostOnce, FailsIn, Variables, names_of, scene_with}
 use Rattle.rustc_texts.specs.Words.{compile_words}
 use Rattle.rustc_requests.specs.Asks.{asks_in}
-use Rattle.rustkeys.specs.Calls.{RustCall, key_fault_of, record_of}
+use Rattle.rustkeys.specs.Calls.{RustCall, dep_info_fault_of, key_fault_of, record_of}
 use Rattle.rustkeys.specs.Fresh.{call_outputs, dep_info_text_of}
 use Rattle.rustkeys.specs.Hashers.{known_of}
-use Rattle.rustkeys.specs.Questions.{compile_env_of}
+use Rattle.rustkeys.specs.Questions.{Question, compile_env_of, dep_info_of}
 use Rattle.rustkeys.specs.Records.{IsTold, key_of, record_shape}
 use Rattle.wrap_base.specs.declared.store_key.Family.TheVariants.{Rustc}
 use Rattle.wrap_base.specs.declared.store_key.Shape.TheVariants as shapes
@@ -65,3 +65,33 @@ returns-clause-prepared g c =
       command = made.command ∙ ap (λ (env : Variables). command_at rust.executable (compile_words asked) (compile_env_of env) request.dir) c.as_slice-env.ensures;
       dep_info = made.dep_info request.moment ∙ ap (dep_info_text_of meaning) call;
     }
+
+pub returns-in_err-compilation-clause-early : goal.returns-in_err-compilation-clause-early
+returns-in_err-compilation-clause-early g c =
+    let meaning = g.T.Preprocessor.meaning c.args.tool.now in
+    let tree = g.F.Files.tree c.args.files.now in
+    let rust = c.args.rust.now in
+    let request = c.args.request.now in
+    let under : Variables → Question = λ env. record { asks = asks_in c.args.parsed.now; scene = scene_with rust.executable request.dir env tree request.moment } in
+    let asked = AtMostOnce (g.T.Preprocessor.preprocessed c.args.tool.now) (g.T.Preprocessor.preprocessed c.generate_hash_key.new.answers) in
+    subst (λ (env : Variables). (dep_info_fault_of (under env) (dep_info_of meaning (under env)) ≡ None → ⊥) → asked) c.as_slice-env.ensures (c.generate_hash_key.ensures.early request.moment)
+
+pub returns-in_err-names-clause-early : goal.returns-in_err-names-clause-early
+returns-in_err-names-clause-early g c =
+    let meaning = g.T.Preprocessor.meaning c.args.tool.now in
+    let tree = g.F.Files.tree c.args.files.now in
+    let rust = c.args.rust.now in
+    let request = c.args.request.now in
+    let under : Variables → Question = λ env. record { asks = asks_in c.args.parsed.now; scene = scene_with rust.executable request.dir env tree request.moment } in
+    let asked = AtMostOnce (g.T.Preprocessor.preprocessed c.args.tool.now) (g.T.Preprocessor.preprocessed c.generate_hash_key.new.answers) in
+    subst (λ (env : Variables). (dep_info_fault_of (under env) (dep_info_of meaning (under env)) ≡ None → ⊥) → asked) c.as_slice-env.ensures (c.generate_hash_key.ensures.early request.moment)
+
+pub returns-clause-early : goal.returns-clause-early
+returns-clause-early g c =
+    let meaning = g.T.Preprocessor.meaning c.args.tool.now in
+    let tree = g.F.Files.tree c.args.files.now in
+    let rust = c.args.rust.now in
+    let request = c.args.request.now in
+    let under : Variables → Question = λ env. record { asks = asks_in c.args.parsed.now; scene = scene_with rust.executable request.dir env tree request.moment } in
+    let asked = AtMostOnce (g.T.Preprocessor.preprocessed c.args.tool.now) (g.T.Preprocessor.preprocessed c.generate_hash_key.new.answers) in
+    subst (λ (env : Variables). (dep_info_fault_of (under env) (dep_info_of meaning (under env)) ≡ None → ⊥) → asked) c.as_slice-env.ensures (c.generate_hash_key.ensures.early request.moment)

@@ -6,11 +6,12 @@ use Rattle.ckeys_records.specs.Meaning.{FailsIn}
 use Rattle.rustc_requests.specs.Asks.{asks_in}
 use Rattle.wrap_keys.specs.Account.{Account, Work, rust_account_by, rust_call_at, rust_work_at, worked}
 use Rattle.wrap_keys.specs.Answers.{Says, SaysWorked}
-use Rattle.wrap_keys.specs.Asking.{RunsOf}
+use Rattle.wrap_keys.specs.Asking.{RunsOf, StopsEarly}
 use Rattle.wrap_keys.specs.RustVerdicts.{RustJudgement, asks, rust_verdict_of}
 use Rattle.wrap_keys.specs.Turn.{StoreTurn, own_text_key}
 use Rattle.wrap_keys.proofs.KeyLemmas.{fails_on_later}
 use Rattle.wrap_keys.proofs.RunLemmas.{early_ran}
+use Rattle.wrap_turns.proofs.RustLemmas.{asks_text}
 use Rattle.wrap_turns.proofs.TurnLemmas.{early_says, early_turn, how_of_fault, says_later, unpassed}
 use Rattle.wrap_turns.proofs.rust_calls.rust_turn.Goals as goal
 
@@ -67,7 +68,16 @@ returns-in-Asks-clause-runs g c =
     let request = c.args.request.now in
     let decided : asks (asks_in c.in-Asks.parsed) ≡ rust_verdict_of request (tree c.args.files.now) = rw c.in-Asks.is at c.in_ok-reason.ensures.verdict in
     let account : RustJudgement → Account = rust_account_by (meaning c.args.tool.now) (tree c.args.files.now) c.args.rust.now request in
-    subst (λ (d : RustJudgement). RunsOf (account d) false c.rust_answer.result (g.T.Preprocessor.preprocessed c.args.tool.now) (g.T.Preprocessor.preprocessed c.rust_answer.new.tool)) decided c.rust_answer.ensures.runs
+    let work_on : Tree → Work = λ files. rust_work_at (meaning c.args.tool.now) (rust_call_at c.args.rust.now request files (asks_in c.in-Asks.parsed)) in
+    let early = subst (λ (t : Tree). StopsEarly (work_on t) (g.T.Preprocessor.preprocessed c.args.tool.now) (g.T.Preprocessor.preprocessed c.rust_answer.new.tool)) c.in_ok-reason.ensures.tree c.rust_answer.ensures.early in
+    subst (λ (d : RustJudgement). RunsOf (account d) false c.rust_answer.result (g.T.Preprocessor.preprocessed c.args.tool.now) (g.T.Preprocessor.preprocessed c.rust_answer.new.tool)) decided (c.rust_answer.ensures.runs, early)
 
 pub returns-in-Asks-clause-quiet : goal.returns-in-Asks-clause-quiet
 returns-in-Asks-clause-quiet g c = unpassed _ c.rust_answer.result c.rust_answer.ensures.unpassed
+
+pub returns-in-Asks-clause-untouched : goal.returns-in-Asks-clause-untouched
+returns-in-Asks-clause-untouched g c no_text =
+    let request = c.args.request.now in
+    let tree = g.F.Files.tree c.args.files.now in
+    let decided : asks (asks_in c.in-Asks.parsed) ≡ rust_verdict_of request tree = rw c.in-Asks.is at c.in_ok-reason.ensures.verdict in
+    absurd (asks_text request tree (asks_in c.in-Asks.parsed) no_text decided)

@@ -12,7 +12,7 @@ use Rattle.ckeys_records.specs.Meaning.{FailsIn}
 use Rattle.ckeys_records.specs.declared.fault.Fault.TheVariants.{Read}
 use Rattle.ckeys.proofs.CallLemmas.{cause_is, file_cause, cause_later}
 use Rattle.ckeys_records.proofs.FaultLemmas.{since, on_exit}
-use Rattle.ckeys.proofs.EntryLemmas.{fine_later, first_is, input_first, turn_unasked}
+use Rattle.ckeys.proofs.EntryLemmas.{fine_later, first_is, input_first, none_early, turn_unasked}
 use Rattle.ckeys.proofs.RecordLemmas.{has_key}
 use Rattle.ckeys.proofs.hasher.CCompilerHasher.key_at.Goals as goal
 
@@ -112,3 +112,33 @@ recorded_key-requires-clause-framed g c =
     let call_on : Tree → KeyCall = λ t. call_by g.I.CCompilerImpl.kind_of g.I.CCompilerImpl.traits c.args.self.now c.args.place.now t in
     let framed : IfSome c.in_ok-entry_key.entry_key (λ _. IsFramed digest (call_on (tree c.extra_hashes.new.files))) = c.in_ok-entry_key.ensures.framed in
     subst (λ t. IsFramed digest (call_on t)) (sym c.entry_key.ensures.tree) (subst (λ key. IfSome key (λ _. IsFramed digest (call_on (tree c.extra_hashes.new.files)))) c.in-Some.is framed)
+
+pub returns-in_err-made-clause-early : goal.returns-in_err-made-clause-early
+returns-in_err-made-clause-early g c some =
+    let tree = g.F.Files.tree in
+    let meaning = g.T.Preprocessor.meaning c.args.tool.now in
+    let call_on : Tree → KeyCall = λ t. call_by g.I.CCompilerImpl.kind_of g.I.CCompilerImpl.traits c.args.self.now c.args.place.now t in
+    let p : PrintedCall = printed_call meaning (call_on (tree c.args.files.now)) in
+    let there : first_missing (tree c.args.files.now) (map (join c.args.place.now.dir.now) c.args.self.now.parsed.now.extra_hash_files) ≡ None = ap (λ names. first_missing (tree c.args.files.now) (map (join c.args.place.now.dir.now) names)) (sym c.as_slice-names.ensures) ∙ c.in_ok-extra.ensures.there in
+    let input : missing_input p.call ≡ None = ap (λ t. missing_input (call_on t)) (sym c.extra_hashes.ensures.tree) ∙ c.in_ok-entry_key.ensures.there in
+    absurd (some (none_early p there input))
+
+pub returns-clause-early : goal.returns-clause-early
+returns-clause-early g c some =
+    let tree = g.F.Files.tree in
+    let meaning = g.T.Preprocessor.meaning c.args.tool.now in
+    let call_on : Tree → KeyCall = λ t. call_by g.I.CCompilerImpl.kind_of g.I.CCompilerImpl.traits c.args.self.now c.args.place.now t in
+    let p : PrintedCall = printed_call meaning (call_on (tree c.args.files.now)) in
+    let there : first_missing (tree c.args.files.now) (map (join c.args.place.now.dir.now) c.args.self.now.parsed.now.extra_hash_files) ≡ None = ap (λ names. first_missing (tree c.args.files.now) (map (join c.args.place.now.dir.now) names)) (sym c.as_slice-names.ensures) ∙ c.in_ok-extra.ensures.there in
+    let input : missing_input p.call ≡ None = ap (λ t. missing_input (call_on t)) (sym c.extra_hashes.ensures.tree) ∙ c.in_ok-entry_key.ensures.there in
+    absurd (some (none_early p there input))
+
+pub returns-in_default-clause-early : goal.returns-in_default-clause-early
+returns-in_default-clause-early g c some =
+    let tree = g.F.Files.tree in
+    let meaning = g.T.Preprocessor.meaning c.args.tool.now in
+    let call_on : Tree → KeyCall = λ t. call_by g.I.CCompilerImpl.kind_of g.I.CCompilerImpl.traits c.args.self.now c.args.place.now t in
+    let p : PrintedCall = printed_call meaning (call_on (tree c.args.files.now)) in
+    let there : first_missing (tree c.args.files.now) (map (join c.args.place.now.dir.now) c.args.self.now.parsed.now.extra_hash_files) ≡ None = ap (λ names. first_missing (tree c.args.files.now) (map (join c.args.place.now.dir.now) names)) (sym c.as_slice-names.ensures) ∙ c.in_ok-extra.ensures.there in
+    let input : missing_input p.call ≡ None = ap (λ t. missing_input (call_on t)) (sym c.extra_hashes.ensures.tree) ∙ c.in_ok-entry_key.ensures.there in
+    absurd (some (none_early p there input))

@@ -12,7 +12,7 @@ use Rattle.ckeys_records.specs.Meaning.{FailsIn}
 use Rattle.ckeys_records.specs.declared.fault.Fault.TheVariants.{Read}
 use Rattle.ckeys.proofs.CallLemmas.{cause_is, file_cause}
 use Rattle.ckeys_records.proofs.FaultLemmas.{since, on_exit}
-use Rattle.ckeys.proofs.EntryLemmas.{first_is, input_first}
+use Rattle.ckeys.proofs.EntryLemmas.{first_is, input_first, none_early}
 use Rattle.ckeys.proofs.hasher.CCompilerHasher.key_contents.Goals as goal
 
 pub returns-clause-extra : goal.returns-clause-extra
@@ -57,3 +57,53 @@ returns-in_err-text-clause-cause g c =
     let fault = c.in_err-text.field-0.0 in
     on_exit (KeyCause (key_fault_of meaning p.call) on_file device_in) c.from_residual-in_err-text.result fault c.from_residual-in_err-text.ensures.1
     (cause_is (key_fault_of meaning p.call) (text_fault_of meaning (call_on (tree c.entry_key.new.files))) on_file later device_in fault (first_is p there input ∙ ap (λ t. text_fault_of meaning (call_on t)) (sym trees)) (since tree failed fails_on c.args.files.now c.entry_key.new.files c.text.new.files trees steady) c.in_err-text.ensures.cause)
+
+pub returns-in_err-text-clause-early : goal.returns-in_err-text-clause-early
+returns-in_err-text-clause-early g c some =
+    let tree = g.F.Files.tree in
+    let meaning = g.T.Preprocessor.meaning c.args.tool.now in
+    let call_on : Tree → KeyCall = λ t. call_by g.I.CCompilerImpl.kind_of g.I.CCompilerImpl.traits c.args.self.now c.args.place.now t in
+    let p : PrintedCall = printed_call meaning (call_on (tree c.args.files.now)) in
+    let there : first_missing (tree c.args.files.now) (map (join c.args.place.now.dir.now) c.args.self.now.parsed.now.extra_hash_files) ≡ None = ap (λ names. first_missing (tree c.args.files.now) (map (join c.args.place.now.dir.now) names)) (sym c.as_slice-names.ensures) ∙ c.in_ok-extra.ensures.there in
+    let input : missing_input p.call ≡ None = ap (λ t. missing_input (call_on t)) (sym c.extra_hashes.ensures.tree) ∙ c.in_ok-entry_key.ensures.there in
+    absurd (some (none_early p there input))
+
+pub returns-in_err-kept-clause-early : goal.returns-in_err-kept-clause-early
+returns-in_err-kept-clause-early g c some =
+    let tree = g.F.Files.tree in
+    let meaning = g.T.Preprocessor.meaning c.args.tool.now in
+    let call_on : Tree → KeyCall = λ t. call_by g.I.CCompilerImpl.kind_of g.I.CCompilerImpl.traits c.args.self.now c.args.place.now t in
+    let p : PrintedCall = printed_call meaning (call_on (tree c.args.files.now)) in
+    let there : first_missing (tree c.args.files.now) (map (join c.args.place.now.dir.now) c.args.self.now.parsed.now.extra_hash_files) ≡ None = ap (λ names. first_missing (tree c.args.files.now) (map (join c.args.place.now.dir.now) names)) (sym c.as_slice-names.ensures) ∙ c.in_ok-extra.ensures.there in
+    let input : missing_input p.call ≡ None = ap (λ t. missing_input (call_on t)) (sym c.extra_hashes.ensures.tree) ∙ c.in_ok-entry_key.ensures.there in
+    absurd (some (none_early p there input))
+
+pub returns-in_err-bytes_of-clause-early : goal.returns-in_err-bytes_of-clause-early
+returns-in_err-bytes_of-clause-early g c some =
+    let tree = g.F.Files.tree in
+    let meaning = g.T.Preprocessor.meaning c.args.tool.now in
+    let call_on : Tree → KeyCall = λ t. call_by g.I.CCompilerImpl.kind_of g.I.CCompilerImpl.traits c.args.self.now c.args.place.now t in
+    let p : PrintedCall = printed_call meaning (call_on (tree c.args.files.now)) in
+    let there : first_missing (tree c.args.files.now) (map (join c.args.place.now.dir.now) c.args.self.now.parsed.now.extra_hash_files) ≡ None = ap (λ names. first_missing (tree c.args.files.now) (map (join c.args.place.now.dir.now) names)) (sym c.as_slice-names.ensures) ∙ c.in_ok-extra.ensures.there in
+    let input : missing_input p.call ≡ None = ap (λ t. missing_input (call_on t)) (sym c.extra_hashes.ensures.tree) ∙ c.in_ok-entry_key.ensures.there in
+    absurd (some (none_early p there input))
+
+pub returns-in_err-into_owned-clause-early : goal.returns-in_err-into_owned-clause-early
+returns-in_err-into_owned-clause-early g c some =
+    let tree = g.F.Files.tree in
+    let meaning = g.T.Preprocessor.meaning c.args.tool.now in
+    let call_on : Tree → KeyCall = λ t. call_by g.I.CCompilerImpl.kind_of g.I.CCompilerImpl.traits c.args.self.now c.args.place.now t in
+    let p : PrintedCall = printed_call meaning (call_on (tree c.args.files.now)) in
+    let there : first_missing (tree c.args.files.now) (map (join c.args.place.now.dir.now) c.args.self.now.parsed.now.extra_hash_files) ≡ None = ap (λ names. first_missing (tree c.args.files.now) (map (join c.args.place.now.dir.now) names)) (sym c.as_slice-names.ensures) ∙ c.in_ok-extra.ensures.there in
+    let input : missing_input p.call ≡ None = ap (λ t. missing_input (call_on t)) (sym c.extra_hashes.ensures.tree) ∙ c.in_ok-entry_key.ensures.there in
+    absurd (some (none_early p there input))
+
+pub returns-clause-early : goal.returns-clause-early
+returns-clause-early g c some =
+    let tree = g.F.Files.tree in
+    let meaning = g.T.Preprocessor.meaning c.args.tool.now in
+    let call_on : Tree → KeyCall = λ t. call_by g.I.CCompilerImpl.kind_of g.I.CCompilerImpl.traits c.args.self.now c.args.place.now t in
+    let p : PrintedCall = printed_call meaning (call_on (tree c.args.files.now)) in
+    let there : first_missing (tree c.args.files.now) (map (join c.args.place.now.dir.now) c.args.self.now.parsed.now.extra_hash_files) ≡ None = ap (λ names. first_missing (tree c.args.files.now) (map (join c.args.place.now.dir.now) names)) (sym c.as_slice-names.ensures) ∙ c.in_ok-extra.ensures.there in
+    let input : missing_input p.call ≡ None = ap (λ t. missing_input (call_on t)) (sym c.extra_hashes.ensures.tree) ∙ c.in_ok-entry_key.ensures.there in
+    absurd (some (none_early p there input))

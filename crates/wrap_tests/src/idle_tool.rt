@@ -1,0 +1,142 @@
+//! A tool that ends with status 0 and makes nothing, and what a session answers over it.
+
+ghost use Rattle.std.specs.Prelude.{◌≡◌, pos, []};
+ghost use Rattle.os_files.specs.Bytes.{ticked};
+ghost use Rattle.ckeys_records.specs.Meaning.{made_of};
+
+use crate::calls::served;
+use crate::support::{request, session, told};
+use ckeys_records::preprocessor::{Preprocessor, Printed, Ticks, ToolFail};
+use cmdlines_base::command::{ArtifactDescriptor, SingleCompileCommand};
+use cmdlines_tables::compiler::CCompilerKind;
+use os_files::files::Files;
+use os_files::listed::Listed;
+use os_files::memory_files::MemoryFiles;
+use os_files::os_bytes::OsBytes;
+use rustkeys::answers::RustcAnswers;
+use std::alloc::Global;
+use std::test::Fail;
+use test_kit::rows::files_of;
+use test_kit::texts::is_that;
+use wrap_base::tool::{Compiled, Tool};
+
+/// For tests: each compile ends with status 0 and makes none of the outputs; nothing else can be asked.
+#[derive(Drop)]
+struct IdleTool {
+    ticks: Ticks,
+}
+
+impl IdleTool {
+    /// Fails where a text or rustc is asked for.
+    fn fail(&mut self) -> ToolFail
+        ensures device { result ≡ ToolFail.Device }
+        ensures preprocess { self.new.ticks.preprocess ≡ self.old.ticks.preprocess }
+        ensures compile { self.new.ticks.compile ≡ self.old.ticks.compile }
+        ensures failure { self.new.ticks.failure ≡ ticked self.old.ticks.failure }
+    {
+        self.ticks.failure = self.ticks.failure.wrapping_add(1);
+        ToolFail::Device
+    }
+}
+
+impl Preprocessor for IdleTool {
+    ghost meaning = { λ t step asked outputs scene. made_of (pos 0) [] };
+
+    ghost preprocessed = { λ t. t.ticks.preprocess };
+
+    ghost compiled = { λ t. t.ticks.compile };
+
+    ghost failed = { λ t. t.ticks.failure };
+
+    ghost fails_in = { λ t step u. Unit {0} };
+
+    fn preprocess<F: Files>(
+        &mut self,
+        _alloc: Global,
+        _kind: CCompilerKind,
+        _command: &SingleCompileCommand,
+        _files: &mut F,
+        _moment: i64,
+    ) -> Result<Printed, ToolFail> {
+        self.ticks.preprocess = self.ticks.preprocess.wrapping_add(1);
+        Err(self.fail())
+    }
+
+    fn ticks(&self) -> Ticks {
+        self.ticks
+    }
+}
+
+impl RustcAnswers for IdleTool {
+    fn dep_info<F: Files>(
+        &mut self,
+        _alloc: Global,
+        _command: &SingleCompileCommand,
+        _files: &mut F,
+    ) -> Result<Printed, ToolFail> {
+        self.ticks.preprocess = self.ticks.preprocess.wrapping_add(1);
+        Err(self.fail())
+    }
+
+    fn file_names<F: Files>(
+        &mut self,
+        _alloc: Global,
+        _command: &SingleCompileCommand,
+        _files: &mut F,
+    ) -> Result<Printed, ToolFail> {
+        self.ticks.preprocess = self.ticks.preprocess.wrapping_add(1);
+        Err(self.fail())
+    }
+
+    fn archive_digest<F: Files>(
+        &mut self,
+        _alloc: Global,
+        _path: &OsBytes,
+        _files: &mut F,
+    ) -> Result<OsBytes, ToolFail> {
+        Err(self.fail())
+    }
+}
+
+impl Tool for IdleTool {
+    fn compile<F: Files>(
+        &mut self,
+        alloc: Global,
+        _kind: Option<CCompilerKind>,
+        _command: &SingleCompileCommand,
+        _outputs: &[(OsBytes, ArtifactDescriptor)],
+        _files: &mut F,
+        _moment: i64,
+    ) -> Result<Compiled, ToolFail> {
+        self.ticks.compile = self.ticks.compile.wrapping_add(1);
+        Ok(Compiled {
+            status: 0,
+            contents: Listed::new(alloc),
+        })
+    }
+}
+
+/// What the request of this line is answered over the tool.
+fn told_over_nothing(alloc: Global, line: &str) -> Result<String, Fail> {
+    let mut session = session(alloc, false)?;
+    let mut files: MemoryFiles = files_of(alloc, &[("/w/y.i", b"int y;\n".as_slice())])?;
+    let mut tool = IdleTool {
+        ticks: Ticks {
+            preprocess: 0,
+            compile: 0,
+            failure: 0,
+        },
+    };
+    let request = request(alloc, line)?;
+    let answer = served(&mut session, &request, &mut files, &mut tool);
+    if (session.objects().len(), tool.ticks.compile) != (0, 1) {
+        return Err("something is held, or another number of compiles".into());
+    }
+    Ok(told(alloc, &answer)?)
+}
+
+#[test]
+fn an_object_that_is_not_made_is_a_fault(rt: HostRuntime) -> Result<(), Fail> {
+    let told = told_over_nothing(rt.alloc(), "-c y.i")?;
+    is_that(told.as_str(), "fault missing obj", "-c y.i")
+}
