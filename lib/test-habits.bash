@@ -137,11 +137,12 @@ habits_counters() {
     counts "no compiler" uncacheable_unknown_compiler "$host" ./tool -c it.c
     counts "-S" option_s "$host" gcc -DCOUNT=1 -S it.c
     counts "standard input" uncacheable_standard_input "$host" gcc -x c -c - -o it.o </dev/null
+    counts "an object on standard output" output_to_stdout "$host" gcc -DCOUNT=1 -c it.c -o -
     printf '#!/bin/sh\ncase $1 in -print-*) exit 1 ;; esac\nexec gcc "$@"\n' >gcc
     chmod +x gcc
     counts "a compiler that says nothing" error_the_compiler_doesn_t_name_its_parts "$host" ./gcc -DCOUNT=1 -c it.c
     "$host" -s >shown
-    is "uncacheable calls" grep -q "^Uncacheable: *17\$" shown
+    is "uncacheable calls" grep -q "^Uncacheable: *18\$" shown
     is "errors" grep -q "^Errors: *1\$" shown
     is "errors: which" grep -q "^  error_the_compiler_doesn_t_name_its_parts *1\$" shown
     is "the reasons are in falling order" [ "$(sed -n '/^Uncacheable/,/^Errors/p' shown | awk '/^  / { print $2 }')" = \

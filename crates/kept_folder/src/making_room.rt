@@ -11,6 +11,7 @@ use crate::folder::KeptFolder;
 use crate::limit::room_within;
 use crate::listing::{KeptFile, add_row, all_files, count_that_fit, order_by_use};
 use crate::sizes::Sizes;
+use std::alloc::Global;
 use std::fs;
 use std::rt::Files;
 
@@ -46,17 +47,42 @@ fn make_free<R: Files + AllocGlobal + Clone + Drop>(
     Sizes::of(rt.alloc(), stay)?.write(rt, path)
 }
 
-/// The sizes, with those of this row as they are now.
-fn sizes_with_row<R: Files + AllocGlobal + Clone + Drop>(
+/// The sizes, with those of these rows as they are now.
+fn sizes_with_rows<R: Files + AllocGlobal + Clone + Drop>(
     rt: &R,
     path: &str,
-    row: u8,
+    rows: &[u8],
 ) -> Result<Sizes, FolderError> {
-    let mut files = Vec::new(rt.alloc());
-    add_row(rt, path, row, &mut files)?;
     let mut sizes = Sizes::read(rt, path)?;
-    sizes.note(rt, path, row, total_of(files.as_slice()))?;
+    for row in rows {
+        let mut files = Vec::new(rt.alloc());
+        add_row(rt, path, *row, &mut files)?;
+        sizes.note(rt, path, *row, total_of(files.as_slice()))?;
+    }
     Ok(sizes)
+}
+
+/// The row of a file of this name.
+fn row_of(name: &str) -> Result<u8, FolderError> {
+    let Some((front, _)) = name.split_at_checked(2) else {
+        return Err(FolderError::Unreadable);
+    };
+    match u8::from_str_radix(front, 16) {
+        Ok(row) => Ok(row),
+        Err(_) => Err(FolderError::Unreadable),
+    }
+}
+
+/// The rows of files of these names, each once.
+fn rows_of(alloc: Global, names: &[&str]) -> Result<Vec<u8>, FolderError> {
+    let mut rows = Vec::new(alloc);
+    for name in names {
+        let row = row_of(name)?;
+        if !rows.contains(&row) {
+            rows.push(row)?;
+        }
+    }
+    Ok(rows)
 }
 
 /// The sizes, by looking into each folder.
@@ -84,23 +110,18 @@ fn hold<R: Files + AllocGlobal + Clone + Drop>(
     Ok(())
 }
 
-/// Sees to it that the limit holds once a file of this name was put.
+/// Sees to it that the limit holds once files of these names were put.
 pub fn make_room<R: Files + AllocGlobal + Clone + Drop>(
     rt: &R,
     folder: &KeptFolder,
-    name: &str,
+    names: &[&str],
 ) -> Result<(), FolderError> {
-    if folder.is_read_only {
+    if folder.is_read_only || names.is_empty() {
         return Ok(());
     }
-    let Some((front, _)) = name.split_at_checked(2) else {
-        return Err(FolderError::Unreadable);
-    };
-    let Ok(row) = u8::from_str_radix(front, 16) else {
-        return Err(FolderError::Unreadable);
-    };
+    let rows = rows_of(rt.alloc(), names)?;
     let path = folder.path.as_str();
-    let sizes = match sizes_with_row(rt, path, row) {
+    let sizes = match sizes_with_rows(rt, path, rows.as_slice()) {
         Ok(sizes) => sizes,
         Err(_) => sizes_anew(rt, path)?,
     };

@@ -1,34 +1,53 @@
 //! Texts that are sizes, ages and truth values.
 
 ghost use Rattle.std.specs.Prelude.{◌≡◌};
-ghost use Rattle.settings.specs.Values.{truth_in, unit_in};
+ghost use Rattle.std.specs.Option.{option_map};
+ghost use Rattle.settings.specs.Values.{age_in, age_unit_in, number_in, size_in, truth_in, unit_in};
+
+/// The whole number whose digits begin a text, and what stands behind them. Nothing where no digit does, or where the number passes
+/// what 64 bits hold.
+fn number_ahead(text: &[u8]) -> Option<(u64, &[u8])>
+    ensures { option_map (λ found. (found.0, found.1.now)) result ≡ number_in text.now }
+{
+    let mut number = 0u64;
+    let mut rest = text;
+    'digits: while let Some((byte, behind)) = rest.split_first() {
+        if !byte.is_ascii_digit() {
+            break 'digits;
+        }
+        let digit = u64::from(*byte - b'0');
+        number = number.checked_mul(10)?.checked_add(digit)?;
+        rest = behind;
+    }
+    if rest.len() == text.len() {
+        return None;
+    }
+    Some((number, rest))
+}
 
 /// How many bytes a unit means; no unit means `G`, as for ccache.
-fn unit_named(text: &str) -> Option<u64>
-    ensures { result ≡ unit_in text.now }
+fn unit_named(unit: &[u8]) -> Option<u64>
+    ensures { result ≡ unit_in unit.now }
 {
-    match text {
-        "" | "G" => Some(1_000_000_000),
-        "k" => Some(1_000),
-        "M" => Some(1_000_000),
-        "T" => Some(1_000_000_000_000),
-        "Ki" => Some(1 << 10),
-        "Mi" => Some(1 << 20),
-        "Gi" => Some(1 << 30),
-        "Ti" => Some(1 << 40),
+    match unit {
+        [] | [b'G'] => Some(1_000_000_000),
+        [b'k'] => Some(1_000),
+        [b'M'] => Some(1_000_000),
+        [b'T'] => Some(1_000_000_000_000),
+        [b'K', b'i'] => Some(1 << 10),
+        [b'M', b'i'] => Some(1 << 20),
+        [b'G', b'i'] => Some(1 << 30),
+        [b'T', b'i'] => Some(1 << 40),
         _ => None,
     }
 }
 
 /// How many bytes a text means: a whole number with a unit behind it, or none for `G`. Nothing where it is no such text, or means more than
 /// 64 bits hold.
-pub fn size_named(text: &str) -> Option<u64> {
-    let digits = text
-        .bytes()
-        .take_while(|byte| byte.is_ascii_digit())
-        .count();
-    let (number, unit) = text.split_at_checked(digits)?;
-    let number = number.parse::<u64>().ok()?;
+pub fn size_named(text: &str) -> Option<u64>
+    ensures { result ≡ size_in text.now }
+{
+    let (number, unit) = number_ahead(text.as_bytes())?;
     number.checked_mul(unit_named(unit)?)
 }
 
@@ -43,20 +62,24 @@ pub fn truth_named(text: &str) -> Option<bool>
     }
 }
 
-/// How many seconds an age means: a whole number with s, m, h or d behind it, for seconds, minutes, hours or days. Nothing where it is no
-/// such text, or means more than 64 bits hold.
-pub fn age_named(text: &str) -> Option<u64> {
-    let digits = text
-        .bytes()
-        .take_while(|byte| byte.is_ascii_digit())
-        .count();
-    let (number, unit) = text.split_at_checked(digits)?;
-    let number = number.parse::<u64>().ok()?;
+/// How many seconds a unit of ages means.
+fn age_unit_named(unit: &[u8]) -> Option<u64>
+    ensures { result ≡ age_unit_in unit.now }
+{
     match unit {
-        "s" => Some(number),
-        "m" => number.checked_mul(60),
-        "h" => number.checked_mul(60 * 60),
-        "d" => number.checked_mul(24 * 60 * 60),
+        [b's'] => Some(1),
+        [b'm'] => Some(60),
+        [b'h'] => Some(60 * 60),
+        [b'd'] => Some(24 * 60 * 60),
         _ => None,
     }
+}
+
+/// How many seconds an age means: a whole number with s, m, h or d behind it, for seconds, minutes, hours or days. Nothing where it is no
+/// such text, or means more than 64 bits hold.
+pub fn age_named(text: &str) -> Option<u64>
+    ensures { result ≡ age_in text.now }
+{
+    let (number, unit) = number_ahead(text.as_bytes())?;
+    number.checked_mul(age_unit_named(unit)?)
 }

@@ -81,7 +81,7 @@ fn fold<R: Files + AllocGlobal>(rt: &R, place: &str) -> Result<(), StatisticsErr
 pub fn count<R: Files<File = File> + AllocGlobal>(
     rt: &R,
     path: &str,
-    names: &[&str],
+    names: &[String],
 ) -> Result<(), StatisticsError> {
     let place = place_in(rt, path)?;
     let mut file = locked(rt, place.as_str())?;
