@@ -37,6 +37,11 @@ age_unit_in text =
 abbrev pub is_digit : ℕ → Bool
 is_digit byte = nat_le 48 byte && nat_le byte 57
 
+-- The digit that begins a text, and what stands behind it.
+abbrev pub digit_in : List ℕ → Option (ℕ × List ℕ)
+digit_in [] = None
+digit_in (byte ∷ text) = if is_digit byte then Some (byte - 48, text) else None
+
 -- The number that these digits spell behind one that was begun, and what stands behind them.
 abbrev pub digits_behind : ℕ → List ℕ → ℕ × List ℕ
 digits_behind begun [] = (begun, [])

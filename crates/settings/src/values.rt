@@ -1,8 +1,25 @@
 //! Texts that are sizes, ages and truth values.
 
-ghost use Rattle.std.specs.Prelude.{◌≡◌};
+ghost use Rattle.std.specs.Prelude.{◌≡◌, ◌+◌, ◌*◌};
 ghost use Rattle.std.specs.Option.{option_map};
-ghost use Rattle.settings.specs.Values.{age_in, age_unit_in, number_in, size_in, truth_in, unit_in};
+ghost use Rattle.settings.specs.Values.{age_in, age_unit_in, digit_in, held, number_in, size_in, truth_in, unit_in};
+
+/// The digit that begins a text, and what stands behind it.
+fn digit_ahead(text: &[u8]) -> Option<(u64, &[u8])>
+    ensures { option_map (λ found. (found.0, found.1.now)) result ≡ digit_in text.now }
+{
+    match text {
+        [byte @ b'0'..=b'9', behind @ ..] => Some((u64::from(*byte - b'0'), behind)),
+        _ => None,
+    }
+}
+
+/// A number with one more digit, where 64 bits hold it.
+fn with_digit(number: u64, digit: u64) -> Option<u64>
+    ensures { result ≡ held (10 * number + digit) }
+{
+    number.checked_mul(10)?.checked_add(digit)
+}
 
 /// The whole number whose digits begin a text, and what stands behind them. Nothing where no digit does, or where the number passes
 /// what 64 bits hold.
@@ -11,12 +28,8 @@ fn number_ahead(text: &[u8]) -> Option<(u64, &[u8])>
 {
     let mut number = 0u64;
     let mut rest = text;
-    'digits: while let Some((byte, behind)) = rest.split_first() {
-        if !byte.is_ascii_digit() {
-            break 'digits;
-        }
-        let digit = u64::from(*byte - b'0');
-        number = number.checked_mul(10)?.checked_add(digit)?;
+    'digits: while let Some((digit, behind)) = digit_ahead(rest) {
+        number = with_digit(number, digit)?;
         rest = behind;
     }
     if rest.len() == text.len() {
