@@ -106,7 +106,8 @@ pub fn note<R: Files<File = File> + Clock + AllocGlobal>(
         }
     }
     if is_counted {
-        let _ = count(rt, line.folder.path.as_str(), counters.as_slice());
+        let folder = &line.folder;
+        let _ = count(rt, folder.path.as_str(), folder.umask, counters.as_slice());
     }
     Ok(())
 }

@@ -36,15 +36,15 @@ fn remove<R: Files>(rt: &R, files: &[KeptFile]) {
 /// Takes away what was used least recently, until nine tenths of the limit hold the rest.
 fn make_free<R: Files + AllocGlobal + Clone + Drop>(
     rt: &R,
-    path: &str,
-    limit: u64,
+    folder: &KeptFolder,
 ) -> Result<(), FolderError> {
+    let path = folder.path.as_str();
     let mut files = all_files(rt, path)?;
     order_by_use(files.as_mut_slice());
-    let count = count_that_fit(files.as_slice(), room_within(limit));
+    let count = count_that_fit(files.as_slice(), room_within(folder.limit));
     let (stay, go) = files.as_slice().split_at(count);
     remove(rt, go);
-    Sizes::of(rt.alloc(), stay)?.write(rt, path)
+    Sizes::of(rt.alloc(), stay)?.write(rt, path, folder.umask)
 }
 
 /// The sizes, with those of these rows as they are now.
@@ -88,11 +88,12 @@ fn rows_of(alloc: Global, names: &[&str]) -> Result<Vec<u8>, FolderError> {
 /// The sizes, by looking into each folder.
 fn sizes_anew<R: Files + AllocGlobal + Clone + Drop>(
     rt: &R,
-    path: &str,
+    folder: &KeptFolder,
 ) -> Result<Sizes, FolderError> {
+    let path = folder.path.as_str();
     let files = all_files(rt, path)?;
     let sizes = Sizes::of(rt.alloc(), files.as_slice())?;
-    sizes.write(rt, path)?;
+    sizes.write(rt, path, folder.umask)?;
     Ok(sizes)
 }
 
@@ -104,7 +105,7 @@ fn hold<R: Files + AllocGlobal + Clone + Drop>(
 ) -> Result<(), FolderError> {
     let limit = folder.limit;
     if limit != 0 && limit < sizes.total() {
-        make_free(rt, folder.path.as_str(), limit)?;
+        make_free(rt, folder)?;
         folder.has_made_room.set(true);
     }
     Ok(())
@@ -123,7 +124,7 @@ pub fn make_room<R: Files + AllocGlobal + Clone + Drop>(
     let path = folder.path.as_str();
     let sizes = match sizes_with_rows(rt, path, rows.as_slice()) {
         Ok(sizes) => sizes,
-        Err(_) => sizes_anew(rt, path)?,
+        Err(_) => sizes_anew(rt, folder)?,
     };
     hold(rt, folder, &sizes)
 }
@@ -133,22 +134,22 @@ pub fn hold_limit<R: Files + AllocGlobal + Clone + Drop>(
     rt: &R,
     folder: &KeptFolder,
 ) -> Result<(), FolderError> {
-    let sizes = sizes_anew(rt, folder.path.as_str())?;
+    let sizes = sizes_anew(rt, folder)?;
     hold(rt, folder, &sizes)
 }
 
 /// Takes away what wasn't used since that moment, in nanoseconds since 1970.
 pub fn remove_unused<R: Files + AllocGlobal + Clone + Drop>(
     rt: &R,
-    path: &str,
+    folder: &KeptFolder,
     moment: u128,
 ) -> Result<(), FolderError> {
-    for file in all_files(rt, path)? {
+    for file in all_files(rt, folder.path.as_str())? {
         if file.used < moment {
             let _ = fs::remove_file(rt, file.place.as_str());
         }
     }
-    let _sizes = sizes_anew(rt, path)?;
+    let _sizes = sizes_anew(rt, folder)?;
     Ok(())
 }
 

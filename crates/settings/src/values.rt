@@ -75,6 +75,14 @@ pub fn truth_named(text: &str) -> Option<bool>
     }
 }
 
+/// The umask that a text means: an octal number up to 777.
+pub fn mask_named(text: &str) -> Option<u32> {
+    match u32::from_str_radix(text, 8) {
+        Ok(mask) if mask <= 0o777 => Some(mask),
+        _ => None,
+    }
+}
+
 /// How many seconds a unit of ages means.
 fn age_unit_named(unit: &[u8]) -> Option<u64>
     ensures { result ≡ age_unit_in unit.now }
