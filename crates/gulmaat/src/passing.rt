@@ -79,7 +79,7 @@ fn is_on_standard_output(words: &[OsBytes]) -> bool {
     let is_named = words
         .iter()
         .zip(behind)
-        .any(|pair| pair.0.as_bytes() == b"-o" && pair.1.as_bytes() == b"-");
+        .any(|pair| pair.0.as_bytes() == "-o".as_bytes() && pair.1.as_bytes() == "-".as_bytes());
     (is_named || has_word(words, b"-o-"))
         && has_word(words, b"-c")
         && !has_word(words, b"-E")
