@@ -5,6 +5,7 @@ ghost use Rattle.std.specs.Borrow.{sem};
 ghost use Rattle.std.specs.Io.BufRead.{Rests};
 ghost use Rattle.std.specs.Option.{option_copied};
 ghost use Rattle.ckeys_base.specs.Shelf.{Asks, Puts};
+ghost use Rattle.replay.specs.contracts.asked_store.AskedStore.{the_row};
 
 use ckeys_records::output_name::OutputName;
 use ckeys_records::shape::CShape;
@@ -115,7 +116,7 @@ impl<O: Store<StoreKey, Pairs>> Store<StoreKey, Pairs> for AskedStore<O> {
 
     fn get(&mut self, key: &StoreKey) -> Option<&Pairs>
         // The key is noted, or none where memory for a copy was refused.
-        ensures* after_borrow { sem 𝓛 (Rests Self.row self.entry
+        ensures* after_borrow { sem 𝓛 (Rests (the_row O.row) self.entry
             (λ new. Asks (O.shelf self.old.inner) (O.shelf new.inner) key.now (option_copied result)
             × IfSome new.asked (λ asked. asked ≡ key.now))) }
     {

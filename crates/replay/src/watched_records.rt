@@ -5,6 +5,7 @@ ghost use Rattle.std.specs.Borrow.{sem};
 ghost use Rattle.std.specs.Io.BufRead.{Rests};
 ghost use Rattle.std.specs.Option.{option_copied};
 ghost use Rattle.ckeys_base.specs.Shelf.{Asks, Puts};
+ghost use Rattle.replay.specs.contracts.watched_records.WatchedRecords.{the_row};
 
 use std::alloc::AllocError;
 use wrap::{EntryKey, PreprocessorCacheEntry, Store};
@@ -91,7 +92,7 @@ impl<E: Store<EntryKey, PreprocessorCacheEntry>> Store<EntryKey, PreprocessorCac
 
     fn get(&mut self, key: &EntryKey) -> Option<&PreprocessorCacheEntry>
         // The key is noted, or none where memory for a copy was refused.
-        ensures* after_borrow { sem 𝓛 (Rests Self.row self.entry
+        ensures* after_borrow { sem 𝓛 (Rests (the_row E.row) self.entry
             (λ new. Asks (E.shelf self.old.inner) (E.shelf new.inner) key.now (option_copied result)
             × IfSome new.asked (λ asked. asked ≡ key.now) × (new.newest ≡ self.old.newest))) }
     {
