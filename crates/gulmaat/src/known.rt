@@ -255,7 +255,7 @@ impl Known {
     {
         let names = names_again(rt.alloc(), key.names.as_slice())?;
         self.refuse_input(rt.alloc(), key)?;
-        if host.compiled != 0 {
+        if host.compiled() != 0 {
             return Ok(false);
         }
         self.record_outputs(rt, line, host, names, words, paths)?;

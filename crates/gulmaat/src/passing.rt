@@ -4,6 +4,7 @@
 use memchr::memmem;
 use os_files::os_bytes::OsBytes;
 use recorded_builds::beware::options_in;
+use statistics::calls::TO_STANDARD_OUTPUT;
 use std::alloc::Global;
 use wrapper_host::command_line::CommandLine;
 use wrapper_host::stop::Stop;
@@ -67,6 +68,24 @@ fn front_of(word: &[u8]) -> Option<&'static str> {
         .find(|front| word.starts_with(front.as_bytes()))
 }
 
+/// Whether a word is among them.
+fn has_word(words: &[OsBytes], word: &[u8]) -> bool {
+    words.iter().any(|it| it.as_bytes() == word)
+}
+
+/// Whether the words ask for an object, and for it on standard output.
+fn is_on_standard_output(words: &[OsBytes]) -> bool {
+    let behind = words.iter().skip(1);
+    let is_named = words
+        .iter()
+        .zip(behind)
+        .any(|pair| pair.0.as_bytes() == "-o".as_bytes() && pair.1.as_bytes() == "-".as_bytes());
+    (is_named || has_word(words, b"-o-"))
+        && has_word(words, b"-c")
+        && !has_word(words, b"-E")
+        && !has_word(words, b"-S")
+}
+
 /// The variable that speaks against keeping, or the front of a word, or an option.
 pub fn reason_against(alloc: Global, line: &CommandLine) -> Result<Option<String>, Stop> {
     for (name, value) in line.env.as_slice() {
@@ -74,6 +93,9 @@ pub fn reason_against(alloc: Global, line: &CommandLine) -> Result<Option<String
             let name = name.clone()?;
             return Ok(Some(format!(in alloc; "{name}")?));
         }
+    }
+    if is_on_standard_output(line.words.as_slice()) {
+        return Ok(Some(String::from_str(alloc, TO_STANDARD_OUTPUT)?));
     }
     for word in line.words.as_slice() {
         if let Some(front) = front_of(word.as_bytes()) {
