@@ -195,14 +195,16 @@ static int is_self(const char *path) {
     return !stat(path, &one) && !stat(self, &other) && one.st_dev == other.st_dev && one.st_ino == other.st_ino;
 }
 
-/* The file of that name, where it can be run, by the usual search; a link to this host is none, and its name is searched. */
+/* The file of that name, where it can be run, by the usual search; a link to this host is none, and its name is searched. A file that was
+ * searched is called by its path: a driver looks for its parts beside the file of its name, which may be a link to this host. */
 static int find_compiler(const char *name) {
     const char *slash = strrchr(name, '/');
     if (slash && !is_self(name)) {
         if (snprintf(compiler, sizeof compiler, "%s", name) >= (int)sizeof compiler) return -1;
         return access(compiler, X_OK);
     }
-    if (slash) { name = slash + 1; words[0] = compiler; }
+    if (slash) name = slash + 1;
+    words[0] = compiler;
     const char *path = getenv("PATH");
     if (!path) path = "/usr/bin:/bin";
     for (; *path; path += strspn(path, ":")) {
@@ -436,8 +438,9 @@ static int answer_options(int count, char **list) {
     if (find_kept()) return 2;
     if (!getcwd(dir, sizeof dir)) { perror("gulmaat"); return 2; }
     if (asks_why) {
+        const char *asked = list[2];
         words = list + 2;
-        if (find_compiler(words[0])) { perror(words[0]); return 127; }
+        if (find_compiler(asked)) { perror(asked); return 127; }
     }
     snprintf(folder, sizeof folder, "%.*s/own", PATH_MAX - 64, kept);
     remove_old(folder);
@@ -460,8 +463,8 @@ int main(int count, char **list) {
     int is_link = strncmp(name, "gulmaat", 7) != 0;
     words = is_link ? list : list + 1;
     if (!is_link && (count < 2 || list[1][0] == '-')) return answer_options(count, list);
-    if (find_compiler(is_link ? name : words[0])) { perror(words[0]); return 127; }
-    if (is_link) words[0] = compiler;
+    const char *asked = is_link ? name : list[1];
+    if (find_compiler(asked)) { perror(asked); return 127; }
     const char *program = find_program();
     if (!program || find_kept()) pass_through();
     if (make_own()) { fprintf(stderr, "gulmaat: can't make a folder in %s: %s\n", kept, strerror(errno)); pass_through(); }
