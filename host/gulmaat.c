@@ -234,8 +234,19 @@ static int find_kept(void) {
     return -1;
 }
 
-/* Makes a folder, and those above it. */
+/* The umask that a variable sets for what is kept; -1 where it sets none. */
+static int umask_set(void) {
+    const char *value = getenv("GULMAAT_UMASK");
+    if (!value || *value < '0' || *value > '7') return -1;
+    char *end;
+    long mask = strtol(value, &end, 8);
+    return *end || mask > 0777 ? -1 : (int)mask;
+}
+
+/* Makes a folder, and those above it, under that umask. */
 static void make_folder(const char *path) {
+    int mask = umask_set();
+    mode_t before = mask < 0 ? 0 : umask(mask);
     char part[PATH_MAX];
     snprintf(part, sizeof part, "%s", path);
     for (char *slash = strchr(part + 1, '/'); slash; slash = strchr(slash + 1, '/')) {
@@ -244,6 +255,7 @@ static void make_folder(const char *path) {
         *slash = '/';
     }
     mkdir(part, 0777);
+    if (mask >= 0) umask(before);
 }
 
 /* The folder of this name is this process's own. */

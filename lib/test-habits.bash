@@ -137,11 +137,12 @@ habits_counters() {
     counts "no compiler" uncacheable_unknown_compiler "$host" ./tool -c it.c
     counts "-S" option_s "$host" gcc -DCOUNT=1 -S it.c
     counts "standard input" uncacheable_standard_input "$host" gcc -x c -c - -o it.o </dev/null
+    counts "an object on standard output" output_to_stdout "$host" gcc -DCOUNT=1 -c it.c -o -
     printf '#!/bin/sh\ncase $1 in -print-*) exit 1 ;; esac\nexec gcc "$@"\n' >gcc
     chmod +x gcc
     counts "a compiler that says nothing" error_the_compiler_doesn_t_name_its_parts "$host" ./gcc -DCOUNT=1 -c it.c
     "$host" -s >shown
-    is "uncacheable calls" grep -q "^Uncacheable: *17\$" shown
+    is "uncacheable calls" grep -q "^Uncacheable: *18\$" shown
     is "errors" grep -q "^Errors: *1\$" shown
     is "errors: which" grep -q "^  error_the_compiler_doesn_t_name_its_parts *1\$" shown
     is "the reasons are in falling order" [ "$(sed -n '/^Uncacheable/,/^Errors/p' shown | awk '/^  / { print $2 }')" = \
@@ -214,8 +215,8 @@ habits_keeping() {
 shows() { prints "$1 = $2, from $3" "($3) $1 = $2" grep "^([^)]*) $1 =" <("$host" -p); }
 
 habits_settings() {
-    local option key
-    for option in -p --show-config; do is "$option: nine keys" [ "$("$host" $option | wc -l)" = 9 ]; done
+    local option key value
+    for option in -p --show-config; do is "$option: ten keys" [ "$("$host" $option | wc -l)" = 10 ]; done
     shows max_size 5G default
     shows cache_dir "$GULMAAT_DIR" GULMAAT_DIR
     for option in -o --set-config; do
@@ -225,8 +226,8 @@ habits_settings() {
         shows max_size 5G "$file"
     done
     for option in -k --get-config; do prints "$option" 5G "$host" $option max_size; done
-    prints "all keys are read" "" "$host" -o read_only=no -o recache=off -o stats=on -o disable=0 -o direct_mode=false -o log_file= -o base_dir=
-    for key in read_only recache stats disable direct_mode log_file base_dir max_size; do
+    prints "all keys are read" "" "$host" -o read_only=no -o recache=off -o stats=on -o disable=0 -o direct_mode=false -o log_file= -o base_dir= -o umask=002
+    for key in read_only recache stats disable direct_mode log_file base_dir max_size umask; do
         is "$key comes from the file" grep -q "^($file) $key = " <("$host" -p)
     done
     printf '# a comment\n\n  stats=yes\n' >"$file"
@@ -236,6 +237,9 @@ habits_settings() {
     refused "-o stats" "-o takes KEY=VALUE" "$host" -o stats
     refused "-o stats=maybe" "stats is maybe: set it to 1, yes, true or on, or 0, no, false or off" "$host" -o stats=maybe
     refused "-o cache_dir=here" "cache_dir is here: set it to an absolute path" "$host" -o cache_dir=here
+    for value in 8 1777 -2 rw; do
+        refused "-o umask=$value" "umask is $value: set it to an octal number up to 777" "$host" -o umask=$value
+    done
     shows stats yes "$file"
     # A file that is wrong is said, and the compiler runs.
     for option in "nothing = 1" "stats" "stats = maybe"; do
@@ -260,6 +264,28 @@ habits_settings() {
     rm -r "$XDG_CONFIG_HOME"
 }
 
+# All that is made in the folder of what is kept has the rights that the umask leaves, and an object those of the caller's.
+habits_umask() {
+    local mask files folders
+    for mask in 002 027 077; do
+        files=$(printf '%o' $((0666 & ~0$mask)))
+        folders=$(printf '%o' $((0777 & ~0$mask)))
+        rm -rf shared
+        mkdir -m 700 shared
+        (
+            umask 022
+            export GULMAAT_DIR=$PWD/shared/kept GULMAAT_UMASK=$mask GULMAAT_DIRECT=1
+            "$host" gcc -DCOUNT=1 -c it.c -o masked.o
+            "$host" gcc -DCOUNT=1 -c it.c -o masked.o
+        )
+        is "umask $mask: files" [ -z "$(find shared/kept -type f ! -perm "$files")" ]
+        is "umask $mask: folders" [ -z "$(find shared/kept -type d ! -perm "$folders")" ]
+        is "umask $mask: something is kept" [ -n "$(find shared/kept/entries -type f)" ]
+        is "umask $mask: the object" [ "$(stat -c %a masked.o)" = 644 ]
+    done
+    rm -rf shared
+}
+
 habits_variables() {
     local value dir=$PWD
     for value in 1 yes true on; do
@@ -276,6 +302,7 @@ habits_variables() {
         is "$value=maybe: message" grep -q "^gulmaat: $value: .* is maybe: set it to 1, yes, true or on" messages
         refused "$value=maybe: -p" "is maybe" env $value=maybe "$host" -p
     done
+    habits_umask
     counts "GULMAAT_RECACHE=1" recache env GULMAAT_RECACHE=1 "$host" gcc -DCOUNT=1 -c it.c -o it.o
     counts "GULMAAT_RECACHE=0" preprocessed_cache_hit env GULMAAT_RECACHE=0 "$host" gcc -DCOUNT=1 -c it.c -o it.o
     value=$(number files_in_cache)

@@ -1,5 +1,8 @@
 //! A difference of two fingerprints, told to people.
 
+ghost use Rattle.std.specs.Prelude.{◌≡◌, slice_get};
+ghost use Rattle.std.specs.Option.{option_copied};
+
 use ckeys_records::output_name::OutputName;
 use fingerprints::c_parts::CParts;
 use fingerprints::explain::explain;
@@ -66,10 +69,31 @@ impl<'a> fmt::Display for Variable<'a> {
     }
 }
 
+/// What stands in two rows behind as many items: how many those are, and the next item of each side, where it has one.
+#[derive(Drop)]
+struct Sides<T> {
+    ahead: usize,
+    here: Option<T>,
+    there: Option<T>,
+}
+
 /// How many of the first items are equal.
 fn equal_ahead<T: PartialEq>(one: &[T], earlier: &[T]) -> usize {
     let pairs = one.iter().zip(earlier.iter());
     pairs.take_while(|pair| pair.0 == pair.1).count()
+}
+
+/// The first items in which two rows differ, each of its own side.
+fn sides<'a, T: PartialEq>(one: &'a [T], earlier: &'a [T]) -> Sides<&'a T>
+    ensures here { option_copied result.here ≡ slice_get one.now result.ahead }
+    ensures there { option_copied result.there ≡ slice_get earlier.now result.ahead }
+{
+    let ahead = equal_ahead(one, earlier);
+    Sides {
+        ahead,
+        here: one.get(ahead),
+        there: earlier.get(ahead),
+    }
 }
 
 /// What stands in the first line in which two texts differ.
@@ -101,10 +125,10 @@ fn write_first<W: fmt::Write>(
     one: &[OsBytes],
     earlier: &[OsBytes],
 ) -> fmt::Result {
-    let ahead = equal_ahead(one, earlier);
-    let number = ahead.saturating_add(1);
-    let here = OrNone(one.get(ahead));
-    let there = OrNone(earlier.get(ahead));
+    let sides = sides(one, earlier);
+    let number = sides.ahead.saturating_add(1);
+    let here = OrNone(sides.here);
+    let there = OrNone(sides.there);
     write!(f, "{what} {number}: {here}, earlier {there}")
 }
 
@@ -113,9 +137,9 @@ fn write_variables<W: fmt::Write>(
     one: &[(OsBytes, OsBytes)],
     earlier: &[(OsBytes, OsBytes)],
 ) -> fmt::Result {
-    let ahead = equal_ahead(one, earlier);
-    let here = OrNone(one.get(ahead).map(|pair| Variable(pair)));
-    let there = OrNone(earlier.get(ahead).map(|pair| Variable(pair)));
+    let sides = sides(one, earlier);
+    let here = OrNone(sides.here.map(|pair| Variable(pair)));
+    let there = OrNone(sides.there.map(|pair| Variable(pair)));
     write!(f, "variable: {here}, earlier {there}")
 }
 
@@ -124,9 +148,9 @@ fn write_env_deps<W: fmt::Write>(
     one: &[EnvDep],
     earlier: &[EnvDep],
 ) -> fmt::Result {
-    let ahead = equal_ahead(one, earlier);
-    let here = OrNone(one.get(ahead).map(|dep| Named(dep)));
-    let there = OrNone(earlier.get(ahead).map(|dep| Named(dep)));
+    let sides = sides(one, earlier);
+    let here = OrNone(sides.here.map(|dep| Named(dep)));
+    let there = OrNone(sides.there.map(|dep| Named(dep)));
     write!(f, "variable of the source: {here}, earlier {there}")
 }
 
@@ -135,10 +159,10 @@ fn write_names<W: fmt::Write>(
     one: &[OutputName],
     earlier: &[OutputName],
 ) -> fmt::Result {
-    let ahead = equal_ahead(one, earlier);
-    let number = ahead.saturating_add(1);
-    let here = OrNone(one.get(ahead).map(|name| Marked(name)));
-    let there = OrNone(earlier.get(ahead).map(|name| Marked(name)));
+    let sides = sides(one, earlier);
+    let number = sides.ahead.saturating_add(1);
+    let here = OrNone(sides.here.map(|name| Marked(name)));
+    let there = OrNone(sides.there.map(|name| Marked(name)));
     write!(f, "output {number}: {here}, earlier {there}")
 }
 
@@ -178,18 +202,20 @@ fn write_c<W: fmt::Write>(
         Part::Assembler => write_optional(f, part, &one.assembler, &earlier.assembler),
         Part::Text => write_line(f, &one.text, &earlier.text),
         Part::Names => write_names(f, one.names.as_slice(), earlier.names.as_slice()),
-        Part::Family
-        | Part::Toolchain
-        | Part::Version
-        | Part::KeptWords
-        | Part::Sources
-        | Part::Externs
-        | Part::Archives
-        | Part::Target
-        | Part::Profile
-        | Part::EnvDeps
-        | Part::CargoPairs
-        | Part::Directory => write!(f, "{part}"),
+        // Parts of rustc, which differ in no two such requests.
+        _ => write!(f, "{part}"),
+    }
+}
+
+/// What one item is called of the row that this part of a request to rustc is, and the row.
+fn row_of(parts: &Parts, part: Part) -> Option<(&'static str, &[OsBytes])> {
+    match part {
+        Part::Toolchain => Some(("file of the toolchain", parts.toolchain.as_slice())),
+        Part::KeptWords => Some(("word", parts.words.as_slice())),
+        Part::Sources => Some(("source", parts.sources.as_slice())),
+        Part::Externs => Some(("crate", parts.externs.as_slice())),
+        Part::Archives => Some(("static library", parts.archives.as_slice())),
+        _ => None,
     }
 }
 
@@ -200,33 +226,11 @@ fn write_rustc<W: fmt::Write>(
     one: &Parts,
     earlier: &Parts,
 ) -> fmt::Result {
+    if let (Some((what, row)), Some((_, others))) = (row_of(one, part), row_of(earlier, part)) {
+        return write_first(f, what, row, others);
+    }
     match part {
-        Part::Toolchain => {
-            let others = earlier.toolchain.as_slice();
-            write_first(f, "file of the toolchain", one.toolchain.as_slice(), others)
-        }
         Part::Version => write_line(f, &one.version, &earlier.version),
-        Part::KeptWords => write_first(f, "word", one.words.as_slice(), earlier.words.as_slice()),
-        Part::Sources => {
-            write_first(
-                f,
-                "source",
-                one.sources.as_slice(),
-                earlier.sources.as_slice(),
-            )
-        }
-        Part::Externs => {
-            write_first(
-                f,
-                "crate",
-                one.externs.as_slice(),
-                earlier.externs.as_slice(),
-            )
-        }
-        Part::Archives => {
-            let others = earlier.archives.as_slice();
-            write_first(f, "static library", one.archives.as_slice(), others)
-        }
         Part::Target => write_optional(f, part, &one.target, &earlier.target),
         Part::Profile => write_optional(f, part, &one.profile, &earlier.profile),
         Part::EnvDeps => write_env_deps(f, one.env_deps.as_slice(), earlier.env_deps.as_slice()),
@@ -234,16 +238,8 @@ fn write_rustc<W: fmt::Write>(
             write_variables(f, one.variables.as_slice(), earlier.variables.as_slice())
         }
         Part::Directory => write!(f, "{part}: {}, earlier {}", one.dir, earlier.dir),
-        Part::Family
-        | Part::Compiler
-        | Part::Plusplus
-        | Part::Language
-        | Part::Words
-        | Part::Variables
-        | Part::ExtraContents
-        | Part::Assembler
-        | Part::Text
-        | Part::Names => write!(f, "{part}"),
+        // Parts of C compilers, which differ in no two such requests.
+        _ => write!(f, "{part}"),
     }
 }
 

@@ -47,18 +47,7 @@ impl CParts {
             Part::Assembler => self.assembler == other.assembler,
             Part::Text => self.text == other.text,
             Part::Names => self.names == other.names,
-            Part::Family
-            | Part::Toolchain
-            | Part::Version
-            | Part::KeptWords
-            | Part::Sources
-            | Part::Externs
-            | Part::Archives
-            | Part::Target
-            | Part::Profile
-            | Part::EnvDeps
-            | Part::CargoPairs
-            | Part::Directory => true,
+            _ => true,
         }
     }
 }

@@ -23,16 +23,7 @@ fn agree_by_rustc(one: &Parts, other: &Parts, part: Part) -> bool
         Part::EnvDeps => one.env_deps == other.env_deps,
         Part::CargoPairs => one.variables == other.variables,
         Part::Directory => one.dir == other.dir,
-        Part::Family
-        | Part::Compiler
-        | Part::Plusplus
-        | Part::Language
-        | Part::Words
-        | Part::Variables
-        | Part::ExtraContents
-        | Part::Assembler
-        | Part::Text
-        | Part::Names => true,
+        _ => true,
     }
 }
 

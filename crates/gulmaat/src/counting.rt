@@ -74,11 +74,10 @@ fn log<R: Files + Clock + AllocGlobal>(
     let executable = line.executable.as_str();
     let mut text = format!(in alloc; "{second} {counter} {time} ms: {executable}")?;
     for word in line.words.as_slice() {
-        let word = word.clone()?;
-        text.push_str(format!(in alloc; " {word}")?.as_str())?;
+        write!(text, " {word}")?;
     }
     if !reason.is_empty() {
-        text.push_str(format!(in alloc; " ({reason})")?.as_str())?;
+        write!(text, " ({reason})")?;
     }
     text.push('\n')?;
     let mut options = OpenOptions::new();
@@ -93,20 +92,22 @@ pub fn note<R: Files<File = File> + Clock + AllocGlobal>(
     line: &CommandLine,
     end: &Result<End, Stop>,
 ) -> Result<(), Stop> {
+    let is_logged = !line.settings.value_of(Key::LogFile).is_empty();
+    let is_counted = line.settings.is_on(Key::Stats);
+    if !is_logged && !is_counted {
+        return Ok(());
+    }
     let alloc = rt.alloc();
     let reason = reason_of(alloc, end)?;
     let counters = counters(alloc, line, end, reason.as_str())?;
-    let mut names = Vec::new(alloc);
-    for counter in counters.as_slice() {
-        names.push(counter.as_str())?;
-    }
-    if !line.settings.value_of(Key::LogFile).is_empty() {
-        if let Some(first) = names.first() {
-            let _ = log(rt, line, first, reason.as_str());
+    if is_logged {
+        if let Some(first) = counters.first() {
+            let _ = log(rt, line, first.as_str(), reason.as_str());
         }
     }
-    if line.settings.is_on(Key::Stats) {
-        let _ = count(rt, line.folder.path.as_str(), names.as_slice());
+    if is_counted {
+        let folder = &line.folder;
+        let _ = count(rt, folder.path.as_str(), folder.umask, counters.as_slice());
     }
     Ok(())
 }

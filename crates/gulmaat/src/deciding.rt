@@ -27,6 +27,7 @@ use wrap::{
     PreprocessorCacheEntry, Request, Step, StoreKey, Zone,
 };
 use wrapper_host::command_line::CommandLine;
+use wrapper_host::fields::into_text;
 use wrapper_host::host::Host;
 use wrapper_host::stop::Stop;
 
@@ -141,8 +142,33 @@ fn finish_record<R: Files + AllocGlobal>(
     let Some((key, entry)) = newest else {
         return Ok(folder.renew(rt, Kind::Records, name, line.moment)?);
     };
-    put_record(rt, folder, line.zone.as_str(), name, key, entry)?;
-    Ok(make_room(&rt, folder, name)?)
+    Ok(put_record(rt, folder, line.zone.as_str(), name, key, entry)?)
+}
+
+/// Keeps the record and the hint of a call that has this digest, and sees to it that the limit holds, once for all that the call put.
+fn note_call<R: Files + AllocGlobal>(
+    rt: &R,
+    line: &CommandLine,
+    hint: &str,
+    digest: &OsBytes,
+    fresh: bool,
+    newest: Option<&(EntryKey, PreprocessorCacheEntry)>,
+    name: &str,
+) -> Result<(), Stop> {
+    let digest_name = into_text(digest.clone()?)?;
+    let mut names = Vec::new(rt.alloc());
+    if fresh {
+        names.push(digest_name.as_str())?;
+        names.push(hint)?;
+    }
+    if !name.is_empty() {
+        let _ = finish_record(rt, line, newest, name);
+        if newest.is_some() {
+            names.push(name)?;
+        }
+    }
+    let _ = note_hint(rt, line, hint, digest, name);
+    Ok(make_room(&rt, &line.folder, names.as_slice())?)
 }
 
 /// Keeps outputs that were made afresh, and gives those that were kept, each with what was printed beside them.
@@ -168,14 +194,10 @@ fn finish<R: Files + AllocGlobal>(
     } else {
         let _ = renew(rt, line, &key.digest);
     }
+    let newest = answered.session.entries().newest();
     let name = known.name_to_note();
-    if !name.is_empty() {
-        let _ = finish_record(rt, line, answered.session.entries().newest(), name);
-    }
-    let _ = note_hint(rt, line, hint, &key.digest, name);
-    if fresh {
-        let _ = make_room(&rt, &line.folder, hint);
-    }
+    // What was made is there, whatever becomes of this.
+    let _ = note_call(rt, line, hint, &key.digest, fresh, newest, name);
     Ok(())
 }
 

@@ -7,7 +7,6 @@ use kept_entries::sealed::{entry_bytes, read_entry};
 use kept_folder::file_digests::digest_of;
 use kept_folder::folder::Kind;
 use kept_folder::limit::takes;
-use kept_folder::making_room::make_room;
 use kept_pairs::entries::{Kept, entry_of, kept_of};
 use os_files::os_bytes::OsBytes;
 use settings::key::Key;
@@ -131,10 +130,7 @@ pub fn keep<R: Files + AllocGlobal>(
     if !takes(folder.limit, bytes.len() as u64) {
         return Ok(());
     }
-    folder.put(rt, Kind::Entries, name.as_str(), bytes.as_slice())?;
-    // What was made is there, whatever becomes of the limit.
-    let _ = make_room(&rt, folder, name.as_str());
-    Ok(())
+    Ok(folder.put(rt, Kind::Entries, name.as_str(), bytes.as_slice())?)
 }
 
 /// Notes that what is kept under this digest was given, so that it goes last where the limit is passed.

@@ -290,7 +290,7 @@ impl Known {
         ensures { host.new.compiled ≤ 1 }
     {
         self.refuse_input(rt.alloc(), key)?;
-        if host.compiled != 0 {
+        if host.compiled() != 0 {
             return Ok(false);
         }
         self.record_outputs(rt, line, host, key, words, paths)?;

@@ -5,6 +5,7 @@ use known_options::words::unknown_word;
 use memchr::memmem;
 use os_files::os_bytes::OsBytes;
 use recorded_builds::beware::options_in;
+use statistics::calls::TO_STANDARD_OUTPUT;
 use std::alloc::Global;
 use wrapper_host::command_line::CommandLine;
 use wrapper_host::stop::Stop;
@@ -34,6 +35,24 @@ fn is_variable(name: &[u8]) -> bool {
     VARIABLES.iter().any(|variable| name == variable.as_bytes())
 }
 
+/// Whether a word is among them.
+fn has_word(words: &[OsBytes], word: &[u8]) -> bool {
+    words.iter().any(|it| it.as_bytes() == word)
+}
+
+/// Whether the words ask for an object, and for it on standard output.
+fn is_on_standard_output(words: &[OsBytes]) -> bool {
+    let behind = words.iter().skip(1);
+    let is_named = words
+        .iter()
+        .zip(behind)
+        .any(|pair| pair.0.as_bytes() == "-o".as_bytes() && pair.1.as_bytes() == "-".as_bytes());
+    (is_named || has_word(words, b"-o-"))
+        && has_word(words, b"-c")
+        && !has_word(words, b"-E")
+        && !has_word(words, b"-S")
+}
+
 /// The variable that speaks against keeping, or the option, or the word that isn't known.
 pub fn reason_against(alloc: Global, line: &CommandLine) -> Result<Option<String>, Stop> {
     for (name, value) in line.env.as_slice() {
@@ -41,6 +60,9 @@ pub fn reason_against(alloc: Global, line: &CommandLine) -> Result<Option<String
             let name = name.clone()?;
             return Ok(Some(format!(in alloc; "{name}")?));
         }
+    }
+    if is_on_standard_output(line.words.as_slice()) {
+        return Ok(Some(String::from_str(alloc, TO_STANDARD_OUTPUT)?));
     }
     let options = options_in(alloc, line.words.as_slice(), &[])?;
     match options.first() {
@@ -51,10 +73,7 @@ pub fn reason_against(alloc: Global, line: &CommandLine) -> Result<Option<String
 
 /// The first word that isn't known, where an object is asked for; any other command is the session's to pass through.
 fn unknown_in(alloc: Global, words: &[OsBytes]) -> Result<Option<String>, Stop> {
-    let asks_for_object = words
-        .iter()
-        .any(|word| matches!(word.as_bytes(), b"-c" | b"-S"));
-    if !asks_for_object {
+    if !has_word(words, b"-c") && !has_word(words, b"-S") {
         return Ok(None);
     }
     match unknown_word(alloc, words)? {

@@ -106,7 +106,7 @@ fn note_parts<R: Files + AllocGlobal>(
     let difference = difference_from(rt.alloc(), one, earlier)?;
     let kept = kept_parts(rt.alloc(), parts, difference)?;
     put_parts(rt, folder, name, &kept)?;
-    Ok(make_room(&rt, folder, name)?)
+    Ok(make_room(&rt, folder, &[name])?)
 }
 
 /// Keeps of what the key of a request was made that was compiled, by its fingerprint, and what differs from the call before it with these

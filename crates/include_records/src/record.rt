@@ -67,6 +67,13 @@ impl PreprocessorCacheEntry {
         self.includes
     }
 
+    /// Its results, in the order of their keys.
+    pub fn results(&self) -> &[CachedResult]
+        ensures { result.now ≡ self.now.results }
+    {
+        self.results.as_slice()
+    }
+
     /// Puts the files of a text under its key, over those that were there. Where more than 100 results stand, or all includes
     /// with the new ones pass 10000, the record starts over with this result alone.
     pub fn add_result(

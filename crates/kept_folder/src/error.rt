@@ -17,12 +17,22 @@ pub enum FolderError {
 }
 
 impl From<AllocError> for FolderError {
+    ghost use Rattle.std.specs.Prelude.{◌≡◌};
+    ghost use Rattle.kept_folder.specs.declared.error.FolderError.TheVariants.{Memory};
+
+    ghost from_gives = { λ _ e. e ≡ Memory };
+
     fn from(_error: AllocError) -> FolderError {
         FolderError::Memory
     }
 }
 
 impl<T: Drop> From<AllocFailed<T>> for FolderError {
+    ghost use Rattle.std.specs.Prelude.{◌≡◌};
+    ghost use Rattle.kept_folder.specs.declared.error.FolderError.TheVariants.{Memory};
+
+    ghost from_gives = { λ _ e. e ≡ Memory };
+
     fn from(_error: AllocFailed<T>) -> FolderError {
         FolderError::Memory
     }

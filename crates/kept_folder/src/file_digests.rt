@@ -1,9 +1,13 @@
 //! Digests of files, which are read again only where their path, size, device, inode or time isn't what it was.
 
+ghost use Rattle.std.specs.Prelude.{◌≡◌, IfOk, string_bytes};
+ghost use Rattle.ckeys_base.specs.Hex.{hex_of};
+
 use crate::error::FolderError;
 use crate::folder::{KeptFolder, Kind};
 use byte_formats::fields::{put_framed, put_number};
 use ckeys_base::digest::Digest;
+use ckeys_base::hash_state::HashState;
 use sha2::Sha256;
 use std::alloc::Global;
 use std::fs;
@@ -11,7 +15,10 @@ use std::os::unix::fs::MetadataExt;
 use std::rt::Files;
 
 /// The digest of these bytes, as text.
-pub fn digest_of(alloc: Global, bytes: &[u8]) -> Result<String, FolderError> {
+pub fn digest_of(alloc: Global, bytes: &[u8]) -> Result<String, FolderError>
+    ensures { IfOk result (λ text. string_bytes text
+        ≡ hex_of (⟦<Sha256 as HashState>⟧.digest_of bytes.now)) }
+{
     let mut digest: Digest<Sha256> = Digest::new();
     digest.update(bytes);
     Ok(digest.finish(alloc)?)

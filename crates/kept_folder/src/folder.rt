@@ -1,6 +1,7 @@
 //! Whole files in the folder, by kind and name.
 
 use crate::error::FolderError;
+use settings::rights::{give_rights, make_folders};
 use std::alloc::Global;
 use std::cell::Cell;
 use std::fs;
@@ -59,6 +60,8 @@ pub struct KeptFolder {
     pub limit: u64,
     /// Whether nothing is put here.
     pub is_read_only: bool,
+    /// The umask under which files and folders are made here; none is that of the process.
+    pub umask: Option<u32>,
     /// Whether this process took files away to hold the limit.
     pub has_made_room: Cell<bool>,
 }
@@ -78,6 +81,7 @@ impl KeptFolder {
             own,
             limit: 0,
             is_read_only: false,
+            umask: None,
             has_made_room: Cell::new(false),
         }
     }
@@ -108,8 +112,11 @@ impl KeptFolder {
         let Place { folder, file } = self.place(rt.alloc(), kind, name)?;
         let own = self.own.as_str();
         let early = format!(in rt.alloc(); "{file}.{own}")?;
-        fs::create_dir_all(rt, folder.as_str())?;
+        make_folders(rt, folder.as_str(), self.umask)?;
         let mut done = fs::write(rt, early.as_str(), bytes);
+        if done.is_ok() {
+            done = give_rights(rt, early.as_str(), self.umask);
+        }
         if done.is_ok() {
             done = fs::rename(rt, early.as_str(), file.as_str());
         }

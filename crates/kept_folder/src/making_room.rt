@@ -11,6 +11,7 @@ use crate::folder::KeptFolder;
 use crate::limit::room_within;
 use crate::listing::{KeptFile, add_row, all_files, count_that_fit, order_by_use};
 use crate::sizes::Sizes;
+use std::alloc::Global;
 use std::fs;
 use std::rt::Files;
 
@@ -35,38 +36,64 @@ fn remove<R: Files>(rt: &R, files: &[KeptFile]) {
 /// Takes away what was used least recently, until nine tenths of the limit hold the rest.
 fn make_free<R: Files + AllocGlobal + Clone + Drop>(
     rt: &R,
-    path: &str,
-    limit: u64,
+    folder: &KeptFolder,
 ) -> Result<(), FolderError> {
+    let path = folder.path.as_str();
     let mut files = all_files(rt, path)?;
     order_by_use(files.as_mut_slice());
-    let count = count_that_fit(files.as_slice(), room_within(limit));
+    let count = count_that_fit(files.as_slice(), room_within(folder.limit));
     let (stay, go) = files.as_slice().split_at(count);
     remove(rt, go);
-    Sizes::of(rt.alloc(), stay)?.write(rt, path)
+    Sizes::of(rt.alloc(), stay)?.write(rt, path, folder.umask)
 }
 
-/// The sizes, with those of this row as they are now.
-fn sizes_with_row<R: Files + AllocGlobal + Clone + Drop>(
+/// The sizes, with those of these rows as they are now.
+fn sizes_with_rows<R: Files + AllocGlobal + Clone + Drop>(
     rt: &R,
     path: &str,
-    row: u8,
+    rows: &[u8],
 ) -> Result<Sizes, FolderError> {
-    let mut files = Vec::new(rt.alloc());
-    add_row(rt, path, row, &mut files)?;
     let mut sizes = Sizes::read(rt, path)?;
-    sizes.note(rt, path, row, total_of(files.as_slice()))?;
+    for row in rows {
+        let mut files = Vec::new(rt.alloc());
+        add_row(rt, path, *row, &mut files)?;
+        sizes.note(rt, path, *row, total_of(files.as_slice()))?;
+    }
     Ok(sizes)
+}
+
+/// The row of a file of this name.
+fn row_of(name: &str) -> Result<u8, FolderError> {
+    let Some((front, _)) = name.split_at_checked(2) else {
+        return Err(FolderError::Unreadable);
+    };
+    match u8::from_str_radix(front, 16) {
+        Ok(row) => Ok(row),
+        Err(_) => Err(FolderError::Unreadable),
+    }
+}
+
+/// The rows of files of these names, each once.
+fn rows_of(alloc: Global, names: &[&str]) -> Result<Vec<u8>, FolderError> {
+    let mut rows = Vec::new(alloc);
+    for name in names {
+        let row = row_of(name)?;
+        if !rows.contains(&row) {
+            rows.push(row)?;
+        }
+    }
+    Ok(rows)
 }
 
 /// The sizes, by looking into each folder.
 fn sizes_anew<R: Files + AllocGlobal + Clone + Drop>(
     rt: &R,
-    path: &str,
+    folder: &KeptFolder,
 ) -> Result<Sizes, FolderError> {
+    let path = folder.path.as_str();
     let files = all_files(rt, path)?;
     let sizes = Sizes::of(rt.alloc(), files.as_slice())?;
-    sizes.write(rt, path)?;
+    sizes.write(rt, path, folder.umask)?;
     Ok(sizes)
 }
 
@@ -78,31 +105,26 @@ fn hold<R: Files + AllocGlobal + Clone + Drop>(
 ) -> Result<(), FolderError> {
     let limit = folder.limit;
     if limit != 0 && limit < sizes.total() {
-        make_free(rt, folder.path.as_str(), limit)?;
+        make_free(rt, folder)?;
         folder.has_made_room.set(true);
     }
     Ok(())
 }
 
-/// Sees to it that the limit holds once a file of this name was put.
+/// Sees to it that the limit holds once files of these names were put.
 pub fn make_room<R: Files + AllocGlobal + Clone + Drop>(
     rt: &R,
     folder: &KeptFolder,
-    name: &str,
+    names: &[&str],
 ) -> Result<(), FolderError> {
-    if folder.is_read_only {
+    if folder.is_read_only || names.is_empty() {
         return Ok(());
     }
-    let Some((front, _)) = name.split_at_checked(2) else {
-        return Err(FolderError::Unreadable);
-    };
-    let Ok(row) = u8::from_str_radix(front, 16) else {
-        return Err(FolderError::Unreadable);
-    };
+    let rows = rows_of(rt.alloc(), names)?;
     let path = folder.path.as_str();
-    let sizes = match sizes_with_row(rt, path, row) {
+    let sizes = match sizes_with_rows(rt, path, rows.as_slice()) {
         Ok(sizes) => sizes,
-        Err(_) => sizes_anew(rt, path)?,
+        Err(_) => sizes_anew(rt, folder)?,
     };
     hold(rt, folder, &sizes)
 }
@@ -112,22 +134,22 @@ pub fn hold_limit<R: Files + AllocGlobal + Clone + Drop>(
     rt: &R,
     folder: &KeptFolder,
 ) -> Result<(), FolderError> {
-    let sizes = sizes_anew(rt, folder.path.as_str())?;
+    let sizes = sizes_anew(rt, folder)?;
     hold(rt, folder, &sizes)
 }
 
 /// Takes away what wasn't used since that moment, in nanoseconds since 1970.
 pub fn remove_unused<R: Files + AllocGlobal + Clone + Drop>(
     rt: &R,
-    path: &str,
+    folder: &KeptFolder,
     moment: u128,
 ) -> Result<(), FolderError> {
-    for file in all_files(rt, path)? {
+    for file in all_files(rt, folder.path.as_str())? {
         if file.used < moment {
             let _ = fs::remove_file(rt, file.place.as_str());
         }
     }
-    let _sizes = sizes_anew(rt, path)?;
+    let _sizes = sizes_anew(rt, folder)?;
     Ok(())
 }
 

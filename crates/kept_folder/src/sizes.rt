@@ -7,6 +7,7 @@ ghost use Rattle.kept_folder.specs.Together.{saturated};
 use crate::error::FolderError;
 use crate::listing::KeptFile;
 use byte_formats::fields::{put_number, read_number};
+use settings::rights::give_rights;
 use std::alloc::Global;
 use std::fs;
 use std::fs::OpenOptions;
@@ -79,14 +80,24 @@ impl Sizes {
         Ok(Sizes { numbers })
     }
 
-    /// Notes all of them.
-    pub fn write<R: Files + AllocGlobal>(&self, rt: &R, path: &str) -> Result<(), FolderError> {
+    /// Notes all of them, in a file that is made under this umask where it isn't there.
+    pub fn write<R: Files + AllocGlobal>(
+        &self,
+        rt: &R,
+        path: &str,
+        umask: Option<u32>,
+    ) -> Result<(), FolderError> {
         let mut bytes = Vec::new(rt.alloc());
         for number in self.numbers.as_slice() {
             put_number(&mut bytes, *number)?;
         }
         let place = place_of(rt.alloc(), path)?;
-        Ok(fs::write(rt, place.as_str(), bytes.as_slice())?)
+        let is_new = fs::metadata(rt, place.as_str()).is_err();
+        fs::write(rt, place.as_str(), bytes.as_slice())?;
+        if is_new {
+            give_rights(rt, place.as_str(), umask)?;
+        }
+        Ok(())
     }
 
     /// Notes those of one row, and leaves the others to whoever notes them at the same time.

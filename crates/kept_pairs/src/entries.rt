@@ -1,5 +1,11 @@
 //! Kept outputs, as the session has them and as they lie on a disk.
 
+ghost use Rattle.std.specs.Prelude.{◌≡◌, map, IfErr, IfOk, IsOk};
+ghost use Rattle.kept_pairs.specs.Entries.{key_in, pair_in, pair_of, shape_in};
+ghost use Rattle.kept_pairs.specs.Parts.{name_in};
+ghost use Rattle.wrap_base.specs.declared.store_key.Family.TheVariants as families;
+ghost use Rattle.wrap_base.specs.declared.store_key.Shape.TheVariants as shapes;
+
 use ckeys_records::output_name::OutputName;
 use ckeys_records::shape::CShape;
 use kept_entries::entry::{KeptEntry, KeptMessages, KeptName, KeptOutput, KeptShape};
@@ -10,7 +16,9 @@ use wrap_base::store_key::{Family, Pairs, Shape, StoreKey};
 use wrapper_host::stop::Stop;
 
 /// The shape as it is kept.
-fn kept_shape(alloc: Global, shape: &CShape) -> Result<KeptShape, Stop> {
+fn kept_shape(alloc: Global, shape: &CShape) -> Result<KeptShape, Stop>
+    ensures { IfOk result (λ kept. shape_in kept ≡ shape.now) }
+{
     let mut extra_hashes = Listed::new(alloc);
     for length in shape.extra_hashes.as_slice() {
         extra_hashes.push(*length as u64)?;
@@ -26,7 +34,9 @@ fn kept_shape(alloc: Global, shape: &CShape) -> Result<KeptShape, Stop> {
 }
 
 /// The names as they are kept.
-fn kept_names(alloc: Global, names: &[OutputName]) -> Result<Listed<KeptName>, Stop> {
+fn kept_names(alloc: Global, names: &[OutputName]) -> Result<Listed<KeptName>, Stop>
+    ensures { IfOk result (λ kept. map name_in kept ≡ names.now) }
+{
     let mut kept = Listed::new(alloc);
     for output in names {
         let name = output.name.clone()?;
@@ -37,7 +47,9 @@ fn kept_names(alloc: Global, names: &[OutputName]) -> Result<Listed<KeptName>, S
 }
 
 /// The outputs as they are kept.
-fn kept_outputs(alloc: Global, outputs: &[Output]) -> Result<Listed<KeptOutput>, Stop> {
+fn kept_outputs(alloc: Global, outputs: &[Output]) -> Result<Listed<KeptOutput>, Stop>
+    ensures { IfOk result (λ kept. map pair_in kept ≡ map pair_of outputs.now) }
+{
     let mut kept = Listed::new(alloc);
     for output in outputs {
         let name = output.name.clone()?;
@@ -48,7 +60,10 @@ fn kept_outputs(alloc: Global, outputs: &[Output]) -> Result<Listed<KeptOutput>,
 }
 
 /// The shape that a key is kept with. A key of rustc's isn't kept.
-fn shape_in(alloc: Global, key: &StoreKey) -> Result<KeptShape, Stop> {
+fn shape_in(alloc: Global, key: &StoreKey) -> Result<KeptShape, Stop>
+    ensures family { IfOk result (λ kept. key.now.family ≡ families.C) }
+    ensures shape { IfOk result (λ kept. key.now.shape ≡ shapes.C (shape_in kept)) }
+{
     match (key.family, &key.shape) {
         (Family::C, Shape::C(shape)) => kept_shape(alloc, shape),
         _ => Err(Stop::Unreadable),
@@ -61,7 +76,12 @@ pub fn entry_of(
     key: &StoreKey,
     outputs: &[Output],
     messages: KeptMessages,
-) -> Result<KeptEntry, Stop> {
+) -> Result<KeptEntry, Stop>
+    // What is read back of it is this key and these pairs.
+    ensures key { IfOk result (λ entry. key_in entry ≡ key.now) }
+    ensures pairs { IfOk result (λ entry. map pair_in entry.outputs ≡ map pair_of outputs.now) }
+    ensures messages { IfOk result (λ entry. entry.messages ≡ messages) }
+{
     let shape = shape_in(alloc, key)?;
     let names = kept_names(alloc, key.names.as_slice())?;
     let digest = key.digest.clone()?;
@@ -76,7 +96,10 @@ pub fn entry_of(
 }
 
 /// A length that was kept.
-fn length_of(kept: u64) -> Result<usize, Stop> {
+fn length_of(kept: u64) -> Result<usize, Stop>
+    ensures length { IfOk result (λ length. length ≡ kept) }
+    ensures ok { IsOk result }
+{
     match usize::try_from(kept) {
         Ok(length) => Ok(length),
         Err(_) => Err(Stop::Unreadable),
@@ -84,7 +107,10 @@ fn length_of(kept: u64) -> Result<usize, Stop> {
 }
 
 /// The shape that was kept.
-fn shape_of(alloc: Global, kept: &KeptShape) -> Result<CShape, Stop> {
+fn shape_of(alloc: Global, kept: &KeptShape) -> Result<CShape, Stop>
+    ensures shape { IfOk result (λ shape. shape ≡ shape_in kept.now) }
+    ensures err { IfErr result (λ stop. stop ≡ Stop.Memory) }
+{
     let mut extra_hashes = Listed::new(alloc);
     for length in kept.extra_hashes.as_slice() {
         extra_hashes.push(length_of(*length)?)?;
@@ -104,7 +130,10 @@ fn shape_of(alloc: Global, kept: &KeptShape) -> Result<CShape, Stop> {
 }
 
 /// The names that were kept.
-fn names_of(alloc: Global, kept: Listed<KeptName>) -> Result<Listed<OutputName>, Stop> {
+fn names_of(alloc: Global, kept: Listed<KeptName>) -> Result<Listed<OutputName>, Stop>
+    ensures names { IfOk result (λ names. names ≡ map name_in kept) }
+    ensures err { IfErr result (λ stop. stop ≡ Stop.Memory) }
+{
     let mut names = Listed::new(alloc);
     for name in kept.into_vec() {
         let KeptName { name, optional } = name;
@@ -114,7 +143,10 @@ fn names_of(alloc: Global, kept: Listed<KeptName>) -> Result<Listed<OutputName>,
 }
 
 /// The outputs that were kept.
-fn pairs_of(alloc: Global, kept: Listed<KeptOutput>) -> Result<Pairs, Stop> {
+fn pairs_of(alloc: Global, kept: Listed<KeptOutput>) -> Result<Pairs, Stop>
+    ensures pairs { IfOk result (λ pairs. pairs ≡ map pair_in kept) }
+    ensures err { IfErr result (λ stop. stop ≡ Stop.Memory) }
+{
     let mut pairs = Listed::new(alloc);
     for output in kept.into_vec() {
         let KeptOutput { name, contents } = output;
@@ -132,7 +164,12 @@ pub struct Kept {
 }
 
 /// The key of an entry, and what was kept under it.
-pub fn kept_of(alloc: Global, entry: KeptEntry) -> Result<Kept, Stop> {
+pub fn kept_of(alloc: Global, entry: KeptEntry) -> Result<Kept, Stop>
+    ensures key { IfOk result (λ kept. kept.pair.0 ≡ key_in entry) }
+    ensures pairs { IfOk result (λ kept. kept.pair.1 ≡ map pair_in entry.outputs) }
+    ensures messages { IfOk result (λ kept. kept.messages ≡ entry.messages) }
+    ensures err { IfErr result (λ stop. stop ≡ Stop.Memory) }
+{
     let KeptEntry {
         shape,
         names,

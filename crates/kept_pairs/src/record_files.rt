@@ -1,7 +1,12 @@
 //! Records that are put in the folder and read from it. A broken or missing file is as one that isn't there.
 
+ghost use Rattle.std.specs.Prelude.{◌≡◌, IfOk, string_bytes};
+ghost use Rattle.ckeys_base.specs.Hex.{hex_of};
+ghost use Rattle.kept_pairs.specs.Records.{row_of};
+
 use crate::records::{FoundRecord, found_in, kept_of};
 use byte_formats::fields::put_framed;
+use ckeys_base::hash_state::HashState;
 use entry_keys::entry_key::EntryKey;
 use include_records::record::PreprocessorCacheEntry;
 use kept_entries::sealed::{read_record, record_bytes};
@@ -12,8 +17,11 @@ use sha2::Sha256;
 use std::alloc::Global;
 use std::rt::Files;
 
-/// The name of the record that lies under this key, of calls that told days in that zone.
-pub fn name_of_record(alloc: Global, zone: &str, key: &EntryKey) -> Result<String, FolderError> {
+/// The name of the record that lies under this key, of calls that told days in that zone: the digest of both.
+pub fn name_of_record(alloc: Global, zone: &str, key: &EntryKey) -> Result<String, FolderError>
+    ensures { IfOk result (λ name. string_bytes name
+        ≡ hex_of (⟦<Sha256 as HashState>⟧.digest_of (row_of zone.now key.now))) }
+{
     let mut row = Vec::new(alloc);
     put_framed(&mut row, zone.as_bytes())?;
     put_framed(&mut row, key.identity.as_bytes())?;

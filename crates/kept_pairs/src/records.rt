@@ -1,9 +1,10 @@
 //! What a kept record says.
 
-ghost use Rattle.std.specs.Prelude.{◌≡◌, ◌⊎◌, [], IfOk, IfSome};
-ghost use Rattle.include_records.specs.Layout.{record_bytes};
+ghost use Rattle.std.specs.Prelude.{◌≡◌, ◌⊎◌, ◌++◌, List, [], IfOk, IfSome, IsSomeAnd, OnOk};
+ghost use Rattle.include_records.specs.Layout.{IsRecord, record_bytes};
+ghost use Rattle.include_records.specs.declared.entry.CachedResult.{CachedResult};
+ghost use Rattle.kept_pairs.specs.Records.{included, names_in};
 
-use byte_formats::field::Field;
 use ckeys_base::error::Error;
 use entry_keys::entry_key::EntryKey;
 use include_records::entry::{CachedResult, IncludeEntry};
@@ -12,10 +13,10 @@ use kept_entries::kept_record::KeptRecord;
 use kept_folder::error::FolderError;
 use os_files::listed::Listed;
 use os_files::os_bytes::OsBytes;
+use rustc_options::sets::in_order;
 use std::alloc::{AllocError, Global};
-use std::collections::BTreeMap;
 
-/// A record under its key, with the names of the files that its results name, each once.
+/// A record under its key, with the names of the files that its results name, each once, in the order of their bytes.
 #[derive(Drop)]
 pub struct FoundRecord {
     pub key: EntryKey,
@@ -23,44 +24,35 @@ pub struct FoundRecord {
     pub names: Listed<OsBytes>,
 }
 
-/// Adds the names of these includes that weren't seen.
-fn add_names(
-    includes: &[IncludeEntry],
-    seen: &mut BTreeMap<OsBytes, ()>,
-    names: &mut Listed<OsBytes>,
-) -> Result<(), FolderError> {
+/// Adds the names of these includes.
+fn add_names(includes: &[IncludeEntry], names: &mut Listed<OsBytes>) -> Result<(), AllocError>
+    ensures { OnOk result (names.new ≡ names.old ++ included includes.now) }
+{
     for include in includes {
-        if !seen.contains_key(&include.path) {
-            seen.insert(include.path.clone()?, ())?;
-            names.push(include.path.clone()?)?;
-        }
+        names.push(include.path.clone()?)?;
     }
     Ok(())
 }
 
-/// The names of the files that these results name, each once.
-fn names_in(alloc: Global, results: &[CachedResult]) -> Result<Listed<OsBytes>, FolderError> {
-    let mut seen = BTreeMap::new(alloc);
+/// The names of the files that these results name, each once, in the order of their bytes.
+fn names_in(alloc: Global, results: &[CachedResult]) -> Result<Listed<OsBytes>, AllocError>
+    ensures { IfOk result (λ names. names ≡ names_in results.now) }
+{
     let mut names = Listed::new(alloc);
     for result in results {
-        add_names(result.includes.as_slice(), &mut seen, &mut names)?;
+        add_names(result.includes.as_slice(), &mut names)?;
     }
-    Ok(names)
-}
-
-/// The names that stand in the bytes of a record.
-fn names_read(alloc: Global, bytes: &[u8]) -> Result<Listed<OsBytes>, FolderError> {
-    let Some((_, rest)) = bytes.split_first() else {
-        return Ok(Listed::new(alloc));
-    };
-    let (results, _) = Listed::<CachedResult>::read(alloc, rest)?;
-    names_in(alloc, results.as_slice())
+    in_order(alloc, names)
 }
 
 /// The record whose bytes these are. `None` where they are those of none.
 fn entry_read(alloc: Global, bytes: &[u8]) -> Result<Option<PreprocessorCacheEntry>, FolderError>
-    ensures { IfOk result (λ found. IfSome found (λ entry. (bytes.now ≡ record_bytes entry.results)
+    ensures found { IfOk result
+        (λ found. IfSome found (λ entry. (bytes.now ≡ record_bytes entry.results)
         ⊎ ((bytes.now ≡ []) × (entry.results ≡ [])))) }
+    ensures only { (results : List CachedResult) → IsRecord results →
+        bytes.now ≡ record_bytes results →
+        IfOk result (λ found. IsSomeAnd found (λ entry. entry.results ≡ results)) }
 {
     match PreprocessorCacheEntry::read(alloc, bytes) {
         Ok(entry) => Ok(Some(entry)),
@@ -76,6 +68,12 @@ pub fn found_in(alloc: Global, kept: KeptRecord) -> Result<Option<FoundRecord>, 
     ensures entry { IfOk result (λ found. IfSome found (λ f.
         (kept.results ≡ record_bytes f.entry.results)
         ⊎ ((kept.results ≡ []) × (f.entry.results ≡ [])))) }
+    // What was written for a record is that record.
+    ensures only { (results : List CachedResult) → IsRecord results →
+        kept.results ≡ record_bytes results →
+        IfOk result (λ found. IsSomeAnd found (λ f. f.entry.results ≡ results)) }
+    // The names are those of all results, each once.
+    ensures names { IfOk result (λ found. IfSome found (λ f. f.names ≡ names_in f.entry.results)) }
 {
     let KeptRecord {
         zone,
@@ -87,7 +85,7 @@ pub fn found_in(alloc: Global, kept: KeptRecord) -> Result<Option<FoundRecord>, 
     let Some(entry) = entry_read(alloc, results.as_bytes())? else {
         return Ok(None);
     };
-    let names = names_read(alloc, results.as_bytes())?;
+    let names = names_in(alloc, entry.results())?;
     let key = EntryKey { identity, key };
     Ok(Some(FoundRecord { key, entry, names }))
 }

@@ -174,3 +174,11 @@ pointwise_is same is (x ∷ xs) (y ∷ ys) h =
 -- words are equal where their bytes are
 pub words_are : (xs ys : List Bytes) → pointwise (pointwise nat_eq) xs ys ≡ true → xs ≡ ys
 words_are xs ys h = pointwise_is (pointwise nat_eq) (λ v w e. pointwise_is nat_eq (λ m n d. eqb-true m n d) v w e) xs ys h
+
+pointwise_own : {A : Type 0} (same : A → A → Bool) → ((x : A) → same x x ≡ true) → (xs : List A) → pointwise same xs xs ≡ true
+pointwise_own same own [] = refl
+pointwise_own same own (x ∷ xs) = and_from (same x x) (pointwise same xs xs) (own x) (pointwise_own same own xs)
+
+-- and the other way round
+pub words_alike : (xs ys : List Bytes) → xs ≡ ys → pointwise (pointwise nat_eq) xs ys ≡ true
+words_alike xs ys e = rw e (pointwise_own (pointwise nat_eq) (λ v. pointwise_own nat_eq (λ m. eq-eqb m m refl) v) ys)

@@ -2,3 +2,4 @@ pub mod SameAsked
 pub mod Recorded
 pub mod Snapshots
 pub mod Worlds
+pub mod Known

@@ -1,7 +1,11 @@
 //! A store that remembers for which key it was asked last.
 
-ghost use Rattle.std.specs.Prelude.{◌≡◌, None, IfOk};
+ghost use Rattle.std.specs.Prelude.{◌≡◌, None, IfOk, IfSome};
+ghost use Rattle.std.specs.Borrow.{sem};
+ghost use Rattle.std.specs.Io.BufRead.{Rests};
 ghost use Rattle.std.specs.Option.{option_copied};
+ghost use Rattle.ckeys_base.specs.Shelf.{Asks, Puts};
+ghost use Rattle.replay.specs.contracts.asked_store.AskedStore.{the_row};
 
 use ckeys_records::output_name::OutputName;
 use ckeys_records::shape::CShape;
@@ -98,7 +102,8 @@ impl<O: Store<StoreKey, Pairs>> AskedStore<O> {
     }
 
     fn remember(&mut self, key: &StoreKey)
-        ensures { self.new.inner ≡ self.old.inner }
+        ensures inner { self.new.inner ≡ self.old.inner }
+        ensures asked { IfSome self.new.asked (λ asked. asked ≡ key.now) }
     {
         self.asked = key_again(self.alloc, key).ok();
     }
@@ -109,12 +114,21 @@ impl<O: Store<StoreKey, Pairs>> Store<StoreKey, Pairs> for AskedStore<O> {
 
     ghost respects = { λ s a b e. O.respects s.inner a b e };
 
-    fn get(&mut self, key: &StoreKey) -> Option<&Pairs> {
+    fn get(&mut self, key: &StoreKey) -> Option<&Pairs>
+        // The key is noted, or none where memory for a copy was refused.
+        ensures* after_borrow { sem 𝓛 (Rests (the_row O.row) self.entry
+            (λ new. Asks (O.shelf self.old.inner) (O.shelf new.inner) key.now (option_copied result)
+            × IfSome new.asked (λ asked. asked ≡ key.now))) }
+    {
         self.remember(key);
         self.inner.get(key)
     }
 
-    fn put(&mut self, key: StoreKey, value: Pairs) -> Result<(), (StoreKey, Pairs)> {
+    fn put(&mut self, key: StoreKey, value: Pairs) -> Result<(), (StoreKey, Pairs)>
+        ensures stored { Puts ⟦<StoreKey as PartialEq>⟧.eq (O.shelf self.old.inner)
+            (O.shelf self.new.inner) key value result }
+        ensures asked { self.new.asked ≡ self.old.asked }
+    {
         self.inner.put(key, value)
     }
 

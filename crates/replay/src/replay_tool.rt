@@ -1,8 +1,10 @@
 //! A tool that runs nothing: it gives recorded answers, and remembers the command of which it has none.
 
-ghost use Rattle.std.specs.Prelude.{◌≡◌, true, [], ◌∷◌, Some, None, IfOk};
+ghost use Rattle.std.specs.Prelude.{◌≡◌, ◌⊎◌, true, [], ◌∷◌, Some, None, IfOk, IsErrOf};
 ghost use Rattle.os_files.specs.Bytes.{ticked};
-ghost use Rattle.replay.specs.Recorded.{Wants, paths_in, recorded, same_outputs};
+ghost use Rattle.ckeys_records.specs.Meaning.{asked_of, made_of, names_of};
+ghost use Rattle.wrap_base.specs.AskedBy.{asked_by};
+ghost use Rattle.replay.specs.Recorded.{Wants, made_for, paths_in, printed_for, recorded, same_outputs};
 
 use ckeys_records::output_name::OutputName;
 use rustkeys::answers::RustcAnswers;
@@ -118,14 +120,16 @@ fn made_again(alloc: Global, made: &Compiled) -> Result<Compiled, AllocError>
 
 /// Whether they are the same words.
 fn same_words(words: &Listed<OsBytes>, other: &Listed<OsBytes>) -> bool
-    ensures { result ≡ true → words.now ≡ other.now }
+    ensures same { result ≡ true → words.now ≡ other.now }
+    ensures own { words.now ≡ other.now → result ≡ true }
 {
     *words == *other
 }
 
 /// Whether it is the C compiler of that kind, and not rustc.
 fn is_of(kind: Option<CCompilerKind>, own: CCompilerKind) -> bool
-    ensures { result ≡ true → kind ≡ Some own }
+    ensures same { result ≡ true → kind ≡ Some own }
+    ensures own { kind ≡ Some own → result ≡ true }
 {
     match kind {
         Some(kind) => kind == own,
@@ -155,7 +159,8 @@ fn have_names(outputs: &[(OsBytes, ArtifactDescriptor)], names: &[OutputName]) -
 impl RecordedText {
     /// Whether it is the answer to these words.
     fn answers(&self, kind: CCompilerKind, words: &Listed<OsBytes>) -> bool
-        ensures { result ≡ true → (self.now.kind ≡ kind) × (self.now.words ≡ words.now) }
+        ensures same { result ≡ true → (self.now.kind ≡ kind) × (self.now.words ≡ words.now) }
+        ensures own { self.now.kind ≡ kind → self.now.words ≡ words.now → result ≡ true }
     {
         self.kind == kind && same_words(&self.words, words)
     }
@@ -169,8 +174,10 @@ impl RecordedOutputs {
         words: &Listed<OsBytes>,
         outputs: &[(OsBytes, ArtifactDescriptor)],
     ) -> bool
-        ensures { result ≡ true → (kind ≡ Some self.now.kind) × (self.now.words ≡ words.now)
-            × (same_outputs outputs.now self.now.names ≡ true) }
+        ensures same { result ≡ true → (kind ≡ Some self.now.kind)
+            × (self.now.words ≡ words.now) × (same_outputs outputs.now self.now.names ≡ true) }
+        ensures own { kind ≡ Some self.now.kind → self.now.words ≡ words.now
+            → same_outputs outputs.now self.now.names ≡ true → result ≡ true }
     {
         is_of(kind, self.kind)
             && same_words(&self.words, words)
@@ -241,9 +248,35 @@ impl Preprocessor for ReplayTool {
         alloc: Global,
         kind: CCompilerKind,
         command: &SingleCompileCommand,
-        _files: &mut F,
+        files: &mut F,
         _moment: i64,
-    ) -> Result<Printed, ToolFail> {
+    ) -> Result<Printed, ToolFail>
+        ensures answer { IfOk result
+            (λ p. made_of p.status (Some p.text ∷ [])
+            ≡ printed_for self.old.text (asked_of kind command.now.arguments)) }
+        ensures meaning { recorded self.new.text self.new.outputs
+            ≡ recorded self.old.text self.old.outputs }
+        ensures tree { F.tree files.new ≡ F.tree files.old }
+        ensures device { IsErrOf result ToolFail.Device
+            → (self.new.failed ≡ ticked self.old.failed) × Wants Step.Preprocess self.new.wanted }
+        ensures files_device { IsErrOf result ToolFail.Device
+            → (F.failed files.new ≡ F.failed files.old)
+            ⊎ (F.failed files.new ≡ ticked (F.failed files.old)) }
+        ensures steady { (IsErrOf result ToolFail.Device → ⊥)
+            → (self.new.failed ≡ self.old.failed) × (F.failed files.new ≡ F.failed files.old) }
+        ensures runs { self.new.preprocessed ≡ ticked self.old.preprocessed }
+        ensures compiles { self.new.compiled ≡ self.old.compiled }
+
+        // What was recorded stays, and is given for its compiler and its words.
+        ensures recorded { (self.new.text ≡ self.old.text)
+            × (self.new.outputs ≡ self.old.outputs) }
+        ensures given { (r : RecordedText) → self.old.text ≡ Some r → r.kind ≡ kind
+            → r.words ≡ command.now.arguments → IsErrOf result ToolFail.Device → ⊥ }
+        // What is lacking is this command.
+        ensures lacking { IsErrOf result ToolFail.Device → self.new.wanted
+            ≡ Some (record { step = Step.Preprocess; words = command.now.arguments; paths = [] }) }
+    {
+        let _ = files;
         self.preprocessed = self.preprocessed.wrapping_add(1);
         if let Some(recorded) = &self.text {
             if recorded.answers(kind, &command.arguments) {
@@ -302,9 +335,38 @@ impl Tool for ReplayTool {
         kind: Option<CCompilerKind>,
         command: &SingleCompileCommand,
         outputs: &[(OsBytes, ArtifactDescriptor)],
-        _files: &mut F,
+        files: &mut F,
         _moment: i64,
-    ) -> Result<Compiled, ToolFail> {
+    ) -> Result<Compiled, ToolFail>
+        ensures answer { IfOk result
+            (λ made. made_of made.status made.contents
+            ≡ made_for self.old.outputs (asked_by kind command.now.arguments)
+            (names_of outputs.now)) }
+        ensures meaning { recorded self.new.text self.new.outputs
+            ≡ recorded self.old.text self.old.outputs }
+        ensures tree { F.tree files.new ≡ F.tree files.old }
+        ensures device { IsErrOf result ToolFail.Device
+            → (self.new.failed ≡ ticked self.old.failed) × Wants Step.Compile self.new.wanted }
+        ensures files_device { IsErrOf result ToolFail.Device
+            → (F.failed files.new ≡ F.failed files.old)
+            ⊎ (F.failed files.new ≡ ticked (F.failed files.old)) }
+        ensures steady { (IsErrOf result ToolFail.Device → ⊥)
+            → (self.new.failed ≡ self.old.failed) × (F.failed files.new ≡ F.failed files.old) }
+        ensures runs { self.new.compiled ≡ ticked self.old.compiled }
+        ensures preprocesses { self.new.preprocessed ≡ self.old.preprocessed }
+
+        // What was recorded stays, and is given for its compiler, its words and its outputs' names.
+        ensures recorded { (self.new.text ≡ self.old.text)
+            × (self.new.outputs ≡ self.old.outputs) }
+        ensures given { (r : RecordedOutputs) → self.old.outputs ≡ Some r → kind ≡ Some r.kind
+            → r.words ≡ command.now.arguments → same_outputs outputs.now r.names ≡ true
+            → IsErrOf result ToolFail.Device → ⊥ }
+        // What is lacking is this command, with the paths where its outputs go.
+        ensures lacking { IsErrOf result ToolFail.Device → self.new.wanted
+            ≡ Some (record {
+                step = Step.Compile; words = command.now.arguments; paths = paths_in outputs.now }) }
+    {
+        let _ = files;
         self.compiled = self.compiled.wrapping_add(1);
         if let Some(recorded) = &self.outputs {
             if recorded.answers(kind, &command.arguments, outputs) {

@@ -1,18 +1,21 @@
 //! One call of a session over recorded answers: what it answers holds of every world that gives them.
 
 ghost use Rattle.std.specs.Prelude.{◌≡◌, List, [], ◌∷◌, ◌++◌, OnOk, OnErr, IsErrOf};
+ghost use Rattle.os_files.specs.Views.{FilesFail};
 ghost use Rattle.ckeys_records.specs.Meaning.{Meaning};
+ghost use Rattle.ckeys_records.specs.Views.{ToolFails};
 ghost use Rattle.wrap.specs.Account.{Account, account_at};
-ghost use Rattle.wrap.specs.Answers.{Answers};
-ghost use Rattle.wrap.specs.Asking.{RecordsAreTrue};
+ghost use Rattle.wrap.specs.Answers.{Answers, GoesOn, SaysBy};
+ghost use Rattle.wrap.specs.Asking.{AskedTurn, RecordsAreTrue, shelves_of};
 ghost use Rattle.wrap.specs.StoreKeys.{Invariant, Premises};
+ghost use Rattle.replay.specs.Recorded.{recorded};
 ghost use Rattle.replay.specs.Worlds.{GivesTo};
 
 use crate::replay_tool::ReplayTool;
 use wrap::laws::store_keys_tell_records;
 use wrap::{
-    Answer, EntryKey, Fault, Files, HashState, Pairs, PreprocessorCacheEntry, Request, Session,
-    Store, StoreKey,
+    Answer, EntryKey, Fault, Files, HashState, Pairs, Preprocessor, PreprocessorCacheEntry,
+    Request, Session, Store, StoreKey,
 };
 
 /// Answers one request by recorded answers. A fault of the tool in a step comes with the command that it lacks.
@@ -47,6 +50,26 @@ pub fn replayed<
         → (earlier : List Account)
         → Invariant H.digest_of earlier (O.shelf session.old.objects).held
         → Invariant H.digest_of (earlier ++ a ∷ []) (O.shelf session.new.objects).held }
+
+    // It is passed through exactly where the verdict says, unless memory was refused first; a fault has its cause.
+    ensures says { let a = account_at (recorded tool.old.text tool.old.outputs) (F.tree files.old)
+            session.old.settings request.now in
+        SaysBy GoesOn a (FilesFail F.Files files.old files.new)
+        (ToolFails ⟦<ReplayTool as Preprocessor>⟧ tool.old tool.new) result }
+
+    // Under which key it asks the store of outputs, what it does to that, and where outputs come from.
+    ensures asked { let tools = ⟦<ReplayTool as Preprocessor>⟧ in
+        let a = account_at (recorded tool.old.text tool.old.outputs) (F.tree files.old)
+            session.old.settings request.now in
+        AskedTurn H.digest_of session.old.max_kept a
+        (shelves_of (E.shelf session.old.entries) (O.shelf session.old.objects))
+        (shelves_of (E.shelf session.new.entries) (O.shelf session.new.objects))
+        (tools.preprocessed tool.old) (tools.preprocessed tool.new) (tools.compiled tool.old)
+        (tools.compiled tool.new) result }
+
+    // What was recorded means what it did.
+    ensures meaning { recorded tool.new.text tool.new.outputs
+        ≡ recorded tool.old.text tool.old.outputs }
 
     ensures settings { (session.new.settings ≡ session.old.settings)
         × (session.new.max_kept ≡ session.old.max_kept) }

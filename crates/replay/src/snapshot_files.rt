@@ -1,10 +1,11 @@
 //! Files that are loaded as they are asked for.
 
-ghost use Rattle.std.specs.Prelude.{◌≡◌, [], None, Some, OnOk, OnErr, IsErrOf, if◌then◌else◌};
+ghost use Rattle.std.specs.Prelude.{◌≡◌, ◌||◌, false, [], None, Some, OnOk, OnErr, IsErrOf, if◌then◌else◌};
 ghost use Rattle.std.specs.Option.{option_copied, option_map};
 ghost use Rattle.std.specs.Str.{bytes_eq};
 ghost use Rattle.os_files.specs.Bytes.{Bytes, ticked};
 ghost use Rattle.os_files.specs.Tree.{node_at};
+ghost use Rattle.replay.specs.Known.{KnowsAlike, is_known};
 ghost use Rattle.replay.specs.Snapshots.{node_of, tree_of};
 
 use std::alloc::{AllocError, Global};
@@ -56,6 +57,9 @@ impl SnapshotFiles {
             → node_at (tree_of self.new.loaded.entries) name
             ≡ (if bytes_eq path name then Some (node_of file)
             else node_at (tree_of self.old.loaded.entries) name)) }
+        ensures known { OnOk result
+            ((name : Bytes)
+            → is_known self.new name ≡ (bytes_eq path name || is_known self.old name)) }
         ensures err { OnErr result
             (tree_of self.new.loaded.entries ≡ tree_of self.old.loaded.entries) }
     {
@@ -65,7 +69,10 @@ impl SnapshotFiles {
 
     /// Loads a name under which nothing was found. A file that was loaded under it stays.
     pub fn load_absent(&mut self, path: OsBytes) -> Result<(), AllocError>
-        ensures { self.new.loaded ≡ self.old.loaded }
+        ensures tree { tree_of self.new.loaded.entries ≡ tree_of self.old.loaded.entries }
+        ensures known { OnOk result
+            ((name : Bytes)
+            → is_known self.new name ≡ (bytes_eq path name || is_known self.old name)) }
     {
         self.absent.insert(path, ())?;
         Ok(())
@@ -82,6 +89,7 @@ impl SnapshotFiles {
     /// Remembers the name, and fails.
     fn want(&mut self, path: &OsBytes) -> FileFail
         ensures loaded { self.new.loaded ≡ self.old.loaded }
+        ensures absent { self.new.absent ≡ self.old.absent }
         ensures device { result ≡ FileFail.Device
             → (self.new.failed ≡ ticked self.old.failed) × (self.new.wanted ≡ Some path.now) }
         ensures memory { result ≡ FileFail.Memory → self.new.failed ≡ self.old.failed }
@@ -99,6 +107,8 @@ impl SnapshotFiles {
     /// Fails where the name isn't loaded.
     fn look_for(&mut self, path: &OsBytes) -> Result<(), FileFail>
         ensures loaded { self.new.loaded ≡ self.old.loaded }
+        ensures absent { self.new.absent ≡ self.old.absent }
+        ensures unknown { IsErrOf result FileFail.Device → is_known self.old path.now ≡ false }
         ensures device { IsErrOf result FileFail.Device
             → (self.new.failed ≡ ticked self.old.failed) × (self.new.wanted ≡ Some path.now) }
         ensures steady { (IsErrOf result FileFail.Device → ⊥) → self.new.failed ≡ self.old.failed }
@@ -115,8 +125,9 @@ impl Files for SnapshotFiles {
 
     ghost failed = { λ files. files.failed };
 
-    /// The name is remembered.
-    ghost fails_on = { λ _ path new. new.wanted ≡ Some path };
+    /// The name is remembered. Nothing was loaded of it, and what is loaded stays.
+    ghost fails_on = { λ old path new. (new.wanted ≡ Some path) × (is_known old path ≡ false)
+        × KnowsAlike old new };
 
     fn read(&mut self, _alloc: Global, path: &OsBytes) -> Result<Option<OsBytes>, FileFail> {
         self.look_for(path)?;

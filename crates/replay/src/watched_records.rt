@@ -1,7 +1,11 @@
 //! A store of include records that remembers for which key it was asked last, and what was put last.
 
 ghost use Rattle.std.specs.Prelude.{◌≡◌, None, IfOk, IfSome};
+ghost use Rattle.std.specs.Borrow.{sem};
+ghost use Rattle.std.specs.Io.BufRead.{Rests};
 ghost use Rattle.std.specs.Option.{option_copied};
+ghost use Rattle.ckeys_base.specs.Shelf.{Asks, Puts};
+ghost use Rattle.replay.specs.contracts.watched_records.WatchedRecords.{the_row};
 
 use std::alloc::AllocError;
 use wrap::{EntryKey, PreprocessorCacheEntry, Store};
@@ -66,6 +70,7 @@ impl<E: Store<EntryKey, PreprocessorCacheEntry>> WatchedRecords<E> {
     fn note_asked(&mut self, key: &EntryKey)
         ensures inner { self.new.inner ≡ self.old.inner }
         ensures asked { IfSome self.new.asked (λ asked. asked ≡ key.now) }
+        ensures newest { self.new.newest ≡ self.old.newest }
     {
         self.asked = key_again(key).ok();
     }
@@ -73,6 +78,7 @@ impl<E: Store<EntryKey, PreprocessorCacheEntry>> WatchedRecords<E> {
     fn note_put(&mut self, key: &EntryKey, entry: &PreprocessorCacheEntry)
         ensures inner { self.new.inner ≡ self.old.inner }
         ensures newest { IfSome self.new.newest (λ newest. newest ≡ (key.now, entry.now)) }
+        ensures asked { self.new.asked ≡ self.old.asked }
     {
         self.newest = pair_again(key, entry).ok();
     }
@@ -84,7 +90,12 @@ impl<E: Store<EntryKey, PreprocessorCacheEntry>> Store<EntryKey, PreprocessorCac
 
     ghost respects = { λ s a b e. E.respects s.inner a b e };
 
-    fn get(&mut self, key: &EntryKey) -> Option<&PreprocessorCacheEntry> {
+    fn get(&mut self, key: &EntryKey) -> Option<&PreprocessorCacheEntry>
+        // The key is noted, or none where memory for a copy was refused.
+        ensures* after_borrow { sem 𝓛 (Rests (the_row E.row) self.entry
+            (λ new. Asks (E.shelf self.old.inner) (E.shelf new.inner) key.now (option_copied result)
+            × IfSome new.asked (λ asked. asked ≡ key.now) × (new.newest ≡ self.old.newest))) }
+    {
         self.note_asked(key);
         self.inner.get(key)
     }
@@ -93,7 +104,13 @@ impl<E: Store<EntryKey, PreprocessorCacheEntry>> Store<EntryKey, PreprocessorCac
         &mut self,
         key: EntryKey,
         value: PreprocessorCacheEntry,
-    ) -> Result<(), (EntryKey, PreprocessorCacheEntry)> {
+    ) -> Result<(), (EntryKey, PreprocessorCacheEntry)>
+        ensures stored { Puts ⟦<EntryKey as PartialEq>⟧.eq (E.shelf self.old.inner)
+            (E.shelf self.new.inner) key value result }
+        // The pair is noted, or none where memory for a copy was refused.
+        ensures newest { IfSome self.new.newest (λ newest. newest ≡ (key, value)) }
+        ensures asked { self.new.asked ≡ self.old.asked }
+    {
         self.note_put(&key, &value);
         self.inner.put(key, value)
     }

@@ -1,6 +1,6 @@
 //! The keys that can be set.
 
-use crate::values::{size_named, truth_named};
+use crate::values::{mask_named, size_named, truth_named};
 
 /// A key, with ccache's name where it means the same.
 #[derive(Clone, Copy, PartialEq, Eq)]
@@ -23,6 +23,8 @@ pub enum Key {
     Recache,
     /// Whether calls are counted.
     Stats,
+    /// The umask under which files and folders of what is kept are made; that of the process where it is empty.
+    Umask,
 }
 
 /// What the values of a key are.
@@ -34,11 +36,13 @@ pub enum Kind {
     Path,
     /// Absolute paths with colons between them, or nothing.
     Paths,
+    /// A umask, or nothing.
+    Mask,
 }
 
 impl Key {
     /// All of them, in the order of their names.
-    pub const ALL: [Key; 9] = [
+    pub const ALL: [Key; 10] = [
         Key::BaseDir,
         Key::CacheDir,
         Key::DirectMode,
@@ -48,6 +52,7 @@ impl Key {
         Key::ReadOnly,
         Key::Recache,
         Key::Stats,
+        Key::Umask,
     ];
 
     /// Its name in a file.
@@ -62,6 +67,7 @@ impl Key {
             Key::ReadOnly => "read_only",
             Key::Recache => "recache",
             Key::Stats => "stats",
+            Key::Umask => "umask",
         }
     }
 
@@ -77,13 +83,14 @@ impl Key {
             Key::ReadOnly => "GULMAAT_READONLY",
             Key::Recache => "GULMAAT_RECACHE",
             Key::Stats => "GULMAAT_STATS",
+            Key::Umask => "GULMAAT_UMASK",
         }
     }
 
     /// Its value where none is set.
     pub fn usual(self) -> &'static str {
         match self {
-            Key::BaseDir | Key::CacheDir | Key::LogFile => "",
+            Key::BaseDir | Key::CacheDir | Key::LogFile | Key::Umask => "",
             Key::DirectMode | Key::Disable | Key::ReadOnly | Key::Recache => "false",
             Key::MaxSize => "5G",
             Key::Stats => "true",
@@ -96,6 +103,7 @@ impl Key {
             Key::BaseDir => Kind::Paths,
             Key::CacheDir | Key::LogFile => Kind::Path,
             Key::MaxSize => Kind::Size,
+            Key::Umask => Kind::Mask,
             Key::DirectMode | Key::Disable | Key::ReadOnly | Key::Recache | Key::Stats =>
                 Kind::Truth,
         }
@@ -121,6 +129,7 @@ impl Kind {
                 "a whole number with k, M, G, T, Ki, Mi, Gi or Ti behind it, or none for G; 0 is no limit",
             Kind::Path => "an absolute path",
             Kind::Paths => "absolute paths with colons between them",
+            Kind::Mask => "an octal number up to 777",
         }
     }
 
@@ -131,6 +140,7 @@ impl Kind {
             Kind::Size => size_named(text).is_some(),
             Kind::Path => is_path(text),
             Kind::Paths => text.split(':').all(is_path),
+            Kind::Mask => text.is_empty() || mask_named(text).is_some(),
         }
     }
 }

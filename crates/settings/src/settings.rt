@@ -2,7 +2,7 @@
 
 use crate::error::SettingsError;
 use crate::key::Key;
-use crate::values::{size_named, truth_named};
+use crate::values::{mask_named, size_named, truth_named};
 use std::alloc::{AllocError, Global};
 
 /// A value that was set, and where: a variable or a file.
@@ -56,6 +56,11 @@ impl Settings {
     /// How many bytes are kept at most; 0 is no limit.
     pub fn max_size(&self) -> u64 {
         size_named(self.value_of(Key::MaxSize)).unwrap_or(0)
+    }
+
+    /// The umask under which files and folders of what is kept are made; none is that of the process.
+    pub fn umask(&self) -> Option<u32> {
+        mask_named(self.value_of(Key::Umask))
     }
 
     /// Sets a key that isn't set yet: what was set first holds. Refuses what is no value of it.

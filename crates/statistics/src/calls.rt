@@ -28,6 +28,9 @@ const BEGINNINGS: [(&str, &str); 14] = [
     ),
 ];
 
+/// Why a call is passed through whose object goes to standard output.
+pub const TO_STANDARD_OUTPUT: &str = "-o -";
+
 /// Whether a word is there that is no option.
 fn has_input(words: &[OsBytes]) -> bool {
     words.iter().any(|it| !it.as_bytes().starts_with(b"-"))
@@ -75,6 +78,8 @@ fn of_pass(
         counters.push(String::from_str(alloc, without_object(words))?)?;
     } else if why == "-E" {
         counters.push(String::from_str(alloc, "called_for_preprocessing")?)?;
+    } else if why == TO_STANDARD_OUTPUT {
+        counters.push(String::from_str(alloc, "output_to_stdout")?)?;
     } else if why == "-" {
         counters.push(String::from_str(alloc, "uncacheable_standard_input")?)?;
     } else if why.starts_with('-') || why.starts_with('@') {

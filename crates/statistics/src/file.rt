@@ -5,6 +5,7 @@ use crate::counts::Counts;
 use crate::error::StatisticsError;
 use crate::names::ZEROED;
 use crate::record::{SIZE, put_record};
+use settings::rights::{give_rights, make_folders};
 use std::alloc::Global;
 use std::fs::{File, OpenOptions};
 use std::io::{ErrorKind, Write};
@@ -24,23 +25,40 @@ fn place_of(alloc: Global, path: &str) -> Result<String, StatisticsError> {
 }
 
 /// Where it lies in the folder of this path, which is made where it isn't there.
-fn place_in<R: Files + AllocGlobal>(rt: &R, path: &str) -> Result<String, StatisticsError> {
+fn place_in<R: Files + AllocGlobal>(
+    rt: &R,
+    path: &str,
+    umask: Option<u32>,
+) -> Result<String, StatisticsError> {
     if fs::metadata(rt, path).is_err() {
-        fs::create_dir_all(rt, path)?;
+        make_folders(rt, path, umask)?;
     }
     place_of(rt.alloc(), path)
 }
 
 /// Opens the file of that name, to be read and to have records put behind the others.
-fn open_file<R: Files<File = File>>(rt: &R, place: &str) -> io::Result<File> {
+fn open_file<R: Files<File = File>>(
+    rt: &R,
+    place: &str,
+    umask: Option<u32>,
+) -> io::Result<File> {
+    let is_new = fs::metadata(rt, place).is_err();
     let mut options = OpenOptions::new();
     options.read(true).append(true).create(true);
-    options.open(rt, place)
+    let file = options.open(rt, place)?;
+    if is_new {
+        give_rights(rt, place, umask)?;
+    }
+    Ok(file)
 }
 
 /// Opens the file of that name and waits for its lock, which it has until it is closed. Nothing where it isn't the one of that name any more.
-fn lock_once<R: Files<File = File>>(rt: &R, place: &str) -> Result<Option<File>, StatisticsError> {
-    let file = open_file(rt, place)?;
+fn lock_once<R: Files<File = File>>(
+    rt: &R,
+    place: &str,
+    umask: Option<u32>,
+) -> Result<Option<File>, StatisticsError> {
+    let file = open_file(rt, place, umask)?;
     file.lock()?;
     let held = file.metadata()?;
     match fs::metadata(rt, place) {
@@ -50,9 +68,13 @@ fn lock_once<R: Files<File = File>>(rt: &R, place: &str) -> Result<Option<File>,
 }
 
 /// The file of that name, with its lock.
-fn locked<R: Files<File = File>>(rt: &R, place: &str) -> Result<File, StatisticsError> {
+fn locked<R: Files<File = File>>(
+    rt: &R,
+    place: &str,
+    umask: Option<u32>,
+) -> Result<File, StatisticsError> {
     for _ in 0..TRIES {
-        if let Some(file) = lock_once(rt, place)? {
+        if let Some(file) = lock_once(rt, place, umask)? {
             return Ok(file);
         }
     }
@@ -63,28 +85,35 @@ fn locked<R: Files<File = File>>(rt: &R, place: &str) -> Result<File, Statistics
 fn replace<R: Files + AllocGlobal>(
     rt: &R,
     place: &str,
+    umask: Option<u32>,
     bytes: &[u8],
 ) -> Result<(), StatisticsError> {
     let early = format!(in rt.alloc(); "{place}.new")?;
     fs::write(rt, early.as_str(), bytes)?;
+    give_rights(rt, early.as_str(), umask)?;
     Ok(fs::rename(rt, early.as_str(), place)?)
 }
 
 /// Folds the records of the file of that name, whose lock is held.
-fn fold<R: Files + AllocGlobal>(rt: &R, place: &str) -> Result<(), StatisticsError> {
+fn fold<R: Files + AllocGlobal>(
+    rt: &R,
+    place: &str,
+    umask: Option<u32>,
+) -> Result<(), StatisticsError> {
     let bytes = fs::read(rt, place)?;
     let counts = Counts::read(rt.alloc(), bytes.as_slice())?;
-    replace(rt, place, counts.records(rt.alloc())?.as_slice())
+    replace(rt, place, umask, counts.records(rt.alloc())?.as_slice())
 }
 
-/// Counts these names once more each. A record that a full disk cut short is taken away first.
+/// Counts these names once more each, in a file that is made under this umask where it isn't there. A record that a full disk cut short is taken away first.
 pub fn count<R: Files<File = File> + AllocGlobal>(
     rt: &R,
     path: &str,
-    names: &[&str],
+    umask: Option<u32>,
+    names: &[String],
 ) -> Result<(), StatisticsError> {
-    let place = place_in(rt, path)?;
-    let mut file = locked(rt, place.as_str())?;
+    let place = place_in(rt, path, umask)?;
+    let mut file = locked(rt, place.as_str(), umask)?;
     let size = file.metadata()?.len();
     let rest = size % SIZE as u64;
     if rest != 0 {
@@ -96,7 +125,7 @@ pub fn count<R: Files<File = File> + AllocGlobal>(
     }
     file.write_all(records.as_slice())?;
     if size > LONG {
-        fold(rt, place.as_str())?;
+        fold(rt, place.as_str(), umask)?;
     }
     Ok(())
 }
@@ -124,11 +153,12 @@ pub fn updated_at<R: Files + AllocGlobal>(rt: &R, path: &str) -> Result<u64, Sta
 pub fn zero<R: Files<File = File> + AllocGlobal>(
     rt: &R,
     path: &str,
+    umask: Option<u32>,
     second: u64,
 ) -> Result<(), StatisticsError> {
-    let place = place_in(rt, path)?;
-    let _file = locked(rt, place.as_str())?;
+    let place = place_in(rt, path, umask)?;
+    let _file = locked(rt, place.as_str(), umask)?;
     let mut records = Vec::new(rt.alloc());
     put_record(&mut records, ZEROED.as_bytes(), second)?;
-    replace(rt, place.as_str(), records.as_slice())
+    replace(rt, place.as_str(), umask, records.as_slice())
 }

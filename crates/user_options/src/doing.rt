@@ -13,15 +13,16 @@ use kept_folder::making_room::{hold_limit, remove_unused};
 use settings::key::Key;
 use settings::places::{ListedVariables, OTHERS};
 use settings::reading::{read_settings, set_in_file};
+use settings::rights::make_folders;
 use settings::settings::Settings;
 use settings::values::age_named;
 use statistics::file::zero;
 use std::alloc::Global;
+use std::env;
 use std::env::VarError;
 use std::fs::File;
 use std::rt::{Clock, Env, Files};
 use std::time::{SystemTime, UNIX_EPOCH};
-use std::{env, fs};
 
 /// Who asks, and of what.
 #[derive(Clone, Copy)]
@@ -106,6 +107,7 @@ fn folder_of(alloc: Global, place: &Place) -> Result<KeptFolder, OptionError> {
     let path = String::from_str(alloc, place.kept.as_str())?;
     let mut folder = KeptFolder::new(path, String::new(alloc));
     folder.limit = place.settings.max_size();
+    folder.umask = place.settings.umask();
     Ok(folder)
 }
 
@@ -114,8 +116,8 @@ fn clean_up<R: Files + AllocGlobal + Clone + Drop>(
     rt: &R,
     place: &Place,
 ) -> Result<(), OptionError> {
-    fs::create_dir_all(rt, place.kept.as_str())?;
     let folder = folder_of(rt.alloc(), place)?;
+    make_folders(rt, place.kept.as_str(), folder.umask)?;
     Ok(hold_limit(rt, &folder)?)
 }
 
@@ -133,7 +135,7 @@ fn set_limit<R: Files + AllocGlobal + Clone + Drop>(
 /// Takes away what wasn't used for so long.
 fn evict<R: Files + Clock + AllocGlobal + Clone + Drop>(
     rt: &R,
-    kept: &str,
+    place: &Place,
     age: &str,
 ) -> Result<(), OptionError> {
     let Some(seconds) = age_named(age) else {
@@ -146,20 +148,21 @@ fn evict<R: Files + Clock + AllocGlobal + Clone + Drop>(
         Err(_) => 0,
     };
     let age = u128::from(seconds).saturating_mul(1_000_000_000);
-    fs::create_dir_all(rt, kept)?;
-    Ok(remove_unused(rt, kept, now.saturating_sub(age))?)
+    let folder = folder_of(rt.alloc(), place)?;
+    make_folders(rt, place.kept.as_str(), folder.umask)?;
+    Ok(remove_unused(rt, &folder, now.saturating_sub(age))?)
 }
 
 /// Begins to count from 0 again.
 fn zero_now<R: Files<File = File> + Clock + AllocGlobal>(
     rt: &R,
-    kept: &str,
+    place: &Place,
 ) -> Result<(), OptionError> {
     let second = match SystemTime::now(rt)?.duration_since(UNIX_EPOCH) {
         Ok(since) => since.as_secs(),
         Err(_) => 0,
     };
-    Ok(zero(rt, kept, second)?)
+    Ok(zero(rt, place.kept.as_str(), place.settings.umask(), second)?)
 }
 
 /// Shows what was counted and what is kept.
@@ -212,11 +215,11 @@ where
         Asked::Version => version(rt, caller.program),
         Asked::ShowStats => show_now(rt, caller, place),
         Asked::PrintStats => print(rt, &Statistics::read(rt, place.kept.as_str())?),
-        Asked::ZeroStats => zero_now(rt, place.kept.as_str()),
+        Asked::ZeroStats => zero_now(rt, place),
         Asked::Clear => clear(rt, place.kept.as_str()),
         Asked::MaxSize(size) => set_limit(rt, place, size),
         Asked::Cleanup => clean_up(rt, place),
-        Asked::EvictOlderThan(age) => evict(rt, place.kept.as_str(), age),
+        Asked::EvictOlderThan(age) => evict(rt, place, age),
         Asked::ShowConfig => show_config(rt, &place.settings, place.kept.as_str()),
         Asked::Get(name) => get(rt, &place.settings, place.kept.as_str(), name),
         Asked::Set(pair) => set(rt, &place.variables, pair),

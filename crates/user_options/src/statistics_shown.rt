@@ -1,5 +1,7 @@
 //! Statistics, as people read them and as tools do.
 
+ghost use Rattle.std.specs.Prelude.{◌≡◌, ◌*◌, ◌/◌, IfSome};
+
 use crate::error::OptionError;
 use crate::help::line_of;
 use kept_folder::making_room::kept_in;
@@ -73,7 +75,9 @@ fn total_of(rows: &[(&str, u64)]) -> u64 {
 }
 
 /// A share of all in hundredths of a percent; nothing where there is nothing.
-fn hundredths(part: u64, all: u64) -> Option<u64> {
+fn hundredths(part: u64, all: u64) -> Option<u64>
+    ensures { IfSome result (λ share. share ≡ part * 10000 / all) }
+{
     part.checked_mul(10_000)?.checked_div(all)
 }
 

@@ -98,6 +98,7 @@ impl CommandLine {
         }
         self.folder.limit = settings.max_size();
         self.folder.is_read_only = settings.is_on(Key::ReadOnly);
+        self.folder.umask = settings.umask();
         self.settings = settings;
         Ok(())
     }

@@ -30,8 +30,8 @@ pub struct Ended {
 #[derive(Drop)]
 pub struct Host<I> {
     reader: I,
-    /// How often it was asked to run the compiler for its outputs.
-    pub compiled: u64,
+    /// How often it was asked to run the compiler for its outputs. `compile` alone moves it.
+    compiled: u64,
 }
 
 /// The next message of a host.
@@ -94,6 +94,13 @@ impl<I: Read> Host<I> {
             reader,
             compiled: 0,
         }
+    }
+
+    /// How often it was asked to run the compiler for its outputs.
+    pub fn compiled(&self) -> u64
+        ensures { result ≡ self.now.compiled }
+    {
+        self.compiled
     }
 
     /// Its next message.
