@@ -195,16 +195,16 @@ static int is_self(const char *path) {
     return !stat(path, &one) && !stat(self, &other) && one.st_dev == other.st_dev && one.st_ino == other.st_ino;
 }
 
-/* The file of that name, where it can be run, by the usual search; a link to this host is none, and its name is searched. A file that was
- * searched is called by its path: a driver looks for its parts beside the file of its name, which may be a link to this host. */
+/* The file of that name, where it can be run, by the usual search; a link to this host is none, and its name is searched. A driver that is
+ * called by its name looks for its parts beside the first file of that name on the path: where that is a link to this host, it is called by
+ * its own path. */
 static int find_compiler(const char *name) {
     const char *slash = strrchr(name, '/');
     if (slash && !is_self(name)) {
         if (snprintf(compiler, sizeof compiler, "%s", name) >= (int)sizeof compiler) return -1;
         return access(compiler, X_OK);
     }
-    if (slash) name = slash + 1;
-    words[0] = compiler;
+    if (slash) { name = slash + 1; words[0] = compiler; }
     const char *path = getenv("PATH");
     if (!path) path = "/usr/bin:/bin";
     for (; *path; path += strspn(path, ":")) {
@@ -213,7 +213,8 @@ static int find_compiler(const char *name) {
         int length = snprintf(compiler, sizeof compiler, "%.*s/%s", (int)size, path, name);
         path += size;
         if (length >= (int)sizeof compiler || access(compiler, X_OK) || stat(compiler, &state)) continue;
-        if (S_ISREG(state.st_mode) && !is_self(compiler)) return 0;
+        if (is_self(compiler)) words[0] = compiler;
+        else if (S_ISREG(state.st_mode)) return 0;
     }
     errno = ENOENT;
     return -1;
