@@ -195,7 +195,9 @@ static int is_self(const char *path) {
     return !stat(path, &one) && !stat(self, &other) && one.st_dev == other.st_dev && one.st_ino == other.st_ino;
 }
 
-/* The file of that name, where it can be run, by the usual search; a link to this host is none, and its name is searched. */
+/* The file of that name, where it can be run, by the usual search; a link to this host is none, and its name is searched. A driver that is
+ * called by its name looks for its parts beside the first file of that name on the path: where that is a link to this host, it is called by
+ * its own path. */
 static int find_compiler(const char *name) {
     const char *slash = strrchr(name, '/');
     if (slash && !is_self(name)) {
@@ -211,7 +213,8 @@ static int find_compiler(const char *name) {
         int length = snprintf(compiler, sizeof compiler, "%.*s/%s", (int)size, path, name);
         path += size;
         if (length >= (int)sizeof compiler || access(compiler, X_OK) || stat(compiler, &state)) continue;
-        if (S_ISREG(state.st_mode) && !is_self(compiler)) return 0;
+        if (is_self(compiler)) words[0] = compiler;
+        else if (S_ISREG(state.st_mode)) return 0;
     }
     errno = ENOENT;
     return -1;
@@ -448,8 +451,9 @@ static int answer_options(int count, char **list) {
     if (find_kept()) return 2;
     if (!getcwd(dir, sizeof dir)) { perror("gulmaat"); return 2; }
     if (asks_why) {
+        const char *asked = list[2];
         words = list + 2;
-        if (find_compiler(words[0])) { perror(words[0]); return 127; }
+        if (find_compiler(asked)) { perror(asked); return 127; }
     }
     snprintf(folder, sizeof folder, "%.*s/own", PATH_MAX - 64, kept);
     remove_old(folder);
@@ -472,8 +476,8 @@ int main(int count, char **list) {
     int is_link = strncmp(name, "gulmaat", 7) != 0;
     words = is_link ? list : list + 1;
     if (!is_link && (count < 2 || list[1][0] == '-')) return answer_options(count, list);
-    if (find_compiler(is_link ? name : words[0])) { perror(words[0]); return 127; }
-    if (is_link) words[0] = compiler;
+    const char *asked = is_link ? name : list[1];
+    if (find_compiler(asked)) { perror(asked); return 127; }
     const char *program = find_program();
     if (!program || find_kept()) pass_through();
     if (make_own()) { fprintf(stderr, "gulmaat: can't make a folder in %s: %s\n", kept, strerror(errno)); pass_through(); }

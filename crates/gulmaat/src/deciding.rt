@@ -13,7 +13,7 @@ use kept_folder::folder::Kind;
 use kept_folder::making_room::make_room;
 use kept_pairs::entries::Kept;
 use kept_pairs::record_files::{name_of_record, put_record};
-use known_compilers::compilers::{compiler_at, kind_of};
+use known_compilers::compilers::{KnownCompiler, compiler_at, kind_of};
 use loaded_files::outputs::{print_again, write_outputs};
 use os_files::listed::Listed;
 use os_files::os_bytes::OsBytes;
@@ -90,27 +90,31 @@ fn env_again(
     Ok(copies)
 }
 
-/// The request of the command line.
+/// The request of the command line, and whether its compiler takes the word by which its messages are in colour.
 fn request_of<P: Print + Files + AllocGlobal, I: Read>(
     rt: &P,
     line: &CommandLine,
     host: &mut Host<I>,
     kind: CCompilerKind,
-) -> Result<Request, Stop>
+) -> Result<(Request, bool), Stop>
     requires { host.old.compiled ≡ 0 }
     ensures { host.new.compiled ≡ 0 }
 {
     let words = words_again(rt.alloc(), line.words.as_slice())?;
     let env = env_again(rt.alloc(), line.env.as_slice())?;
     let dir = line.dir.clone()?;
-    let compiler = compiler_at(rt, line, host, kind)?;
-    Ok(Request {
+    let KnownCompiler {
+        compiler,
+        takes_color,
+    } = compiler_at(rt, line, host, kind)?;
+    let request = Request {
         compiler,
         words,
         dir,
         env,
         moment: line.second(),
-    })
+    };
+    Ok((request, takes_color))
 }
 
 /// Puts kept outputs where the request wants them, and has printed again what was printed beside them.
@@ -523,13 +527,14 @@ fn ask_about<P: Print + Files + AllocGlobal, I: Read>(
     host: &mut Host<I>,
     kind: CCompilerKind,
     request: &Request,
+    takes_color: bool,
 ) -> Result<End, Stop>
     requires { host.old.compiled ≡ 0 }
     ensures once { host.new.compiled ≤ 1 }
 {
     let basedirs = basedirs_of(rt.alloc(), line)?;
     let hint = hint_name(rt.alloc(), line)?;
-    let mut known = Known::new(rt.alloc(), kind, zone_of(line), basedirs);
+    let mut known = Known::new(rt.alloc(), kind, takes_color, zone_of(line), basedirs);
     ask_and_note(rt, line, host, request, hint.as_str(), &mut known)
 }
 
@@ -543,8 +548,8 @@ fn ask<P: Print + Files + AllocGlobal, I: Read>(
     requires { host.old.compiled ≡ 0 }
     ensures once { host.new.compiled ≤ 1 }
 {
-    let request = request_of(rt, line, host, kind)?;
-    ask_about(rt, line, host, kind, &request)
+    let (request, takes_color) = request_of(rt, line, host, kind)?;
+    ask_about(rt, line, host, kind, &request, takes_color)
 }
 
 /// Decides on the command line.

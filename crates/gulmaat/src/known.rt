@@ -10,6 +10,7 @@ use kept_folder::error::FolderError;
 use kept_pairs::entries::Kept;
 use kept_pairs::record_files::record_under;
 use kept_pairs::records::FoundRecord;
+use known_options::text_words::text_words;
 use loaded_files::loading::{load, load_all, load_named};
 use loaded_files::outputs::made_at;
 use os_files::listed::Listed;
@@ -33,6 +34,8 @@ use wrapper_host::stop::Stop;
 #[derive(Drop)]
 pub struct Known {
     pub kind: CCompilerKind,
+    /// Whether the compiler takes the word by which its messages are in colour.
+    takes_color: bool,
     /// The zone in which days are told, where direct mode is on.
     pub zone: Option<Zone>,
     /// The folders that don't count.
@@ -61,11 +64,13 @@ impl Known {
     pub fn new(
         alloc: Global,
         kind: CCompilerKind,
+        takes_color: bool,
         zone: Option<Zone>,
         basedirs: Listed<OsBytes>,
     ) -> Known {
         Known {
             kind,
+            takes_color,
             zone,
             basedirs,
             files: SnapshotFiles::new(alloc),
@@ -188,7 +193,7 @@ impl Known {
         }
     }
 
-    /// Has the host preprocess, and records the text.
+    /// Has the host preprocess by the caller's own words, and records the text as that of the session's.
     fn record_text<P: Print + std::rt::Files + AllocGlobal, I: Read>(
         &mut self,
         rt: &P,
@@ -198,7 +203,8 @@ impl Known {
     ) -> Result<(), Stop>
         ensures { host.new.compiled ≡ host.old.compiled }
     {
-        let ended = host.preprocess(rt, rt.alloc(), words.as_slice())?;
+        let own = text_words(rt.alloc(), line.words.as_slice())?;
+        let ended = host.preprocess(rt, rt.alloc(), own.as_slice())?;
         self.preprocessor = printed_at(rt, &ended, line.errors.as_str())?;
         let text = OsBytes::from_vec(fs::read(rt, line.text.as_str())?);
         if takes_files(&text) {
@@ -213,20 +219,50 @@ impl Known {
         Ok(())
     }
 
-    /// Has the host compile, and records what was made of these names at these paths.
+    /// Whether the preprocessor printed a text: an input that it only hands on to a linker has none.
+    fn has_text(&self) -> bool {
+        match &self.tool.text {
+            Some(recorded) => !recorded.printed.text.as_bytes().is_empty(),
+            None => false,
+        }
+    }
+
+    /// The words by which the host compiles: the caller's own, and behind them the one for colours, where the session's have it, the compiler
+    /// takes it, and there is a text to which that compiler has something to say.
+    fn own_words(
+        &self,
+        alloc: Global,
+        line: &CommandLine,
+        words: &[OsBytes],
+    ) -> Result<Listed<OsBytes>, Stop> {
+        let mut own = Listed::new(alloc);
+        for word in line.words.as_slice() {
+            own.push(word.clone()?)?;
+        }
+        let color = self.kind.color_word().unwrap_or("");
+        if self.takes_color && self.has_text() && has_word(words, color) {
+            own.push(OsBytes::from_slice(alloc, color.as_bytes())?)?;
+        }
+        Ok(own)
+    }
+
+    /// Has the host compile by the caller's own words, and records what was made of these names at these paths as what the session's words
+    /// make.
     fn record_outputs<P: Print + std::rt::Files + AllocGlobal, I: Read>(
         &mut self,
         rt: &P,
         line: &CommandLine,
         host: &mut Host<I>,
-        names: Listed<OutputName>,
+        key: &StoreKey,
         words: Listed<OsBytes>,
         paths: &[OsBytes],
     ) -> Result<(), Stop>
         requires { host.old.compiled ≡ 0 }
-        ensures { host.new.compiled ≡ 1 }
+        ensures { host.new.compiled ≤ 1 }
     {
-        let ended = host.compile(rt, rt.alloc(), words.as_slice())?;
+        let names = names_again(rt.alloc(), key.names.as_slice())?;
+        let own = self.own_words(rt.alloc(), line, words.as_slice())?;
+        let ended = host.compile(rt, rt.alloc(), own.as_slice())?;
         self.printed = printed_at(rt, &ended, line.printed.as_str())?;
         self.errors = printed_at(rt, &ended, line.errors.as_str())?;
         let contents = made_at(rt, paths)?;
@@ -253,12 +289,11 @@ impl Known {
         requires { host.old.compiled ≤ 1 }
         ensures { host.new.compiled ≤ 1 }
     {
-        let names = names_again(rt.alloc(), key.names.as_slice())?;
         self.refuse_input(rt.alloc(), key)?;
         if host.compiled() != 0 {
             return Ok(false);
         }
-        self.record_outputs(rt, line, host, names, words, paths)?;
+        self.record_outputs(rt, line, host, key, words, paths)?;
         Ok(true)
     }
 
@@ -297,6 +332,11 @@ impl Known {
             (_, _) => Ok(false),
         }
     }
+}
+
+/// Whether a word is among these.
+fn has_word(words: &[OsBytes], word: &str) -> bool {
+    words.iter().any(|it| it.as_bytes() == word.as_bytes())
 }
 
 /// Whether what is compiled under this key was preprocessed.

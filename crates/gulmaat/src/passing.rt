@@ -1,6 +1,7 @@
 //! What is passed through before the session is asked, since neither the compiler's words nor its text would tell what was made.
 //! docs/WRAPPER.md says what each variable and option does.
 
+use known_options::words::unknown_word;
 use memchr::memmem;
 use os_files::os_bytes::OsBytes;
 use recorded_builds::beware::options_in;
@@ -26,46 +27,12 @@ const VARIABLES: [&str; 13] = [
     "LD_AUDIT",
 ];
 
-/// What words begin with under which the text doesn't tell what is compiled, or by what, or where more is made than the object.
-const FRONTS: [&str; 22] = [
-    "@",
-    "-B",
-    "-specs=",
-    "--specs=",
-    "-wrapper",
-    "-load",
-    "-P",
-    "-Wp,",
-    "-Xpreprocessor",
-    "-fno-working-directory",
-    "-include-pch",
-    "-fmodule",
-    "-fprofile-",
-    "-fauto-profile",
-    "-fbranch-probabilities",
-    "-ftest-coverage",
-    "-fsanitize-ignorelist=",
-    "-fsanitize-coverage-",
-    "-fxray-",
-    "-fthinlto-index=",
-    "-fbasic-block-sections=",
-    "-d",
-];
-
 /// What a text has in it that takes in files as it is assembled.
 const TAKES_FILES: [&str; 2] = [".incbin", ".include"];
 
 /// Whether it is a variable that speaks against keeping.
 fn is_variable(name: &[u8]) -> bool {
     VARIABLES.iter().any(|variable| name == variable.as_bytes())
-}
-
-/// The front of the word that speaks against keeping.
-fn front_of(word: &[u8]) -> Option<&'static str> {
-    FRONTS
-        .iter()
-        .copied()
-        .find(|front| word.starts_with(front.as_bytes()))
 }
 
 /// Whether a word is among them.
@@ -86,7 +53,7 @@ fn is_on_standard_output(words: &[OsBytes]) -> bool {
         && !has_word(words, b"-S")
 }
 
-/// The variable that speaks against keeping, or the front of a word, or an option.
+/// The variable that speaks against keeping, or the option, or the word that isn't known.
 pub fn reason_against(alloc: Global, line: &CommandLine) -> Result<Option<String>, Stop> {
     for (name, value) in line.env.as_slice() {
         if is_variable(name.as_bytes()) && !value.as_bytes().is_empty() {
@@ -97,14 +64,20 @@ pub fn reason_against(alloc: Global, line: &CommandLine) -> Result<Option<String
     if is_on_standard_output(line.words.as_slice()) {
         return Ok(Some(String::from_str(alloc, TO_STANDARD_OUTPUT)?));
     }
-    for word in line.words.as_slice() {
-        if let Some(front) = front_of(word.as_bytes()) {
-            return Ok(Some(String::from_str(alloc, front)?));
-        }
-    }
     let options = options_in(alloc, line.words.as_slice(), &[])?;
     match options.first() {
         Some(option) => Ok(Some(String::from_str(alloc, option)?)),
+        None => unknown_in(alloc, line.words.as_slice()),
+    }
+}
+
+/// The first word that isn't known, where an object is asked for; any other command is the session's to pass through.
+fn unknown_in(alloc: Global, words: &[OsBytes]) -> Result<Option<String>, Stop> {
+    if !has_word(words, b"-c") && !has_word(words, b"-S") {
+        return Ok(None);
+    }
+    match unknown_word(alloc, words)? {
+        Some(word) => Ok(Some(format!(in alloc; "{word}")?)),
         None => Ok(None),
     }
 }

@@ -2,7 +2,7 @@
 
 ghost use Rattle.std.specs.Prelude.{◌≡◌};
 
-use crate::parts::files_of;
+use crate::parts::{Driver, driver_of};
 use byte_formats::fields::put_framed;
 use ckeys::compiler::CCompiler;
 use cmdlines::found::FoundCompiler;
@@ -50,8 +50,23 @@ const OF_MESSAGES: [&str; 8] = [
     "TERM_URLS",
 ];
 
-/// The digest of a compiler with what it does differently by its variables, though no text shows it: its messages, and of a Clang the
-/// folder, whose name it writes into objects.
+/// Variables that choose what a compiler loads or makes, though no text shows it.
+const OF_OBJECTS: [&str; 3] = [
+    "LD_LIBRARY_PATH",
+    "MACOSX_DEPLOYMENT_TARGET",
+    "RC_DEBUG_OPTIONS",
+];
+
+/// The name of a file, behind the folders of its path.
+fn file_name(path: &str) -> &str {
+    match path.rsplit_once('/') {
+        Some((_, name)) => name,
+        None => path,
+    }
+}
+
+/// The digest of a compiler with what it does differently by its name, as a Clang that is called as one of C++ or for another machine, and by
+/// its variables, though no text shows it: its messages, and of a Clang the folder, whose name it writes into objects.
 fn digest_here(
     alloc: Global,
     line: &CommandLine,
@@ -60,7 +75,8 @@ fn digest_here(
 ) -> Result<String, Stop> {
     let mut row = Vec::new(alloc);
     put_framed(&mut row, digest.as_bytes())?;
-    for name in OF_MESSAGES {
+    put_framed(&mut row, file_name(line.executable.as_str()).as_bytes())?;
+    for name in OF_MESSAGES.iter().chain(&OF_OBJECTS) {
         put_framed(&mut row, line.value_of(name.as_bytes()))?;
     }
     if kind == CCompilerKind::Clang {
@@ -70,30 +86,42 @@ fn digest_here(
     Ok(digest_of(alloc, row.as_slice())?)
 }
 
+/// A compiler with its digest.
+#[derive(Drop)]
+pub struct KnownCompiler {
+    pub compiler: Compiler,
+    /// Whether its driver takes the word by which its messages are in colour.
+    pub takes_color: bool,
+}
+
 /// The compiler of that kind, with its digest.
 pub fn compiler_at<P: Print + Files + AllocGlobal, I: Read>(
     rt: &P,
     line: &CommandLine,
     host: &mut Host<I>,
     kind: CCompilerKind,
-) -> Result<Compiler, Stop>
+) -> Result<KnownCompiler, Stop>
     requires { host.old.compiled ≡ 0 }
     ensures { host.new.compiled ≡ 0 }
 {
     let alloc = rt.alloc();
-    let files = files_of(rt, line, host, kind)?;
+    let Driver { files, takes_color } = driver_of(rt, line, host, kind)?;
     let digest = line.folder.digest_of_files(rt, files.as_slice())?;
     let digest = digest_here(alloc, line, kind, digest.as_str())?;
     let executable = OsBytes::from_slice(alloc, line.executable.as_bytes())?;
     let plusplus = is_plusplus(line.executable.as_str());
-    match kind {
+    let compiler = match kind {
         CCompilerKind::Clang => {
             let compiler = FoundCompiler::new(alloc, plusplus, None, None)?;
-            Ok(Compiler::Clang(CCompiler::with_digest(compiler, executable, digest)))
+            Compiler::Clang(CCompiler::with_digest(compiler, executable, digest))
         }
         _ => {
             let compiler = FoundCompiler::new(alloc, plusplus, None, None)?;
-            Ok(Compiler::Gcc(CCompiler::with_digest(compiler, executable, digest)))
+            Compiler::Gcc(CCompiler::with_digest(compiler, executable, digest))
         }
-    }
+    };
+    Ok(KnownCompiler {
+        compiler,
+        takes_color,
+    })
 }

@@ -19,9 +19,21 @@ use wrapper_host::fields::{Fields, into_text};
 use wrapper_host::host::Host;
 use wrapper_host::stop::Stop;
 
-/// What a driver runs for a compile, by the names that it knows it by: with -gsplit-dwarf a program that takes debug information out.
-/// Of these Clang runs an assembler alone.
+/// What GCC runs for a compile, by the names that it knows it by: with -gsplit-dwarf a program that takes debug information out. Clang runs
+/// an assembler alone.
 const RUNS: [&str; 4] = ["as", "cc1", "cc1plus", "objcopy"];
+
+/// Lists that Clang reads by itself with some sanitizers, in `share` of the folder that it calls its resources'.
+const LISTS: [&str; 8] = [
+    "asan_ignorelist.txt",
+    "cfi_ignorelist.txt",
+    "dfsan_abilist.txt",
+    "hwasan_ignorelist.txt",
+    "memtag_ignorelist.txt",
+    "msan_ignorelist.txt",
+    "tsan_ignorelist.txt",
+    "ubsan_ignorelist.txt",
+];
 
 /// Where commands are searched if no variable says it.
 const USUAL_PATH: &[u8] = b"/bin:/usr/bin";
@@ -34,6 +46,26 @@ fn without_line_end(text: &[u8]) -> &[u8] {
     }
 }
 
+/// What a driver prints, asked by that word.
+fn ask<P: Print + Files + AllocGlobal, I: Read>(
+    rt: &P,
+    line: &CommandLine,
+    host: &mut Host<I>,
+    word: &str,
+) -> Result<Vec<u8>, Stop>
+    requires { host.old.compiled ≡ 0 }
+    ensures { host.new.compiled ≡ 0 }
+{
+    let alloc = rt.alloc();
+    let mut words = Listed::new(alloc);
+    words.push(OsBytes::from_slice(alloc, word.as_bytes())?)?;
+    let ended = host.preprocess(rt, alloc, words.as_slice())?;
+    if ended.status != 0 || !ended.silent {
+        return Err(Stop::Parts);
+    }
+    Ok(fs::read(rt, line.text.as_str())?)
+}
+
 /// What a driver says of a program that it runs: a path, or a name that is searched as commands are.
 fn ask_name<P: Print + Files + AllocGlobal, I: Read>(
     rt: &P,
@@ -44,16 +76,63 @@ fn ask_name<P: Print + Files + AllocGlobal, I: Read>(
     requires { host.old.compiled ≡ 0 }
     ensures { host.new.compiled ≡ 0 }
 {
+    let word = format!(in rt.alloc(); "-print-prog-name={name}")?;
+    let said = ask(rt, line, host, word.as_str())?;
+    Ok(OsBytes::from_slice(rt.alloc(), without_line_end(&said))?)
+}
+
+/// Adds the paths of the lists that Clang reads by itself, each of which may be there or not.
+fn ask_lists<P: Print + Files + AllocGlobal, I: Read>(
+    rt: &P,
+    line: &CommandLine,
+    host: &mut Host<I>,
+    names: &mut Listed<OsBytes>,
+) -> Result<(), Stop>
+    requires { host.old.compiled ≡ 0 }
+    ensures { host.new.compiled ≡ 0 }
+{
+    let said = ask(rt, line, host, "-print-resource-dir")?;
+    for list in LISTS {
+        let mut path = Vec::new(rt.alloc());
+        path.extend_from_slice(without_line_end(&said))?;
+        path.extend_from_slice(b"/share/")?;
+        path.extend_from_slice(list.as_bytes())?;
+        names.push(OsBytes::from_vec(path))?;
+    }
+    Ok(())
+}
+
+/// Whether a driver takes that word with any other, and says nothing of it.
+fn takes_word<P: Print + Files + AllocGlobal, I: Read>(
+    rt: &P,
+    host: &mut Host<I>,
+    word: &str,
+) -> Result<bool, Stop>
+    requires { host.old.compiled ≡ 0 }
+    ensures { host.new.compiled ≡ 0 }
+{
     let alloc = rt.alloc();
     let mut words = Listed::new(alloc);
-    let word = format!(in alloc; "-print-prog-name={name}")?;
-    words.push(OsBytes::from_slice(alloc, word.as_bytes())?)?;
-    let ended = host.preprocess(rt, alloc, words.as_slice())?;
-    if ended.status != 0 || !ended.silent {
-        return Err(Stop::Parts);
+    for word in [word, "-E", "-x", "c", "/dev/null"] {
+        words.push(OsBytes::from_slice(alloc, word.as_bytes())?)?;
     }
-    let text = fs::read(rt, line.text.as_str())?;
-    Ok(OsBytes::from_slice(alloc, without_line_end(&text))?)
+    let ended = host.preprocess(rt, alloc, words.as_slice())?;
+    Ok(ended.status == 0 && ended.silent)
+}
+
+/// The word by which the driver's messages are in colour; an empty one where it doesn't take that.
+fn ask_color<P: Print + Files + AllocGlobal, I: Read>(
+    rt: &P,
+    host: &mut Host<I>,
+    kind: CCompilerKind,
+) -> Result<OsBytes, Stop>
+    requires { host.old.compiled ≡ 0 }
+    ensures { host.new.compiled ≡ 0 }
+{
+    let word = kind.color_word().unwrap_or("");
+    let takes = takes_word(rt, host, word)?;
+    let word = if takes { word } else { "" };
+    Ok(OsBytes::from_slice(rt.alloc(), word.as_bytes())?)
 }
 
 /// Whether a file of that name is one of Clang's own libraries.
@@ -106,7 +185,7 @@ fn libraries_of<R: Files + AllocGlobal>(
     Ok(libraries)
 }
 
-/// The names of what a driver of that kind runs.
+/// The word by which the messages of a driver of that kind are in colour, and behind it the names of what it runs and reads.
 fn ask_names<P: Print + Files + AllocGlobal, I: Read>(
     rt: &P,
     line: &CommandLine,
@@ -117,10 +196,14 @@ fn ask_names<P: Print + Files + AllocGlobal, I: Read>(
     ensures { host.new.compiled ≡ 0 }
 {
     let mut names = Listed::new(rt.alloc());
+    names.push(ask_color(rt, host, kind)?)?;
+    if kind == CCompilerKind::Clang {
+        names.push(ask_name(rt, line, host, "as")?)?;
+        ask_lists(rt, line, host, &mut names)?;
+        return Ok(names);
+    }
     for name in RUNS {
-        if kind != CCompilerKind::Clang || name == "as" {
-            names.push(ask_name(rt, line, host, name)?)?;
-        }
+        names.push(ask_name(rt, line, host, name)?)?;
     }
     Ok(names)
 }
@@ -155,7 +238,7 @@ fn note_said<R: Files + AllocGlobal>(
     Ok(line.folder.put(rt, Kind::Parts, state, bytes.as_slice())?)
 }
 
-/// What the driver says that it runs. It is asked once in each of its states.
+/// What the driver says that it takes, runs and reads. It is asked once in each of its states.
 fn names_of<P: Print + Files + AllocGlobal, I: Read>(
     rt: &P,
     line: &CommandLine,
@@ -220,20 +303,33 @@ fn file_of<R: Files + AllocGlobal>(
     })
 }
 
-/// The files of the compiler of that kind, its driver first, and of a Clang its libraries last.
-pub fn files_of<P: Print + Files + AllocGlobal, I: Read>(
+/// What is known of a driver of which the digest of its compiler is taken.
+#[derive(Drop)]
+pub struct Driver {
+    /// The files of the compiler, its driver first, and of a Clang its libraries last.
+    pub files: Vec<String>,
+    /// Whether it takes the word by which its messages are in colour.
+    pub takes_color: bool,
+}
+
+/// What is known of the driver of that kind.
+pub fn driver_of<P: Print + Files + AllocGlobal, I: Read>(
     rt: &P,
     line: &CommandLine,
     host: &mut Host<I>,
     kind: CCompilerKind,
-) -> Result<Vec<String>, Stop>
+) -> Result<Driver, Stop>
     requires { host.old.compiled ≡ 0 }
     ensures { host.new.compiled ≡ 0 }
 {
-    let names = names_of(rt, line, host, kind)?;
+    let mut names = names_of(rt, line, host, kind)?.into_vec().into_iter();
+    let takes_color = match names.next() {
+        Some(word) => !word.as_bytes().is_empty(),
+        None => false,
+    };
     let mut files = Vec::new(rt.alloc());
     files.push(line.executable.clone()?)?;
-    for name in names.into_vec() {
+    for name in names {
         if let Some(file) = file_of(rt, line, name)? {
             files.push(file)?;
         }
@@ -244,5 +340,5 @@ pub fn files_of<P: Print + Files + AllocGlobal, I: Read>(
             files.push(library)?;
         }
     }
-    Ok(files)
+    Ok(Driver { files, takes_color })
 }

@@ -1,0 +1,6 @@
+//! Which words of a command line to GCC or Clang are known, and by which words the compiler prints the text of that command.
+#![tactic(auto)]
+
+pub mod tables;
+pub mod text_words;
+pub mod words;

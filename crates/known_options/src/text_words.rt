@@ -1,0 +1,128 @@
+//! The words by which a compiler prints the text of a command: the caller's own, but for the object, with `-E` behind them.
+
+use crate::words::takes_next;
+use os_files::listed::Listed;
+use os_files::os_bytes::OsBytes;
+use std::alloc::{AllocError, Global};
+
+/// What the words of a command say of its dependency file.
+#[derive(Drop)]
+struct Dependencies<'a> {
+    /// The object, where a word names one.
+    object: Option<&'a [u8]>,
+    /// Whether a dependency file is asked for, whether a word names it, and whether one names its target.
+    is_asked: bool,
+    is_named: bool,
+    has_target: bool,
+}
+
+impl<'a> Dependencies<'a> {
+    /// Takes what one word says, with the one behind it.
+    fn take(&mut self, word: &'a [u8], next: &'a [u8]) {
+        if matches!(word, b"-o") {
+            self.object = Some(next);
+        } else if let Some(object) = word.strip_prefix(b"-o") {
+            self.object = Some(object);
+        } else if matches!(word, b"-MD" | b"-MMD") {
+            self.is_asked = true;
+        } else if word.starts_with(b"-MF") {
+            self.is_named = true;
+        } else if word.starts_with(b"-MT") || word.starts_with(b"-MQ") {
+            self.has_target = true;
+        }
+    }
+}
+
+/// What the words say of the dependency file.
+fn dependencies_in(words: &[OsBytes]) -> Dependencies<'_> {
+    let mut found = Dependencies {
+        object: None,
+        is_asked: false,
+        is_named: false,
+        has_target: false,
+    };
+    let mut is_value = false;
+    for (at, word) in words.iter().enumerate() {
+        let bytes = word.as_bytes();
+        if is_value {
+            is_value = false;
+            continue;
+        }
+        is_value = takes_next(bytes);
+        let next = match words.get(at.saturating_add(1)) {
+            Some(next) => next.as_bytes(),
+            None => &[],
+        };
+        found.take(bytes, next);
+    }
+    found
+}
+
+/// Pushes a word.
+fn push(alloc: Global, words: &mut Listed<OsBytes>, word: &[u8]) -> Result<(), AllocError> {
+    words.push(OsBytes::from_slice(alloc, word)?)
+}
+
+/// Pushes the words but those that name the object.
+fn push_without_object(
+    alloc: Global,
+    words: &[OsBytes],
+    pushed: &mut Listed<OsBytes>,
+) -> Result<(), AllocError> {
+    let mut before: &[u8] = &[];
+    for word in words {
+        let bytes = word.as_bytes();
+        let is_value = takes_next(before);
+        let names_object = if is_value {
+            matches!(before, b"-o")
+        } else {
+            bytes.starts_with(b"-o")
+        };
+        if !names_object {
+            push(alloc, pushed, bytes)?;
+        }
+        before = if is_value { &[] } else { bytes };
+    }
+    Ok(())
+}
+
+/// The path of the dependency file of an object: that with `d` for what stands behind the last dot of its name.
+fn dependency_file(alloc: Global, object: &[u8]) -> Result<Vec<u8>, AllocError> {
+    let name = match object.rsplit(|byte| *byte == b'/').next() {
+        Some(name) => name,
+        None => object,
+    };
+    let ending = match name.rsplit(|byte| *byte == b'.').next() {
+        Some(ending) if ending.len() < name.len() => ending.len().saturating_add(1),
+        _ => 0,
+    };
+    let stem = object.get(..object.len().saturating_sub(ending));
+    let mut path = Vec::with_capacity(alloc, object.len())?;
+    path.extend_from_slice(stem.unwrap_or(object))?;
+    path.extend_from_slice(b".d")?;
+    Ok(path)
+}
+
+/// The words by which the compiler prints the text of a command with these words. It writes the dependency file of that command, if one is
+/// asked for: without the object's name it would give that another path and another target.
+pub fn text_words(alloc: Global, words: &[OsBytes]) -> Result<Listed<OsBytes>, AllocError> {
+    let mut pushed = Listed::new(alloc);
+    push_without_object(alloc, words, &mut pushed)?;
+    let found = dependencies_in(words);
+    if let (true, Some(object)) = (found.is_asked, found.object) {
+        if !found.is_named {
+            push(alloc, &mut pushed, b"-MF")?;
+            push(
+                alloc,
+                &mut pushed,
+                dependency_file(alloc, object)?.as_slice(),
+            )?;
+        }
+        if !found.has_target {
+            push(alloc, &mut pushed, b"-MQ")?;
+            push(alloc, &mut pushed, object)?;
+        }
+    }
+    push(alloc, &mut pushed, b"-E")?;
+    Ok(pushed)
+}

@@ -1,0 +1,266 @@
+//! Which words are known: with these alone the object hangs on the text, the words and the compiler, and nothing else is written.
+
+use crate::tables::{ASSEMBLER, CLANG, LLVM, VALUED, WHOLE};
+use memchr::{memchr, memmem};
+use os_files::os_bytes::OsBytes;
+use std::alloc::{AllocError, Global};
+
+/// Words that take the next one as their value, whatever that is.
+const TAKE_NEXT: [&str; 25] = [
+    "-o",
+    "-x",
+    "-D",
+    "-U",
+    "-I",
+    "-L",
+    "-l",
+    "-u",
+    "-z",
+    "-include",
+    "-imacros",
+    "-idirafter",
+    "-iprefix",
+    "-iwithprefix",
+    "-iwithprefixbefore",
+    "-isystem",
+    "-iquote",
+    "-isysroot",
+    "-MF",
+    "-MT",
+    "-MQ",
+    "-arch",
+    "-target",
+    "-Xlinker",
+    "--sysroot",
+];
+
+/// What words begin with that only look as if they began as one of `FRONTS`.
+const OTHERS: [&str; 4] = ["-obj", "-lang", "-include-pch", "-fbuiltin-module-map"];
+
+/// Words that name a file which is written, whether it stands behind them or in the next word.
+const NAME_OUTPUT: [&str; 2] = ["-o", "-MF"];
+
+/// Words that take the next one, which must be known too.
+const TAKE_KNOWN: [&str; 4] = ["-Xassembler", "-Xclang", "-mllvm", "--param"];
+
+/// What words begin with that may go on in any way.
+const FRONTS: [&str; 28] = [
+    "-D",
+    "-U",
+    "-I",
+    "-L",
+    "-l",
+    "-o",
+    "-x",
+    "-MF",
+    "-MT",
+    "-MQ",
+    "-include",
+    "-imacros",
+    "-idirafter",
+    "-iprefix",
+    "-iwithprefix",
+    "-isystem",
+    "-iquote",
+    "-isysroot",
+    "-Wl,",
+    "-R",
+    "-fbuiltin-",
+    "-fno-builtin-",
+    "-fcall-saved-",
+    "-fcall-used-",
+    "-ffixed-",
+    "-finline-limit-",
+    "-ftemplate-depth-",
+    "-stdlib++-isystem",
+];
+
+/// Whether a word is one of these.
+fn is_among(words: &[&str], word: &[u8]) -> bool {
+    words.iter().any(|it| word == it.as_bytes())
+}
+
+/// Whether a word begins with one of these.
+fn begins_with(fronts: &[&str], word: &[u8]) -> bool {
+    fronts
+        .iter()
+        .any(|front| word.starts_with(front.as_bytes()))
+}
+
+/// What stands behind a front that a line of the table begins with, up to the line's end.
+fn line_behind<'a>(table: &'a str, front: &[u8]) -> Option<&'a [u8]> {
+    let table = table.as_bytes();
+    let at = memmem::find(table, front)?;
+    let behind = table.get(at..)?.strip_prefix(front)?;
+    behind.split(|byte| *byte == b'\n').next()
+}
+
+/// The end of a line and the front of a word, without the `no-` of a word that turns off what another one turns on.
+fn front_of_line(alloc: Global, word: &[u8]) -> Result<Vec<u8>, AllocError> {
+    let mut front = Vec::with_capacity(alloc, 64)?;
+    front.push(b'\n')?;
+    match word {
+        [b'-', letter, b'n', b'o', b'-', name @ ..] if matches!(*letter, b'f' | b'm' | b'g') => {
+            front.extend_from_slice(&[b'-', *letter])?;
+            front.extend_from_slice(name)?;
+        }
+        _ => front.extend_from_slice(word)?,
+    }
+    Ok(front)
+}
+
+/// Whether the table has that word as a line.
+fn is_line(alloc: Global, table: &str, word: &[u8]) -> Result<bool, AllocError> {
+    let mut front = front_of_line(alloc, word)?;
+    front.push(b'\n')?;
+    Ok(memmem::find(table.as_bytes(), front.as_slice()).is_some())
+}
+
+/// Whether it is a number, or several with colons or commas between them.
+fn is_number(value: &[u8]) -> bool {
+    !value.is_empty()
+        && value.iter().all(|byte| byte.is_ascii_digit() || *byte == b':' || *byte == b',')
+}
+
+/// Whether it is one of the names, which have commas between them.
+fn is_named(names: &[u8], name: &[u8]) -> bool {
+    names.split(|byte| *byte == b',').any(|it| it == name)
+}
+
+/// Whether a value is as the table says: a number, any text, or names with commas between them.
+fn fits(said: &[u8], value: &[u8]) -> bool {
+    match said {
+        b"#" => is_number(value),
+        b"*" => true,
+        names => value
+            .split(|byte| *byte == b',')
+            .all(|name| is_named(names, name)),
+    }
+}
+
+/// Whether the table has that word up to its first `=`, and says that what stands behind it may.
+fn is_valued(alloc: Global, table: &str, word: &[u8]) -> Result<bool, AllocError> {
+    let Some(at) = memchr(b'=', word) else {
+        return Ok(false);
+    };
+    let Some((option, value)) = word.split_at_checked(at) else {
+        return Ok(false);
+    };
+    let mut front = front_of_line(alloc, option)?;
+    front.push(b'=')?;
+    match line_behind(table, front.as_slice()) {
+        Some(said) => Ok(fits(said, value.strip_prefix(b"=").unwrap_or(value))),
+        None => Ok(false),
+    }
+}
+
+/// Whether it is a name with a value behind `=`, as `--param` takes one: small letters, digits and lines.
+fn is_parameter(word: &[u8]) -> bool {
+    memchr(b'=', word).is_some()
+        && word.iter().all(|byte| {
+            byte.is_ascii_lowercase() || byte.is_ascii_digit() || matches!(*byte, b'-' | b'=')
+        })
+}
+
+/// Whether all words for the assembler are known, which have commas between them.
+fn are_for_assembler(alloc: Global, words: &[u8]) -> Result<bool, AllocError> {
+    for word in words.split(|byte| *byte == b',') {
+        if !is_line(alloc, ASSEMBLER, word)? {
+            return Ok(false);
+        }
+    }
+    Ok(true)
+}
+
+/// Whether it is the name of a warning, or of a group of these.
+fn is_warning(name: &[u8]) -> bool {
+    name.iter().all(|byte| *byte != b',')
+}
+
+/// Whether it is a level of optimisation.
+fn is_level(level: &[u8]) -> bool {
+    level.iter().all(|byte| byte.is_ascii_alphanumeric())
+}
+
+/// Whether it is the path of a file, and not of what another process reads.
+fn is_file(path: &[u8]) -> bool {
+    match path {
+        b"-" => false,
+        b"/dev/null" => true,
+        _ => !path.starts_with(b"/dev/") && !path.starts_with(b"/proc/"),
+    }
+}
+
+/// Whether a word that begins with one of `FRONTS` is known, in which a path may stand.
+fn is_known_front(word: &[u8]) -> bool {
+    let path = NAME_OUTPUT
+        .iter()
+        .find_map(|option| word.strip_prefix(option.as_bytes()));
+    match path {
+        Some(path) => is_file(path) && !begins_with(&OTHERS, word),
+        None => !begins_with(&OTHERS, word),
+    }
+}
+
+/// Whether an option is known that takes no other word.
+fn is_known_option(alloc: Global, word: &[u8]) -> Result<bool, AllocError> {
+    if begins_with(&FRONTS, word) {
+        return Ok(is_known_front(word));
+    }
+    if let Some(words) = word.strip_prefix(b"-Wa,") {
+        return are_for_assembler(alloc, words);
+    }
+    if let Some(name) = word.strip_prefix(b"-W") {
+        return Ok(is_warning(name));
+    }
+    if let Some(level) = word.strip_prefix(b"-O") {
+        return Ok(is_level(level));
+    }
+    if let Some(parameter) = word.strip_prefix(b"--param=") {
+        return Ok(is_parameter(parameter));
+    }
+    Ok(is_line(alloc, WHOLE, word)? || is_valued(alloc, VALUED, word)?)
+}
+
+/// Whether the value of one of the options `TAKE_KNOWN` is known.
+fn is_known_value(alloc: Global, option: &[u8], value: &[u8]) -> Result<bool, AllocError> {
+    match option {
+        b"-Xassembler" => is_line(alloc, ASSEMBLER, value),
+        b"-Xclang" => is_line(alloc, CLANG, value),
+        b"-mllvm" => is_valued(alloc, LLVM, value),
+        _ => Ok(is_parameter(value)),
+    }
+}
+
+/// Whether the word takes the next one as its value.
+pub fn takes_next(word: &[u8]) -> bool {
+    is_among(&TAKE_NEXT, word) || is_among(&TAKE_KNOWN, word)
+}
+
+/// Whether a word is known behind that one, of which it is the value where that takes one.
+fn is_known(alloc: Global, before: &[u8], word: &[u8]) -> Result<bool, AllocError> {
+    if is_among(&TAKE_NEXT, before) {
+        return Ok(!is_among(&NAME_OUTPUT, before) || is_file(word));
+    }
+    if is_among(&TAKE_KNOWN, before) {
+        return is_known_value(alloc, before, word);
+    }
+    if !word.starts_with(b"-") || takes_next(word) {
+        return Ok(!word.starts_with(b"@"));
+    }
+    is_known_option(alloc, word)
+}
+
+/// The first of the words that isn't known.
+pub fn unknown_word(alloc: Global, words: &[OsBytes]) -> Result<Option<&OsBytes>, AllocError> {
+    let mut before: &[u8] = &[];
+    for word in words {
+        let bytes = word.as_bytes();
+        if !is_known(alloc, before, bytes)? {
+            return Ok(Some(word));
+        }
+        // The value of an option takes no other word, whatever it is.
+        before = if takes_next(before) { &[] } else { bytes };
+    }
+    Ok(None)
+}
