@@ -14,7 +14,7 @@ word_files() {
         printf '\t.globl h\nh:\n\tmovl $%s, %%eax\n\tret\n' "${1:-1}" >asm.s
         printf '#define VALUE $%s\n\t.globl h\nh:\n\tmovl VALUE, %%eax\n\tret\n' "${1:-1}" >asm.S
         cp asm.S other.sx
-        printf '%s\n' '-g' >words
+        printf '%s\n' '--fatal-warnings' >words
         ln -s "$host" links/gcc
         ln -s "$host" links/clang
     )
