@@ -1,4 +1,4 @@
-# shellcheck shell=bash
+# shellcheck shell=bash disable=SC2016,SC2154
 # Words of commands, which bin/test-builds takes in: each command ends as by the compiler alone, with the same status, the same messages on
 # both streams and the same files, at a first call, at a second one, and after a change of the source.
 
