@@ -483,6 +483,7 @@ int main(int count, char **list) {
     if (!is_link && (count < 2 || list[1][0] == '-')) return answer_options(count, list);
     const char *asked = is_link ? name : list[1];
     if (find_compiler(asked)) { perror(asked); return 127; }
+    if (is_link) words[0] = compiler;
     const char *program = find_program();
     if (!program || find_kept()) pass_through();
     if (make_own()) { fprintf(stderr, "gulmaat: can't make a folder in %s: %s\n", kept, strerror(errno)); pass_through(); }
