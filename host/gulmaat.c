@@ -35,6 +35,7 @@ static char kept[PATH_MAX];                 /* the folder of what is kept */
 static char own[PATH_MAX];                  /* this process's folder in it */
 static char text[PATH_MAX], messages[PATH_MAX], printed[PATH_MAX];  /* where a command's output goes */
 static void (*pipe_signal)(int);            /* what the caller does at a broken pipe */
+static int was_closed[3];                   /* which of the first three files the caller had closed */
 
 /* ---- A message that grows. */
 
@@ -53,6 +54,8 @@ static void remove_outputs(void) {
 static void pass_through(void) {
     remove_outputs();
     signal(SIGPIPE, pipe_signal);
+    for (int file = 0; file < 3; file++)
+        if (was_closed[file]) close(file);
     execv(compiler, words);
     perror(compiler);
     _exit(127);
@@ -468,8 +471,10 @@ static int answer_options(int count, char **list) {
 }
 
 int main(int count, char **list) {
-    for (int file = 0; file < 3; file++)
-        if (fcntl(file, F_GETFD) < 0 && open("/dev/null", O_RDWR) < 0) return 127;
+    for (int file = 0; file < 3; file++) {
+        was_closed[file] = fcntl(file, F_GETFD) < 0;
+        if (was_closed[file] && open("/dev/null", O_RDWR) < 0) return 127;
+    }
     signal(SIGCHLD, SIG_DFL);
     find_self();
     const char *name = strrchr(list[0], '/') ? strrchr(list[0], '/') + 1 : list[0];
@@ -478,6 +483,7 @@ int main(int count, char **list) {
     if (!is_link && (count < 2 || list[1][0] == '-')) return answer_options(count, list);
     const char *asked = is_link ? name : list[1];
     if (find_compiler(asked)) { perror(asked); return 127; }
+    if (is_link) words[0] = compiler;
     const char *program = find_program();
     if (!program || find_kept()) pass_through();
     if (make_own()) { fprintf(stderr, "gulmaat: can't make a folder in %s: %s\n", kept, strerror(errno)); pass_through(); }

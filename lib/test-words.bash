@@ -1,4 +1,4 @@
-# shellcheck shell=bash
+# shellcheck shell=bash disable=SC2016,SC2154
 # Words of commands, which bin/test-builds takes in: each command ends as by the compiler alone, with the same status, the same messages on
 # both streams and the same files, at a first call, at a second one, and after a change of the source.
 
@@ -14,7 +14,7 @@ word_files() {
         printf '\t.globl h\nh:\n\tmovl $%s, %%eax\n\tret\n' "${1:-1}" >asm.s
         printf '#define VALUE $%s\n\t.globl h\nh:\n\tmovl VALUE, %%eax\n\tret\n' "${1:-1}" >asm.S
         cp asm.S other.sx
-        printf '%s\n' '-g' >words
+        printf '%s\n' '--fatal-warnings' >words
         ln -s "$host" links/gcc
         ln -s "$host" links/clang
     )

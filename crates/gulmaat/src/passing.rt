@@ -43,10 +43,8 @@ fn has_word(words: &[OsBytes], word: &[u8]) -> bool {
 /// Whether the words ask for an object, and for it on standard output.
 fn is_on_standard_output(words: &[OsBytes]) -> bool {
     let behind = words.iter().skip(1);
-    let is_named = words
-        .iter()
-        .zip(behind)
-        .any(|pair| pair.0.as_bytes() == "-o".as_bytes() && pair.1.as_bytes() == "-".as_bytes());
+    let is_named = words.iter().zip(behind).any(|pair| pair.0.as_bytes() == "-o".as_bytes()
+        && pair.1.as_bytes() == "-".as_bytes());
     (is_named || has_word(words, b"-o-"))
         && has_word(words, b"-c")
         && !has_word(words, b"-E")
@@ -71,9 +69,16 @@ pub fn reason_against(alloc: Global, line: &CommandLine) -> Result<Option<String
     }
 }
 
-/// The first word that isn't known, where an object is asked for; any other command is the session's to pass through.
+/// Whether an object may be asked for, by these words or those in a file of words.
+fn may_ask_for_object(words: &[OsBytes]) -> bool {
+    has_word(words, b"-c")
+        || has_word(words, b"-S")
+        || words.iter().any(|it| it.as_bytes().starts_with(b"@"))
+}
+
+/// The first word that isn't known, where an object may be asked for; any other command is the session's to pass through.
 fn unknown_in(alloc: Global, words: &[OsBytes]) -> Result<Option<String>, Stop> {
-    if !has_word(words, b"-c") && !has_word(words, b"-S") {
+    if !may_ask_for_object(words) {
         return Ok(None);
     }
     match unknown_word(alloc, words)? {
