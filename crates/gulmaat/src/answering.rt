@@ -96,7 +96,7 @@ pub fn answered<H: HashState>(
     // The session asks stores that hold what the disk keeps, and nothing else: where that is kept under the key asked for, it is found.
     ensures asked { let tools = ⟦<ReplayTool as Preprocessor>⟧ in
         let a = account_at (recorded tool.old.text tool.old.outputs)
-            (⟦<SnapshotFiles as Files>⟧.tree files.old) config.keys request.now in
+        (⟦<SnapshotFiles as Files>⟧.tree files.old) config.keys request.now in
         (old : Shelves) × Holds record_kept old.entries × Holds entry old.objects
         × AskedTurn H.digest_of config.max_kept a old
         (shelves_of (shelf_of ⟦<EntryKey as PartialEq>⟧.eq result.session.entries.inner)
@@ -106,7 +106,7 @@ pub fn answered<H: HashState>(
 
     // It is passed through exactly where the verdict says, unless memory was refused first; a fault has its cause.
     ensures says { let a = account_at (recorded tool.old.text tool.old.outputs)
-            (⟦<SnapshotFiles as Files>⟧.tree files.old) config.keys request.now in
+        (⟦<SnapshotFiles as Files>⟧.tree files.old) config.keys request.now in
         SaysBy GoesOn a (FilesFail ⟦<SnapshotFiles as Files>⟧ files.old files.new)
         (ToolFails ⟦<ReplayTool as Preprocessor>⟧ tool.old tool.new) result.answer }
 

@@ -76,10 +76,8 @@ fn has_word(words: &[OsBytes], word: &[u8]) -> bool {
 /// Whether the words ask for an object, and for it on standard output.
 fn is_on_standard_output(words: &[OsBytes]) -> bool {
     let behind = words.iter().skip(1);
-    let is_named = words
-        .iter()
-        .zip(behind)
-        .any(|pair| pair.0.as_bytes() == "-o".as_bytes() && pair.1.as_bytes() == "-".as_bytes());
+    let is_named = words.iter().zip(behind).any(|pair| pair.0.as_bytes() == "-o".as_bytes()
+        && pair.1.as_bytes() == "-".as_bytes());
     (is_named || has_word(words, b"-o-"))
         && has_word(words, b"-c")
         && !has_word(words, b"-E")

@@ -37,11 +37,7 @@ fn place_in<R: Files + AllocGlobal>(
 }
 
 /// Opens the file of that name, to be read and to have records put behind the others.
-fn open_file<R: Files<File = File>>(
-    rt: &R,
-    place: &str,
-    umask: Option<u32>,
-) -> io::Result<File> {
+fn open_file<R: Files<File = File>>(rt: &R, place: &str, umask: Option<u32>) -> io::Result<File> {
     let is_new = fs::metadata(rt, place).is_err();
     let mut options = OpenOptions::new();
     options.read(true).append(true).create(true);

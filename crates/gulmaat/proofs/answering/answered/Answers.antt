@@ -37,11 +37,12 @@ returns-clause-asked g c =
     let limit = ap (λ s. s.max_kept) c.new-session.ensures in
     let entries = ap (λ s. s.entries.inner) c.new-session.ensures ∙ c.new-entries.ensures.inner in
     let store = ap (λ s. s.objects.inner) c.new-session.ensures ∙ c.new-objects.ensures.inner in
-    rw (sym settings, sym limit)
-    (shelves_of (shelf_of entry_eq.ghosts.eq session.entries.inner) (shelf_of key_eq.ghosts.eq session.objects.inner),
-    rw entries c.records_over.ensures,
-    rw store c.store_over.ensures,
-    c.replayed-answer.ensures.asked)
+    rw (sym settings, sym limit) (
+      shelves_of (shelf_of entry_eq.ghosts.eq session.entries.inner) (shelf_of key_eq.ghosts.eq session.objects.inner),
+      rw entries c.records_over.ensures,
+      rw store c.store_over.ensures,
+      c.replayed-answer.ensures.asked,
+    )
 
 pub returns-clause-says : goal.returns-clause-says
 returns-clause-says g c =
