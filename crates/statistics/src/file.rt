@@ -101,7 +101,8 @@ fn fold<R: Files + AllocGlobal>(
     replace(rt, place, umask, counts.records(rt.alloc())?.as_slice())
 }
 
-/// Counts these names once more each, in a file that is made under this umask where it isn't there. A record that a full disk cut short is taken away first.
+/// Counts these names once more each, in a file that is made under this umask where it isn't there. A record that a full disk cut
+/// short is taken away first.
 pub fn count<R: Files<File = File> + AllocGlobal>(
     rt: &R,
     path: &str,
