@@ -84,7 +84,7 @@ fn equal_ahead<T: PartialEq>(one: &[T], earlier: &[T]) -> usize {
 }
 
 /// The first items in which two rows differ, each of its own side.
-fn sides<'a, T: PartialEq>(one: &'a [T], earlier: &'a [T]) -> Sides<&'a T>
+fn both_sides<'a, T: PartialEq>(one: &'a [T], earlier: &'a [T]) -> Sides<&'a T>
     ensures here { option_copied result.here ≡ slice_get one.now result.ahead }
     ensures there { option_copied result.there ≡ slice_get earlier.now result.ahead }
 {
@@ -125,7 +125,7 @@ fn write_first<W: fmt::Write>(
     one: &[OsBytes],
     earlier: &[OsBytes],
 ) -> fmt::Result {
-    let sides = sides(one, earlier);
+    let sides = both_sides(one, earlier);
     let number = sides.ahead.saturating_add(1);
     let here = OrNone(sides.here);
     let there = OrNone(sides.there);
@@ -137,7 +137,7 @@ fn write_variables<W: fmt::Write>(
     one: &[(OsBytes, OsBytes)],
     earlier: &[(OsBytes, OsBytes)],
 ) -> fmt::Result {
-    let sides = sides(one, earlier);
+    let sides = both_sides(one, earlier);
     let here = OrNone(sides.here.map(|pair| Variable(pair)));
     let there = OrNone(sides.there.map(|pair| Variable(pair)));
     write!(f, "variable: {here}, earlier {there}")
@@ -148,7 +148,7 @@ fn write_env_deps<W: fmt::Write>(
     one: &[EnvDep],
     earlier: &[EnvDep],
 ) -> fmt::Result {
-    let sides = sides(one, earlier);
+    let sides = both_sides(one, earlier);
     let here = OrNone(sides.here.map(|dep| Named(dep)));
     let there = OrNone(sides.there.map(|dep| Named(dep)));
     write!(f, "variable of the source: {here}, earlier {there}")
@@ -159,7 +159,7 @@ fn write_names<W: fmt::Write>(
     one: &[OutputName],
     earlier: &[OutputName],
 ) -> fmt::Result {
-    let sides = sides(one, earlier);
+    let sides = both_sides(one, earlier);
     let number = sides.ahead.saturating_add(1);
     let here = OrNone(sides.here.map(|name| Marked(name)));
     let there = OrNone(sides.there.map(|name| Marked(name)));

@@ -364,7 +364,10 @@ impl Tool for ReplayTool {
         // What is lacking is this command, with the paths where its outputs go.
         ensures lacking { IsErrOf result ToolFail.Device → self.new.wanted
             ≡ Some (record {
-                step = Step.Compile; words = command.now.arguments; paths = paths_in outputs.now }) }
+              step = Step.Compile;
+              words = command.now.arguments;
+              paths = paths_in outputs.now;
+            }) }
     {
         let _ = files;
         self.compiled = self.compiled.wrapping_add(1);

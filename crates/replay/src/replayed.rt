@@ -53,14 +53,14 @@ pub fn replayed<
 
     // It is passed through exactly where the verdict says, unless memory was refused first; a fault has its cause.
     ensures says { let a = account_at (recorded tool.old.text tool.old.outputs) (F.tree files.old)
-            session.old.settings request.now in
+        session.old.settings request.now in
         SaysBy GoesOn a (FilesFail F.Files files.old files.new)
         (ToolFails ⟦<ReplayTool as Preprocessor>⟧ tool.old tool.new) result }
 
     // Under which key it asks the store of outputs, what it does to that, and where outputs come from.
     ensures asked { let tools = ⟦<ReplayTool as Preprocessor>⟧ in
         let a = account_at (recorded tool.old.text tool.old.outputs) (F.tree files.old)
-            session.old.settings request.now in
+        session.old.settings request.now in
         AskedTurn H.digest_of session.old.max_kept a
         (shelves_of (E.shelf session.old.entries) (O.shelf session.old.objects))
         (shelves_of (E.shelf session.new.entries) (O.shelf session.new.objects))

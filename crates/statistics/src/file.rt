@@ -37,11 +37,7 @@ fn place_in<R: Files + AllocGlobal>(
 }
 
 /// Opens the file of that name, to be read and to have records put behind the others.
-fn open_file<R: Files<File = File>>(
-    rt: &R,
-    place: &str,
-    umask: Option<u32>,
-) -> io::Result<File> {
+fn open_file<R: Files<File = File>>(rt: &R, place: &str, umask: Option<u32>) -> io::Result<File> {
     let is_new = fs::metadata(rt, place).is_err();
     let mut options = OpenOptions::new();
     options.read(true).append(true).create(true);
@@ -105,7 +101,8 @@ fn fold<R: Files + AllocGlobal>(
     replace(rt, place, umask, counts.records(rt.alloc())?.as_slice())
 }
 
-/// Counts these names once more each, in a file that is made under this umask where it isn't there. A record that a full disk cut short is taken away first.
+/// Counts these names once more each, in a file that is made under this umask where it isn't there. A record that a full disk cut
+/// short is taken away first.
 pub fn count<R: Files<File = File> + AllocGlobal>(
     rt: &R,
     path: &str,
