@@ -1,6 +1,6 @@
 //! Laws over runs. Calls of them do nothing.
 
-ghost use Rattle.std.specs.Prelude.{◌≡◌, ◌↔◌, ◌∷◌, ◌++◌, [], ℕ, ℤ, true, false, List, Option, None, Some, Result, Ok, codes, length};
+ghost use Rattle.std.specs.Prelude.{◌≡◌, ◌↔◌, ◌∷◌, ◌++◌, [], ℕ, ℤ, true, false, List, Option, None, Some, Result, Ok, codes, is_some, length};
 ghost use Rattle.os_files.specs.Tree.{Tree};
 ghost use Rattle.include_records.specs.Records.{Record};
 ghost use Rattle.entry_keys.specs.declared.entry_key.EntryKey.{EntryKey};
@@ -17,11 +17,12 @@ ghost use Rattle.wrap_keys.specs.Account.{Account, Pairs, Work, account_at, dire
 ghost use Rattle.wrap.specs.SameCalls.{AreSameButForCfgs, AreSameWithoutFolders};
 ghost use Rattle.ckeys_records.specs.Folders.{Settings};
 ghost use Rattle.rustkeys.specs.Calls.{RustCall};
+ghost use Rattle.rustkeys.specs.Fresh.{ComesOfWords, emits_dep_info};
 ghost use Rattle.wrap_keys.specs.Asking.{EntriesTurn, RecordsAreTrue, Shelves};
 ghost use Rattle.wrap_base.specs.declared.request.Request.{Request};
 ghost use Rattle.fingerprints.specs.Fingerprints.{fingerprint_of};
 ghost use Rattle.wrap_keys.specs.Sizes.{is_within};
-ghost use Rattle.wrap_keys.specs.StoreKeys.{Premises, SameRecord, store_key_of, store_key_with};
+ghost use Rattle.wrap_keys.specs.StoreKeys.{HasRecord, Premises, SameRecord, store_key_of, store_key_with};
 ghost use Rattle.wrap_keys.specs.Turn.{FreshTurn, PutsBy};
 ghost use Rattle.wrap_keys.specs.Whole.{BothRun, IsFresh, IsFreshWithin, Run, SameOutputs, Served, accounts_of};
 ghost use Rattle.ckeys_records.specs.declared.fault.Fault.{Fault};
@@ -37,7 +38,7 @@ use ckeys_base::hash_state::HashState;
 use ckeys_records::laws::keys_tell_records;
 use fingerprints::laws::fingerprints_tell_records;
 use rustc_texts::laws::cfg_places_do_not_count;
-use rustkeys::laws::rustc_keys_tell_records;
+use rustkeys::laws::{dep_info_is_told_where_emitted, rustc_keys_tell_records};
 
 /// Two runs of one list of calls, over stores that forget and refuse as they like, give equal outputs wherever both answer
 /// with outputs, and equal texts on dependencies beside them, whatever the limits are on what they keep.
@@ -183,4 +184,14 @@ pub fn cfg_places_do_not_count_in_store_keys()
         ≡ store_key_of digest_of (rust_work_at meaning other) }
 {
     cfg_places_do_not_count();
+}
+
+/// The text on dependencies that `serve` answers beside the outputs of a request to rustc is there exactly where the request's words
+/// emit it.
+pub fn dep_info_is_answered_where_emitted()
+    ensures { (meaning : Meaning) (call : RustCall) → ComesOfWords call.question.asks
+        → HasRecord (rust_work_at meaning call)
+        → is_some (rust_work_at meaning call).dep_info ≡ emits_dep_info call.question.asks }
+{
+    dep_info_is_told_where_emitted();
 }

@@ -1,8 +1,11 @@
 //! Keys under which outputs are kept.
 
-ghost use Rattle.std.specs.Prelude.{◌≡◌, ◌↔◌, ◌++◌, true};
+ghost use Rattle.std.specs.Prelude.{◌≡◌, ◌↔◌, ◌++◌, pos, true};
+ghost use Rattle.std.specs.Hash as fed;
 ghost use Rattle.std.specs.Ordering.{ordering_then};
 ghost use Rattle.std.specs.declared.cmp.Ordering.TheVariants.{Equal};
+ghost use Rattle.ckeys_records.specs.declared.shape.CShape.{CShape};
+ghost use Rattle.rustc_parts.specs.declared.parts.RShape.{RShape};
 ghost use Rattle.wrap_base.specs.declared.store_key.StoreKey.{StoreKey};
 
 use ckeys_records::output_name::OutputName;
@@ -40,7 +43,8 @@ pub struct StoreKey {
 pub type Pairs = Listed<(OsBytes, OsBytes)>;
 
 /// Keys are equal exactly if their fields are, and so they are in order. They are ordered by the family, then the shape, then the
-/// names, then the digest, and what is hashed of one is what is hashed of these, in this order.
+/// names, then the digest, and what is hashed of one is what is hashed of these, in this order; of a shape, the index of its family
+/// and then its contents.
 pub fn keys_are_their_fields()
     ensures equal { (one other : StoreKey)
         → (⟦<StoreKey as PartialEq>⟧.eq one other ≡ true) ↔ (one ≡ other) }
@@ -56,6 +60,10 @@ pub fn keys_are_their_fields()
         ≡ ⟦<Family as Hash>⟧.hash_input key.family ++ ⟦<Shape as Hash>⟧.hash_input key.shape
         ++ ⟦<Listed<OutputName> as Hash>⟧.hash_input key.names ++ ⟦<OsBytes as Hash>⟧.hash_input
         key.digest }
+    ensures c_hashed { (shape : CShape) → ⟦<Shape as Hash>⟧.hash_input (Shape.C shape)
+        ≡ fed.isize (pos 0) ++ ⟦<CShape as Hash>⟧.hash_input shape }
+    ensures rustc_hashed { (shape : RShape) → ⟦<Shape as Hash>⟧.hash_input (Shape.Rustc shape)
+        ≡ fed.isize (pos 1) ++ ⟦<RShape as Hash>⟧.hash_input shape }
 {
     ties_are_equal::<StoreKey>();
 }

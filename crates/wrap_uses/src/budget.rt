@@ -1,8 +1,8 @@
 //! A store with a budget: what would pass it is handed back.
 
-ghost use Rattle.std.specs.Prelude.{◌≡◌};
+ghost use Rattle.std.specs.Prelude.{◌≡◌, OnErr};
 ghost use Rattle.wrap.specs.Shelf.{Puts};
-ghost use Rattle.wrap_uses.specs.Budgets.{Left, Spends, shelf_of, size_of};
+ghost use Rattle.wrap_uses.specs.Budgets.{IsRefused, Left, Spends, shelf_of, size_of};
 
 use wrap::{OsBytes, Pairs, Store, StoreKey};
 
@@ -69,6 +69,9 @@ impl<O: Store<StoreKey, Pairs>> Store<StoreKey, Pairs> for BudgetStore<O> {
     fn put(&mut self, key: StoreKey, value: Pairs) -> Result<(), (StoreKey, Pairs)>
         ensures stored { Puts ⟦<StoreKey as PartialEq>⟧.eq (shelf_of O.shelf self.old)
             (shelf_of O.shelf self.new) key value result }
+        // It refuses only what would pass the budget, or what the other store refuses.
+        ensures refused { OnErr result
+            (IsRefused ⟦<StoreKey as PartialEq>⟧.eq O.shelf self.old self.new key value) }
         // What is kept takes its size from what is left, so that it never passes the budget.
         ensures spent { Spends (size_of value) self.old.left self.new.left result }
     {
