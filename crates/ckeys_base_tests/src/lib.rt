@@ -2,13 +2,13 @@
 #![tactic(auto)]
 
 #[cfg(test)]
-mod bounded_store;
-#[cfg(test)]
 mod digest;
 #[cfg(test)]
 mod duration;
 #[cfg(test)]
 mod hexadecimal;
+#[cfg(test)]
+mod many_pairs;
 #[cfg(test)]
 mod normalize;
 #[cfg(test)]
