@@ -22,14 +22,24 @@ def text_of(path):
         return file.read()
 
 
+def words_of(table):
+    """The words of a table, between which its lines are joined."""
+    return {word for word in table.split() if word != "\\"}
+
+
+def tables():
+    """The tables of the crate by their names."""
+    return dict(re.findall(r'pub const (\w+): &str = "([^"]*)";', text_of(f"{SOURCES}/tables.rt")))
+
+
 class Known:
     """The tables of the crate, read from its sources."""
 
     def __init__(self):
-        tables = dict(re.findall(r'pub const (\w+): &str = "([^"]*)";', text_of(f"{SOURCES}/tables.rt")))
+        named = tables()
         lists = dict(re.findall(r"const (\w+): \[&str; \d+\] = \[(.*?)\];", text_of(f"{SOURCES}/words.rt"), re.S))
-        self.whole = set(tables["WHOLE"].split())
-        self.valued = {line.partition("=")[0] for line in tables["VALUED"].split()}
+        self.whole = words_of(named["WHOLE"])
+        self.valued = {word.partition("=")[0] for word in words_of(named["VALUED"])}
         self.take = set(re.findall(r'"([^"]*)"', lists["TAKE_NEXT"] + lists["TAKE_KNOWN"]))
         self.fronts = tuple(re.findall(r'"([^"]*)"', lists["FRONTS"]))
         self.others = tuple(re.findall(r'"([^"]*)"', lists["OTHERS"]))

@@ -12,7 +12,7 @@ import tempfile
 from concurrent.futures import ThreadPoolExecutor
 
 sys.path.insert(0, os.path.dirname(os.path.realpath(__file__)))
-from check import SOURCES, text_of  # noqa: E402
+from check import tables, words_of  # noqa: E402
 
 SOURCE = """#include <stddef.h>
 static int twice(int a) {{ return a + a; }}
@@ -26,12 +26,12 @@ NUMBER, TEXT = "16", {"-march=": ["native", "x86-64-v3"], "-mtune=": ["native", 
 
 def words():
     """All words: those that stand alone with their `no-` forms, and those with each value that the table names."""
-    tables = dict(re.findall(r'pub const (\w+): &str = "([^"]*)";', text_of(f"{SOURCES}/tables.rt")))
-    for word in tables["WHOLE"].split():
+    named = tables()
+    for word in sorted(words_of(named["WHOLE"])):
         yield word
         if re.match(r"-[fmg][a-z]", word):
             yield f"{word[:2]}no-{word[2:]}"
-    for line in tables["VALUED"].split():
+    for line in sorted(words_of(named["VALUED"])):
         option, _, said = line.partition("=")
         values = [NUMBER, "1"] if said == "#" else TEXT.get(f"{option}=", ["x"]) if said == "*" else said.split(",")
         for value in values:

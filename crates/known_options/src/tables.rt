@@ -1,1201 +1,204 @@
-//! The words of GCC and Clang that are known, as lines of texts: with each the object and what is printed hang on the text, the words and
-//! the compiler alone, and nothing is written but the object and what is kept beside it. They are of the help texts of GCC 12 and Clang 14
-//! (`--help=common,optimizers,c,c++,target`, `--help-hidden`) and of their manuals; lib/options/exceptions says of each other option there
-//! why it isn't here, and bin/check-options that none is forgotten.
+//! The words of GCC and Clang that are known, as texts with a space on both sides of each: with each the object and what is printed hang on
+//! the text, the words and the compiler alone, and nothing is written but the object and what is kept beside it. They are of the help texts
+//! of GCC 12 and Clang 14 (`--help=common,optimizers,c,c++,target`, `--help-hidden`) and of their manuals; lib/options/exceptions says of
+//! each other option there why it isn't here, and bin/check-options that none is forgotten.
 
-/// Words that stand alone. Of `-fno-NAME`, `-mno-NAME` and `-gno-NAME` the line is that without `no-`.
-pub const WHOLE: &str = "
--c
--S
--E
--M
--MM
--MD
--MMD
--MP
--ansi
--pedantic
--pedantic-errors
--w
--pipe
--pthread
--p
--pg
--undef
--trigraphs
--remap
--nostdinc
--nostdinc++
--nostdlibinc
--nobuiltininc
--s
--static
--shared
--pie
--no-pie
--static-pie
--rdynamic
--symbolic
--nostdlib
--nodefaultlibs
--nostartfiles
--nolibc
--static-libgcc
--static-libstdc++
--static-libasan
--static-libubsan
--static-libtsan
--static-liblsan
--shared-libgcc
--static-openmp
--Qunused-arguments
--Qn
--Qy
--canonical-prefixes
--no-canonical-prefixes
---start-no-unused-arguments
---end-no-unused-arguments
--g
--g0
--g1
--g2
--g3
--ggdb
--ggdb0
--ggdb1
--ggdb2
--ggdb3
--gdwarf
--gdwarf-2
--gdwarf-3
--gdwarf-4
--gdwarf-5
--gdwarf32
--gdwarf64
--gstabs
--gstabs0
--gstabs1
--gstabs2
--gstabs3
--gstabs+
--gas-loc-support
--gas-locview-support
--gbtf
--gctf
--gctf0
--gctf1
--gctf2
--gcolumn-info
--gdescribe-dies
--ggnu-pubnames
--gpubnames
--ginline-points
--ginternal-reset-location-views
--gsplit-dwarf
--gstatement-frontiers
--gstrict-dwarf
--gtoggle
--gvariable-location-views
--gz
--gline-tables-only
--gline-directives-only
--ginline-line-tables
--glldb
--gsce
--gdbx
--gvms
--fversion-loops-for-strides
--fPIC
--fPIE
--faapcs-bitfield-load
--faapcs-bitfield-width
--faccess-control
--faddrsig
--faggressive-loop-optimizations
--falign-functions
--falign-jumps
--falign-labels
--falign-loops
--faligned-allocation
--faligned-new
--fall-virtual
--fallocation-dce
--fallow-editor-placeholders
--fallow-parameterless-variadic-functions
--fallow-store-data-races
--falt-external-templates
--fanalyzer
--fanalyzer-call-summaries
--fanalyzer-feasibility
--fanalyzer-fine-grained
--fanalyzer-show-duplicate-count
--fanalyzer-state-merge
--fanalyzer-state-purge
--fanalyzer-transitivity
--fanalyzer-verbose-edges
--fanalyzer-verbose-state-changes
--fansi-escape-codes
--fapple-kext
--fapple-link-rtlib
--fapple-pragma-pack
--fapplication-extension
--fapprox-func
--fargument-alias
--fargument-noalias
--fargument-noalias-anything
--fargument-noalias-global
--fasm
--fassociative-math
--fassume-sane-operator-new
--fasync-exceptions
--fasynchronous-unwind-tables
--fauto-inc-dec
--fautolink
--fbit-tests
--fblocks
--fborland-extensions
--fbranch-count-reg
--fbranch-target-load-optimize
--fbranch-target-load-optimize2
--fbtr-bb-exclusive
--fbuiltin
--fc++-static-destructors
--fcall-saved-x10
--fcall-saved-x11
--fcall-saved-x12
--fcall-saved-x13
--fcall-saved-x14
--fcall-saved-x15
--fcall-saved-x18
--fcall-saved-x8
--fcall-saved-x9
--fcaller-saves
--fcanonical-system-headers
--fcf-protection
--fchar8_t
--fcheck-data-deps
--fcheck-new
--fcheck-pointer-bounds
--fchkp-check-incomplete-type
--fchkp-check-read
--fchkp-check-write
--fchkp-first-field-has-own-bounds
--fchkp-flexible-struct-trailing-arrays
--fchkp-instrument-calls
--fchkp-instrument-marked-only
--fchkp-narrow-bounds
--fchkp-narrow-to-innermost-array
--fchkp-optimize
--fchkp-store-bounds
--fchkp-treat-zero-dynamic-size-as-infinite
--fchkp-use-fast-string-functions
--fchkp-use-nochk-string-functions
--fchkp-use-static-bounds
--fchkp-use-static-const-bounds
--fchkp-use-wrappers
--fchkp-zero-input-bounds-for-main
--fcilkplus
--fcode-hoisting
--fcolor-diagnostics
--fcombine-stack-adjustments
--fcommon
--fcompare-elim
--fcomplete-member-pointers
--fconcepts
--fconcepts-ts
--fcond-mismatch
--fconserve-space
--fconserve-stack
--fconstant-cfstrings
--fconstexpr-fp-except
--fconvergent-functions
--fcoroutines
--fcoroutines-ts
--fcprop-registers
--fcrossjumping
--fcse-follow-jumps
--fcse-skip-blocks
--fcx-fortran-rules
--fcx-limited-range
--fcxx-exceptions
--fdata-sections
--fdce
--fdebug-info-for-profiling
--fdebug-ranges-base-address
--fdebug-types-section
--fdeclone-ctor-dtor
--fdeclspec
--fdeduce-init-list
--fdefault-inline
--fdefer-pop
--fdelayed-branch
--fdelayed-template-parsing
--fdelete-dead-exceptions
--fdelete-null-pointer-checks
--fdevirtualize
--fdevirtualize-at-ltrans
--fdevirtualize-speculatively
--fdiagnostics-absolute-paths
--fdiagnostics-color
--fdiagnostics-fixit-info
--fdiagnostics-generate-patch
--fdiagnostics-parseable-fixits
--fdiagnostics-plain-output
--fdiagnostics-print-source-range-info
--fdiagnostics-show-caret
--fdiagnostics-show-cwe
--fdiagnostics-show-labels
--fdiagnostics-show-line-numbers
--fdiagnostics-show-note-include-stack
--fdiagnostics-show-option
--fdiagnostics-show-path-depths
--fdiagnostics-show-template-tree
--fdigraphs
--fdirect-access-external-data
--fdiscard-value-names
--fdollars-in-identifiers
--fdouble-square-bracket-attributes
--fdse
--fdwarf-exceptions
--fdwarf2-cfi-asm
--fearly-inlining
--felide-constructors
--felide-type
--feliminate-dwarf2-dups
--feliminate-unused-debug-symbols
--feliminate-unused-debug-types
--femit-all-decls
--femit-class-debug-always
--femit-struct-debug-baseonly
--femit-struct-debug-reduced
--femulated-tls
--fenable-matrix
--fenforce-eh-specs
--fenum-int-equiv
--fexceptions
--fexpensive-optimizations
--fexperimental-new-constant-interpreter
--fexperimental-relative-c++-abi-vtables
--fexperimental-strict-floating-point
--fext-numeric-literals
--fextended-identifiers
--fextern-tls-init
--fexternal-templates
--ffast-math
--ffat-lto-objects
--ffine-grained-bitfield-accesses
--ffinite-loops
--ffinite-math-only
--ffixed-a0
--ffixed-a1
--ffixed-a2
--ffixed-a3
--ffixed-a4
--ffixed-a5
--ffixed-a6
--ffixed-d0
--ffixed-d1
--ffixed-d2
--ffixed-d3
--ffixed-d4
--ffixed-d5
--ffixed-d6
--ffixed-d7
--ffixed-point
--ffixed-r19
--ffixed-r9
--ffixed-x1
--ffixed-x10
--ffixed-x11
--ffixed-x12
--ffixed-x13
--ffixed-x14
--ffixed-x15
--ffixed-x16
--ffixed-x17
--ffixed-x18
--ffixed-x19
--ffixed-x2
--ffixed-x20
--ffixed-x21
--ffixed-x22
--ffixed-x23
--ffixed-x24
--ffixed-x25
--ffixed-x26
--ffixed-x27
--ffixed-x28
--ffixed-x29
--ffixed-x3
--ffixed-x30
--ffixed-x31
--ffixed-x4
--ffixed-x5
--ffixed-x6
--ffixed-x7
--ffixed-x8
--ffixed-x9
--ffloat-store
--ffold-simple-inlines
--ffor-scope
--fforce-addr
--fforce-dwarf-frame
--fforce-emit-vtables
--fforce-enable-int128
--fforward-propagate
--ffp-int-builtin-inexact
--ffreestanding
--ffriend-injection
--ffunction-cse
--ffunction-sections
--fgcse
--fgcse-after-reload
--fgcse-las
--fgcse-lm
--fgcse-sm
--fglobal-isel
--fgnu-inline-asm
--fgnu-keywords
--fgnu-tm
--fgnu-unique
--fgnu89-inline
--fgraphite
--fgraphite-identity
--fguess-branch-probability
--fguiding-decls
--fhandle-exceptions
--fharden-compares
--fharden-conditional-branches
--fhoist-adjacent-loads
--fhonor-std
--fhosted
--fhuge-objects
--fident
--fif-conversion
--fif-conversion2
--fignore-exceptions
--fimplement-inlines
--fimplicit-constexpr
--fimplicit-inline-templates
--fimplicit-templates
--findirect-inlining
--finhibit-size-directive
--finline
--finline-atomics
--finline-functions
--finline-functions-called-once
--finline-hint-functions
--finline-small-functions
--finstrument-function-entry-bare
--finstrument-functions
--finstrument-functions-after-inlining
--fintegrated-as
--fipa-bit-cp
--fipa-cp
--fipa-cp-alignment
--fipa-cp-clone
--fipa-icf
--fipa-icf-functions
--fipa-icf-variables
--fipa-matrix-reorg
--fipa-modref
--fipa-profile
--fipa-pta
--fipa-pure-const
--fipa-ra
--fipa-reference
--fipa-reference-addressable
--fipa-sra
--fipa-stack-alignment
--fipa-strict-aliasing
--fipa-struct-reorg
--fipa-vrp
--fira-hoist-pressure
--fira-loop-pressure
--fira-share-save-slots
--fira-share-spill-slots
--fisolate-erroneous-paths-attribute
--fisolate-erroneous-paths-dereference
--fivopts
--fjump-tables
--fkeep-gc-roots-live
--fkeep-inline-functions
--fkeep-static-consts
--fkeep-static-functions
--flabels-ok
--flarge-source-files
--flax-vector-conversions
--fleading-underscore
--flegacy-pass-manager
--flifetime-dse
--flimit-function-alignment
--flive-patching
--flive-range-shrinkage
--floop-block
--floop-flatten
--floop-interchange
--floop-nest-optimize
--floop-optimize
--floop-parallelize-all
--floop-strip-mine
--floop-unroll-and-jam
--flra-remat
--flto
--flto-odr-type-merging
--fmath-errno
--fmerge-all-constants
--fmerge-constants
--fmerge-debug-strings
--fmodulo-sched
--fmodulo-sched-allow-regmoves
--fmove-loop-invariants
--fmove-loop-stores
--fms-compatibility
--fms-extensions
--fms-hotpatch
--fmudflap
--fmudflapir
--fmudflapth
--fnew-abi
--fnew-infallible
--fnew-inheriting-ctors
--fnew-ttp-matching
--fnon-call-exceptions
--fnonansi-builtins
--fnonnull-objects
--fnothrow-opt
--fomit-frame-pointer
--fopenacc
--fopenmp
--fopenmp-enable-irbuilder
--fopenmp-extensions
--fopenmp-simd
--foperator-names
--foptimize-register-move
--foptimize-sibling-calls
--foptimize-strlen
--foptional-diags
--fpack-struct
--fpartial-inlining
--fpascal-strings
--fpcc-struct-return
--fpeel-loops
--fpeephole
--fpeephole2
--fpermissive
--fpic
--fpie
--fplan9-extensions
--fplt
--fpredictive-commoning
--fprefetch-loop-arrays
--fpreserve-as-comments
--fpretty-templates
--fprintf-return-value
--fprotect-parens
--frandom-seed
--freciprocal-math
--free
--freg-struct-return
--fregister-global-dtors-with-atexit
--fregmove
--frelaxed-template-template-args
--frename-registers
--freorder-blocks
--freorder-blocks-and-partition
--freorder-functions
--freroll-loops
--frerun-cse-after-loop
--frerun-loop-opt
--freschedule-modulo-scheduled-loops
--fropi
--frounding-math
--frtlib-add-rpath
--frtti
--frtti-data
--frwpi
--fsanitize-address-globals-dead-stripping
--fsanitize-address-outline-instrumentation
--fsanitize-address-poison-custom-array-cookie
--fsanitize-address-use-after-scope
--fsanitize-address-use-odr-indicator
--fsanitize-cfi-canonical-jump-tables
--fsanitize-cfi-cross-dso
--fsanitize-cfi-icall-generalize-pointers
--fsanitize-hwaddress-experimental-aliasing
--fsanitize-memory-param-retval
--fsanitize-memory-track-origins
--fsanitize-memory-use-after-dtor
--fsanitize-recover
--fsanitize-stats
--fsanitize-thread-atomics
--fsanitize-thread-func-entry-exit
--fsanitize-thread-memory-access
--fsanitize-trap
--fsanitize-undefined-trap-on-error
--fsched-critical-path-heuristic
--fsched-dep-count-heuristic
--fsched-group-heuristic
--fsched-interblock
--fsched-last-insn-heuristic
--fsched-pressure
--fsched-rank-heuristic
--fsched-spec
--fsched-spec-insn-heuristic
--fsched-spec-load
--fsched-spec-load-dangerous
--fsched-stalled-insns
--fsched-stalled-insns-dep
--fsched2-use-superblocks
--fsched2-use-traces
--fschedule-fusion
--fschedule-insns
--fschedule-insns2
--fsection-anchors
--fsee
--fseh-exceptions
--fsel-sched-pipelining
--fsel-sched-pipelining-outer-loops
--fsel-sched-reschedule-pipelined
--fselective-scheduling
--fselective-scheduling2
--fsemantic-interposition
--fshort-enums
--fshort-wchar
--fshow-column
--fshow-source-location
--fshrink-wrap
--fshrink-wrap-separate
--fsignaling-nans
--fsigned-bitfields
--fsigned-char
--fsigned-zeros
--fsingle-precision-constant
--fsized-deallocation
--fsjlj-exceptions
--fslp-vectorize
--fspell-checking
--fsplit-dwarf-inlining
--fsplit-ivs-in-unroller
--fsplit-loops
--fsplit-lto-unit
--fsplit-machine-functions
--fsplit-paths
--fsplit-stack
--fsplit-wide-types
--fsplit-wide-types-early
--fsquangle
--fssa-backprop
--fssa-phiopt
--fstack-check
--fstack-clash-protection
--fstack-limit
--fstack-protector
--fstack-protector-all
--fstack-protector-explicit
--fstack-protector-strong
--fstack-size-section
--fstandalone-debug
--fstdarg-opt
--fstore-merging
--fstrength-reduce
--fstrict-aliasing
--fstrict-enums
--fstrict-float-cast-overflow
--fstrict-overflow
--fstrict-prototype
--fstrict-return
--fstrict-volatile-bitfields
--fstrict-vtable-pointers
--fstrong-eval-order
--fsync-libcalls
--fthis-is-variable
--fthread-jumps
--fthreadsafe-statics
--ftoplevel-reorder
--ftracer
--ftrack-macro-expansion
--ftrampolines
--ftrapping-math
--ftrapv
--ftree-bit-ccp
--ftree-builtin-call-dce
--ftree-ccp
--ftree-ch
--ftree-coalesce-inlined-vars
--ftree-coalesce-vars
--ftree-copy-prop
--ftree-copyrename
--ftree-cselim
--ftree-dce
--ftree-dominator-opts
--ftree-dse
--ftree-forwprop
--ftree-fre
--ftree-loop-distribute-patterns
--ftree-loop-distribution
--ftree-loop-if-convert
--ftree-loop-if-convert-stores
--ftree-loop-im
--ftree-loop-ivcanon
--ftree-loop-linear
--ftree-loop-optimize
--ftree-loop-vectorize
--ftree-lrs
--ftree-partial-pre
--ftree-phiprop
--ftree-pre
--ftree-pta
--ftree-reassoc
--ftree-salias
--ftree-scev-cprop
--ftree-sink
--ftree-slp-vectorize
--ftree-slsr
--ftree-sra
--ftree-store-ccp
--ftree-store-copy-prop
--ftree-switch-conversion
--ftree-tail-merge
--ftree-ter
--ftree-vect-loop-version
--ftree-vectorize
--ftree-vrp
--ftrigraphs
--funconstrained-commons
--funique-basic-block-section-names
--funique-internal-linkage-names
--funique-section-names
--funit-at-a-time
--funroll-all-loops
--funroll-completely-grow-size
--funroll-loops
--funsafe-loop-optimizations
--funsafe-math-optimizations
--funsigned-bitfields
--funsigned-char
--funswitch-loops
--funwind-tables
--fuse-cxa-atexit
--fuse-cxa-get-exception-ptr
--fuse-init-array
--fuse-linker-plugin
--fvar-tracking
--fvar-tracking-assignments
--fvar-tracking-assignments-toggle
--fvar-tracking-uninit
--fvariable-expansion-in-unroller
--fvect-cost-model
--fvectorize
--fvirtual-function-elimination
--fvisibility-from-dllstorageclass
--fvisibility-global-new-delete-hidden
--fvisibility-inlines-hidden
--fvisibility-inlines-hidden-static-local-var
--fvisibility-ms-compat
--fvtable-gc
--fvtable-thunks
--fwasm-exceptions
--fweak
--fweb
--fwhole-program
--fwhole-program-vtables
--fwrapv
--fwrapv-pointer
--fwritable-strings
--fxl-pragma-pack
--fzee
--fzero-initialized-in-bss
--fzvector
--m128bit-long-double
--m16
--m32
--m3dnow
--m3dnowa
--m64
--m80387
--m8bit-idiv
--m96bit-long-double
--mabicalls
--mabm
--maccumulate-outgoing-args
--madx
--maes
--malign-double
--malign-stringops
--mamdgpu-ieee
--mamx-bf16
--mamx-int8
--mamx-tile
--mandroid
--mavx
--mavx2
--mavx256-split-unaligned-load
--mavx256-split-unaligned-store
--mavx5124fmaps
--mavx5124vnniw
--mavx512bf16
--mavx512bitalg
--mavx512bw
--mavx512cd
--mavx512dq
--mavx512er
--mavx512f
--mavx512fp16
--mavx512ifma
--mavx512pf
--mavx512vbmi
--mavx512vbmi2
--mavx512vl
--mavx512vnni
--mavx512vp2intersect
--mavx512vpopcntdq
--mavxvnni
--mbackchain
--mbionic
--mbmi
--mbmi2
--mbranches-within-32B-boundaries
--mbti-at-return-twice
--mcall-ms2sysv-xlogues
--mcet-switch
--mcld
--mcldemote
--mclflushopt
--mclwb
--mclzero
--mcmse
--mcode-object-v3
--mcrc
--mcrc32
--mcumode
--mcx16
--mdirect-extern-access
--mdispatch-scheduler
--meabi
--membedded-data
--menable-experimental-extensions
--menable-unsafe-fp-math
--menqcmd
--mexecute-only
--mextern-sdata
--mf16c
--mfancy-math-387
--mfentry
--mfix-cmse-cve-2021-35465
--mfix-cortex-a53-835769
--mfma
--mfma4
--mforce-drap
--mforce-indirect-call
--mfp-ret-in-387
--mfp32
--mfp64
--mfpxx
--mfsgsbase
--mfused-madd
--mfxsr
--mgeneral-regs-only
--mgfni
--mglibc
--mglobal-merge
--mgpopt
--mhard-float
--mhle
--mhreset
--mhvx
--mhvx-ieee-fp
--mhvx-qfloat
--miamcu
--mibt-seal
--mieee-fp
--mimplicit-float
--mincremental-linker-compatible
--mindirect-branch-cs-prefix
--mindirect-branch-register
--minline-all-stringops
--minline-stringops-dynamically
--mintel-syntax
--mips1
--mips2
--mips3
--mips32
--mips32r2
--mips32r3
--mips32r5
--mips32r6
--mips4
--mips5
--mips64
--mips64r2
--mips64r3
--mips64r5
--mips64r6
--mkl
--mlocal-sdata
--mlong-calls
--mlong-double-128
--mlong-double-64
--mlong-double-80
--mlvi-cfi
--mlvi-hardening
--mlwp
--mlzcnt
--mmadd4
--mmanual-endbr
--mmark-bti-property
--mmemops
--mmitigate-rop
--mmmx
--mmovbe
--mmovdir64b
--mmovdiri
--mmovt
--mmpx
--mms-bitfields
--mmsa
--mmt
--mmusl
--mmwait
--mmwaitx
--mneeded
--mneg-immediates
--mnocrc
--mnop-mcount
--mnvj
--mnvs
--modd-spreg
--momit-leaf-frame-pointer
--moutline
--moutline-atomics
--mpacked-stack
--mpackets
--mpc32
--mpc64
--mpc80
--mpclmul
--mpcommit
--mpconfig
--mpku
--mpopcnt
--mprefer-avx128
--mprefetchwt1
--mprfchw
--mptwrite
--mpush-args
--mqdsp6-compat
--mrdpid
--mrdrnd
--mrdseed
--mrecip
--mrecord-mcount
--mrecord-return
--mred-zone
--mrelax
--mrelax-all
--mrelax-cmpxchg-loop
--mrelax-pic-calls
--mrestrict-it
--mrtd
--mrtm
--msahf
--msave-restore
--mserialize
--mseses
--msgx
--msha
--mshstk
--mskip-rax-setup
--msoft-float
--msse
--msse2
--msse2avx
--msse3
--msse4
--msse4.1
--msse4.2
--msse4a
--msse5
--msseregparm
--mssse3
--mstack-arg-probe
--mstackrealign
--mstrict-align
--mstv
--mtbm
--mtgsplit
--mthread-model
--mtls-direct-seg-refs
--mtsxldtrk
--muclibc
--muintr
--munaligned-access
--munsafe-fp-atomics
--mvaes
--mvect8-ret-in-mem
--mvpclmulqdq
--mvzeroupper
--mwaitpkg
--mwavefrontsize64
--mwbnoinvd
--mwidekl
--mx32
--mxop
--mxsave
--mxsavec
--mxsaveopt
--mxsaves
-";
+/// Words that stand alone. For `-fno-NAME`, `-mno-NAME` and `-gno-NAME` stands that without `no-`.
+pub const WHOLE: &str = " \
+    -c -S -E -M -MM -MD -MMD -MP -ansi -pedantic -pedantic-errors -w -pipe -pthread -p -pg -undef -trigraphs -remap -nostdinc \
+    -nostdinc++ -nostdlibinc -nobuiltininc -s -static -shared -pie -no-pie -static-pie -rdynamic -symbolic -nostdlib -nodefaultlibs \
+    -nostartfiles -nolibc -static-libgcc -static-libstdc++ -static-libasan -static-libubsan -static-libtsan -static-liblsan \
+    -shared-libgcc -static-openmp -Qunused-arguments -Qn -Qy -canonical-prefixes -no-canonical-prefixes --start-no-unused-arguments \
+    --end-no-unused-arguments -g -g0 -g1 -g2 -g3 -ggdb -ggdb0 -ggdb1 -ggdb2 -ggdb3 -gdwarf -gdwarf-2 -gdwarf-3 -gdwarf-4 -gdwarf-5 \
+    -gdwarf32 -gdwarf64 -gstabs -gstabs0 -gstabs1 -gstabs2 -gstabs3 -gstabs+ -gas-loc-support -gas-locview-support -gbtf -gctf -gctf0 \
+    -gctf1 -gctf2 -gcolumn-info -gdescribe-dies -ggnu-pubnames -gpubnames -ginline-points -ginternal-reset-location-views \
+    -gsplit-dwarf -gstatement-frontiers -gstrict-dwarf -gtoggle -gvariable-location-views -gz -gline-tables-only \
+    -gline-directives-only -ginline-line-tables -glldb -gsce -gdbx -gvms -fversion-loops-for-strides -fPIC -fPIE -faapcs-bitfield-load \
+    -faapcs-bitfield-width -faccess-control -faddrsig -faggressive-loop-optimizations -falign-functions -falign-jumps -falign-labels \
+    -falign-loops -faligned-allocation -faligned-new -fall-virtual -fallocation-dce -fallow-editor-placeholders \
+    -fallow-parameterless-variadic-functions -fallow-store-data-races -falt-external-templates -fanalyzer -fanalyzer-call-summaries \
+    -fanalyzer-feasibility -fanalyzer-fine-grained -fanalyzer-show-duplicate-count -fanalyzer-state-merge -fanalyzer-state-purge \
+    -fanalyzer-transitivity -fanalyzer-verbose-edges -fanalyzer-verbose-state-changes -fansi-escape-codes -fapple-kext \
+    -fapple-link-rtlib -fapple-pragma-pack -fapplication-extension -fapprox-func -fargument-alias -fargument-noalias \
+    -fargument-noalias-anything -fargument-noalias-global -fasm -fassociative-math -fassume-sane-operator-new -fasync-exceptions \
+    -fasynchronous-unwind-tables -fauto-inc-dec -fautolink -fbit-tests -fblocks -fborland-extensions -fbranch-count-reg \
+    -fbranch-target-load-optimize -fbranch-target-load-optimize2 -fbtr-bb-exclusive -fbuiltin -fc++-static-destructors \
+    -fcall-saved-x10 -fcall-saved-x11 -fcall-saved-x12 -fcall-saved-x13 -fcall-saved-x14 -fcall-saved-x15 -fcall-saved-x18 \
+    -fcall-saved-x8 -fcall-saved-x9 -fcaller-saves -fcanonical-system-headers -fcf-protection -fchar8_t -fcheck-data-deps -fcheck-new \
+    -fcheck-pointer-bounds -fchkp-check-incomplete-type -fchkp-check-read -fchkp-check-write -fchkp-first-field-has-own-bounds \
+    -fchkp-flexible-struct-trailing-arrays -fchkp-instrument-calls -fchkp-instrument-marked-only -fchkp-narrow-bounds \
+    -fchkp-narrow-to-innermost-array -fchkp-optimize -fchkp-store-bounds -fchkp-treat-zero-dynamic-size-as-infinite \
+    -fchkp-use-fast-string-functions -fchkp-use-nochk-string-functions -fchkp-use-static-bounds -fchkp-use-static-const-bounds \
+    -fchkp-use-wrappers -fchkp-zero-input-bounds-for-main -fcilkplus -fcode-hoisting -fcolor-diagnostics -fcombine-stack-adjustments \
+    -fcommon -fcompare-elim -fcomplete-member-pointers -fconcepts -fconcepts-ts -fcond-mismatch -fconserve-space -fconserve-stack \
+    -fconstant-cfstrings -fconstexpr-fp-except -fconvergent-functions -fcoroutines -fcoroutines-ts -fcprop-registers -fcrossjumping \
+    -fcse-follow-jumps -fcse-skip-blocks -fcx-fortran-rules -fcx-limited-range -fcxx-exceptions -fdata-sections -fdce \
+    -fdebug-info-for-profiling -fdebug-ranges-base-address -fdebug-types-section -fdeclone-ctor-dtor -fdeclspec -fdeduce-init-list \
+    -fdefault-inline -fdefer-pop -fdelayed-branch -fdelayed-template-parsing -fdelete-dead-exceptions -fdelete-null-pointer-checks \
+    -fdevirtualize -fdevirtualize-at-ltrans -fdevirtualize-speculatively -fdiagnostics-absolute-paths -fdiagnostics-color \
+    -fdiagnostics-fixit-info -fdiagnostics-generate-patch -fdiagnostics-parseable-fixits -fdiagnostics-plain-output \
+    -fdiagnostics-print-source-range-info -fdiagnostics-show-caret -fdiagnostics-show-cwe -fdiagnostics-show-labels \
+    -fdiagnostics-show-line-numbers -fdiagnostics-show-note-include-stack -fdiagnostics-show-option -fdiagnostics-show-path-depths \
+    -fdiagnostics-show-template-tree -fdigraphs -fdirect-access-external-data -fdiscard-value-names -fdollars-in-identifiers \
+    -fdouble-square-bracket-attributes -fdse -fdwarf-exceptions -fdwarf2-cfi-asm -fearly-inlining -felide-constructors -felide-type \
+    -feliminate-dwarf2-dups -feliminate-unused-debug-symbols -feliminate-unused-debug-types -femit-all-decls -femit-class-debug-always \
+    -femit-struct-debug-baseonly -femit-struct-debug-reduced -femulated-tls -fenable-matrix -fenforce-eh-specs -fenum-int-equiv \
+    -fexceptions -fexpensive-optimizations -fexperimental-new-constant-interpreter -fexperimental-relative-c++-abi-vtables \
+    -fexperimental-strict-floating-point -fext-numeric-literals -fextended-identifiers -fextern-tls-init -fexternal-templates \
+    -ffast-math -ffat-lto-objects -ffine-grained-bitfield-accesses -ffinite-loops -ffinite-math-only -ffixed-a0 -ffixed-a1 -ffixed-a2 \
+    -ffixed-a3 -ffixed-a4 -ffixed-a5 -ffixed-a6 -ffixed-d0 -ffixed-d1 -ffixed-d2 -ffixed-d3 -ffixed-d4 -ffixed-d5 -ffixed-d6 \
+    -ffixed-d7 -ffixed-point -ffixed-r19 -ffixed-r9 -ffixed-x1 -ffixed-x10 -ffixed-x11 -ffixed-x12 -ffixed-x13 -ffixed-x14 -ffixed-x15 \
+    -ffixed-x16 -ffixed-x17 -ffixed-x18 -ffixed-x19 -ffixed-x2 -ffixed-x20 -ffixed-x21 -ffixed-x22 -ffixed-x23 -ffixed-x24 -ffixed-x25 \
+    -ffixed-x26 -ffixed-x27 -ffixed-x28 -ffixed-x29 -ffixed-x3 -ffixed-x30 -ffixed-x31 -ffixed-x4 -ffixed-x5 -ffixed-x6 -ffixed-x7 \
+    -ffixed-x8 -ffixed-x9 -ffloat-store -ffold-simple-inlines -ffor-scope -fforce-addr -fforce-dwarf-frame -fforce-emit-vtables \
+    -fforce-enable-int128 -fforward-propagate -ffp-int-builtin-inexact -ffreestanding -ffriend-injection -ffunction-cse \
+    -ffunction-sections -fgcse -fgcse-after-reload -fgcse-las -fgcse-lm -fgcse-sm -fglobal-isel -fgnu-inline-asm -fgnu-keywords \
+    -fgnu-tm -fgnu-unique -fgnu89-inline -fgraphite -fgraphite-identity -fguess-branch-probability -fguiding-decls -fhandle-exceptions \
+    -fharden-compares -fharden-conditional-branches -fhoist-adjacent-loads -fhonor-std -fhosted -fhuge-objects -fident -fif-conversion \
+    -fif-conversion2 -fignore-exceptions -fimplement-inlines -fimplicit-constexpr -fimplicit-inline-templates -fimplicit-templates \
+    -findirect-inlining -finhibit-size-directive -finline -finline-atomics -finline-functions -finline-functions-called-once \
+    -finline-hint-functions -finline-small-functions -finstrument-function-entry-bare -finstrument-functions \
+    -finstrument-functions-after-inlining -fintegrated-as -fipa-bit-cp -fipa-cp -fipa-cp-alignment -fipa-cp-clone -fipa-icf \
+    -fipa-icf-functions -fipa-icf-variables -fipa-matrix-reorg -fipa-modref -fipa-profile -fipa-pta -fipa-pure-const -fipa-ra \
+    -fipa-reference -fipa-reference-addressable -fipa-sra -fipa-stack-alignment -fipa-strict-aliasing -fipa-struct-reorg -fipa-vrp \
+    -fira-hoist-pressure -fira-loop-pressure -fira-share-save-slots -fira-share-spill-slots -fisolate-erroneous-paths-attribute \
+    -fisolate-erroneous-paths-dereference -fivopts -fjump-tables -fkeep-gc-roots-live -fkeep-inline-functions -fkeep-static-consts \
+    -fkeep-static-functions -flabels-ok -flarge-source-files -flax-vector-conversions -fleading-underscore -flegacy-pass-manager \
+    -flifetime-dse -flimit-function-alignment -flive-patching -flive-range-shrinkage -floop-block -floop-flatten -floop-interchange \
+    -floop-nest-optimize -floop-optimize -floop-parallelize-all -floop-strip-mine -floop-unroll-and-jam -flra-remat -flto \
+    -flto-odr-type-merging -fmath-errno -fmerge-all-constants -fmerge-constants -fmerge-debug-strings -fmodulo-sched \
+    -fmodulo-sched-allow-regmoves -fmove-loop-invariants -fmove-loop-stores -fms-compatibility -fms-extensions -fms-hotpatch -fmudflap \
+    -fmudflapir -fmudflapth -fnew-abi -fnew-infallible -fnew-inheriting-ctors -fnew-ttp-matching -fnon-call-exceptions \
+    -fnonansi-builtins -fnonnull-objects -fnothrow-opt -fomit-frame-pointer -fopenacc -fopenmp -fopenmp-enable-irbuilder \
+    -fopenmp-extensions -fopenmp-simd -foperator-names -foptimize-register-move -foptimize-sibling-calls -foptimize-strlen \
+    -foptional-diags -fpack-struct -fpartial-inlining -fpascal-strings -fpcc-struct-return -fpeel-loops -fpeephole -fpeephole2 \
+    -fpermissive -fpic -fpie -fplan9-extensions -fplt -fpredictive-commoning -fprefetch-loop-arrays -fpreserve-as-comments \
+    -fpretty-templates -fprintf-return-value -fprotect-parens -frandom-seed -freciprocal-math -free -freg-struct-return \
+    -fregister-global-dtors-with-atexit -fregmove -frelaxed-template-template-args -frename-registers -freorder-blocks \
+    -freorder-blocks-and-partition -freorder-functions -freroll-loops -frerun-cse-after-loop -frerun-loop-opt \
+    -freschedule-modulo-scheduled-loops -fropi -frounding-math -frtlib-add-rpath -frtti -frtti-data -frwpi \
+    -fsanitize-address-globals-dead-stripping -fsanitize-address-outline-instrumentation -fsanitize-address-poison-custom-array-cookie \
+    -fsanitize-address-use-after-scope -fsanitize-address-use-odr-indicator -fsanitize-cfi-canonical-jump-tables \
+    -fsanitize-cfi-cross-dso -fsanitize-cfi-icall-generalize-pointers -fsanitize-hwaddress-experimental-aliasing \
+    -fsanitize-memory-param-retval -fsanitize-memory-track-origins -fsanitize-memory-use-after-dtor -fsanitize-recover \
+    -fsanitize-stats -fsanitize-thread-atomics -fsanitize-thread-func-entry-exit -fsanitize-thread-memory-access -fsanitize-trap \
+    -fsanitize-undefined-trap-on-error -fsched-critical-path-heuristic -fsched-dep-count-heuristic -fsched-group-heuristic \
+    -fsched-interblock -fsched-last-insn-heuristic -fsched-pressure -fsched-rank-heuristic -fsched-spec -fsched-spec-insn-heuristic \
+    -fsched-spec-load -fsched-spec-load-dangerous -fsched-stalled-insns -fsched-stalled-insns-dep -fsched2-use-superblocks \
+    -fsched2-use-traces -fschedule-fusion -fschedule-insns -fschedule-insns2 -fsection-anchors -fsee -fseh-exceptions \
+    -fsel-sched-pipelining -fsel-sched-pipelining-outer-loops -fsel-sched-reschedule-pipelined -fselective-scheduling \
+    -fselective-scheduling2 -fsemantic-interposition -fshort-enums -fshort-wchar -fshow-column -fshow-source-location -fshrink-wrap \
+    -fshrink-wrap-separate -fsignaling-nans -fsigned-bitfields -fsigned-char -fsigned-zeros -fsingle-precision-constant \
+    -fsized-deallocation -fsjlj-exceptions -fslp-vectorize -fspell-checking -fsplit-dwarf-inlining -fsplit-ivs-in-unroller \
+    -fsplit-loops -fsplit-lto-unit -fsplit-machine-functions -fsplit-paths -fsplit-stack -fsplit-wide-types -fsplit-wide-types-early \
+    -fsquangle -fssa-backprop -fssa-phiopt -fstack-check -fstack-clash-protection -fstack-limit -fstack-protector \
+    -fstack-protector-all -fstack-protector-explicit -fstack-protector-strong -fstack-size-section -fstandalone-debug -fstdarg-opt \
+    -fstore-merging -fstrength-reduce -fstrict-aliasing -fstrict-enums -fstrict-float-cast-overflow -fstrict-overflow \
+    -fstrict-prototype -fstrict-return -fstrict-volatile-bitfields -fstrict-vtable-pointers -fstrong-eval-order -fsync-libcalls \
+    -fthis-is-variable -fthread-jumps -fthreadsafe-statics -ftoplevel-reorder -ftracer -ftrack-macro-expansion -ftrampolines \
+    -ftrapping-math -ftrapv -ftree-bit-ccp -ftree-builtin-call-dce -ftree-ccp -ftree-ch -ftree-coalesce-inlined-vars \
+    -ftree-coalesce-vars -ftree-copy-prop -ftree-copyrename -ftree-cselim -ftree-dce -ftree-dominator-opts -ftree-dse -ftree-forwprop \
+    -ftree-fre -ftree-loop-distribute-patterns -ftree-loop-distribution -ftree-loop-if-convert -ftree-loop-if-convert-stores \
+    -ftree-loop-im -ftree-loop-ivcanon -ftree-loop-linear -ftree-loop-optimize -ftree-loop-vectorize -ftree-lrs -ftree-partial-pre \
+    -ftree-phiprop -ftree-pre -ftree-pta -ftree-reassoc -ftree-salias -ftree-scev-cprop -ftree-sink -ftree-slp-vectorize -ftree-slsr \
+    -ftree-sra -ftree-store-ccp -ftree-store-copy-prop -ftree-switch-conversion -ftree-tail-merge -ftree-ter -ftree-vect-loop-version \
+    -ftree-vectorize -ftree-vrp -ftrigraphs -funconstrained-commons -funique-basic-block-section-names -funique-internal-linkage-names \
+    -funique-section-names -funit-at-a-time -funroll-all-loops -funroll-completely-grow-size -funroll-loops \
+    -funsafe-loop-optimizations -funsafe-math-optimizations -funsigned-bitfields -funsigned-char -funswitch-loops -funwind-tables \
+    -fuse-cxa-atexit -fuse-cxa-get-exception-ptr -fuse-init-array -fuse-linker-plugin -fvar-tracking -fvar-tracking-assignments \
+    -fvar-tracking-assignments-toggle -fvar-tracking-uninit -fvariable-expansion-in-unroller -fvect-cost-model -fvectorize \
+    -fvirtual-function-elimination -fvisibility-from-dllstorageclass -fvisibility-global-new-delete-hidden -fvisibility-inlines-hidden \
+    -fvisibility-inlines-hidden-static-local-var -fvisibility-ms-compat -fvtable-gc -fvtable-thunks -fwasm-exceptions -fweak -fweb \
+    -fwhole-program -fwhole-program-vtables -fwrapv -fwrapv-pointer -fwritable-strings -fxl-pragma-pack -fzee \
+    -fzero-initialized-in-bss -fzvector -m128bit-long-double -m16 -m32 -m3dnow -m3dnowa -m64 -m80387 -m8bit-idiv -m96bit-long-double \
+    -mabicalls -mabm -maccumulate-outgoing-args -madx -maes -malign-double -malign-stringops -mamdgpu-ieee -mamx-bf16 -mamx-int8 \
+    -mamx-tile -mandroid -mavx -mavx2 -mavx256-split-unaligned-load -mavx256-split-unaligned-store -mavx5124fmaps -mavx5124vnniw \
+    -mavx512bf16 -mavx512bitalg -mavx512bw -mavx512cd -mavx512dq -mavx512er -mavx512f -mavx512fp16 -mavx512ifma -mavx512pf \
+    -mavx512vbmi -mavx512vbmi2 -mavx512vl -mavx512vnni -mavx512vp2intersect -mavx512vpopcntdq -mavxvnni -mbackchain -mbionic -mbmi \
+    -mbmi2 -mbranches-within-32B-boundaries -mbti-at-return-twice -mcall-ms2sysv-xlogues -mcet-switch -mcld -mcldemote -mclflushopt \
+    -mclwb -mclzero -mcmse -mcode-object-v3 -mcrc -mcrc32 -mcumode -mcx16 -mdirect-extern-access -mdispatch-scheduler -meabi \
+    -membedded-data -menable-experimental-extensions -menable-unsafe-fp-math -menqcmd -mexecute-only -mextern-sdata -mf16c \
+    -mfancy-math-387 -mfentry -mfix-cmse-cve-2021-35465 -mfix-cortex-a53-835769 -mfma -mfma4 -mforce-drap -mforce-indirect-call \
+    -mfp-ret-in-387 -mfp32 -mfp64 -mfpxx -mfsgsbase -mfused-madd -mfxsr -mgeneral-regs-only -mgfni -mglibc -mglobal-merge -mgpopt \
+    -mhard-float -mhle -mhreset -mhvx -mhvx-ieee-fp -mhvx-qfloat -miamcu -mibt-seal -mieee-fp -mimplicit-float \
+    -mincremental-linker-compatible -mindirect-branch-cs-prefix -mindirect-branch-register -minline-all-stringops \
+    -minline-stringops-dynamically -mintel-syntax -mips1 -mips2 -mips3 -mips32 -mips32r2 -mips32r3 -mips32r5 -mips32r6 -mips4 -mips5 \
+    -mips64 -mips64r2 -mips64r3 -mips64r5 -mips64r6 -mkl -mlocal-sdata -mlong-calls -mlong-double-128 -mlong-double-64 \
+    -mlong-double-80 -mlvi-cfi -mlvi-hardening -mlwp -mlzcnt -mmadd4 -mmanual-endbr -mmark-bti-property -mmemops -mmitigate-rop -mmmx \
+    -mmovbe -mmovdir64b -mmovdiri -mmovt -mmpx -mms-bitfields -mmsa -mmt -mmusl -mmwait -mmwaitx -mneeded -mneg-immediates -mnocrc \
+    -mnop-mcount -mnvj -mnvs -modd-spreg -momit-leaf-frame-pointer -moutline -moutline-atomics -mpacked-stack -mpackets -mpc32 -mpc64 \
+    -mpc80 -mpclmul -mpcommit -mpconfig -mpku -mpopcnt -mprefer-avx128 -mprefetchwt1 -mprfchw -mptwrite -mpush-args -mqdsp6-compat \
+    -mrdpid -mrdrnd -mrdseed -mrecip -mrecord-mcount -mrecord-return -mred-zone -mrelax -mrelax-all -mrelax-cmpxchg-loop \
+    -mrelax-pic-calls -mrestrict-it -mrtd -mrtm -msahf -msave-restore -mserialize -mseses -msgx -msha -mshstk -mskip-rax-setup \
+    -msoft-float -msse -msse2 -msse2avx -msse3 -msse4 -msse4.1 -msse4.2 -msse4a -msse5 -msseregparm -mssse3 -mstack-arg-probe \
+    -mstackrealign -mstrict-align -mstv -mtbm -mtgsplit -mthread-model -mtls-direct-seg-refs -mtsxldtrk -muclibc -muintr \
+    -munaligned-access -munsafe-fp-atomics -mvaes -mvect8-ret-in-mem -mvpclmulqdq -mvzeroupper -mwaitpkg -mwavefrontsize64 -mwbnoinvd \
+    -mwidekl -mx32 -mxop -mxsave -mxsavec -mxsaveopt -mxsaves ";
 
 /// Words up to their first `=`, with what may stand behind it: `#` is a number, or several with colons or commas between them, `*` is any text,
 /// and else it is one or more of these names, with commas between them.
-pub const VALUED: &str = "
--fabi-compat-version=#
--fabi-version=#
--falign-functions=#
--falign-jumps=#
--falign-labels=#
--falign-loops=#
--faligned-new=#
--fanalyzer-checker=*
--fanalyzer-verbosity=#
--fasan-shadow-offset=*
--fcf-protection=full,branch,return,none,check
--fconcepts-diagnostics-depth=#
--fconstexpr-cache-depth=#
--fconstexpr-depth=#
--fconstexpr-steps=#
--fconstexpr-loop-limit=#
--fconstexpr-ops-limit=#
--fbracket-depth=#
--fdebug-prefix-map=*
--fdiagnostics-color=never,always,auto
--fdiagnostics-column-origin=#
--fdiagnostics-column-unit=display,byte
--fdiagnostics-escape-format=unicode,bytes
--fdiagnostics-format=text,json,clang,msvc,vi
--fdiagnostics-minimum-margin-width=#
--fdiagnostics-path-format=none,separate-events,inline-events
--fdiagnostics-show-category=none,id,name
--fdiagnostics-show-location=once,every-line
--fdiagnostics-urls=never,always,auto
--femit-struct-debug-detailed=*
--fexcess-precision=fast,standard,16
--fexec-charset=*
--ffile-prefix-map=*
--ffp-contract=off,on,fast,fast-honor-pragmas
--fgnat-encodings=all,gdb,minimal
--finline-limit=#
--finput-charset=*
--finstrument-functions-exclude-file-list=*
--finstrument-functions-exclude-function-list=*
--fira-algorithm=CB,priority
--fira-region=one,all,mixed
--flifetime-dse=#
--flive-patching=inline-only-static,inline-clone
--flto-compression-level=#
--flto-partition=1to1,balanced,max,one,none
--flto=auto,jobserver,full,thin,1,2,3,4,5,6,7,8,9,10,11,12,13,14,15,16,24,32,48,64
--flto-jobs=#
--fmacro-prefix-map=*
--fmax-errors=#
--fmax-include-depth=#
--fmessage-length=#
--fopenacc-dim=*
--fopenmp=libomp,libgomp,libiomp5
--fopenmp-version=#
--fpack-struct=#
--fpatchable-function-entry=#
--fpermitted-flt-eval-methods=c11,ts-18661
--fplugin=*
--frandom-seed=*
--freorder-blocks-algorithm=simple,stc
--fsanitize=address,undefined,thread,leak,hwaddress,kernel-address,kernel-hwaddress,pointer-compare,pointer-subtract,shadow-call-stack,shift,shift-exponent,shift-base,integer-divide-by-zero,unreachable,vla-bound,null,return,signed-integer-overflow,bounds,bounds-strict,alignment,object-size,float-divide-by-zero,float-cast-overflow,nonnull-attribute,returns-nonnull-attribute,bool,enum,vptr,pointer-overflow,builtin,memory,memtag,safe-stack,integer,implicit-conversion,implicit-integer-truncation,implicit-integer-arithmetic-value-change,implicit-signed-integer-truncation,implicit-unsigned-integer-truncation,implicit-integer-sign-change,unsigned-integer-overflow,unsigned-shift-base,nullability,nullability-arg,nullability-assign,nullability-return,local-bounds,array-bounds,function,fuzzer,fuzzer-no-link,all
--fsanitize-recover=address,undefined,thread,leak,hwaddress,kernel-address,kernel-hwaddress,pointer-compare,pointer-subtract,shadow-call-stack,shift,shift-exponent,shift-base,integer-divide-by-zero,unreachable,vla-bound,null,return,signed-integer-overflow,bounds,bounds-strict,alignment,object-size,float-divide-by-zero,float-cast-overflow,nonnull-attribute,returns-nonnull-attribute,bool,enum,vptr,pointer-overflow,builtin,memory,memtag,safe-stack,integer,implicit-conversion,implicit-integer-truncation,implicit-integer-arithmetic-value-change,implicit-signed-integer-truncation,implicit-unsigned-integer-truncation,implicit-integer-sign-change,unsigned-integer-overflow,unsigned-shift-base,nullability,nullability-arg,nullability-assign,nullability-return,local-bounds,array-bounds,function,fuzzer,fuzzer-no-link,all
--fsanitize-trap=address,undefined,thread,leak,hwaddress,kernel-address,kernel-hwaddress,pointer-compare,pointer-subtract,shadow-call-stack,shift,shift-exponent,shift-base,integer-divide-by-zero,unreachable,vla-bound,null,return,signed-integer-overflow,bounds,bounds-strict,alignment,object-size,float-divide-by-zero,float-cast-overflow,nonnull-attribute,returns-nonnull-attribute,bool,enum,vptr,pointer-overflow,builtin,memory,memtag,safe-stack,integer,implicit-conversion,implicit-integer-truncation,implicit-integer-arithmetic-value-change,implicit-signed-integer-truncation,implicit-unsigned-integer-truncation,implicit-integer-sign-change,unsigned-integer-overflow,unsigned-shift-base,nullability,nullability-arg,nullability-assign,nullability-return,local-bounds,array-bounds,function,fuzzer,fuzzer-no-link,all
--fsanitize-coverage=trace-pc,trace-cmp
--fsanitize-sections=*
--fsanitize-address-destructor=none,global
--fsanitize-address-field-padding=#
--fsanitize-address-use-after-return=never,runtime,always
--fsanitize-hwaddress-abi=platform,interceptor
--fsanitize-memory-track-origins=#
--fsanitize-undefined-strip-path-components=*
--fsched-stalled-insns-dep=#
--fsched-stalled-insns=#
--fsimd-cost-model=unlimited,dynamic,cheap,very-cheap
--fsso-struct=big-endian,little-endian,native
--fstack-check=no,generic,specific
--fstack-limit-register=*
--fstack-limit-symbol=*
--fstack-reuse=all,named_vars,none
--fstrong-eval-order=none,some,all
--ftabstop=#
--ftemplate-backtrace-limit=#
--ftemplate-depth=#
--ftls-model=global-dynamic,local-dynamic,initial-exec,local-exec
--ftrack-macro-expansion=#
--ftree-parallelize-loops=#
--ftrivial-auto-var-init=uninitialized,pattern,zero
--ftrivial-auto-var-init-stop-after=#
--fuse-ld=*
--fvect-cost-model=unlimited,dynamic,cheap,very-cheap
--fvisibility=default,internal,hidden,protected
--fwide-exec-charset=*
--fzero-call-used-regs=*
--faltivec-src-compat=xl,gcc,mixed
--fbinutils-version=*
--fc++-abi=*
--fclang-abi-compat=*
--fcomment-block-commands=*
--fdebug-compilation-dir=*
--fdebug-default-version=#
--fextend-arguments=32,64
--ffile-compilation-dir=*
--ffp-exception-behavior=ignore,maytrap,strict
--ffp-eval-method=source,double,extended
--ffp-model=strict,precise,fast
--ffuchsia-api-level=#
--fgnuc-version=*
--flax-vector-conversions=none,integer,all
--fmax-tokens=#
--fmax-type-align=#
--fms-compatibility-version=*
--fmsc-version=*
--fnew-alignment=#
--fshow-overloads=best,all
--fswift-async-fp=auto,always,never
--ftrap-function=*
--fveclib=*
--fvisibility-dllexport=*
--fvisibility-externs-dllimport=*
--fvisibility-externs-nodllstorageclass=*
--fvisibility-nodllstorageclass=*
--gz=none,zlib,zlib-gnu,zlib-gabi,zstd
--gvariable-location-views=incompat5
--mabi=*
--maddress-mode=*
--malign-branch-boundary=#
--malign-branch-prefix-size=#
--malign-branch=*
--malign-data=*
--malign-functions=#
--malign-jumps=#
--malign-loops=#
--march=*
--masm=att,intel
--mbranch-cost=#
--mbranch-protection=*
--mcmodel=*
--mcpu=*
--mfence-as-lock-add=yes,no
--mfentry-name=*
--mfentry-section=*
--mfloat-abi=soft,softfp,hard
--mfpmath=*
--mfpu=*
--mfunction-return=keep,thunk,thunk-inline,thunk-extern
--mharden-sls=*
--mincoming-stack-boundary=#
--mindirect-branch=keep,thunk,thunk-inline,thunk-extern
--minstrument-return=none,call,nop5
--mlarge-data-threshold=#
--mlfence-after-load=yes,no
--mlfence-before-indirect-branch=none,all,register,memory
--mlfence-before-ret=none,or,not,shl,yes
--mmacosx-version-min=*
--mmemcpy-strategy=*
--mmemset-strategy=*
--mmnemonic=att,intel
--mmove-max=#
--mpad-max-prefix-size=#
--mprefer-vector-width=none,128,256,512
--mpreferred-stack-boundary=#
--mrecip=*
--mregparm=#
--mrelax-relocations=yes,no
--msmall-data-limit=#
--mstack-alignment=#
--mstack-probe-size=#
--mstack-protector-guard-offset=*
--mstack-protector-guard-reg=*
--mstack-protector-guard-symbol=*
--mstack-protector-guard=global,tls
--mstore-max=#
--mstringop-strategy=*
--msve-vector-bits=*
--msyntax=att,intel
--mtls-dialect=*
--mtls-size=#
--mtp=*
--mtune-ctrl=*
--mtune=*
--mveclibabi=*
--mvscale-max=#
--mvscale-min=#
--mx86-used-note=yes,no
--std=*
--stdlib=libc++,libstdc++,platform
--rtlib=libgcc,compiler-rt,platform
--unwindlib=none,libgcc,libunwind,platform
---std=*
---sysroot=*
---target=*
---gcc-toolchain=*
-";
+pub const VALUED: &str = " \
+    -fabi-compat-version=# -fabi-version=# -falign-functions=# -falign-jumps=# -falign-labels=# -falign-loops=# -faligned-new=# \
+    -fanalyzer-checker=* -fanalyzer-verbosity=# -fasan-shadow-offset=* -fcf-protection=full,branch,return,none,check \
+    -fconcepts-diagnostics-depth=# -fconstexpr-cache-depth=# -fconstexpr-depth=# -fconstexpr-steps=# -fconstexpr-loop-limit=# \
+    -fconstexpr-ops-limit=# -fbracket-depth=# -fdebug-prefix-map=* -fdiagnostics-color=never,always,auto -fdiagnostics-column-origin=# \
+    -fdiagnostics-column-unit=display,byte -fdiagnostics-escape-format=unicode,bytes -fdiagnostics-format=text,json,clang,msvc,vi \
+    -fdiagnostics-minimum-margin-width=# -fdiagnostics-path-format=none,separate-events,inline-events \
+    -fdiagnostics-show-category=none,id,name -fdiagnostics-show-location=once,every-line -fdiagnostics-urls=never,always,auto \
+    -femit-struct-debug-detailed=* -fexcess-precision=fast,standard,16 -fexec-charset=* -ffile-prefix-map=* \
+    -ffp-contract=off,on,fast,fast-honor-pragmas -fgnat-encodings=all,gdb,minimal -finline-limit=# -finput-charset=* \
+    -finstrument-functions-exclude-file-list=* -finstrument-functions-exclude-function-list=* -fira-algorithm=CB,priority \
+    -fira-region=one,all,mixed -flifetime-dse=# -flive-patching=inline-only-static,inline-clone -flto-compression-level=# \
+    -flto-partition=1to1,balanced,max,one,none -flto=auto,jobserver,full,thin,1,2,3,4,5,6,7,8,9,10,11,12,13,14,15,16,24,32,48,64 \
+    -flto-jobs=# -fmacro-prefix-map=* -fmax-errors=# -fmax-include-depth=# -fmessage-length=# -fopenacc-dim=* \
+    -fopenmp=libomp,libgomp,libiomp5 -fopenmp-version=# -fpack-struct=# -fpatchable-function-entry=# \
+    -fpermitted-flt-eval-methods=c11,ts-18661 -fplugin=* -frandom-seed=* -freorder-blocks-algorithm=simple,stc \
+    -fsanitize=address,undefined,thread,leak,hwaddress,kernel-address,kernel-hwaddress,pointer-compare,pointer-subtract,shadow-call-stack,shift,shift-exponent,shift-base,integer-divide-by-zero,unreachable,vla-bound,null,return,signed-integer-overflow,bounds,bounds-strict,alignment,object-size,float-divide-by-zero,float-cast-overflow,nonnull-attribute,returns-nonnull-attribute,bool,enum,vptr,pointer-overflow,builtin,memory,memtag,safe-stack,integer,implicit-conversion,implicit-integer-truncation,implicit-integer-arithmetic-value-change,implicit-signed-integer-truncation,implicit-unsigned-integer-truncation,implicit-integer-sign-change,unsigned-integer-overflow,unsigned-shift-base,nullability,nullability-arg,nullability-assign,nullability-return,local-bounds,array-bounds,function,fuzzer,fuzzer-no-link,all \
+    -fsanitize-recover=address,undefined,thread,leak,hwaddress,kernel-address,kernel-hwaddress,pointer-compare,pointer-subtract,shadow-call-stack,shift,shift-exponent,shift-base,integer-divide-by-zero,unreachable,vla-bound,null,return,signed-integer-overflow,bounds,bounds-strict,alignment,object-size,float-divide-by-zero,float-cast-overflow,nonnull-attribute,returns-nonnull-attribute,bool,enum,vptr,pointer-overflow,builtin,memory,memtag,safe-stack,integer,implicit-conversion,implicit-integer-truncation,implicit-integer-arithmetic-value-change,implicit-signed-integer-truncation,implicit-unsigned-integer-truncation,implicit-integer-sign-change,unsigned-integer-overflow,unsigned-shift-base,nullability,nullability-arg,nullability-assign,nullability-return,local-bounds,array-bounds,function,fuzzer,fuzzer-no-link,all \
+    -fsanitize-trap=address,undefined,thread,leak,hwaddress,kernel-address,kernel-hwaddress,pointer-compare,pointer-subtract,shadow-call-stack,shift,shift-exponent,shift-base,integer-divide-by-zero,unreachable,vla-bound,null,return,signed-integer-overflow,bounds,bounds-strict,alignment,object-size,float-divide-by-zero,float-cast-overflow,nonnull-attribute,returns-nonnull-attribute,bool,enum,vptr,pointer-overflow,builtin,memory,memtag,safe-stack,integer,implicit-conversion,implicit-integer-truncation,implicit-integer-arithmetic-value-change,implicit-signed-integer-truncation,implicit-unsigned-integer-truncation,implicit-integer-sign-change,unsigned-integer-overflow,unsigned-shift-base,nullability,nullability-arg,nullability-assign,nullability-return,local-bounds,array-bounds,function,fuzzer,fuzzer-no-link,all \
+    -fsanitize-coverage=trace-pc,trace-cmp -fsanitize-sections=* -fsanitize-address-destructor=none,global \
+    -fsanitize-address-field-padding=# -fsanitize-address-use-after-return=never,runtime,always \
+    -fsanitize-hwaddress-abi=platform,interceptor -fsanitize-memory-track-origins=# -fsanitize-undefined-strip-path-components=* \
+    -fsched-stalled-insns-dep=# -fsched-stalled-insns=# -fsimd-cost-model=unlimited,dynamic,cheap,very-cheap \
+    -fsso-struct=big-endian,little-endian,native -fstack-check=no,generic,specific -fstack-limit-register=* -fstack-limit-symbol=* \
+    -fstack-reuse=all,named_vars,none -fstrong-eval-order=none,some,all -ftabstop=# -ftemplate-backtrace-limit=# -ftemplate-depth=# \
+    -ftls-model=global-dynamic,local-dynamic,initial-exec,local-exec -ftrack-macro-expansion=# -ftree-parallelize-loops=# \
+    -ftrivial-auto-var-init=uninitialized,pattern,zero -ftrivial-auto-var-init-stop-after=# -fuse-ld=* \
+    -fvect-cost-model=unlimited,dynamic,cheap,very-cheap -fvisibility=default,internal,hidden,protected -fwide-exec-charset=* \
+    -fzero-call-used-regs=* -faltivec-src-compat=xl,gcc,mixed -fbinutils-version=* -fc++-abi=* -fclang-abi-compat=* \
+    -fcomment-block-commands=* -fdebug-compilation-dir=* -fdebug-default-version=# -fextend-arguments=32,64 -ffile-compilation-dir=* \
+    -ffp-exception-behavior=ignore,maytrap,strict -ffp-eval-method=source,double,extended -ffp-model=strict,precise,fast \
+    -ffuchsia-api-level=# -fgnuc-version=* -flax-vector-conversions=none,integer,all -fmax-tokens=# -fmax-type-align=# \
+    -fms-compatibility-version=* -fmsc-version=* -fnew-alignment=# -fshow-overloads=best,all -fswift-async-fp=auto,always,never \
+    -ftrap-function=* -fveclib=* -fvisibility-dllexport=* -fvisibility-externs-dllimport=* -fvisibility-externs-nodllstorageclass=* \
+    -fvisibility-nodllstorageclass=* -gz=none,zlib,zlib-gnu,zlib-gabi,zstd -gvariable-location-views=incompat5 -mabi=* \
+    -maddress-mode=* -malign-branch-boundary=# -malign-branch-prefix-size=# -malign-branch=* -malign-data=* -malign-functions=# \
+    -malign-jumps=# -malign-loops=# -march=* -masm=att,intel -mbranch-cost=# -mbranch-protection=* -mcmodel=* -mcpu=* \
+    -mfence-as-lock-add=yes,no -mfentry-name=* -mfentry-section=* -mfloat-abi=soft,softfp,hard -mfpmath=* -mfpu=* \
+    -mfunction-return=keep,thunk,thunk-inline,thunk-extern -mharden-sls=* -mincoming-stack-boundary=# \
+    -mindirect-branch=keep,thunk,thunk-inline,thunk-extern -minstrument-return=none,call,nop5 -mlarge-data-threshold=# \
+    -mlfence-after-load=yes,no -mlfence-before-indirect-branch=none,all,register,memory -mlfence-before-ret=none,or,not,shl,yes \
+    -mmacosx-version-min=* -mmemcpy-strategy=* -mmemset-strategy=* -mmnemonic=att,intel -mmove-max=# -mpad-max-prefix-size=# \
+    -mprefer-vector-width=none,128,256,512 -mpreferred-stack-boundary=# -mrecip=* -mregparm=# -mrelax-relocations=yes,no \
+    -msmall-data-limit=# -mstack-alignment=# -mstack-probe-size=# -mstack-protector-guard-offset=* -mstack-protector-guard-reg=* \
+    -mstack-protector-guard-symbol=* -mstack-protector-guard=global,tls -mstore-max=# -mstringop-strategy=* -msve-vector-bits=* \
+    -msyntax=att,intel -mtls-dialect=* -mtls-size=# -mtp=* -mtune-ctrl=* -mtune=* -mveclibabi=* -mvscale-max=# -mvscale-min=# \
+    -mx86-used-note=yes,no -std=* -stdlib=libc++,libstdc++,platform -rtlib=libgcc,compiler-rt,platform \
+    -unwindlib=none,libgcc,libunwind,platform --std=* --sysroot=* --target=* --gcc-toolchain=* ";
 
 /// Words for the assembler, behind `-Wa,` or `-Xassembler`.
-pub const ASSEMBLER: &str = "
---noexecstack
---execstack
---fatal-warnings
---no-warn
--W
---warn
---32
---64
---x32
---divide
---keep-locals
--L
---strip-local-absolute
---reduce-memory-overheads
---compress-debug-sections
---compress-debug-sections=none
---compress-debug-sections=zlib
---compress-debug-sections=zlib-gnu
---compress-debug-sections=zlib-gabi
---nocompress-debug-sections
---elf-stt-common=yes
---elf-stt-common=no
---generate-missing-build-notes=yes
---generate-missing-build-notes=no
--mrelax-relocations=yes
--mrelax-relocations=no
--mx86-used-note=yes
--mx86-used-note=no
--mbranches-within-32B-boundaries
--msse2avx
--mamd64
--mintel64
-";
+pub const ASSEMBLER: &str = " \
+    --noexecstack --execstack --fatal-warnings --no-warn -W --warn --32 --64 --x32 --divide --keep-locals -L --strip-local-absolute \
+    --reduce-memory-overheads --compress-debug-sections --compress-debug-sections=none --compress-debug-sections=zlib \
+    --compress-debug-sections=zlib-gnu --compress-debug-sections=zlib-gabi --nocompress-debug-sections --elf-stt-common=yes \
+    --elf-stt-common=no --generate-missing-build-notes=yes --generate-missing-build-notes=no -mrelax-relocations=yes \
+    -mrelax-relocations=no -mx86-used-note=yes -mx86-used-note=no -mbranches-within-32B-boundaries -msse2avx -mamd64 -mintel64 ";
 
 /// Words for Clang's own compiler, behind `-Xclang`.
-pub const CLANG: &str = "
--disable-O0-optnone
--disable-lifetime-markers
--disable-llvm-passes
--fno-pch-timestamp
--opaque-pointers
--no-opaque-pointers
-";
+pub const CLANG: &str = " \
+    -disable-O0-optnone -disable-lifetime-markers -disable-llvm-passes -fno-pch-timestamp -opaque-pointers -no-opaque-pointers ";
 
 /// Words up to their `=` for what lies behind Clang, behind `-mllvm`, with what may stand behind it.
-pub const LLVM: &str = "
--inline-threshold=#
--inlinehint-threshold=#
--unroll-count=#
--unroll-threshold=#
--align-all-functions=#
--align-all-nofallthru-blocks=#
-";
+pub const LLVM: &str = " \
+    -inline-threshold=# -inlinehint-threshold=# -unroll-count=# -unroll-threshold=# -align-all-functions=# \
+    -align-all-nofallthru-blocks=# ";

@@ -87,18 +87,18 @@ fn begins_with(fronts: &[&str], word: &[u8]) -> bool {
         .any(|front| word.starts_with(front.as_bytes()))
 }
 
-/// What stands behind a front that a line of the table begins with, up to the line's end.
-fn line_behind<'a>(table: &'a str, front: &[u8]) -> Option<&'a [u8]> {
+/// What stands behind a front with which a word of the table begins, up to that word's end.
+fn rest_behind<'a>(table: &'a str, front: &[u8]) -> Option<&'a [u8]> {
     let table = table.as_bytes();
     let at = memmem::find(table, front)?;
     let behind = table.get(at..)?.strip_prefix(front)?;
-    behind.split(|byte| *byte == b'\n').next()
+    behind.split(|byte| *byte == b' ').next()
 }
 
-/// The end of a line and the front of a word, without the `no-` of a word that turns off what another one turns on.
-fn front_of_line(alloc: Global, word: &[u8]) -> Result<Vec<u8>, AllocError> {
+/// A word as a table has it, behind a space: without the `no-` of one that turns off what another one turns on.
+fn front_of(alloc: Global, word: &[u8]) -> Result<Vec<u8>, AllocError> {
     let mut front = Vec::with_capacity(alloc, 64)?;
-    front.push(b'\n')?;
+    front.push(b' ')?;
     match word {
         [b'-', letter, b'n', b'o', b'-', name @ ..] if matches!(*letter, b'f' | b'm' | b'g') => {
             front.extend_from_slice(&[b'-', *letter])?;
@@ -109,10 +109,14 @@ fn front_of_line(alloc: Global, word: &[u8]) -> Result<Vec<u8>, AllocError> {
     Ok(front)
 }
 
-/// Whether the table has that word as a line.
-fn is_line(alloc: Global, table: &str, word: &[u8]) -> Result<bool, AllocError> {
-    let mut front = front_of_line(alloc, word)?;
-    front.push(b'\n')?;
+/// Whether the table has that word.
+fn is_listed(alloc: Global, table: &str, word: &[u8]) -> Result<bool, AllocError> {
+    // A space would let it stand for two words of the table.
+    if word.contains(&b' ') {
+        return Ok(false);
+    }
+    let mut front = front_of(alloc, word)?;
+    front.push(b' ')?;
     Ok(memmem::find(table.as_bytes(), front.as_slice()).is_some())
 }
 
@@ -146,9 +150,12 @@ fn is_valued(alloc: Global, table: &str, word: &[u8]) -> Result<bool, AllocError
     let Some((option, value)) = word.split_at_checked(at) else {
         return Ok(false);
     };
-    let mut front = front_of_line(alloc, option)?;
+    if option.contains(&b' ') {
+        return Ok(false);
+    }
+    let mut front = front_of(alloc, option)?;
     front.push(b'=')?;
-    match line_behind(table, front.as_slice()) {
+    match rest_behind(table, front.as_slice()) {
         Some(said) => Ok(fits(said, value.strip_prefix(b"=").unwrap_or(value))),
         None => Ok(false),
     }
@@ -165,7 +172,7 @@ fn is_parameter(word: &[u8]) -> bool {
 /// Whether all words for the assembler are known, which have commas between them.
 fn are_for_assembler(alloc: Global, words: &[u8]) -> Result<bool, AllocError> {
     for word in words.split(|byte| *byte == b',') {
-        if !is_line(alloc, ASSEMBLER, word)? {
+        if !is_listed(alloc, ASSEMBLER, word)? {
             return Ok(false);
         }
     }
@@ -219,14 +226,14 @@ fn is_known_option(alloc: Global, word: &[u8]) -> Result<bool, AllocError> {
     if let Some(parameter) = word.strip_prefix(b"--param=") {
         return Ok(is_parameter(parameter));
     }
-    Ok(is_line(alloc, WHOLE, word)? || is_valued(alloc, VALUED, word)?)
+    Ok(is_listed(alloc, WHOLE, word)? || is_valued(alloc, VALUED, word)?)
 }
 
 /// Whether the value of one of the options `TAKE_KNOWN` is known.
 fn is_known_value(alloc: Global, option: &[u8], value: &[u8]) -> Result<bool, AllocError> {
     match option {
-        b"-Xassembler" => is_line(alloc, ASSEMBLER, value),
-        b"-Xclang" => is_line(alloc, CLANG, value),
+        b"-Xassembler" => is_listed(alloc, ASSEMBLER, value),
+        b"-Xclang" => is_listed(alloc, CLANG, value),
         b"-mllvm" => is_valued(alloc, LLVM, value),
         _ => Ok(is_parameter(value)),
     }
