@@ -1,7 +1,7 @@
 #!/usr/bin/env python3
 """try.py HOST [gcc|clang]..: calls each compiler with each word that `known_options` has, and with its `no-` form, by gulmaat's host and alone:
 the status, the messages and the objects must be the same at a first call, at a second one, and after a change of the source. Words that the
-compiler doesn't take are left out. Its last line is 'N passed, M failed'.
+compiler doesn't take are left out, and those with which no two calls alone make the same. Its last line is 'N passed, M failed'.
 """
 import os
 import re
@@ -59,7 +59,8 @@ def tried(host, compiler, word, room):
             if alone[0] != 0:
                 return None
             if run([compiler, word], folder, env) != alone:
-                return f"{compiler} {word}: not the same alone"
+                print(f"{compiler} {word}: left out: no two calls alone make the same", flush=True)
+                return None
             for turn in ("first", "second"):
                 got = run([host, compiler, word], folder, env)
                 if got != alone:
