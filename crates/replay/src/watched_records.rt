@@ -94,7 +94,7 @@ impl<E: Store<EntryKey, PreprocessorCacheEntry>> Store<EntryKey, PreprocessorCac
         // The key is noted, or none where memory for a copy was refused.
         ensures* after_borrow { sem 𝓛 (Rests (the_row E.row) self.entry
             (λ new. Asks (E.shelf self.old.inner) (E.shelf new.inner) key.now (option_copied result)
-            × IfSome new.asked (λ asked. asked ≡ key.now) × (new.newest ≡ self.old.newest))) }
+            × IfSome new.asked (λ asked. asked ≡ key.now))) }
     {
         self.note_asked(key);
         self.inner.get(key)
