@@ -1,6 +1,7 @@
 #!/usr/bin/env python3
 """check.py: whether each option that the help texts of the machine's gcc and clang list is known to `known_options`, or stands among the
-exceptions with its reason. Prints what is in neither, and what is in both. Its last line is 'N passed, M failed'.
+exceptions with its reason. Prints what is in neither, and what is in both. Compilers of other versions than the tables are of aren't looked at:
+what is new in them isn't known, and so it is passed through. Its last line is 'N passed, M failed'.
 """
 import fnmatch
 import os
@@ -15,6 +16,10 @@ HELPS = {
     "gcc": [["--help=common"], ["--help=optimizers"], ["--help=c"], ["--help=c++"], ["--help=target"], ["--help=warnings"]],
     "clang": [["--help-hidden"]],
 }
+
+
+# The versions that the tables are of.
+VERSIONS = {"gcc": "12", "clang": "14"}
 
 
 def text_of(path):
@@ -57,6 +62,14 @@ class Known:
         return option in self.valued if "=" in word else option in self.whole
 
 
+def version_of(command):
+    """The number of a compiler's version up to its first dot; nothing where it isn't here."""
+    if not shutil.which(command):
+        return None
+    said = subprocess.run([command, "-dumpversion"], stdout=subprocess.PIPE, stderr=subprocess.DEVNULL, text=True, errors="replace", check=False)
+    return said.stdout.strip().partition(".")[0]
+
+
 def listed(command):
     """The options that the help texts of a compiler list, and its language's own."""
     words = set()
@@ -72,8 +85,8 @@ def main():
     exceptions = [pattern for pattern, _ in rows]
     passed = failed = 0
     for command in HELPS:
-        if not shutil.which(command):
-            print(f"{command} isn't here: its options weren't looked at")
+        if version_of(command) != VERSIONS[command]:
+            print(f"{command} {VERSIONS[command]} isn't here: its options weren't looked at")
             continue
         for word in listed(command):
             is_known = known.has(word)
