@@ -136,27 +136,3 @@ fn a_call_gives_the_key_of_the_next(rt: HostRuntime) -> Result<(), Fail> {
     assert_eq!(rt; runs.as_slice(), [1_u64, 0].as_slice());
     Ok(())
 }
-
-/// The first of these asks for a file that isn't there.
-#[test]
-fn a_fault_stops_no_later_call(rt: HostRuntime) -> Result<(), Fail> {
-    let alloc = rt.alloc();
-    let dir = OsBytes::from_slice(alloc, b"/w")?;
-    let compiler = known(alloc, gcc(alloc)?)?;
-    let faulty = parsed(alloc, &compiler.compiler, "-c foo.c -fplugin=p.so")?;
-    let good = parsed(alloc, &compiler.compiler, "-c foo.c -O2")?;
-    let mut calls: Calls<'_> = Vec::new(alloc);
-    calls.push(call_of(alloc, &compiler, &faulty, &dir, TEXT)?)?;
-    calls.push(call_of(alloc, &compiler, &good, &dir, TEXT)?)?;
-    let mut answers = answers_of(alloc, &mut calls)?;
-    let expected = digest_of(alloc, MATERIAL)?;
-    assert_eq!(rt; answers.len(), 2);
-    let (key, from_record) = key_in(answers.remove(1))?;
-    assert_eq!(rt; key.as_str(), expected.as_str());
-    assert!(rt; !from_record);
-    match answers.remove(0) {
-        Err(Fault::Read(path)) => assert_eq!(rt; path.as_bytes(), b"/w/p.so".as_slice()),
-        _ => return Err("another answer".into()),
-    }
-    Ok(())
-}
