@@ -3,7 +3,7 @@
 use crate::answer_tool::AnswerTool;
 use crate::asking::{
     DEPENDENCIES, FIRST, Made, OF_NOTHING, SECOND, SOURCE, all_files, asked, asked_at,
-    digest_of_all, parsed, rust, rust_with, told, told_on, tool,
+    digest_of_all, parsed, rust_with, told, told_on, tool,
 };
 use cmdlines_base::argument::{ArgDisposition, Argument};
 use os_files::listed::Listed;
@@ -14,7 +14,6 @@ use rustkeys::ParsedArguments;
 use rustkeys::compilation::RustCompilation;
 use rustkeys::hasher::RustHasher;
 use rustkeys::laws::rustc_keys_tell_records;
-use rustkeys_uses::recorded_keys::{RecordedKey, pieces_of_key};
 use sha2::Sha256;
 use std::alloc::{AllocError, Global};
 use std::fmt::Write;
@@ -248,26 +247,4 @@ fn each_piece_is_hashed_in_order(rt: HostRuntime) -> Result<(), Fail> {
     let key = key_of_request(rt.alloc())?;
     let want = digest_of_request(rt.alloc())?;
     is_that(key.as_str(), want.as_str(), "a --cfg xyz b --cfg abc")
-}
-
-/// The crate's name, what is run for its compile, and whether a key of other bytes is one.
-fn told_of_request(alloc: Global, line: &str) -> Result<String, Fail> {
-    let compiler = rust(alloc)?;
-    let parsed = parsed(alloc, line)?;
-    let hasher = RustHasher {
-        compiler: &compiler,
-        parsed: &parsed,
-    };
-    let name = hasher.output_pretty(alloc)?;
-    let (compilation, _, shape, _) = made_of(alloc, line)?;
-    let (command, _) = compilation.generate_compile_commands(alloc)?;
-    let bytes = OsBytes::from_slice(alloc, b"x")?;
-    let known = pieces_of_key(alloc, &RecordedKey { bytes, shape })?.is_some();
-    Ok(format!(in alloc; "{name} {} {known}", command.executable)?)
-}
-
-#[test]
-fn a_request_is_told_with_ample_memory(rt: HostRuntime) -> Result<(), Fail> {
-    let told = told_of_request(rt.alloc(), FIRST)?;
-    is_that(told.as_str(), "foo rustc false", FIRST)
 }

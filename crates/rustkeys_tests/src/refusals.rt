@@ -68,16 +68,12 @@ fn faults_of_files(alloc: Global, line: &str) -> Result<String, Fail> {
     Ok(faults)
 }
 
-/// The source is read once, and so is each crate that is named; the tool looks after the library.
+/// Its source is read once; the tool looks after the library.
 #[test]
 fn each_read_is_refused(rt: HostRuntime) -> Result<(), Fail> {
-    let alloc = rt.alloc();
     for line in [FIRST, WITH_LIBRARY] {
-        let faults = faults_of_files(alloc, line)?;
+        let faults = faults_of_files(rt.alloc(), line)?;
         is_that(faults.as_str(), "fault read /w/foo.rs;", line)?;
     }
-    let line = format!(in alloc; "{FIRST} --extern b=b.rlib --extern a=a.rlib")?;
-    let faults = faults_of_files(alloc, line.as_str())?;
-    let want = "fault read /w/foo.rs;fault read /w/a.rlib;fault read /w/b.rlib;";
-    is_that(faults.as_str(), want, line.as_str())
+    Ok(())
 }

@@ -23,5 +23,3 @@ mod scene;
 mod sessions;
 #[cfg(test)]
 mod support;
-#[cfg(test)]
-mod uses;
