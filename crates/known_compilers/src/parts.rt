@@ -208,16 +208,28 @@ fn ask_names<P: Print + Files + AllocGlobal, I: Read>(
     Ok(names)
 }
 
-/// What a driver said before in this state. What isn't as it was noted, as where a disk lost its bytes, is an error.
+/// How many words are noted of a driver of that kind.
+fn word_count(kind: CCompilerKind) -> usize {
+    match kind {
+        // The word for colours, the assembler and the lists.
+        CCompilerKind::Clang => 10,
+        // The word for colours, and what is run.
+        _ => 5,
+    }
+}
+
+/// What a driver said before in this state. What isn't as it was noted, as where a disk lost its bytes, or an earlier version noted less, is an
+/// error.
 fn said_before<R: Files + AllocGlobal>(
     rt: &R,
     line: &CommandLine,
     state: &str,
+    kind: CCompilerKind,
 ) -> Result<Listed<OsBytes>, Stop> {
     let bytes = line.folder.read(rt, Kind::Parts, state)?;
     let mut fields = Fields::of(bytes.as_slice());
     let names = fields.words(rt.alloc())?;
-    if names.as_slice().is_empty() || !fields.is_empty() {
+    if names.as_slice().len() != word_count(kind) || !fields.is_empty() {
         return Err(Stop::Unreadable);
     }
     Ok(names)
@@ -250,7 +262,7 @@ fn names_of<P: Print + Files + AllocGlobal, I: Read>(
 {
     let driver = [line.executable.clone()?];
     let state = state_of(rt, &driver)?;
-    if let Ok(names) = said_before(rt, line, state.as_str()) {
+    if let Ok(names) = said_before(rt, line, state.as_str(), kind) {
         return Ok(names);
     }
     let names = ask_names(rt, line, host, kind)?;
