@@ -38,7 +38,7 @@ use rustc_requests::parsed::ParsedArguments;
 use std::alloc::{AllocError, Global};
 
 /// What a request asks for, and of which rustc.
-#[derive(Drop)]
+#[derive(Clone, Debug, Drop, PartialEq, Eq)]
 pub struct RustHasher<'a> {
     pub compiler: &'a Rust,
     pub parsed: &'a ParsedArguments,
