@@ -1,3 +1,5 @@
 pub mod ClosedLaws
 pub mod DepthLaws
 pub mod OpeningLaws
+pub mod TurnLaws
+pub mod UnreadLaws

@@ -1,6 +1,6 @@
 -- What a word opens, and what words become, word by word.
-use Rattle.std.proofs.Common.{◌≡◌, ℕ, ◌<◌, Bool, true, false, not, ◌&&◌, cond, ◌||◌, List, [], ◌∷◌, ◌++◌, Option, None, Some, length, refl, ap, sym, ◌∙◌, append_assoc}
-use Rattle.std.specs.List.{flat_map, list_any}
+use Rattle.std.proofs.Common.{◌≡◌, Bool, true, false, not, ◌&&◌, cond, ◌||◌, List, [], ◌∷◌, ◌++◌, Option, None, Some, length, refl, ap, sym, ◌∙◌, append-nil, append_assoc}
+use Rattle.std.specs.List.{list_any}
 use Rattle.std.specs.Str.{bytes_eq}
 use Rattle.std.proofs.lemmas.List.Concat.{flat_map-cons}
 use Rattle.os_files.specs.Bytes.{Bytes}
@@ -11,7 +11,7 @@ use Rattle.response_files.specs.Styles.{names_file, path_of, words_of}
 use Rattle.response_files.specs.declared.opening.Opened.{Opened}
 use Rattle.response_files.specs.declared.style.Style.{Style}
 use Rattle.response_files.proofs.ClosedLaws.{closed_more, closed_same, contents_at_closed}
-use Rattle.response_files.proofs.DepthLaws.{is_recursion, opens_less}
+use Rattle.response_files.proofs.DepthLaws.{is_recursion}
 
 pub opened_as : (style : Style) (dir : Bytes) (held : Bytes → Bool) (tree : Tree) (word path : Bytes) (text : Option Bytes) →
     path_of style dir word ≡ Some path → cond (held path) None (contents_at tree path) ≡ text → opened_by style dir (closed_in held tree) word ≡ opened_text style path text
@@ -28,6 +28,12 @@ module _ (style : Style) (dir : Bytes) (closed : Tree) where
       let piece = λ (w : Bytes). in_place_of (expanded style dir) closed w (opened_by style dir closed w) in
       is_recursion style dir closed (word ∷ words) ∙ flat_map-cons piece word words ∙ ap (λ (l : List Bytes). piece word ++ l) (sym (is_recursion style dir closed words))
 
+  -- what one word becomes
+  pub expanded-one : (word : Bytes) → expanded style dir closed (word ∷ []) ≡ in_place_of (expanded style dir) closed word (opened_by style dir closed word)
+  expanded-one word =
+      let piece = in_place_of (expanded style dir) closed word (opened_by style dir closed word) in
+      expanded-cons word [] ∙ ap (λ (l : List Bytes). piece ++ l) expanded-nil ∙ append-nil piece
+
   -- a word that opens nothing stays
   pub kept_word : (word : Bytes) (words out : List Bytes) → opened_by style dir closed word ≡ None → (out ++ word ∷ []) ++ expanded style dir closed words ≡ out ++ expanded style dir closed (word ∷ words)
   kept_word word words out h =
@@ -40,10 +46,6 @@ module _ (style : Style) (dir : Bytes) (closed : Tree) where
   opened_word word words out opened h =
       append_assoc out _ (expanded style dir closed words)
       ∙ ap (λ (l : List Bytes). out ++ l) (ap (λ (o : Option Opened). in_place_of (expanded style dir) closed word o ++ expanded style dir closed words) (sym h) ∙ sym (expanded-cons word words))
-
-  -- fewer files may open below an open one
-  pub fewer_below : (word : Bytes) (opened : Opened) → opened_by style dir closed word ≡ Some opened → length (without opened.name closed) < length closed
-  fewer_below word opened h = opens_less style closed (path_of style dir word) opened h
 
 -- the files that are left once one more is open
 pub closed_below : (held more : Bytes → Bool) (name : Bytes) (tree : Tree) → ((other : Bytes) → more other ≡ (bytes_eq name other || held other)) → closed_in more tree ≡ without name (closed_in held tree)

@@ -4,3 +4,5 @@ pub mod Expansion
 pub mod Chains
 pub mod Causes
 pub mod Words
+pub mod Unread
+pub mod Asking

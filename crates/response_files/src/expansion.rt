@@ -3,48 +3,54 @@
 ghost use Rattle.std.specs.Prelude.{◌≡◌, ◌++◌, IfOk, IfErr, OnOk, IsErrOf};
 ghost use Rattle.os_files.specs.Bytes.{Bytes};
 ghost use Rattle.os_files.specs.Views.{FilesFail};
+ghost use Rattle.response_files.specs.Asking.{IsAskedFor};
 ghost use Rattle.response_files.specs.Causes.{CauseOf};
-ghost use Rattle.response_files.specs.Chains.{is_open};
-ghost use Rattle.response_files.specs.Closed.{closed_in};
+ghost use Rattle.response_files.specs.Closed.{without};
 ghost use Rattle.response_files.specs.Expansion.{expanded};
 
 use crate::chain::Chain;
 use crate::fault::ParseFault;
-use crate::opening::opened_by;
+use crate::opening::{Opened, opened_by};
 use crate::style::Style;
+use crate::unread::{Part, Unread};
 use os_files::files::Files;
 use os_files::listed::Listed;
 use os_files::os_bytes::OsBytes;
 use std::alloc::Global;
 
-/// Adds what the words become, while the files of the chain are open.
-fn expand_onto<F: Files>(
+/// Adds what the words of a file become, while it is open. The files that it opens are open while their words are read.
+fn expand_file<F: Files>(
     alloc: Global,
     style: Style,
     dir: &OsBytes,
-    chain: &mut Chain,
     files: &mut F,
-    words: &[OsBytes],
+    file: Opened,
     out: &mut Vec<OsBytes>,
 ) -> Result<(), ParseFault>
     ensures words { OnOk result
         (out.new.items
-        ≡ out.old.items ++ expanded style dir.now (closed_in (is_open chain.old) (F.tree files.old))
-        words.now) }
-    ensures chain { OnOk result ((name : Bytes) → is_open chain.new name ≡ is_open chain.old name) }
+        ≡ out.old.items ++ expanded style dir.now (without file.name (F.tree files.old)) file.words) }
     ensures cause { IfErr result (CauseOf (FilesFail F.Files files.old files.new)) }
+    ensures asked { IfErr result
+        (CauseOf (IsAskedFor style dir.now (without file.name (F.tree files.old)) file.words)) }
     ensures tree { F.tree files.new ≡ F.tree files.old }
     ensures steady { OnOk result (F.failed files.new ≡ F.failed files.old) }
     ensures memory { IsErrOf result ParseFault.Memory → F.failed files.new ≡ F.failed files.old }
 {
-    for word in words {
-        match opened_by(alloc, style, dir, chain, files, word)? {
-            None => out.push(word.clone()?)?,
-            Some(found) => {
-                chain.open(&found.name)?;
-                expand_onto(alloc, style, dir, chain, files, found.words.as_slice(), out)?;
-                chain.close(&found.name);
-            }
+    let mut chain = Chain::new(alloc);
+    let mut unread = Unread::new(alloc);
+    chain.open(&file.name)?;
+    unread.add(file)?;
+    while let Some(part) = unread.next() {
+        match part {
+            Part::End(name) => chain.close(&name),
+            Part::Word(word) => match opened_by(alloc, style, dir, &chain, files, &word)? {
+                None => out.push(word)?,
+                Some(found) => {
+                    chain.open(&found.name)?;
+                    unread.add(found)?;
+                }
+            },
         }
     }
     Ok(())
@@ -61,12 +67,19 @@ pub fn expand<F: Files>(
 ) -> Result<Listed<OsBytes>, ParseFault>
     ensures words { IfOk result (λ list. list ≡ expanded style dir.now (F.tree files.old) words.now) }
     ensures cause { IfErr result (CauseOf (FilesFail F.Files files.old files.new)) }
+    ensures asked { IfErr result
+        (CauseOf (IsAskedFor style dir.now (F.tree files.old) words.now)) }
     ensures tree { F.tree files.new ≡ F.tree files.old }
     ensures steady { OnOk result (F.failed files.new ≡ F.failed files.old) }
     ensures memory { IsErrOf result ParseFault.Memory → F.failed files.new ≡ F.failed files.old }
 {
-    let mut chain = Chain::new(alloc);
+    let none = Chain::new(alloc);
     let mut out = Vec::new(alloc);
-    expand_onto(alloc, style, dir, &mut chain, files, words, &mut out)?;
+    for word in words {
+        match opened_by(alloc, style, dir, &none, files, word)? {
+            None => out.push(word.clone()?)?,
+            Some(file) => expand_file(alloc, style, dir, files, file, &mut out)?,
+        }
+    }
     Ok(Listed::from_vec(out))
 }

@@ -10,4 +10,5 @@ pub mod laws;
 pub mod msvc;
 mod opening;
 pub mod style;
+mod unread;
 pub mod words;

@@ -6,6 +6,7 @@ ghost use Rattle.response_files.specs.Causes.{CauseOf};
 ghost use Rattle.response_files.specs.Chains.{is_open};
 ghost use Rattle.response_files.specs.Closed.{closed_in};
 ghost use Rattle.response_files.specs.Expansion.{opened_by};
+ghost use Rattle.response_files.specs.Styles.{path_of};
 
 use crate::chain::Chain;
 use crate::fault::ParseFault;
@@ -35,6 +36,7 @@ pub(crate) fn opened_by<F: Files>(
         (λ found. found
         ≡ opened_by style dir.now (closed_in (is_open chain.now) (F.tree files.old)) word.now) }
     ensures cause { IfErr result (CauseOf (FilesFail F.Files files.old files.new)) }
+    ensures asked { IfErr result (CauseOf (λ name. path_of style dir.now word.now ≡ Some name)) }
     ensures tree { F.tree files.new ≡ F.tree files.old }
     ensures steady { OnOk result (F.failed files.new ≡ F.failed files.old) }
     ensures memory { IsErrOf result ParseFault.Memory → F.failed files.new ≡ F.failed files.old }

@@ -4,6 +4,7 @@ ghost use Rattle.std.specs.Prelude.{◌≡◌, [], ◌∷◌, length, Err, IsOk}
 ghost use Rattle.std.specs.Iterator.{at_most};
 ghost use Rattle.std.specs.List.{AllByRecursion};
 ghost use Rattle.os_files.specs.Views.{FilesFail};
+ghost use Rattle.response_files.specs.Asking.{IsAskedFor};
 ghost use Rattle.response_files.specs.Expansion.{expanded};
 ghost use Rattle.response_files.specs.declared.style.Style.{Style};
 ghost use Rattle.response_files.specs.Words.{Gives, Takes, items_left};
@@ -45,6 +46,9 @@ impl<S: Opens> ExpandedWords<S> {
         ensures gives { Gives (items_left result)
             (expanded S.style dir.now (F.tree files.old) words.now)
             (FilesFail F.Files files.old files.new) }
+        ensures asked { Gives (items_left result)
+            (expanded S.style dir.now (F.tree files.old) words.now)
+            (IsAskedFor S.style dir.now (F.tree files.old) words.now) }
         ensures tree { F.tree files.new ≡ F.tree files.old }
         // No device failed where words come, nor where memory was refused.
         ensures steady { AllByRecursion IsOk (items_left result) →
