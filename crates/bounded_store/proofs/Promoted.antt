@@ -3,6 +3,7 @@ use Rattle.std.proofs.Common.{◌≡◌, ℕ, Bool, true, false, cond, List, [],
 use Rattle.std.specs.Option.{option_map_or}
 use Rattle.std.specs.Cmp.{IsEquivalence}
 use Rattle.std.specs.Map.{lookup, lookup_entry, remove_entry}
+use Rattle.os_files.specs.Bytes.{ticked}
 use Rattle.ckeys_base.specs.Shelf.{Asks}
 use Rattle.lru.specs.LruCache.{promoted}
 
@@ -43,9 +44,9 @@ pub lookup-promoted : {K V : Type 0} (eq : K → K → Bool) → IsEquivalence e
 lookup-promoted eq e key q es = at_entry eq e key q es (lookup_entry (eq key) es) refl
 
 -- a look-up that only moves the pair to the front
-pub asks_promoted : {K V : Type 0} (eq : K → K → Bool) → IsEquivalence eq → (key : K) (es fs : List (K × V)) (kept : Bool) (clears puts : ℕ) (answer : Option V) → fs ≡ promoted (eq key) es → answer ≡ lookup (eq key) es
-    → Asks (record { held = λ k. lookup (eq k) es; kept = kept; forgets = 0; clears = clears; puts = puts }) (record { held = λ k. lookup (eq k) fs; kept = kept; forgets = 0; clears = clears; puts = puts }) key answer
-asks_promoted {K} {V} eq e key es fs kept clears puts answer is found = record {
+pub asks_promoted : {K V : Type 0} (eq : K → K → Bool) → IsEquivalence eq → (key : K) (es fs : List (K × V)) (kept : Bool) (clears puts gets : ℕ) (answer : Option V) → fs ≡ promoted (eq key) es → answer ≡ lookup (eq key) es
+    → Asks (record { held = λ k. lookup (eq k) es; kept = kept; forgets = 0; clears = clears; puts = puts; gets = gets }) (record { held = λ k. lookup (eq k) fs; kept = kept; forgets = 0; clears = clears; puts = puts; gets = ticked gets }) key answer
+asks_promoted {K} {V} eq e key es fs kept clears puts gets answer is found = record {
   value = found ∙ sym (same key);
   within = λ q v h. sym (same q) ∙ h;
   kept = (λ h. (h, λ q h. rw (same q) h), λ p. p.0);
@@ -53,6 +54,7 @@ asks_promoted {K} {V} eq e key es fs kept clears puts answer is found = record {
   steady = λ _. refl;
   cleared = refl;
   put = refl;
+  got = refl;
 }
   where
     same : (q : K) → lookup (eq q) fs ≡ lookup (eq q) es

@@ -54,8 +54,8 @@ module _ {K V : Type 0} (eq : K → K → Bool) (laws : IsEquivalence eq) (old n
       entries : uses_of new ≡ put_entries eq old.cache k v
       entries = ap (λ (c : LruCache K V). c.entries) is
 
-      pub stored : new.cleared ≡ old.cleared → new.puts ≡ ticked old.puts → Puts eq (shelf_of eq old) (shelf_of eq new) k v (Ok tt)
-      stored clears counts = record {
+      pub stored : new.cleared ≡ old.cleared → new.puts ≡ ticked old.puts → new.gets ≡ old.gets → Puts eq (shelf_of eq old) (shelf_of eq new) k v (Ok tt)
+      stored clears counts asked = record {
         gains = λ q x h. put_gains eq laws old.cache k v q x (sym (ap (lookup (eq q)) entries) ∙ h);
         outcome = ap (lookup (eq k)) entries ∙ lookup-put_entries eq old.cache k v laws;
         kept = (
@@ -65,6 +65,7 @@ module _ {K V : Type 0} (eq : K → K → Bool) (laws : IsEquivalence eq) (old n
         steady = refl;
         cleared = clears;
         put = counts;
+        got = asked;
       }
 
       pub in_order : PutsFirst eq old new k v (Ok tt)

@@ -7,7 +7,7 @@ use Rattle.bounded_store.specs.declared.lru_store.LruStore.{LruStore}
 module _ {K V : Type 0} where
   -- what can be seen of it: no look-up forgets
   abbrev pub shelf_of : (K → K → Bool) → LruStore K V → Shelf K V
-  shelf_of eq s = record { held = λ key. lookup (eq key) s.cache.entries; kept = s.kept; forgets = 0; clears = s.cleared; puts = s.puts }
+  shelf_of eq s = record { held = λ key. lookup (eq key) s.cache.entries; kept = s.kept; forgets = 0; clears = s.cleared; puts = s.puts; gets = s.gets }
 
   -- its pairs, the most recently used first
   abbrev pub uses_of : LruStore K V → List (K × V)

@@ -24,6 +24,7 @@ pub struct LruStore<K: Eq + Hash, V> {
     kept: bool,
     cleared: u64,
     puts: u64,
+    gets: u64,
 }
 
 impl<K: Eq + Hash + Drop, V: Drop> LruStore<K, V> {
@@ -35,13 +36,14 @@ impl<K: Eq + Hash + Drop, V: Drop> LruStore<K, V> {
         ensures kept { IfOk result (λ store. (shelf_of K.eq store).kept ≡ true) }
         ensures ticks { IfOk result
             (λ store. ((shelf_of K.eq store).forgets ≡ 0) × ((shelf_of K.eq store).clears ≡ 0)
-            × ((shelf_of K.eq store).puts ≡ 0)) }
+            × ((shelf_of K.eq store).puts ≡ 0) × ((shelf_of K.eq store).gets ≡ 0)) }
     {
         Ok(LruStore {
             cache: LruCache::sparse(alloc, capacity)?,
             kept: true,
             cleared: 0,
             puts: 0,
+            gets: 0,
         })
     }
 
@@ -77,6 +79,7 @@ impl<K: Eq + Hash + Drop, V: Drop> LruStore<K, V> {
         ensures capacity { capacity_of self.new ≡ capacity_of self.old }
         ensures cleared { self.new.cleared ≡ self.old.cleared }
         ensures puts { self.new.puts ≡ self.old.puts }
+        ensures gets { self.new.gets ≡ self.old.gets }
     {
         keys_are_themselves::<K>();
         self.kept = self.kept && self.cache.is_empty();
@@ -94,6 +97,7 @@ impl<K: Eq + Hash + Drop, V: Drop> Store<K, V> for LruStore<K, V> {
             Asks (shelf_of K.eq self.old) (shelf_of K.eq new) key.now (option_copied result)
             × MakesFirst K.eq self.old new key.now)) }
     {
+        self.gets = self.gets.wrapping_add(1);
         self.keys_differ();
         self.cache.get(key)
     }
@@ -141,6 +145,10 @@ impl<K: Eq + Hash + Drop, V: Drop> Store<K, V> for LruStore<K, V> {
 
     fn puts(&self) -> u64 {
         self.puts
+    }
+
+    fn gets(&self) -> u64 {
+        self.gets
     }
 }
 

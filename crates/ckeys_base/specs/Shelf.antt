@@ -9,6 +9,7 @@ pub record Shelf (K V : Type 0) : Type 0 where
   pub forgets : ℕ  -- how often a look-up answered nothing for a key held just before, modulo 2 ^ 64
   pub clears : ℕ  -- how often all was dropped on demand, modulo 2 ^ 64
   pub puts : ℕ  -- how often a pair was put, taken or refused, modulo 2 ^ 64
+  pub gets : ℕ  -- how often a look-up was asked, modulo 2 ^ 64
 
 -- nothing is held
 abbrev pub IsEmpty : {K V : Type 0} → Shelf K V → Type 0
@@ -40,6 +41,7 @@ module _ {K V : Type 0} where
     pub steady : (Forgotten (old.held key) answer → ⊥) → new.forgets ≡ old.forgets
     pub cleared : new.clears ≡ old.clears
     pub put : new.puts ≡ old.puts
+    pub got : new.gets ≡ ticked old.gets
 
   -- A put: the pair is added, or handed back. Other pairs may be dropped.
   pub record Puts (eq : K → K → Bool) (old new : Shelf K V) (key : K) (value : V) (result : Result (Unit {0}) (K × V)) : Type 0 where
@@ -49,6 +51,7 @@ module _ {K V : Type 0} where
     pub steady : new.forgets ≡ old.forgets
     pub cleared : new.clears ≡ old.clears
     pub put : new.puts ≡ ticked old.puts
+    pub got : new.gets ≡ old.gets
 
   -- All is dropped on demand.
   pub record Clears (old new : Shelf K V) : Type 0 where
@@ -57,3 +60,4 @@ module _ {K V : Type 0} where
     pub steady : new.forgets ≡ old.forgets
     pub cleared : new.clears ≡ ticked old.clears
     pub put : new.puts ≡ old.puts
+    pub got : new.gets ≡ old.gets

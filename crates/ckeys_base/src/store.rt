@@ -40,6 +40,10 @@ pub trait Store<K: Eq, V> {
     fn puts(&self) -> u64
         ensures { result ≡ (shelf self.now).puts };
 
+    /// How often `get` was called, modulo 2 ^ 64. It takes no memory.
+    fn gets(&self) -> u64
+        ensures { result ≡ (shelf self.now).gets };
+
     /// Equal keys hold the same.
     ghost respects: { (s : Self) (a b : K) → K.eq a b ≡ true → (shelf s).held a ≡ (shelf s).held b };
 }
