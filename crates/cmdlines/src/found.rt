@@ -6,7 +6,7 @@ ghost use Rattle.std.specs.Option.{option_map};
 ghost use Rattle.os_files.specs.Views.{FilesFail};
 ghost use Rattle.response_files.specs.Causes.{CauseOf};
 ghost use Rattle.cmdlines_tables.specs.declared.compiler.CCompilerKind.{CCompilerKind};
-ghost use Rattle.cmdlines.specs.Opening.{opened_words, style_of};
+ghost use Rattle.cmdlines.specs.Opening.{IsAskedByKind, opened_words, style_of};
 ghost use Rattle.cmdlines.specs.Commands.{object_path, HasObjectIn, preprocess_words, output_path, compile_words};
 ghost use Rattle.cmdlines_requests.specs.Small.{command_at};
 ghost use Rattle.cmdlines.specs.Compilers.{traits_of, text_in};
@@ -141,6 +141,8 @@ impl<K: HasKind> FoundCompiler<K> {
             ≡ parse_of K.kind (opened_words K.kind dir.now (F.tree files.old) words.now)) }
         ensures cause { IfErr result
             (CauseOf (FilesFail F.Files files.old files.new)) }
+        ensures asked { IfErr result
+            (CauseOf (IsAskedByKind K.kind dir.now (F.tree files.old) words.now)) }
         ensures input { IfOk result
             (λ answer. HasSafeInputIn K.kind
             (opened_words K.kind dir.now (F.tree files.old) words.now) (decision_of answer)) }
