@@ -1,9 +1,8 @@
-use Rattle.std.proofs.Common.{◌≡◌, Some, None, sym, ◌∙◌}
-use Rattle.gulmaat.proofs.OneEntry.{only_this}
+use Rattle.gulmaat.proofs.OneEntry.{holds_nothing, holds_this}
 use Rattle.gulmaat.proofs.answering.store_over.Goals as goal
 
 pub returns-in-Some : goal.returns-in-Some
-returns-in-Some c = λ key pairs h. c.in-Some.is ∙ only_this _ c.keys_are_their_fields.ensures.equal _ _ c.in-Some.key c.in-Some.pairs c.new-store.ensures.empty c.put.ensures.stored.gains key pairs h
+returns-in-Some c = rw c.in-Some.is (holds_this _ c.keys_are_their_fields.ensures.equal _ _ c.in-Some.key c.in-Some.pairs _ c.new-store.ensures.empty c.put.ensures.stored)
 
 pub returns-in-None : goal.returns-in-None
-returns-in-None c = λ key pairs h. let clash : None ≡ Some pairs = sym (c.new-store.ensures.empty key) ∙ h in absurd cc
+returns-in-None c = rw c.in-None.is (holds_nothing _ c.new-store.ensures.empty)
