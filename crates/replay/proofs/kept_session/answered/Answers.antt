@@ -10,8 +10,8 @@ use Rattle.wrap_base.specs.MapStores.{shelf_of}
 use Rattle.wrap_base.specs.contracts.store_key.StoreKeyPartialEq.TheImpl as key_eq
 use Rattle.wrap_base.specs.declared.map_store.MapStore.{MapStore}
 use Rattle.wrap_base.specs.declared.store_key.StoreKey.{StoreKey}
-use Rattle.gulmaat.specs.Kept.{Holds}
-use Rattle.gulmaat.proofs.answering.answered.Goals as goal
+use Rattle.replay.specs.Kept.{Holds}
+use Rattle.replay.proofs.kept_session.answered.Goals as goal
 
 pub returns-clause-outputs : goal.returns-clause-outputs
 returns-clause-outputs g c =

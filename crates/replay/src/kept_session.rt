@@ -1,10 +1,10 @@
-//! One answer of the session, by what is known and by what a disk keeps.
+//! One answer of a session over what a disk keeps, by what was recorded.
 
 ghost use Rattle.std.specs.Prelude.{◌≡◌, List, [], ◌∷◌, ◌++◌};
 ghost use Rattle.os_files.specs.Views.{FilesFail};
 ghost use Rattle.ckeys_records.specs.Meaning.{Meaning};
 ghost use Rattle.ckeys_records.specs.Views.{ToolFails};
-ghost use Rattle.gulmaat.specs.Kept.{Holds, IsOfEarlier, RecordIsOfEarlier};
+ghost use Rattle.replay.specs.Kept.{Holds, IsOfEarlier, RecordIsOfEarlier};
 ghost use Rattle.replay.specs.Recorded.{recorded};
 ghost use Rattle.replay.specs.Worlds.{GivesTo};
 ghost use Rattle.wrap.specs.Account.{Account, account_at};
@@ -13,12 +13,12 @@ ghost use Rattle.wrap.specs.Asking.{AskedTurn, Shelves, shelves_of};
 ghost use Rattle.wrap.specs.StoreKeys.{Premises};
 ghost use Rattle.wrap_base.specs.MapStores.{shelf_of};
 
+use crate::asked_store::AskedStore;
+use crate::replay_tool::ReplayTool;
+use crate::replayed::replayed;
+use crate::snapshot_files::SnapshotFiles;
+use crate::watched_records::WatchedRecords;
 use entry_keys::entry_key::entry_keys_are_their_fields;
-use replay::asked_store::AskedStore;
-use replay::replay_tool::ReplayTool;
-use replay::replayed::replayed;
-use replay::snapshot_files::SnapshotFiles;
-use replay::watched_records::WatchedRecords;
 use std::alloc::Global;
 use wrap::laws::records_of_earlier_calls_are_true;
 use wrap::{
