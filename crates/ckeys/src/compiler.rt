@@ -19,7 +19,7 @@ use os_files::os_bytes::OsBytes;
 use std::alloc::{AllocError, Global};
 
 /// A C compiler, its executable and the digest that stands for it in keys.
-#[derive(Drop)]
+#[derive(Debug, Drop)]
 pub struct CCompiler<I> {
     pub compiler: I,
     pub executable: OsBytes,

@@ -6,16 +6,18 @@ ghost use Rattle.ckeys_records.specs.Folders.{is_bad, without_slashes, settings_
 use os_files::listed::Listed;
 use os_files::os_bytes::OsBytes;
 use std::alloc::{AllocError, Global};
-use std::fmt;
 use std::marker::Model;
+use thiserror::Error;
 use time_macros::zone::Zone;
 
 /// Why there is no configuration.
-#[derive(Debug, Drop, PartialEq, Eq)]
+#[derive(Clone, Debug, Drop, Error, PartialEq, Eq)]
 pub enum ConfigError {
     /// A growth was refused.
+    #[error("no memory was left")]
     Memory,
     /// This folder isn't absolute, or is only slashes.
+    #[error("no absolute folder: {0}")]
     BadFolder(OsBytes),
 }
 
@@ -26,15 +28,6 @@ impl From<AllocError> for ConfigError {
 
     fn from(_error: AllocError) -> ConfigError {
         ConfigError::Memory
-    }
-}
-
-impl fmt::Display for ConfigError {
-    fn fmt<W: fmt::Write>(&self, f: &mut fmt::Formatter<W>) -> fmt::Result {
-        match self {
-            ConfigError::Memory => write!(f, "no memory was left"),
-            ConfigError::BadFolder(folder) => write!(f, "no absolute folder: {folder}"),
-        }
     }
 }
 

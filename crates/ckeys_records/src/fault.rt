@@ -6,28 +6,37 @@ use crate::step::Step;
 use os_files::os_bytes::OsBytes;
 use response_files::fault::ParseFault;
 use std::alloc::{AllocError, AllocFailed};
-use std::fmt;
+use thiserror::Error;
 
 /// What went wrong.
-#[derive(Drop)]
+#[derive(Clone, Debug, Drop, Error, PartialEq, Eq)]
 pub enum Fault {
     /// A growth was refused.
+    #[error("memory")]
     Memory,
     /// The device of the files failed on this path, or a file that is needed isn't there.
+    #[error("read {0}")]
     Read(OsBytes),
     /// The tool's device failed in that step.
+    #[error("tool {0}")]
     Tool(Step),
     /// The preprocessor ended with that status, which isn't 0; or rustc did, asked for its dependencies or the names of its outputs.
+    #[error("preprocess {0}")]
     PreprocessFailed(i32),
     /// The compiler ended with that status, which isn't 0.
+    #[error("compile {0}")]
     CompileFailed(i32),
     /// The compiler ended with status 0, and this is the first demanded output that it didn't make.
+    #[error("missing {0}")]
     MissingOutput(OsBytes),
     /// The first line of a text on rustc's dependencies is no rule.
+    #[error("rule")]
     NoRule,
     /// What rustc answered in that step isn't UTF-8.
+    #[error("answer {0}")]
     AnswerNotUtf8(Step),
     /// The digest of the static library of this path isn't one.
+    #[error("digest {0}")]
     BadDigest(OsBytes),
 }
 
@@ -61,22 +70,6 @@ impl From<ParseFault> for Fault {
         match fault {
             ParseFault::Memory => Fault::Memory,
             ParseFault::Read(path) => Fault::Read(path),
-        }
-    }
-}
-
-impl fmt::Display for Fault {
-    fn fmt<W: fmt::Write>(&self, f: &mut fmt::Formatter<W>) -> fmt::Result {
-        match self {
-            Fault::Memory => write!(f, "memory"),
-            Fault::Read(path) => write!(f, "read {path}"),
-            Fault::Tool(step) => write!(f, "tool {step}"),
-            Fault::PreprocessFailed(status) => write!(f, "preprocess {status}"),
-            Fault::CompileFailed(status) => write!(f, "compile {status}"),
-            Fault::MissingOutput(name) => write!(f, "missing {name}"),
-            Fault::NoRule => write!(f, "rule"),
-            Fault::AnswerNotUtf8(step) => write!(f, "answer {step}"),
-            Fault::BadDigest(path) => write!(f, "digest {path}"),
         }
     }
 }

@@ -3,7 +3,7 @@
 use os_files::os_bytes::OsBytes;
 
 /// An output that is asked for: its name, and whether a compile may leave it out.
-#[derive(Drop, PartialEq, Eq, PartialOrd, Ord, Hash)]
+#[derive(Clone, Debug, Drop, PartialEq, Eq, PartialOrd, Ord, Hash)]
 pub struct OutputName {
     pub name: OsBytes,
     pub optional: bool,

@@ -11,20 +11,23 @@ use cmdlines_tables::compiler::CCompilerKind;
 use os_files::files::Files;
 use os_files::os_bytes::OsBytes;
 use std::alloc::{AllocError, Global};
+use thiserror::Error;
 
 /// What a preprocessor printed, and its status.
-#[derive(Drop)]
+#[derive(Clone, Debug, Drop, PartialEq, Eq)]
 pub struct Printed {
     pub status: i32,
     pub text: OsBytes,
 }
 
 /// Why a tool gave no answer.
-#[derive(Clone, Copy, Debug, PartialEq, Eq)]
+#[derive(Clone, Copy, Debug, Error, PartialEq, Eq)]
 pub enum ToolFail {
     /// A growth was refused.
+    #[error("memory")]
     Memory,
     /// The tool's device failed, or that of the files that it read.
+    #[error("the tool's device failed")]
     Device,
 }
 

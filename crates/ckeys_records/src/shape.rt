@@ -5,7 +5,7 @@ use os_files::listed::Listed;
 
 /// The language, how long the digests are, and how many words and variables there are. The text's length is no part of
 /// it, so equal texts that came of different ones have equal shapes.
-#[derive(Drop, PartialEq, Eq, PartialOrd, Ord, Hash)]
+#[derive(Clone, Debug, Drop, PartialEq, Eq, PartialOrd, Ord, Hash)]
 pub struct CShape {
     pub language: Language,
     pub compiler_digest: usize,

@@ -32,6 +32,7 @@ use response_files::fault::ParseFault;
 use response_files::laws::other_words_stay;
 use response_files::style::Style;
 use std::alloc::{AllocError, Global};
+use std::fmt;
 use std::marker::{Model, PhantomData};
 
 /// A kind of compiler that is known where the program is built.
@@ -63,6 +64,18 @@ impl<K: HasKind> Model for FoundCompiler<K> {
     ghost view = { λ a. traits_of a.plusplus a.version a.assembler_digest };
 
     ghost invariant = { λ a. a.tree ≡ tables_of K.kind };
+}
+
+/// What is known of it, without its tables.
+impl<K: HasKind> fmt::Debug for FoundCompiler<K> {
+    fn fmt<W: fmt::Write>(&self, f: &mut fmt::Formatter<W>) -> fmt::Result {
+        f.debug_struct("FoundCompiler")
+            .field("kind", &K::kind())
+            .field("plusplus", &self.plusplus)
+            .field("version", &self.version)
+            .field("assembler_digest", &self.assembler_digest)
+            .finish()
+    }
 }
 
 /// How a compiler opens words; None where it opens none.

@@ -9,6 +9,7 @@ use cmdlines_base::color_mode::ColorMode;
 use cmdlines_base::command::ArtifactDescriptor;
 use cmdlines_tables::language::Language;
 use os_files::listed::Listed;
+use os_files::lossy::Lossy;
 use os_files::os_bytes::OsBytes;
 use os_files::path::file_name;
 use std::alloc::{AllocError, Global};
@@ -86,7 +87,7 @@ impl ParsedArguments {
     {
         match self.object_file_name() {
             None => String::from_str(alloc, "Unknown filename"),
-            Some(name) => String::from_utf8_lossy(alloc, name),
+            Some(bytes) => Lossy { bytes }.text(alloc),
         }
     }
 

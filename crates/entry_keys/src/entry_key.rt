@@ -17,7 +17,7 @@ use std::hash::Hash;
 
 /// What a call's include record is kept under: the digest of who asks, and that of what the preprocessor would be
 /// told, both as text of two hexadecimal digits a byte.
-#[derive(Debug, Drop, PartialEq, Eq, PartialOrd, Ord, Hash)]
+#[derive(Clone, Debug, Drop, PartialEq, Eq, PartialOrd, Ord, Hash)]
 pub struct EntryKey {
     pub identity: OsBytes,
     pub key: OsBytes,

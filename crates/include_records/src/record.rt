@@ -18,7 +18,7 @@ const MAX_RESULTS: usize = 100;
 const MAX_INCLUDES: usize = 10000;
 
 /// The texts that were printed under one entry key, in the order of their keys. Contracts see the results.
-#[derive(Drop)]
+#[derive(Debug, Drop)]
 pub struct PreprocessorCacheEntry {
     pub(crate) results: Vec<CachedResult>,
     pub(crate) includes: usize,
@@ -189,25 +189,38 @@ fn place_for(results: &[CachedResult], key: &KeyText) -> usize
     at
 }
 
+/// Records are equal exactly if their results are.
+impl PartialEq for PreprocessorCacheEntry {
+    ghost use Rattle.std.specs.Cmp.{on_per};
+    ghost use Rattle.std.specs.Cmp.Lexicographic.{lists_per};
+    ghost use Rattle.include_records.specs.Records.{Record};
+    ghost use Rattle.include_records.specs.contracts.entry.CachedResultPartialEq.TheImpl.Laws.{laws-law};
+
+    ghost eq = { λ one other. ⟦<Listed<CachedResult> as PartialEq>⟧.eq one.results other.results };
+
+    ghost laws = { on_per (λ (entry : Record). entry.results) (lists_per laws-law) };
+
+    fn eq(&self, other: &PreprocessorCacheEntry) -> bool {
+        self.results == other.results
+    }
+}
+
+impl Eq for PreprocessorCacheEntry {
+    ghost use Rattle.std.specs.Cmp.{on_equiv};
+    ghost use Rattle.std.specs.Cmp.Lexicographic.{lists_equiv};
+    ghost use Rattle.include_records.specs.Records.{Record};
+    ghost use Rattle.include_records.specs.contracts.entry.CachedResultEq.TheImpl.Laws.{laws-law};
+
+    ghost laws = { on_equiv (λ (entry : Record). entry.results) (lists_equiv laws-law) };
+}
+
 impl Clone for PreprocessorCacheEntry {
     ghost is_clone = { λ entry copy. copy ≡ entry };
 
     fn clone(&self) -> Result<PreprocessorCacheEntry, AllocError> {
-        let alloc = *self.results.allocator();
         Ok(PreprocessorCacheEntry {
-            results: copied(alloc, &self.results)?,
+            results: self.results.clone()?,
             includes: self.includes,
         })
     }
-}
-
-/// A copy of each result.
-fn copied(alloc: Global, results: &[CachedResult]) -> Result<Vec<CachedResult>, AllocError>
-    ensures { IfOk result (λ copy. copy.items ≡ results.now) }
-{
-    let mut copy = Vec::with_capacity(alloc, results.len())?;
-    for result in results {
-        copy.push(result.copied(alloc)?)?;
-    }
-    Ok(copy)
 }

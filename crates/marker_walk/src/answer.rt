@@ -4,7 +4,7 @@ use os_files::listed::Listed;
 use os_files::os_bytes::OsBytes;
 
 /// What a text says of the files that it was made of.
-#[derive(Drop)]
+#[derive(Clone, Debug, Drop, PartialEq, Eq)]
 pub enum Walk {
     /// It can't be told, or one of them holds a macro that gives another text each second.
     Refused,

@@ -7,13 +7,16 @@ ghost use Rattle.os_files.specs.Tree.{Tree, contents_at, is_file_at, is_dir_at, 
 use crate::file_time::FileTime;
 use crate::os_bytes::OsBytes;
 use std::alloc::{AllocError, Global};
+use thiserror::Error;
 
 /// Why files gave no answer.
-#[derive(Clone, Copy, Debug, PartialEq, Eq)]
+#[derive(Clone, Copy, Debug, Error, PartialEq, Eq)]
 pub enum FileFail {
     /// No memory was left.
+    #[error("no memory was left")]
     Memory,
     /// The device failed, which its failure tick counts.
+    #[error("a device of files failed")]
     Device,
 }
 

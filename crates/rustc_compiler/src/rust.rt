@@ -31,7 +31,7 @@ use std::marker::Model;
 
 /// A rustc compiler: its executable, what it says of its version, its folder of libraries, the archive of its toolchain where it
 /// has one, and the digests of the toolchain's files, each of which has the form that digests have in keys.
-#[derive(Drop)]
+#[derive(Clone, Debug, Drop, PartialEq, Eq)]
 pub struct Rust {
     executable: OsBytes,
     version: OsBytes,
@@ -48,6 +48,8 @@ impl Model for Rust {
     ghost Value = { Rustc };
 
     ghost view = { λ a. record { executable = a.executable; version = a.version; sysroot = a.sysroot; archive = a.archive; toolchain = a.toolchain } };
+
+    ghost inverse = { λ r. record { executable = r.executable; version = r.version; sysroot = r.sysroot; archive = r.archive; toolchain = r.toolchain } };
 
     ghost invariant = { λ a. AllByRecursion (IsDigest digest_digits) a.toolchain };
 }

@@ -19,7 +19,7 @@ use rustc_texts::words::compile_words;
 use std::alloc::{AllocError, Global};
 
 /// A compile of a request.
-#[derive(Drop)]
+#[derive(Clone, Debug, Drop, PartialEq, Eq)]
 pub struct RustCompilation {
     /// The command that is run for it.
     pub command: SingleCompileCommand,
@@ -49,16 +49,8 @@ impl RustCompilation {
         ensures command { IfOk result (λ made. made.0 ≡ self.now.command) }
         ensures cacheable { IfOk result (λ made. made.1 ≡ Cacheable.Yes) }
     {
-        let words = copied(alloc, self.command.arguments.as_slice())?;
-        let env = self.command.env_vars.as_slice();
-        let command = command_at(
-            alloc,
-            &self.command.executable,
-            words,
-            env,
-            &self.command.cwd,
-        )?;
-        Ok((command, Cacheable::Yes))
+        let _ = alloc;
+        Ok((self.command.clone()?, Cacheable::Yes))
     }
 
     /// What it writes, in order.

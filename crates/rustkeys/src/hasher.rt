@@ -29,6 +29,7 @@ use ckeys_records::fault::Fault;
 use cmdlines_base::color_mode::ColorMode;
 use cmdlines_tables::language::Language;
 use os_files::files::Files;
+use os_files::lossy::Lossy;
 use os_files::os_bytes::OsBytes;
 use rustc_compiler::rust::Rust;
 use rustc_options::laws::words_in_order_are_a_set;
@@ -37,7 +38,7 @@ use rustc_requests::parsed::ParsedArguments;
 use std::alloc::{AllocError, Global};
 
 /// What a request asks for, and of which rustc.
-#[derive(Drop)]
+#[derive(Clone, Debug, Drop, PartialEq, Eq)]
 pub struct RustHasher<'a> {
     pub compiler: &'a Rust,
     pub parsed: &'a ParsedArguments,
@@ -68,7 +69,8 @@ impl<'a> RustHasher<'a> {
         ensures { IfOk result
             (λ name. string_bytes name ≡ utf8_lossy self.now.parsed.now.crate_name) }
     {
-        String::from_utf8_lossy(alloc, self.parsed.crate_name.as_bytes())
+        let bytes = self.parsed.crate_name.as_bytes();
+        Lossy { bytes }.text(alloc)
     }
 
     /// The language.

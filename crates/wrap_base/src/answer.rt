@@ -16,7 +16,7 @@ pub enum How {
 }
 
 /// An output: its name, where this request wants it, and its contents.
-#[derive(Drop)]
+#[derive(Clone, Debug, Drop, PartialEq, Eq)]
 pub struct Output {
     pub name: OsBytes,
     pub path: OsBytes,
@@ -24,7 +24,7 @@ pub struct Output {
 }
 
 /// What a request is answered.
-#[derive(Drop)]
+#[derive(Clone, Debug, Drop, PartialEq, Eq)]
 pub enum Answer {
     /// The build is to run the compiler itself.
     Pass(Reason),

@@ -25,7 +25,7 @@ use rustc_compiler::rust::Rust;
 use std::alloc::{AllocError, Global};
 
 /// Which compiler is asked.
-#[derive(Drop)]
+#[derive(Debug, Drop)]
 pub enum Compiler {
     Gcc(CCompiler<Gcc>),
     Clang(CCompiler<Clang>),

@@ -3,7 +3,7 @@
 use std::fmt;
 
 /// Why a request is passed through to its compiler.
-#[derive(Drop)]
+#[derive(Clone, Debug, Drop, PartialEq, Eq)]
 pub enum Reason {
     /// It doesn't compile one input.
     NotCompilation,

@@ -5,7 +5,7 @@ use os_files::listed::Listed;
 use os_files::os_bytes::OsBytes;
 
 /// A compiler's command line, as a build gives it.
-#[derive(Drop)]
+#[derive(Debug, Drop)]
 pub struct Request {
     pub compiler: Compiler,
     /// The words behind the executable.

@@ -23,7 +23,7 @@ pub enum Family {
 }
 
 /// What the hashed bytes of a request don't tell, by its family.
-#[derive(Drop, PartialEq, Eq, Hash, PartialOrd, Ord)]
+#[derive(Clone, Debug, Drop, PartialEq, Eq, Hash, PartialOrd, Ord)]
 pub enum Shape {
     C(CShape),
     Rustc(RShape),
@@ -31,7 +31,7 @@ pub enum Shape {
 
 /// What a request's outputs are kept under: the family, the shape, the outputs' names with their marks, and the digest.
 /// Keys are compared and hashed by these fields, in this order.
-#[derive(Drop, PartialEq, Eq, PartialOrd, Ord, Hash)]
+#[derive(Clone, Debug, Drop, PartialEq, Eq, PartialOrd, Ord, Hash)]
 pub struct StoreKey {
     pub family: Family,
     pub shape: Shape,

@@ -16,7 +16,7 @@ use rustkeys::answers::RustcAnswers;
 use std::alloc::Global;
 
 /// What a compiler made, and its status.
-#[derive(Drop)]
+#[derive(Clone, Debug, Drop, PartialEq, Eq)]
 pub struct Compiled {
     pub status: i32,
     /// For each output that was asked for its contents, or None where it wasn't made.
