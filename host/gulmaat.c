@@ -6,7 +6,6 @@
  * asked. Numbers in messages have eight bytes, low byte first; a string stands behind its length; a message behind its own.
  */
 #define _GNU_SOURCE
-#include <dirent.h>
 #include <errno.h>
 #include <fcntl.h>
 #include <limits.h>
@@ -17,14 +16,15 @@
 #include <stdlib.h>
 #include <string.h>
 #include <sys/auxv.h>
+#include <sys/mman.h>
+#include <sys/random.h>
+#include <sys/resource.h>
 #include <sys/stat.h>
 #include <sys/wait.h>
 #include <time.h>
 #include <unistd.h>
 
 #define DONE 11     /* the status at which the program has put the outputs there */
-#define MANY 64     /* so many folders of processes are more than there are processes at work */
-#define OLD 86400   /* a folder of that many seconds is one of a process that was killed */
 
 extern char **environ;
 
@@ -32,27 +32,23 @@ static char **words;                        /* the compiler's own words, its nam
 static char compiler[PATH_MAX];             /* the file that is run */
 static char self[PATH_MAX];                 /* this host's own file */
 static char kept[PATH_MAX];                 /* the folder of what is kept */
-static char own[PATH_MAX];                  /* this process's folder in it */
-static char text[PATH_MAX], messages[PATH_MAX], printed[PATH_MAX];  /* where a command's output goes */
+static int text, messages, printed;         /* files in memory, in which a command's output goes */
 static void (*pipe_signal)(int);            /* what the caller does at a broken pipe */
 static int was_closed[3];                   /* which of the first three files the caller had closed */
+static sigset_t stops, callers;             /* the signals that stop a compiler, and those that the caller had blocked */
+static volatile sig_atomic_t stopped;       /* the one of these that came */
+static volatile pid_t running;              /* the compiler that runs */
 
 /* ---- A message that grows. */
 
 static unsigned char *message;
 static size_t message_size, message_room;
 
-static void remove_outputs(void) {
-    if (!own[0]) return;
-    unlink(text);
-    unlink(messages);
-    unlink(printed);
-    rmdir(own);
-}
+static void end_by(int number);
 
-/* Runs the compiler as if nobody had asked. */
+/* Runs the compiler as if nobody had asked, unless this process was to stop. */
 static void pass_through(void) {
-    remove_outputs();
+    if (stopped) end_by(stopped);
     signal(SIGPIPE, pipe_signal);
     for (int file = 0; file < 3; file++)
         if (was_closed[file]) close(file);
@@ -142,47 +138,93 @@ static size_t without_colours(char *to, const char *from, size_t size) {
     return end;
 }
 
-static void show(const char *path, int to) {
+static void show(int file, int to) {
     char part[65536], plain[sizeof part + sizeof held];
     ssize_t size;
+    off_t at = 0;
     int as_it_is = isatty(to) || asks_for_colours();
-    int file = open(path, O_RDONLY | O_CLOEXEC);
-    if (file < 0) return;
-    while ((size = read(file, part, sizeof part)) > 0) {
+    while ((size = pread(file, part, sizeof part, at)) > 0) {
         if (as_it_is) write_all(to, part, size);
         else write_all(to, plain, without_colours(plain, part, size));
+        at += size;
     }
     write_all(to, held, held_size);
     held_size = 0;
-    close(file);
 }
 
-static int is_empty(const char *path) {
+static int is_empty(int file) {
     struct stat state;
-    return stat(path, &state) || !state.st_size;
+    return !fstat(file, &state) && !state.st_size;
+}
+
+/* Makes the files in memory. */
+static int make_files(void) {
+    text = memfd_create("text", MFD_CLOEXEC);
+    messages = memfd_create("messages", MFD_CLOEXEC);
+    printed = memfd_create("printed", MFD_CLOEXEC);
+    return text < 0 || messages < 0 || printed < 0 ? -1 : 0;
+}
+
+/* ---- Signals. */
+
+static void stop(int number) {
+    stopped = number;
+    if (running > 0) kill(running, number);
+}
+
+/* From now on a signal that would stop this process goes on to the compiler, and is waited for. What the caller ignores stays ignored. */
+static void watch_stops(void) {
+    const int numbers[] = {SIGINT, SIGTERM, SIGHUP, SIGQUIT};
+    struct sigaction before, after = {.sa_handler = stop};
+    sigemptyset(&stops);
+    for (size_t i = 0; i < sizeof numbers / sizeof *numbers; i++) {
+        if (sigaction(numbers[i], NULL, &before) || before.sa_handler == SIG_IGN) continue;
+        sigaddset(&stops, numbers[i]);
+        sigaction(numbers[i], &after, NULL);
+    }
+    sigprocmask(SIG_SETMASK, NULL, &callers);
+}
+
+/* Ends as a process did that was stopped by this signal. */
+static void end_by(int number) {
+    const struct rlimit none = {0, 0};
+    sigset_t one;
+    setrlimit(RLIMIT_CORE, &none);
+    signal(number, SIG_DFL);
+    sigemptyset(&one);
+    sigaddset(&one, number);
+    sigprocmask(SIG_UNBLOCK, &one, NULL);
+    raise(number);
+    _exit(128 + number);
 }
 
 /* ---- Commands. */
 
-/* Runs the compiler with these words, and answers its status; -1 where it couldn't be started. */
-static int run(char **line, const char *output, const char *errors) {
+/* Runs the compiler with these words, and answers how it ended, as wait does; -1 where it couldn't be started. */
+static int run(char **line, int output, int errors) {
     posix_spawn_file_actions_t actions;
     posix_spawnattr_t attributes;
     sigset_t defaults;
     pid_t child;
-    int status;
+    int ended = -1;
+    if (ftruncate(output, 0) || ftruncate(errors, 0) || lseek(output, 0, SEEK_SET) || lseek(errors, 0, SEEK_SET)) return -1;
     posix_spawn_file_actions_init(&actions);
-    posix_spawn_file_actions_addopen(&actions, 1, output, O_WRONLY | O_CREAT | O_TRUNC, 0600);
-    posix_spawn_file_actions_addopen(&actions, 2, errors, O_WRONLY | O_CREAT | O_TRUNC, 0600);
+    posix_spawn_file_actions_adddup2(&actions, output, 1);
+    posix_spawn_file_actions_adddup2(&actions, errors, 2);
     posix_spawnattr_init(&attributes);
     sigemptyset(&defaults);
-    sigaddset(&defaults, SIGPIPE);
+    if (pipe_signal != SIG_IGN) sigaddset(&defaults, SIGPIPE);
     posix_spawnattr_setsigdefault(&attributes, &defaults);
-    if (pipe_signal != SIG_IGN) posix_spawnattr_setflags(&attributes, POSIX_SPAWN_SETSIGDEF);
-    if (posix_spawn(&child, compiler, &actions, &attributes, line, environ)) return -1;
-    while (waitpid(child, &status, 0) < 0)
-        if (errno != EINTR) return 127;
-    return WIFEXITED(status) ? WEXITSTATUS(status) : 128 + WTERMSIG(status);
+    posix_spawnattr_setsigmask(&attributes, &callers);
+    posix_spawnattr_setflags(&attributes, POSIX_SPAWN_SETSIGDEF | POSIX_SPAWN_SETSIGMASK);
+    sigprocmask(SIG_BLOCK, &stops, NULL);
+    if (!stopped && !posix_spawn(&child, compiler, &actions, &attributes, line, environ)) running = child;
+    sigprocmask(SIG_SETMASK, &callers, NULL);
+    if (running <= 0) return -1;
+    while (waitpid(child, &ended, 0) < 0)
+        if (errno != EINTR) break;
+    running = 0;
+    return ended;
 }
 
 /* Finds this host's own file, also where /proc isn't there. */
@@ -238,77 +280,14 @@ static int find_kept(void) {
     return -1;
 }
 
-/* The umask that a variable sets for what is kept; -1 where it sets none. */
-static int umask_set(void) {
-    const char *value = getenv("GULMAAT_UMASK");
-    if (!value || *value < '0' || *value > '7') return -1;
-    char *end;
-    long mask = strtol(value, &end, 8);
-    return *end || mask > 0777 ? -1 : (int)mask;
-}
-
-/* Makes a folder, and those above it, under that umask. */
-static void make_folder(const char *path) {
-    int mask = umask_set();
-    mode_t before = mask < 0 ? 0 : umask(mask);
-    char part[PATH_MAX];
-    snprintf(part, sizeof part, "%s", path);
-    for (char *slash = strchr(part + 1, '/'); slash; slash = strchr(slash + 1, '/')) {
-        *slash = 0;
-        mkdir(part, 0777);
-        *slash = '/';
-    }
-    mkdir(part, 0777);
-    if (mask >= 0) umask(before);
-}
-
-/* The folder of this name is this process's own. */
-static void take_own(const char *folder, const char *name) {
-    snprintf(own, sizeof own, "%.*s/%.40s", PATH_MAX - 64, folder, name);
-    snprintf(text, sizeof text, "%.*s/text", PATH_MAX - 16, own);
-    snprintf(messages, sizeof messages, "%.*s/messages", PATH_MAX - 16, own);
-    snprintf(printed, sizeof printed, "%.*s/printed", PATH_MAX - 16, own);
-}
-
-/* Takes away what processes that were killed left behind. */
-static void remove_old(const char *folder) {
-    DIR *all = opendir(folder);
-    struct dirent *entry;
-    struct stat state;
-    if (!all) return;
-    while ((entry = readdir(all))) {
-        if (entry->d_name[0] == '.' || strlen(entry->d_name) != 6) continue;
-        take_own(folder, entry->d_name);
-        if (!lstat(own, &state) && S_ISDIR(state.st_mode) && state.st_mtime < time(NULL) - OLD) remove_outputs();
-    }
-    closedir(all);
-    own[0] = 0;
-}
-
-/* A folder of this process alone, in which commands' outputs go. */
-static int make_own(void) {
+/* Whether anything can be kept there; says why it can't. */
+static int can_keep(void) {
     char folder[PATH_MAX];
-    struct stat state;
-    snprintf(folder, sizeof folder, "%.*s/own", PATH_MAX - 64, kept);
-    make_folder(folder);
-    if (!stat(folder, &state) && state.st_nlink > MANY) remove_old(folder);
-    take_own(folder, "XXXXXX");
-    if (!mkdtemp(own)) { own[0] = 0; return -1; }
-    char name[8];
-    snprintf(name, sizeof name, "%s", strrchr(own, '/') + 1);
-    take_own(folder, name);
+    snprintf(folder, sizeof folder, "%s", kept);
+    while (access(folder, F_OK) && errno == ENOENT && strrchr(folder, '/') > folder) *strrchr(folder, '/') = 0;
+    if (!access(folder, strcmp(folder, kept) ? W_OK | X_OK : R_OK | X_OK)) return 1;
+    fprintf(stderr, "gulmaat: can't keep anything in %s: %s\n", kept, strerror(errno));
     return 0;
-}
-
-static void end_by(int number) {
-    remove_outputs();
-    signal(number, SIG_DFL);
-    raise(number);
-}
-
-/* Has nothing left behind where this process is stopped, unless its caller has it go on. */
-static void watch(int number) {
-    if (signal(number, end_by) == SIG_IGN) signal(number, SIG_IGN);
 }
 
 /* How far local clocks are from UTC now, as the rule of a zone: UTC-02:00:00 is two hours east of it. Nothing where that isn't known. */
@@ -324,15 +303,31 @@ static void tell_zone(void) {
     add_string(zone);
 }
 
+/* The path by which the program, which has it under the same number, opens a file in memory. */
+static void tell_file(int file) {
+    char path[32];
+    snprintf(path, sizeof path, "/proc/self/fd/%d", file);
+    add_string(path);
+}
+
+/* A name that no other process has. */
+static void tell_own_name(void) {
+    unsigned char bytes[8];
+    char name[17];
+    if (getrandom(bytes, sizeof bytes, 0) != sizeof bytes) pass_through();
+    for (int i = 0; i < 8; i++) snprintf(name + 2 * i, 3, "%02x", bytes[i]);
+    add_string(name);
+}
+
 static void tell_command_line(void) {
     char dir[PATH_MAX];
     uint64_t count = 0, pairs = 0;
     if (!getcwd(dir, sizeof dir)) pass_through();
     add_string(kept);
-    add_string(text);
-    add_string(messages);
-    add_string(printed);
-    add_string(strrchr(own, '/') + 1);
+    tell_file(text);
+    tell_file(messages);
+    tell_file(printed);
+    tell_own_name();
     add_string(compiler);
     add_string(dir);
     while (words[count + 1]) count++;
@@ -374,44 +369,53 @@ static char **words_of(const unsigned char *question, uint64_t size) {
     return line;
 }
 
-/* Answers questions until the program ends, and gives the status of a compile that ran, or -1. */
+/* Answers questions until the program ends or a signal comes, and gives how a compile ended that ran, or -1. */
 static int answer_questions(int from, int to) {
     int compiled = -1;
     unsigned char head[8];
-    while (!read_all(from, head, 8)) {
+    while (!stopped && !read_all(from, head, 8)) {
         uint64_t size = number_at(head);
         unsigned char *question = size < UINT64_C(1) << 28 ? malloc(size + 1) : NULL;
         if (!question || read_all(from, question, size)) break;
         char **line = words_of(question, size);
         if (!line) break;
         int compile = number_at(question) == 'C';
-        int status = run(line, compile ? printed : text, messages);
-        if (status < 0) break;
+        int ended = run(line, compile ? printed : text, messages);
+        if (ended < 0) break;
         int silent = is_empty(messages) && (!compile || is_empty(printed));
         if (compile) {
-            compiled = status;
+            compiled = ended;
             show(printed, 1);
             show(messages, 2);
         }
+        if (stopped) break;
         free(question);
         message_size = 0;
-        add_number(status);
+        add_number(WIFEXITED(ended) ? WEXITSTATUS(ended) : 128 + WTERMSIG(ended));
         add_number(silent);
         if (send_message(to)) break;
     }
     return compiled;
 }
 
-/* Starts the program with a pipe to it and one from it. */
+/* Starts the program with a pipe to it and one from it, and with the files in memory. No signal stops it while it writes an output: it
+ * ends where its pipes do. */
 static int start(const char *program, int *to, int *from, pid_t *child) {
     int in[2], out[2];
     posix_spawn_file_actions_t actions;
+    posix_spawnattr_t attributes;
     char *line[] = {(char *)program, NULL};
     if (pipe2(in, O_CLOEXEC) || pipe2(out, O_CLOEXEC)) return -1;
     posix_spawn_file_actions_init(&actions);
     posix_spawn_file_actions_adddup2(&actions, in[0], 0);
     posix_spawn_file_actions_adddup2(&actions, out[1], 1);
-    if (posix_spawn(child, program, &actions, NULL, line, environ)) return -1;
+    posix_spawn_file_actions_adddup2(&actions, text, text);
+    posix_spawn_file_actions_adddup2(&actions, messages, messages);
+    posix_spawn_file_actions_adddup2(&actions, printed, printed);
+    posix_spawnattr_init(&attributes);
+    posix_spawnattr_setsigmask(&attributes, &stops);
+    posix_spawnattr_setflags(&attributes, POSIX_SPAWN_SETSIGMASK);
+    if (posix_spawn(child, program, &actions, &attributes, line, environ)) return -1;
     close(in[0]);
     close(out[1]);
     *to = in[1];
@@ -447,7 +451,7 @@ static const char *find_program(void) {
 /* Has the program do what options say. They stand behind this host's file, the program's, the folder of what is kept, the folder in which
  * it is asked and, where what differed is asked for, the file of that compiler. */
 static int answer_options(int count, char **list) {
-    char **line = calloc(count + 8, sizeof *line), dir[PATH_MAX], folder[PATH_MAX];
+    char **line = calloc(count + 8, sizeof *line), dir[PATH_MAX];
     const char *program = find_program();
     int size = 0, asks_why = count > 2 && !strcmp(list[1], "--why");
     if (!line || !program) return 127;
@@ -458,8 +462,6 @@ static int answer_options(int count, char **list) {
         words = list + 2;
         if (find_compiler(asked)) { perror(asked); return 127; }
     }
-    snprintf(folder, sizeof folder, "%.*s/own", PATH_MAX - 64, kept);
-    remove_old(folder);
     char *before[] = {"gulmaat", self, (char *)program, kept, dir, asks_why ? compiler : ""};
     for (size_t i = 0; i < sizeof before / sizeof *before; i++) line[size++] = before[i];
     for (int i = 1; i < count; i++)
@@ -485,11 +487,8 @@ int main(int count, char **list) {
     if (find_compiler(asked)) { perror(asked); return 127; }
     if (is_link) words[0] = compiler;
     const char *program = find_program();
-    if (!program || find_kept()) pass_through();
-    if (make_own()) { fprintf(stderr, "gulmaat: can't make a folder in %s: %s\n", kept, strerror(errno)); pass_through(); }
-    watch(SIGINT);
-    watch(SIGTERM);
-    watch(SIGHUP);
+    if (!program || find_kept() || !can_keep() || make_files()) pass_through();
+    watch_stops();
     pipe_signal = signal(SIGPIPE, SIG_IGN);
     tell_command_line();
 
@@ -500,10 +499,11 @@ int main(int count, char **list) {
     close(to);
     close(from);
     while (waitpid(child, &status, 0) < 0 && errno == EINTR);
-    if (compiled >= 0) { remove_outputs(); return compiled; }
+    if (compiled >= 0 && WIFEXITED(compiled)) return WEXITSTATUS(compiled);
+    if (compiled >= 0) end_by(WTERMSIG(compiled));
+    if (stopped) end_by(stopped);
     if (!WIFEXITED(status) || WEXITSTATUS(status) != DONE) pass_through();
     show(printed, 1);
     show(messages, 2);
-    remove_outputs();
     return 0;
 }

@@ -2,7 +2,6 @@
 
 ghost use Rattle.std.specs.Prelude.{◌≡◌, ◌≤◌};
 
-use crate::answering::{SessionAnswer, answered};
 use crate::kept::{Hint, found, hint_at, hint_name, keep, kept_under, note_hint, renew};
 use crate::known::Known;
 use crate::passing::reason_against;
@@ -17,6 +16,7 @@ use known_compilers::compilers::{KnownCompiler, compiler_at, kind_of};
 use loaded_files::outputs::{print_again, write_outputs};
 use os_files::listed::Listed;
 use os_files::os_bytes::OsBytes;
+use replay::kept_session::{SessionAnswer, answered};
 use settings::key::Key;
 use sha2::Sha256;
 use std::alloc::Global;

@@ -2,7 +2,6 @@
 
 ghost use Rattle.std.specs.Prelude.{◌≡◌, ◌≤◌};
 
-use crate::passing::takes_files;
 use ckeys::hasher::needs_c_preprocessing;
 use ckeys_records::output_name::OutputName;
 use kept_entries::entry::KeptMessages;
@@ -22,6 +21,8 @@ use std::alloc::Global;
 use std::fs;
 use std::io::Read;
 use std::rt::Files;
+use unkept_texts::directives::takes_files;
+use unkept_texts::times::tells_time;
 use wrap::{
     CCompilerKind, Compiled, EntryKey, Files as CallFiles, PreprocessorCacheEntry, Printed, Shape,
     Step, StoreKey, Zone,
@@ -188,7 +189,7 @@ impl Known {
             return Ok(());
         };
         match self.files.read(alloc, path) {
-            Ok(Some(text)) if takes_files(&text) => Err(Stop::TakesFiles),
+            Ok(Some(text)) if takes_files(text.as_bytes()) => Err(Stop::TakesFiles),
             _ => Ok(()),
         }
     }
@@ -207,9 +208,7 @@ impl Known {
         let ended = host.preprocess(rt, rt.alloc(), own.as_slice())?;
         self.preprocessor = printed_at(rt, &ended, line.errors.as_str())?;
         let text = OsBytes::from_vec(fs::read(rt, line.text.as_str())?);
-        if takes_files(&text) {
-            return Err(Stop::TakesFiles);
-        }
+        refuse_text(line, text.as_bytes())?;
         let status = ended.status;
         self.tool.text = Some(RecordedText {
             kind: self.kind,
@@ -332,6 +331,17 @@ impl Known {
             (_, _) => Ok(false),
         }
     }
+}
+
+/// Refuses a text by which what is made of it can't be found again.
+fn refuse_text(line: &CommandLine, text: &[u8]) -> Result<(), Stop> {
+    if takes_files(text) {
+        return Err(Stop::TakesFiles);
+    }
+    if tells_time(text, line.second(), line.zone.as_str()) {
+        return Err(Stop::TellsTime);
+    }
+    Ok(())
 }
 
 /// Whether a word is among these.

@@ -7,7 +7,6 @@
 
 ghost use Rattle.std.specs.Prelude.{◌≡◌};
 
-mod answering;
 mod counting;
 mod deciding;
 mod kept;

@@ -2,7 +2,6 @@
 //! docs/WRAPPER.md says what each variable and option does.
 
 use known_options::words::unknown_word;
-use memchr::memmem;
 use os_files::os_bytes::OsBytes;
 use recorded_builds::beware::options_in;
 use statistics::calls::TO_STANDARD_OUTPUT;
@@ -26,9 +25,6 @@ const VARIABLES: [&str; 13] = [
     "LD_PRELOAD",
     "LD_AUDIT",
 ];
-
-/// What a text has in it that takes in files as it is assembled.
-const TAKES_FILES: [&str; 2] = [".incbin", ".include"];
 
 /// Whether it is a variable that speaks against keeping.
 fn is_variable(name: &[u8]) -> bool {
@@ -85,9 +81,4 @@ fn unknown_in(alloc: Global, words: &[OsBytes]) -> Result<Option<String>, Stop> 
         Some(word) => Ok(Some(format!(in alloc; "{word}")?)),
         None => Ok(None),
     }
-}
-
-/// Whether the text takes in files as it is assembled.
-pub fn takes_files(text: &OsBytes) -> bool {
-    TAKES_FILES.iter().any(|word| memmem::find(text.as_bytes(), word.as_bytes()).is_some())
 }

@@ -2,3 +2,4 @@ mod Answering
 mod AskedAlike
 mod SnapshotLookups
 mod WorldSteps
+mod OneEntry

@@ -3,3 +3,4 @@ pub mod Recorded
 pub mod Snapshots
 pub mod Worlds
 pub mod Known
+pub mod Kept

@@ -2,6 +2,7 @@
 #![tactic(auto)]
 
 pub mod asked_store;
+pub mod kept_session;
 pub mod replay_tool;
 pub mod replayed;
 pub mod snapshot_files;

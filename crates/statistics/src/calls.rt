@@ -5,7 +5,7 @@ use os_files::os_bytes::OsBytes;
 use std::alloc::{AllocError, Global};
 
 /// Reasons by their beginning, with the counter of each.
-const BEGINNINGS: [(&str, &str); 14] = [
+const BEGINNINGS: [(&str, &str); 15] = [
     ("pass: disabled", "disabled"),
     ("pass: multiple input files", "multiple_source_files"),
     ("pass: no input file", "no_input_file"),
@@ -26,6 +26,7 @@ const BEGINNINGS: [(&str, &str); 14] = [
         "stop: the text takes in files",
         "unsupported_code_directive",
     ),
+    ("stop: the text tells its own time", "uncacheable_time_in_text"),
 ];
 
 /// Why a call is passed through whose object goes to standard output.

@@ -21,6 +21,9 @@ pub enum Stop {
     /// The text takes in files as it is assembled.
     #[error("the text takes in files")]
     TakesFiles,
+    /// The text has the time at which it was printed, and what is made of it has another.
+    #[error("the text tells its own time")]
+    TellsTime,
     /// The compiler doesn't say what it runs.
     #[error("the compiler doesn't name its parts")]
     Parts,

@@ -1,28 +1,29 @@
-//! One answer of the session, by what is known and by what a disk keeps.
+//! One answer of a session over what a disk keeps, by what was recorded.
 
-ghost use Rattle.std.specs.Prelude.{◌≡◌, List, [], ◌∷◌, ◌++◌, Some};
+ghost use Rattle.std.specs.Prelude.{◌≡◌, List, [], ◌∷◌, ◌++◌};
+ghost use Rattle.os_files.specs.Views.{FilesFail};
 ghost use Rattle.ckeys_records.specs.Meaning.{Meaning};
-ghost use Rattle.entry_keys.specs.declared.entry_key.EntryKey.{EntryKey};
-ghost use Rattle.gulmaat.specs.Kept.{IsOfEarlier, RecordIsOfEarlier};
-ghost use Rattle.include_records.specs.Records.{Record};
+ghost use Rattle.ckeys_records.specs.Views.{ToolFails};
+ghost use Rattle.replay.specs.Kept.{Holds, IsOfEarlier, RecordIsOfEarlier};
+ghost use Rattle.replay.specs.Recorded.{recorded};
 ghost use Rattle.replay.specs.Worlds.{GivesTo};
-ghost use Rattle.wrap.specs.Account.{Account, Pairs, account_at};
-ghost use Rattle.wrap.specs.Answers.{Answers};
+ghost use Rattle.wrap.specs.Account.{Account, account_at};
+ghost use Rattle.wrap.specs.Answers.{Answers, GoesOn, SaysBy};
+ghost use Rattle.wrap.specs.Asking.{AskedTurn, Shelves, shelves_of};
 ghost use Rattle.wrap.specs.StoreKeys.{Premises};
 ghost use Rattle.wrap_base.specs.MapStores.{shelf_of};
-ghost use Rattle.wrap_base.specs.declared.store_key.StoreKey.{StoreKey};
 
+use crate::asked_store::AskedStore;
+use crate::replay_tool::ReplayTool;
+use crate::replayed::replayed;
+use crate::snapshot_files::SnapshotFiles;
+use crate::watched_records::WatchedRecords;
 use entry_keys::entry_key::entry_keys_are_their_fields;
-use replay::asked_store::AskedStore;
-use replay::replay_tool::ReplayTool;
-use replay::replayed::replayed;
-use replay::snapshot_files::SnapshotFiles;
-use replay::watched_records::WatchedRecords;
 use std::alloc::Global;
 use wrap::laws::records_of_earlier_calls_are_true;
 use wrap::{
-    Answer, Config, EntryKey, Fault, Files, HashState, MapStore, Pairs, PreprocessorCacheEntry,
-    Request, Session, Store, StoreKey,
+    Answer, Config, EntryKey, Fault, Files, HashState, MapStore, Pairs, Preprocessor,
+    PreprocessorCacheEntry, Request, Session, Store, StoreKey,
 };
 use wrap_base::store_key::keys_are_their_fields;
 
@@ -40,9 +41,7 @@ pub struct SessionAnswer<H> {
 
 /// A store of what a disk keeps, if it keeps anything, and of nothing else.
 fn store_over(alloc: Global, entry: Option<(StoreKey, Pairs)>) -> MapStore<StoreKey, Pairs>
-    ensures { (key : StoreKey) (pairs : Pairs)
-        → (shelf_of ⟦<StoreKey as PartialEq>⟧.eq result).held key ≡ Some pairs
-        → entry ≡ Some (key, pairs) }
+    ensures { Holds entry (shelf_of ⟦<StoreKey as PartialEq>⟧.eq result) }
 {
     keys_are_their_fields();
     let mut store = MapStore::new(alloc);
@@ -60,9 +59,7 @@ fn records_over(
     alloc: Global,
     record_kept: Option<(EntryKey, PreprocessorCacheEntry)>,
 ) -> MapStore<EntryKey, PreprocessorCacheEntry>
-    ensures { (key : EntryKey) (held : Record)
-        → (shelf_of ⟦<EntryKey as PartialEq>⟧.eq result).held key ≡ Some held
-        → record_kept ≡ Some (key, held) }
+    ensures { Holds record_kept (shelf_of ⟦<EntryKey as PartialEq>⟧.eq result) }
 {
     entry_keys_are_their_fields();
     let mut store = MapStore::new(alloc);
@@ -87,7 +84,7 @@ pub fn answered<H: HashState>(
 ) -> SessionAnswer<H>
     // In each world that gives what was recorded, outputs are those that its compiler gives afresh, if what the disk keeps
     // is of earlier calls there: outputs, and in direct mode the results of the include record.
-    ensures { (world : Meaning) → let tree = ⟦<SnapshotFiles as Files>⟧.tree files.old in
+    ensures outputs { (world : Meaning) → let tree = ⟦<SnapshotFiles as Files>⟧.tree files.old in
         let a = account_at world tree config.keys request.now in
         GivesTo tool.old.text tool.old.outputs request.now tree world
         → (earlier : List Account)
@@ -95,6 +92,27 @@ pub fn answered<H: HashState>(
         → IsOfEarlier H.digest_of earlier entry
         → Premises H.digest_of (earlier ++ a ∷ [])
         → Answers a result.answer }
+
+    // The session asks stores that hold what the disk keeps, and nothing else: where that is kept under the key asked for, it is found.
+    ensures asked { let tools = ⟦<ReplayTool as Preprocessor>⟧ in
+        let a = account_at (recorded tool.old.text tool.old.outputs)
+        (⟦<SnapshotFiles as Files>⟧.tree files.old) config.keys request.now in
+        (old : Shelves) × Holds record_kept old.entries × Holds entry old.objects
+        × AskedTurn H.digest_of config.max_kept a old
+        (shelves_of (shelf_of ⟦<EntryKey as PartialEq>⟧.eq result.session.entries.inner)
+        (shelf_of ⟦<StoreKey as PartialEq>⟧.eq result.session.objects.inner))
+        (tools.preprocessed tool.old) (tools.preprocessed tool.new) (tools.compiled tool.old)
+        (tools.compiled tool.new) result.answer }
+
+    // It is passed through exactly where the verdict says, unless memory was refused first; a fault has its cause.
+    ensures says { let a = account_at (recorded tool.old.text tool.old.outputs)
+        (⟦<SnapshotFiles as Files>⟧.tree files.old) config.keys request.now in
+        SaysBy GoesOn a (FilesFail ⟦<SnapshotFiles as Files>⟧ files.old files.new)
+        (ToolFails ⟦<ReplayTool as Preprocessor>⟧ tool.old tool.new) result.answer }
+
+    // What was recorded means what it did.
+    ensures meaning { recorded tool.new.text tool.new.outputs
+        ≡ recorded tool.old.text tool.old.outputs }
 {
     records_of_earlier_calls_are_true::<H>();
     let entries = WatchedRecords::new(records_over(alloc, record_kept));

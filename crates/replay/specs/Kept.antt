@@ -1,7 +1,8 @@
 -- What a disk keeps.
-use Rattle.std.specs.Prelude.{◌≡◌, List, Option, Some}
+use Rattle.std.specs.Prelude.{◌≡◌, true, List, Option, Some}
 use Rattle.std.specs.List.{Contains}
 use Rattle.os_files.specs.Bytes.{Bytes}
+use Rattle.ckeys_base.specs.Shelf.{Shelf}
 use Rattle.ckeys.specs.Calls.{PrintedCall}
 use Rattle.ckeys.specs.Entries.{IsRecorded}
 use Rattle.ckeys_records.specs.Folders.{Settings}
@@ -19,3 +20,8 @@ IsOfEarlier digest_of earlier entry = (key : StoreKey) (pairs : Pairs) → entry
 -- Each result of the record that is kept, if one is, is that of an earlier call of this configuration, under its entry key.
 abbrev pub RecordIsOfEarlier : (Bytes → Bytes) → Settings → List Account → Option (EntryKey × Record) → Type 0
 RecordIsOfEarlier digest_of settings earlier kept = (key : EntryKey) (held : Record) → kept ≡ Some (key, held) → (r : CachedResult) → Contains held.results r → (p : PrintedCall) × Contains (direct_calls earlier) p × IsRecorded digest_of settings p key r
+
+-- A store of what is kept, if anything is: it holds nothing else, and it holds that unless a put was refused.
+pub record Holds {K V : Type 0} (kept : Option (K × V)) (shelf : Shelf K V) : Type 0 where
+  pub only : (key : K) (value : V) → shelf.held key ≡ Some value → kept ≡ Some (key, value)
+  pub all : shelf.kept ≡ true → (key : K) (value : V) → kept ≡ Some (key, value) → shelf.held key ≡ Some value

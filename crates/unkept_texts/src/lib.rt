@@ -1,0 +1,7 @@
+//! What in a text speaks against keeping what is made of it: directives that take in files, and the time at which it was printed.
+#![tactic(auto)]
+
+pub mod directives;
+#[cfg(test)]
+mod rows;
+pub mod times;
