@@ -26,14 +26,14 @@ module _ {K V : Type 0} (eq : K → K → Bool) (tied : (a b : K) → (eq a b �
   pub holds_this : Holds (some_pair own value) new
   holds_this = record {
     only = λ key pairs h. one_pair key pairs (puts.gains key pairs h);
-    all = λ kept key pairs e. subst IsHeld e (own_held kept)
+    all = λ kept key pairs e. subst IsHeld e (own_held kept);
   }
 
 -- and one that is empty holds nothing
 pub holds_nothing : {K V : Type 0} (shelf : Shelf K V) → ((q : K) → shelf.held q ≡ None) → Holds None shelf
 holds_nothing {K} {V} shelf empty = record {
   only = λ key pairs h. let clash : None ≡ Some pairs = sym (empty key) ∙ h in absurd cc;
-  all = λ kept key pairs e. absurd (none_is_no_pair (key, pairs) e)
+  all = λ kept key pairs e. absurd (none_is_no_pair (key, pairs) e);
 }
   where
     none_is_no_pair : (pair : K × V) → None ≡ Some pair → ⊥

@@ -26,7 +26,10 @@ const BEGINNINGS: [(&str, &str); 15] = [
         "stop: the text takes in files",
         "unsupported_code_directive",
     ),
-    ("stop: the text tells its own time", "uncacheable_time_in_text"),
+    (
+        "stop: the text tells its own time",
+        "uncacheable_time_in_text",
+    ),
 ];
 
 /// Why a call is passed through whose object goes to standard output.
