@@ -5,7 +5,7 @@ ghost use Rattle.std.specs.Option.{option_map};
 ghost use Rattle.os_files.specs.Bytes.{ticked};
 ghost use Rattle.os_files.specs.Views.{FilesFail};
 ghost use Rattle.response_files.specs.Causes.{CauseOf};
-ghost use Rattle.cmdlines.specs.Opening.{opened_words};
+ghost use Rattle.cmdlines.specs.Opening.{IsAskedByKind, opened_words};
 ghost use Rattle.cmdlines.specs.Commands.{object_path, HasObjectIn, preprocess_words, output_path, compile_words};
 ghost use Rattle.cmdlines_requests.specs.Small.{command_at};
 ghost use Rattle.cmdlines.specs.Compilers.{Traits, text_in};
@@ -66,6 +66,8 @@ pub trait CCompilerImpl {
             (opened_words (kind_of self.now) dir.now (F.tree files.old) words.now)) }
         ensures cause { IfErr result
             (CauseOf (FilesFail F.Files files.old files.new)) }
+        ensures asked { IfErr result
+            (CauseOf (IsAskedByKind (kind_of self.now) dir.now (F.tree files.old) words.now)) }
         ensures input { IfOk result
             (λ answer. HasSafeInputIn (kind_of self.now)
             (opened_words (kind_of self.now) dir.now (F.tree files.old) words.now)

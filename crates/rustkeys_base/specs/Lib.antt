@@ -8,3 +8,4 @@ pub mod Deciders
 pub mod Requests
 pub mod Asks
 pub mod Notification
+pub mod Asking

@@ -10,3 +10,4 @@ pub mod Asking
 pub mod Whole
 pub mod Plans
 pub mod RustPlans
+pub mod Early

@@ -5,8 +5,9 @@ ghost use Rattle.os_files.specs.Bytes.{Bytes};
 ghost use Rattle.os_files.specs.Views.{FilesFail};
 ghost use Rattle.cmdlines.specs.Commands.{object_path};
 ghost use Rattle.cmdlines.specs.Parsing as parsing;
-ghost use Rattle.wrap_base.specs.Commands.{found_of, kind_of, words_at};
+ghost use Rattle.wrap_base.specs.Commands.{by_c, found_of, kind_of, words_at};
 ghost use Rattle.wrap_keys.specs.Answers.{EarlyCause};
+ghost use Rattle.wrap_keys.specs.Early.{IsAskedEarly};
 ghost use Rattle.wrap_keys.specs.Verdicts.{with_hazards, verdict_of};
 ghost use Rattle.wrap_keys.specs.Plans.{judgement_of, IsPlanOf, IsReadAgain, IsReadAgainUnlessGiven, IsReadAgainWhereSafe, OnAsks};
 ghost use Rattle.ckeys_records.specs.Causes.{HasOwnFault};
@@ -111,6 +112,9 @@ pub fn judge<F: Files>(
         (IsReadAgainWhereSafe found (words_at found request.now (F.tree files.old)))) }
     ensures cause { IfErr result
         (EarlyCause (FilesFail F.Files files.old files.new)) }
+    // No file is asked for but those of words.
+    ensures asked { let compiler = by_c (found_of compiler.entry) in IfErr result
+        (EarlyCause (IsAskedEarly compiler request.now (F.tree files.old))) }
     ensures tree { F.tree files.new ≡ F.tree files.old }
     ensures steady { OnOk result (F.failed files.new ≡ F.failed files.old) }
     ensures still { HasOwnFault result → F.failed files.new ≡ F.failed files.old }
