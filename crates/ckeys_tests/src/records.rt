@@ -137,25 +137,28 @@ fn a_call_gives_the_key_of_the_next(rt: HostRuntime) -> Result<(), Fail> {
     Ok(())
 }
 
-/// What this compiler's calls are answered of which the first asks for a file that isn't there.
-fn answers_behind_a_fault(
+/// A call that asks for a file that isn't there, and then one that asks for none.
+fn calls_behind_a_fault<'a>(
     alloc: Global,
-    compiler: &CCompiler<Gcc>,
-    dir: &OsBytes,
-) -> Result<Vec<Result<(String, CShape, bool), Fault>>, Fail> {
-    let faulty = parsed(alloc, &compiler.compiler, "-c foo.c -fplugin=p.so")?;
-    let good = parsed(alloc, &compiler.compiler, "-c foo.c -O2")?;
-    let mut calls: Calls<'_> = Vec::new(alloc);
-    calls.push(call_of(alloc, compiler, &faulty, dir, TEXT)?)?;
-    calls.push(call_of(alloc, compiler, &good, dir, TEXT)?)?;
-    answers_of(alloc, &mut calls)
+    compiler: &'a CCompiler<Gcc>,
+    faulty: &'a ParsedArguments,
+    good: &'a ParsedArguments,
+    dir: &'a OsBytes,
+) -> Result<Calls<'a>, Fail> {
+    let mut calls: Calls<'a> = Vec::new(alloc);
+    calls.push(call_of(alloc, compiler, faulty, dir, TEXT)?)?;
+    calls.push(call_of(alloc, compiler, good, dir, TEXT)?)?;
+    Ok(calls)
 }
 
-/// The same, by a compiler of its own.
+/// What two such calls are answered.
 fn asked_behind_a_fault(alloc: Global) -> Result<Vec<Result<(String, CShape, bool), Fault>>, Fail> {
     let dir = OsBytes::from_slice(alloc, b"/w")?;
     let compiler = known(alloc, gcc(alloc)?)?;
-    answers_behind_a_fault(alloc, &compiler, &dir)
+    let faulty = parsed(alloc, &compiler.compiler, "-c foo.c -fplugin=p.so")?;
+    let good = parsed(alloc, &compiler.compiler, "-c foo.c -O2")?;
+    let mut calls = calls_behind_a_fault(alloc, &compiler, &faulty, &good, &dir)?;
+    answers_of(alloc, &mut calls)
 }
 
 /// The path of the file that couldn't be read.
