@@ -24,7 +24,7 @@ use Rattle.entry_keys.specs.declared.entry_key.EntryKey.{EntryKey}
 use Rattle.ckeys.specs.Calls.{KeyCall, PrintedCall, early_fault_of, input_path, key_fault_by, needs_preprocessing, record_by, text_by, text_fault_by, extra_paths, missing_input}
 use Rattle.ckeys_records.specs.Faults.{preprocess_fault_of, read_fault_of, first_missing, or_else}
 use Rattle.ckeys_records.specs.Meaning.{text_in}
-use Rattle.ckeys.specs.Entries.{AreTrue, HasMatch, Held, IsFramed, IsOwnResult, entry_key_of, good_text, has_entry_key, includes_by}
+use Rattle.ckeys.specs.Entries.{AreTrue, HasMatch, Held, IsFramed, IsOwnResult, entry_key_by, entry_key_of, good_text, has_entry_key, includes_by}
 use Rattle.ckeys.specs.EntryTurns.{EntryTurn, Gains, IsHeldFor, IsJoined, IsOwnPair, IsPut, IsSpared, IsToldOf, Keeps, KeptOn, KeyFine, KeyFrom, KeyRecorded, PutsJoined, PutsNone, TextFine, results_of}
 use Rattle.ckeys_records.specs.Keys.{key_of}
 use Rattle.ckeys.specs.Surroundings.{named_at, place_of, recorded_of}
@@ -137,15 +137,28 @@ module _ (digest_of : Bytes → Bytes) (p : PrintedCall) (key : EntryKey) (is_en
   still : asked.kept ≡ true → KeptOn old asked
   still h = let was = asks.kept.0 h in record { was = was.0; keys = was.1; steady = asks.steady (λ f. not_both (asked.held key) (was.1 key f.0) f.1) }
 
+  -- the look-up is the one that a call with an entry key asks
+  got_once : (new : Shelf EntryKey Record) → new.gets ≡ asked.gets → new.gets ≡ (if has_entry_key p.call then ticked old.gets else old.gets)
+  got_once new same = same ∙ asks.got ∙ ap (λ b. if b then ticked old.gets else old.gets) (sym has)
+
   -- the preprocessor didn't run
   pub turn_asked : (before after : ℕ) → after ≡ before → EntryTurn digest_of p old asked before after
-  turn_asked before after same = record { gains = λ k e h. inl (asks.within k e h); kept = still; cleared = asks.cleared; put = inl (asks_none old asked key (asked.held key) asks); asked = λ k m. inl same; idle = λ h. absurd (no_key p.call has h) }
+  turn_asked before after same = record { gains = λ k e h. inl (asks.within k e h); kept = still; cleared = asks.cleared; put = inl (asks_none old asked key (asked.held key) asks); asked = λ k m. inl same; got = inr asks.got; got_first = λ _ ran. asks.got; idle = λ h. absurd (no_key p.call has h) }
 
   -- a result of what is held matches
   pub from_record : (text_key : Bytes) → LooksUp digest_of (place_of p.call) (results_of (asked.held key)) (Some text_key) → HasMatch digest_of p.call old.held text_key
   from_record text_key found =
       let it = results_in (asked.held key) found.0 found.1 in
       record { key = key; is_entry = is_entry; entry = it.0; is_held = asks.within key it.0 it.1; r = found.0; among = it.2; is_key = found.2; there = found.3 }
+
+  -- it is still held then, and the look-up was the only one
+  pub found_recorded : (text_key : Bytes) → LooksUp digest_of (place_of p.call) (results_of (asked.held key)) (Some text_key) → KeyRecorded digest_of p old asked true text_key
+  found_recorded text_key found =
+      let it = results_in (asked.held key) found.0 found.1 in
+      record {
+        got = got_once asked refl;
+        held = (λ kept. record { key = key; is_entry = is_entry; entry = it.0; is_held = it.1; r = found.0; among = it.2; is_key = found.2; there = found.3 }, asks.put);
+      }
 
   -- no result does
   module _ (none : LooksUp digest_of (place_of p.call) (results_of (asked.held key)) None) where
@@ -164,7 +177,7 @@ module _ (digest_of : Bytes → Bytes) (p : PrintedCall) (key : EntryKey) (is_en
         missed_at text_key m (ap old.held (sym same) ∙ m.is_held) (asked.held key) refl
 
     pub turn_missed : (before after : ℕ) → EntryTurn digest_of p old asked before after
-    turn_missed before after = record { gains = λ k e h. inl (asks.within k e h); kept = still; cleared = asks.cleared; put = inl (asks_none old asked key (asked.held key) asks); asked = λ k m. inr (missed k m); idle = λ h. absurd (no_key p.call has h) }
+    turn_missed before after = record { gains = λ k e h. inl (asks.within k e h); kept = still; cleared = asks.cleared; put = inl (asks_none old asked key (asked.held key) asks); asked = λ k m. inr (missed k m); got = inr asks.got; got_first = λ _ ran. asks.got; idle = λ h. absurd (no_key p.call has h) }
 
     -- the text's result is put
     module _ (eq : EntryKey → EntryKey → Bool) (equal : (a b : EntryKey) → eq a b ≡ true → a ≡ b) (results : List CachedResult) (known : results ≡ results_of (asked.held key)) (new : Shelf EntryKey Record) (before after : ℕ) where
@@ -221,6 +234,8 @@ module _ (digest_of : Bytes → Bytes) (p : PrintedCall) (key : EntryKey) (is_en
           cleared = puts.cleared ∙ asks.cleared;
           put = inr (record { own = own; is_own = is_own; put = put_one; exact = exact; joined = joined });
           asked = λ k m. inr (puts.steady ∙ missed k m);
+          got = inr (puts.got ∙ asks.got);
+          got_first = λ _ ran. puts.got ∙ asks.got;
           idle = λ h. absurd (no_key p.call has h);
         }
 
@@ -232,13 +247,21 @@ module _ (digest_of : Bytes → Bytes) (p : PrintedCall) (key : EntryKey) (is_en
           → EntryTurn digest_of p old new before after × KeyRecorded digest_of p old new false text_key
       turn_kept text text_key good is_key None e keeps = (
         subst (λ (s : Shelf EntryKey Record). EntryTurn digest_of p old s before after) (sym keeps) (turn_missed before after),
-        λ h other includes g i. absurd (let same : text ≡ other = some_same _ _ (sym good ∙ g) in let n : None ≡ Some includes = sym e ∙ ap (includes_by digest_of p.call) same ∙ i in cc),
+        record {
+          got = got_once new (ap (λ (s : Shelf EntryKey Record). s.gets) keeps);
+          held = λ h other includes g i. absurd (let same : text ≡ other = some_same _ _ (sym good ∙ g) in let n : None ≡ Some includes = sym e ∙ ap (includes_by digest_of p.call) same ∙ i in cc);
+        },
       )
       turn_kept text text_key good is_key (Some includes) e keeps =
           let own = result_with text_key includes in
           let is_own : IsOwnResult digest_of p own = record { text = text; printed = good; is_key = is_key; includes = e } in
-          let there = recorded_there (place_of p.call) digest_of (input_path p.call) text includes e in
-          (turn_put keeps.0 keeps.1 keeps.3 own keeps.2 is_own, λ h other is g i. (put_match keeps.0 keeps.1 keeps.3 own keeps.2 is_own there, put_one keeps.0 keeps.1 keeps.3 own keeps.2 is_own))
+          let there = recorded_there (place_of p.call) digest_of (input_path p.call) text includes e in (
+            turn_put keeps.0 keeps.1 keeps.3 own keeps.2 is_own,
+            record {
+              got = got_once new keeps.3.got;
+              held = λ h other is g i. (put_match keeps.0 keeps.1 keeps.3 own keeps.2 is_own there, put_one keeps.0 keeps.1 keeps.3 own keeps.2 is_own);
+            },
+          )
 
 -- where extra files and the input are there
 pub first_is : (p : PrintedCall) → first_missing p.call.scene.files (extra_paths p.call) ≡ None → missing_input p.call ≡ None → key_fault_by p ≡ text_fault_by p
@@ -252,6 +275,9 @@ none_early p h k = λ i. or_else (option_map Read (h i)) (option_map Read (k i))
 pub input_first : (p : PrintedCall) → first_missing p.call.scene.files (extra_paths p.call) ≡ None → (fault : Fault) → option_map Read (missing_input p.call) ≡ Some fault → key_fault_by p ≡ Some fault
 input_first p h fault k = λ i. or_else (option_map Read (h i)) (or_else (k i) (text_fault_by p))
 
+some_entry : (digest_of : Bytes → Bytes) (c : KeyCall) → has_entry_key c ≡ true → entry_key_of digest_of c ≡ Some (entry_key_by digest_of c)
+some_entry digest_of c h = ap (λ b. if b then Some (entry_key_by digest_of c) else None) h
+
 -- a call without an entry key leaves the records as they are
 pub turn_unasked : (digest_of : Bytes → Bytes) (p : PrintedCall) (s : Shelf EntryKey Record) → entry_key_of digest_of p.call ≡ None → (before after : ℕ) → EntryTurn digest_of p s s before after
 turn_unasked digest_of p s none before after = record {
@@ -260,8 +286,24 @@ turn_unasked digest_of p s none before after = record {
   cleared = refl;
   put = inl (same_none s);
   asked = λ k m. absurd (let both = sym m.is_entry ∙ none in cc);
+  got = inl refl;
+  got_first = λ h ran. absurd (let both = sym (some_entry digest_of p.call h) ∙ none in cc);
   idle = λ h. refl;
 }
+
+-- nor does it ask for any
+pub unasked_recorded : (digest_of : Bytes → Bytes) (p : PrintedCall) (s : Shelf EntryKey Record) → entry_key_of digest_of p.call ≡ None → (text_key : Bytes) → KeyRecorded digest_of p s s false text_key
+unasked_recorded digest_of p s none text_key = record {
+  got = by (has_entry_key p.call) refl;
+  held = λ h text includes g i. absurd (never h);
+}
+  where
+    never : has_entry_key p.call ≡ true → ⊥
+    never h = let both = sym (some_entry digest_of p.call h) ∙ none in cc
+
+    by : (b : Bool) → has_entry_key p.call ≡ b → s.gets ≡ (if b then ticked s.gets else s.gets)
+    by true h = absurd (never h)
+    by false h = refl
 
 spared : (b : Bool) (p : PrintedCall) → b ≡ true → IsSpared (if b then preprocess_fault_of p.printed else read_fault_of p.call.scene.files (input_path p.call ∷ []))
 spared false p h = cc

@@ -1,5 +1,5 @@
 -- One call of `generate_hash_key`: where its key comes from, and what it does to the store of include records.
-use Rattle.std.specs.Prelude.{◌≡◌, ◌⊎◌, ℕ, Bool, true, false, List, [], Option, None, Some, Result}
+use Rattle.std.specs.Prelude.{◌≡◌, ◌⊎◌, ℕ, Bool, true, false, if◌then◌else◌, List, [], Option, None, Some, Result}
 use Rattle.std.specs.List.{Contains}
 use Rattle.os_files.specs.Bytes.{Bytes, ticked}
 use Rattle.ckeys_base.specs.Shelf.{Shelf, KeepsKeys, Puts, Within}
@@ -71,9 +71,14 @@ abbrev pub IsHeldFor : (Bytes → Bytes) → PrintedCall → Shelf EntryKey Reco
 IsHeldFor digest_of p new text_key = new.kept ≡ true → HasMatch digest_of p.call new.held text_key
 
 -- and so it is at the end: nothing was put where a record gave the key, and one pair where the text is recorded
-abbrev pub KeyRecorded : (Bytes → Bytes) → PrintedCall → Shelf EntryKey Record → Shelf EntryKey Record → Bool → Bytes → Type 0
-KeyRecorded digest_of p old new true text_key = IsHeldFor digest_of p new text_key × (new.puts ≡ old.puts)
-KeyRecorded digest_of p old new false text_key = has_entry_key p.call ≡ true → (text : Bytes) (includes : List IncludeEntry) → good_text p.printed ≡ Some text → includes_by digest_of p.call text ≡ Some includes → IsHeldFor digest_of p new text_key × (new.puts ≡ ticked old.puts)
+abbrev pub IsHeldAfter : (Bytes → Bytes) → PrintedCall → Shelf EntryKey Record → Shelf EntryKey Record → Bool → Bytes → Type 0
+IsHeldAfter digest_of p old new true text_key = IsHeldFor digest_of p new text_key × (new.puts ≡ old.puts)
+IsHeldAfter digest_of p old new false text_key = has_entry_key p.call ≡ true → (text : Bytes) (includes : List IncludeEntry) → good_text p.printed ≡ Some text → includes_by digest_of p.call text ≡ Some includes → IsHeldFor digest_of p new text_key × (new.puts ≡ ticked old.puts)
+
+-- what was done to the records where a call has its key: one look-up of a call with an entry key and none of another, and one put at most
+pub record KeyRecorded (digest_of : Bytes → Bytes) (p : PrintedCall) (old new : Shelf EntryKey Record) (from : Bool) (text_key : Bytes) : Type 0 where
+  pub got : new.gets ≡ (if has_entry_key p.call then ticked old.gets else old.gets)
+  pub held : IsHeldAfter digest_of p old new from text_key
 
 -- where nothing was dropped or refused, nothing was before either, each key is still there, and no look-up forgot
 pub record KeptOn {K V : Type 0} (old new : Shelf K V) : Type 0 where
@@ -138,6 +143,9 @@ pub record EntryTurn (digest_of : Bytes → Bytes) (p : PrintedCall) (old new : 
   pub put : PutsNone old new ⊎ PutsOwn digest_of p old new
   -- a matching result that was held spares the preprocessor, or a look-up forgot it
   pub asked : (text_key : Bytes) → HasMatch digest_of p.call old.held text_key → (after ≡ before) ⊎ (new.forgets ≡ ticked old.forgets)
+  -- it's looked up at most once, and once where a call with an entry key has run the preprocessor
+  pub got : AtMostOnce old.gets new.gets
+  pub got_first : has_entry_key p.call ≡ true → (after ≡ before → ⊥) → new.gets ≡ ticked old.gets
   -- a call without an entry key doesn't touch it
   pub idle : has_entry_key p.call ≡ false → new ≡ old
 

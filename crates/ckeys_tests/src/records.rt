@@ -136,3 +136,48 @@ fn a_call_gives_the_key_of_the_next(rt: HostRuntime) -> Result<(), Fail> {
     assert_eq!(rt; runs.as_slice(), [1_u64, 0].as_slice());
     Ok(())
 }
+
+/// A call that asks for a file that isn't there, and then one that asks for none.
+fn calls_behind_a_fault<'a>(
+    alloc: Global,
+    compiler: &'a CCompiler<Gcc>,
+    faulty: &'a ParsedArguments,
+    good: &'a ParsedArguments,
+    dir: &'a OsBytes,
+) -> Result<Calls<'a>, Fail> {
+    let mut calls: Calls<'a> = Vec::new(alloc);
+    calls.push(call_of(alloc, compiler, faulty, dir, TEXT)?)?;
+    calls.push(call_of(alloc, compiler, good, dir, TEXT)?)?;
+    Ok(calls)
+}
+
+/// What two such calls are answered.
+fn asked_behind_a_fault(alloc: Global) -> Result<Vec<Result<(String, CShape, bool), Fault>>, Fail> {
+    let dir = OsBytes::from_slice(alloc, b"/w")?;
+    let compiler = known(alloc, gcc(alloc)?)?;
+    let faulty = parsed(alloc, &compiler.compiler, "-c foo.c -fplugin=p.so")?;
+    let good = parsed(alloc, &compiler.compiler, "-c foo.c -O2")?;
+    let mut calls = calls_behind_a_fault(alloc, &compiler, &faulty, &good, &dir)?;
+    answers_of(alloc, &mut calls)
+}
+
+/// The path of the file that couldn't be read.
+fn path_in(answer: Result<(String, CShape, bool), Fault>) -> Result<OsBytes, Fail> {
+    match answer {
+        Err(Fault::Read(path)) => Ok(path),
+        _ => Err("another answer".into()),
+    }
+}
+
+#[test]
+fn a_fault_stops_no_later_call(rt: HostRuntime) -> Result<(), Fail> {
+    let alloc = rt.alloc();
+    let mut answers = asked_behind_a_fault(alloc)?;
+    assert_eq!(rt; answers.len(), 2);
+    let (key, from_record) = key_in(answers.remove(1))?;
+    assert_eq!(rt; key.as_str(), digest_of(alloc, MATERIAL)?.as_str());
+    assert!(rt; !from_record);
+    let path = path_in(answers.remove(0))?;
+    assert_eq!(rt; path.as_bytes(), b"/w/p.so".as_slice());
+    Ok(())
+}

@@ -88,4 +88,8 @@ impl<O: Store<StoreKey, Pairs>> Store<StoreKey, Pairs> for AskedStore<O> {
     fn puts(&self) -> u64 {
         self.inner.puts()
     }
+
+    fn gets(&self) -> u64 {
+        self.inner.gets()
+    }
 }

@@ -48,6 +48,7 @@ pub struct ReplayTool {
     pub outputs: Option<RecordedOutputs>,
     pub wanted: Option<Wanted>,
     preprocessed: u64,
+    archived: u64,
     compiled: u64,
     failed: u64,
 }
@@ -187,6 +188,7 @@ impl ReplayTool {
             outputs: None,
             wanted: None,
             preprocessed: 0,
+            archived: 0,
             compiled: 0,
             failed: 0,
         }
@@ -203,6 +205,7 @@ impl ReplayTool {
         ensures text { self.new.text ≡ self.old.text }
         ensures outputs { self.new.outputs ≡ self.old.outputs }
         ensures preprocessed { self.new.preprocessed ≡ self.old.preprocessed }
+        ensures archived { self.new.archived ≡ self.old.archived }
         ensures compiled { self.new.compiled ≡ self.old.compiled }
         ensures failed { result ≡ ToolFail.Device → self.new.failed ≡ ticked self.old.failed }
         ensures wanted { result ≡ ToolFail.Device →
@@ -287,6 +290,8 @@ impl Preprocessor for ReplayTool {
 
 /// None of rustc's answers is recorded.
 impl RustcAnswers for ReplayTool {
+    ghost archived = { λ t. t.archived };
+
     fn dep_info<F: Files>(
         &mut self,
         alloc: Global,
@@ -313,6 +318,7 @@ impl RustcAnswers for ReplayTool {
         path: &OsBytes,
         _files: &mut F,
     ) -> Result<OsBytes, ToolFail> {
+        self.archived = self.archived.wrapping_add(1);
         let words = one_word(alloc, path)?;
         Err(self.want(alloc, Step::ArchiveDigest, &words, &[]))
     }

@@ -124,4 +124,8 @@ impl<E: Store<EntryKey, PreprocessorCacheEntry>> Store<EntryKey, PreprocessorCac
     fn puts(&self) -> u64 {
         self.inner.puts()
     }
+
+    fn gets(&self) -> u64 {
+        self.inner.gets()
+    }
 }

@@ -1,5 +1,5 @@
 -- How often rustc was asked, question by question.
-use Rattle.std.proofs.Common.{◌≡◌, ℕ, ℤ, None, inl, inr, ap, sym, ◌∙◌}
+use Rattle.std.proofs.Common.{◌≡◌, ℕ, ℤ, List, [], ◌∷◌, None, inl, inr, ap, subst, sym, ◌∙◌}
 use Rattle.os_files.specs.Bytes.{Bytes, ticked}
 use Rattle.os_files.specs.Tree.{Tree}
 use Rattle.ckeys_records.specs.Meaning.{AtMostOnce, Meaning, Variables, scene_with}
@@ -7,7 +7,7 @@ use Rattle.rustc_requests.specs.Asks.{asks_in}
 use Rattle.rustkeys.specs.Calls.{dep_info_fault_of}
 use Rattle.rustkeys.specs.Hashers.{call_at, call_of, known_in, known_of}
 use Rattle.rustkeys.specs.Questions.{Question, dep_info_of, question_of}
-use Rattle.rustkeys.specs.Runs.{AtMostTwice}
+use Rattle.rustkeys.specs.Runs.{AtMostFor, AtMostTwice, ticked_for}
 use Rattle.rustkeys.specs.declared.hasher.RustHasher.{RustHasher}
 use Rattle.rustkeys.specs.declared.place.KnownRust.{KnownRust}
 use Rattle.rustkeys.specs.declared.place.RustPlace.{RustPlace}
@@ -21,6 +21,25 @@ once_at_most before after (inr h) = inr (inl h)
 pub once_more : (before mid after : ℕ) → mid ≡ ticked before → AtMostOnce mid after → AtMostTwice before after
 once_more before mid after one (inl h) = inr (inl (h ∙ one))
 once_more before mid after one (inr h) = inr (inr (h ∙ ap ticked one))
+
+-- where nothing was asked, it was asked at most once for each
+pub none_for : {A : Type 0} (xs : List A) (before after : ℕ) → after ≡ before → AtMostFor xs before after
+none_for [] before after h = h
+none_for (x ∷ xs) before after h = inl h
+
+-- and so it was where it was asked once for each
+pub all_for : {A : Type 0} (xs : List A) (before after : ℕ) → after ≡ ticked_for xs before → AtMostFor xs before after
+all_for [] before after h = h
+all_for (x ∷ xs) before after h = inr (all_for xs (ticked before) after h)
+
+-- and where it was asked at most for the first
+first_for : {A : Type 0} (x : A) (xs : List A) (before after : ℕ) → AtMostOnce before after → AtMostFor (x ∷ xs) before after
+first_for x xs before after (inl h) = inl h
+first_for x xs before after (inr h) = inr (none_for xs (ticked before) after h)
+
+-- of those that are left
+pub stop_for : {A : Type 0} (rest : List A) (x : A) (others : List A) → rest ≡ x ∷ others → (before after : ℕ) → AtMostOnce before after → AtMostFor rest before after
+stop_for {A} rest x others split before after once = subst (λ (l : List A). AtMostFor l before after) (sym split) (first_for x others before after once)
 
 -- a place that has a call's executable, words, directory and variables asks the call's question
 pub asked_at : (place : RustPlace) (hasher : RustHasher) (dir : Bytes) (env : Variables) (tree : Tree) (moment : ℤ) → place.executable.now ≡ hasher.compiler.now.executable → place.parsed.now ≡ hasher.parsed.now → place.dir.now ≡ dir → place.env.now ≡ env → question_of place tree moment ≡ (call_of hasher dir env tree moment).question

@@ -1,6 +1,6 @@
 //! Tools that tell what rustc depends on and what it writes.
 
-ghost use Rattle.std.specs.Prelude.{◌≡◌, ◌⊎◌, ℤ, pos, [], ◌∷◌, Some, IfOk, IsErrOf};
+ghost use Rattle.std.specs.Prelude.{◌≡◌, ◌⊎◌, ℕ, ℤ, pos, [], ◌∷◌, Some, IfOk, IsErrOf};
 ghost use Rattle.os_files.specs.Bytes.{ticked};
 ghost use Rattle.ckeys_records.specs.Meaning.{Scene, archive, made_of, scene_of, words};
 
@@ -13,6 +13,9 @@ use std::alloc::Global;
 
 /// What rustc answers before a request has its key. Its answers don't depend on the moment.
 pub trait RustcAnswers: Preprocessor {
+    /// How often the digest of a static library was asked for, modulo 2 ^ 64.
+    ghost archived: { Self → ℕ };
+
     /// Runs the command, and gives the text in which rustc tells what the crate depends on.
     fn dep_info<F: Files>(
         &mut self,
@@ -36,6 +39,7 @@ pub trait RustcAnswers: Preprocessor {
             → (Self.failed self.new ≡ Self.failed self.old)
             × (F.failed files.new ≡ F.failed files.old) }
         ensures runs { Self.preprocessed self.new ≡ ticked (Self.preprocessed self.old) }
+        ensures archives { archived self.new ≡ archived self.old }
         ensures compiles { Self.compiled self.new ≡ Self.compiled self.old };
 
     /// Runs the command, and gives the names that rustc tells of what it writes, a line each.
@@ -61,6 +65,7 @@ pub trait RustcAnswers: Preprocessor {
             → (Self.failed self.new ≡ Self.failed self.old)
             × (F.failed files.new ≡ F.failed files.old) }
         ensures runs { Self.preprocessed self.new ≡ ticked (Self.preprocessed self.old) }
+        ensures archives { archived self.new ≡ archived self.old }
         ensures compiles { Self.compiled self.new ≡ Self.compiled self.old };
 
     /// The digest of a static library, as it's handed in: of nothing but the path and the files.
@@ -85,5 +90,6 @@ pub trait RustcAnswers: Preprocessor {
             → (Self.failed self.new ≡ Self.failed self.old)
             × (F.failed files.new ≡ F.failed files.old) }
         ensures runs { Self.preprocessed self.new ≡ Self.preprocessed self.old }
+        ensures archives { archived self.new ≡ ticked (archived self.old) }
         ensures compiles { Self.compiled self.new ≡ Self.compiled self.old };
 }

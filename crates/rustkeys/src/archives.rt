@@ -4,11 +4,13 @@ ghost use Rattle.std.specs.Prelude.{◌≡◌, true, [], ◌∷◌, None, map, I
 ghost use Rattle.std.specs.List.{AllByRecursion, list_all};
 ghost use Rattle.ckeys_records.specs.Faults.{KeyCause};
 ghost use Rattle.ckeys_records.specs.Causes.{HasOwnFault, no_file};
-ghost use Rattle.ckeys_records.specs.Meaning.{Scene};
+ghost use Rattle.ckeys_records.specs.Meaning.{AtMostOnce, Scene};
+ghost use Rattle.os_files.specs.Bytes.{ticked};
 ghost use Rattle.ckeys_records.specs.Views.{AreSteady, ToolFails};
 ghost use Rattle.rustc_parts.specs.Formed.{IsDigest, digest_digits, is_digest, is_digit};
 ghost use Rattle.rustkeys.specs.Calls.{digest_fault_of};
 ghost use Rattle.rustkeys.specs.Questions.{digest_at, digested};
+ghost use Rattle.rustkeys.specs.Runs.{AtMostFor, ticked_for};
 
 use crate::answers::RustcAnswers;
 use ckeys_records::fault::Fault;
@@ -61,6 +63,8 @@ fn archive_digest<F: Files, A: RustcAnswers>(
     ensures still { HasOwnFault result →
         AreSteady A.Preprocessor F.Files answers.old files.old answers.new files.new }
     ensures runs { A.preprocessed answers.new ≡ A.preprocessed answers.old }
+    ensures asked { OnOk result (A.archived answers.new ≡ ticked (A.archived answers.old)) }
+    ensures once { AtMostOnce (A.archived answers.old) (A.archived answers.new) }
     ensures compiles { A.compiled answers.new ≡ A.compiled answers.old }
 {
     // The copy is made first, so that no want of memory stands for a digest that isn't one.
@@ -98,6 +102,9 @@ pub(crate) fn archive_digests<F: Files, A: RustcAnswers>(
     ensures still { HasOwnFault result →
         AreSteady A.Preprocessor F.Files answers.old files.old answers.new files.new }
     ensures runs { A.preprocessed answers.new ≡ A.preprocessed answers.old }
+    ensures asked { OnOk result
+        (A.archived answers.new ≡ ticked_for paths.now (A.archived answers.old)) }
+    ensures once { AtMostFor paths.now (A.archived answers.old) (A.archived answers.new) }
     ensures compiles { A.compiled answers.new ≡ A.compiled answers.old }
 {
     let mut digests = Listed::new(alloc);

@@ -72,6 +72,7 @@ impl<'a> RustPlace<'a> {
             AreSteady A.Preprocessor F.Files answers.old files.old answers.new files.new }
         ensures runs { OnOk result (A.preprocessed answers.new ≡ ticked (A.preprocessed answers.old)) }
         ensures once { AtMostOnce (A.preprocessed answers.old) (A.preprocessed answers.new) }
+        ensures archives { A.archived answers.new ≡ A.archived answers.old }
         ensures compiles { A.compiled answers.new ≡ A.compiled answers.old }
     {
         let words = dep_info_words(alloc, self.parsed)?;
@@ -103,6 +104,7 @@ impl<'a> RustPlace<'a> {
             AreSteady A.Preprocessor F.Files answers.old files.old answers.new files.new }
         ensures runs { OnOk result (A.preprocessed answers.new ≡ ticked (A.preprocessed answers.old)) }
         ensures once { AtMostOnce (A.preprocessed answers.old) (A.preprocessed answers.new) }
+        ensures archives { A.archived answers.new ≡ A.archived answers.old }
         ensures compiles { A.compiled answers.new ≡ A.compiled answers.old }
     {
         let words = file_names_words(alloc, self.parsed)?;
@@ -139,6 +141,7 @@ impl<'a> RustPlace<'a> {
             AreSteady A.Preprocessor F.Files answers.old files.old answers.new files.new }
         ensures runs { OnOk result (A.preprocessed answers.new ≡ ticked (A.preprocessed answers.old)) }
         ensures once { AtMostOnce (A.preprocessed answers.old) (A.preprocessed answers.new) }
+        ensures archives { A.archived answers.new ≡ A.archived answers.old }
         ensures compiles { A.compiled answers.new ≡ A.compiled answers.old }
     {
         let printed = self.ask_dep_info(alloc, files, answers)?;
@@ -170,6 +173,7 @@ impl<'a> RustPlace<'a> {
             AreSteady A.Preprocessor F.Files answers.old files.old answers.new files.new }
         ensures runs { OnOk result (A.preprocessed answers.new ≡ ticked (A.preprocessed answers.old)) }
         ensures once { AtMostOnce (A.preprocessed answers.old) (A.preprocessed answers.new) }
+        ensures archives { A.archived answers.new ≡ A.archived answers.old }
         ensures compiles { A.compiled answers.new ≡ A.compiled answers.old }
     {
         let printed = self.ask_file_names(alloc, files, answers)?;

@@ -13,7 +13,7 @@ ghost use Rattle.rustc_parts.specs.Formed.{IsDigest, digest_digits};
 ghost use Rattle.rustkeys.specs.Calls.{dep_info_fault_of, files_fault_of, key_fault_with, sources_fault_of};
 ghost use Rattle.rustkeys.specs.Questions.{answers_of, dep_info_of, digested, question_of, sources_in};
 ghost use Rattle.rustkeys.specs.Collected.{AreFilesOf, IsCollected, file_digests};
-ghost use Rattle.rustkeys.specs.Runs.{AtMostTwice};
+ghost use Rattle.rustkeys.specs.Runs.{AtMostFor, AtMostTwice, ticked_for};
 
 use crate::answers::RustcAnswers;
 use crate::archives::archive_digests;
@@ -104,6 +104,7 @@ impl<'a> RustPlace<'a> {
             AreSteady A.Preprocessor F.Files answers.old files.old answers.new files.new }
         ensures runs { OnOk result (A.preprocessed answers.new ≡ ticked (A.preprocessed answers.old)) }
         ensures once { AtMostOnce (A.preprocessed answers.old) (A.preprocessed answers.new) }
+        ensures archives { A.archived answers.new ≡ A.archived answers.old }
         ensures compiles { A.compiled answers.new ≡ A.compiled answers.old }
     {
         let text = self.dep_info_text(alloc, files, answers)?;
@@ -138,6 +139,10 @@ impl<'a> RustPlace<'a> {
         ensures still { HasOwnFault result →
             AreSteady A.Preprocessor F.Files answers.old files.old answers.new files.new }
         ensures runs { A.preprocessed answers.new ≡ A.preprocessed answers.old }
+        ensures archives { OnOk result (A.archived answers.new
+            ≡ ticked_for self.now.parsed.now.staticlibs (A.archived answers.old)) }
+        ensures once_each { AtMostFor self.now.parsed.now.staticlibs
+            (A.archived answers.old) (A.archived answers.new) }
         ensures compiles { A.compiled answers.new ≡ A.compiled answers.old }
     {
         let externs = needed_in::<H, F>(alloc, self.dir, self.parsed.externs.as_slice(), files)?;
@@ -187,6 +192,10 @@ impl<'a> RustPlace<'a> {
             let made = dep_info_of (A.meaning answers.old) q in
             (dep_info_fault_of q made ≡ None → ⊥)
             → AtMostOnce (A.preprocessed answers.old) (A.preprocessed answers.new) }
+        ensures archives { OnOk result (A.archived answers.new
+            ≡ ticked_for self.now.parsed.now.staticlibs (A.archived answers.old)) }
+        ensures once_each { AtMostFor self.now.parsed.now.staticlibs
+            (A.archived answers.old) (A.archived answers.new) }
         ensures compiles { A.compiled answers.new ≡ A.compiled answers.old }
     {
         let sources = self.dep_info::<H, F, A>(alloc, files, answers)?;

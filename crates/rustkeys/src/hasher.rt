@@ -18,7 +18,7 @@ ghost use Rattle.rustkeys.specs.Fresh.{ComesOfWords, call_outputs, dep_info_text
 ghost use Rattle.rustkeys.specs.Hashers.{call_of, known_in, known_of};
 ghost use Rattle.rustkeys.specs.Questions.{compile_env_of, dep_info_of, question_of};
 ghost use Rattle.rustkeys.specs.Records.{IsTold, key_of, parts_of, record_shape};
-ghost use Rattle.rustkeys.specs.Runs.{AtMostTwice};
+ghost use Rattle.rustkeys.specs.Runs.{AtMostFor, AtMostTwice, ticked_for};
 
 use crate::answers::RustcAnswers;
 use crate::compilation::RustCompilation;
@@ -167,6 +167,11 @@ impl<'a> RustHasher<'a> {
             let made = dep_info_of (A.meaning answers.old) q in
             (dep_info_fault_of q made ≡ None → ⊥)
             → AtMostOnce (A.preprocessed answers.old) (A.preprocessed answers.new) }
+        // The digest of each static library is asked for once, and before a fault once at most.
+        ensures archives { OnOk result (A.archived answers.new
+            ≡ ticked_for self.now.parsed.now.staticlibs (A.archived answers.old)) }
+        ensures once_each { AtMostFor self.now.parsed.now.staticlibs
+            (A.archived answers.old) (A.archived answers.new) }
         ensures compiles { A.compiled answers.new ≡ A.compiled answers.old }
     {
         // A law, which costs nothing: what follows from it is said above.

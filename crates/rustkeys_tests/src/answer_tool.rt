@@ -53,6 +53,8 @@ pub(crate) struct AnswerTool {
     /// The step of the failing call.
     pub(crate) failed_step: Option<Step>,
     preprocessed: u64,
+    /// How often the digest of a static library was asked for.
+    pub(crate) archived: u64,
     failed: u64,
 }
 
@@ -64,6 +66,7 @@ impl AnswerTool {
             calls_left,
             failed_step: None,
             preprocessed: 0,
+            archived: 0,
             failed: 0,
         }
     }
@@ -72,6 +75,7 @@ impl AnswerTool {
     fn count(&mut self, step: Step) -> Result<(), ToolFail>
         ensures texts { self.new.texts ≡ self.old.texts }
         ensures preprocessed { self.new.preprocessed ≡ self.old.preprocessed }
+        ensures archived { self.new.archived ≡ self.old.archived }
         ensures steady { OnOk result (self.new.failed ≡ self.old.failed) }
         ensures device { IfErr result (λ e. e ≡ ToolFail.Device) }
         ensures failed { OnErr result (self.new.failed ≡ ticked self.old.failed) }
@@ -129,6 +133,8 @@ impl Preprocessor for AnswerTool {
 }
 
 impl RustcAnswers for AnswerTool {
+    ghost archived = { λ t. t.archived };
+
     fn dep_info<F: Files>(
         &mut self,
         _alloc: Global,
@@ -165,6 +171,7 @@ impl RustcAnswers for AnswerTool {
         _path: &OsBytes,
         _files: &mut F,
     ) -> Result<OsBytes, ToolFail> {
+        self.archived = self.archived.wrapping_add(1);
         self.count(Step::ArchiveDigest)?;
         Ok(self.texts.digest.clone()?)
     }

@@ -25,6 +25,10 @@ pub(crate) const FIRST: &str =
 pub(crate) const WITH_LIBRARY: &str =
     "--emit link -C opt-level=1 foo.rs --out-dir out --crate-name foo --crate-type lib -L native=lib -l static=z";
 
+/// It with two crates that are named.
+pub(crate) const WITH_CRATES: &str =
+    "--emit link -C opt-level=1 foo.rs --out-dir out --crate-name foo --crate-type lib --extern b=b.rlib --extern a=a.rlib";
+
 /// The first one in other words, into another folder.
 pub(crate) const SECOND: &str =
     "--emit=link -Copt-level=1 foo.rs --out-dir=out2 --crate-name=foo --crate-type=lib";
@@ -37,11 +41,12 @@ pub(crate) const OF_NOTHING: &str =
     "3e0b4c2489cfc141a9bf4f8c99f69b4272ea144e46b939c44a5999b187258b55";
 
 /// The files of each request.
-const FILES: [(&str, &[u8]); 4] = [
+const FILES: [(&str, &[u8]); 5] = [
     ("/w/foo.rs", SOURCE),
     ("/w/a.rlib", b"a"),
     ("/w/b.rlib", b"b"),
     ("/w/lib/libz.a", b""),
+    ("/w/lib/liby.a", b""),
 ];
 
 /// What rustc tells of what the crate depends on.

@@ -67,7 +67,7 @@ fn crates_in_another_order_have_one_key(rt: HostRuntime) -> Result<(), Fail> {
 }
 
 /// What comes of a line's request, where rustc tells of `foo.rs` and `libfoo.rlib`.
-fn made_of(alloc: Global, line: &str) -> Result<Made, Fail> {
+pub(crate) fn made_of(alloc: Global, line: &str) -> Result<Made, Fail> {
     let mut files = all_files(alloc)?;
     let mut tool = tool(alloc, DEPENDENCIES, b"libfoo.rlib\n", b"")?;
     match asked(alloc, line, &mut files, &mut tool)? {

@@ -5,6 +5,8 @@
 mod answer_tool;
 #[cfg(test)]
 mod asking;
+#[cfg(test)]
+mod callers;
 pub mod door;
 #[cfg(test)]
 mod faults;

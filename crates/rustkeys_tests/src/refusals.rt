@@ -1,7 +1,9 @@
 //! Devices that fail at each of their calls in turn.
 
 use crate::answer_tool::{AnswerTool, RustTexts};
-use crate::asking::{DEPENDENCIES, FIRST, OF_NOTHING, WITH_LIBRARY, all_files, told_on, tool};
+use crate::asking::{
+    DEPENDENCIES, FIRST, OF_NOTHING, WITH_CRATES, WITH_LIBRARY, all_files, told_on, tool,
+};
 use std::alloc::{AllocError, Global};
 use std::fmt::Write;
 use std::test::Fail;
@@ -76,4 +78,12 @@ fn each_read_is_refused(rt: HostRuntime) -> Result<(), Fail> {
         is_that(faults.as_str(), "fault read /w/foo.rs;", line)?;
     }
     Ok(())
+}
+
+/// The source is read once, and so is each crate that is named.
+#[test]
+fn each_crate_is_read_once(rt: HostRuntime) -> Result<(), Fail> {
+    let faults = faults_of_files(rt.alloc(), WITH_CRATES)?;
+    let want = "fault read /w/foo.rs;fault read /w/a.rlib;fault read /w/b.rlib;";
+    is_that(faults.as_str(), want, WITH_CRATES)
 }

@@ -35,6 +35,7 @@ pub struct ScriptTool {
     /// What its compilers end with.
     statuses: Statuses,
     pub preprocessed: u64,
+    archived: u64,
     pub compiled: u64,
     pub failed: u64,
     /// The step in which a device failed last.
@@ -57,6 +58,7 @@ impl ScriptTool {
             trees,
             statuses,
             preprocessed: 0,
+            archived: 0,
             compiled: 0,
             failed: 0,
             failed_step: None,
@@ -164,6 +166,8 @@ impl Preprocessor for ScriptTool {
 }
 
 impl RustcAnswers for ScriptTool {
+    ghost archived = { λ t. t.archived };
+
     fn dep_info<F: Files>(
         &mut self,
         _alloc: Global,
@@ -192,6 +196,7 @@ impl RustcAnswers for ScriptTool {
         path: &OsBytes,
         _files: &mut F,
     ) -> Result<OsBytes, ToolFail> {
+        self.archived = self.archived.wrapping_add(1);
         Ok(self.told.digest_of(alloc, path)?)
     }
 }

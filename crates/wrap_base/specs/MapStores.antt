@@ -2,12 +2,17 @@
 use Rattle.std.specs.Prelude.{◌≡◌, ◌+◌, ℕ, Bool, false, true, Some, Result, OnOk, OnErr, if◌then◌else◌}
 use Rattle.std.specs.HashMap.{get, hash_map_len}
 use Rattle.std.specs.Option.{is_some}
+use Rattle.os_files.specs.Bytes.{ticked}
 use Rattle.ckeys_base.specs.Shelf.{Shelf}
 use Rattle.wrap_base.specs.declared.map_store.MapStore.{MapStore}
 
 -- what can be seen of it: no look-up forgets
 abbrev pub shelf_of : {K V : Type 0} → (K → K → Bool) → MapStore K V → Shelf K V
-shelf_of eq s = record { held = λ key. get eq s.map key; kept = s.kept; forgets = 0; clears = s.cleared; puts = s.puts }
+shelf_of eq s = record { held = λ key. get eq s.map key; kept = s.kept; forgets = 0; clears = s.cleared; puts = s.puts; gets = s.gets }
+
+-- it is as it was, but that one look-up more is counted
+abbrev pub asked_once : {K V : Type 0} → MapStore K V → MapStore K V
+asked_once s = record { map = s.map; kept = s.kept; cleared = s.cleared; puts = s.puts; gets = ticked s.gets }
 
 -- how many keys have a pair
 abbrev pub count_of : {K V : Type 0} → MapStore K V → ℕ

@@ -7,7 +7,7 @@ ghost use Rattle.std.specs.Io.BufRead.{Rests};
 ghost use Rattle.std.specs.Option.{option_copied};
 ghost use Rattle.std.proofs.Common.{rules};
 ghost use Rattle.ckeys_base.specs.Shelf.{Asks, Clears, KeepsKeys, Puts};
-ghost use Rattle.wrap_base.specs.MapStores.{PutsAlone, count_of, shelf_of};
+ghost use Rattle.wrap_base.specs.MapStores.{PutsAlone, asked_once, count_of, shelf_of};
 ghost use Rattle.wrap_base.specs.contracts.map_store.MapStore.{the_row};
 
 use ckeys_base::store::Store;
@@ -23,6 +23,7 @@ pub struct MapStore<K: Eq + Hash, V> {
     kept: bool,
     cleared: u64,
     puts: u64,
+    gets: u64,
 }
 
 impl<K: Eq + Hash + Drop, V: Drop> MapStore<K, V> {
@@ -32,13 +33,14 @@ impl<K: Eq + Hash + Drop, V: Drop> MapStore<K, V> {
         ensures count { count_of result ≡ 0 }
         ensures kept { (shelf_of K.eq result).kept ≡ true }
         ensures ticks { ((shelf_of K.eq result).forgets ≡ 0) × ((shelf_of K.eq result).clears ≡ 0)
-            × ((shelf_of K.eq result).puts ≡ 0) }
+            × ((shelf_of K.eq result).puts ≡ 0) × ((shelf_of K.eq result).gets ≡ 0) }
     {
         MapStore {
             map: HashMap::new(alloc),
             kept: true,
             cleared: 0,
             puts: 0,
+            gets: 0,
         }
     }
 
@@ -51,6 +53,7 @@ impl<K: Eq + Hash + Drop, V: Drop> MapStore<K, V> {
         ensures count { count_of self.new ≡ 0 }
         ensures cleared { self.new.cleared ≡ self.old.cleared }
         ensures puts { self.new.puts ≡ self.old.puts }
+        ensures gets { self.new.gets ≡ self.old.gets }
     {
         keys_are_themselves::<K>();
         self.kept = self.kept && self.map.is_empty();
@@ -71,12 +74,13 @@ impl<K: Eq + Hash + Drop, V: Drop> Store<K, V> for MapStore<K, V> {
     ghost respects = { λ s a b e. Prim.search rules };
 
     fn get(&mut self, key: &K) -> Option<&V>
-        // It changes nothing, whatever was refused or dropped before.
+        // It changes nothing but that count, whatever was refused or dropped before.
         ensures* after_borrow { sem 𝓛 (Rests
             (the_row K.row V.row K.PartialEq (record { hash_input = K.hash_input })) self.entry
             (λ new. Asks (shelf_of K.eq self.old) (shelf_of K.eq new) key.now (option_copied result)
-            × (new ≡ self.old))) }
+            × (new ≡ asked_once self.old))) }
     {
+        self.gets = self.gets.wrapping_add(1);
         self.map.get(key)
     }
 
@@ -117,6 +121,10 @@ impl<K: Eq + Hash + Drop, V: Drop> Store<K, V> for MapStore<K, V> {
 
     fn puts(&self) -> u64 {
         self.puts
+    }
+
+    fn gets(&self) -> u64 {
+        self.gets
     }
 }
 

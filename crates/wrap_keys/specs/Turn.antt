@@ -4,6 +4,7 @@ use Rattle.os_files.specs.Bytes.{Bytes, ticked}
 use Rattle.ckeys_base.specs.Shelf.{Shelf, Within, KeepsKeys}
 use Rattle.ckeys.specs.EntryTurns.{IsPut}
 use Rattle.ckeys_records.specs.Causes.{ByStage, stage_of}
+use Rattle.ckeys_records.specs.Meaning.{AtMostOnce}
 use Rattle.ckeys_records.specs.declared.fault.Fault.{Fault}
 use Rattle.wrap_keys.specs.CallRecords.{IsTold, key_of}
 use Rattle.wrap_keys.specs.Account.{Account, passed, worked, Work, Pairs, IsSuccess}
@@ -73,6 +74,12 @@ PutsBy max_kept (Ok (Outputs map Stored dep_info)) old new = new.puts ≡ old.pu
 PutsBy max_kept (Ok (Outputs map Fresh dep_info)) old new = new.puts ≡ (if is_within max_kept (size_in map) then ticked old.puts else old.puts)
 PutsBy max_kept (Err fault) old new = new.puts ≡ old.puts
 
+-- how often it is looked up: once where there are outputs or the compile has a fault, once at most before want of memory, and else not
+abbrev pub GetsBy : Result Answer Fault → Shelf StoreKey Pairs → Shelf StoreKey Pairs → Type 0
+GetsBy (Ok (Pass reason)) old new = new.gets ≡ old.gets
+GetsBy (Ok (Outputs map how dep_info)) old new = new.gets ≡ ticked old.gets
+GetsBy (Err fault) old new = ByStage (stage_of fault) (AtMostOnce old.gets new.gets) (new.gets ≡ old.gets) (new.gets ≡ ticked old.gets)
+
 -- what one call does to the store, which it asks under a key with this digest
 pub record KeyedTurn (digest_of : Bytes → Bytes) (max_kept : Option ℕ) (text_key : Bytes) (a : Account) (old new : Shelf StoreKey Pairs) (before after : ℕ) (result : Result Answer Fault) : Type 0 where
   pub gains : (key : StoreKey) (pairs : Pairs) → new.held key ≡ Some pairs → (old.held key ≡ Some pairs) ⊎ IsOwn digest_of text_key a key pairs
@@ -81,6 +88,7 @@ pub record KeyedTurn (digest_of : Bytes → Bytes) (max_kept : Option ℕ) (text
   pub kept : new.kept ≡ true → StillKept old new
   pub cleared : new.clears ≡ old.clears
   pub put : PutsBy max_kept result old new
+  pub got : GetsBy result old new
   pub told : ToldBy digest_of max_kept text_key a old new before after result
 
 -- the key of the call's own record

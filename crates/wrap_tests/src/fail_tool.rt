@@ -22,6 +22,8 @@ pub(crate) struct FailTool<T> {
     pub(crate) calls_left: u64,
     /// How often steps failed here, which the tool itself never ran.
     pub(crate) own: Ticks,
+    /// How often the digest of a static library was asked for.
+    archived: u64,
     /// The step of the failing call.
     pub(crate) failed_step: Option<Step>,
 }
@@ -42,6 +44,7 @@ impl<T> FailTool<T> {
                 compile: 0,
                 failure: 0,
             },
+            archived: 0,
             failed_step: None,
         }
     }
@@ -49,6 +52,7 @@ impl<T> FailTool<T> {
     /// Counts a call of that step, and fails at the one that is to fail.
     fn count(&mut self, step: Step) -> Result<(), ToolFail>
         ensures tool { self.new.tool ≡ self.old.tool }
+        ensures archived { self.new.archived ≡ self.old.archived }
         ensures counted { self.new.calls_left ≡ self.old.calls_left - 1 }
         ensures fails { self.old.calls_left ≡ 0 → self.old.failed_step ≡ None → OnOk result ⊥ }
         ensures ok { OnOk result (self.new.own ≡ self.old.own) }
@@ -118,6 +122,8 @@ impl<T: Preprocessor> Preprocessor for FailTool<T> {
 }
 
 impl<T: RustcAnswers> RustcAnswers for FailTool<T> {
+    ghost archived = { λ t. t.archived };
+
     fn dep_info<F: Files>(
         &mut self,
         alloc: Global,
@@ -144,6 +150,7 @@ impl<T: RustcAnswers> RustcAnswers for FailTool<T> {
         path: &OsBytes,
         files: &mut F,
     ) -> Result<OsBytes, ToolFail> {
+        self.archived = self.archived.wrapping_add(1);
         self.count(Step::ArchiveDigest)?;
         self.tool.archive_digest(alloc, path, files)
     }

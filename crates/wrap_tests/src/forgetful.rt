@@ -30,6 +30,7 @@ pub(crate) struct Forgetful<K: Eq + Hash, V> {
     forgot: u64,
     cleared: u64,
     puts: u64,
+    gets: u64,
 }
 
 impl<K: Eq + Hash + Drop, V: Drop> Forgetful<K, V> {
@@ -43,6 +44,7 @@ impl<K: Eq + Hash + Drop, V: Drop> Forgetful<K, V> {
             forgot: 0,
             cleared: 0,
             puts: 0,
+            gets: 0,
         }
     }
 
@@ -53,6 +55,7 @@ impl<K: Eq + Hash + Drop, V: Drop> Forgetful<K, V> {
         ensures forgot { self.new.forgot ≡ self.old.forgot }
         ensures cleared { self.new.cleared ≡ self.old.cleared }
         ensures puts { self.new.puts ≡ self.old.puts }
+        ensures gets { self.new.gets ≡ self.old.gets }
     {
         let (order, others) = self.orders.split_first()?;
         self.orders = others;
@@ -67,6 +70,7 @@ impl<K: Eq + Hash + Drop, V: Drop> Forgetful<K, V> {
         ensures forgot { self.new.forgot ≡ self.old.forgot }
         ensures cleared { self.new.cleared ≡ self.old.cleared }
         ensures puts { self.new.puts ≡ self.old.puts }
+        ensures gets { self.new.gets ≡ self.old.gets }
     {
         keys_are_themselves::<K>();
         self.kept = self.kept && self.map.is_empty();
@@ -78,6 +82,7 @@ impl<K: Eq + Hash + Drop, V: Drop> Forgetful<K, V> {
         ensures { let shelf = ⟦<Forgetful<K, V> as Store<K, V>>⟧.shelf in
             Asks (shelf self.old) (shelf self.new) key.now (get K.eq self.new.map key.now) }
     {
+        self.gets = self.gets.wrapping_add(1);
         if !self.forgets {
             return;
         }
@@ -96,6 +101,7 @@ impl<K: Eq + Hash + Drop, V: Drop> Store<K, V> for Forgetful<K, V> {
       forgets = s.forgot;
       clears = s.cleared;
       puts = s.puts;
+      gets = s.gets;
     } };
 
     ghost respects = { λ s a b e. Prim.search rules };
@@ -143,6 +149,10 @@ impl<K: Eq + Hash + Drop, V: Drop> Store<K, V> for Forgetful<K, V> {
 
     fn puts(&self) -> u64 {
         self.puts
+    }
+
+    fn gets(&self) -> u64 {
+        self.gets
     }
 }
 

@@ -29,7 +29,7 @@ use Rattle.wrap_keys.specs.Asking.{AskedTurn, AskedUnder, EntriesBy, EntriesTurn
 use Rattle.wrap_turns.specs.Prepared.{SaysFinished}
 use Rattle.wrap_keys.specs.Sizes.{is_within, size_in, size_of}
 use Rattle.wrap_keys.specs.StoreKeys.{store_key_with}
-use Rattle.wrap_keys.specs.Turn.{KeyedTurn, PutsBy, own_text_key, StillKept, StoredTurn, MissTurn, Told, ToldBy}
+use Rattle.wrap_keys.specs.Turn.{GetsBy, KeyedTurn, PutsBy, own_text_key, StillKept, StoredTurn, MissTurn, Told, ToldBy}
 use Rattle.wrap_keys.specs.Verdicts as verdicts
 use Rattle.wrap_keys.specs.Verdicts.{Judgement, Why}
 use Rattle.wrap_base.specs.Commands.{CFound}
@@ -83,6 +83,7 @@ module _ (digest_of : Bytes → Bytes) (max_kept : Option ℕ) (text_key : Bytes
         kept = asks_kept old asked key answer asks;
         cleared = asks.cleared;
         put = asks.put;
+        got = inr asks.got;
         told = inl same;
       })
 
@@ -95,6 +96,7 @@ module _ (digest_of : Bytes → Bytes) (max_kept : Option ℕ) (text_key : Bytes
     kept = asks_kept old asked key answer asks;
     cleared = asks.cleared;
     put = puts_none from asks.put;
+    got = asks.got;
     told = hit from direct (
       pairs,
       placed_is,
@@ -132,6 +134,9 @@ module _ (digest_of : Bytes → Bytes) (max_kept : Option ℕ) (text_key : Bytes
       | inr once ↦ inr (miss asked refl once)
     ]) (λ n. absurd n) (λ once. miss asked refl once) ran
 
+    got_fault : (fault : Fault) → RanOnce {A = Pairs} (Err fault) mid after → GetsBy (Err fault) old asked
+    got_fault fault ran = by_stage (stage_of fault) (λ o. inr asks.got) (λ n. absurd n) (λ once. asks.got) ran
+
     -- the compile failed
     pub turn_compile_failed : (fault : Fault) → RanOnce {A = Pairs} (Err fault) mid after → (result : Result Answer Fault) → IsErrAnd result (λ f. f ≡ fault) → KeyedTurn digest_of max_kept text_key (worked w) old asked before after result
     turn_compile_failed fault ran result err =
@@ -143,6 +148,7 @@ module _ (digest_of : Bytes → Bytes) (max_kept : Option ℕ) (text_key : Bytes
           kept = asks_kept old asked key answer asks;
           cleared = asks.cleared;
           put = asks.put;
+          got = got_fault fault ran;
           told = told_fault fault ran;
         })
 
@@ -157,6 +163,7 @@ module _ (digest_of : Bytes → Bytes) (max_kept : Option ℕ) (text_key : Bytes
           kept = asks_kept old asked key answer asks;
           cleared = asks.cleared;
           put = asks.put;
+          got = inr asks.got;
           told = inr (miss asked refl ran);
         })
 
@@ -179,6 +186,7 @@ module _ (digest_of : Bytes → Bytes) (max_kept : Option ℕ) (text_key : Bytes
       kept = λ h. let p = puts.kept.0 h in let q = asks_kept old asked key answer asks p.0 in record { was = q.was; keys = λ k s. p.1 k (q.keys k s); steady = puts.steady ∙ q.steady };
       cleared = puts.cleared ∙ asks.cleared;
       put = puts_within true new value map dep_info within same (puts.put ∙ ap ticked asks.put);
+      got = puts.got ∙ asks.got;
       told = (
         value,
         same,
@@ -201,6 +209,7 @@ module _ (digest_of : Bytes → Bytes) (max_kept : Option ℕ) (text_key : Bytes
       kept = asks_kept old asked key answer asks;
       cleared = asks.cleared;
       put = puts_within false asked value map dep_info within same asks.put;
+      got = asks.got;
       told = (
         value,
         same,
@@ -294,9 +303,13 @@ early_turn digest_of max_kept text_key a shelf count on_file fault cause result 
   kept = λ h. record { was = h; keys = λ key s. s; steady = refl };
   cleared = refl;
   put = refl;
+  got = got fault cause;
   told = told a fault cause;
 })
   where
+    got : (f : Fault) → EarlyCause on_file f → GetsBy (Err f) shelf shelf
+    got f h = by_stage (stage_of f) (λ u. inl refl) (λ c. refl) (λ n. absurd n) (early_stage on_file f h)
+
     told : (b : Account) (f : Fault) → EarlyCause on_file f → ToldBy digest_of max_kept text_key b shelf shelf count count (Err f)
     told (passed why) f h = (refl, refl)
     told (worked w) f h = by_stage (stage_of f) (λ u. inl refl) (λ c. (refl, refl)) (λ n. absurd n) (early_stage on_file f h)
@@ -322,9 +335,13 @@ key_turn digest_of max_kept text_key w first shelf before after same on_file dev
   kept = λ h. record { was = h; keys = λ key s. s; steady = refl };
   cleared = refl;
   put = refl;
+  got = got fault cause;
   told = told fault cause;
 })
   where
+    got : (f : Fault) → KeyCause first on_file device_in f → GetsBy (Err f) shelf shelf
+    got f h = by_stage (stage_of f) (λ u. inl refl) (λ c. refl) (λ n. absurd n) h
+
     told : (f : Fault) → KeyCause first on_file device_in f → Told digest_of max_kept text_key w shelf shelf before after (Err f)
     told f h = by_stage (stage_of f) (λ u. inl same) (λ c. (refl, same)) (λ n. absurd n) h
 
@@ -435,7 +452,7 @@ quiet_entries digest_of a s n = by (direct_of a)
   where
     by : (o : Option PrintedCall) → EntriesBy digest_of o s s n n
     by None = refl
-    by (Some p) = record { gains = λ k e h. inl h; kept = λ h. record { was = h; keys = λ k i. i; steady = refl }; cleared = refl; put = inl (record { within = λ k e h. h; put = refl }); asked = λ k m. inl refl; idle = λ h. refl }
+    by (Some p) = record { gains = λ k e h. inl h; kept = λ h. record { was = h; keys = λ k i. i; steady = refl }; cleared = refl; put = inl (record { within = λ k e h. h; put = refl }); asked = λ k m. inl refl; got = inl refl; got_first = λ h ran. absurd (ran refl); idle = λ h. refl }
 
 pub text_fine : (w : Work) (p : PrintedCall) → w.fault ≡ key_fault_by p → (from : Bool) → KeyFine p from → from ≡ false → w.fault ≡ None
 text_fine w p fault_is true fine h = cc

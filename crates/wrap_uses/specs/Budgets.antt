@@ -25,4 +25,4 @@ IsRefused eq shelf old new key value = (old.left < size_of value) ⊎ ((result :
 
 -- what can be seen of it: what the other store holds, and whether that one or the budget refused anything
 abbrev pub shelf_of : {O : Type 0} → (O → Shelf StoreKey Pairs) → BudgetStore O → Shelf StoreKey Pairs
-shelf_of shelf s = record { held = (shelf s.inner).held; kept = (shelf s.inner).kept && not s.refused; forgets = (shelf s.inner).forgets; clears = (shelf s.inner).clears; puts = s.puts }
+shelf_of shelf s = record { held = (shelf s.inner).held; kept = (shelf s.inner).kept && not s.refused; forgets = (shelf s.inner).forgets; clears = (shelf s.inner).clears; puts = s.puts; gets = (shelf s.inner).gets }

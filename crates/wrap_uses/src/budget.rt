@@ -109,4 +109,8 @@ impl<O: Store<StoreKey, Pairs>> Store<StoreKey, Pairs> for BudgetStore<O> {
     fn puts(&self) -> u64 {
         self.puts
     }
+
+    fn gets(&self) -> u64 {
+        self.inner.gets()
+    }
 }

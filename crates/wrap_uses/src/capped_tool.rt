@@ -81,6 +81,8 @@ impl<T: Tool> Preprocessor for CappedTool<T> {
 }
 
 impl<T: Tool> RustcAnswers for CappedTool<T> {
+    ghost archived = { λ s. T.archived s.inner };
+
     fn dep_info<F: Files>(
         &mut self,
         alloc: Global,

@@ -8,6 +8,7 @@ use Rattle.rustkeys.specs.Calls.{digest_fault_of}
 use Rattle.rustkeys.specs.Questions.{digest_at, digested}
 use Rattle.rustkeys.proofs.ArchiveLemmas.{first_fault}
 use Rattle.rustkeys.proofs.CauseLemmas.{key_cause_more}
+use Rattle.rustkeys.proofs.RunLemmas.{stop_for}
 use Rattle.rustkeys.proofs.archives.archive_digests.Goals as goal
 
 pub returns-in_err-archive_digest-clause-cause : goal.returns-in_err-archive_digest-clause-cause
@@ -28,3 +29,9 @@ returns-in_err-archive_digest-clause-cause g c = λ scene same.
     let fault = c.in_err-archive_digest.field-0.0 in
     on_exit (KeyCause all no_file device_in) c.from_residual.result fault c.from_residual.ensures.1
     (key_cause_more first all no_file no_file later device_in (λ f e. left ∙ first_fault path (digest_at meaning scene path) (digested meaning scene others) f (sym one ∙ e)) (λ name n. n) (tool_since meaning_of failed fails_in c.args.answers.now c.loop-path.answers c.archive_digest.new.answers c.loop-path.invariant.meaning c.loop-path.invariant.tool) fault (c.in_err-archive_digest.ensures.cause scene (same ∙ sym c.loop-path.invariant.tree)))
+
+pub returns-in_err-archive_digest-clause-once : goal.returns-in_err-archive_digest-clause-once
+returns-in_err-archive_digest-clause-once g c = c.loop-path.invariant.once _ (stop_for c.loop-path.rest.now c.in-Some.path.now c.in-Some.others.now c.in-Some.ensures.cases.0 _ _ c.archive_digest.ensures.once)
+
+pub returns-in_err-push-clause-once : goal.returns-in_err-push-clause-once
+returns-in_err-push-clause-once g c = c.loop-path.invariant.once _ (stop_for c.loop-path.rest.now c.in-Some.path.now c.in-Some.others.now c.in-Some.ensures.cases.0 _ _ c.archive_digest.ensures.once)

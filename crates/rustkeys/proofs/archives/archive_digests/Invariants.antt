@@ -1,9 +1,10 @@
-use Rattle.std.proofs.Common.{◌≡◌, ◌++◌, length, map}
+use Rattle.std.proofs.Common.{◌≡◌, ◌++◌, ℕ, length, map}
 use Rattle.std.specs.List.{AllByRecursion}
 use Rattle.ckeys_records.specs.Meaning.{Scene}
 use Rattle.rustc_parts.specs.Formed.{IsDigest, digest_digits}
 use Rattle.rustkeys.specs.Calls.{digest_fault_of}
 use Rattle.rustkeys.specs.Questions.{digested}
+use Rattle.rustkeys.specs.Runs.{AtMostFor, ticked_for}
 use Rattle.rustkeys.proofs.archives.archive_digests.Given as goal
 
 -- the digests so far stand before those of the libraries that are left, and the first one that isn't a digest is among these
@@ -20,6 +21,8 @@ invariant-loop-path g l =
       steady : g.F.Files.failed l.files ≡ g.F.Files.failed l.fn.files;
       tool : g.A.Preprocessor.failed l.answers ≡ g.A.Preprocessor.failed l.fn.answers;
       runs : g.A.Preprocessor.preprocessed l.answers ≡ g.A.Preprocessor.preprocessed l.fn.answers;
+      asked : ticked_for l.rest (g.A.RustcAnswers.archived l.answers) ≡ ticked_for l.fn.paths (g.A.RustcAnswers.archived l.fn.answers);
+      once : (after : ℕ) → AtMostFor l.rest (g.A.RustcAnswers.archived l.answers) after → AtMostFor l.fn.paths (g.A.RustcAnswers.archived l.fn.answers) after;
       compiles : g.A.Preprocessor.compiled l.answers ≡ g.A.Preprocessor.compiled l.fn.answers;
     }
 

@@ -12,7 +12,7 @@ use Rattle.ckeys_records.specs.Meaning.{FailsIn}
 use Rattle.ckeys_records.specs.declared.fault.Fault.TheVariants.{Read}
 use Rattle.ckeys.proofs.CallLemmas.{cause_is, file_cause, cause_later}
 use Rattle.ckeys_records.proofs.FaultLemmas.{since, on_exit}
-use Rattle.ckeys.proofs.EntryLemmas.{fine_later, first_is, input_first, none_early, turn_unasked}
+use Rattle.ckeys.proofs.EntryLemmas.{fine_later, first_is, input_first, none_early, turn_unasked, unasked_recorded}
 use Rattle.ckeys.proofs.RecordLemmas.{has_key}
 use Rattle.ckeys.proofs.hasher.CCompilerHasher.key_at.Goals as goal
 
@@ -142,3 +142,12 @@ returns-in_default-clause-early g c some =
     let there : first_missing (tree c.args.files.now) (map (join c.args.place.now.dir.now) c.args.self.now.parsed.now.extra_hash_files) ≡ None = ap (λ names. first_missing (tree c.args.files.now) (map (join c.args.place.now.dir.now) names)) (sym c.as_slice-names.ensures) ∙ c.in_ok-extra.ensures.there in
     let input : missing_input p.call ≡ None = ap (λ t. missing_input (call_on t)) (sym c.extra_hashes.ensures.tree) ∙ c.in_ok-entry_key.ensures.there in
     absurd (some (none_early p there input))
+
+pub returns-in_default-clause-recorded : goal.returns-in_default-clause-recorded
+returns-in_default-clause-recorded g c =
+    let digest = g.H.HashState.digest_of in
+    let tree = g.F.Files.tree in
+    let meaning = g.T.Preprocessor.meaning c.args.tool.now in
+    let call_on : Tree → KeyCall = λ t. call_by g.I.CCompilerImpl.kind_of g.I.CCompilerImpl.traits c.args.self.now c.args.place.now t in
+    let p : PrintedCall = printed_call meaning (call_on (tree c.args.files.now)) in
+    unasked_recorded digest p (g.E.Store.shelf c.args.entries.now) (ap (λ t. entry_key_of digest (call_on t)) (sym c.extra_hashes.ensures.tree) ∙ sym c.in_ok-entry_key.ensures.key ∙ c.in_default.is) _

@@ -1,4 +1,4 @@
-use Rattle.std.proofs.Common.{◌≡◌, None, Some, List, string_bytes, ap, sym, subst, ◌∙◌, refl}
+use Rattle.std.proofs.Common.{◌≡◌, true, None, Some, List, string_bytes, ap, sym, subst, ◌∙◌, refl}
 use Rattle.os_files.specs.Bytes.{Bytes}
 use Rattle.os_files.specs.Fails.{FailsOn}
 use Rattle.os_files.specs.Path.{join}
@@ -7,7 +7,7 @@ use Rattle.ckeys_base.specs.Shelf.{Shelf}
 use Rattle.ckeys.specs.Calls.{KeyCall, PrintedCall, printed_call, record_by, text_by, text_fault_by, text_fault_of, text_of}
 use Rattle.ckeys_records.specs.Faults.{KeyCause}
 use Rattle.ckeys.specs.Entries.{HasMatch, good_text, includes_by}
-use Rattle.ckeys.specs.EntryTurns.{EntryTurn, IsKnown, Keeps}
+use Rattle.ckeys.specs.EntryTurns.{EntryTurn, IsKnown, Keeps, KeyRecorded}
 use Rattle.ckeys.specs.Hashers.{call_by, handed_by, looked_at}
 use Rattle.ckeys_records.specs.Keys.{key_of}
 use Rattle.ckeys_records.specs.Material.{shape_of}
@@ -19,7 +19,7 @@ use Rattle.entry_keys.specs.declared.entry_key.EntryKey.{EntryKey}
 use Rattle.include_records.specs.Records.{Record}
 use Rattle.ckeys.proofs.CallLemmas.{cause_is, file_cause}
 use Rattle.ckeys_records.proofs.FaultLemmas.{since, on_exit}
-use Rattle.ckeys.proofs.EntryLemmas.{from_record, good_of, turn_asked, turn_kept, turn_missed}
+use Rattle.ckeys.proofs.EntryLemmas.{found_recorded, from_record, good_of, turn_asked, turn_kept, turn_missed}
 use Rattle.ckeys.proofs.RecordLemmas.{has_key}
 use Rattle.ckeys.proofs.hasher.CCompilerHasher.recorded_key.Goals as goal
 
@@ -176,3 +176,15 @@ returns-in_ok-shape-in-Found-clause-key g c =
     let known : IsKnown digest (looked_at c.args.place.now (tree c.args.files.now)) (asked.held c.args.entry_key) c.in_ok-key.field-0 = c.in_ok-key.ensures.found in
     let found = subst (IsKnown digest (looked_at c.args.place.now (tree c.args.files.now)) (asked.held c.args.entry_key)) c.in-Found.is known in
     (c.requires.framed, subst (HasMatch digest p.call old.held) (sym c.into_string.ensures) (from_record digest p c.args.entry_key c.requires.entry c.requires.framed old asked c.look_up.ensures.asks c.in-Found.key found))
+
+pub returns-in_ok-shape-in-Found-clause-recorded : goal.returns-in_ok-shape-in-Found-clause-recorded
+returns-in_ok-shape-in-Found-clause-recorded g c =
+    let digest = g.H.HashState.digest_of in
+    let tree = g.F.Files.tree in
+    let call_on : Tree → KeyCall = λ t. call_by g.I.CCompilerImpl.kind_of g.I.CCompilerImpl.traits c.args.self.now c.args.place.now t in
+    let p : PrintedCall = printed_call (g.T.Preprocessor.meaning c.args.tool.now) (call_on (tree c.args.files.now)) in
+    let old = g.E.Store.shelf c.args.entries.now in
+    let asked = g.E.Store.shelf c.look_up.new.entries in
+    let known : IsKnown digest (looked_at c.args.place.now (tree c.args.files.now)) (asked.held c.args.entry_key) c.in_ok-key.field-0 = c.in_ok-key.ensures.found in
+    let found = subst (IsKnown digest (looked_at c.args.place.now (tree c.args.files.now)) (asked.held c.args.entry_key)) c.in-Found.is known in
+    subst (KeyRecorded digest p old asked true) (sym c.into_string.ensures) (found_recorded digest p c.args.entry_key c.requires.entry c.requires.framed old asked c.look_up.ensures.asks c.in-Found.key found)

@@ -10,6 +10,7 @@ use Rattle.rustkeys.specs.Calls.{answer_fault_of, dep_info_fault_of, files_fault
 use Rattle.rustkeys.specs.Collected.{AreFilesOf, file_digests}
 use Rattle.rustkeys.specs.Questions.{Question, answers_of, digested, file_names_of, question_of, sources_in}
 use Rattle.rustkeys.proofs.CauseLemmas.{first_is, key_cause_more, second_is}
+use Rattle.rustkeys.proofs.RunLemmas.{none_for}
 use Rattle.rustkeys.proofs.place.RustPlace.collect.Goals as goal
 
 pub returns-in_err-sources-clause-cause : goal.returns-in_err-sources-clause-cause
@@ -87,3 +88,9 @@ returns-clause-found g c = λ moment.
       sources = c.in_ok-sources.ensures.digests ∙ (λ i. file_digests digest_of (tree c.args.files.now) (sources_in c.args.self.now.dir.now (c.in_ok-sources.ensures.text moment i)));
       files = subst (λ (x : Tree × Meaning). AreFilesOf digest_of (asked x.0) (digested x.1 (asked x.0).scene (asked x.0).asks.staticlibs) c.in_ok-files.files) (λ i. (trees i, meanings i)) (c.in_ok-files.ensures.digests moment);
     }
+
+pub returns-in_err-sources-clause-once_each : goal.returns-in_err-sources-clause-once_each
+returns-in_err-sources-clause-once_each g c = none_for c.args.self.now.parsed.now.staticlibs _ _ c.dep_info.ensures.archives
+
+pub returns-in_err-names-clause-once_each : goal.returns-in_err-names-clause-once_each
+returns-in_err-names-clause-once_each g c = none_for c.args.self.now.parsed.now.staticlibs _ _ (c.file_names_text.ensures.archives ∙ c.dep_info.ensures.archives)

@@ -1,4 +1,4 @@
-use Rattle.std.proofs.Common.{◌≡◌, List, None, map, ap, sym, ◌∙◌}
+use Rattle.std.proofs.Common.{◌≡◌, List, None, map, ap, refl, sym, ◌∙◌}
 use Rattle.std.specs.Option.{option_map, option_to_list}
 use Rattle.os_files.specs.Bytes.{Bytes}
 use Rattle.os_files.specs.Fails.{FailsOn}
@@ -13,6 +13,7 @@ use Rattle.ckeys_records.proofs.FaultLemmas.{on_exit, since}
 use Rattle.rustkeys.specs.Calls.{digest_fault_of, files_fault_of, optional_files_fault_of}
 use Rattle.rustkeys.specs.Questions.{digested, extern_paths, profile_path, question_of, target_path}
 use Rattle.rustkeys.proofs.CauseLemmas.{first_is, key_cause_more, second_is}
+use Rattle.rustkeys.proofs.RunLemmas.{none_for}
 use Rattle.rustkeys.proofs.place.RustPlace.other_files.Goals as goal
 
 pub returns-in_err-archives-clause-cause : goal.returns-in_err-archives-clause-cause
@@ -58,3 +59,6 @@ returns-in_err-profile-clause-cause g c = λ moment.
     let same : profile ≡ own = ap (λ (files : Tree). read_fault_of files (option_to_list (profile_path q))) (sym behind_target) in
     on_exit (KeyCause (files_fault_of q archives) on_file device_in) c.from_residual-in_err-profile.result fault c.from_residual-in_err-profile.ensures.1
     (key_cause_more own (files_fault_of q archives) on_later on_file no_step device_in (λ f e. second_is externs (or_else (digest_fault_of archives) (or_else target profile)) no_extern f (second_is (digest_fault_of archives) (or_else target profile) no_digest f (second_is target profile no_target f (same ∙ e)))) (since tree_of failed fails_on c.args.files.now c.needed_where_named.new.files c.needed_where_named-2.new.files behind_target steady) (λ step n. absurd n) fault (file_early (first_missing (tree_of c.needed_where_named.new.files) (option_to_list (profile_path q))) on_later fault c.in_err-profile.ensures.cause))
+
+pub returns-in_err-externs-clause-once_each : goal.returns-in_err-externs-clause-once_each
+returns-in_err-externs-clause-once_each g c = none_for c.args.self.now.parsed.now.staticlibs _ _ refl

@@ -1,0 +1,109 @@
+//! What callers of a request's parts get with ample memory: its name, what is run for it, and the pieces of a key that was recorded.
+
+use crate::asking::{DEPENDENCIES, FIRST, OF_NOTHING, all_files, asked, parsed, rust, tool};
+use crate::keys::made_of;
+use os_files::os_bytes::OsBytes;
+use rustc_parts::parts::RShape;
+use rustkeys::hasher::RustHasher;
+use rustkeys_uses::recorded_keys::{RecordedKey, pieces_of_key};
+use std::alloc::{AllocError, Global};
+use std::test::Fail;
+use test_kit::texts::is_that;
+
+/// A request with two static libraries.
+const WITH_LIBRARIES: &str =
+    "--emit link foo.rs --out-dir out --crate-name foo --crate-type lib -L native=lib -l static=z -l static=y";
+
+/// The name of a line's request, for printing.
+fn name_of(alloc: Global, line: &str) -> Result<String, Fail> {
+    let compiler = rust(alloc)?;
+    let parsed = parsed(alloc, line)?;
+    let hasher = RustHasher {
+        compiler: &compiler,
+        parsed: &parsed,
+    };
+    Ok(hasher.output_pretty(alloc)?)
+}
+
+#[test]
+fn a_request_is_named_by_its_crate(rt: HostRuntime) -> Result<(), Fail> {
+    let name = name_of(rt.alloc(), FIRST)?;
+    is_that(name.as_str(), "foo", FIRST)
+}
+
+/// What is run for the compile of a line's request.
+fn run_for(alloc: Global, line: &str) -> Result<OsBytes, Fail> {
+    let (compilation, _, _, _) = made_of(alloc, line)?;
+    let (command, _) = compilation.generate_compile_commands(alloc)?;
+    Ok(command.executable)
+}
+
+#[test]
+fn the_compiler_is_run(rt: HostRuntime) -> Result<(), Fail> {
+    let executable = run_for(rt.alloc(), FIRST)?;
+    assert_eq!(rt; executable.as_bytes(), b"rustc".as_slice());
+    Ok(())
+}
+
+/// The shape of a line's key.
+fn shape_of(alloc: Global, line: &str) -> Result<RShape, Fail> {
+    let (_, _, shape, _) = made_of(alloc, line)?;
+    Ok(shape)
+}
+
+/// The bytes that are hashed of the first request, whose source has this digest: no library, the words, the source, no variable, and
+/// the directory with the version.
+fn bytes_of_first(alloc: Global, source: &[u8]) -> Result<OsBytes, AllocError> {
+    let mut bytes = Vec::new(alloc);
+    bytes.extend_from_slice(b"8\x3c\0\0\0\0\0\0\0")?;
+    bytes.extend_from_slice(b"--emitlink-Copt-level=1foo.rs--crate-namefoo--crate-typerlib")?;
+    bytes.extend_from_slice(source)?;
+    bytes.extend_from_slice(b"\x02\0\0\0\0\0\0\0/whost: x\xff")?;
+    Ok(OsBytes::from_vec(bytes))
+}
+
+/// The directory in the pieces of a key of these bytes and the first request's shape, if there are such pieces.
+fn dir_in(alloc: Global, bytes: OsBytes) -> Result<Option<OsBytes>, Fail> {
+    let shape = shape_of(alloc, FIRST)?;
+    let key = RecordedKey { bytes, shape };
+    match pieces_of_key(alloc, &key)? {
+        Some(pieces) => Ok(Some(pieces.dir)),
+        None => Ok(None),
+    }
+}
+
+#[test]
+fn a_recorded_key_has_its_pieces(rt: HostRuntime) -> Result<(), Fail> {
+    let alloc = rt.alloc();
+    let bytes = bytes_of_first(alloc, OF_NOTHING.as_bytes())?;
+    let Some(dir) = dir_in(alloc, bytes)? else {
+        return Err("no pieces".into());
+    };
+    assert_eq!(rt; dir.as_bytes(), b"/w".as_slice());
+    Ok(())
+}
+
+#[test]
+fn other_bytes_are_no_key(rt: HostRuntime) -> Result<(), Fail> {
+    let alloc = rt.alloc();
+    let dir = dir_in(alloc, OsBytes::from_slice(alloc, b"x")?)?;
+    assert!(rt; dir.is_none());
+    Ok(())
+}
+
+/// How often the digest of a static library is asked for, for the key of a line's request.
+fn asked_for_digests(alloc: Global, line: &str) -> Result<u64, Fail> {
+    let mut files = all_files(alloc)?;
+    let mut tool = tool(alloc, DEPENDENCIES, b"libfoo.rlib\n", OF_NOTHING.as_bytes())?;
+    match asked(alloc, line, &mut files, &mut tool)? {
+        Ok(_) => Ok(tool.archived),
+        Err(fault) => Err(Fail::new(fault)),
+    }
+}
+
+#[test]
+fn each_library_is_asked_for_once(rt: HostRuntime) -> Result<(), Fail> {
+    let count = asked_for_digests(rt.alloc(), WITH_LIBRARIES)?;
+    assert_eq!(rt; count, 2);
+    Ok(())
+}
