@@ -16,7 +16,7 @@ use known_compilers::compilers::{KnownCompiler, compiler_at, kind_of};
 use loaded_files::outputs::{print_again, write_outputs};
 use os_files::listed::Listed;
 use os_files::os_bytes::OsBytes;
-use replay::kept_session::{SessionAnswer, answered};
+use replay::kept_session::{SessionAnswer, answered, session_over};
 use settings::key::Key;
 use sha2::Sha256;
 use std::alloc::Global;
@@ -328,15 +328,8 @@ fn answer_by(
         Some(Kept { pair, messages }) => (Some(pair), Some(messages)),
         None => (None, None),
     };
-    let answer = answered::<Sha256>(
-        alloc,
-        config,
-        record_kept,
-        entry,
-        request,
-        &mut known.files,
-        &mut known.tool,
-    );
+    let session = session_over::<Sha256>(alloc, config, record_kept, entry);
+    let answer = answered(session, request, &mut known.files, &mut known.tool);
     Ok((answer, messages))
 }
 

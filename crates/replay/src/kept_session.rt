@@ -1,17 +1,20 @@
 //! One answer of a session over what a disk keeps, by what was recorded.
 
-ghost use Rattle.std.specs.Prelude.{◌≡◌, List, [], ◌∷◌, ◌++◌};
+ghost use Rattle.std.specs.Prelude.{◌≡◌, List, [], ◌∷◌, ◌++◌, Option};
 ghost use Rattle.os_files.specs.Views.{FilesFail};
 ghost use Rattle.ckeys_records.specs.Meaning.{Meaning};
 ghost use Rattle.ckeys_records.specs.Views.{ToolFails};
+ghost use Rattle.entry_keys.specs.declared.entry_key.EntryKey.{EntryKey};
+ghost use Rattle.include_records.specs.Records.{Record};
 ghost use Rattle.replay.specs.Kept.{Holds, IsOfEarlier, RecordIsOfEarlier};
 ghost use Rattle.replay.specs.Recorded.{recorded};
 ghost use Rattle.replay.specs.Worlds.{GivesTo};
-ghost use Rattle.wrap.specs.Account.{Account, account_at};
+ghost use Rattle.wrap.specs.Account.{Account, Pairs, account_at};
 ghost use Rattle.wrap.specs.Answers.{Answers, GoesOn, SaysBy};
-ghost use Rattle.wrap.specs.Asking.{AskedTurn, Shelves, shelves_of};
+ghost use Rattle.wrap.specs.Asking.{AskedTurn, shelves_of};
 ghost use Rattle.wrap.specs.StoreKeys.{Premises};
 ghost use Rattle.wrap_base.specs.MapStores.{shelf_of};
+ghost use Rattle.wrap_base.specs.declared.store_key.StoreKey.{StoreKey};
 
 use crate::asked_store::AskedStore;
 use crate::replay_tool::ReplayTool;
@@ -72,33 +75,52 @@ fn records_over(
     }
 }
 
-/// Answers the request by what was recorded of its compiler and its files, and by what a disk keeps.
-pub fn answered<H: HashState>(
+/// A session over stores of what a disk keeps.
+pub fn session_over<H: HashState>(
     alloc: Global,
     config: Config,
     record_kept: Option<(EntryKey, PreprocessorCacheEntry)>,
     entry: Option<(StoreKey, Pairs)>,
+) -> Session<H, Entries, Objects>
+    ensures settings { (result.settings ≡ config.keys) × (result.max_kept ≡ config.max_kept) }
+    // What is kept under the key asked for is found, then, and nothing else is.
+    ensures records { Holds record_kept
+        (shelf_of ⟦<EntryKey as PartialEq>⟧.eq result.entries.inner) }
+    ensures outputs { Holds entry (shelf_of ⟦<StoreKey as PartialEq>⟧.eq result.objects.inner) }
+{
+    let entries = WatchedRecords::new(records_over(alloc, record_kept));
+    let objects = AskedStore::new(alloc, store_over(alloc, entry));
+    Session::new(alloc, config, entries, objects)
+}
+
+/// Answers the request by what was recorded of its compiler and its files, and by what that session's stores hold.
+pub fn answered<H: HashState>(
+    session: Session<H, Entries, Objects>,
     request: &Request,
     files: &mut SnapshotFiles,
     tool: &mut ReplayTool,
 ) -> SessionAnswer<H>
-    // In each world that gives what was recorded, outputs are those that its compiler gives afresh, if what the disk keeps
-    // is of earlier calls there: outputs, and in direct mode the results of the include record.
+    // In each world that gives what was recorded, outputs are those that its compiler gives afresh, if the stores hold what a disk keeps, and
+    // that is of earlier calls there: outputs, and in direct mode the results of the include record.
     ensures outputs { (world : Meaning) → let tree = ⟦<SnapshotFiles as Files>⟧.tree files.old in
-        let a = account_at world tree config.keys request.now in
+        let a = account_at world tree session.settings request.now in
         GivesTo tool.old.text tool.old.outputs request.now tree world
+        → (record_kept : Option (EntryKey × Record)) (entry : Option (StoreKey × Pairs))
+        → Holds record_kept (shelf_of ⟦<EntryKey as PartialEq>⟧.eq session.entries.inner)
+        → Holds entry (shelf_of ⟦<StoreKey as PartialEq>⟧.eq session.objects.inner)
         → (earlier : List Account)
-        → RecordIsOfEarlier H.digest_of config.keys earlier record_kept
+        → RecordIsOfEarlier H.digest_of session.settings earlier record_kept
         → IsOfEarlier H.digest_of earlier entry
         → Premises H.digest_of (earlier ++ a ∷ [])
         → Answers a result.answer }
 
-    // The session asks stores that hold what the disk keeps, and nothing else: where that is kept under the key asked for, it is found.
+    // Under which key it asks the session's own stores, and where outputs come from.
     ensures asked { let tools = ⟦<ReplayTool as Preprocessor>⟧ in
         let a = account_at (recorded tool.old.text tool.old.outputs)
-        (⟦<SnapshotFiles as Files>⟧.tree files.old) config.keys request.now in
-        (old : Shelves) × Holds record_kept old.entries × Holds entry old.objects
-        × AskedTurn H.digest_of config.max_kept a old
+        (⟦<SnapshotFiles as Files>⟧.tree files.old) session.settings request.now in
+        AskedTurn H.digest_of session.max_kept a
+        (shelves_of (shelf_of ⟦<EntryKey as PartialEq>⟧.eq session.entries.inner)
+        (shelf_of ⟦<StoreKey as PartialEq>⟧.eq session.objects.inner))
         (shelves_of (shelf_of ⟦<EntryKey as PartialEq>⟧.eq result.session.entries.inner)
         (shelf_of ⟦<StoreKey as PartialEq>⟧.eq result.session.objects.inner))
         (tools.preprocessed tool.old) (tools.preprocessed tool.new) (tools.compiled tool.old)
@@ -106,7 +128,7 @@ pub fn answered<H: HashState>(
 
     // It is passed through exactly where the verdict says, unless memory was refused first; a fault has its cause.
     ensures says { let a = account_at (recorded tool.old.text tool.old.outputs)
-        (⟦<SnapshotFiles as Files>⟧.tree files.old) config.keys request.now in
+        (⟦<SnapshotFiles as Files>⟧.tree files.old) session.settings request.now in
         SaysBy GoesOn a (FilesFail ⟦<SnapshotFiles as Files>⟧ files.old files.new)
         (ToolFails ⟦<ReplayTool as Preprocessor>⟧ tool.old tool.new) result.answer }
 
@@ -115,9 +137,7 @@ pub fn answered<H: HashState>(
         ≡ recorded tool.old.text tool.old.outputs }
 {
     records_of_earlier_calls_are_true::<H>();
-    let entries = WatchedRecords::new(records_over(alloc, record_kept));
-    let objects = AskedStore::new(alloc, store_over(alloc, entry));
-    let mut session = Session::new(alloc, config, entries, objects);
+    let mut session = session;
     let answer = replayed(&mut session, request, files, tool);
     SessionAnswer { answer, session }
 }
