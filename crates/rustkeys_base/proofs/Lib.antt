@@ -7,4 +7,3 @@ pub mod ParsingLemmas
 pub mod DeciderLaws
 mod HeldWords
 pub mod AskLemmas
-pub mod AskedLemmas

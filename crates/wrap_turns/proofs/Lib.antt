@@ -3,4 +3,3 @@ pub mod TurnLemmas
 pub mod RustLemmas
 pub mod GatherLemmas
 pub mod PrepareLemmas
-pub mod PassedLemmas
