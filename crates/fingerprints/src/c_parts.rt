@@ -10,7 +10,7 @@ use os_files::listed::Listed;
 use os_files::os_bytes::OsBytes;
 
 /// The parts of a request to a C compiler, in the order in which two requests are compared. Digests are texts.
-#[derive(Drop, PartialEq, Eq)]
+#[derive(Clone, Debug, Drop, PartialEq, Eq)]
 pub struct CParts {
     /// The digest that stands for the compiler.
     pub compiler: OsBytes,

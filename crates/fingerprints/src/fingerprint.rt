@@ -45,7 +45,7 @@ use wrap_keys::rust_verdict::{RustVerdict, judge_rust};
 use wrap_keys::verdict::{Verdict, judge};
 
 /// Of what a request's key is made: the parts by its family, with digests in the place of files' contents.
-#[derive(Drop, PartialEq, Eq)]
+#[derive(Clone, Debug, Drop, PartialEq, Eq)]
 pub enum Fingerprint {
     C(CParts),
     /// Beside the pieces that are hashed stand the names of the outputs, with their marks.

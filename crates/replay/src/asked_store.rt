@@ -1,16 +1,14 @@
 //! A store that remembers for which key it was asked last.
 
-ghost use Rattle.std.specs.Prelude.{◌≡◌, None, IfOk, IfSome};
+ghost use Rattle.std.specs.Prelude.{◌≡◌, None, IfSome};
 ghost use Rattle.std.specs.Borrow.{sem};
 ghost use Rattle.std.specs.Io.BufRead.{Rests};
 ghost use Rattle.std.specs.Option.{option_copied};
 ghost use Rattle.ckeys_base.specs.Shelf.{Asks, Puts};
 ghost use Rattle.replay.specs.contracts.asked_store.AskedStore.{the_row};
 
-use ckeys_records::output_name::OutputName;
-use ckeys_records::shape::CShape;
-use std::alloc::{AllocError, Global};
-use wrap::{Listed, Pairs, Shape, Store, StoreKey};
+use std::alloc::Global;
+use wrap::{Pairs, Store, StoreKey};
 
 /// Keeps outputs in another store, and remembers the key of the last look-up.
 #[derive(Drop)]
@@ -18,67 +16,6 @@ pub struct AskedStore<O> {
     alloc: Global,
     inner: O,
     asked: Option<StoreKey>,
-}
-
-/// Copies of sizes.
-fn sizes_again(alloc: Global, sizes: &[usize]) -> Result<Listed<usize>, AllocError>
-    ensures { IfOk result (λ copy. copy ≡ sizes.now) }
-{
-    let mut copy = Vec::with_capacity(alloc, sizes.len())?;
-    for size in sizes {
-        copy.push(*size)?;
-    }
-    Ok(Listed::from_vec(copy))
-}
-
-/// A copy of the shape of a C compiler's request.
-fn c_shape_again(alloc: Global, shape: &CShape) -> Result<CShape, AllocError>
-    ensures { IfOk result (λ copy. copy ≡ shape.now) }
-{
-    Ok(CShape {
-        language: shape.language,
-        compiler_digest: shape.compiler_digest,
-        words: shape.words,
-        extra_hashes: sizes_again(alloc, shape.extra_hashes.as_slice())?,
-        assembler_digest: shape.assembler_digest,
-        variables: shape.variables,
-    })
-}
-
-/// A copy of a shape.
-fn shape_again(alloc: Global, shape: &Shape) -> Result<Shape, AllocError>
-    ensures { IfOk result (λ copy. copy ≡ shape.now) }
-{
-    match shape {
-        Shape::C(shape) => Ok(Shape::C(c_shape_again(alloc, shape)?)),
-        Shape::Rustc(shape) => Ok(Shape::Rustc(shape.clone()?)),
-    }
-}
-
-/// Copies of names.
-fn names_again(alloc: Global, names: &[OutputName]) -> Result<Listed<OutputName>, AllocError>
-    ensures { IfOk result (λ copy. copy ≡ names.now) }
-{
-    let mut copy = Vec::with_capacity(alloc, names.len())?;
-    for name in names {
-        copy.push(OutputName {
-            name: name.name.clone()?,
-            optional: name.optional,
-        })?;
-    }
-    Ok(Listed::from_vec(copy))
-}
-
-/// A copy of a key.
-fn key_again(alloc: Global, key: &StoreKey) -> Result<StoreKey, AllocError>
-    ensures { IfOk result (λ copy. copy ≡ key.now) }
-{
-    Ok(StoreKey {
-        family: key.family,
-        shape: shape_again(alloc, &key.shape)?,
-        names: names_again(alloc, key.names.as_slice())?,
-        digest: key.digest.clone()?,
-    })
 }
 
 impl<O: Store<StoreKey, Pairs>> AskedStore<O> {
@@ -105,7 +42,7 @@ impl<O: Store<StoreKey, Pairs>> AskedStore<O> {
         ensures inner { self.new.inner ≡ self.old.inner }
         ensures asked { IfSome self.new.asked (λ asked. asked ≡ key.now) }
     {
-        self.asked = key_again(self.alloc, key).ok();
+        self.asked = key.clone().ok();
     }
 }
 

@@ -84,16 +84,6 @@ fn paths_of(
     Ok(Listed::from_vec(paths))
 }
 
-/// A copy of what was printed.
-fn printed_again(printed: &Printed) -> Result<Printed, AllocError>
-    ensures { IfOk result (λ copy. copy ≡ printed.now) }
-{
-    Ok(Printed {
-        status: printed.status,
-        text: printed.text.clone()?,
-    })
-}
-
 /// A copy of contents, where there are some.
 fn contents_again(contents: &Option<OsBytes>) -> Result<Option<OsBytes>, AllocError>
     ensures { IfOk result (λ copy. copy ≡ contents.now) }
@@ -280,7 +270,7 @@ impl Preprocessor for ReplayTool {
         self.preprocessed = self.preprocessed.wrapping_add(1);
         if let Some(recorded) = &self.text {
             if recorded.answers(kind, &command.arguments) {
-                return Ok(printed_again(&recorded.printed)?);
+                return Ok(recorded.printed.clone()?);
             }
         }
         Err(self.want(alloc, Step::Preprocess, command.arguments.as_slice(), &[]))

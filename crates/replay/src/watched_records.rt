@@ -18,16 +18,6 @@ pub struct WatchedRecords<E> {
     newest: Option<(EntryKey, PreprocessorCacheEntry)>,
 }
 
-/// A copy of a key.
-fn key_again(key: &EntryKey) -> Result<EntryKey, AllocError>
-    ensures { IfOk result (λ copy. copy ≡ key.now) }
-{
-    Ok(EntryKey {
-        identity: key.identity.clone()?,
-        key: key.key.clone()?,
-    })
-}
-
 /// A copy of a key and its record.
 pub fn pair_again(
     key: &EntryKey,
@@ -35,7 +25,7 @@ pub fn pair_again(
 ) -> Result<(EntryKey, PreprocessorCacheEntry), AllocError>
     ensures { IfOk result (λ pair. pair ≡ (key.now, entry.now)) }
 {
-    let key = key_again(key)?;
+    let key = key.clone()?;
     Ok((key, entry.clone()?))
 }
 
@@ -72,7 +62,7 @@ impl<E: Store<EntryKey, PreprocessorCacheEntry>> WatchedRecords<E> {
         ensures asked { IfSome self.new.asked (λ asked. asked ≡ key.now) }
         ensures newest { self.new.newest ≡ self.old.newest }
     {
-        self.asked = key_again(key).ok();
+        self.asked = key.clone().ok();
     }
 
     fn note_put(&mut self, key: &EntryKey, entry: &PreprocessorCacheEntry)

@@ -4,38 +4,32 @@ use byte_formats::fault::ReadFault;
 use kept_folder::error::FolderError;
 use std::alloc::{AllocError, AllocFailed};
 use std::{fmt, io};
+use thiserror::Error;
 
 /// Why no decision was made.
-#[derive(Drop)]
+#[derive(Debug, Drop, Error, PartialEq, Eq)]
 pub enum Stop {
     /// A growth was refused.
+    #[error("no memory")]
     Memory,
     /// A file or the host couldn't be read or written.
+    #[error("a file or the host can't be read or written")]
     Device,
     /// What the host says, or a path that must be text, isn't readable.
+    #[error("a path or a message is no text")]
     Unreadable,
     /// The text takes in files as it is assembled.
+    #[error("the text takes in files")]
     TakesFiles,
     /// The compiler doesn't say what it runs.
+    #[error("the compiler doesn't name its parts")]
     Parts,
     /// A folder that isn't to count isn't absolute, or is only slashes.
+    #[error("a folder that base_dir names isn't absolute, or is only slashes")]
     Folder,
     /// No command is there to tell of.
+    #[error("--why takes a compiler's command: --help tells all")]
     Command,
-}
-
-impl fmt::Display for Stop {
-    fn fmt<W: fmt::Write>(&self, f: &mut fmt::Formatter<W>) -> fmt::Result {
-        f.write_str(match *self {
-            Stop::Memory => "no memory",
-            Stop::Device => "a file or the host can't be read or written",
-            Stop::Unreadable => "a path or a message is no text",
-            Stop::TakesFiles => "the text takes in files",
-            Stop::Parts => "the compiler doesn't name its parts",
-            Stop::Folder => "a folder that base_dir names isn't absolute, or is only slashes",
-            Stop::Command => "--why takes a compiler's command: --help tells all",
-        })
-    }
 }
 
 impl From<AllocError> for Stop {
