@@ -23,3 +23,5 @@ mod scene;
 mod sessions;
 #[cfg(test)]
 mod support;
+#[cfg(test)]
+mod values;
