@@ -139,3 +139,21 @@ fn laws_are_called(rt: HostRuntime) -> Result<(), Fail> {
     );
     Ok(())
 }
+
+/// The key of a text that names this folder, as a word does, without the folder.
+fn key_without_a_folder(alloc: Global) -> Result<String, AllocError> {
+    let list = words(alloc, "-I/w/inc")?;
+    let folders = words(alloc, "/w")?;
+    let params = HashKeyParams::new("d", Language::C, list.as_slice(), b"# 1 \"/w/foo.c\"");
+    let (key, _) = key_of(alloc, &params.with_basedirs(folders.as_slice()))?;
+    Ok(key)
+}
+
+#[test]
+fn folders_are_left_out_of_what_is_hashed(rt: HostRuntime) -> Result<(), Fail> {
+    let alloc = rt.alloc();
+    let key = key_without_a_folder(alloc)?;
+    let want = digest_of(alloc, b"d\x0011c-I/inc\xff# 1 \"/foo.c\"")?;
+    assert_eq!(rt; key.as_str(), want.as_str());
+    Ok(())
+}

@@ -16,3 +16,5 @@ mod keys;
 mod print_tool;
 #[cfg(test)]
 mod records;
+#[cfg(test)]
+mod values;
