@@ -25,3 +25,4 @@ mod sessions;
 mod support;
 #[cfg(test)]
 mod uses;
+mod values;
