@@ -1,4 +1,3 @@
 pub mod Summed
 pub mod Tallied
 pub mod Texts
-pub mod Utf8Laws

@@ -3,4 +3,3 @@ pub mod Outcomes
 pub mod Reasons
 pub mod Summaries
 pub mod Tallies
-pub mod Verdicts

@@ -11,4 +11,3 @@ pub mod summary;
 pub mod tally;
 pub mod telling;
 pub mod told;
-pub mod verdict;

@@ -16,5 +16,3 @@ mod keys;
 mod memory;
 #[cfg(test)]
 mod refusals;
-#[cfg(test)]
-mod values;

@@ -25,4 +25,3 @@ mod sessions;
 mod support;
 #[cfg(test)]
 mod uses;
-mod values;
