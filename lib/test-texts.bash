@@ -36,16 +36,14 @@ texts() {
     "$host" "$cc" -c it.c -o it.o
     "$host" "$cc" -c it.c -o it.o
     is "$cc: the time" since 0 0
-    SOURCE_DATE_EPOCH=1 "$host" "$cc" -c it.c -o it.o
-    SOURCE_DATE_EPOCH=1 "$host" "$cc" -c it.c -o it.o
-    SOURCE_DATE_EPOCH=1 $cc -c it.c -o plain.o
-    is "$cc: a time that is set: object" cmp -s plain.o it.o
-    is "$cc: a time that is set" since "$(set_time_kept "$cc")" "$(set_time_kept "$cc")"
+    # One that is set is the text's own. Clang 14 doesn't go by that variable.
+    if [ "$(echo __TIME__ | SOURCE_DATE_EPOCH=1 "$cc" -E -P -x c -)" = '"00:00:01"' ]; then
+        SOURCE_DATE_EPOCH=1 "$host" "$cc" -c it.c -o it.o
+        SOURCE_DATE_EPOCH=1 "$host" "$cc" -c it.c -o it.o
+        SOURCE_DATE_EPOCH=1 $cc -c it.c -o plain.o
+        is "$cc: a time that is set: object" cmp -s plain.o it.o
+        is "$cc: a time that is set" since 1 1
+    fi
     text_case "$cc" "a text like an old time" 'const char *time = "00:00:02";' 1 1
     cd "$work" || return
-}
-
-# Clang 14 doesn't go by SOURCE_DATE_EPOCH, so that the time is that of the call; GCC does.
-set_time_kept() {
-    [ "$(echo __TIME__ | SOURCE_DATE_EPOCH=1 "$1" -E -P -x c -)" = '"00:00:01"' ] && echo 1 || echo 0
 }
