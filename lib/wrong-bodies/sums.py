@@ -60,8 +60,7 @@ def without_bodies(text):
         if found.start() < at:
             continue
         line = text.rfind("\n", 0, found.start()) + 1
-        is_hidden = not text[line : found.start()].strip()
-        is_hidden = is_hidden and line == found.start()
+        is_hidden = line == found.start()
         parts.append(text[at : found.start()])
         end = begin = found.end()
         while end < len(text) and text[end] != ";":
@@ -99,9 +98,15 @@ def files(crate, *parts):
     return sorted(it for it in found if os.path.isfile(it))
 
 
+@functools.lru_cache(maxsize=None)
+def kit():
+    """The kit's version, as it tells it."""
+    return subprocess.run(["rt", "version"], capture_output=True, check=True).stdout
+
+
 def sum_of(crate, below):
     """The sum of all that a verdict on the crate's edits rests on."""
-    sum = hashlib.sha256(subprocess.run(["rt", "version"], capture_output=True, check=True).stdout)
+    sum = hashlib.sha256(kit())
     for path in files(crate, "src/**/*", "specs/**/*", "proofs/**/*", "wrong-bodies/*.edit", "must-fail/*.edit"):
         sum.update(repr((os.path.relpath(path, TOP), plain(path))).encode())
     for other in below[crate]:
