@@ -32,7 +32,7 @@ static char **words;                        /* the compiler's own words, its nam
 static char compiler[PATH_MAX];             /* the file that is run */
 static char self[PATH_MAX];                 /* this host's own file */
 static char kept[PATH_MAX];                 /* the folder of what is kept */
-static int text, messages, printed;         /* files in memory, in which a command's output goes */
+static int text, messages, printed, list;   /* files in memory, in which a command's output goes, and the files that a text is made of */
 static void (*pipe_signal)(int);            /* what the caller does at a broken pipe */
 static int was_closed[3];                   /* which of the first three files the caller had closed */
 static sigset_t stops, callers;             /* the signals that stop a compiler, and those that the caller had blocked */
@@ -162,7 +162,8 @@ static int make_files(void) {
     text = memfd_create("text", MFD_CLOEXEC);
     messages = memfd_create("messages", MFD_CLOEXEC);
     printed = memfd_create("printed", MFD_CLOEXEC);
-    return text < 0 || messages < 0 || printed < 0 ? -1 : 0;
+    list = memfd_create("list", MFD_CLOEXEC);
+    return text < 0 || messages < 0 || printed < 0 || list < 0 ? -1 : 0;
 }
 
 /* ---- Signals. */
@@ -211,6 +212,7 @@ static int run(char **line, int output, int errors) {
     posix_spawn_file_actions_init(&actions);
     posix_spawn_file_actions_adddup2(&actions, output, 1);
     posix_spawn_file_actions_adddup2(&actions, errors, 2);
+    if (output == text) posix_spawn_file_actions_adddup2(&actions, list, list);
     posix_spawnattr_init(&attributes);
     sigemptyset(&defaults);
     if (pipe_signal != SIG_IGN) sigaddset(&defaults, SIGPIPE);
@@ -327,6 +329,7 @@ static void tell_command_line(void) {
     tell_file(text);
     tell_file(messages);
     tell_file(printed);
+    tell_file(list);
     tell_own_name();
     add_string(compiler);
     add_string(dir);
@@ -412,6 +415,7 @@ static int start(const char *program, int *to, int *from, pid_t *child) {
     posix_spawn_file_actions_adddup2(&actions, text, text);
     posix_spawn_file_actions_adddup2(&actions, messages, messages);
     posix_spawn_file_actions_adddup2(&actions, printed, printed);
+    posix_spawn_file_actions_adddup2(&actions, list, list);
     posix_spawnattr_init(&attributes);
     posix_spawnattr_setsigmask(&attributes, &stops);
     posix_spawnattr_setflags(&attributes, POSIX_SPAWN_SETSIGMASK);

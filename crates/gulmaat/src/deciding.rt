@@ -4,16 +4,17 @@ ghost use Rattle.std.specs.Prelude.{◌≡◌, ◌≤◌};
 
 use crate::kept::{Hint, found, hint_at, hint_name, keep, kept_under, note_hint, renew};
 use crate::known::Known;
-use crate::passing::reason_against;
 use crate::why::note_fingerprint;
+use call_requests::call::{Call, call_of};
+use call_requests::passing::reason_against;
 use fingerprints::fingerprint::request_fingerprint;
 use kept_entries::entry::KeptMessages;
 use kept_folder::folder::Kind;
 use kept_folder::making_room::make_room;
 use kept_pairs::entries::Kept;
 use kept_pairs::record_files::{name_of_record, put_record};
-use known_compilers::compilers::{KnownCompiler, compiler_at, kind_of};
-use loaded_files::outputs::{print_again, write_outputs};
+use known_compilers::compilers::kind_of;
+use loaded_files::outputs::{print_again, write_dependencies, write_outputs};
 use os_files::listed::Listed;
 use os_files::os_bytes::OsBytes;
 use replay::kept_session::{SessionAnswer, answered, session_over};
@@ -48,85 +49,18 @@ fn pass(alloc: Global, reason: &str) -> Result<End, Stop> {
     Ok(End::Pass(String::from_str(alloc, reason)?))
 }
 
-/// Copies of the words.
-fn words_again(alloc: Global, words: &[OsBytes]) -> Result<Listed<OsBytes>, Stop> {
-    let mut copies = Listed::new(alloc);
-    for word in words {
-        copies.push(word.clone()?)?;
-    }
-    Ok(copies)
-}
-
-/// Variables that shells and Make set from call to call, and that no compiler reads.
-const IDLE: [&str; 8] = [
-    "_",
-    "OLDPWD",
-    "SHLVL",
-    "MAKEFLAGS",
-    "MAKELEVEL",
-    "MAKE_TERMERR",
-    "MAKE_TERMOUT",
-    "MFLAGS",
-];
-
-/// Whether it is a variable that no compiler reads.
-fn is_idle(name: &[u8]) -> bool {
-    IDLE.iter().any(|variable| name == variable.as_bytes())
-}
-
-/// Copies of the variables but those that no compiler reads.
-fn env_again(
-    alloc: Global,
-    env: &[(OsBytes, OsBytes)],
-) -> Result<Listed<(OsBytes, OsBytes)>, Stop> {
-    let mut copies = Listed::new(alloc);
-    for (name, value) in env {
-        if is_idle(name.as_bytes()) {
-            continue;
-        }
-        let name = name.clone()?;
-        copies.push((name, value.clone()?))?;
-    }
-    Ok(copies)
-}
-
-/// The request of the command line, and whether its compiler takes the word by which its messages are in colour.
-fn request_of<P: Print + Files + AllocGlobal, I: Read>(
-    rt: &P,
-    line: &CommandLine,
-    host: &mut Host<I>,
-    kind: CCompilerKind,
-) -> Result<(Request, bool), Stop>
-    requires { host.old.compiled ≡ 0 }
-    ensures { host.new.compiled ≡ 0 }
-{
-    let words = words_again(rt.alloc(), line.words.as_slice())?;
-    let env = env_again(rt.alloc(), line.env.as_slice())?;
-    let dir = line.dir.clone()?;
-    let KnownCompiler {
-        compiler,
-        takes_color,
-    } = compiler_at(rt, line, host, kind)?;
-    let request = Request {
-        compiler,
-        words,
-        dir,
-        env,
-        moment: line.second(),
-    };
-    Ok((request, takes_color))
-}
-
-/// Puts kept outputs where the request wants them, and has printed again what was printed beside them.
+/// Puts kept outputs and a dependency file where the request wants them, and has printed again what was printed beside them.
 fn give<R: Files + AllocGlobal>(
     rt: &R,
     line: &CommandLine,
     outputs: &[Output],
     messages: Option<&KeptMessages>,
+    known: &Known,
 ) -> Result<(), Stop> {
     let Some(messages) = messages else {
         return Err(Stop::Unreadable);
     };
+    write_dependencies(rt, known.dependency_file(), messages)?;
     write_outputs(rt, outputs)?;
     print_again(rt, line, messages)
 }
@@ -184,13 +118,13 @@ fn finish<R: Files + AllocGlobal>(
 ) -> Result<(), Stop> {
     let fresh = how == How::Fresh;
     if !fresh {
-        give(rt, line, outputs, messages)?;
+        give(rt, line, outputs, messages, known)?;
     }
     let Some(key) = answered.session.objects().asked() else {
         return Ok(());
     };
     if fresh {
-        keep(rt, line, key, outputs, known.messages()?)?;
+        keep(rt, line, key, outputs, known.messages(rt, line)?)?;
     } else {
         let _ = renew(rt, line, &key.digest);
     }
@@ -349,6 +283,10 @@ fn act_on<P: Print + Files + AllocGlobal, I: Read>(
     let alloc = rt.alloc();
     match &answered.answer {
         Ok(Answer::Outputs { map, how, .. }) => {
+            let key = answered.session.objects().asked();
+            if *how != How::Fresh && !known.may_give(rt, line, key, messages)? {
+                return Ok(None);
+            }
             let outputs = map.as_slice();
             finish(rt, line, hint, answered, *how, outputs, messages, known)?;
             Ok(Some(End::Done(*how)))
@@ -513,22 +451,34 @@ fn ask_and_note<P: Print + Files + AllocGlobal, I: Read>(
     end
 }
 
-/// Asks the session about the request to a compiler of that kind, of which nothing is known yet.
+/// Asks the session about a call of a compiler of that kind, of which nothing is known yet.
 fn ask_about<P: Print + Files + AllocGlobal, I: Read>(
     rt: &P,
     line: &CommandLine,
     host: &mut Host<I>,
     kind: CCompilerKind,
-    request: &Request,
-    takes_color: bool,
+    call: Call,
 ) -> Result<End, Stop>
     requires { host.old.compiled ≡ 0 }
     ensures once { host.new.compiled ≤ 1 }
 {
-    let basedirs = basedirs_of(rt.alloc(), line)?;
-    let hint = hint_name(rt.alloc(), line)?;
-    let mut known = Known::new(rt.alloc(), kind, takes_color, zone_of(line), basedirs);
-    ask_and_note(rt, line, host, request, hint.as_str(), &mut known)
+    let alloc = rt.alloc();
+    let Call {
+        request,
+        takes_color,
+        dependencies,
+    } = call;
+    let basedirs = basedirs_of(alloc, line)?;
+    let hint = hint_name(alloc, line)?;
+    let mut known = Known::new(
+        alloc,
+        kind,
+        takes_color,
+        dependencies,
+        zone_of(line),
+        basedirs,
+    );
+    ask_and_note(rt, line, host, &request, hint.as_str(), &mut known)
 }
 
 /// Asks the session about the command line of a compiler of that kind.
@@ -541,8 +491,8 @@ fn ask<P: Print + Files + AllocGlobal, I: Read>(
     requires { host.old.compiled ≡ 0 }
     ensures once { host.new.compiled ≤ 1 }
 {
-    let (request, takes_color) = request_of(rt, line, host, kind)?;
-    ask_about(rt, line, host, kind, &request, takes_color)
+    let call = call_of(rt, line, host, kind)?;
+    ask_about(rt, line, host, kind, call)
 }
 
 /// Decides on the command line.

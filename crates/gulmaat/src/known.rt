@@ -9,14 +9,18 @@ use kept_folder::error::FolderError;
 use kept_pairs::entries::Kept;
 use kept_pairs::record_files::record_under;
 use kept_pairs::records::FoundRecord;
+use known_options::dependencies::Dependencies;
 use known_options::text_words::text_words;
+use loaded_files::lists::{digest_of_list, names_files_of};
 use loaded_files::loading::{load, load_all, load_named};
-use loaded_files::outputs::made_at;
+use loaded_files::outputs::{made_at, regular};
+use loaded_files::precompiled::has_precompiled;
 use os_files::listed::Listed;
 use os_files::os_bytes::OsBytes;
 use replay::replay_tool::{RecordedOutputs, RecordedText, ReplayTool, Wanted};
 use replay::snapshot_files::SnapshotFiles;
 use replay::watched_records::pair_again;
+use settings::key::Key;
 use std::alloc::Global;
 use std::fs;
 use std::io::Read;
@@ -28,8 +32,12 @@ use wrap::{
     Step, StoreKey, Zone,
 };
 use wrapper_host::command_line::CommandLine;
+use wrapper_host::fields::into_text;
 use wrapper_host::host::{Ended, Host};
 use wrapper_host::stop::Stop;
+use written_lines::asked::Asked;
+use written_lines::lines::digest_asked;
+use written_lines::sources::Sources;
 
 /// Files and answers that are known so far.
 #[derive(Drop)]
@@ -37,6 +45,8 @@ pub struct Known {
     pub kind: CCompilerKind,
     /// Whether the compiler takes the word by which its messages are in colour.
     takes_color: bool,
+    /// What the words say of a dependency file; nothing where the session is told of it.
+    dependencies: Option<Dependencies>,
     /// The zone in which days are told, where direct mode is on.
     pub zone: Option<Zone>,
     /// The folders that don't count.
@@ -53,6 +63,10 @@ pub struct Known {
     record_name: String,
     /// The file that was loaded last.
     loaded: Option<OsBytes>,
+    /// The files of the text, as the compiler lists them for a dependency file; nothing where none is asked for.
+    list: OsBytes,
+    /// The dependency file that the compile wrote.
+    written: Option<OsBytes>,
     /// What the preprocessor printed on its standard error; nothing where it didn't run.
     pub preprocessor: OsBytes,
     /// What the compile printed on its standard output and its standard error; nothing where it didn't run.
@@ -66,12 +80,14 @@ impl Known {
         alloc: Global,
         kind: CCompilerKind,
         takes_color: bool,
+        dependencies: Option<Dependencies>,
         zone: Option<Zone>,
         basedirs: Listed<OsBytes>,
     ) -> Known {
         Known {
             kind,
             takes_color,
+            dependencies,
             zone,
             basedirs,
             files: SnapshotFiles::new(alloc),
@@ -81,6 +97,8 @@ impl Known {
             record_kept: None,
             record_name: String::new(alloc),
             loaded: None,
+            list: OsBytes::empty(alloc),
+            written: None,
             preprocessor: OsBytes::empty(alloc),
             printed: OsBytes::empty(alloc),
             errors: OsBytes::empty(alloc),
@@ -194,6 +212,107 @@ impl Known {
         }
     }
 
+    /// The path of the dependency file, where one is asked for.
+    pub fn dependency_file(&self) -> Option<&OsBytes> {
+        match &self.dependencies {
+            Some(dependencies) => dependencies.file.as_ref(),
+            None => None,
+        }
+    }
+
+    /// Whether a dependency file is to be there after the call.
+    fn wants_dependencies(&self) -> bool {
+        match self.dependency_file() {
+            Some(path) => path.as_bytes() != b"/dev/null".as_slice(),
+            None => false,
+        }
+    }
+
+    /// Whether messages may be printed again: a line that they quote is as it was. By a record all files are as they were.
+    fn may_print_again<R: std::rt::Files + AllocGlobal>(
+        &self,
+        rt: &R,
+        line: &CommandLine,
+        messages: &KeptMessages,
+    ) -> Result<bool, Stop> {
+        if messages.sources.is_none() || self.tool.text.is_none() {
+            return Ok(true);
+        }
+        Ok(self.digest_of_sources(rt, line)? == messages.sources)
+    }
+
+    /// Whether outputs may be given that were kept beside these. Where they may not, they are a miss from now on.
+    pub fn may_give<R: std::rt::Files + AllocGlobal>(
+        &mut self,
+        rt: &R,
+        line: &CommandLine,
+        key: Option<&StoreKey>,
+        messages: Option<&KeptMessages>,
+    ) -> Result<bool, Stop> {
+        let Some(messages) = messages else {
+            return Ok(true);
+        };
+        let is_whole = messages.dependencies.is_some() || !self.wants_dependencies();
+        if is_whole && self.may_print_again(rt, line, messages)? {
+            return Ok(true);
+        }
+        if let Some(key) = key {
+            self.looked_up = Some(key.digest.clone()?);
+        }
+        Ok(false)
+    }
+
+    /// The words by which the compiler prints the text, and lists the files that it read where a dependency file is asked for.
+    fn words_for_text(&self, alloc: Global, line: &CommandLine) -> Result<Listed<OsBytes>, Stop> {
+        let Some(dependencies) = &self.dependencies else {
+            return Ok(text_words(alloc, line.words.as_slice(), None)?);
+        };
+        let list = dependencies.file.as_ref().map(|_| line.list.as_str());
+        Ok(text_words(alloc, dependencies.others.as_slice(), list)?)
+    }
+
+    /// The text that was printed, and behind it what it doesn't say of its sources: the digest of lines as they were written, and that of the
+    /// list of its files, where a dependency file is asked for.
+    fn text_at<R: std::rt::Files + AllocGlobal>(
+        &mut self,
+        rt: &R,
+        line: &CommandLine,
+    ) -> Result<Vec<u8>, Stop> {
+        let alloc = rt.alloc();
+        let mut text = fs::read(rt, line.text.as_str())?;
+        refuse_text(line, text.as_slice())?;
+        if text.is_empty() {
+            return Ok(text);
+        }
+        if has_precompiled(rt, line, text.as_slice())? {
+            return Err(Stop::Precompiled);
+        }
+        let lines = lines_of(rt, line, self.kind, text.as_slice())?;
+        push_digest(&mut text, "lines as they were written", lines.as_bytes())?;
+        if self.dependency_file().is_some() {
+            self.list = OsBytes::from_vec(fs::read(rt, line.list.as_str())?);
+            let digest = digest_of_list(alloc, self.list.as_bytes())?;
+            push_digest(&mut text, "files for Make", digest.as_bytes())?;
+        }
+        Ok(text)
+    }
+
+    /// The digest of all files that the text names; nothing where there is no text, or a line may be of another file than a marker says.
+    fn digest_of_sources<R: std::rt::Files + AllocGlobal>(
+        &self,
+        rt: &R,
+        line: &CommandLine,
+    ) -> Result<Option<OsBytes>, Stop> {
+        let Some(recorded) = &self.tool.text else {
+            return Ok(None);
+        };
+        let sources = Sources::of(rt, line, recorded.printed.text.as_bytes())?;
+        if sources.are_renumbered() {
+            return Ok(None);
+        }
+        Ok(Some(sources.digest(rt.alloc(), true)?))
+    }
+
     /// Has the host preprocess by the caller's own words, and records the text as that of the session's.
     fn record_text<P: Print + std::rt::Files + AllocGlobal, I: Read>(
         &mut self,
@@ -204,11 +323,10 @@ impl Known {
     ) -> Result<(), Stop>
         ensures { host.new.compiled ≡ host.old.compiled }
     {
-        let own = text_words(rt.alloc(), line.words.as_slice())?;
+        let own = self.words_for_text(rt.alloc(), line)?;
         let ended = host.preprocess(rt, rt.alloc(), own.as_slice())?;
         self.preprocessor = printed_at(rt, &ended, line.errors.as_str())?;
-        let text = OsBytes::from_vec(fs::read(rt, line.text.as_str())?);
-        refuse_text(line, text.as_bytes())?;
+        let text = OsBytes::from_vec(self.text_at(rt, line)?);
         let status = ended.status;
         self.tool.text = Some(RecordedText {
             kind: self.kind,
@@ -245,6 +363,25 @@ impl Known {
         Ok(own)
     }
 
+    /// Takes the dependency file that the compile wrote. What is missing, or names files that the text doesn't have, isn't kept.
+    fn take_written<R: std::rt::Files + AllocGlobal>(&mut self, rt: &R) -> Result<(), Stop> {
+        if !self.wants_dependencies() {
+            return Ok(());
+        }
+        let Some(path) = self.dependency_file() else {
+            return Ok(());
+        };
+        let path = into_text(path.clone()?)?;
+        let Some(written) = regular(rt, path.as_str()) else {
+            return Err(Stop::Changed);
+        };
+        if !names_files_of(rt.alloc(), written.as_bytes(), self.list.as_bytes())? {
+            return Err(Stop::Changed);
+        }
+        self.written = Some(written);
+        Ok(())
+    }
+
     /// Has the host compile by the caller's own words, and records what was made of these names at these paths as what the session's words
     /// make.
     fn record_outputs<P: Print + std::rt::Files + AllocGlobal, I: Read>(
@@ -266,6 +403,9 @@ impl Known {
         self.errors = printed_at(rt, &ended, line.errors.as_str())?;
         let contents = made_at(rt, paths)?;
         let status = ended.status;
+        if status == 0 {
+            self.take_written(rt)?;
+        }
         self.tool.outputs = Some(RecordedOutputs {
             kind: self.kind,
             words,
@@ -296,12 +436,34 @@ impl Known {
         Ok(true)
     }
 
-    /// Copies of what was printed beside the outputs that the compiler made.
-    pub fn messages(&self) -> Result<KeptMessages, Stop> {
+    /// Whether the compile printed nothing.
+    fn was_silent(&self) -> bool {
+        self.printed.as_bytes().is_empty() && self.errors.as_bytes().is_empty()
+    }
+
+    /// Copies of what was printed and written beside the outputs that the compiler made. Messages that can't be told to be as they would be
+    /// in another call are an error.
+    pub fn messages<R: std::rt::Files + AllocGlobal>(
+        &self,
+        rt: &R,
+        line: &CommandLine,
+    ) -> Result<KeptMessages, Stop> {
+        let mut sources = None;
+        if !self.was_silent() {
+            sources = self.digest_of_sources(rt, line)?;
+            if sources.is_none() {
+                return Err(Stop::Quotes);
+            }
+        }
         Ok(KeptMessages {
             preprocessor: self.preprocessor.clone()?,
             printed: self.printed.clone()?,
             errors: self.errors.clone()?,
+            dependencies: match &self.written {
+                Some(written) => Some(written.clone()?),
+                None => None,
+            },
+            sources,
         })
     }
 
@@ -331,6 +493,33 @@ impl Known {
             (_, _) => Ok(false),
         }
     }
+}
+
+/// The digest of what a text doesn't say of its sources, as far as what is made of it hangs on that; an empty one where nothing does.
+fn lines_of<R: std::rt::Files + AllocGlobal>(
+    rt: &R,
+    line: &CommandLine,
+    kind: CCompilerKind,
+    text: &[u8],
+) -> Result<OsBytes, Stop> {
+    let alloc = rt.alloc();
+    let asked = Asked::by(kind, line.words.as_slice(), text);
+    if asked == Asked::Nothing || !line.settings.value_of(Key::Sloppiness).is_empty() {
+        return Ok(OsBytes::empty(alloc));
+    }
+    let sources = Sources::of(rt, line, text)?;
+    digest_asked(alloc, asked, text, &sources)
+}
+
+/// Puts a digest behind a text, as lines of a file that is none. An empty one isn't put there.
+fn push_digest(text: &mut Vec<u8>, name: &str, digest: &[u8]) -> Result<(), Stop> {
+    if digest.is_empty() {
+        return Ok(());
+    }
+    text.extend_from_slice(b"\n# 1 \"<")?;
+    text.extend_from_slice(name.as_bytes())?;
+    text.extend_from_slice(b">\"\n")?;
+    Ok(text.extend_from_slice(digest)?)
 }
 
 /// Refuses a text by which what is made of it can't be found again.

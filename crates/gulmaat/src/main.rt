@@ -11,7 +11,6 @@ mod counting;
 mod deciding;
 mod kept;
 mod known;
-mod passing;
 mod why;
 
 use counting::note;

@@ -13,7 +13,9 @@ use kept_folder::making_room::make_room;
 use kept_pairs::part_files::{name_of_parts, parts_under, put_parts};
 use kept_pairs::parts::{kept_parts, parts_of};
 use kept_pairs::short_text::{TextDifference, short_text};
+use key_additions::additions::difference;
 use known_compilers::compilers::kind_of;
+use known_options::dependencies::dependencies_of;
 use os_files::listed::Listed;
 use os_files::os_bytes::OsBytes;
 use replay::snapshot_files::SnapshotFiles;
@@ -64,6 +66,13 @@ fn difference_of(alloc: Global, one: &Fingerprint, earlier: &Fingerprint) -> Res
         (Some(Part::Text), Fingerprint::C(parts), Fingerprint::C(others)) => {
             let told = TextDifference::between(alloc, &parts.text, &others.text)?;
             Ok(format!(in alloc; "{}: {told}", Part::Text)?)
+        }
+        (Some(Part::Variables), Fingerprint::C(parts), Fingerprint::C(others)) => {
+            let variables = parts.variables.as_slice();
+            match difference(alloc, variables, others.variables.as_slice())? {
+                Some(told) => Ok(told),
+                None => Ok(format!(in alloc; "{}", Difference { one, earlier })?),
+            }
         }
         _ => Ok(format!(in alloc; "{}", Difference { one, earlier })?),
     }
@@ -264,7 +273,10 @@ fn tell_command<R: Print + Files + AllocGlobal>(
 ) -> Result<(), Stop> {
     let dir = OsBytes::from_slice(rt.alloc(), dir.as_bytes())?;
     let words = words_in(rt.alloc(), words)?;
-    tell_words(rt, kept, kind, &dir, words.as_slice())
+    match dependencies_of(rt.alloc(), words.as_slice())? {
+        Some(found) => tell_words(rt, kept, kind, &dir, found.others.as_slice()),
+        None => tell_words(rt, kept, kind, &dir, words.as_slice()),
+    }
 }
 
 /// Says in a line, of the last call in that folder with the outputs of this command that was compiled, what differed from the one before

@@ -75,7 +75,10 @@ shape_format =
 
 pub messages_format : IsFormat messages_at messages_bytes MessagesFit
 unfolding messages_at
-messages_format = made_format messages_from messages_fields _ _ _ (λ x. refl) (λ y. refl) (both_format _ _ _ _ _ _ framed_format (both_format _ _ _ _ _ _ framed_format framed_format))
+messages_format =
+    let last = both_format _ _ _ _ _ _ (optional_format _ _ _ framed_format) (optional_format _ _ _ framed_format) in
+    let fields = both_format _ _ _ _ _ _ framed_format (both_format _ _ _ _ _ _ framed_format (both_format _ _ _ _ _ _ framed_format last)) in
+    made_format messages_from messages_fields _ _ _ (λ x. refl) (λ y. refl) fields
 
 pub contents_format : IsFormat contents_at contents_bytes EntryFits
 unfolding contents_at

@@ -34,11 +34,14 @@ shape_fields s = (s.language, (s.compiler_digest, (s.words, (s.extra_hashes, (s.
 abbrev pub shape_from : ShapeFields → KeptShape
 shape_from f = record { language = f.0; compiler_digest = f.1.0; words = f.1.1.0; extra_hashes = f.1.1.1.0; assembler_digest = f.1.1.1.1.0; variables = f.1.1.1.1.1 }
 
-abbrev pub messages_fields : KeptMessages → Bytes × (Bytes × Bytes)
-messages_fields m = (m.preprocessor, (m.printed, m.errors))
+abbrev pub MessagesFields : Type 0
+MessagesFields = Bytes × (Bytes × (Bytes × (Option Bytes × Option Bytes)))
 
-abbrev pub messages_from : Bytes × (Bytes × Bytes) → KeptMessages
-messages_from f = record { preprocessor = f.0; printed = f.1.0; errors = f.1.1 }
+abbrev pub messages_fields : KeptMessages → MessagesFields
+messages_fields m = (m.preprocessor, (m.printed, (m.errors, (m.dependencies, m.sources))))
+
+abbrev pub messages_from : MessagesFields → KeptMessages
+messages_from f = record { preprocessor = f.0; printed = f.1.0; errors = f.1.1.0; dependencies = f.1.1.1.0; sources = f.1.1.1.1 }
 
 abbrev pub EntryFields : Type 0
 EntryFields = KeptShape × (List KeptName × (Bytes × (List KeptOutput × KeptMessages)))
@@ -60,7 +63,7 @@ abbrev pub shape_bytes : KeptShape → Bytes
 shape_bytes s = both (coded language_code) (both number (both number (both (counted number) (both (optional number) number)))) (shape_fields s)
 
 abbrev pub messages_bytes : KeptMessages → Bytes
-messages_bytes m = both framed (both framed framed) (messages_fields m)
+messages_bytes m = both framed (both framed (both framed (both (optional framed) (optional framed)))) (messages_fields m)
 
 abbrev pub contents_bytes : KeptEntry → Bytes
 contents_bytes e = both shape_bytes (both (counted name_bytes) (both framed (both (counted output_bytes) messages_bytes))) (entry_fields e)
@@ -79,7 +82,7 @@ abbrev pub ShapeFits : KeptShape → Type 0
 ShapeFits s = BothFit AnyFits (BothFit FitsNumber (BothFit FitsNumber (BothFit (CountFits FitsNumber) (BothFit (IfFits FitsNumber) FitsNumber)))) (shape_fields s)
 
 abbrev pub MessagesFit : KeptMessages → Type 0
-MessagesFit m = BothFit FitsFrame (BothFit FitsFrame FitsFrame) (messages_fields m)
+MessagesFit m = BothFit FitsFrame (BothFit FitsFrame (BothFit FitsFrame (BothFit (IfFits FitsFrame) (IfFits FitsFrame)))) (messages_fields m)
 
 abbrev pub EntryFits : KeptEntry → Type 0
 EntryFits e = BothFit ShapeFits (BothFit (CountFits NameFits) (BothFit FitsFrame (BothFit (CountFits OutputFits) MessagesFit))) (entry_fields e)
@@ -95,14 +98,14 @@ unfoldable pub shape_at : Bytes → Read KeptShape
 shape_at = made_at shape_from (both_at (coded_at language_of) (both_at number_at (both_at number_at (both_at (counted_at number_at) (both_at (optional_at number_at) number_at)))))
 
 unfoldable pub messages_at : Bytes → Read KeptMessages
-messages_at = made_at messages_from (both_at framed_at (both_at framed_at framed_at))
+messages_at = made_at messages_from (both_at framed_at (both_at framed_at (both_at framed_at (both_at (optional_at framed_at) (optional_at framed_at)))))
 
 unfoldable pub contents_at : Bytes → Read KeptEntry
 contents_at = made_at entry_from (both_at shape_at (both_at (counted_at name_at) (both_at framed_at (both_at (counted_at output_at) messages_at))))
 
 -- the version of this layout
 abbrev pub layout_version : ℕ
-layout_version = 2
+layout_version = 3
 
 -- an entry's bytes: the version and its contents, and the digest of these
 abbrev pub entry_bytes : (Bytes → Bytes) → KeptEntry → Bytes

@@ -29,7 +29,7 @@ pub struct KeptOutput {
     pub contents: OsBytes,
 }
 
-/// What was printed beside outputs, byte for byte.
+/// What was printed and written beside outputs, byte for byte.
 #[derive(Drop)]
 pub struct KeptMessages {
     /// What the preprocessor printed on its standard error.
@@ -38,6 +38,10 @@ pub struct KeptMessages {
     pub printed: OsBytes,
     /// And on its standard error.
     pub errors: OsBytes,
+    /// The dependency file that the compile wrote, where it was asked for one.
+    pub dependencies: Option<OsBytes>,
+    /// A digest of all files that the text names, where the compile printed something: it may quote any line of them.
+    pub sources: Option<OsBytes>,
 }
 
 /// What a compile of a C compiler made, under its whole key.

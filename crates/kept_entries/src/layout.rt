@@ -99,7 +99,8 @@ impl Field for KeptShape {
     }
 }
 
-/// The preprocessor's messages, and what the compile printed on its standard output and its standard error.
+/// The preprocessor's messages, what the compile printed on its standard output and its standard error, its dependency file, and the digest
+/// of the sources.
 impl Field for KeptMessages {
     ghost reads = { messages_at };
 
@@ -114,10 +115,14 @@ impl Field for KeptMessages {
         let (preprocessor, rest) = OsBytes::read(alloc, bytes)?;
         let (printed, rest) = OsBytes::read(alloc, rest)?;
         let (errors, rest) = OsBytes::read(alloc, rest)?;
+        let (dependencies, rest) = Option::<OsBytes>::read(alloc, rest)?;
+        let (sources, rest) = Option::<OsBytes>::read(alloc, rest)?;
         let messages = KeptMessages {
             preprocessor,
             printed,
             errors,
+            dependencies,
+            sources,
         };
         Ok((messages, rest))
     }
@@ -126,6 +131,8 @@ impl Field for KeptMessages {
         self.preprocessor.put(out)?;
         self.printed.put(out)?;
         self.errors.put(out)?;
+        self.dependencies.put(out)?;
+        self.sources.put(out)?;
         Ok(())
     }
 }

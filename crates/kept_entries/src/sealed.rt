@@ -19,7 +19,7 @@ use ckeys_base::hash_state::HashState;
 use std::alloc::{AllocError, Global};
 
 /// The version of the layout of entries, which each begins with.
-const ENTRY_VERSION: u8 = 2;
+const ENTRY_VERSION: u8 = 3;
 
 /// That of include records.
 const RECORD_VERSION: u8 = 1;

@@ -3,11 +3,10 @@
 ghost use Rattle.std.specs.Prelude.{◌≡◌};
 
 use crate::parts::{Driver, driver_of};
-use byte_formats::fields::put_framed;
 use ckeys::compiler::CCompiler;
 use cmdlines::found::FoundCompiler;
 use cmdlines_tables::compiler::CCompilerKind;
-use kept_folder::file_digests::digest_of;
+use key_additions::additions::Additions;
 use os_files::os_bytes::OsBytes;
 use recorded_builds::executables::{EntryCompiler, compiler_of};
 use std::alloc::Global;
@@ -65,25 +64,27 @@ fn file_name(path: &str) -> &str {
     }
 }
 
-/// The digest of a compiler with what it does differently by its name, as a Clang that is called as one of C++ or for another machine, and by
-/// its variables, though no text shows it: its messages, and of a Clang the folder, whose name it writes into objects.
-fn digest_here(
+/// Adds what a compiler does differently by its name, as a Clang that is called as one of C++ or for another machine, and by variables, though
+/// no text shows it: its messages, and of a Clang the folder, whose name it writes into objects.
+pub fn add_surroundings(
     alloc: Global,
     line: &CommandLine,
     kind: CCompilerKind,
-    digest: &str,
-) -> Result<String, Stop> {
-    let mut row = Vec::new(alloc);
-    put_framed(&mut row, digest.as_bytes())?;
-    put_framed(&mut row, file_name(line.executable.as_str()).as_bytes())?;
+    additions: &mut Additions,
+) -> Result<(), Stop> {
+    additions.add(
+        alloc,
+        "driver",
+        file_name(line.executable.as_str()).as_bytes(),
+    )?;
     for name in OF_MESSAGES.iter().chain(&OF_OBJECTS) {
-        put_framed(&mut row, line.value_of(name.as_bytes()))?;
+        additions.add_if_any(alloc, name, line.value_of(name.as_bytes()))?;
     }
     if kind == CCompilerKind::Clang {
-        put_framed(&mut row, line.dir.as_bytes())?;
-        put_framed(&mut row, line.value_of(b"PWD"))?;
+        additions.add(alloc, "folder", line.dir.as_bytes())?;
+        additions.add_if_any(alloc, "PWD", line.value_of(b"PWD"))?;
     }
-    Ok(digest_of(alloc, row.as_slice())?)
+    Ok(())
 }
 
 /// A compiler with its digest.
@@ -107,7 +108,6 @@ pub fn compiler_at<P: Print + Files + AllocGlobal, I: Read>(
     let alloc = rt.alloc();
     let Driver { files, takes_color } = driver_of(rt, line, host, kind)?;
     let digest = line.folder.digest_of_files(rt, files.as_slice())?;
-    let digest = digest_here(alloc, line, kind, digest.as_str())?;
     let executable = OsBytes::from_slice(alloc, line.executable.as_bytes())?;
     let plusplus = is_plusplus(line.executable.as_str());
     let compiler = match kind {

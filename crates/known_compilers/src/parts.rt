@@ -120,6 +120,44 @@ fn takes_word<P: Print + Files + AllocGlobal, I: Read>(
     Ok(ended.status == 0 && ended.silent)
 }
 
+/// Adds the paths at which GCC looks for a file of specs in each call, which may be there or not.
+fn ask_specs<P: Print + Files + AllocGlobal, I: Read>(
+    rt: &P,
+    line: &CommandLine,
+    host: &mut Host<I>,
+    names: &mut Listed<OsBytes>,
+) -> Result<(), Stop>
+    requires { host.old.compiled ≡ 0 }
+    ensures { host.new.compiled ≡ 0 }
+{
+    let said = ask(rt, line, host, "-print-search-dirs")?;
+    let first = said.split(|byte| *byte == b'\n').next();
+    let Some(folder) = first.and_then(|first| first.strip_prefix(b"install: ")) else {
+        return Err(Stop::Parts);
+    };
+    for place in specs_places(rt.alloc(), folder)? {
+        names.push(OsBytes::from_slice(rt.alloc(), place.as_bytes())?)?;
+    }
+    Ok(())
+}
+
+/// The paths at which a GCC of that folder, `PREFIX/MACHINE/VERSION/`, looks for a file of specs.
+fn specs_places(alloc: Global, folder: &[u8]) -> Result<Vec<String>, Stop> {
+    let Ok(folder) = str::from_utf8(folder) else {
+        return Err(Stop::Unreadable);
+    };
+    let mut parts = folder.trim_end_matches('/').rsplit('/');
+    let version = parts.next().unwrap_or("");
+    let machine = parts.next().unwrap_or("");
+    let library = format!(in alloc; "{folder}../../../../{machine}/lib")?;
+    let mut places = Vec::new(alloc);
+    places.push(format!(in alloc; "{folder}specs")?)?;
+    places.push(format!(in alloc; "{library}/{machine}/{version}/specs")?)?;
+    places.push(format!(in alloc; "{library}/specs")?)?;
+    places.push(format!(in alloc; "{folder}../specs")?)?;
+    Ok(places)
+}
+
 /// The word by which the driver's messages are in colour; an empty one where it doesn't take that.
 fn ask_color<P: Print + Files + AllocGlobal, I: Read>(
     rt: &P,
@@ -205,6 +243,7 @@ fn ask_names<P: Print + Files + AllocGlobal, I: Read>(
     for name in RUNS {
         names.push(ask_name(rt, line, host, name)?)?;
     }
+    ask_specs(rt, line, host, &mut names)?;
     Ok(names)
 }
 
@@ -213,8 +252,8 @@ fn word_count(kind: CCompilerKind) -> usize {
     match kind {
         // The word for colours, the assembler and the lists.
         CCompilerKind::Clang => 10,
-        // The word for colours, and what is run.
-        _ => 5,
+        // The word for colours, what is run, and the places of specs.
+        _ => 9,
     }
 }
 
@@ -250,6 +289,14 @@ fn note_said<R: Files + AllocGlobal>(
     Ok(line.folder.put(rt, Kind::Parts, state, bytes.as_slice())?)
 }
 
+/// Whether a driver is a script, of which no file tells what it runs.
+fn is_script<R: Files + AllocGlobal>(rt: &R, path: &str) -> bool {
+    match fs::read(rt, path) {
+        Ok(contents) => contents.starts_with(b"#!"),
+        Err(_) => false,
+    }
+}
+
 /// What the driver says that it takes, runs and reads. It is asked once in each of its states.
 fn names_of<P: Print + Files + AllocGlobal, I: Read>(
     rt: &P,
@@ -264,6 +311,9 @@ fn names_of<P: Print + Files + AllocGlobal, I: Read>(
     let state = state_of(rt, &driver)?;
     if let Ok(names) = said_before(rt, line, state.as_str(), kind) {
         return Ok(names);
+    }
+    if is_script(rt, line.executable.as_str()) {
+        return Err(Stop::Script);
     }
     let names = ask_names(rt, line, host, kind)?;
     note_said(rt, line, state.as_str(), names.as_slice())?;

@@ -87,7 +87,7 @@ fn push_without_object(
 }
 
 /// The path of the dependency file of an object: that with `d` for what stands behind the last dot of its name.
-fn dependency_file(alloc: Global, object: &[u8]) -> Result<Vec<u8>, AllocError> {
+pub(crate) fn dependency_file(alloc: Global, object: &[u8]) -> Result<Vec<u8>, AllocError> {
     let name = match object.rsplit(|byte| *byte == b'/').next() {
         Some(name) => name,
         None => object,
@@ -103,9 +103,14 @@ fn dependency_file(alloc: Global, object: &[u8]) -> Result<Vec<u8>, AllocError> 
     Ok(path)
 }
 
-/// The words by which the compiler prints the text of a command with these words. It writes the dependency file of that command, if one is
-/// asked for: without the object's name it would give that another path and another target.
-pub fn text_words(alloc: Global, words: &[OsBytes]) -> Result<Listed<OsBytes>, AllocError> {
+/// The words by which the compiler prints the text of a command with these words, and writes a list of the files that it read to that place,
+/// where one is given. It writes the dependency file of that command, if the words ask for one: without the object's name it would give
+/// that another path and another target.
+pub fn text_words(
+    alloc: Global,
+    words: &[OsBytes],
+    list: Option<&str>,
+) -> Result<Listed<OsBytes>, AllocError> {
     let mut pushed = Listed::new(alloc);
     push_without_object(alloc, words, &mut pushed)?;
     let found = dependencies_in(words);
@@ -121,6 +126,11 @@ pub fn text_words(alloc: Global, words: &[OsBytes]) -> Result<Listed<OsBytes>, A
         if !found.has_target {
             push(alloc, &mut pushed, b"-MQ")?;
             push(alloc, &mut pushed, object)?;
+        }
+    }
+    if let Some(list) = list {
+        for word in ["-MD", "-MF", list, "-MT", "x"] {
+            push(alloc, &mut pushed, word.as_bytes())?;
         }
     }
     push(alloc, &mut pushed, b"-E")?;

@@ -1,5 +1,6 @@
 //! Which words are known: with these alone the object hangs on the text, the words and the compiler, and nothing else is written.
 
+use crate::dependencies::for_preprocessor;
 use crate::tables::{ASSEMBLER, CLANG, LLVM, VALUED, WHOLE};
 use memchr::{memchr, memmem};
 use os_files::os_bytes::OsBytes;
@@ -214,6 +215,9 @@ fn is_known_option(alloc: Global, word: &[u8]) -> Result<bool, AllocError> {
     if begins_with(&FRONTS, word) {
         return Ok(is_known_front(word));
     }
+    if let Some((_, path)) = for_preprocessor(word) {
+        return Ok(!path.is_empty() && !path.contains(&b',') && is_file(path));
+    }
     if let Some(words) = word.strip_prefix(b"-Wa,") {
         return are_for_assembler(alloc, words);
     }
@@ -258,12 +262,21 @@ fn is_known(alloc: Global, before: &[u8], word: &[u8]) -> Result<bool, AllocErro
     is_known_option(alloc, word)
 }
 
-/// The first of the words that isn't known.
-pub fn unknown_word(alloc: Global, words: &[OsBytes]) -> Result<Option<&OsBytes>, AllocError> {
+/// Whether a user says that a word may be kept: it is one of these, which have spaces between them.
+fn is_allowed(allowed: &str, word: &[u8]) -> bool {
+    allowed.split(' ').any(|it| it.as_bytes() == word)
+}
+
+/// The first of the words that isn't known, and that a user doesn't allow, by a list with spaces between its words.
+pub fn unknown_word<'a>(
+    alloc: Global,
+    words: &'a [OsBytes],
+    allowed: &str,
+) -> Result<Option<&'a OsBytes>, AllocError> {
     let mut before: &[u8] = &[];
     for word in words {
         let bytes = word.as_bytes();
-        if !is_known(alloc, before, bytes)? {
+        if !is_known(alloc, before, bytes)? && !is_allowed(allowed, bytes) {
             return Ok(Some(word));
         }
         // The value of an option takes no other word, whatever it is.

@@ -2,5 +2,7 @@
 //! that are written in its place.
 #![tactic(auto)]
 
+pub mod lists;
 pub mod loading;
 pub mod outputs;
+pub mod precompiled;

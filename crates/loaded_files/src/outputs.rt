@@ -51,6 +51,19 @@ pub fn write_outputs<R: Files + AllocGlobal>(rt: &R, outputs: &[Output]) -> Resu
     Ok(())
 }
 
+/// Writes the dependency file of kept outputs where the request wants it, as compilers do: what lies there is written over.
+pub fn write_dependencies<R: Files + AllocGlobal>(
+    rt: &R,
+    path: Option<&OsBytes>,
+    messages: &KeptMessages,
+) -> Result<(), Stop> {
+    let (Some(path), Some(contents)) = (path, &messages.dependencies) else {
+        return Ok(());
+    };
+    let path = into_text(path.clone()?)?;
+    Ok(fs::write(rt, path.as_str(), contents.as_bytes())?)
+}
+
 /// Has the host print what was printed beside kept outputs, in place of what the preprocessor printed in this call.
 pub fn print_again<R: Files + AllocGlobal>(
     rt: &R,

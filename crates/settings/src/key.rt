@@ -5,6 +5,8 @@ use crate::values::{mask_named, size_named, truth_named};
 /// A key, with ccache's name where it means the same.
 #[derive(Clone, Copy, PartialEq, Eq)]
 pub enum Key {
+    /// Words that may be kept though they aren't known, with spaces between them.
+    AllowOptions,
     /// Folders that don't count in what is compared, with colons between them.
     BaseDir,
     /// The folder of what is kept.
@@ -21,6 +23,8 @@ pub enum Key {
     ReadOnly,
     /// Whether nothing that is kept is given, and all is kept anew.
     Recache,
+    /// What may differ though it counts, as ccache has it: `lines`.
+    Sloppiness,
     /// Whether calls are counted.
     Stats,
     /// The umask under which files and folders of what is kept are made; that of the process where it is empty.
@@ -38,11 +42,16 @@ pub enum Kind {
     Paths,
     /// A umask, or nothing.
     Mask,
+    /// `lines`, or nothing.
+    Sloppiness,
+    /// Words that begin with a dash, with spaces between them, or nothing.
+    Options,
 }
 
 impl Key {
     /// All of them, in the order of their names.
-    pub const ALL: [Key; 10] = [
+    pub const ALL: [Key; 12] = [
+        Key::AllowOptions,
         Key::BaseDir,
         Key::CacheDir,
         Key::DirectMode,
@@ -51,6 +60,7 @@ impl Key {
         Key::MaxSize,
         Key::ReadOnly,
         Key::Recache,
+        Key::Sloppiness,
         Key::Stats,
         Key::Umask,
     ];
@@ -58,6 +68,7 @@ impl Key {
     /// Its name in a file.
     pub fn name(self) -> &'static str {
         match self {
+            Key::AllowOptions => "allow_options",
             Key::BaseDir => "base_dir",
             Key::CacheDir => "cache_dir",
             Key::DirectMode => "direct_mode",
@@ -66,6 +77,7 @@ impl Key {
             Key::MaxSize => "max_size",
             Key::ReadOnly => "read_only",
             Key::Recache => "recache",
+            Key::Sloppiness => "sloppiness",
             Key::Stats => "stats",
             Key::Umask => "umask",
         }
@@ -74,6 +86,7 @@ impl Key {
     /// Its variable.
     pub fn variable(self) -> &'static str {
         match self {
+            Key::AllowOptions => "GULMAAT_ALLOW_OPTIONS",
             Key::BaseDir => "GULMAAT_BASEDIRS",
             Key::CacheDir => "GULMAAT_DIR",
             Key::DirectMode => "GULMAAT_DIRECT",
@@ -82,6 +95,7 @@ impl Key {
             Key::MaxSize => "GULMAAT_MAXSIZE",
             Key::ReadOnly => "GULMAAT_READONLY",
             Key::Recache => "GULMAAT_RECACHE",
+            Key::Sloppiness => "GULMAAT_SLOPPINESS",
             Key::Stats => "GULMAAT_STATS",
             Key::Umask => "GULMAAT_UMASK",
         }
@@ -90,7 +104,12 @@ impl Key {
     /// Its value where none is set.
     pub fn usual(self) -> &'static str {
         match self {
-            Key::BaseDir | Key::CacheDir | Key::LogFile | Key::Umask => "",
+            Key::AllowOptions
+            | Key::BaseDir
+            | Key::CacheDir
+            | Key::LogFile
+            | Key::Sloppiness
+            | Key::Umask => "",
             Key::DirectMode | Key::Disable | Key::ReadOnly | Key::Recache => "false",
             Key::MaxSize => "5G",
             Key::Stats => "true",
@@ -100,9 +119,11 @@ impl Key {
     /// What its values are.
     pub fn kind(self) -> Kind {
         match self {
+            Key::AllowOptions => Kind::Options,
             Key::BaseDir => Kind::Paths,
             Key::CacheDir | Key::LogFile => Kind::Path,
             Key::MaxSize => Kind::Size,
+            Key::Sloppiness => Kind::Sloppiness,
             Key::Umask => Kind::Mask,
             Key::DirectMode | Key::Disable | Key::ReadOnly | Key::Recache | Key::Stats =>
                 Kind::Truth,
@@ -120,6 +141,11 @@ fn is_path(text: &str) -> bool {
     text.is_empty() || text.starts_with('/')
 }
 
+/// Whether a word begins with a dash, or is nothing.
+fn is_option(word: &str) -> bool {
+    word.is_empty() || word.starts_with('-')
+}
+
 impl Kind {
     /// What is right, for people.
     pub fn wanted(self) -> &'static str {
@@ -130,6 +156,8 @@ impl Kind {
             Kind::Path => "an absolute path",
             Kind::Paths => "absolute paths with colons between them",
             Kind::Mask => "an octal number up to 777",
+            Kind::Sloppiness => "lines",
+            Kind::Options => "options with spaces between them, each of which begins with -",
         }
     }
 
@@ -141,6 +169,8 @@ impl Kind {
             Kind::Path => is_path(text),
             Kind::Paths => text.split(':').all(is_path),
             Kind::Mask => text.is_empty() || mask_named(text).is_some(),
+            Kind::Sloppiness => matches!(text, "" | "lines"),
+            Kind::Options => text.split(' ').all(is_option),
         }
     }
 }

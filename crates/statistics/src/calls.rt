@@ -5,7 +5,7 @@ use os_files::os_bytes::OsBytes;
 use std::alloc::{AllocError, Global};
 
 /// Reasons by their beginning, with the counter of each.
-const BEGINNINGS: [(&str, &str); 15] = [
+const BEGINNINGS: [(&str, &str); 18] = [
     ("pass: disabled", "disabled"),
     ("pass: multiple input files", "multiple_source_files"),
     ("pass: no input file", "no_input_file"),
@@ -25,6 +25,15 @@ const BEGINNINGS: [(&str, &str); 15] = [
     (
         "stop: the text takes in files",
         "unsupported_code_directive",
+    ),
+    (
+        "stop: a file was changed while it was compiled",
+        "modified_input_file",
+    ),
+    ("stop: the compiler is a script", "unsupported_compiler"),
+    (
+        "stop: a precompiled header is in reach",
+        "could_not_use_precompiled_header",
     ),
     (
         "stop: the text tells its own time",

@@ -24,6 +24,8 @@ pub struct CommandLine {
     /// at the end it prints.
     pub errors: String,
     pub printed: String,
+    /// Where a preprocessor is to write a list of the files that it read.
+    pub list: String,
     pub executable: String,
     pub dir: OsBytes,
     /// The words behind the executable.
@@ -62,6 +64,7 @@ impl CommandLine {
         let text = fields.text(alloc)?;
         let errors = fields.text(alloc)?;
         let printed = fields.text(alloc)?;
+        let list = fields.text(alloc)?;
         let own = fields.text(alloc)?;
         let executable = fields.text(alloc)?;
         let dir = fields.bytes(alloc)?;
@@ -74,6 +77,7 @@ impl CommandLine {
             text,
             errors,
             printed,
+            list,
             executable,
             dir,
             words,

@@ -24,6 +24,18 @@ pub enum Stop {
     /// The text has the time at which it was printed, and what is made of it has another.
     #[error("the text tells its own time")]
     TellsTime,
+    /// The compiler is a script, which may run anything.
+    #[error("the compiler is a script")]
+    Script,
+    /// Messages may quote lines that the text doesn't name.
+    #[error("messages may quote what isn't known")]
+    Quotes,
+    /// A precompiled header may be taken in place of one that the text shows.
+    #[error("a precompiled header is in reach")]
+    Precompiled,
+    /// A file that the text has was changed before it was compiled.
+    #[error("a file was changed while it was compiled")]
+    Changed,
     /// The compiler doesn't say what it runs.
     #[error("the compiler doesn't name its parts")]
     Parts,

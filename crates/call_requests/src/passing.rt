@@ -1,9 +1,11 @@
 //! What is passed through before the session is asked, since neither the compiler's words nor its text would tell what was made.
 //! docs/WRAPPER.md says what each variable and option does.
 
+use known_options::dependencies::{dependencies_of, for_preprocessor};
 use known_options::words::unknown_word;
 use os_files::os_bytes::OsBytes;
 use recorded_builds::beware::options_in;
+use settings::key::Key;
 use statistics::calls::TO_STANDARD_OUTPUT;
 use std::alloc::Global;
 use wrapper_host::command_line::CommandLine;
@@ -59,9 +61,13 @@ pub fn reason_against(alloc: Global, line: &CommandLine) -> Result<Option<String
         return Ok(Some(String::from_str(alloc, TO_STANDARD_OUTPUT)?));
     }
     let options = options_in(alloc, line.words.as_slice(), &[])?;
-    match options.first() {
+    // Of words that ask the preprocessor for a dependency file gulmaat sees to itself.
+    let option = options
+        .iter()
+        .find(|option| for_preprocessor(option.as_bytes()).is_none());
+    match option {
         Some(option) => Ok(Some(String::from_str(alloc, option)?)),
-        None => unknown_in(alloc, line.words.as_slice()),
+        None => unknown_in(alloc, line),
     }
 }
 
@@ -73,12 +79,34 @@ fn may_ask_for_object(words: &[OsBytes]) -> bool {
 }
 
 /// The first word that isn't known, where an object may be asked for; any other command is the session's to pass through.
-fn unknown_in(alloc: Global, words: &[OsBytes]) -> Result<Option<String>, Stop> {
+fn unknown_in(alloc: Global, line: &CommandLine) -> Result<Option<String>, Stop> {
+    let words = line.words.as_slice();
     if !may_ask_for_object(words) {
         return Ok(None);
     }
-    match unknown_word(alloc, words)? {
+    let allowed = line.settings.value_of(Key::AllowOptions);
+    let word = match unknown_word(alloc, words, allowed)? {
+        Some(word) => Some(word),
+        None => unclear_word(alloc, line)?,
+    };
+    match word {
         Some(word) => Ok(Some(format!(in alloc; "{word}")?)),
         None => Ok(None),
     }
+}
+
+/// The word by which it isn't clear which dependency file is written, or is that of a preprocessor which is to write it in each call.
+fn unclear_word(alloc: Global, line: &CommandLine) -> Result<Option<&OsBytes>, Stop> {
+    let words = line.words.as_slice();
+    let Some(word) = words
+        .iter()
+        .find(|word| for_preprocessor(word.as_bytes()).is_some())
+    else {
+        return Ok(None);
+    };
+    let folders_count = line.settings.value_of(Key::BaseDir).is_empty();
+    if folders_count && dependencies_of(alloc, words)?.is_some() {
+        return Ok(None);
+    }
+    Ok(Some(word))
 }

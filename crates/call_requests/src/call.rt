@@ -1,0 +1,179 @@
+//! The request of a call. Words that ask for a dependency file aren't told to the session: what that file has in it is bound to the key, and
+//! the file that a compile wrote is kept beside its messages.
+
+ghost use Rattle.std.specs.Prelude.{◌≡◌};
+
+use key_additions::additions::{Additions, VARIABLE};
+use known_compilers::compilers::{KnownCompiler, add_surroundings, compiler_at};
+use known_options::dependencies::{Dependencies, dependencies_of};
+use os_files::listed::Listed;
+use os_files::os_bytes::OsBytes;
+use settings::key::Key;
+use std::alloc::Global;
+use std::io::Read;
+use std::rt::Files;
+use wrap::{CCompilerKind, Request};
+use wrapper_host::command_line::CommandLine;
+use wrapper_host::host::Host;
+use wrapper_host::stop::Stop;
+
+/// Variables that shells and Make set from call to call, and that no compiler reads.
+const IDLE: [&str; 8] = [
+    "_",
+    "OLDPWD",
+    "SHLVL",
+    "MAKEFLAGS",
+    "MAKELEVEL",
+    "MAKE_TERMERR",
+    "MAKE_TERMOUT",
+    "MFLAGS",
+];
+
+/// What inputs are called that are compiled as they stand, or of which an assembler notes where they lie.
+const WITHOUT_FOLDER: [&str; 5] = [".i", ".ii", ".s", ".S", ".sx"];
+
+/// What words begin with behind which an assembler may note where an input lies.
+const FOR_ASSEMBLER: [&str; 2] = ["-Wa,", "-Xassembler"];
+
+/// Languages of inputs that are compiled as they stand, or of which an assembler notes where they lie.
+const LANGUAGES: [&str; 4] = [
+    "assembler",
+    "assembler-with-cpp",
+    "c++-cpp-output",
+    "cpp-output",
+];
+
+/// Whether it is a variable that the session isn't told: one that no compiler reads, or the one that stands for all additions.
+fn is_left_out(name: &[u8]) -> bool {
+    IDLE.iter().any(|variable| name == variable.as_bytes()) || name == VARIABLE.as_bytes()
+}
+
+/// Copies of the words.
+fn words_again(alloc: Global, words: &[OsBytes]) -> Result<Listed<OsBytes>, Stop> {
+    let mut copies = Listed::new(alloc);
+    for word in words {
+        copies.push(word.clone()?)?;
+    }
+    Ok(copies)
+}
+
+/// The variables that the session is told.
+fn env_of(
+    alloc: Global,
+    env: &[(OsBytes, OsBytes)],
+    additions: &Additions,
+) -> Result<Listed<(OsBytes, OsBytes)>, Stop> {
+    let mut copies = Listed::new(alloc);
+    for (name, value) in env {
+        if is_left_out(name.as_bytes()) {
+            continue;
+        }
+        let name = name.clone()?;
+        copies.push((name, value.clone()?))?;
+    }
+    copies.push(additions.variable(alloc)?)?;
+    Ok(copies)
+}
+
+/// Whether a word names an input, a language or an option by which an object has the input's place in it, though no text shows that.
+fn tells_place(word: &[u8]) -> bool {
+    WITHOUT_FOLDER
+        .iter()
+        .any(|end| word.ends_with(end.as_bytes()))
+        || FOR_ASSEMBLER
+            .iter()
+            .any(|front| word.starts_with(front.as_bytes()))
+        || LANGUAGES
+            .iter()
+            .any(|language| word.ends_with(language.as_bytes()))
+}
+
+/// Adds where the input lies, where an object may have that in it though no text shows it.
+fn add_place(alloc: Global, line: &CommandLine, additions: &mut Additions) -> Result<(), Stop> {
+    let words = line.words.as_slice();
+    if !words.iter().any(|word| tells_place(word.as_bytes())) {
+        return Ok(());
+    }
+    additions.add(alloc, "folder", line.dir.as_bytes())?;
+    for word in words {
+        if !word.as_bytes().starts_with(b"-") {
+            additions.add(alloc, "path", word.as_bytes())?;
+        }
+    }
+    Ok(())
+}
+
+/// What is bound to the key of a call beside text, words and compiler.
+fn additions_of(
+    alloc: Global,
+    line: &CommandLine,
+    kind: CCompilerKind,
+    dependencies: Option<&Dependencies>,
+) -> Result<Additions, Stop> {
+    let mut additions = Additions::new(alloc);
+    additions.add_if_any(alloc, VARIABLE, line.value_of(VARIABLE.as_bytes()))?;
+    add_surroundings(alloc, line, kind, &mut additions)?;
+    add_place(alloc, line, &mut additions)?;
+    if let Some(dependencies) = dependencies {
+        for word in dependencies.said.as_slice() {
+            additions.add(alloc, "dependency file", word.as_bytes())?;
+        }
+    }
+    Ok(additions)
+}
+
+/// What the words say of a dependency file; nothing where the preprocessor is to write it in each call. So it is where folders don't count:
+/// lines of the file are as long as their names.
+fn dependencies_in(alloc: Global, line: &CommandLine) -> Result<Option<Dependencies>, Stop> {
+    if !line.settings.value_of(Key::BaseDir).is_empty() {
+        return Ok(None);
+    }
+    Ok(dependencies_of(alloc, line.words.as_slice())?)
+}
+
+/// What the session is asked about a call, and what it isn't told.
+#[derive(Drop)]
+pub struct Call {
+    pub request: Request,
+    /// Whether the compiler takes the word by which its messages are in colour.
+    pub takes_color: bool,
+    /// What the words say of a dependency file; nothing where the session is told of it.
+    pub dependencies: Option<Dependencies>,
+}
+
+/// What the session is asked about the command line of a compiler of that kind.
+pub fn call_of<P: Print + Files + AllocGlobal, I: Read>(
+    rt: &P,
+    line: &CommandLine,
+    host: &mut Host<I>,
+    kind: CCompilerKind,
+) -> Result<Call, Stop>
+    requires { host.old.compiled ≡ 0 }
+    ensures { host.new.compiled ≡ 0 }
+{
+    let alloc = rt.alloc();
+    let dependencies = dependencies_in(alloc, line)?;
+    let additions = additions_of(alloc, line, kind, dependencies.as_ref())?;
+    let words = match &dependencies {
+        Some(dependencies) => words_again(alloc, dependencies.others.as_slice())?,
+        None => words_again(alloc, line.words.as_slice())?,
+    };
+    let env = env_of(alloc, line.env.as_slice(), &additions)?;
+    let dir = line.dir.clone()?;
+    let KnownCompiler {
+        compiler,
+        takes_color,
+    } = compiler_at(rt, line, host, kind)?;
+    let request = Request {
+        compiler,
+        words,
+        dir,
+        env,
+        moment: line.second(),
+    };
+    Ok(Call {
+        request,
+        takes_color,
+        dependencies,
+    })
+}

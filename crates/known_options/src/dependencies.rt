@@ -1,0 +1,190 @@
+//! What the words of a command say of its dependency file. The session isn't told of that: what its contents hang on is bound to the key,
+//! and what the compile wrote is kept beside its messages.
+
+use crate::text_words::dependency_file;
+use crate::words::takes_next;
+use os_files::listed::Listed;
+use os_files::os_bytes::OsBytes;
+use std::alloc::{AllocError, Global};
+
+/// Words that ask the preprocessor for a dependency file, whose path stands behind them.
+const FOR_PREPROCESSOR: [&str; 2] = ["-Wp,-MD,", "-Wp,-MMD,"];
+
+/// The path of the dependency file in a word for the preprocessor, and what stands before it.
+pub fn for_preprocessor(word: &[u8]) -> Option<(&str, &[u8])> {
+    FOR_PREPROCESSOR.iter().find_map(|front| Some((*front, word.strip_prefix(front.as_bytes())?)))
+}
+
+/// What the words of a command say of its dependency file.
+#[derive(Drop)]
+pub struct Dependencies {
+    /// The words that say nothing of it.
+    pub others: Listed<OsBytes>,
+    /// What its contents hang on beside the files that it names: the words that say something of it, but its path, and the object, which
+    /// is its target where no word names one.
+    pub said: Listed<OsBytes>,
+    /// Its path, where one is asked for.
+    pub file: Option<OsBytes>,
+}
+
+/// What was said so far.
+#[derive(Drop)]
+struct Said<'a> {
+    others: Listed<OsBytes>,
+    said: Listed<OsBytes>,
+    /// How often a file was asked for by a word of the driver, and by one for the preprocessor.
+    asked: usize,
+    asked_preprocessor: usize,
+    path: Option<&'a [u8]>,
+    has_target: bool,
+    object: Option<&'a [u8]>,
+    input: Option<&'a [u8]>,
+}
+
+/// A copy of the word.
+fn again(alloc: Global, word: &[u8]) -> Result<OsBytes, AllocError> {
+    OsBytes::from_slice(alloc, word)
+}
+
+impl<'a> Said<'a> {
+    fn new(alloc: Global) -> Said<'a> {
+        Said {
+            others: Listed::new(alloc),
+            said: Listed::new(alloc),
+            asked: 0,
+            asked_preprocessor: 0,
+            path: None,
+            has_target: false,
+            object: None,
+            input: None,
+        }
+    }
+
+    /// Takes the value of that option.
+    fn take_value(
+        &mut self,
+        alloc: Global,
+        option: &[u8],
+        value: &'a [u8],
+    ) -> Result<(), AllocError> {
+        match option {
+            b"-MF" => self.path = Some(value),
+            b"-MT" | b"-MQ" => {
+                self.said.push(again(alloc, option)?)?;
+                self.said.push(again(alloc, value)?)?;
+                self.has_target = true;
+            }
+            b"-o" => {
+                self.object = Some(value);
+                self.others.push(again(alloc, value)?)?;
+            }
+            _ => self.others.push(again(alloc, value)?)?,
+        }
+        Ok(())
+    }
+
+    /// Takes a word that is no value, and says whether it is one of those that say something of the dependency file.
+    fn takes(&mut self, alloc: Global, word: &'a [u8]) -> Result<bool, AllocError> {
+        if let Some((front, path)) = for_preprocessor(word) {
+            self.asked_preprocessor = self.asked_preprocessor.saturating_add(1);
+            self.path = Some(path);
+            self.said.push(again(alloc, front.as_bytes())?)?;
+            return Ok(true);
+        }
+        match word {
+            b"-MD" | b"-MMD" => {
+                self.asked = self.asked.saturating_add(1);
+                self.said.push(again(alloc, word)?)?;
+            }
+            b"-MP" => self.said.push(again(alloc, word)?)?,
+            b"-MF" | b"-MT" | b"-MQ" => {}
+            [b'-', b'M', b'F', path @ ..] => self.path = Some(path),
+            [b'-', b'M', b'T' | b'Q', ..] => {
+                self.said.push(again(alloc, word)?)?;
+                self.has_target = true;
+            }
+            _ => return Ok(false),
+        }
+        Ok(true)
+    }
+
+    /// Takes a word that is no value.
+    fn take(&mut self, alloc: Global, word: &'a [u8]) -> Result<(), AllocError> {
+        if self.takes(alloc, word)? {
+            return Ok(());
+        }
+        self.others.push(again(alloc, word)?)?;
+        match word {
+            b"-o" => {}
+            [b'-', b'o', object @ ..] => self.object = Some(object),
+            b"-S" => self.said.push(again(alloc, word)?)?,
+            [b'-', ..] => {}
+            _ => self.input = Some(word),
+        }
+        Ok(())
+    }
+
+    /// Whether it can't be told to which of several files the dependencies go.
+    fn is_unclear(&self) -> bool {
+        self.asked_preprocessor > 1 || (self.asked_preprocessor == 1 && self.asked != 0)
+    }
+
+    /// The path of the dependency file: the one that a word names, or that of the object with another ending, or that of the input in the
+    /// folder of the call.
+    fn file(&self, alloc: Global) -> Result<Option<OsBytes>, AllocError> {
+        if self.asked == 0 && self.asked_preprocessor == 0 {
+            return Ok(None);
+        }
+        if let Some(path) = self.path {
+            return Ok(Some(again(alloc, path)?));
+        }
+        let path = match (self.object, self.input) {
+            (Some(object), _) => dependency_file(alloc, object)?,
+            (None, Some(input)) => dependency_file(alloc, file_name(input))?,
+            (None, None) => return Ok(None),
+        };
+        Ok(Some(OsBytes::from_vec(path)))
+    }
+}
+
+/// The name of a file, behind the folders of its path.
+fn file_name(path: &[u8]) -> &[u8] {
+    match path.rsplit(|byte| *byte == b'/').next() {
+        Some(name) => name,
+        None => path,
+    }
+}
+
+/// What the words of a command say of its dependency file; nothing where it can't be told which of several ones is written.
+pub fn dependencies_of(
+    alloc: Global,
+    words: &[OsBytes],
+) -> Result<Option<Dependencies>, AllocError> {
+    let mut found = Said::new(alloc);
+    let mut before: &[u8] = &[];
+    for word in words {
+        let bytes = word.as_bytes();
+        if takes_next(before) {
+            found.take_value(alloc, before, bytes)?;
+            before = &[];
+        } else {
+            found.take(alloc, bytes)?;
+            before = bytes;
+        }
+    }
+    if found.is_unclear() {
+        return Ok(None);
+    }
+    let file = found.file(alloc)?;
+    let Said {
+        others,
+        mut said,
+        has_target,
+        object,
+        ..
+    } = found;
+    if let (Some(_), false, Some(object)) = (&file, has_target, object) {
+        said.push(again(alloc, object)?)?;
+    }
+    Ok(Some(Dependencies { others, said, file }))
+}

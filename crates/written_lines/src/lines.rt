@@ -1,0 +1,84 @@
+//! The digest of what a text doesn't say of its sources.
+
+use crate::asked::Asked;
+use crate::sources::Sources;
+use crate::written::{Place, Written};
+use marker_walk::line::Mark;
+use marker_walk::markers::Markers;
+use memchr::memchr;
+use os_files::os_bytes::OsBytes;
+use std::alloc::Global;
+use wrapper_host::stop::Stop;
+
+/// The name of the marker that a line is, if it is one, with its number.
+fn marker_in(line: &[u8]) -> Option<(&[u8], usize)> {
+    let behind = line.strip_prefix(b"#")?;
+    let Some(Mark::Named(name)) = Markers::new(line).next() else {
+        return None;
+    };
+    let digits = behind.strip_prefix(b"line").unwrap_or(behind);
+    let digits = digits.strip_prefix(b" ").unwrap_or(digits);
+    let count = digits
+        .iter()
+        .take_while(|byte| byte.is_ascii_digit())
+        .count();
+    let digits = str::from_utf8(digits.get(..count)?).ok()?;
+    Some((name, digits.parse::<usize>().ok()?))
+}
+
+/// The first line of a text, and what stands behind its end.
+fn cut_line(text: &[u8]) -> (&[u8], &[u8]) {
+    match memchr(b'\n', text) {
+        Some(end) => text.split_at(end),
+        None => (text, &[]),
+    }
+}
+
+/// Takes all lines of a text.
+fn take_lines<'a>(text: &'a [u8], sources: &Sources<'a>, written: &mut Written) {
+    let mut place = Place::none();
+    let mut rest = text;
+    // Each turn takes a byte at least.
+    for _ in 0..text.len() {
+        let (line, behind) = cut_line(rest);
+        match marker_in(line) {
+            Some((name, number)) => place.take_marker(sources, name, number, written),
+            None => place.take_line(line, written),
+        }
+        written.taken = written.taken.wrapping_add(1);
+        rest = behind.strip_prefix(b"\n").unwrap_or(behind);
+        if rest.is_empty() {
+            break;
+        }
+    }
+}
+
+/// A digest of the lines of which the text shows tokens, where the text doesn't say how they were written: those that aren't as the text
+/// has them, those below that have arguments of a macro, and comments by which a case falls through. Of a file with directives that give
+/// lines other numbers it is of all.
+fn digest_of_lines<'a>(
+    alloc: Global,
+    text: &'a [u8],
+    sources: &Sources<'a>,
+) -> Result<OsBytes, Stop> {
+    let mut written = Written::new();
+    let renumbered = sources.digest(alloc, false)?;
+    written.take(renumbered.as_bytes());
+    take_lines(text, sources, &mut written);
+    let digest = written.finish(alloc)?;
+    Ok(OsBytes::from_slice(alloc, digest.as_bytes())?)
+}
+
+/// The digest of what is asked of the sources of a text; an empty one where nothing is.
+pub fn digest_asked<'a>(
+    alloc: Global,
+    asked: Asked,
+    text: &'a [u8],
+    sources: &Sources<'a>,
+) -> Result<OsBytes, Stop> {
+    match asked {
+        Asked::Nothing => Ok(OsBytes::empty(alloc)),
+        Asked::Lines => digest_of_lines(alloc, text, sources),
+        Asked::Contents => sources.digest(alloc, true),
+    }
+}

@@ -1,0 +1,228 @@
+//! The files that the markers of a text name, with their lines.
+
+use ckeys_base::digest::Digest;
+use marker_walk::line::Mark;
+use marker_walk::markers::Markers;
+use marker_walk::names::unescaped;
+use memchr::memchr;
+use os_files::os_bytes::OsBytes;
+use os_files::path::join;
+use sha2::Sha256;
+use std::alloc::{AllocError, Global};
+use std::collections::HashMap;
+use std::fs;
+use std::rt::Files;
+use wrapper_host::command_line::CommandLine;
+use wrapper_host::fields::into_text;
+use wrapper_host::stop::Stop;
+
+/// A file and where its lines begin.
+#[derive(Drop)]
+pub struct Source {
+    contents: Vec<u8>,
+    /// Where each line begins, and behind them where the file ends.
+    starts: Vec<usize>,
+    /// Whether it has a directive that says of a line that it is another one, or of another file.
+    pub renumbers: bool,
+}
+
+/// What stands behind the end of the first line.
+fn behind_line(text: &[u8]) -> &[u8] {
+    match memchr(b'\n', text) {
+        Some(end) => text.get(end.saturating_add(1)..).unwrap_or(&[]),
+        None => &[],
+    }
+}
+
+/// The text behind spaces and tabs.
+fn behind_spaces(text: &[u8]) -> &[u8] {
+    let spaces = text
+        .iter()
+        .take_while(|byte| matches!(**byte, b' ' | b'\t' | 11 | 12))
+        .count();
+    text.get(spaces..).unwrap_or(&[])
+}
+
+/// Whether a text begins with a directive by which lines have other numbers, or with what may be one.
+fn renumbers(text: &[u8]) -> bool {
+    let behind = match behind_spaces(text) {
+        [b'#', behind @ ..] | [b'%', b':', behind @ ..] | [b'?', b'?', b'=', behind @ ..] => behind,
+        _ => return false,
+    };
+    match behind_spaces(behind) {
+        [first, ..] if first.is_ascii_digit() => true,
+        // A comment or the end of a line that goes on may stand before the word.
+        [b'/' | b'\\', ..] => true,
+        word => word.starts_with(b"line"),
+    }
+}
+
+impl Source {
+    /// The file with these contents.
+    fn new(alloc: Global, contents: Vec<u8>) -> Result<Source, AllocError> {
+        let mut starts = Vec::new(alloc);
+        let mut found = false;
+        let mut rest = contents.as_slice();
+        // Each turn takes a byte at least.
+        for _ in 0..contents.len() {
+            starts.push(contents.len().saturating_sub(rest.len()))?;
+            found = found || renumbers(rest);
+            rest = behind_line(rest);
+            if rest.is_empty() {
+                break;
+            }
+        }
+        starts.push(contents.len())?;
+        Ok(Source {
+            contents,
+            starts,
+            renumbers: found,
+        })
+    }
+
+    /// All of it.
+    pub fn contents(&self) -> &[u8] {
+        self.contents.as_slice()
+    }
+
+    /// The line of that number, of which the first is 1, without its end; an empty one where there is none.
+    pub fn line(&self, number: usize) -> &[u8] {
+        self.lines(number, number.saturating_add(1))
+    }
+
+    /// The lines from that number up to another one, without the last one's end.
+    pub fn lines(&self, from: usize, to: usize) -> &[u8] {
+        let (Some(first), Some(behind)) = (self.start(from), self.start(to)) else {
+            return &[];
+        };
+        let lines = self.contents.get(first..behind).unwrap_or(&[]);
+        lines.strip_suffix(b"\n").unwrap_or(lines)
+    }
+
+    /// Where the line of that number begins; behind the last one, where the file ends.
+    fn start(&self, number: usize) -> Option<usize> {
+        self.starts.get(number.checked_sub(1)?).copied()
+    }
+}
+
+/// The files that the markers of a text name, by their names as markers have them.
+#[derive(Drop)]
+pub struct Sources<'a> {
+    files: HashMap<&'a [u8], Source>,
+    /// Their names, in the order in which they come first.
+    names: Vec<&'a [u8]>,
+    /// Whether one that is named isn't there.
+    lacks: bool,
+}
+
+/// Whether a marker's name is that of a file: those in brackets are none, and one with two slashes behind it is a folder.
+fn is_file_name(name: &[u8]) -> bool {
+    !name.starts_with(b"<") && !name.ends_with(b"//")
+}
+
+/// The contents of the file of a marker, where there is one.
+fn read_marked<R: Files + AllocGlobal>(
+    rt: &R,
+    line: &CommandLine,
+    name: &[u8],
+) -> Result<Option<Vec<u8>>, Stop> {
+    let name = unescaped(rt.alloc(), name)?.into_owned(rt.alloc())?;
+    let path = into_text(join(rt.alloc(), line.dir.as_bytes(), name.as_slice())?)?;
+    let Ok(metadata) = fs::metadata(rt, path.as_str()) else {
+        return Ok(None);
+    };
+    if !metadata.is_file() {
+        return Err(Stop::Unreadable);
+    }
+    Ok(Some(fs::read(rt, path.as_str())?))
+}
+
+impl<'a> Sources<'a> {
+    /// The files that the markers of this text name. A line that can't be told from a marker, and a file that is none or can't be read,
+    /// is an error.
+    pub fn of<R: Files + AllocGlobal>(
+        rt: &R,
+        line: &CommandLine,
+        text: &'a [u8],
+    ) -> Result<Sources<'a>, Stop> {
+        let mut sources = Sources {
+            files: HashMap::new(rt.alloc()),
+            names: Vec::new(rt.alloc()),
+            lacks: false,
+        };
+        let mut absent: HashMap<&[u8], ()> = HashMap::new(rt.alloc());
+        for mark in Markers::new(text) {
+            let Mark::Named(name) = mark else {
+                return Err(Stop::Unreadable);
+            };
+            let is_known = sources.files.contains_key(&name) || absent.contains_key(&name);
+            if is_known || !is_file_name(name) {
+                continue;
+            }
+            match read_marked(rt, line, name)? {
+                Some(contents) => sources.take(rt.alloc(), name, contents)?,
+                None => {
+                    absent.insert(name, ())?;
+                    sources.lacks = true;
+                }
+            }
+        }
+        sources.check()?;
+        Ok(sources)
+    }
+
+    /// Takes the file of that name.
+    fn take(&mut self, alloc: Global, name: &'a [u8], contents: Vec<u8>) -> Result<(), Stop> {
+        self.names.push(name)?;
+        self.files.insert(name, Source::new(alloc, contents)?)?;
+        Ok(())
+    }
+
+    /// Refuses a text of which a file isn't there, unless a directive may have named it.
+    fn check(&self) -> Result<(), Stop> {
+        if self.lacks && !self.are_renumbered() {
+            return Err(Stop::Changed);
+        }
+        Ok(())
+    }
+
+    /// Whether the file of that name has a directive by which lines have other numbers.
+    fn renumbers(&self, name: &'a [u8]) -> bool {
+        match self.files.get(&name) {
+            Some(source) => source.renumbers,
+            None => false,
+        }
+    }
+
+    /// The file of that name, where there is one.
+    pub fn get(&self, name: &'a [u8]) -> Option<&Source> {
+        self.files.get(&name)
+    }
+
+    /// The digest of the contents of all files, in the order in which the text names them, or of those alone by whose directives lines have
+    /// other numbers.
+    pub fn digest(&self, alloc: Global, all: bool) -> Result<OsBytes, Stop> {
+        let mut digest = Digest::<Sha256>::new();
+        for name in self.names.iter() {
+            if let Some(source) = self.files.get(name) {
+                if all || source.renumbers {
+                    feed(&mut digest, source.contents());
+                }
+            }
+        }
+        let text = digest.finish(alloc)?;
+        Ok(OsBytes::from_slice(alloc, text.as_bytes())?)
+    }
+
+    /// Whether a directive in one of the files gives lines other numbers.
+    pub fn are_renumbered(&self) -> bool {
+        self.names.iter().any(|name| self.renumbers(name))
+    }
+}
+
+/// Feeds bytes behind their length.
+pub fn feed(digest: &mut Digest<Sha256>, bytes: &[u8]) {
+    let length = bytes.len() as u64;
+    digest.update(&length.to_le_bytes());
+    digest.update(bytes);
+}
