@@ -138,8 +138,7 @@ habits_counters() {
     counts "-S" option_s "$host" gcc -DCOUNT=1 -S it.c
     counts "standard input" uncacheable_standard_input "$host" gcc -x c -c - -o it.o </dev/null
     counts "an object on standard output" output_to_stdout "$host" gcc -DCOUNT=1 -c it.c -o -
-    printf '#!/bin/sh\ncase $1 in -print-*) exit 1 ;; esac\nexec gcc "$@"\n' >gcc
-    chmod +x gcc
+    printf 'case $1 in -print-*) exit 1 ;; esac\nexec gcc "$@"\n' | stand_in gcc
     counts "a compiler that says nothing" error_the_compiler_doesn_t_name_its_parts "$host" ./gcc -DCOUNT=1 -c it.c
     "$host" -s >shown
     is "uncacheable calls" grep -q "^Uncacheable: *18\$" shown
@@ -216,7 +215,7 @@ shows() { prints "$1 = $2, from $3" "($3) $1 = $2" grep "^([^)]*) $1 =" <("$host
 
 habits_settings() {
     local option key value
-    for option in -p --show-config; do is "$option: ten keys" [ "$("$host" $option | wc -l)" = 10 ]; done
+    for option in -p --show-config; do is "$option: twelve keys" [ "$("$host" $option | wc -l)" = 12 ]; done
     shows max_size 5G default
     shows cache_dir "$GULMAAT_DIR" GULMAAT_DIR
     for option in -o --set-config; do
@@ -226,8 +225,8 @@ habits_settings() {
         shows max_size 5G "$file"
     done
     for option in -k --get-config; do prints "$option" 5G "$host" $option max_size; done
-    prints "all keys are read" "" "$host" -o read_only=no -o recache=off -o stats=on -o disable=0 -o direct_mode=false -o log_file= -o base_dir= -o umask=002
-    for key in read_only recache stats disable direct_mode log_file base_dir max_size umask; do
+    prints "all keys are read" "" "$host" -o read_only=no -o recache=off -o stats=on -o disable=0 -o direct_mode=false -o log_file= -o base_dir= -o umask=002 -o sloppiness=lines -o allow_options="-fone -ftwo"
+    for key in read_only recache stats disable direct_mode log_file base_dir max_size umask sloppiness allow_options; do
         is "$key comes from the file" grep -q "^($file) $key = " <("$host" -p)
     done
     printf '# a comment\n\n  stats=yes\n' >"$file"

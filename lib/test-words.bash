@@ -174,8 +174,7 @@ END
     kept_case gcc "CC -fsanitize=undefined,address -c foo.c"
     word_case gcc "CC -gsplit-dwarf -g -c foo.c"
     # A compiler that doesn't take the word for colours isn't given it.
-    printf '#!/bin/sh\nfor word; do case $word in -fdiagnostics-color*) echo "no such word" >&2; exit 1 ;; esac; done\nexec gcc "$@"\n' >old-gcc
-    chmod +x old-gcc
+    printf 'for word; do case $word in -fdiagnostics-color*) echo "no such word" >&2; exit 1 ;; esac; done\nexec gcc "$@"\n' | stand_in old-gcc
     ln -sf old-gcc gcc
     kept_case "$PWD/gcc" "CC -Wall -c foo.c"
     cd "$work" || return

@@ -35,7 +35,7 @@ fn cut_line(text: &[u8]) -> (&[u8], &[u8]) {
 }
 
 /// Takes all lines of a text.
-fn take_lines<'a>(text: &'a [u8], sources: &Sources<'a>, written: &mut Written) {
+fn take_lines<'s>(text: &'s [u8], sources: &'s Sources<'_>, written: &mut Written) {
     let mut place = Place::none();
     let mut rest = text;
     // Each turn takes a byte at least.
@@ -56,10 +56,10 @@ fn take_lines<'a>(text: &'a [u8], sources: &Sources<'a>, written: &mut Written) 
 /// A digest of the lines of which the text shows tokens, where the text doesn't say how they were written: those that aren't as the text
 /// has them, those below that have arguments of a macro, and comments by which a case falls through. Of a file with directives that give
 /// lines other numbers it is of all.
-fn digest_of_lines<'a>(
+fn digest_of_lines(
     alloc: Global,
-    text: &'a [u8],
-    sources: &Sources<'a>,
+    text: &[u8],
+    sources: &Sources<'_>,
 ) -> Result<OsBytes, Stop> {
     let mut written = Written::new();
     let renumbered = sources.digest(alloc, false)?;
@@ -70,11 +70,11 @@ fn digest_of_lines<'a>(
 }
 
 /// The digest of what is asked of the sources of a text; an empty one where nothing is.
-pub fn digest_asked<'a>(
+pub fn digest_asked(
     alloc: Global,
     asked: Asked,
-    text: &'a [u8],
-    sources: &Sources<'a>,
+    text: &[u8],
+    sources: &Sources<'_>,
 ) -> Result<OsBytes, Stop> {
     match asked {
         Asked::Nothing => Ok(OsBytes::empty(alloc)),

@@ -187,16 +187,16 @@ impl<'a> Sources<'a> {
     }
 
     /// Whether the file of that name has a directive by which lines have other numbers.
-    fn renumbers(&self, name: &'a [u8]) -> bool {
-        match self.files.get(&name) {
+    fn renumbers(&self, name: &[u8]) -> bool {
+        match self.files.get(name) {
             Some(source) => source.renumbers,
             None => false,
         }
     }
 
     /// The file of that name, where there is one.
-    pub fn get(&self, name: &'a [u8]) -> Option<&Source> {
-        self.files.get(&name)
+    pub fn get(&self, name: &[u8]) -> Option<&Source> {
+        self.files.get(name)
     }
 
     /// The digest of the contents of all files, in the order in which the text names them, or of those alone by whose directives lines have

@@ -96,8 +96,8 @@ impl Written {
 
 /// Where in a file a walk over a text stands.
 #[derive(Drop)]
-pub struct Place<'s, 'a> {
-    name: &'a [u8],
+pub struct Place<'s> {
+    name: &'s [u8],
     /// The file, if its lines count one by one.
     file: Option<&'s Source>,
     /// The number of the line that the text's next line is of.
@@ -108,9 +108,9 @@ pub struct Place<'s, 'a> {
     shown: Option<usize>,
 }
 
-impl<'s, 'a> Place<'s, 'a> {
+impl<'s> Place<'s> {
     /// None yet.
-    pub fn none() -> Place<'s, 'a> {
+    pub fn none() -> Place<'s> {
         Place {
             name: &[],
             file: None,
@@ -145,8 +145,8 @@ impl<'s, 'a> Place<'s, 'a> {
     /// Takes a marker: the text's next line is that one of that file.
     pub fn take_marker(
         &mut self,
-        sources: &'s Sources<'a>,
-        name: &'a [u8],
+        sources: &'s Sources<'_>,
+        name: &'s [u8],
         number: usize,
         written: &mut Written,
     ) {

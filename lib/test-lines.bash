@@ -1,0 +1,159 @@
+# shellcheck shell=bash disable=SC2086,SC2154
+# What a text doesn't say of its sources, and dependency files: parts of bin/test-builds, whose host, work and functions it uses.
+
+# The sources of this part.
+line_files() {
+    printf '#define SUM(a, b) ((a) + \\\n    (b))\nstatic inline int half(int x) { /* c */ return x / 2; }\n' >lines.h
+    cat >lines.c <<'END'
+#include "lines.h"
+int g(int);
+int f(int a, int b) {
+  int r = 0; /* one */ r += a;
+  switch (a) {
+  case 1: r = 2;
+    /* fall through */
+  case 2: r += SUM(a,
+       b); g(r);
+  }
+  if (a)
+    r++;
+  int unused;
+  return half(r) / b;
+}
+END
+}
+# The call does the same twice as the compiler alone: status, messages, object and dependency file. Of the two so many are kept.
+line_call() {
+    local name=$1 wanted=$2 cc=$3 turn
+    shift 3
+    rm -f it.o it.d
+    $cc "$@" -c lines.c -o it.o 2>plain.err
+    local status=$?
+    [ ! -f it.o ] || mv it.o plain.o
+    [ ! -f it.d ] || mv it.d plain.d
+    mark
+    for turn in first second; do
+        rm -f it.o it.d
+        "$host" $cc "$@" -c lines.c -o it.o 2>ours.err
+        is "$name: $cc $*: status, $turn" [ $? = $status ]
+        is "$name: $cc $*: messages, $turn" cmp -s plain.err ours.err
+        is "$name: $cc $*: object, $turn" cmp -s plain.o it.o
+        [ ! -f plain.d ] || is "$name: $cc $*: dependency file, $turn" cmp -s plain.d it.d
+    done
+    rm -f plain.d
+    is "$name: $cc $*: calls" since $wanted
+}
+# Each of these words, after a change by which so many are compiled anew: without debug information and warnings, and with them.
+line_calls() {
+    local cc=$1 name=$2 bare=$3 others=$4
+    line_call "$name" "$bare" "$cc" -O1
+    line_call "$name" "$others" "$cc" -g
+    line_call "$name" "$others" "$cc" -Wall -Wextra
+    line_call "$name" "$others" "$cc" -fsanitize=undefined
+    line_call "$name" "$others" "$cc" -g -O2 -Wall -MD
+}
+
+lines() {
+    local cc=$1 dir=$work/lines-$1
+    mkdir -p "$dir"
+    cd "$dir" || return
+    line_files
+    line_calls "$cc" "new" "1 1" "1 1"
+    sed -i 's#/\* one \*/#/* one and two */#' lines.c
+    line_calls "$cc" "a comment inside of a line" "2 0" "1 1"
+    sed -i 's#^    /\* fall through \*/#    /* and goes on */#' lines.c
+    line_calls "$cc" "no comment that a case falls through" "2 0" "1 1"
+    sed -i 's#^       b); g#          b); g#' lines.c
+    # The text of Clang has such an argument where the macro is.
+    line_calls "$cc" "an argument of a macro is moved" "$([ "$cc" = gcc ] && echo 1 1 || echo 2 0)" "1 1"
+    sed -i 's#/\* c \*/#/* c c */#' lines.h
+    line_calls "$cc" "a comment inside of a header's line" "2 0" "1 1"
+    sed -i 's#^    r++;#  r++;#' lines.c
+    line_calls "$cc" "another indentation" "1 1" "1 1"
+    # A comment's own line between others, and a macro that isn't used, leave the object of GCC as it is where it prints nothing.
+    sed -i '/int unused/d; s#^  return#  /* a line of its own */\n  return#' lines.c
+    line_call "a comment's own line" "1 1" "$cc" -g
+    sed -i 's#a line of its own#another line of its own#' lines.c
+    [ "$cc" != gcc ] || line_call "another comment's own line" "2 0" "$cc" -g
+    sed -i 's#(b))#     (b))#' lines.h
+    [ "$cc" != gcc ] || line_call "a macro's own lines" "2 0" "$cc" -g
+    # Where lines have numbers of others, all of the file counts.
+    printf '#line 7 "other.y"\nint h(int a) { return a; }\n/* c */\n' >>lines.c
+    line_call "lines of another file" "1 1" "$cc" -g
+    sed -i 's#/\* c \*/$#/* c c */#' lines.c
+    line_call "lines of another file, a comment" "1 1" "$cc" -g
+    # A user may say that lines don't count.
+    sed -i 's#/\* one and two \*/#/* three */#' lines.c
+    mark
+    GULMAAT_SLOPPINESS=lines "$host" "$cc" -g -c lines.c -o it.o
+    sed -i 's#/\* three \*/#/* four */#' lines.c
+    GULMAAT_SLOPPINESS=lines "$host" "$cc" -g -c lines.c -o it.o
+    is "$cc: lines don't count" since 1 1
+    cd "$work" || return
+}
+
+# A call with these words does the same twice as the compiler alone, and writes the same files. Of the two so many are kept.
+dependency_call() {
+    local name=$1 wanted=$2 cc=$3 turn
+    shift 3
+    rm -rf made plain-made
+    mkdir made
+    (cd made && $cc "$@" 2>/dev/null)
+    mv made plain-made
+    mark
+    for turn in first second; do
+        rm -rf made
+        mkdir made
+        (cd made && "$host" $cc "$@" 2>/dev/null)
+        is "$name: $cc $*: files, $turn" diff -r plain-made made
+    done
+    is "$name: $cc $*: calls" since $wanted
+}
+
+dependencies() {
+    local cc=$1 dir=$work/dependencies-$1 words
+    mkdir -p "$dir/sub dir"
+    cd "$dir" || return
+    printf '#include <stddef.h>\n#include "one.h"\nint a = ONE;\n' >it.c
+    printf '#define ONE 1\n#if __has_include("maybe.h")\n#endif\n' >one.h
+    cp it.c one.h "sub dir"
+    while read -r words; do
+        dependency_call "new" "1 1" "$cc" $words
+    done <<'END'
+-MD -c ../it.c
+-MMD -c ../it.c -o out.o
+-MD -MP -c ../it.c -o out.x.o
+-MMD -MF other.d -c ../it.c -o out.y.o
+-MD -MT it.o -MF other.d -c ../it.c -o other.o
+-MD -MT t$x -MT two -MF other.d -c ../it.c
+-MD -MQ t$x#y -c ../it.c -o named.o
+-MFother.d -MMD -MTtarget -c ../it.c
+-Wp,-MD,other.d -c ../it.c -o wp.o
+-Wp,-MMD,.wp.o.d -c ../it.c -o wp.o
+-MD -g -c ../it.c -o d$x#e.o
+-MD -MF /dev/null -c ../it.c -o null.o
+END
+    # Which files a list has: one that was only asked for, a new one, another target.
+    dependency_call "the same" "2 0" "$cc" -MD -MF it.d -MT it.o -c ../it.c -o other.o
+    touch maybe.h
+    dependency_call "a header that is only asked for" "$([ "$cc" = gcc ] && echo 2 0 || echo 1 1)" "$cc" -MD -c ../it.c
+    rm maybe.h
+    dependency_call "no header that is only asked for" "2 0" "$cc" -MD -c ../it.c
+    printf '#define ONE 1\n#include "empty.h"\n' >one.h
+    touch empty.h
+    dependency_call "an empty header" "1 1" "$cc" -MD -c ../it.c
+    # A folder that isn't there, and a file that can't be written: the compiler says so.
+    mark
+    $cc -MD -MF nowhere/it.d -c it.c -o plain.o 2>plain.err
+    local status=$?
+    "$host" "$cc" -MD -MF nowhere/it.d -c it.c -o it.o 2>ours.err
+    is "$cc: no folder for the dependency file: status" [ $? = $status ]
+    is "$cc: no folder for the dependency file: messages" cmp -s plain.err ours.err
+    is "$cc: no folder for the dependency file: calls" since 0 0
+    # On standard output.
+    $cc -MD -MF - -MT it -c it.c -o plain.o >plain.out
+    "$host" "$cc" -MD -MF - -MT it -c it.c -o it.o >ours.out
+    is "$cc: -MF -" cmp -s plain.out ours.out
+    is "$cc: -MF -: calls" since 0 0
+    cd "$work" || return
+}
