@@ -4,9 +4,9 @@ ghost use Rattle.std.specs.Prelude.{◌≡◌, ◌≤◌};
 
 use crate::kept::{Hint, found, hint_at, hint_name, keep, kept_under, note_hint, renew};
 use crate::known::Known;
-use crate::why::note_fingerprint;
 use call_requests::call::{Call, call_of};
 use call_requests::passing::reason_against;
+use explained_misses::why::note_fingerprint;
 use fingerprints::fingerprint::request_fingerprint;
 use kept_entries::entry::KeptMessages;
 use kept_folder::folder::Kind;
