@@ -44,6 +44,22 @@ texts() {
         is "$cc: a time that is set: object" cmp -s plain.o it.o
         is "$cc: a time that is set" since 1 1
     fi
+    # A precompiled header may be taken in place of the first one.
+    printf '#define ONE 1\n' >first.h
+    printf '#define TWO 2\n' >second.h
+    text_case "$cc" "no precompiled header" $'#include "first.h"\n#include "second.h"\nint a = ONE;' 1 1
+    "$cc" -x c-header second.h -o second.h.gch
+    text_case "$cc" "a precompiled header of the second one" $'#include "first.h"\n#include "second.h"\nint a = ONE;' 2 0
+    "$cc" -x c-header first.h -o first.h.gch
+    text_case "$cc" "a precompiled header" $'#include "first.h"\n#include "second.h"\nint a = ONE;' 0 0
+    rm first.h.gch second.h.gch
+    # A word that a user allows.
+    mark
+    "$host" "$cc" -fverbose-asm -c it.c -o it.o
+    is "$cc: a word that isn't known" since 0 0
+    GULMAAT_ALLOW_OPTIONS="-fother -fverbose-asm" "$host" "$cc" -fverbose-asm -c it.c -o it.o
+    GULMAAT_ALLOW_OPTIONS="-fother -fverbose-asm" "$host" "$cc" -fverbose-asm -c it.c -o it.o
+    is "$cc: a word that is allowed" since 1 1
     text_case "$cc" "a text like an old time" 'const char *time = "00:00:02";' 1 1
     cd "$work" || return
 }
