@@ -11,8 +11,13 @@ use std::alloc::{AllocError, Global};
 const FOR_PREPROCESSOR: [&str; 2] = ["-Wp,-MD,", "-Wp,-MMD,"];
 
 /// The path of the dependency file in a word for the preprocessor, and what stands before it.
-pub fn for_preprocessor(word: &[u8]) -> Option<(&str, &[u8])> {
-    FOR_PREPROCESSOR.iter().find_map(|front| Some((*front, word.strip_prefix(front.as_bytes())?)))
+pub fn for_preprocessor(word: &[u8]) -> Option<(&'static str, &[u8])> {
+    for front in FOR_PREPROCESSOR {
+        if let Some(path) = word.strip_prefix(front.as_bytes()) {
+            return Some((front, path));
+        }
+    }
+    None
 }
 
 /// What the words of a command say of its dependency file.
