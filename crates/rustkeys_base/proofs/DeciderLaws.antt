@@ -7,15 +7,18 @@ use Rattle.std.specs.Str.{bytes_eq}
 use Rattle.std.proofs.lemmas.Bool.{false≢true}
 use Rattle.os_files.specs.Bytes.{Bytes}
 use Rattle.os_files.specs.Tree.{Tree}
-use Rattle.cmdlines_base.specs.Reading.{Item}
+use Rattle.cmdlines_base.specs.Choices.{sooner}
+use Rattle.cmdlines_base.specs.Reading.{Item, Reading}
 use Rattle.rustc_options.specs.declared.data.ArgData.{ArgData}
 use Rattle.rustc_options.specs.declared.data.ArgData.TheVariants as values
 use Rattle.rustc_options.specs.declared.kind.ArgKind.{ArgKind}
 use Rattle.rustkeys_base.specs.Facts.{facts_of, facts_with, no_facts}
 use Rattle.rustkeys_base.specs.Saying.{Token, loose, says, unread, token_of}
-use Rattle.rustkeys_base.specs.Parsing.{Decision, asks, not_compilation, cannot_cache, closing, codegen_decides, decides, is_misread, is_unsure, not_parsed, other_types, second_input, unless_decided, decision_from}
+use Rattle.rustkeys_base.specs.Parsing.{Decision, asks, not_compilation, cannot_cache, closing, codegen_decides, decides, decides_behind, decision_on, first_given, is_misread, is_unsure, not_parsed, other_types, second_input, unless_decided}
 use Rattle.rustkeys_base.specs.declared.facts.Facts.{Facts}
-use Rattle.rustkeys_base.proofs.FactLemmas.{facts-more, facts-none}
+use Rattle.rustkeys_base.specs.Deciders.{NoneDecides}
+use Rattle.rustkeys_base.proofs.FactLemmas.{facts-more, facts-none, facts-of}
+use Rattle.rustkeys_base.proofs.ParsingLemmas.{decision_from}
 
 abbrev is_asks : Decision → Bool
 is_asks asks = true
@@ -111,26 +114,68 @@ module _ (dir : Bytes) (files : Tree) where
       ∙ passed items (onto f item) rest cut (tail-none f item items h)
       ∙ ap (λ g. decision_from dir files g rest cut) (facts-more f (token_of item) (map token_of items))
 
-  pub first_decides : (earlier later : List (Item ArgKind)) (item : Item ArgKind) (cut : Bool) (decision : Decision) → NoneFrom no_facts earlier → decided (facts_of (map token_of earlier)) item ≡ Some decision → decision_from dir files no_facts (earlier ++ item ∷ later) cut ≡ decision
-  first_decides earlier later item cut decision nones h = passed earlier no_facts (item ∷ later) cut nones ∙ one (facts_of (map token_of earlier)) item later cut (Some decision) h
+  first_decides_from : (earlier later : List (Item ArgKind)) (item : Item ArgKind) (cut : Bool) (decision : Decision) → NoneFrom no_facts earlier → decided (facts_with no_facts (map token_of earlier)) item ≡ Some decision → decision_from dir files no_facts (earlier ++ item ∷ later) cut ≡ decision
+  first_decides_from earlier later item cut decision nones h = passed earlier no_facts (item ∷ later) cut nones ∙ one (facts_with no_facts (map token_of earlier)) item later cut (Some decision) h
 
-  pub none_decides : (items : List (Item ArgKind)) (cut : Bool) → NoneFrom no_facts items → decision_from dir files no_facts items cut ≡ (if cut then not_parsed else closing (facts_of (map token_of items)))
-  none_decides items cut nones = ap (λ (l : List (Item ArgKind)). decision_from dir files no_facts l cut) (sym (append-nil items)) ∙ passed items no_facts [] cut nones
+  none_decides_from : (items : List (Item ArgKind)) (cut : Bool) → NoneFrom no_facts items → decision_from dir files no_facts items cut ≡ (if cut then not_parsed else closing (facts_with no_facts (map token_of items)))
+  none_decides_from items cut nones = ap (λ (l : List (Item ArgKind)). decision_from dir files no_facts l cut) (sym (append-nil items)) ∙ passed items no_facts [] cut nones
 
   abbrev Asks : Facts → List (Item ArgKind) → Bool → Type 0
   Asks f items cut = NoneFrom f items × (cut ≡ false) × (closing (facts_with f (map token_of items)) ≡ asks)
 
-  pub asks_for : (items : List (Item ArgKind)) (f : Facts) (cut : Bool) → decision_from dir files f items cut ≡ asks → Asks f items cut
-  asks_for [] f true h = absurd (false≢true (ap is_asks h))
-  asks_for [] f false h = (nowhere, refl, ap closing (facts-none f) ∙ h)
+  asks_from : (items : List (Item ArgKind)) (f : Facts) (cut : Bool) → decision_from dir files f items cut ≡ asks → Asks f items cut
+  asks_from [] f true h = absurd (false≢true (ap is_asks h))
+  asks_from [] f false h = (nowhere, refl, ap closing (facts-none f) ∙ h)
     where
       nowhere : NoneFrom f []
       nowhere [] item later e = cc
       nowhere (first ∷ earlier) item later e = cc
-  asks_for (item ∷ items) f cut h = by (decided f item) refl (asks_for items (onto f item) cut)
+  asks_from (item ∷ items) f cut h = by (decided f item) refl (asks_from items (onto f item) cut)
     where
       by : (o : Option Decision) → decided f item ≡ o → (decision_from dir files (onto f item) items cut ≡ asks → Asks (onto f item) items cut) → Asks f (item ∷ items) cut
       by None none later =
           let rest = later (sym (one f item items cut None none) ∙ h) in
           (both-none f item items none rest.0, rest.1, ap closing (sym (facts-more f (token_of item) (map token_of items))) ∙ rest.2)
       by (Some decision) some later = absurd (refuses f item decision some (sym (one f item items cut (Some decision) some) ∙ h))
+
+  joined : (o p : Option Decision) (d : Decision) → unless_decided o (unless_decided p d) ≡ unless_decided (sooner o p) d
+  joined None p d = refl
+  joined (Some decision) p d = refl
+
+  abbrev behind : Facts → List (Item ArgKind) → Item ArgKind → Option Decision
+  behind f earlier item = decided (facts_with f (map token_of earlier)) item
+
+  abbrev closed : Facts → Bool → Decision
+  closed f cut = if cut then not_parsed else closing f
+
+  first_from : (items : List (Item ArgKind)) (f : Facts) (cut : Bool) → decision_from dir files f items cut ≡ unless_decided (first_given (behind f) items) (closed (facts_with f (map token_of items)) cut)
+  first_from [] f cut = ap (λ g. closed g cut) (sym (facts-none f))
+  first_from (item ∷ items) f cut =
+      let none = sym (facts-none f) in
+      one f item items cut (decided f item) refl
+      ∙ ap (unless_decided (decided f item)) (first_from items (onto f item) cut)
+      ∙ joined (decided f item) (first_given (behind (onto f item)) items) (closed (facts_with (onto f item) (map token_of items)) cut)
+      ∙ (λ i. unless_decided (sooner (decided (none i) item) (first_given (λ earlier other. decided (facts-more f (token_of item) (map token_of earlier) i) other) items)) (closed (facts-more f (token_of item) (map token_of items) i) cut))
+
+  -- the decision that is come to item by item is that of the first item that decides, or of all of them
+  pub decision_is : (items : List (Item ArgKind)) (cut : Bool) → decision_from dir files no_facts items cut ≡ decision_on dir files (record { items = items; cut_short = cut })
+  decision_is items cut =
+      first_from items no_facts cut
+      ∙ (λ i. unless_decided (first_given (λ earlier item. decided (facts-of (map token_of earlier) i) item) items) (closed (facts-of (map token_of items) i) cut))
+
+  nones_from : (items : List (Item ArgKind)) → NoneDecides dir files items → NoneFrom no_facts items
+  nones_from items nones earlier item later e = ap (λ f. decided f item) (facts-of (map token_of earlier)) ∙ nones earlier item later e
+
+  pub first_decides : (earlier later : List (Item ArgKind)) (item : Item ArgKind) (cut : Bool) (decision : Decision) → NoneDecides dir files earlier → decides_behind dir files earlier item ≡ Some decision → decision_on dir files (record { items = earlier ++ item ∷ later; cut_short = cut }) ≡ decision
+  first_decides earlier later item cut decision nones h =
+      sym (decision_is (earlier ++ item ∷ later) cut)
+      ∙ first_decides_from earlier later item cut decision (nones_from earlier nones) (ap (λ f. decided f item) (facts-of (map token_of earlier)) ∙ h)
+
+  pub none_decides : (items : List (Item ArgKind)) (cut : Bool) → NoneDecides dir files items → decision_on dir files (record { items = items; cut_short = cut }) ≡ closed (facts_of (map token_of items)) cut
+  none_decides items cut nones =
+      sym (decision_is items cut) ∙ none_decides_from items cut (nones_from items nones) ∙ ap (λ f. closed f cut) (facts-of (map token_of items))
+
+  pub asks_for : (r : Reading ArgKind) → decision_on dir files r ≡ asks → NoneDecides dir files r.items × (r.cut_short ≡ false) × (closing (facts_of (map token_of r.items)) ≡ asks)
+  asks_for r h =
+      let from = asks_from r.items no_facts r.cut_short (decision_is r.items r.cut_short ∙ h) in
+      ((λ earlier item later e. ap (λ f. decided f item) (sym (facts-of (map token_of earlier))) ∙ from.0 earlier item later e), from.1, ap closing (sym (facts-of (map token_of r.items))) ∙ from.2)

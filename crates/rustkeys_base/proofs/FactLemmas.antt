@@ -4,7 +4,7 @@ use Rattle.std.specs.Prelude.{filter_map}
 use Rattle.std.specs.List.{list_any}
 use Rattle.std.proofs.lemmas.List.Elements.{filter_map-append}
 use Rattle.cmdlines_base.specs.Choices.{later, sooner}
-use Rattle.rustkeys_base.specs.Facts.{facts_with, first_said, last_said}
+use Rattle.rustkeys_base.specs.Facts.{facts_of, facts_with, first_said, last_said, no_facts}
 use Rattle.rustkeys_base.specs.Saying.{Token, by_data, if_data, input_in, out_dir_said, emit_said, crate_name_said, color_said, extra_filename_said, profile_use_said, target_file_said, extern_said, static_library_said, crate_path_said, static_path_said, is_json, gives_rlib, gives_staticlib, asks_gcno}
 use Rattle.rustkeys_base.specs.declared.facts.Facts.{Facts}
 
@@ -29,6 +29,10 @@ sooner-none (Some v) = refl
 
 last-more : {X : Type 0} (said : Token → Option X) (start : Option X) (t : Token) (ts : List Token) → later (later start (last_said said (t ∷ []))) (last_said said ts) ≡ later start (last_said said (t ∷ ts))
 last-more said start t ts = later-assoc start (said t) (last_said said ts)
+
+later-none : {X : Type 0} (a : Option X) → later None a ≡ a
+later-none None = refl
+later-none (Some v) = refl
 
 first-more : {X : Type 0} (said : Token → Option X) (start : Option X) (t : Token) (ts : List Token) → sooner (sooner start (first_said said (t ∷ []))) (first_said said ts) ≡ sooner start (first_said said (t ∷ ts))
 first-more said start t ts = ap (λ s. sooner (sooner start s) (first_said said ts)) (sooner-none (said t)) ∙ sooner-assoc start (said t) (first_said said ts)
@@ -74,4 +78,25 @@ facts-none f = λ i. record {
   crate_paths = append-nil f.crate_paths i;
   static_paths = append-nil f.static_paths i;
   static_libraries = append-nil f.static_libraries i;
+}
+
+-- what is said by all of them is what is known of them, from nothing
+pub facts-of : (tokens : List Token) → facts_with no_facts tokens ≡ facts_of tokens
+facts-of tokens = λ i. record {
+  input = first_said input_in tokens;
+  output_dir = later-none (last_said (by_data out_dir_said) tokens) i;
+  emit = first_said (by_data emit_said) tokens;
+  crate_name = later-none (last_said (by_data crate_name_said) tokens) i;
+  color = later-none (last_said (by_data color_said) tokens) i;
+  extra_filename = later-none (last_said (by_data extra_filename_said) tokens) i;
+  profile_use = later-none (last_said (by_data profile_use_said) tokens) i;
+  target_json = later-none (last_said (by_data target_file_said) tokens) i;
+  has_json = list_any (if_data is_json) tokens;
+  rlib = list_any (if_data gives_rlib) tokens;
+  staticlib = list_any (if_data gives_staticlib) tokens;
+  asks_gcno = list_any (if_data asks_gcno) tokens;
+  externs = filter_map (by_data extern_said) tokens;
+  crate_paths = filter_map (by_data crate_path_said) tokens;
+  static_paths = filter_map (by_data static_path_said) tokens;
+  static_libraries = filter_map (by_data static_library_said) tokens;
 }

@@ -7,3 +7,4 @@ pub mod ParsingLemmas
 pub mod DeciderLaws
 mod HeldWords
 pub mod AskLemmas
+pub mod AskedLemmas

@@ -1,5 +1,6 @@
 -- Laws of the decision, item by item.
-use Rattle.std.proofs.Common.{◌≡◌, true, false, List, [], ◌∷◌, Option, Some, None, refl, ap, sym, subst, ◌∙◌}
+use Rattle.std.proofs.Common.{◌≡◌, Bool, true, false, List, [], ◌∷◌, Option, Some, None, refl, ap, sym, subst, ◌∙◌}
+use Rattle.std.specs.Bool.{if◌then◌else◌}
 use Rattle.std.specs.Prelude.{is_some, map}
 use Rattle.std.specs.List.{AllZip}
 use Rattle.os_files.specs.Bytes.{Bytes}
@@ -19,9 +20,16 @@ use Rattle.rustc_options.specs.declared.kind.ArgKind.{ArgKind}
 use Rattle.rustkeys_base.specs.Facts.{facts_of, facts_with}
 use Rattle.rustkeys_base.specs.Requests.{IsArgument, IsAsked, IsAskedBy, IsParsed, wanted}
 use Rattle.rustkeys_base.specs.Saying.{token_of}
-use Rattle.rustkeys_base.specs.Parsing.{AsksNothing, Decision, decides, is_misread, not_parsed, decision_from}
+use Rattle.rustkeys_base.specs.Parsing.{AsksNothing, Decision, closing, decides, is_misread, not_parsed, unless_decided}
 use Rattle.rustkeys_base.specs.declared.facts.Facts.{Facts}
 use Rattle.rustc_requests.specs.declared.parsed.ParsedArguments.{ParsedArguments}
+
+-- The decision as a parse comes to it, item by item, from what is known.
+abbrev pub decision_from : Bytes → Tree → Facts → List (Item ArgKind) → Bool → Decision
+decision_from dir files so_far [] cut_short = if cut_short then not_parsed else closing so_far
+decision_from dir files so_far (item ∷ items) cut_short =
+    if is_misread item then not_parsed
+    else unless_decided (decides dir files so_far (token_of item)) (decision_from dir files (facts_with so_far (token_of item ∷ [])) items cut_short)
 
 -- what is known, and the items that are left
 abbrev pub decision_at : Bytes → Tree → Facts → Reading ArgKind → Decision

@@ -34,7 +34,29 @@ no_facts = record {
   static_libraries = [];
 }
 
--- what was known, and then all that these say: the first input and the first emit, the last of all other words, and each item of the lists
+-- What all of them say together: the first input and the first emit, the last of all other words, each item of the lists, and of the
+-- rest whether any says it.
+abbrev pub facts_of : List Token → Facts
+facts_of tokens = record {
+  input = first_said input_in tokens;
+  output_dir = last_said (by_data out_dir_said) tokens;
+  emit = first_said (by_data emit_said) tokens;
+  crate_name = last_said (by_data crate_name_said) tokens;
+  color = last_said (by_data color_said) tokens;
+  extra_filename = last_said (by_data extra_filename_said) tokens;
+  profile_use = last_said (by_data profile_use_said) tokens;
+  target_json = last_said (by_data target_file_said) tokens;
+  has_json = list_any (if_data is_json) tokens;
+  rlib = list_any (if_data gives_rlib) tokens;
+  staticlib = list_any (if_data gives_staticlib) tokens;
+  asks_gcno = list_any (if_data asks_gcno) tokens;
+  externs = filter_map (by_data extern_said) tokens;
+  crate_paths = filter_map (by_data crate_path_said) tokens;
+  static_paths = filter_map (by_data static_path_said) tokens;
+  static_libraries = filter_map (by_data static_library_said) tokens;
+}
+
+-- what was known, and then what these say too
 abbrev pub facts_with : Facts → List Token → Facts
 facts_with f tokens = record {
   input = sooner f.input (first_said input_in tokens);
@@ -54,6 +76,3 @@ facts_with f tokens = record {
   static_paths = f.static_paths ++ filter_map (by_data static_path_said) tokens;
   static_libraries = f.static_libraries ++ filter_map (by_data static_library_said) tokens;
 }
-
-abbrev pub facts_of : List Token → Facts
-facts_of tokens = facts_with no_facts tokens

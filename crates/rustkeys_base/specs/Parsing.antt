@@ -1,5 +1,5 @@
 -- What rustc's words come to: a request that can be cached, or why there is none.
-use Rattle.std.specs.Prelude.{Bool, true, false, not, ◌&&◌, ◌||◌, List, [], ◌∷◌, ◌++◌, Option, None, Some, is_some, codes, if◌then◌else◌, string_bytes}
+use Rattle.std.specs.Prelude.{Bool, true, false, not, ◌&&◌, ◌||◌, List, [], ◌∷◌, ◌++◌, Option, None, Some, is_some, codes, if◌then◌else◌, map, string_bytes}
 use Rattle.std.specs.List.{list_any}
 use Rattle.std.specs.Option.{option_map, option_map_or}
 use Rattle.std.specs.Str.{bytes_eq}
@@ -7,6 +7,7 @@ use Rattle.std.specs.Str.Lossy.{utf8_lossy}
 use Rattle.os_files.specs.Bytes.{Bytes}
 use Rattle.os_files.specs.Path.{join}
 use Rattle.os_files.specs.Tree.{Tree, is_file_at}
+use Rattle.cmdlines_base.specs.Choices.{sooner}
 use Rattle.cmdlines_base.specs.Reading.{Item, Reading}
 use Rattle.cmdlines_base.specs.Values.{refusal_of, values_by}
 use Rattle.cmdlines_base.specs.declared.compiler_arguments.CompilerArguments.{CompilerArguments}
@@ -19,7 +20,7 @@ use Rattle.rustc_options.specs.declared.data.ArgData.TheVariants as values
 use Rattle.rustc_options.specs.declared.kind.ArgKind.{ArgKind}
 use Rattle.rustc_options.specs.declared.types.ArgTarget.{ArgTarget}
 use Rattle.rustc_options.specs.declared.types.ArgTarget.TheVariants as targets
-use Rattle.rustkeys_base.specs.Facts.{no_facts, facts_with}
+use Rattle.rustkeys_base.specs.Facts.{facts_of}
 use Rattle.rustkeys_base.specs.Saying.{Token, loose, says, unread, token_of}
 use Rattle.rustkeys_base.specs.declared.deciding.Refusal.{Refusal}
 use Rattle.rustkeys_base.specs.declared.deciding.Refusal.TheVariants as refusals
@@ -125,16 +126,20 @@ not_parsed = refused (codes "argument parse")
 abbrev pub is_misread : Item ArgKind → Bool
 is_misread item = is_some (refusal_of (values_by IsFlagValue IsWordValue refusal) item)
 
+-- What an item decides behind those that stand before it: one whose value is refused does.
+abbrev pub decides_behind : Bytes → Tree → List (Item ArgKind) → Item ArgKind → Option Decision
+decides_behind dir files earlier item =
+    let so_far = facts_of (map token_of earlier) in
+    if is_misread item then Some not_parsed else decides dir files so_far (token_of item)
+
+-- what the first of them gives that gives anything, each asked with those before it
+abbrev pub first_given : {X Y : Type 0} → (List X → X → Option Y) → List X → Option Y
+first_given given [] = None
+first_given given (x ∷ xs) = sooner (given [] x) (first_given (λ earlier. given (x ∷ earlier)) xs)
+
 abbrev pub unless_decided : Option Decision → Decision → Decision
 unless_decided None later = later
 unless_decided (Some decision) later = decision
-
--- The first item that decides does; else words that are cut short do; else the closing rules.
-abbrev pub decision_from : Bytes → Tree → Facts → List (Item ArgKind) → Bool → Decision
-decision_from dir files so_far [] cut_short = if cut_short then not_parsed else closing so_far
-decision_from dir files so_far (item ∷ items) cut_short =
-    if is_misread item then not_parsed
-    else unless_decided (decides dir files so_far (token_of item)) (decision_from dir files (facts_with so_far (token_of item ∷ [])) items cut_short)
 
 -- A first word `rustc`, which a wrapper leaves there, is none of the request's.
 abbrev pub behind_rustc : List Bytes → List Bytes
@@ -145,5 +150,8 @@ behind_rustc (word ∷ words) = if bytes_eq word (codes "rustc") then words else
 abbrev pub request_reading : List Bytes → Reading ArgKind
 request_reading words = rustc_reading (behind_rustc words)
 
+-- The first item that decides does; else words that are cut short do; else the closing rules, on all that the items say.
 abbrev pub decision_on : Bytes → Tree → Reading ArgKind → Decision
-decision_on dir files r = decision_from dir files no_facts r.items r.cut_short
+decision_on dir files r =
+    unless_decided (first_given (decides_behind dir files) r.items)
+    (if r.cut_short then not_parsed else closing (facts_of (map token_of r.items)))

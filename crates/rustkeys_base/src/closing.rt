@@ -1,12 +1,13 @@
 //! What all arguments of a request come to, once none of them decides by itself.
 
 ghost use Rattle.std.specs.Prelude.{◌≡◌, Some, map, IfOk, IfErr, IsErrOf, OnOk, MatchOption, codes};
-ghost use Rattle.std.specs.List.{list_any};
+ghost use Rattle.std.specs.List.{Contains, list_any};
 ghost use Rattle.cmdlines_base.specs.Choices.{when};
 ghost use Rattle.os_files.specs.Path.{join, path_cmp};
 ghost use Rattle.os_files.specs.Views.{FilesFail};
 ghost use Rattle.rustc_options.specs.Sets.{in_order};
 ghost use Rattle.response_files.specs.Causes.{CauseOf};
+ghost use Rattle.rustkeys_base.specs.Asking.{library_places};
 ghost use Rattle.rustkeys_base.specs.Requests.{IsAskedBy, IsMadeOf, color_mode, named_by_crate, emits, dep_info, gcno, profile, static_libraries};
 ghost use Rattle.rustc_requests.specs.Sorted.{sorted_by};
 ghost use Rattle.rustkeys_base.specs.Parsing.{asks, closing, emitted, has_kind, is_supported, is_unsupported, decision_of, decision_of_refusal};
@@ -188,6 +189,7 @@ fn made_for<F: Files>(
     ensures gcno { IfOk result (λ made. made.gcno ≡ gcno facts.now) }
     ensures emit { IfOk result (λ made. made.emit ≡ in_order (emitted facts.now)) }
     ensures cause { IfErr result (CauseOf (FilesFail F.Files files.old files.new)) }
+    ensures names { IfErr result (CauseOf (Contains (library_places dir.now facts.now))) }
     ensures tree { F.tree files.new ≡ F.tree files.old }
     ensures steady { OnOk result (F.failed files.new ≡ F.failed files.old) }
     ensures memory { IsErrOf result ParseFault.Memory → F.failed files.new ≡ F.failed files.old }
@@ -252,6 +254,7 @@ pub(crate) fn close<F: Files>(
     ensures decision { IfOk result (λ answer. decision_of answer ≡ closing facts) }
     ensures asked { IfOk result (IsAskedBy dir.now (F.tree files.old) facts arguments) }
     ensures cause { IfErr result (CauseOf (FilesFail F.Files files.old files.new)) }
+    ensures names { IfErr result (CauseOf (Contains (library_places dir.now facts))) }
     ensures tree { F.tree files.new ≡ F.tree files.old }
     ensures steady { OnOk result (F.failed files.new ≡ F.failed files.old) }
     ensures memory { IsErrOf result ParseFault.Memory → F.failed files.new ≡ F.failed files.old }

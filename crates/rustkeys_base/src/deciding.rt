@@ -1,9 +1,10 @@
 //! What one argument decides by itself, after what is known of those before it.
 
-ghost use Rattle.std.specs.Prelude.{◌≡◌, IfOk, IfErr, IsErrOf, OnOk};
+ghost use Rattle.std.specs.Prelude.{◌≡◌, Some, IfOk, IfErr, IsErrOf, OnOk};
 ghost use Rattle.std.specs.Option.{option_map};
 ghost use Rattle.os_files.specs.Views.{FilesFail};
 ghost use Rattle.response_files.specs.Causes.{CauseOf};
+ghost use Rattle.rustkeys_base.specs.Asking.{target_file, target_file_in, target_file_said};
 ghost use Rattle.rustkeys_base.specs.Saying.{token_in};
 ghost use Rattle.rustkeys_base.specs.Parsing.{AsksNothing, decision_of, decision_of_refusal, refused, second_input, other_types, codegen_decides, is_unsure, option_decides, decides};
 
@@ -94,6 +95,7 @@ fn is_unsure<F: Files>(
     ensures answer { IfOk result
         (λ unsure. unsure ≡ is_unsure dir.now (F.tree files.old) target.now) }
     ensures cause { IfErr result (CauseOf (FilesFail F.Files files.old files.new)) }
+    ensures asked { IfErr result (CauseOf (λ name. target_file dir.now target.now ≡ Some name)) }
     ensures tree { F.tree files.new ≡ F.tree files.old }
     ensures steady { OnOk result (F.failed files.new ≡ F.failed files.old) }
     ensures memory { IsErrOf result ParseFault.Memory → F.failed files.new ≡ F.failed files.old }
@@ -126,6 +128,7 @@ fn option_decides<F: Files>(
         (λ why. option_map decision_of_refusal why
         ≡ option_decides dir.now (F.tree files.old) so_far.now flag.now value.now) }
     ensures cause { IfErr result (CauseOf (FilesFail F.Files files.old files.new)) }
+    ensures asked { IfErr result (CauseOf (λ name. target_file_said dir.now value.now ≡ Some name)) }
     ensures tree { F.tree files.new ≡ F.tree files.old }
     ensures steady { OnOk result (F.failed files.new ≡ F.failed files.old) }
     ensures memory { IsErrOf result ParseFault.Memory → F.failed files.new ≡ F.failed files.old }
@@ -161,6 +164,8 @@ pub(crate) fn decides<F: Files>(
         (λ why. option_map decision_of_refusal why
         ≡ decides dir.now (F.tree files.old) so_far.now (token_in argument.now)) }
     ensures cause { IfErr result (CauseOf (FilesFail F.Files files.old files.new)) }
+    ensures asked { IfErr result
+        (CauseOf (λ name. target_file_in dir.now (token_in argument.now) ≡ Some name)) }
     ensures tree { F.tree files.new ≡ F.tree files.old }
     ensures steady { OnOk result (F.failed files.new ≡ F.failed files.old) }
     ensures memory { IsErrOf result ParseFault.Memory → F.failed files.new ≡ F.failed files.old }

@@ -1,6 +1,6 @@
 //! rustc's words with the files that they name opened.
 
-ghost use Rattle.std.specs.Prelude.{◌≡◌, ◌∷◌, ◌++◌, [], false, Err, IfErr, IfOk, IsErrOf, List, Ok, OnOk, codes, length, map};
+ghost use Rattle.std.specs.Prelude.{◌≡◌, ◌∷◌, ◌++◌, [], false, Err, IfErr, IfOk, IsErrOf, List, Ok, OnOk, Some, codes, length, map};
 ghost use Rattle.std.specs.Iterator.{at_most};
 ghost use Rattle.std.specs.List.{list_any};
 ghost use Rattle.std.specs.Option.{option_copied};
@@ -10,6 +10,7 @@ ghost use Rattle.os_files.specs.Views.{FilesFail};
 ghost use Rattle.response_files.specs.Causes.{CauseOf};
 ghost use Rattle.response_files.specs.Styles.{behind};
 ghost use Rattle.response_files.specs.Words.{Gives, Takes};
+ghost use Rattle.rustkeys_base.specs.Asking.{IsNamedIn};
 ghost use Rattle.rustkeys_base.specs.Expansion.{expanded_by_rustc, names_file, opened_by, path_of, words_of_text};
 ghost use Rattle.rustkeys_base.specs.Words.{items_left};
 
@@ -59,6 +60,7 @@ fn opened_by<F: Files>(
 ) -> Result<Option<Listed<OsBytes>>, ParseFault>
     ensures opened { IfOk result (λ words. words ≡ opened_by dir.now (F.tree files.old) word.now) }
     ensures cause { IfErr result (CauseOf (FilesFail F.Files files.old files.new)) }
+    ensures asked { IfErr result (CauseOf (λ name. path_of dir.now word.now ≡ Some name)) }
     ensures tree { F.tree files.new ≡ F.tree files.old }
     ensures steady { OnOk result (F.failed files.new ≡ F.failed files.old) }
     ensures memory { IsErrOf result ParseFault.Memory → F.failed files.new ≡ F.failed files.old }
@@ -85,6 +87,7 @@ pub fn expand_rustc<F: Files>(
     ensures words { IfOk result
         (λ list. list ≡ expanded_by_rustc dir.now (F.tree files.old) words.now) }
     ensures cause { IfErr result (CauseOf (FilesFail F.Files files.old files.new)) }
+    ensures asked { IfErr result (CauseOf (IsNamedIn dir.now words.now)) }
     ensures tree { F.tree files.new ≡ F.tree files.old }
     ensures steady { OnOk result (F.failed files.new ≡ F.failed files.old) }
     ensures memory { IsErrOf result ParseFault.Memory → F.failed files.new ≡ F.failed files.old }
@@ -118,6 +121,9 @@ impl ExpandResponseFile {
         ensures gives { Gives (items_left result)
             (expanded_by_rustc dir.now (F.tree files.old) words.now)
             (FilesFail F.Files files.old files.new) }
+        ensures asked { Gives (items_left result)
+            (expanded_by_rustc dir.now (F.tree files.old) words.now)
+            (IsNamedIn dir.now words.now) }
         ensures tree { F.tree files.new ≡ F.tree files.old }
         // No device failed where words are all that comes, nor where want of memory is.
         ensures steady { (given : List Bytes) → items_left result ≡ map Ok given

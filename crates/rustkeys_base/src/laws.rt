@@ -5,10 +5,10 @@ ghost use Rattle.os_files.specs.Bytes.{Bytes};
 ghost use Rattle.os_files.specs.Tree.{Tree};
 ghost use Rattle.cmdlines_base.specs.Reading.{Item, Reading};
 ghost use Rattle.rustc_options.specs.declared.kind.ArgKind.{ArgKind};
-ghost use Rattle.rustkeys_base.specs.Deciders.{NoneDecides, decides_behind};
+ghost use Rattle.rustkeys_base.specs.Deciders.{NoneDecides};
 ghost use Rattle.rustkeys_base.specs.Facts.{facts_of};
 ghost use Rattle.rustkeys_base.specs.Saying.{token_of};
-ghost use Rattle.rustkeys_base.specs.Parsing.{Decision, asks, closing, not_parsed, decision_on};
+ghost use Rattle.rustkeys_base.specs.Parsing.{Decision, asks, closing, decides_behind, not_parsed, decision_on};
 
 /// The first item that decides does, and one whose value is refused decides too; where none does, words that are cut short do, and
 /// else the closing rules. Something is asked for only where no item decides, the words are whole, and the closing rules ask for it.

@@ -1,11 +1,12 @@
 //! Static libraries, where they lie.
 
 ghost use Rattle.std.specs.Prelude.{◌≡◌, ◌++◌, IfOk, IfErr, IsErrOf, OnOk, find, map, filter_map};
+ghost use Rattle.std.specs.List.{Contains, flat_map};
 ghost use Rattle.os_files.specs.Path.{join};
 ghost use Rattle.os_files.specs.Tree.{exists_at};
 ghost use Rattle.os_files.specs.Views.{FilesFail};
 ghost use Rattle.response_files.specs.Causes.{CauseOf};
-ghost use Rattle.rustkeys_base.specs.Requests.{library_names, library_in};
+ghost use Rattle.rustkeys_base.specs.Requests.{library_names, library_in, library_paths};
 
 use os_files::files::{FileFail, Files};
 use os_files::listed::Listed;
@@ -59,6 +60,7 @@ fn library_names(alloc: Global, name: &OsBytes) -> Result<Listed<OsBytes>, Alloc
 fn exists<F: Files>(alloc: Global, path: &OsBytes, files: &mut F) -> Result<bool, ParseFault>
     ensures answer { IfOk result (λ is_there. is_there ≡ exists_at (F.tree files.old) path.now) }
     ensures cause { IfErr result (CauseOf (FilesFail F.Files files.old files.new)) }
+    ensures asked { IfErr result (CauseOf (λ name. path.now ≡ name)) }
     ensures tree { F.tree files.new ≡ F.tree files.old }
     ensures steady { OnOk result (F.failed files.new ≡ F.failed files.old) }
     ensures memory { IsErrOf result ParseFault.Memory → F.failed files.new ≡ F.failed files.old }
@@ -80,6 +82,7 @@ fn first_there<F: Files>(
 ) -> Result<Option<OsBytes>, ParseFault>
     ensures answer { IfOk result (λ found. found ≡ find (exists_at (F.tree files.old)) paths.now) }
     ensures cause { IfErr result (CauseOf (FilesFail F.Files files.old files.new)) }
+    ensures asked { IfErr result (CauseOf (Contains paths.now)) }
     ensures tree { F.tree files.new ≡ F.tree files.old }
     ensures steady { OnOk result (F.failed files.new ≡ F.failed files.old) }
     ensures memory { IsErrOf result ParseFault.Memory → F.failed files.new ≡ F.failed files.old }
@@ -104,6 +107,7 @@ fn library_in<F: Files>(
     ensures answer { IfOk result
         (λ found. found ≡ library_in (F.tree files.old) folders.now name.now) }
     ensures cause { IfErr result (CauseOf (FilesFail F.Files files.old files.new)) }
+    ensures asked { IfErr result (CauseOf (Contains (library_paths folders.now name.now))) }
     ensures tree { F.tree files.new ≡ F.tree files.old }
     ensures steady { OnOk result (F.failed files.new ≡ F.failed files.old) }
     ensures memory { IsErrOf result ParseFault.Memory → F.failed files.new ≡ F.failed files.old }
@@ -130,6 +134,8 @@ pub(crate) fn libraries_in<F: Files>(
     ensures answer { IfOk result
         (λ found. found ≡ filter_map (library_in (F.tree files.old) folders.now) names.now) }
     ensures cause { IfErr result (CauseOf (FilesFail F.Files files.old files.new)) }
+    ensures asked { IfErr result
+        (CauseOf (Contains (flat_map (library_paths folders.now) names.now))) }
     ensures tree { F.tree files.new ≡ F.tree files.old }
     ensures steady { OnOk result (F.failed files.new ≡ F.failed files.old) }
     ensures memory { IsErrOf result ParseFault.Memory → F.failed files.new ≡ F.failed files.old }

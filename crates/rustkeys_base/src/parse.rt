@@ -1,11 +1,12 @@
 //! The parse of rustc's words: they are cut by its table, and what they say is gathered and closed.
 
-ghost use Rattle.std.specs.Prelude.{◌≡◌, ◌↔◌, [], ◌∷◌, alloc_error, IfOk, IfErr, IsErrOf, OnOk, MatchOption};
+ghost use Rattle.std.specs.Prelude.{◌≡◌, ◌↔◌, [], ◌∷◌, Some, alloc_error, IfOk, IfErr, IsErrOf, OnOk, MatchOption};
 ghost use Rattle.response_files.specs.Causes.{CauseOf};
 ghost use Rattle.rustkeys_base.specs.Expansion.{expanded_by_rustc};
 ghost use Rattle.std.specs.Option.{option_map};
 ghost use Rattle.os_files.specs.Views.{FilesFail};
 ghost use Rattle.rustc_options.specs.Table.{rustc_entries, rustc_reading};
+ghost use Rattle.rustkeys_base.specs.Asking.{IsAskedByItems, IsAskedByRustc, IsTargetFile, target_file_in};
 ghost use Rattle.rustkeys_base.specs.Asks.{AsksFor, asks_of};
 ghost use Rattle.rustkeys_base.specs.Facts.{no_facts, facts_with};
 ghost use Rattle.rustkeys_base.specs.Requests.{Gathers, IsAsked, kept_with};
@@ -81,6 +82,8 @@ fn note<F: Files>(
         (λ why. MatchOption why (facts.new ≡ facts_with facts.old (token_in argument.now ∷ []))
         (λ decided. Unit {0})) }
     ensures cause { IfErr result (CauseOf (FilesFail F.Files files.old files.new)) }
+    ensures asked { IfErr result
+        (CauseOf (λ name. target_file_in dir.now (token_in argument.now) ≡ Some name)) }
     ensures tree { F.tree files.new ≡ F.tree files.old }
     ensures steady { OnOk result (F.failed files.new ≡ F.failed files.old) }
     ensures memory { IsErrOf result ParseFault.Memory → F.failed files.new ≡ F.failed files.old }
@@ -110,6 +113,8 @@ fn take<F: Files>(
     ensures kept { IfOk result
         (λ why. MatchOption why (kept.new ≡ kept_with kept.old argument) (λ decided. Unit {0})) }
     ensures cause { IfErr result (CauseOf (FilesFail F.Files files.old files.new)) }
+    ensures asked { IfErr result
+        (CauseOf (λ name. target_file_in dir.now (token_in argument) ≡ Some name)) }
     ensures tree { F.tree files.new ≡ F.tree files.old }
     ensures steady { OnOk result (F.failed files.new ≡ F.failed files.old) }
     ensures memory { IsErrOf result ParseFault.Memory → F.failed files.new ≡ F.failed files.old }
@@ -138,6 +143,8 @@ fn gather<F: Files>(
     ensures gathered { IfOk result
         (Gathers dir.now (F.tree files.old) (rustc_reading words.now) facts.new kept.new) }
     ensures cause { IfErr result (CauseOf (FilesFail F.Files files.old files.new)) }
+    ensures asked { IfErr result
+        (CauseOf (IsTargetFile dir.now (rustc_reading words.now).items)) }
     ensures tree { F.tree files.new ≡ F.tree files.old }
     ensures steady { OnOk result (F.failed files.new ≡ F.failed files.old) }
     ensures memory { IsErrOf result ParseFault.Memory → F.failed files.new ≡ F.failed files.old }
@@ -170,6 +177,8 @@ fn parse<F: Files>(
     ensures asked { IfOk result
         (IsAsked dir.now (F.tree files.old) (request_reading words.now).items) }
     ensures cause { IfErr result (CauseOf (FilesFail F.Files files.old files.new)) }
+    ensures names { IfErr result
+        (CauseOf (IsAskedByItems dir.now (request_reading words.now).items)) }
     ensures tree { F.tree files.new ≡ F.tree files.old }
     ensures steady { OnOk result (F.failed files.new ≡ F.failed files.old) }
     ensures memory { IsErrOf result ParseFault.Memory → F.failed files.new ≡ F.failed files.old }
@@ -203,6 +212,8 @@ pub fn parse_arguments<F: Files>(
         (AsksFor (asks_of dir.now (F.tree files.old)
         (request_reading (expanded_by_rustc dir.now (F.tree files.old) words.now)).items)) }
     ensures cause { IfErr result (CauseOf (FilesFail F.Files files.old files.new)) }
+    ensures names { IfErr result
+        (CauseOf (IsAskedByRustc dir.now (F.tree files.old) words.now)) }
     ensures tree { F.tree files.new ≡ F.tree files.old }
     ensures steady { OnOk result (F.failed files.new ≡ F.failed files.old) }
     ensures memory { IsErrOf result ParseFault.Memory → F.failed files.new ≡ F.failed files.old }

@@ -1,5 +1,4 @@
 use Rattle.std.proofs.Common.{true, false}
-use Rattle.rustkeys_base.specs.Facts.{no_facts}
 use Rattle.rustkeys_base.proofs.DeciderLaws.{asks_for, first_decides, none_decides}
 use Rattle.rustkeys_base.proofs.laws.first_that_decides_does.Goals as goal
 
@@ -13,4 +12,4 @@ pub returns-clause-closing : goal.returns-clause-closing
 returns-clause-closing c = λ dir files items nones. none_decides dir files items false nones
 
 pub returns-clause-asks : goal.returns-clause-asks
-returns-clause-asks c = λ dir files r h. asks_for dir files r.items no_facts r.cut_short h
+returns-clause-asks c = λ dir files r h. asks_for dir files r h

@@ -1,6 +1,9 @@
 use Rattle.std.proofs.Common.{◌≡◌, ◌∷◌, [], length, map}
+use Rattle.std.specs.List.{Contains}
 use Rattle.cmdlines_base.specs.Cutting.{place_of, reading_at, table_in}
+use Rattle.cmdlines_base.specs.Reading.{Item}
 use Rattle.rustc_options.specs.Table.{rustc_entries, rustc_reading}
+use Rattle.rustc_options.specs.declared.kind.ArgKind.{ArgKind}
 use Rattle.rustkeys_base.specs.Facts.{facts_of, facts_with}
 use Rattle.rustkeys_base.specs.Saying.{token_of}
 use Rattle.rustkeys_base.specs.Parsing.{decision_on}
@@ -16,6 +19,7 @@ invariant-loop-next g l =
     let all = rustc_reading l.fn.words in
     record {
       table : table_in l.arguments ≡ rustc_entries ∷ [];
+      within : (item : Item ArgKind) → Contains left.items item → Contains all.items item;
       decision : decision_at l.fn.dir tree l.facts left ≡ decision_on l.fn.dir tree all;
       facts : facts_with l.facts (map token_of left.items) ≡ facts_of (map token_of all.items);
       kept : Continues left.items l.kept all.items;
