@@ -1,5 +1,6 @@
 -- In which part two fingerprints differ.
-use Rattle.std.specs.Prelude.{◌≡◌, ◌⊎◌, List, [], ◌∷◌, Option, None, Some}
+use Rattle.std.specs.Prelude.{◌≡◌, ◌⊎◌, List, [], ◌∷◌, ◌++◌, Option, None, Some}
+use Rattle.std.specs.List.{AllByRecursion}
 use Rattle.rustc_parts.specs.declared.parts.Parts.{Parts}
 use Rattle.fingerprints.specs.declared.c_parts.CParts.{CParts}
 use Rattle.fingerprints.specs.declared.fingerprint.Fingerprint.{Fingerprint}
@@ -67,8 +68,21 @@ abbrev pub parts_in : Fingerprint → List Part
 parts_in (C parts) = Family ∷ Compiler ∷ Plusplus ∷ Language ∷ Words ∷ Variables ∷ ExtraContents ∷ Assembler ∷ Text ∷ Names ∷ []
 parts_in (Rustc parts names) = Family ∷ Toolchain ∷ Version ∷ KeptWords ∷ Sources ∷ Externs ∷ Archives ∷ Target ∷ Profile ∷ EnvDeps ∷ CargoPairs ∷ Directory ∷ Names ∷ []
 
--- The first of these parts of which something doesn't hold, where there is one: it holds of the first part, and the first of the others is looked for; or it doesn't, and that part is it.
+-- The part is among these, something doesn't hold of it, and it holds of each part before it.
+pub record ComesFirst (P : Part → Type 0) (parts : List Part) (part : Part) : Type 0 where
+  pub before : List Part
+  pub behind : List Part
+  pub listed : parts ≡ before ++ part ∷ behind
+  pub fails : P part → ⊥
+  pub holds : AllByRecursion P before
+
+-- The first of these parts of which something doesn't hold, where there is one; where there is none, it holds of each.
 abbrev pub IsFirst : (Part → Type 0) → List Part → Option Part → Type 0
-IsFirst P [] None = Unit {0}
-IsFirst P [] (Some part) = ⊥
-IsFirst P (part ∷ parts) found = (P part × IsFirst P parts found) ⊎ ((P part → ⊥) × (found ≡ Some part))
+IsFirst P parts None = AllByRecursion P parts
+IsFirst P parts (Some part) = ComesFirst P parts part
+
+-- The same, as a search finds it: it holds of the first part, and the first of the others is looked for; or it doesn't, and that part is it.
+abbrev pub IsFound : (Part → Type 0) → List Part → Option Part → Type 0
+IsFound P [] None = Unit {0}
+IsFound P [] (Some part) = ⊥
+IsFound P (part ∷ parts) found = (P part × IsFound P parts found) ⊎ ((P part → ⊥) × (found ≡ Some part))

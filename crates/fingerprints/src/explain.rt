@@ -1,7 +1,7 @@
 //! In which part two fingerprints differ.
 
 ghost use Rattle.std.specs.Prelude.{◌≡◌, ◌↔◌, None, true};
-ghost use Rattle.fingerprints.specs.Explaining.{AgreeByRustc, AgreeIn, IsFirst, parts_in};
+ghost use Rattle.fingerprints.specs.Explaining.{AgreeByRustc, AgreeIn, IsFirst, IsFound, parts_in};
 
 use crate::fingerprint::Fingerprint;
 use crate::part::Part;
@@ -79,7 +79,7 @@ fn parts_in(fingerprint: &Fingerprint) -> &'static [Part]
 
 /// The first of these parts in which they differ.
 fn first_unlike(parts: &[Part], one: &Fingerprint, other: &Fingerprint) -> Option<Part>
-    ensures { IsFirst (AgreeIn one.now other.now) parts.now result }
+    ensures { IsFound (AgreeIn one.now other.now) parts.now result }
 {
     let mut rest = parts;
     while let Some((part, others)) = rest.split_first() {

@@ -5,3 +5,4 @@ pub mod WholeRecords
 pub mod PartsInRow
 pub mod Looking
 pub mod Greatest
+pub mod Listed

@@ -6,3 +6,4 @@ pub mod Refusals
 pub mod Surroundings
 pub mod Sightings
 pub mod LookUps
+pub mod Listing

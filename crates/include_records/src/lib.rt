@@ -4,6 +4,7 @@
 pub mod entry;
 pub mod includes;
 pub mod key_text;
+pub mod laws;
 mod layout;
 mod look_up;
 pub mod moments;

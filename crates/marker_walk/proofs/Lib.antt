@@ -1,3 +1,4 @@
+pub mod Appearing
 pub mod Cutting
 pub mod Meaning
 pub mod Once

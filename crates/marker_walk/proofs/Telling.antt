@@ -53,13 +53,13 @@ pub tell_found : (ls : List Bytes) → Tell ls (filter_map sight_in ls)
 tell_found [] = refl
 tell_found (l ∷ ls) = (sight_in l, filter_map sight_in ls, says_found l, tell_found ls, refl)
 
-here : (y : Bytes) (ys : List Bytes) → Contains (y ∷ ys) y
+pub here : (y : Bytes) (ys : List Bytes) → Contains (y ∷ ys) y
 here y ys = (0, omega arith, refl)
 
-later : (y x : Bytes) (ys : List Bytes) → Contains ys x → Contains (y ∷ ys) x
+pub later : (y x : Bytes) (ys : List Bytes) → Contains ys x → Contains (y ∷ ys) x
 later y x ys (k, low, is) = (suc k, omega arith, is)
 
-here_or_later : (y x : Bytes) (ys : List Bytes) → Contains (y ∷ ys) x → (y ≡ x) ⊎ Contains ys x
+pub here_or_later : (y x : Bytes) (ys : List Bytes) → Contains (y ∷ ys) x → (y ≡ x) ⊎ Contains ys x
 here_or_later y x ys (zero, low, is) = inl is
 here_or_later y x ys (suc k, low, is) = inr (k, omega arith, is)
 
@@ -94,7 +94,7 @@ abbrev Marked : List Bytes → Bytes → Type 0
 Marked ls name = (l : Bytes) × Contains ls l × IsMarker l name
 
 -- the names of markers in lines
-abbrev names_in : List Bytes → List Bytes
+abbrev pub names_in : List Bytes → List Bytes
 names_in ls = filter_map name_of (filter_map sight_in ls)
 
 marked_in : (l : Bytes) (ls : List Bytes) (name : Bytes) (found : Option Sight) → sight_in l ≡ found → (Contains (names_in ls) name → Marked ls name)
@@ -157,18 +157,19 @@ refused_text text (asks is) = no_names_if_asked (asks_for_more text) (list_any r
 refused_text text (by_line l stands is) = no_names_if_any (asks_for_more text) (list_any refuses (sights text)) (filter_map name_of (sights text)) (refused_by (lines text) l stands is)
 
 module _ (text : Bytes) (names : List Bytes) (found : marker_names text ≡ Some names) where
-  are : once (filter_map name_of (sights text)) ≡ names
-  are = the_names (asks_for_more text) (list_any refuses (sights text)) (filter_map name_of (sights text)) names found
+  -- they are the names of its markers, each once
+  pub are_once : once (filter_map name_of (sights text)) ≡ names
+  are_once = the_names (asks_for_more text) (list_any refuses (sights text)) (filter_map name_of (sights text)) names found
 
   -- no two of the names are equal
   pub names_distinct : IsDistinct bytes_eq names
-  names_distinct = subst (IsDistinct bytes_eq) are (all_distinct (filter_map name_of (sights text)))
+  names_distinct = subst (IsDistinct bytes_eq) are_once (all_distinct (filter_map name_of (sights text)))
 
   -- each name is a marker's
   pub name_marked : (name : Bytes) → Contains names name → HasMarker text name
   name_marked name h =
       let any = list_any-from_Contains bytes_alike name names h in
-      let all = sym (all_kept_once (filter_map name_of (sights text)) name) ∙ ap (list_any (bytes_eq name)) are ∙ any in
+      let all = sym (all_kept_once (filter_map name_of (sights text)) name) ∙ ap (list_any (bytes_eq name)) are_once ∙ any in
       let w = marked_of (lines text) name (Contains-from_any (λ x y. (bytes_eq-Decides x y).0) name (filter_map name_of (sights text)) all) in
       record { line = w.0; stands = w.1; is = w.2 }
 
@@ -176,4 +177,4 @@ module _ (text : Bytes) (names : List Bytes) (found : marker_names text ≡ Some
   pub marker_named : (name : Bytes) → HasMarker text name → Contains names name
   marker_named name h =
       let any = list_any-from_Contains bytes_alike name (filter_map name_of (sights text)) (named_by (lines text) name h.line h.stands h.is) in
-      Contains-from_any (λ x y. (bytes_eq-Decides x y).0) name names (sym (ap (list_any (bytes_eq name)) are) ∙ all_kept_once (filter_map name_of (sights text)) name ∙ any)
+      Contains-from_any (λ x y. (bytes_eq-Decides x y).0) name names (sym (ap (list_any (bytes_eq name)) are_once) ∙ all_kept_once (filter_map name_of (sights text)) name ∙ any)

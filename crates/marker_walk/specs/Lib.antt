@@ -1,3 +1,4 @@
+pub mod Appearing
 pub mod Left
 pub mod Lines
 pub mod Markers

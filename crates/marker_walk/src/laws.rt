@@ -1,11 +1,13 @@
 //! Laws of lines, texts and names. Calls of them do nothing.
 
-ghost use Rattle.std.specs.Prelude.{◌≡◌, Bool, List, None, Option, Some, filter};
+ghost use Rattle.std.specs.Prelude.{◌≡◌, ◌↔◌, Bool, List, None, Option, Some, filter};
 ghost use Rattle.std.specs.List.{Contains, IsDistinct, list_any};
 ghost use Rattle.std.specs.Str.{bytes_eq};
 ghost use Rattle.os_files.specs.Bytes.{Bytes};
+ghost use Rattle.os_files.specs.Tree.{Tree};
+ghost use Rattle.marker_walk.specs.Appearing.{AppearsBefore, IsRefusedOn, NamesFile, StandsBefore};
 ghost use Rattle.marker_walk.specs.Markers.{IsMarker};
-ghost use Rattle.marker_walk.specs.Named.{marker_names, once};
+ghost use Rattle.marker_walk.specs.Named.{marker_names, named_files_of, once};
 ghost use Rattle.marker_walk.specs.Scanning.{Sight, sight_in};
 ghost use Rattle.marker_walk.specs.Spelling.{meant, spelled};
 ghost use Rattle.marker_walk.specs.Told.{HasMarker, IsRefused, Says};
@@ -40,4 +42,19 @@ pub fn names_are_given_once()
         once (filter test names) ≡ filter test (once names) }
     ensures kept { (names : List Bytes) (name : Bytes) →
         list_any (bytes_eq name) (once names) ≡ list_any (bytes_eq name) names }
+{}
+
+/// The named files of a text, which a walk gives: it has none exactly where something in it, or a file that it names, refuses it. Else
+/// they are the files that its markers name and that count, no two of them equal, in the order in which its lines name them first.
+pub fn texts_name_their_files()
+    ensures refused { (dir : Bytes) (files : Tree) (input text : Bytes) →
+        (named_files_of dir files input text ≡ None) ↔ IsRefusedOn dir files input text }
+    ensures named { (dir : Bytes) (files : Tree) (input text : Bytes) (names : List Bytes) →
+        named_files_of dir files input text ≡ Some names →
+        (name : Bytes) → Contains names name ↔ NamesFile dir files input text name }
+    ensures distinct { (dir : Bytes) (files : Tree) (input text : Bytes) (names : List Bytes) →
+        named_files_of dir files input text ≡ Some names → IsDistinct bytes_eq names }
+    ensures order { (dir : Bytes) (files : Tree) (input text : Bytes) (names : List Bytes) →
+        named_files_of dir files input text ≡ Some names →
+        (one other : Bytes) → StandsBefore names one other → AppearsBefore text one other }
 {}

@@ -1,3 +1,4 @@
 pub mod Summed
 pub mod Tallied
 pub mod Texts
+pub mod Utf8Laws

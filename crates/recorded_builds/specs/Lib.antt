@@ -3,3 +3,4 @@ pub mod Outcomes
 pub mod Reasons
 pub mod Summaries
 pub mod Tallies
+pub mod Verdicts

@@ -10,7 +10,8 @@ use Rattle.cmdlines.specs.Parsing.{asks, not_compilation, cannot_cache}
 use Rattle.cmdlines_tables.specs.declared.compiler.CCompilerKind.TheVariants.{Clang, Gcc}
 use Rattle.rustkeys_base.specs.Parsing as rust
 use Rattle.recorded_builds.specs.Beware.{AreOnce, is_among, is_named, is_option}
-use Rattle.recorded_builds.specs.Outcomes.{Outcome, by_c, by_rustc, unknown, outcome_in, outcome_of}
+use Rattle.recorded_builds.specs.Outcomes.{Outcome, by_c, by_rustc, unknown, outcome_in}
+use Rattle.recorded_builds.specs.Verdicts.{verdict_of}
 use Rattle.recorded_builds.specs.declared.entry.Entry.{Entry}
 use Rattle.recorded_builds.specs.declared.told.Told.{Told}
 
@@ -57,10 +58,10 @@ pub record Tells (executable : Bytes) (outcome : Outcome) (told : Told) : Type 0
 -- The same of an entry, whose words the files decide.
 abbrev pub is_passed_for : Tree → Bytes → Entry → Bool
 is_passed_for tree reason entry =
-    is_named reason (reason_for entry.executable (outcome_of tree entry))
+    is_named reason (reason_for entry.executable (verdict_of tree entry))
 
 abbrev pub is_blocked_by : Tree → Bytes → Entry → Bool
-is_blocked_by tree option entry = is_named option (blocker_in (outcome_of tree entry))
+is_blocked_by tree option entry = is_named option (blocker_in (verdict_of tree entry))
 
 abbrev pub holds : Tree → Bytes → Entry → Bool
-holds tree option entry = holds_option option (outcome_of tree entry)
+holds tree option entry = holds_option option (verdict_of tree entry)

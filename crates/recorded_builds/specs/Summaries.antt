@@ -4,7 +4,8 @@ use Rattle.std.specs.Prelude.{◌≡◌, ◌≢◌, ℕ, ◌+◌, Bool, List, []
 use Rattle.std.specs.List.Sorted.{IsSortedBy}
 use Rattle.os_files.specs.Bytes.{Bytes}
 use Rattle.os_files.specs.Tree.{Tree}
-use Rattle.recorded_builds.specs.Outcomes.{is_kept, outcome_of}
+use Rattle.recorded_builds.specs.Outcomes.{is_kept}
+use Rattle.recorded_builds.specs.Verdicts.{verdict_of}
 use Rattle.recorded_builds.specs.Reasons.{holds, is_blocked_by, is_passed_for}
 use Rattle.recorded_builds.specs.Tallies.{HasRow, HaveNamesApart, Row, has_more, numbers_in}
 use Rattle.recorded_builds.specs.declared.entry.Entry.{Entry}
@@ -28,7 +29,7 @@ pub record AreRowsOf
 
 pub record IsSummaryOf (tree : Tree) (entries : List Entry) (summary : Summary) : Type 0 where
   pub count : summary.entries ≡ length entries
-  pub kept : summary.kept ≡ length (filter is_kept (map (outcome_of tree) entries))
+  pub kept : summary.kept ≡ length (filter is_kept (map (verdict_of tree) entries))
   pub reasons : AreRowsOf (is_passed_for tree) entries summary.reasons.items
   pub blockers : AreRowsOf (is_blocked_by tree) entries summary.blockers.items
   pub beware : AreRowsOf (holds tree) entries summary.beware.items
@@ -37,7 +38,7 @@ pub record IsSummaryOf (tree : Tree) (entries : List Entry) (summary : Summary) 
 -- are kept, and the numbers of those that have each reason or option.
 pub record HasTold (tree : Tree) (entries : List Entry) (telling : Telling) : Type 0 where
   pub count : telling.count ≡ length entries
-  pub kept : telling.noted.kept ≡ length (filter is_kept (map (outcome_of tree) entries))
+  pub kept : telling.noted.kept ≡ length (filter is_kept (map (verdict_of tree) entries))
   pub reasons : (name : Bytes)
       → numbers_in telling.noted.reasons name ≡ numbers_where (is_passed_for tree name) 1 entries
   pub blockers : (name : Bytes)

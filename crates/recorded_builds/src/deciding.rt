@@ -1,6 +1,7 @@
 //! What the words of entries come to, by the public parse of each compiler.
 
 ghost use Rattle.std.specs.Prelude.{◌≡◌, IfOk};
+ghost use Rattle.cmdlines.specs.Commands.{HasObjectIn};
 ghost use Rattle.cmdlines.specs.Opening.{opened_words};
 ghost use Rattle.cmdlines.specs.Parsing.{decision_of, parse_of};
 ghost use Rattle.recorded_builds.specs.Outcomes.{outcome_in, outcome_of};
@@ -70,7 +71,7 @@ impl Compilers {
     }
 
     /// What words come to by a compiler of that kind.
-    fn parse<F: Files>(
+    pub(crate) fn parse<F: Files>(
         &self,
         alloc: Global,
         kind: CCompilerKind,
@@ -81,6 +82,7 @@ impl Compilers {
         ensures decision { IfOk result
             (λ answer. decision_of answer
             ≡ parse_of kind (opened_words kind dir.now (F.tree files.old) words.now)) }
+        ensures object { IfOk result (λ answer. HasObjectIn (decision_of answer)) }
         ensures tree { F.tree files.new ≡ F.tree files.old }
     {
         match kind {

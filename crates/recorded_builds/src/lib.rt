@@ -11,3 +11,4 @@ pub mod summary;
 pub mod tally;
 pub mod telling;
 pub mod told;
+pub mod verdict;

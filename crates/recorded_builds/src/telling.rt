@@ -1,10 +1,11 @@
 //! All entries of a recorded build, each decided and told, and their summary.
 
 ghost use Rattle.std.specs.Prelude.{◌≡◌, ◌+◌, ◌^◌, ◌<◌, [], ◌∷◌, ◌++◌, IfOk, OnOk, if◌then◌else◌};
-ghost use Rattle.recorded_builds.specs.Outcomes.{is_kept, outcome_of};
+ghost use Rattle.recorded_builds.specs.Outcomes.{is_kept};
 ghost use Rattle.recorded_builds.specs.Reasons.{Tells, holds, is_blocked_by, is_passed_for};
 ghost use Rattle.recorded_builds.specs.Summaries.{HasTold, IsSummaryOf};
 ghost use Rattle.recorded_builds.specs.Tallies.{numbers_in};
+ghost use Rattle.recorded_builds.specs.Verdicts.{verdict_of};
 
 use crate::deciding::Compilers;
 use crate::entry::Entry;
@@ -25,7 +26,7 @@ pub trait Lines {
         files: &Asked,
     ) -> Result<(), AllocError>
         // What is told is what the definitions make of the entry's words.
-        requires { Tells entry.now.executable (outcome_of files.now.files entry.now) told.now };
+        requires { Tells entry.now.executable (verdict_of files.now.files entry.now) told.now };
 }
 
 /// What is told of an entry, with these files.
@@ -36,10 +37,10 @@ fn told_of(
     files: &mut Asked,
 ) -> Result<Told, ParseFault>
     ensures told { IfOk result
-        (Tells entry.now.executable (outcome_of files.old.files entry.now)) }
+        (Tells entry.now.executable (verdict_of files.old.files entry.now)) }
     ensures tree { files.new.files ≡ files.old.files }
 {
-    let decided = compilers.decide(alloc, entry, files)?;
+    let decided = compilers.judge(alloc, entry, files)?;
     Ok(Told::new(alloc, decided, &entry.executable)?)
 }
 
@@ -55,7 +56,7 @@ fn tell<L: Lines>(
 ) -> Result<(), ParseFault>
     requires { noted.old.kept + 1 < 2 ^ 64 }
     ensures kept { OnOk result (noted.new.kept ≡ noted.old.kept
-        + (if is_kept (outcome_of files.old.files entry.now) then 1 else 0)) }
+        + (if is_kept (verdict_of files.old.files entry.now) then 1 else 0)) }
     ensures reasons { OnOk result ((name : _) → numbers_in noted.new.reasons name
         ≡ numbers_in noted.old.reasons name
         ++ (if is_passed_for files.old.files name entry.now then number ∷ [] else [])) }

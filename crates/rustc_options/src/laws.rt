@@ -32,9 +32,12 @@ pub fn words_are_printed_again()
         ≡ joined_by_commas (in_order (map printed_type (between_commas word))) }
 {}
 
-/// Words in order rise strictly, and they are the words that were given.
+/// Words in order rise strictly, and they are the words that were given; no other list rises strictly and has the same words.
 pub fn words_in_order_are_a_set()
     ensures rising { (words : List Bytes) → IsStrictlySortedBy (slice_cmp nat_cmp) (in_order words) }
     ensures same { (words : List Bytes) (word : Bytes)
         → list_any (bytes_eq word) (in_order words) ≡ list_any (bytes_eq word) words }
+    ensures only { (words list : List Bytes) → IsStrictlySortedBy (slice_cmp nat_cmp) list
+        → ((word : Bytes) → list_any (bytes_eq word) list ≡ list_any (bytes_eq word) words)
+        → list ≡ in_order words }
 {}

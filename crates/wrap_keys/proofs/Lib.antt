@@ -3,3 +3,4 @@ pub mod Utf8Lemmas
 pub mod JudgeLemmas
 pub mod RunLemmas
 pub mod SizeLemmas
+pub mod Gathered

@@ -2,6 +2,7 @@ pub mod Verdicts
 pub mod RustVerdicts
 pub mod CallRecords
 pub mod Account
+pub mod Gathering
 pub mod StoreKeys
 pub mod Answers
 pub mod Sizes

@@ -2,5 +2,6 @@
 #![tactic(auto)]
 
 pub mod keys;
+pub mod laws;
 pub mod rust_verdict;
 pub mod verdict;

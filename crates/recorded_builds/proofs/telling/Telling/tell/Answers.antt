@@ -1,5 +1,5 @@
 use Rattle.std.proofs.Common.{◌≡◌, ◌+◌, ◌∷◌, [], arith, length, length-append}
-use Rattle.recorded_builds.specs.Outcomes.{outcome_of}
+use Rattle.recorded_builds.specs.Verdicts.{verdict_of}
 use Rattle.recorded_builds.specs.Reasons.{holds, is_blocked_by, is_passed_for}
 use Rattle.recorded_builds.specs.Tallies.{numbers_in}
 use Rattle.recorded_builds.proofs.Summed.{kept_behind, noted_behind}
@@ -19,7 +19,7 @@ returns-clause-told g c =
     record {
       count = omega (arith, is, length-append entries (entry ∷ []));
       kept =
-          kept_behind noted.kept next.kept (outcome_of tree) entries entry one.kept before.kept;
+          kept_behind noted.kept next.kept (verdict_of tree) entries entry one.kept before.kept;
       reasons =
           λ name. noted_behind (numbers_in noted.reasons name) (numbers_in next.reasons name)
           (is_passed_for tree name) number entries entry (one.reasons name) is
