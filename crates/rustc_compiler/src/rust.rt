@@ -7,6 +7,7 @@ ghost use Rattle.os_files.specs.Views.{FilesFail};
 ghost use Rattle.ckeys_base.specs.FileDigests.{file_digests};
 ghost use Rattle.response_files.specs.Causes.{CauseOf};
 ghost use Rattle.rustc_parts.specs.Formed.{IsDigest, digest_digits};
+ghost use Rattle.rustkeys_base.specs.Asking.{IsAskedByRustc};
 ghost use Rattle.rustkeys_base.specs.Asks.{AsksFor, asks_of};
 ghost use Rattle.rustkeys_base.specs.Expansion.{expanded_by_rustc};
 ghost use Rattle.rustkeys_base.specs.Requests.{IsAsked};
@@ -156,6 +157,8 @@ impl Rust {
             (AsksFor (asks_of dir.now (F.tree files.old) (request_reading expanded).items)) }
         ensures cause { IfErr result
             (CauseOf (FilesFail F.Files files.old files.new)) }
+        ensures names { IfErr result
+            (CauseOf (IsAskedByRustc dir.now (F.tree files.old) words.now)) }
         ensures tree { F.tree files.new ≡ F.tree files.old }
         ensures steady { OnOk result (F.failed files.new ≡ F.failed files.old) }
         ensures memory { IsErrOf result ParseFault.Memory → F.failed files.new ≡ F.failed files.old }

@@ -3,3 +3,4 @@ pub mod TurnLemmas
 pub mod RustLemmas
 pub mod GatherLemmas
 pub mod PrepareLemmas
+pub mod PassedLemmas

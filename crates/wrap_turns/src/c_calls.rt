@@ -1,11 +1,12 @@
 //! Requests to a C compiler: the verdict on one, its key, and what it is answered.
 
-ghost use Rattle.std.specs.Prelude.{◌≡◌, OnOk};
+ghost use Rattle.std.specs.Prelude.{◌≡◌, IfErr, OnOk};
 ghost use Rattle.os_files.specs.Views.{FilesFail};
 ghost use Rattle.ckeys_records.specs.Causes.{HasOwnFault};
 ghost use Rattle.ckeys_records.specs.Views.{AreSteady, ToolFails};
 ghost use Rattle.wrap_keys.specs.Account.{account_named};
-ghost use Rattle.wrap_keys.specs.Answers.{GoesOn, OnPass, Says, SaysBy};
+ghost use Rattle.wrap_keys.specs.Early.{IsAskedEarly, OfPassed};
+ghost use Rattle.wrap_keys.specs.Answers.{EarlyCause, GoesOn, OnPass, Says, SaysBy};
 ghost use Rattle.wrap_keys.specs.Asking.{AskedTurn, EntriesTurn, RecordsAreTrue, shelves_of};
 ghost use Rattle.wrap_base.specs.Commands.{by_c, found_of};
 
@@ -52,6 +53,10 @@ pub fn c_turn<
         RecordsAreTrue H.digest_of a (E.shelf entries.old).held
         → Says a (FilesFail F.Files files.old files.new)
         (ToolFails T.Preprocessor tool.old tool.new) result }
+    ensures passed { let a = account_named (T.meaning tool.old) (F.tree files.old) config.now.keys
+        request.now (by_c (found_of compiler.entry)) in
+        let asked = IsAskedEarly (by_c (found_of compiler.entry)) request.now (F.tree files.old) in
+        IfErr result (λ fault. OfPassed a (EarlyCause asked fault)) }
     ensures quiet { OnPass result
         ((T.preprocessed tool.new ≡ T.preprocessed tool.old)
         × (T.compiled tool.new ≡ T.compiled tool.old) × (T.failed tool.new ≡ T.failed tool.old)) }

@@ -1,11 +1,11 @@
-use Rattle.std.proofs.Common.{◌≡◌, ℕ, None, false, refl, subst, sym, ◌∙◌}
+use Rattle.std.proofs.Common.{◌≡◌, ℕ, IfErr, None, false, refl, subst, sym, ◌∙◌}
 use Rattle.os_files.specs.Bytes.{Bytes}
 use Rattle.os_files.specs.Fails.{FailsOn}
 use Rattle.ckeys.specs.Calls.{KeyCall, PrintedCall, printed_call}
 use Rattle.ckeys_records.specs.Meaning.{FailsIn}
 use Rattle.ckeys_records.specs.declared.step.Step.{Step}
 use Rattle.wrap_keys.specs.Account.{account_named, call_at, work_at, worked}
-use Rattle.wrap_keys.specs.Answers.{GoesOn, Says, SaysBy}
+use Rattle.wrap_keys.specs.Answers.{EarlyCause, GoesOn, Says, SaysBy}
 use Rattle.wrap_keys.specs.Asking.{AskedTurn, RanForKey, RecordsAreTrue, StopsEarly, shelves_of}
 use Rattle.wrap_keys.specs.CallRecords.{key_of}
 use Rattle.wrap_base.specs.Commands.{by_c, found_of, words_at}
@@ -14,7 +14,9 @@ use Rattle.wrap_keys.specs.Verdicts.{asks, verdict_of}
 use Rattle.wrap_keys.proofs.KeyLemmas.{fails_on_later}
 use Rattle.wrap_base.specs.declared.answer.Answer.{Answer}
 use Rattle.wrap_keys.proofs.RunLemmas.{early_runs, key_until}
+use Rattle.wrap_keys.specs.Early.{IsAskedEarly, OfPassed}
 use Rattle.wrap_turns.specs.declared.prepared.Prepared.{Prepared}
+use Rattle.wrap_turns.proofs.PassedLemmas.{early_passed, not_passed}
 use Rattle.wrap_turns.proofs.TurnLemmas.{asked_fault, asked_finished, early_says, early_stage, early_turn, early_unput, fails_in_later, finished_says, finished_unpassed, goes_on, key_says, key_turn, of_asked, own_asked, own_fault, own_goes_on, quiet_entries, says_later, steady_later, text_fine}
 use Rattle.wrap_turns.proofs.c_calls.c_turn.Goals as goal
 
@@ -182,3 +184,30 @@ returns-in_ok-prepared-in-Asks-clause-steady g c =
     let prepared = c.in_ok-prepared-in-Asks.ensures.steady in
     steady_later g.T.Preprocessor g.F.Files c.args.tool.now c.prepare.new.tool c.finish.new.tool c.args.files.now c.prepare.new.files c.finish.new.files
     (prepared.0, prepared.1 ∙ c.in_ok-reason.ensures.steady) c.finish.result c.finish.ensures.steady
+
+pub returns-in_err-reason-clause-passed : goal.returns-in_err-reason-clause-passed
+returns-in_err-reason-clause-passed g c =
+    let asked : Bytes → Type 0 = IsAskedEarly (by_c (found_of c.args.compiler)) c.args.request.now (g.F.Files.tree c.args.files.now) in
+    early_passed _ asked c.in_err-reason.field-0.0 c.in_err-reason.ensures.asked _ c.from_residual.ensures.1
+
+pub returns-in_err-prepared-in-Asks-clause-passed : goal.returns-in_err-prepared-in-Asks-clause-passed
+returns-in_err-prepared-in-Asks-clause-passed g c =
+    let tree = g.F.Files.tree in
+    let request = c.args.request.now in
+    let found = found_of c.args.compiler in
+    let parsed = c.in-Asks.plan.parsed in
+    let decided : asks parsed ≡ verdict_of found.kind (words_at found request (tree c.args.files.now)) = rw c.in-Asks.is at c.in_ok-reason.ensures.verdict in
+    let asked : Bytes → Type 0 = IsAskedEarly (by_c found) request (tree c.args.files.now) in
+    let result = c.from_residual-in_err-prepared-in-Asks.result in
+    of_asked (λ a. IfErr result (λ f. OfPassed a (EarlyCause asked f))) (g.T.Preprocessor.meaning c.args.tool.now) _ _ c.args.config.now.keys found request parsed _ c.in_ok-reason.ensures.tree decided (not_passed result)
+
+pub returns-in_ok-prepared-in-Asks-clause-passed : goal.returns-in_ok-prepared-in-Asks-clause-passed
+returns-in_ok-prepared-in-Asks-clause-passed g c =
+    let tree = g.F.Files.tree in
+    let request = c.args.request.now in
+    let found = found_of c.args.compiler in
+    let parsed = c.in-Asks.plan.parsed in
+    let decided : asks parsed ≡ verdict_of found.kind (words_at found request (tree c.args.files.now)) = rw c.in-Asks.is at c.in_ok-reason.ensures.verdict in
+    let asked : Bytes → Type 0 = IsAskedEarly (by_c found) request (tree c.args.files.now) in
+    let result = c.finish.result in
+    of_asked (λ a. IfErr result (λ f. OfPassed a (EarlyCause asked f))) (g.T.Preprocessor.meaning c.args.tool.now) _ _ c.args.config.now.keys found request parsed _ c.in_ok-reason.ensures.tree decided (not_passed result)
