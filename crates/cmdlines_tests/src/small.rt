@@ -2,7 +2,7 @@
 
 use crate::written::{asked_of, bare, parsed_by_clang, parsed_by_gcc, without_outputs};
 use cmdlines::clang::ClangKind;
-use cmdlines::gcc::GccKind;
+use cmdlines::gcc::{Gcc, GccKind};
 use cmdlines::laws::{inputs_are_safe, requests_have_an_object};
 use cmdlines_requests::parsed::ParsedArguments;
 use cmdlines_tables::laws::arguments_are_their_items;
@@ -11,7 +11,7 @@ use os_files::os_bytes::OsBytes;
 use std::alloc::Global;
 use std::test::Fail;
 use test_kit::rows::words;
-use test_kit::texts::{holds, is_that};
+use test_kit::texts::{holds, is_that, write_words};
 
 /// Asserts how the name of the object of a request is shown.
 fn shows(alloc: Global, request: &ParsedArguments, name: &str, line: &str) -> Result<(), Fail> {
@@ -107,4 +107,30 @@ fn laws_are_called(rt: HostRuntime) -> Result<(), Fail> {
     arguments_are_their_items();
     holds(!bare::<ClangKind>(alloc)?.plusplus(), "C alone")?;
     Ok(())
+}
+
+/// The words of the preprocess command of what a line asks Gcc for.
+fn preprocess_words(alloc: Global, line: &str) -> Result<String, Fail> {
+    let gcc = Gcc::new(alloc, false, None, None)?;
+    let request = parsed_by_gcc(alloc, line)?;
+    let words = gcc.preprocess_words(alloc, &request)?;
+    let mut text = String::new(alloc);
+    write_words(&mut text, words.as_slice())?;
+    Ok(text)
+}
+
+#[test]
+fn a_compiler_gives_the_preprocess_words(rt: HostRuntime) -> Result<(), Fail> {
+    let text = preprocess_words(rt.alloc(), "-c foo.c -O2 -DA")?;
+    is_that(text.as_str(), " -x c -E foo.c -DA -O2", "preprocess words")
+}
+
+/// A compiler is printed without its tables.
+#[test]
+fn a_compiler_is_printed(rt: HostRuntime) -> Result<(), Fail> {
+    let alloc = rt.alloc();
+    let gcc = Gcc::new(alloc, true, None, None)?;
+    let text = format!(in alloc; "{gcc:?}")?;
+    let want = "FoundCompiler { kind: Gcc, plusplus: true, version: None, assembler_digest: None }";
+    is_that(text.as_str(), want, "a compiler")
 }

@@ -11,27 +11,6 @@ use os_files::listed::Listed;
 use os_files::os_bytes::OsBytes;
 use std::alloc::{AllocError, Global};
 
-/// Copies of words.
-fn copies(alloc: Global, words: &[OsBytes]) -> Result<Listed<OsBytes>, AllocError>
-    ensures { IfOk result (λ copy. copy ≡ words.now) }
-{
-    let mut copy = Vec::with_capacity(alloc, words.len())?;
-    for word in words {
-        copy.push(word.clone()?)?;
-    }
-    Ok(Listed::from_vec(copy))
-}
-
-/// A copy of a digest, where there is one.
-fn digest_again(digest: &Option<OsBytes>) -> Result<Option<OsBytes>, AllocError>
-    ensures { IfOk result (λ copy. copy ≡ digest.now) }
-{
-    match digest {
-        Some(digest) => Ok(Some(digest.clone()?)),
-        None => Ok(None),
-    }
-}
-
 /// The variables as they are kept.
 fn kept_variables(
     alloc: Global,
@@ -119,10 +98,10 @@ pub fn kept_parts(
         compiler: parts.compiler.clone()?,
         plusplus: parts.plusplus,
         language: parts.language,
-        words: copies(alloc, parts.words.as_slice())?,
+        words: parts.words.clone()?,
         variables: kept_variables(alloc, parts.variables.as_slice())?,
-        extra_hashes: copies(alloc, parts.extra_hashes.as_slice())?,
-        assembler: digest_again(&parts.assembler)?,
+        extra_hashes: parts.extra_hashes.clone()?,
+        assembler: parts.assembler.clone()?,
         text: parts.text.clone()?,
         names: kept_names(alloc, parts.names.as_slice())?,
         difference,
@@ -137,10 +116,10 @@ pub fn parts_of(alloc: Global, kept: &KeptParts) -> Result<CParts, AllocError>
         compiler: kept.compiler.clone()?,
         plusplus: kept.plusplus,
         language: kept.language,
-        words: copies(alloc, kept.words.as_slice())?,
+        words: kept.words.clone()?,
         variables: variables_of(alloc, kept.variables.as_slice())?,
-        extra_hashes: copies(alloc, kept.extra_hashes.as_slice())?,
-        assembler: digest_again(&kept.assembler)?,
+        extra_hashes: kept.extra_hashes.clone()?,
+        assembler: kept.assembler.clone()?,
         text: kept.text.clone()?,
         names: names_of(alloc, kept.names.as_slice())?,
     })

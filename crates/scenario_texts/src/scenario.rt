@@ -55,6 +55,7 @@ use script_tool::crate_texts::CrateTexts;
 use serde_json::{Map, Value};
 use std::alloc::{AllocError, AllocFailed, Global};
 use std::num::NonZeroUsize;
+use thiserror::Error;
 use time_macros::zone::{Zone, ZoneError};
 use wrap_base::config::Config;
 use wrap_base::request::Request;
@@ -92,11 +93,13 @@ pub struct ScenarioCall {
 }
 
 /// Why there is no scenario.
-#[derive(Clone, Copy, Debug, PartialEq, Eq)]
+#[derive(Clone, Copy, Debug, Error, PartialEq, Eq)]
 pub enum ScenarioFault {
     /// The bytes are no scenario.
+    #[error("scenario cannot be read")]
     Unreadable,
     /// A growth was refused.
+    #[error("memory")]
     Memory,
 }
 

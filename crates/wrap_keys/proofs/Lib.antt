@@ -4,3 +4,4 @@ pub mod JudgeLemmas
 pub mod RunLemmas
 pub mod SizeLemmas
 pub mod Gathered
+pub mod ByPlaces

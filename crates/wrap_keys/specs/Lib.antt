@@ -9,6 +9,7 @@ pub mod Sizes
 pub mod Turn
 pub mod Asking
 pub mod Whole
+pub mod Places
 pub mod Plans
 pub mod RustPlans
 pub mod Early
