@@ -1,14 +1,15 @@
 //! The session that answers requests.
 
-ghost use Rattle.std.specs.Prelude.{◌≡◌, true, false, List, [], ◌∷◌, ◌++◌, length, IfOk, OnOk, OnErr, IsErrOf};
+ghost use Rattle.std.specs.Prelude.{◌≡◌, true, false, List, [], ◌∷◌, ◌++◌, length, IfOk, IfErr, OnOk, OnErr, IsErrOf};
 ghost use Rattle.os_files.specs.Views.{FilesFail};
 ghost use Rattle.ckeys_base.specs.Shelf.{Clears, IsEmpty};
 ghost use Rattle.ckeys.specs.Entries.{EntryInvariant, EntryPremises};
 ghost use Rattle.ckeys_records.specs.Causes.{HasOwnFault};
 ghost use Rattle.ckeys_records.specs.Views.{AreSteady, ToolFails};
 ghost use Rattle.wrap_keys.specs.Account.{Account, account_at, direct_calls};
-ghost use Rattle.wrap_keys.specs.Answers.{Answers, GoesOn, OnPass, Says, SaysBy, settled, settled_by};
+ghost use Rattle.wrap_keys.specs.Answers.{Answers, EarlyCause, GoesOn, OnPass, Says, SaysBy, settled, settled_by};
 ghost use Rattle.wrap_keys.specs.Asking.{AskedTurn, EntriesTurn, RecordsAreTrue, RunsOf, shelves_of};
+ghost use Rattle.wrap_keys.specs.Early.{IsAskedEarly, OfPassed};
 ghost use Rattle.wrap_base.specs.Commands.{named_by};
 ghost use Rattle.wrap_keys.specs.RustVerdicts.{is_rust_no_text};
 ghost use Rattle.wrap_keys.specs.StoreKeys.{Invariant, Premises};
@@ -157,6 +158,12 @@ impl<
             request.now in
             SaysBy GoesOn a (FilesFail F.Files files.old files.new)
             (ToolFails T.Preprocessor tool.old tool.new) result }
+
+        // Before a pass no file is asked for but those that the words ask for.
+        ensures passed { let a = account_at (T.meaning tool.old) (F.tree files.old)
+            self.old.settings request.now in
+            let asked = IsAskedEarly (named_by request.now.compiler) request.now (F.tree files.old) in
+            IfErr result (λ fault. OfPassed a (EarlyCause asked fault)) }
 
         // A pass moves no tick.
         ensures quiet { OnPass result
@@ -355,6 +362,10 @@ impl<
             RecordsAreTrue H.digest_of a (E.shelf self.old.entries).held
             → Says a (FilesFail F.Files files.old files.new)
             (ToolFails T.Preprocessor tool.old tool.new) result }
+        ensures passed { let a = account_at (T.meaning tool.old) (F.tree files.old)
+            self.old.settings request.now in
+            let asked = IsAskedEarly (named_by request.now.compiler) request.now (F.tree files.old) in
+            IfErr result (λ fault. OfPassed a (EarlyCause asked fault)) }
         ensures quiet { OnPass result
             ((T.preprocessed tool.new ≡ T.preprocessed tool.old)
             × (T.compiled tool.new ≡ T.compiled tool.old) × (T.failed tool.new ≡ T.failed tool.old)) }

@@ -5,7 +5,9 @@ ghost use Rattle.std.specs.List.{list_all};
 ghost use Rattle.std.specs.Str.{is_utf8};
 ghost use Rattle.os_files.specs.Views.{FilesFail};
 ghost use Rattle.rustc_requests.specs.Asks.{asks_in};
+ghost use Rattle.wrap_base.specs.Commands.{by_rustc};
 ghost use Rattle.wrap_keys.specs.Answers.{EarlyCause};
+ghost use Rattle.wrap_keys.specs.Early.{IsAskedEarly};
 ghost use Rattle.wrap_keys.specs.RustPlans.{OnAsks, OpensNothing, judgement_of};
 ghost use Rattle.wrap_keys.specs.RustVerdicts.{is_text, is_text_variable, opens_words, rust_verdict_of, with_hazards};
 ghost use Rattle.ckeys_records.specs.Causes.{HasOwnFault};
@@ -107,6 +109,9 @@ pub fn judge_rust<F: Files>(
     ensures untouched { is_text request.now ≡ false → files.new ≡ files.old }
     ensures cause { IfErr result
         (EarlyCause (FilesFail F.Files files.old files.new)) }
+    // No file is asked for but those that the words ask for.
+    ensures asked { IfErr result
+        (EarlyCause (IsAskedEarly (by_rustc rust.now) request.now (F.tree files.old))) }
     ensures tree { F.tree files.new ≡ F.tree files.old }
     ensures steady { OnOk result (F.failed files.new ≡ F.failed files.old) }
     ensures still { HasOwnFault result → F.failed files.new ≡ F.failed files.old }

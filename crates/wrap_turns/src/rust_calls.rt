@@ -9,7 +9,9 @@ ghost use Rattle.ckeys_records.specs.Views.{AreSteady, ToolFails};
 ghost use Rattle.rustc_requests.specs.Asks.{asks_in};
 ghost use Rattle.rustkeys.specs.Runs.{AtMostTwice};
 ghost use Rattle.wrap_keys.specs.Account.{rust_account_by, rust_call_at, rust_work_at, worked};
-ghost use Rattle.wrap_keys.specs.Answers.{OnPass, Says, SaysWorked};
+ghost use Rattle.wrap_base.specs.Commands.{by_rustc};
+ghost use Rattle.wrap_keys.specs.Answers.{EarlyCause, OnPass, Says, SaysWorked};
+ghost use Rattle.wrap_keys.specs.Early.{IsAskedEarly, OfPassed};
 ghost use Rattle.wrap_keys.specs.Asking.{HowFrom, IsAskedTwice, RunsOf, StopsEarly};
 ghost use Rattle.wrap_keys.specs.CallRecords.{key_of};
 ghost use Rattle.wrap_turns.specs.RustPrepared.{IsRustPrepared};
@@ -164,6 +166,10 @@ pub fn rust_turn<H: HashState, O: Store<StoreKey, Pairs>, F: Files, T: Tool>(
         request.now (rust_verdict_of request.now (F.tree files.old)) in
         Says a (FilesFail F.Files files.old files.new)
         (ToolFails T.Preprocessor tool.old tool.new) result }
+    ensures passed { let a = rust_account_by (T.meaning tool.old) (F.tree files.old) rust.now
+        request.now (rust_verdict_of request.now (F.tree files.old)) in
+        let asked = IsAskedEarly (by_rustc rust.now) request.now (F.tree files.old) in
+        IfErr result (λ fault. OfPassed a (EarlyCause asked fault)) }
     ensures quiet { OnPass result
         ((T.preprocessed tool.new ≡ T.preprocessed tool.old)
         × (T.compiled tool.new ≡ T.compiled tool.old) × (T.failed tool.new ≡ T.failed tool.old)) }

@@ -1,11 +1,13 @@
-use Rattle.std.proofs.Common.{◌≡◌, None, false, subst}
+use Rattle.std.proofs.Common.{◌≡◌, IfErr, None, false, subst}
 use Rattle.os_files.specs.Bytes.{Bytes}
 use Rattle.os_files.specs.Fails.{FailsOn}
 use Rattle.os_files.specs.Tree.{Tree}
 use Rattle.ckeys_records.specs.Meaning.{FailsIn}
 use Rattle.rustc_requests.specs.Asks.{asks_in}
+use Rattle.wrap_base.specs.Commands.{by_rustc}
 use Rattle.wrap_keys.specs.Account.{Account, Work, rust_account_by, rust_call_at, rust_work_at, worked}
-use Rattle.wrap_keys.specs.Answers.{Says, SaysWorked}
+use Rattle.wrap_keys.specs.Answers.{EarlyCause, Says, SaysWorked}
+use Rattle.wrap_keys.specs.Early.{IsAskedEarly, OfPassed}
 use Rattle.wrap_keys.specs.Asking.{RunsOf, StopsEarly}
 use Rattle.wrap_keys.specs.RustVerdicts.{RustJudgement, asks, rust_verdict_of}
 use Rattle.wrap_keys.specs.Turn.{StoreTurn, own_text_key}
@@ -13,6 +15,7 @@ use Rattle.wrap_keys.proofs.KeyLemmas.{fails_on_later}
 use Rattle.wrap_keys.proofs.RunLemmas.{early_ran}
 use Rattle.wrap_turns.proofs.RustLemmas.{asks_text}
 use Rattle.wrap_turns.proofs.TurnLemmas.{early_says, early_turn, how_of_fault, says_later, unpassed}
+use Rattle.wrap_turns.proofs.PassedLemmas.{early_passed, not_passed}
 use Rattle.wrap_turns.proofs.rust_calls.rust_turn.Goals as goal
 
 pub returns-in_err-reason-clause-says : goal.returns-in_err-reason-clause-says
@@ -81,3 +84,18 @@ returns-in-Asks-clause-untouched g c no_text =
     let tree = g.F.Files.tree c.args.files.now in
     let decided : asks (asks_in c.in-Asks.parsed) ≡ rust_verdict_of request tree = rw c.in-Asks.is at c.in_ok-reason.ensures.verdict in
     absurd (asks_text request tree (asks_in c.in-Asks.parsed) no_text decided)
+
+pub returns-in_err-reason-clause-passed : goal.returns-in_err-reason-clause-passed
+returns-in_err-reason-clause-passed g c =
+    let asked : Bytes → Type 0 = IsAskedEarly (by_rustc c.args.rust.now) c.args.request.now (g.F.Files.tree c.args.files.now) in
+    early_passed _ asked c.in_err-reason.field-0.0 c.in_err-reason.ensures.asked _ c.from_residual.ensures.1
+
+pub returns-in-Asks-clause-passed : goal.returns-in-Asks-clause-passed
+returns-in-Asks-clause-passed g c =
+    let tree = g.F.Files.tree in
+    let request = c.args.request.now in
+    let decided : asks (asks_in c.in-Asks.parsed) ≡ rust_verdict_of request (tree c.args.files.now) = rw c.in-Asks.is at c.in_ok-reason.ensures.verdict in
+    let account : RustJudgement → Account = rust_account_by (g.T.Preprocessor.meaning c.args.tool.now) (tree c.args.files.now) c.args.rust.now request in
+    let asked : Bytes → Type 0 = IsAskedEarly (by_rustc c.args.rust.now) request (tree c.args.files.now) in
+    let result = c.rust_answer.result in
+    subst (λ (d : RustJudgement). IfErr result (λ f. OfPassed (account d) (EarlyCause asked f))) decided (not_passed result)
