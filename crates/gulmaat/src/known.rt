@@ -36,7 +36,7 @@ use wrapper_host::fields::into_text;
 use wrapper_host::host::{Ended, Host};
 use wrapper_host::stop::Stop;
 use written_lines::asked::Asked;
-use written_lines::lines::digest_asked;
+use written_lines::lines::{digest_asked, digest_of_contents};
 use written_lines::sources::Sources;
 
 /// Files and answers that are known so far.
@@ -310,7 +310,7 @@ impl Known {
         if sources.are_renumbered() {
             return Ok(None);
         }
-        Ok(Some(sources.digest(rt.alloc(), true)?))
+        Ok(Some(digest_of_contents(rt.alloc(), &sources)?))
     }
 
     /// Has the host preprocess by the caller's own words, and records the text as that of the session's.

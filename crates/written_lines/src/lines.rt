@@ -3,16 +3,20 @@
 use crate::asked::Asked;
 use crate::sources::Sources;
 use crate::written::{Place, Written};
+use ckeys_base::digest::Digest;
 use marker_walk::line::Mark;
 use marker_walk::markers::Markers;
 use memchr::memchr;
 use os_files::os_bytes::OsBytes;
-use std::alloc::Global;
+use sha2::Sha256;
+use std::alloc::{AllocError, Global};
 use wrapper_host::stop::Stop;
 
 /// The name of the marker that a line is, if it is one, with its number.
 fn marker_in(line: &[u8]) -> Option<(&[u8], usize)> {
-    let behind = line.strip_prefix(b"#")?;
+    let Some((b'#', behind)) = line.split_first() else {
+        return None;
+    };
     let Some(Mark::Named(name)) = Markers::new(line).next() else {
         return None;
     };
@@ -34,16 +38,20 @@ fn cut_line(text: &[u8]) -> (&[u8], &[u8]) {
     }
 }
 
-/// Takes all lines of a text.
-fn take_lines<'s>(text: &'s [u8], sources: &'s Sources<'_>, written: &mut Written) {
+/// Collects of all lines of a text what it doesn't say of them.
+fn take_lines<'s>(
+    text: &'s [u8],
+    sources: &'s Sources<'_>,
+    written: &mut Written,
+) -> Result<(), AllocError> {
     let mut place = Place::none();
     let mut rest = text;
     // Each turn takes a byte at least.
     for _ in 0..text.len() {
         let (line, behind) = cut_line(rest);
         match marker_in(line) {
-            Some((name, number)) => place.take_marker(sources, name, number, written),
-            None => place.take_line(line, written),
+            Some((name, number)) => place.take_marker(sources, name, number, written)?,
+            None => place.take_line(line, written)?,
         }
         written.taken = written.taken.wrapping_add(1);
         rest = behind.strip_prefix(b"\n").unwrap_or(behind);
@@ -51,22 +59,29 @@ fn take_lines<'s>(text: &'s [u8], sources: &'s Sources<'_>, written: &mut Writte
             break;
         }
     }
+    Ok(())
 }
 
 /// A digest of the lines of which the text shows tokens, where the text doesn't say how they were written: those that aren't as the text
 /// has them, those below that have arguments of a macro, and comments by which a case falls through. Of a file with directives that give
 /// lines other numbers it is of all.
-fn digest_of_lines(
-    alloc: Global,
-    text: &[u8],
-    sources: &Sources<'_>,
-) -> Result<OsBytes, Stop> {
-    let mut written = Written::new();
-    let renumbered = sources.digest(alloc, false)?;
-    written.take(renumbered.as_bytes());
-    take_lines(text, sources, &mut written);
-    let digest = written.finish(alloc)?;
-    Ok(OsBytes::from_slice(alloc, digest.as_bytes())?)
+fn digest_of_lines(alloc: Global, text: &[u8], sources: &Sources<'_>) -> Result<OsBytes, Stop> {
+    let mut written = Written::new(alloc);
+    take_lines(text, sources, &mut written)?;
+    let mut digest = sources.digest_of(false);
+    digest.update(written.bytes());
+    finish(alloc, digest)
+}
+
+/// The text of a digest.
+fn finish(alloc: Global, digest: Digest<Sha256>) -> Result<OsBytes, Stop> {
+    let text = digest.finish(alloc)?;
+    Ok(OsBytes::from_slice(alloc, text.as_bytes())?)
+}
+
+/// The digest of the contents of all files that a text names, in the order in which it does.
+pub fn digest_of_contents(alloc: Global, sources: &Sources<'_>) -> Result<OsBytes, Stop> {
+    finish(alloc, sources.digest_of(true))
 }
 
 /// The digest of what is asked of the sources of a text; an empty one where nothing is.
@@ -79,6 +94,6 @@ pub fn digest_asked(
     match asked {
         Asked::Nothing => Ok(OsBytes::empty(alloc)),
         Asked::Lines => digest_of_lines(alloc, text, sources),
-        Asked::Contents => sources.digest(alloc, true),
+        Asked::Contents => digest_of_contents(alloc, sources),
     }
 }

@@ -5,7 +5,6 @@ use marker_walk::line::Mark;
 use marker_walk::markers::Markers;
 use marker_walk::names::unescaped;
 use memchr::memchr;
-use os_files::os_bytes::OsBytes;
 use os_files::path::join;
 use sha2::Sha256;
 use std::alloc::{AllocError, Global};
@@ -34,21 +33,27 @@ fn behind_line(text: &[u8]) -> &[u8] {
     }
 }
 
+/// Whether it is a space within a line.
+fn is_space(byte: u8) -> bool {
+    matches!(byte, b' ' | b'\t' | 11 | 12)
+}
+
 /// The text behind spaces and tabs.
 fn behind_spaces(text: &[u8]) -> &[u8] {
-    let spaces = text
-        .iter()
-        .take_while(|byte| matches!(**byte, b' ' | b'\t' | 11 | 12))
-        .count();
+    let spaces = text.iter().take_while(|byte| is_space(**byte)).count();
     text.get(spaces..).unwrap_or(&[])
 }
 
-/// Whether a text begins with a directive by which lines have other numbers, or with what may be one.
-fn renumbers(text: &[u8]) -> bool {
-    let behind = match behind_spaces(text) {
-        [b'#', behind @ ..] | [b'%', b':', behind @ ..] | [b'?', b'?', b'=', behind @ ..] => behind,
-        _ => return false,
-    };
+/// Whether the `#` behind these bytes is the first of its line: nothing but spaces stands before it there.
+fn begins_line(front: &[u8], is_first: bool) -> bool {
+    match front.iter().rev().find(|byte| !is_space(**byte)) {
+        Some(byte) => *byte == b'\n',
+        None => is_first,
+    }
+}
+
+/// Whether a directive by which lines have other numbers stands behind its `#`, or what may be one.
+fn is_number(behind: &[u8]) -> bool {
     match behind_spaces(behind) {
         [first, ..] if first.is_ascii_digit() => true,
         // A comment or the end of a line that goes on may stand before the word.
@@ -57,16 +62,53 @@ fn renumbers(text: &[u8]) -> bool {
     }
 }
 
+/// Whether the byte stands somewhere before these.
+fn has_before(contents: &[u8], byte: u8, behind: &[u8]) -> bool {
+    let mut rest = contents;
+    // Each turn takes a byte at least.
+    for _ in 0..contents.len() {
+        let Some(at) = memchr(byte, rest) else {
+            break;
+        };
+        rest = rest.get(at.saturating_add(1)..).unwrap_or(&[]);
+        if rest.starts_with(behind) {
+            return true;
+        }
+    }
+    false
+}
+
+/// Whether a file has a directive by which lines have other numbers, or what may be one.
+fn renumbers(contents: &[u8]) -> bool {
+    // Other spellings of `#`.
+    if has_before(contents, b'%', b":") || has_before(contents, b'?', b"?=") {
+        return true;
+    }
+    let mut rest = contents;
+    // Each turn takes a byte at least.
+    for number in 0..contents.len() {
+        let Some(at) = memchr(b'#', rest) else {
+            break;
+        };
+        let (front, found) = rest.split_at(at);
+        let behind = found.get(1..).unwrap_or(&[]);
+        if begins_line(front, number == 0) && is_number(behind) {
+            return true;
+        }
+        rest = behind;
+    }
+    false
+}
+
 impl Source {
     /// The file with these contents.
     fn new(alloc: Global, contents: Vec<u8>) -> Result<Source, AllocError> {
         let mut starts = Vec::new(alloc);
-        let mut found = false;
+        let renumbers = renumbers(contents.as_slice());
         let mut rest = contents.as_slice();
         // Each turn takes a byte at least.
         for _ in 0..contents.len() {
             starts.push(contents.len().saturating_sub(rest.len()))?;
-            found = found || renumbers(rest);
             rest = behind_line(rest);
             if rest.is_empty() {
                 break;
@@ -76,7 +118,7 @@ impl Source {
         Ok(Source {
             contents,
             starts,
-            renumbers: found,
+            renumbers,
         })
     }
 
@@ -199,10 +241,10 @@ impl<'a> Sources<'a> {
         self.files.get(name)
     }
 
-    /// The digest of the contents of all files, in the order in which the text names them, or of those alone by whose directives lines have
+    /// A digest of the contents of all files, in the order in which the text names them, or of those alone by whose directives lines have
     /// other numbers.
-    pub fn digest(&self, alloc: Global, all: bool) -> Result<OsBytes, Stop> {
-        let mut digest = Digest::<Sha256>::new();
+    pub fn digest_of(&self, all: bool) -> Digest<Sha256> {
+        let mut digest = Digest::new();
         for name in self.names.iter() {
             if let Some(source) = self.files.get(name) {
                 if all || source.renumbers {
@@ -210,8 +252,7 @@ impl<'a> Sources<'a> {
                 }
             }
         }
-        let text = digest.finish(alloc)?;
-        Ok(OsBytes::from_slice(alloc, text.as_bytes())?)
+        digest
     }
 
     /// Whether a directive in one of the files gives lines other numbers.
@@ -221,7 +262,7 @@ impl<'a> Sources<'a> {
 }
 
 /// Feeds bytes behind their length.
-pub fn feed(digest: &mut Digest<Sha256>, bytes: &[u8]) {
+fn feed(digest: &mut Digest<Sha256>, bytes: &[u8]) {
     let length = bytes.len() as u64;
     digest.update(&length.to_le_bytes());
     digest.update(bytes);

@@ -1,25 +1,27 @@
-//! A walk over a text beside the lines of its sources, which digests what the text doesn't say of them.
+//! A walk over a text beside the lines of its sources, which collects what the text doesn't say of them.
 
-use crate::sources::{Source, Sources, feed};
-use ckeys_base::digest::Digest;
-use memchr::memmem;
-use sha2::Sha256;
+use crate::sources::{Source, Sources};
+use byte_formats::fields::put_number;
+use memchr::{memchr, memmem};
 use std::alloc::{AllocError, Global};
 
-/// Whether a line is blank.
-fn is_blank(line: &[u8]) -> bool {
-    line.iter().all(|byte| byte.is_ascii_whitespace())
+/// The text without the spaces that it begins with.
+fn behind_spaces(text: &[u8]) -> &[u8] {
+    match text.iter().position(|byte| *byte > b' ') {
+        Some(at) => text.get(at..).unwrap_or(&[]),
+        None => &[],
+    }
 }
 
-/// How many brackets a line opens more than it closes, those in strings and characters too.
-fn opened(line: &[u8]) -> bool {
+/// Whether a line opens more brackets than it closes, those in strings and characters too.
+fn opens(line: &[u8]) -> bool {
     let open = line.iter().filter(|byte| **byte == b'(').count();
     let close = line.iter().filter(|byte| **byte == b')').count();
     open > close
 }
 
 /// Whether a line opens more brackets than it closes outside of strings.
-fn opened_outside(line: &[u8]) -> bool {
+fn opens_outside(line: &[u8]) -> bool {
     let mut open: usize = 0;
     let mut close: usize = 0;
     let mut in_string = false;
@@ -42,7 +44,10 @@ fn opened_outside(line: &[u8]) -> bool {
 
 /// Whether tokens of the lines below it may stand in the text's line of this one: the arguments of a macro, or a line that goes on.
 fn goes_on(line: &[u8]) -> bool {
-    opened(line) || opened_outside(line) || line.trim_ascii_end().ends_with(b"\\")
+    if line.trim_ascii_end().ends_with(b"\\") {
+        return true;
+    }
+    memchr(b'(', line).is_some() && (opens(line) || opens_outside(line))
 }
 
 /// Whether lines may have a comment in them that says that a case falls through.
@@ -51,46 +56,104 @@ fn falls_through(lines: &[u8]) -> bool {
         || memmem::find(lines, b"HR").is_some() && memmem::find(lines, b"ALL").is_some()
 }
 
-/// What lies between two lines that a text shows, and one of these, is digested behind the number of the text's line.
+/// Whether a case or a label may begin in a line of a text, before which such a comment counts.
+fn may_be_label(line: &[u8]) -> bool {
+    let line = behind_spaces(line);
+    line.starts_with(b"case") || line.starts_with(b"default") || memchr(b':', line).is_some()
+}
+
+/// How many bytes two lines begin with alike.
+fn alike_ahead(one: &[u8], other: &[u8]) -> usize {
+    one.iter()
+        .zip(other.iter())
+        .take_while(|pair| pair.0 == pair.1)
+        .count()
+}
+
+/// How many bytes two lines end with alike.
+fn alike_behind(one: &[u8], other: &[u8]) -> usize {
+    let pairs = one.iter().rev().zip(other.iter().rev());
+    pairs.take_while(|pair| pair.0 == pair.1).count()
+}
+
+/// Puts a number, which is small most often: in one byte, or behind 255 in eight.
+fn put_small(bytes: &mut Vec<u8>, number: u64) -> Result<(), AllocError> {
+    match u8::try_from(number) {
+        Ok(small) if small < 255 => Ok(bytes.push(small)?),
+        _ => {
+            bytes.push(255)?;
+            put_number(bytes, number)
+        }
+    }
+}
+
+/// What was collected: behind the number of a text's line, counted from the one before it, what the text doesn't say of it.
 #[derive(Drop)]
 pub struct Written {
-    digest: Digest<Sha256>,
+    bytes: Vec<u8>,
+    /// The line of the text of which something was taken last.
+    last: u64,
     /// How many lines of the text were taken.
     pub taken: u64,
 }
 
 impl Written {
-    /// Nothing was taken.
-    pub fn new() -> Written {
+    /// Nothing was collected.
+    pub fn new(alloc: Global) -> Written {
         Written {
-            digest: Digest::new(),
+            bytes: Vec::new(alloc),
+            last: 0,
             taken: 0,
         }
     }
 
-    /// Takes bytes that count beside all lines.
-    pub fn take(&mut self, bytes: &[u8]) {
-        feed(&mut self.digest, bytes);
+    /// What was collected.
+    pub fn bytes(&self) -> &[u8] {
+        self.bytes.as_slice()
     }
 
-    /// Takes what the text doesn't say of its line.
-    fn note(&mut self, written: &[u8]) {
-        self.digest.update(&self.taken.to_le_bytes());
-        feed(&mut self.digest, written);
+    /// Begins what is taken of the text's line, by a letter for its kind.
+    fn begin(&mut self, kind: u8) -> Result<(), AllocError> {
+        self.bytes.push(kind)?;
+        put_small(&mut self.bytes, self.taken.wrapping_sub(self.last))?;
+        self.last = self.taken;
+        Ok(())
+    }
+
+    /// Puts bytes behind their length.
+    fn put(&mut self, bytes: &[u8]) -> Result<(), AllocError> {
+        put_small(&mut self.bytes, bytes.len() as u64)?;
+        Ok(self.bytes.extend_from_slice(bytes)?)
+    }
+
+    /// Takes lines that the text doesn't show.
+    fn note(&mut self, lines: &[u8]) -> Result<(), AllocError> {
+        self.begin(b'h')?;
+        self.put(lines)
+    }
+
+    /// Takes how a line was written that the text shows: how many bytes it begins with and ends with as the text has it, and the rest.
+    fn note_line(&mut self, line: &[u8], shown: &[u8]) -> Result<(), AllocError> {
+        let ahead = alike_ahead(line, shown);
+        let rest = line.get(ahead..).unwrap_or(&[]);
+        let behind = alike_behind(rest, shown.get(ahead..).unwrap_or(&[]));
+        let rest = rest
+            .get(..rest.len().saturating_sub(behind))
+            .unwrap_or(rest);
+        self.begin(b's')?;
+        put_small(&mut self.bytes, ahead as u64)?;
+        put_small(&mut self.bytes, behind as u64)?;
+        self.put(rest)
     }
 
     /// Takes those of the lines that may say that a case falls through.
-    fn note_comments(&mut self, lines: &[u8]) {
+    fn note_comments(&mut self, lines: &[u8]) -> Result<(), AllocError> {
         for line in lines.split(|byte| *byte == b'\n') {
             if falls_through(line) {
-                self.note(line);
+                self.note(line)?;
             }
         }
-    }
-
-    /// The digest of all that was taken.
-    pub fn finish(self, alloc: Global) -> Result<String, AllocError> {
-        self.digest.finish(alloc)
+        Ok(())
     }
 }
 
@@ -120,26 +183,29 @@ impl<'s> Place<'s> {
         }
     }
 
-    /// Looks at the lines up to that number, which the text doesn't show: they may have arguments of a macro that was shown, or a comment
-    /// that counts.
-    fn pass(&mut self, to: usize, written: &mut Written) {
+    /// Looks at the lines up to that number, which the text doesn't show: they may have arguments of a macro that was shown, or before a
+    /// case a comment that counts.
+    fn pass(&mut self, to: usize, is_label: bool, written: &mut Written) -> Result<(), AllocError> {
         if self.left >= to {
-            return;
+            return Ok(());
         }
-        if let Some(file) = self.file {
-            let lines = file.lines(self.left, to);
-            let is_more = match self.shown {
-                Some(shown) => goes_on(file.line(shown))
-                    || lines.trim_ascii_start().starts_with(b"("),
-                None => false,
-            };
-            if is_more {
-                written.note(lines);
-            } else if falls_through(lines) {
-                written.note_comments(lines);
-            }
-        }
+        let left = self.left;
         self.left = to;
+        let Some(file) = self.file else {
+            return Ok(());
+        };
+        let lines = file.lines(left, to);
+        let is_more = match self.shown {
+            Some(shown) => goes_on(file.line(shown)) || behind_spaces(lines).starts_with(b"("),
+            None => false,
+        };
+        if is_more {
+            return written.note(lines);
+        }
+        if is_label && falls_through(lines) {
+            return written.note_comments(lines);
+        }
+        Ok(())
     }
 
     /// Takes a marker: the text's next line is that one of that file.
@@ -149,14 +215,14 @@ impl<'s> Place<'s> {
         name: &'s [u8],
         number: usize,
         written: &mut Written,
-    ) {
+    ) -> Result<(), AllocError> {
         if self.name == name {
-            self.pass(number, written);
+            // The lines between stay to be looked at, as far as none was: a case may come next.
             self.number = number;
-            self.left = number;
-            return;
+            self.left = self.left.min(number);
+            return Ok(());
         }
-        self.pass(self.number, written);
+        self.pass(self.number, false, written)?;
         let file = match sources.get(name) {
             Some(file) if !file.renumbers => Some(file),
             _ => None,
@@ -169,21 +235,28 @@ impl<'s> Place<'s> {
             left: number,
             shown: None,
         };
+        Ok(())
     }
 
     /// Takes a line of the text that is no marker.
-    pub fn take_line(&mut self, line: &[u8], written: &mut Written) {
-        if let Some(file) = self.file {
-            if !is_blank(line) {
-                self.pass(self.number, written);
-                let as_written = file.line(self.number);
-                if as_written != line {
-                    written.note(as_written);
-                }
-                self.shown = Some(self.number);
-                self.left = self.number.saturating_add(1);
-            }
+    pub fn take_line(&mut self, line: &[u8], written: &mut Written) -> Result<(), AllocError> {
+        let number = self.number;
+        self.number = number.saturating_add(1);
+        let Some(file) = self.file else {
+            return Ok(());
+        };
+        if behind_spaces(line).is_empty() {
+            return Ok(());
         }
-        self.number = self.number.saturating_add(1);
+        if self.left < number {
+            self.pass(number, may_be_label(line), written)?;
+        }
+        let as_written = file.line(number);
+        if as_written != line {
+            written.note_line(as_written, line)?;
+        }
+        self.shown = Some(number);
+        self.left = number.saturating_add(1);
+        Ok(())
     }
 }
