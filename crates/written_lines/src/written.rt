@@ -136,14 +136,14 @@ impl Written {
     fn note_line(&mut self, line: &[u8], shown: &[u8]) -> Result<(), AllocError> {
         let ahead = alike_ahead(line, shown);
         let rest = line.get(ahead..).unwrap_or(&[]);
-        let behind = alike_behind(rest, shown.get(ahead..).unwrap_or(&[]));
-        let rest = rest
-            .get(..rest.len().saturating_sub(behind))
-            .unwrap_or(rest);
+        let shown_rest = shown.get(ahead..).unwrap_or(&[]);
+        let behind = alike_behind(rest, shown_rest);
+        let end = rest.len().saturating_sub(behind);
+        let middle = rest.get(..end).unwrap_or(&[]);
         self.begin(b's')?;
         put_small(&mut self.bytes, ahead as u64)?;
         put_small(&mut self.bytes, behind as u64)?;
-        self.put(rest)
+        self.put(middle)
     }
 
     /// Takes those of the lines that may say that a case falls through.
