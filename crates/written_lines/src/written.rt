@@ -8,7 +8,7 @@ use std::alloc::{AllocError, Global};
 /// The text without the spaces that it begins with.
 fn behind_spaces(text: &[u8]) -> &[u8] {
     match text.iter().position(|byte| *byte > b' ') {
-        Some(at) => text.get(at..).unwrap_or(&[]),
+        Some(at) => behind(text, at),
         None => &[],
     }
 }
@@ -60,6 +60,16 @@ fn falls_through(lines: &[u8]) -> bool {
 fn may_be_label(line: &[u8]) -> bool {
     let line = behind_spaces(line);
     line.starts_with(b"case") || line.starts_with(b"default") || memchr(b':', line).is_some()
+}
+
+/// The bytes behind so many of them.
+fn behind(bytes: &[u8], count: usize) -> &[u8] {
+    bytes.get(count..).unwrap_or(&[])
+}
+
+/// So many of the bytes.
+fn up_to(bytes: &[u8], count: usize) -> &[u8] {
+    bytes.get(..count).unwrap_or(&[])
 }
 
 /// How many bytes two lines begin with alike.
@@ -135,14 +145,13 @@ impl Written {
     /// Takes how a line was written that the text shows: how many bytes it begins with and ends with as the text has it, and the rest.
     fn note_line(&mut self, line: &[u8], shown: &[u8]) -> Result<(), AllocError> {
         let ahead = alike_ahead(line, shown);
-        let rest = line.get(ahead..).unwrap_or(&[]);
-        let shown_rest = shown.get(ahead..).unwrap_or(&[]);
-        let behind = alike_behind(rest, shown_rest);
-        let end = rest.len().saturating_sub(behind);
-        let middle = rest.get(..end).unwrap_or(&[]);
+        let rest = behind(line, ahead);
+        let shown_rest = behind(shown, ahead);
+        let alike = alike_behind(rest, shown_rest);
+        let middle = up_to(rest, rest.len().saturating_sub(alike));
         self.begin(b's')?;
         put_small(&mut self.bytes, ahead as u64)?;
-        put_small(&mut self.bytes, behind as u64)?;
+        put_small(&mut self.bytes, alike as u64)?;
         self.put(middle)
     }
 
