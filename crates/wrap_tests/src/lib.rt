@@ -1,8 +1,16 @@
-//! Tests of sessions, over the scripted tool: what is held, and what is run.
+//! Tests of sessions, over the scripted tool: what is held, what is run, and devices and stores that fail.
 #![tactic(auto)]
 
 #[cfg(test)]
 mod calls;
+#[cfg(test)]
+mod devices;
+#[cfg(test)]
+mod direct;
+#[cfg(test)]
+mod fail_tool;
+#[cfg(test)]
+mod forgetful;
 #[cfg(test)]
 mod idle_tool;
 #[cfg(test)]
