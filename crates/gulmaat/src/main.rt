@@ -9,8 +9,6 @@ ghost use Rattle.std.specs.Prelude.{◌≡◌};
 
 mod counting;
 mod deciding;
-mod kept;
-mod known;
 
 use counting::note;
 use deciding::{End, decide};

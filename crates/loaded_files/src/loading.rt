@@ -134,7 +134,7 @@ fn is_recorded(found: &OnDisk, before: FileTime) -> bool {
 }
 
 /// Until when a file must have been changed so that it's certain to have been the same since that moment.
-fn settled_before(moment: SystemTime) -> FileTime {
+pub fn settled_before(moment: SystemTime) -> FileTime {
     let Ok(since) = moment.duration_since(UNIX_EPOCH) else {
         return FileTime::from_seconds(0);
     };

@@ -57,8 +57,12 @@ pub struct Known {
     pub entry: Option<Kept>,
     /// The digest by which the disk was asked already.
     pub looked_up: Option<OsBytes>,
-    /// The include record that a disk keeps, which may fit.
-    record_kept: Option<(EntryKey, PreprocessorCacheEntry)>,
+    /// The include record that a disk keeps, which may fit, without the results that were left out.
+    pub(crate) record_kept: Option<(EntryKey, PreprocessorCacheEntry)>,
+    /// That record with them, where some were.
+    pub(crate) whole: Option<PreprocessorCacheEntry>,
+    /// What to watch of its results.
+    pub(crate) watched: OsBytes,
     /// The name of the record for which the disk was asked already; an empty one where it wasn't.
     record_name: String,
     /// The file that was loaded last.
@@ -95,6 +99,8 @@ impl Known {
             entry: None,
             looked_up: None,
             record_kept: None,
+            whole: None,
+            watched: OsBytes::empty(alloc),
             record_name: String::new(alloc),
             loaded: None,
             list: OsBytes::empty(alloc),
@@ -133,11 +139,17 @@ impl Known {
         line: &CommandLine,
         found: FoundRecord,
     ) -> Result<bool, Stop> {
-        let FoundRecord { key, entry, names } = found;
+        let FoundRecord {
+            key,
+            entry,
+            names,
+            watched,
+        } = found;
         if !load_all(rt, line, names.as_slice(), &mut self.files)? {
             return Ok(false);
         }
         self.record_kept = Some((key, entry));
+        self.watched = watched;
         Ok(true)
     }
 
@@ -152,6 +164,8 @@ impl Known {
             return Ok(false);
         }
         self.record_kept = None;
+        self.whole = None;
+        self.watched = OsBytes::empty(rt.alloc());
         let found = record_under(rt, &line.folder, line.zone.as_str(), name.as_str());
         self.record_name = name;
         match found {
