@@ -170,6 +170,8 @@ pub fn said_of<P: Print + Files + AllocGlobal, I: Read>(
         return Err(Unwatched::List);
     }
     let said = fs::read(rt, line.errors.as_str())?;
+    // The host prints what it finds there.
+    fs::write(rt, line.errors.as_str(), b"")?;
     keep(rt, line, name.as_str(), said.as_slice(), before)?;
     Ok(said)
 }
