@@ -124,8 +124,8 @@ fn list_of_folders<R: Files + AllocGlobal>(
     let Some(list) = SearchList::read(rt.alloc(), said)? else {
         return Err(Unwatched::List);
     };
-    let mut watching = Watching::new(rt.alloc(), line.dir.as_bytes(), &list, before);
-    watching.take_folders(rt)?;
+    let mut watching = Watching::new(rt.alloc(), line.dir.as_bytes(), before);
+    watching.take_folders(rt, &list)?;
     watching.into_list(rt.alloc())
 }
 

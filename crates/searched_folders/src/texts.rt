@@ -85,12 +85,13 @@ fn add_all_probed<'a>(
 fn search_all<R: Files + AllocGlobal>(
     rt: &R,
     source: &Source,
+    list: &SearchList<'_>,
     found: &Directives<'_>,
     watching: &mut Watching<'_>,
 ) -> Result<(), Unwatched> {
     let beside = folder_of(source.path.as_bytes());
     for asked in found.asked.as_slice() {
-        watching.search(rt, beside, *asked)?;
+        watching.search(rt, list, beside, *asked)?;
     }
     Ok(())
 }
@@ -99,12 +100,13 @@ fn search_all<R: Files + AllocGlobal>(
 fn look_for_precompiled<R: Files + AllocGlobal>(
     rt: &R,
     source: &Source,
+    list: &SearchList<'_>,
     found: &Directives<'_>,
     watching: &mut Watching<'_>,
 ) -> Result<(), Unwatched> {
     let beside = folder_of(source.path.as_bytes());
     for asked in found.asked.as_slice() {
-        watching.look_for_precompiled(rt, beside, asked.name, b".gch")?;
+        watching.look_for_precompiled(rt, list, beside, asked.name, b".gch")?;
     }
     Ok(())
 }
@@ -125,6 +127,7 @@ fn taken_in<'a>(word: &'a [u8], next: &'a [u8]) -> Option<&'a [u8]> {
 /// Looks for what words take in before the input: in the call's folder, and then as names in quotes are looked for.
 fn search_words<R: Files + AllocGlobal>(
     rt: &R,
+    list: &SearchList<'_>,
     words: &[OsBytes],
     watching: &mut Watching<'_>,
 ) -> Result<(), Unwatched> {
@@ -139,9 +142,9 @@ fn search_words<R: Files + AllocGlobal>(
         };
         if let Some(name) = name {
             let search = Search::Quoted;
-            watching.search(rt, b"", Asked { name, search })?;
-            watching.look_for_precompiled(rt, b"", name, b".gch")?;
-            watching.look_for_precompiled(rt, b"", name, b".pch")?;
+            watching.search(rt, list, b"", Asked { name, search })?;
+            watching.look_for_precompiled(rt, list, b"", name, b".gch")?;
+            watching.look_for_precompiled(rt, list, b"", name, b".pch")?;
         }
         before = if is_value { &[] } else { bytes };
     }
@@ -176,6 +179,7 @@ fn take_sources<'a>(
 /// Looks for all that these sources ask for.
 fn search_sources<'a, R: Files + AllocGlobal>(
     rt: &R,
+    list: &SearchList<'_>,
     sources: &'a [Source],
     all: &mut [Directives<'a>],
     watching: &mut Watching<'_>,
@@ -183,7 +187,7 @@ fn search_sources<'a, R: Files + AllocGlobal>(
     let probes = probes_in(rt.alloc(), all)?;
     for (source, found) in sources.iter().zip(all.iter_mut()) {
         add_all_probed(source, probes.as_slice(), found)?;
-        search_all(rt, source, found, watching)?;
+        search_all(rt, source, list, found, watching)?;
     }
     Ok(())
 }
@@ -205,16 +209,16 @@ pub fn list_of<R: Files + AllocGlobal>(
         return Err(Unwatched::List);
     };
     let mut all = directives_in(alloc, sources)?;
-    let mut watching = Watching::new(alloc, line.dir.as_bytes(), &list, before);
+    let mut watching = Watching::new(alloc, line.dir.as_bytes(), before);
     take_sources(alloc, sources, all.as_slice(), &mut watching)?;
-    watching.take_folders(rt)?;
-    search_words(rt, words, &mut watching)?;
+    watching.take_folders(rt, &list)?;
+    search_words(rt, &list, words, &mut watching)?;
     let name = PREDEFINED;
     let search = Search::Bracketed;
-    watching.search(rt, b"", Asked { name, search })?;
-    search_sources(rt, sources, all.as_mut_slice(), &mut watching)?;
+    watching.search(rt, &list, b"", Asked { name, search })?;
+    search_sources(rt, &list, sources, all.as_mut_slice(), &mut watching)?;
     if let (Some(input), Some(found)) = (sources.first(), all.first()) {
-        look_for_precompiled(rt, input, found, &mut watching)?;
+        look_for_precompiled(rt, input, &list, found, &mut watching)?;
     }
     watching.into_list(alloc)
 }

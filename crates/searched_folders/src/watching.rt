@@ -18,7 +18,6 @@ use std::rt::Files;
 #[derive(Drop)]
 pub struct Watching<'a> {
     dir: &'a [u8],
-    list: &'a SearchList<'a>,
     /// Until when something must have been changed so that it's certain to have been the same since the call began.
     before: FileTime,
     /// The folders in which something was looked for; nothing where there is none.
@@ -53,15 +52,9 @@ fn above(path: &str) -> &str {
 
 impl<'a> Watching<'a> {
     /// Nothing was looked at for a call in that folder.
-    pub fn new(
-        alloc: Global,
-        dir: &'a [u8],
-        list: &'a SearchList<'a>,
-        before: FileTime,
-    ) -> Watching<'a> {
+    pub fn new(alloc: Global, dir: &'a [u8], before: FileTime) -> Watching<'a> {
         Watching {
             dir,
-            list,
             before,
             folders: BTreeMap::new(alloc),
             looked_at: BTreeMap::new(alloc),
@@ -197,11 +190,11 @@ impl<'a> Watching<'a> {
     pub fn search<R: Files + AllocGlobal>(
         &mut self,
         rt: &R,
+        list: &SearchList<'_>,
         beside: &[u8],
         asked: Asked<'_>,
     ) -> Result<(), Unwatched> {
         let Asked { name, search } = asked;
-        let list = self.list;
         if name.starts_with(b"/") || (search == Search::Quoted && self.is_in(rt, beside, name)?) {
             self.is_in(rt, beside, name)?;
             return Ok(());
@@ -232,8 +225,11 @@ impl<'a> Watching<'a> {
     }
 
     /// Has the folders watched in which the compiler looks, and those that it leaves out.
-    pub fn take_folders<R: Files + AllocGlobal>(&mut self, rt: &R) -> Result<(), Unwatched> {
-        let list = self.list;
+    pub fn take_folders<R: Files + AllocGlobal>(
+        &mut self,
+        rt: &R,
+        list: &SearchList<'_>,
+    ) -> Result<(), Unwatched> {
         for folder in list.quoted.iter().chain(list.bracketed.iter()) {
             if !self.take_folder(rt, folder)? {
                 return Err(Unwatched::List);
@@ -242,12 +238,16 @@ impl<'a> Watching<'a> {
         for folder in list.left_out.as_slice() {
             self.take_folder(rt, folder)?;
         }
-        self.take_installations(rt)
+        self.take_installations(rt, list)
     }
 
     /// Has the folders watched in which the compiler found a GCC: another one there may be taken in its place.
-    fn take_installations<R: Files + AllocGlobal>(&mut self, rt: &R) -> Result<(), Unwatched> {
-        for installation in self.list.installations.as_slice() {
+    fn take_installations<R: Files + AllocGlobal>(
+        &mut self,
+        rt: &R,
+        list: &SearchList<'_>,
+    ) -> Result<(), Unwatched> {
+        for installation in list.installations.as_slice() {
             for folder in [above(installation), above(above(installation))] {
                 let state = state_at(rt, folder)?;
                 self.files
@@ -261,6 +261,7 @@ impl<'a> Watching<'a> {
     pub fn look_for_precompiled<R: Files + AllocGlobal>(
         &mut self,
         rt: &R,
+        list: &SearchList<'_>,
         beside: &[u8],
         name: &[u8],
         ending: &[u8],
@@ -268,7 +269,6 @@ impl<'a> Watching<'a> {
         let mut precompiled = Vec::new(rt.alloc());
         precompiled.extend_from_slice(name)?;
         precompiled.extend_from_slice(ending)?;
-        let list = self.list;
         let others = list.quoted.iter().chain(list.bracketed.iter());
         for folder in others.map(|folder| folder.as_bytes()).chain(once(beside)) {
             let path = path_in(rt.alloc(), self.dir, folder, precompiled.as_slice())?;
