@@ -36,8 +36,8 @@ use wrapper_host::stop::Stop;
 /// What the host is to do at the end.
 #[derive(Drop)]
 pub enum End {
-    /// The outputs are there: kept ones, or those that the compiler made.
-    Done(How),
+    /// The outputs are there: kept ones, or those that the compiler made; and why no record says of what the text is made, if so.
+    Done(How, Option<Unwatched>),
     /// The compiler is to run, or its status is the answer where it ran; and why.
     Pass(String),
 }
@@ -126,7 +126,7 @@ fn note_call<R: Files + AllocGlobal>(
     Ok(make_room(&rt, &line.folder, names.as_slice())?)
 }
 
-/// What to watch of the text, where the session put a record.
+/// What to watch of the text, where the session put a record. Where that can't be told it is noted why.
 fn list_to_watch<P: Print + Files + AllocGlobal, I: Read>(
     rt: &P,
     line: &CommandLine,
@@ -137,10 +137,12 @@ fn list_to_watch<P: Print + Files + AllocGlobal, I: Read>(
 ) -> Result<Vec<u8>, Unwatched>
     ensures { host.new.compiled ≡ host.old.compiled }
 {
-    match answered.session.entries().newest() {
-        Some(_) => known.list_to_watch(rt, line, host, key),
-        None => Err(Unwatched::List),
+    if answered.session.entries().newest().is_none() {
+        return Err(Unwatched::List);
     }
+    let list = known.list_to_watch(rt, line, host, key);
+    known.unwatched = list.as_ref().err().copied();
+    list
 }
 
 /// Keeps outputs that were made afresh, and gives those that were kept, each with what was printed beside them.
@@ -348,7 +350,7 @@ fn act_on<P: Print + Files + AllocGlobal, I: Read>(
                 messages,
             };
             finish(rt, line, host, hint, answered, &given, known)?;
-            Ok(Some(End::Done(how)))
+            Ok(Some(End::Done(how, known.unwatched)))
         }
         Ok(Answer::Pass(reason)) => Ok(Some(End::Pass(format!(in alloc; "pass: {reason}")?))),
         Err(fault) => {
@@ -461,7 +463,7 @@ fn basedirs_of(alloc: Global, line: &CommandLine) -> Result<Listed<OsBytes>, Sto
 /// Whether the compiler made the outputs.
 fn was_compiled(end: &Result<End, Stop>) -> bool {
     match end {
-        Ok(End::Done(how)) => *how == How::Fresh,
+        Ok(End::Done(how, _)) => *how == How::Fresh,
         Ok(End::Pass(_)) | Err(_) => false,
     }
 }

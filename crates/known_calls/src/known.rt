@@ -20,6 +20,7 @@ use os_files::os_bytes::OsBytes;
 use replay::replay_tool::{RecordedOutputs, RecordedText, ReplayTool, Wanted};
 use replay::snapshot_files::SnapshotFiles;
 use replay::watched_records::pair_again;
+use searched_folders::unwatched::Unwatched;
 use settings::key::Key;
 use std::alloc::Global;
 use std::fs;
@@ -49,6 +50,8 @@ pub struct Known {
     dependencies: Option<Dependencies>,
     /// The zone in which days are told, where direct mode is on.
     pub zone: Option<Zone>,
+    /// Why no record says of what the text is made, where direct mode was on.
+    pub unwatched: Option<Unwatched>,
     /// The folders that don't count.
     pub basedirs: Listed<OsBytes>,
     pub files: SnapshotFiles,
@@ -93,6 +96,7 @@ impl Known {
             takes_color,
             dependencies,
             zone,
+            unwatched: None,
             basedirs,
             files: SnapshotFiles::new(alloc),
             tool: ReplayTool::new(),
@@ -111,6 +115,13 @@ impl Known {
         }
     }
 
+    /// Turns direct mode off.
+    fn turn_off(&mut self, why: Unwatched) {
+        if self.zone.take().is_some() {
+            self.unwatched = Some(why);
+        }
+    }
+
     /// Loads the file of that path, as it is there or not. Where that can't be told direct mode goes off. False where it was the last
     /// one already.
     pub fn load<R: Files + AllocGlobal>(&mut self, rt: &R, path: OsBytes) -> Result<bool, Stop> {
@@ -119,7 +130,7 @@ impl Known {
         }
         self.loaded = Some(path.clone()?);
         if !load(rt, path, &mut self.files)? {
-            self.zone = None;
+            self.turn_off(Unwatched::Device);
         }
         Ok(true)
     }
@@ -205,9 +216,10 @@ impl Known {
             return Ok(());
         };
         let text = recorded.printed.text.as_bytes();
-        let silent = self.preprocessor.as_bytes().is_empty();
-        if !silent || !load_named(rt, line, text, &mut self.files)? {
-            self.zone = None;
+        if !self.preprocessor.as_bytes().is_empty() {
+            self.turn_off(Unwatched::Messages);
+        } else if !load_named(rt, line, text, &mut self.files)? {
+            self.turn_off(Unwatched::Changed);
         }
         Ok(())
     }

@@ -6,36 +6,39 @@ use std::alloc::{AllocError, AllocFailed};
 use std::{fmt, io};
 use thiserror::Error;
 
-/// Why there is no list.
-#[derive(Debug, Drop, Error, PartialEq, Eq)]
+/// Why there is no list. Counters are called by these texts.
+#[derive(Clone, Copy, Debug, Error, PartialEq, Eq)]
 pub enum Unwatched {
     #[error("no memory")]
     Memory,
-    #[error("a file can't be read")]
+    #[error("unreadable file")]
     Device,
     /// A source asks for a file by a name that it computes, or takes in a file by other means.
-    #[error("a source computes the name of a file")]
+    #[error("computed name")]
     Computed,
     /// The words have the compiler look for files in a way of its own, or a day or a time may come into the text by them.
-    #[error("an option changes how files are found")]
+    #[error("option")]
     Words,
     /// A day or a time may be pasted.
-    #[error("a source may paste a macro of the time")]
+    #[error("pasted time")]
     Pasted,
     /// A path can't be asked, or a link leads nowhere.
-    #[error("a path can't be looked at")]
+    #[error("unclear path")]
     Path,
-    /// A file that was found was changed since the call began.
-    #[error("a file was changed since the call began")]
+    /// The preprocessor printed messages, which no record has.
+    #[error("message of the preprocessor")]
+    Messages,
+    /// A file was changed since the call began, or can't be told to have been the same since.
+    #[error("changed file")]
     Changed,
     /// Of two equal files that are taken in once alone, the second one may be skipped by its time.
-    #[error("two files that are taken in once are equal")]
+    #[error("equal files")]
     Equal,
     /// A precompiled header may be taken in place of one that the text shows.
-    #[error("a precompiled header is in reach")]
+    #[error("precompiled header")]
     Precompiled,
     /// The compiler doesn't tell where it looks.
-    #[error("the compiler doesn't tell where it looks")]
+    #[error("no search list")]
     List,
 }
 
