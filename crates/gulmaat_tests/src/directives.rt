@@ -10,7 +10,7 @@ use test_kit::rows::words;
 use test_kit::texts::{holds, is_that};
 
 /// Sources, and what they ask for; `none` where that can't be told.
-const SOURCES: [(&str, &str); 45] = [
+const SOURCES: [(&str, &str); 47] = [
     ("", ""),
     ("int x;\n", ""),
     ("#include \"a.h\"\n", " \"a.h\""),
@@ -31,14 +31,16 @@ const SOURCES: [(&str, &str); 45] = [
     ("#includes <a.h>\n", ""),
     ("#define X include <a.h>\n", ""),
     ("#include NAME\n", "none"),
-    ("#include\n", "none"),
+    ("#include\n", ""),
+    ("  #include's protect themselves, and so do others\n", ""),
+    ("#include (a)\n", ""),
     ("#include /* a */ <a.h>\n", "none"),
     ("#/* a */include <a.h>\n", "none"),
     ("#inc\\\nlude <a.h>\n", "none"),
     ("#\\\ninclude <a.h>\n", "none"),
     ("#include \\\n<a.h>\n", "none"),
     ("#include \"<a.h>\"\n", "none"),
-    ("#include <a.h\n", "none"),
+    ("#include <a.h\n", ""),
     ("%:include <a.h>\n", "none"),
     ("??=include <a.h>\n", "none"),
     ("#embed <a.bin>\n", "none"),

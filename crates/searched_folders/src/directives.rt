@@ -101,6 +101,16 @@ fn name_ahead(text: &[u8]) -> Option<Asked<'_>> {
     Some(Asked { name, search })
 }
 
+/// Whether a name may be computed by what stands where one isn't written: a macro begins there, or a comment, the end of a line that goes on,
+/// or a name in quotes that is none. All else fails to compile, or stands in a comment.
+fn may_be_computed(operand: &[u8]) -> bool {
+    match operand {
+        [b'/' | b'\\', ..] | [b'"', b'<', ..] => true,
+        [byte, ..] => is_letter(*byte),
+        [] => false,
+    }
+}
+
 /// The name of the macro that a line defines, and whether it takes parameters.
 fn defined_by(line: &[u8]) -> Option<(&[u8], bool)> {
     let behind = behind_spaces(line).strip_prefix(b"#")?;
@@ -140,10 +150,11 @@ impl<'a> Directives<'a> {
         }
     }
 
-    /// Takes the name at the front of what stands behind a directive or a probe. False where none is written there.
+    /// Takes the name at the front of what stands behind a directive or a probe. False where one is computed there.
     fn take_name(&mut self, operand: &'a [u8], is_next: bool) -> Result<bool, AllocError> {
-        let Some(Asked { name, search }) = name_ahead(behind_spaces(operand)) else {
-            return Ok(false);
+        let operand = behind_spaces(operand);
+        let Some(Asked { name, search }) = name_ahead(operand) else {
+            return Ok(!may_be_computed(operand));
         };
         let search = if is_next { Search::Next } else { search };
         self.asked.push(Asked { name, search })?;
