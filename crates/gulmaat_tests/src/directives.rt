@@ -1,7 +1,7 @@
 //! What sources ask for, and the times that they may paste. Names in quotes stand in quotes, and those that come next behind `next`.
 
 use os_files::lossy::Lossy;
-use searched_folders::directives::{Asked, Search, directives_of};
+use searched_folders::directives::{Asked, Search, directives_of, may_define};
 use searched_folders::times::{pastes_time, tells_time};
 use std::alloc::{AllocError, Global};
 use std::fmt::Write;
@@ -10,7 +10,7 @@ use test_kit::rows::words;
 use test_kit::texts::{holds, is_that};
 
 /// Sources, and what they ask for; `none` where that can't be told.
-const SOURCES: [(&str, &str); 47] = [
+const SOURCES: [(&str, &str); 49] = [
     ("", ""),
     ("int x;\n", ""),
     ("#include \"a.h\"\n", " \"a.h\""),
@@ -30,7 +30,9 @@ const SOURCES: [(&str, &str); 47] = [
     ("x #include <a.h>\n", ""),
     ("#includes <a.h>\n", ""),
     ("#define X include <a.h>\n", ""),
-    ("#include NAME\n", "none"),
+    ("#include NAME\n", " takes NAME"),
+    ("#include NAME // a\n", "none"),
+    ("#include NAME(a)\n", "none"),
     ("#include\n", ""),
     ("  #include's protect themselves, and so do others\n", ""),
     ("#include (a)\n", ""),
@@ -91,6 +93,9 @@ fn text_of(alloc: Global, source: &str) -> Result<String, AllocError> {
     for bytes in found.probes.as_slice() {
         write!(text, " asks {}", Lossy { bytes })?;
     }
+    for bytes in found.computed.as_slice() {
+        write!(text, " takes {}", Lossy { bytes })?;
+    }
     if found.is_once {
         text.push_str(" once")?;
     }
@@ -102,6 +107,24 @@ fn sources_ask_for_files(rt: HostRuntime) -> Result<(), Fail> {
     for (source, want) in SOURCES {
         let text = text_of(rt.alloc(), source)?;
         is_that(text.as_str(), want, source)?;
+    }
+    Ok(())
+}
+
+/// Sources, and whether `NAME` may be defined in them.
+const DEFINED: [(&str, bool); 6] = [
+    ("#define NAME <a.h>\n", true),
+    ("# define\tNAME", true),
+    ("#ifdef NAME\n#include NAME\n#endif\n", false),
+    ("#if defined(NAME)\n", false),
+    ("#define OTHER NAME\n", false),
+    ("#define NAMES 1\n", true),
+];
+
+#[test]
+fn macros_may_be_defined(_rt: HostRuntime) -> Result<(), Fail> {
+    for (source, want) in DEFINED {
+        holds(may_define(source.as_bytes(), b"NAME") == want, source)?;
     }
     Ok(())
 }

@@ -30,6 +30,8 @@ pub struct Directives<'a> {
     pub asked: Vec<Asked<'a>>,
     /// The macros by which it asks whether a file is there: each hands its parameter on.
     pub probes: Vec<&'a [u8]>,
+    /// The macros that stand for names that it takes in.
+    pub computed: Vec<&'a [u8]>,
     /// Whether it may be taken in once alone.
     pub is_once: bool,
 }
@@ -146,6 +148,7 @@ impl<'a> Directives<'a> {
         Directives {
             asked: Vec::new(alloc),
             probes: Vec::new(alloc),
+            computed: Vec::new(alloc),
             is_once: false,
         }
     }
@@ -159,6 +162,16 @@ impl<'a> Directives<'a> {
         let search = if is_next { Search::Next } else { search };
         self.asked.push(Asked { name, search })?;
         Ok(true)
+    }
+
+    /// Takes what a directive takes in, which a macro may stand for. False where it can't be told what it is.
+    fn take_included(&mut self, operand: &'a [u8], is_next: bool) -> Result<bool, AllocError> {
+        if self.take_name(operand, is_next)? {
+            return Ok(true);
+        }
+        let (name, rest) = word_ahead(behind_spaces(operand));
+        self.computed.push(name)?;
+        Ok(!name.is_empty() && behind_spaces(rest).is_empty())
     }
 
     /// Takes what stands behind `pragma`. False where it asks for a file.
@@ -180,10 +193,12 @@ impl<'a> Directives<'a> {
             return Ok(false);
         }
         match word {
-            b"include" | b"include_next" => self.take_name(operand, word.ends_with(b"_next")),
+            b"include" | b"include_next" => {
+                self.take_included(operand, word.ends_with(b"_next"))
+            }
             b"import" => {
                 self.is_once = true;
-                self.take_name(operand, false)
+                self.take_included(operand, false)
             }
             b"pragma" => Ok(self.take_pragma(operand)),
             b"embed" | b"__include_macros" => Ok(false),
@@ -251,6 +266,25 @@ pub fn directives_of(alloc: Global, source: &[u8]) -> Result<Option<Directives<'
         }
     }
     Ok(Some(found))
+}
+
+/// Whether a macro may have a definition in a source: its name stands behind `define` there.
+pub fn may_define(source: &[u8], name: &[u8]) -> bool {
+    for at in memmem::find_iter(source, name) {
+        let front = source.get(..at).unwrap_or(&[]);
+        let spaces = front
+            .iter()
+            .rev()
+            .take_while(|byte| is_space(**byte))
+            .count();
+        let front = front
+            .get(..front.len().saturating_sub(spaces))
+            .unwrap_or(&[]);
+        if front.ends_with(b"define") {
+            return true;
+        }
+    }
+    false
 }
 
 /// Adds what a source asks for by a probe of another name. False where that can't be told.

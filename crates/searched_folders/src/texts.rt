@@ -1,11 +1,12 @@
 //! What to watch of a text: all that its sources ask for, and where the compiler looks for it.
 
-use crate::directives::{Asked, Directives, Search, add_probed, directives_of};
+use crate::directives::{Asked, Directives, Search, add_probed, directives_of, may_define};
 use crate::search_list::SearchList;
 use crate::times::{pastes_time, tells_time};
 use crate::unwatched::Unwatched;
 use crate::watching::Watching;
 use known_options::words::takes_next;
+use memchr::memmem;
 use os_files::file_time::FileTime;
 use os_files::os_bytes::OsBytes;
 use std::alloc::Global;
@@ -54,6 +55,34 @@ fn directives_in(alloc: Global, sources: &[Source]) -> Result<Vec<Directives<'_>
         }
     }
     Ok(all)
+}
+
+/// Whether a macro isn't defined, neither by these sources nor by words nor by the compiler, whose own names begin with `_` or have small
+/// letters. A line that takes in what it stands for isn't live then, or nothing is made.
+fn is_undefined(name: &[u8], words: &[OsBytes], sources: &[Source]) -> bool {
+    let is_own = name.starts_with(b"_") || name.iter().any(|byte| byte.is_ascii_lowercase());
+    !is_own
+        && !words
+            .iter()
+            .any(|word| memmem::find(word.as_bytes(), name).is_some())
+        && !sources
+            .iter()
+            .any(|source| may_define(source.contents.as_bytes(), name))
+}
+
+/// Refuses sources that take in what a macro stands for.
+fn refuse_computed(
+    all: &[Directives<'_>],
+    words: &[OsBytes],
+    sources: &[Source],
+) -> Result<(), Unwatched> {
+    for found in all {
+        let mut names = found.computed.iter();
+        if !names.all(|name| is_undefined(name, words, sources)) {
+            return Err(Unwatched::Computed);
+        }
+    }
+    Ok(())
 }
 
 /// The macros by which sources ask whether a file is there.
@@ -209,6 +238,7 @@ pub fn list_of<R: Files + AllocGlobal>(
         return Err(Unwatched::List);
     };
     let mut all = directives_in(alloc, sources)?;
+    refuse_computed(all.as_slice(), words, sources)?;
     let mut watching = Watching::new(alloc, line.dir.as_bytes(), before);
     take_sources(alloc, sources, all.as_slice(), &mut watching)?;
     watching.take_folders(rt, &list)?;
