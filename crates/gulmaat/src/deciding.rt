@@ -13,6 +13,7 @@ use kept_pairs::entries::Kept;
 use kept_pairs::record_files::name_of_record;
 use known_calls::kept::{Hint, found, hint_at, hint_name, keep, kept_under, note_hint, renew};
 use known_calls::known::Known;
+use known_calls::outputs::lock_paths;
 use known_compilers::compilers::kind_of;
 use loaded_files::outputs::{print_again, write_dependencies, write_outputs};
 use os_files::listed::Listed;
@@ -22,6 +23,7 @@ use searched_folders::unwatched::Unwatched;
 use settings::key::Key;
 use sha2::Sha256;
 use std::alloc::Global;
+use std::fs::File;
 use std::io::Read;
 use std::rt::Files;
 use wrap::{
@@ -50,8 +52,17 @@ fn pass(alloc: Global, reason: &str) -> Result<End, Stop> {
     Ok(End::Pass(String::from_str(alloc, reason)?))
 }
 
+/// The paths of outputs.
+fn paths_of(alloc: Global, outputs: &[Output]) -> Result<Listed<OsBytes>, Stop> {
+    let mut paths = Listed::new(alloc);
+    for output in outputs {
+        paths.push(output.path.clone()?)?;
+    }
+    Ok(paths)
+}
+
 /// Puts kept outputs and a dependency file where the request wants them, and has printed again what was printed beside them.
-fn give<R: Files + AllocGlobal>(
+fn give<R: Files<File = File> + AllocGlobal>(
     rt: &R,
     line: &CommandLine,
     outputs: &[Output],
@@ -61,8 +72,10 @@ fn give<R: Files + AllocGlobal>(
     let Some(messages) = messages else {
         return Err(Stop::Unreadable);
     };
+    let locks = lock_paths(rt, line, paths_of(rt.alloc(), outputs)?.as_slice())?;
     write_dependencies(rt, known.dependency_file(), messages)?;
     write_outputs(rt, outputs)?;
+    drop(locks);
     print_again(rt, line, messages)
 }
 
@@ -146,7 +159,7 @@ fn list_to_watch<P: Print + Files + AllocGlobal, I: Read>(
 }
 
 /// Keeps outputs that were made afresh, and gives those that were kept, each with what was printed beside them.
-fn finish<P: Print + Files + AllocGlobal, I: Read>(
+fn finish<P: Print + Files<File = File> + AllocGlobal, I: Read>(
     rt: &P,
     line: &CommandLine,
     host: &mut Host<I>,
@@ -175,7 +188,7 @@ fn finish<P: Print + Files + AllocGlobal, I: Read>(
 }
 
 /// Gives outputs of which it isn't known under which key they were kept.
-fn finish_without_key<R: Files + AllocGlobal>(
+fn finish_without_key<R: Files<File = File> + AllocGlobal>(
     rt: &R,
     line: &CommandLine,
     given: &Given<'_>,
@@ -220,7 +233,7 @@ fn look_up_record<R: Files + AllocGlobal>(
 }
 
 /// Finds out what the text is: by a record, or by the preprocessor. False where it was printed already.
-fn find_text<P: Print + Files + AllocGlobal, I: Read>(
+fn find_text<P: Print + Files<File = File> + AllocGlobal, I: Read>(
     rt: &P,
     line: &CommandLine,
     host: &mut Host<I>,
@@ -245,7 +258,7 @@ fn find_text<P: Print + Files + AllocGlobal, I: Read>(
 }
 
 /// Finds out what was made: by an entry, or by the compiler. False where that ran already.
-fn find_outputs<P: Print + Files + AllocGlobal, I: Read>(
+fn find_outputs<P: Print + Files<File = File> + AllocGlobal, I: Read>(
     rt: &P,
     line: &CommandLine,
     host: &mut Host<I>,
@@ -262,7 +275,7 @@ fn find_outputs<P: Print + Files + AllocGlobal, I: Read>(
 }
 
 /// Finds out what a fault says is lacking. False where nothing is.
-fn find_out<P: Print + Files + AllocGlobal, I: Read>(
+fn find_out<P: Print + Files<File = File> + AllocGlobal, I: Read>(
     rt: &P,
     line: &CommandLine,
     host: &mut Host<I>,
@@ -320,7 +333,7 @@ fn answer_by(
 }
 
 /// Acts on what the session answered, and on what was printed beside the kept outputs that it had for it. None where more is known then.
-fn act_on<P: Print + Files + AllocGlobal, I: Read>(
+fn act_on<P: Print + Files<File = File> + AllocGlobal, I: Read>(
     rt: &P,
     line: &CommandLine,
     host: &mut Host<I>,
@@ -401,7 +414,7 @@ fn load_ahead<R: Files + AllocGlobal>(
 }
 
 /// One attempt. None where more is known after it.
-fn attempt<P: Print + Files + AllocGlobal, I: Read>(
+fn attempt<P: Print + Files<File = File> + AllocGlobal, I: Read>(
     rt: &P,
     line: &CommandLine,
     host: &mut Host<I>,
@@ -417,7 +430,7 @@ fn attempt<P: Print + Files + AllocGlobal, I: Read>(
 }
 
 /// Asks the session about the request until it answers, each time with more that is known.
-fn ask_until<P: Print + Files + AllocGlobal, I: Read>(
+fn ask_until<P: Print + Files<File = File> + AllocGlobal, I: Read>(
     rt: &P,
     line: &CommandLine,
     host: &mut Host<I>,
@@ -495,7 +508,7 @@ fn note_made<R: Files + AllocGlobal>(
 }
 
 /// Asks the session about the request until it answers, and notes what was compiled.
-fn ask_and_note<P: Print + Files + AllocGlobal, I: Read>(
+fn ask_and_note<P: Print + Files<File = File> + AllocGlobal, I: Read>(
     rt: &P,
     line: &CommandLine,
     host: &mut Host<I>,
@@ -513,7 +526,7 @@ fn ask_and_note<P: Print + Files + AllocGlobal, I: Read>(
 }
 
 /// Asks the session about a call of a compiler of that kind, of which nothing is known yet.
-fn ask_about<P: Print + Files + AllocGlobal, I: Read>(
+fn ask_about<P: Print + Files<File = File> + AllocGlobal, I: Read>(
     rt: &P,
     line: &CommandLine,
     host: &mut Host<I>,
@@ -543,7 +556,7 @@ fn ask_about<P: Print + Files + AllocGlobal, I: Read>(
 }
 
 /// Asks the session about the command line of a compiler of that kind.
-fn ask<P: Print + Files + AllocGlobal, I: Read>(
+fn ask<P: Print + Files<File = File> + AllocGlobal, I: Read>(
     rt: &P,
     line: &CommandLine,
     host: &mut Host<I>,
@@ -557,7 +570,7 @@ fn ask<P: Print + Files + AllocGlobal, I: Read>(
 }
 
 /// Decides on the command line.
-pub fn decide<P: Print + Files + AllocGlobal, I: Read>(
+pub fn decide<P: Print + Files<File = File> + AllocGlobal, I: Read>(
     rt: &P,
     line: &CommandLine,
     host: &mut Host<I>,

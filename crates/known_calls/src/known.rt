@@ -2,6 +2,7 @@
 
 ghost use Rattle.std.specs.Prelude.{◌≡◌, ◌≤◌};
 
+use crate::outputs::{are_same, lock_paths, made_since, states_in, states_of};
 use ckeys::hasher::needs_c_preprocessing;
 use ckeys_records::output_name::OutputName;
 use kept_entries::entry::KeptMessages;
@@ -13,17 +14,19 @@ use known_options::dependencies::Dependencies;
 use known_options::text_words::text_words;
 use loaded_files::lists::{digest_of_list, names_files_of};
 use loaded_files::loading::{load, load_all, load_named};
-use loaded_files::outputs::{made_at, regular};
+use loaded_files::outputs::regular;
 use loaded_files::precompiled::has_precompiled;
 use os_files::listed::Listed;
 use os_files::os_bytes::OsBytes;
 use replay::replay_tool::{RecordedOutputs, RecordedText, ReplayTool, Wanted};
 use replay::snapshot_files::SnapshotFiles;
 use replay::watched_records::pair_again;
+use searched_folders::found::State;
 use searched_folders::unwatched::Unwatched;
 use settings::key::Key;
 use std::alloc::Global;
 use std::fs;
+use std::fs::File;
 use std::io::Read;
 use std::rt::Files;
 use unkept_texts::directives::takes_files;
@@ -70,6 +73,8 @@ pub struct Known {
     record_name: String,
     /// The file that was loaded last.
     loaded: Option<OsBytes>,
+    /// The states of the files that the text names, once it was printed.
+    states: Vec<Option<State>>,
     /// The files of the text, as the compiler lists them for a dependency file; nothing where none is asked for.
     list: OsBytes,
     /// The dependency file that the compile wrote.
@@ -107,6 +112,7 @@ impl Known {
             watched: OsBytes::empty(alloc),
             record_name: String::new(alloc),
             loaded: None,
+            states: Vec::new(alloc),
             list: OsBytes::empty(alloc),
             written: None,
             preprocessor: OsBytes::empty(alloc),
@@ -246,8 +252,11 @@ impl Known {
         }
     }
 
-    /// Whether a dependency file is to be there after the call.
-    fn wants_dependencies(&self) -> bool {
+    /// Whether a dependency file is to be there after a compile under this key. Of an input that isn't preprocessed none is written.
+    fn wants_dependencies(&self, key: Option<&StoreKey>) -> bool {
+        if key.is_some_and(|key| !is_preprocessed(key)) {
+            return false;
+        }
         match self.dependency_file() {
             Some(path) => path.as_bytes() != b"/dev/null".as_slice(),
             None => false,
@@ -278,7 +287,7 @@ impl Known {
         let Some(messages) = messages else {
             return Ok(true);
         };
-        let is_whole = messages.dependencies.is_some() || !self.wants_dependencies();
+        let is_whole = messages.dependencies.is_some() || !self.wants_dependencies(key);
         if is_whole && self.may_print_again(rt, line, messages)? {
             return Ok(true);
         }
@@ -310,6 +319,7 @@ impl Known {
         if text.is_empty() {
             return Ok(text);
         }
+        self.states = states_in(rt, line, text.as_slice())?;
         if has_precompiled(rt, line, text.as_slice())? {
             return Err(Stop::Precompiled);
         }
@@ -390,8 +400,12 @@ impl Known {
     }
 
     /// Takes the dependency file that the compile wrote. What is missing, or names files that the text doesn't have, isn't kept.
-    fn take_written<R: std::rt::Files + AllocGlobal>(&mut self, rt: &R) -> Result<(), Stop> {
-        if !self.wants_dependencies() {
+    fn take_written<R: std::rt::Files + AllocGlobal>(
+        &mut self,
+        rt: &R,
+        key: &StoreKey,
+    ) -> Result<(), Stop> {
+        if !self.wants_dependencies(Some(key)) {
             return Ok(());
         }
         let Some(path) = self.dependency_file() else {
@@ -410,7 +424,7 @@ impl Known {
 
     /// Has the host compile by the caller's own words, and records what was made of these names at these paths as what the session's words
     /// make.
-    fn record_outputs<P: Print + std::rt::Files + AllocGlobal, I: Read>(
+    fn record_outputs<P: Print + std::rt::Files<File = File> + AllocGlobal, I: Read>(
         &mut self,
         rt: &P,
         line: &CommandLine,
@@ -424,14 +438,18 @@ impl Known {
     {
         let names = names_again(rt.alloc(), key.names.as_slice())?;
         let own = self.own_words(rt.alloc(), line, words.as_slice())?;
+        // Until what was made is read no other call writes these files.
+        let locks = lock_paths(rt, line, paths)?;
+        let before = states_of(rt, paths)?;
         let ended = host.compile(rt, rt.alloc(), own.as_slice())?;
         self.printed = printed_at(rt, &ended, line.printed.as_str())?;
         self.errors = printed_at(rt, &ended, line.errors.as_str())?;
-        let contents = made_at(rt, paths)?;
+        let contents = made_since(rt, paths, before.as_slice())?;
         let status = ended.status;
         if status == 0 {
-            self.take_written(rt)?;
+            self.take_written(rt, key)?;
         }
+        drop(locks);
         self.tool.outputs = Some(RecordedOutputs {
             kind: self.kind,
             words,
@@ -442,7 +460,7 @@ impl Known {
     }
 
     /// Has the host compile where it didn't yet, and records what was made. False where it did.
-    fn record_once<P: Print + std::rt::Files + AllocGlobal, I: Read>(
+    fn record_once<P: Print + std::rt::Files<File = File> + AllocGlobal, I: Read>(
         &mut self,
         rt: &P,
         line: &CommandLine,
@@ -462,6 +480,22 @@ impl Known {
         Ok(true)
     }
 
+    /// Refuses what was made where a file that the text names was changed since it was printed.
+    fn check_sources<R: std::rt::Files + AllocGlobal>(
+        &self,
+        rt: &R,
+        line: &CommandLine,
+    ) -> Result<(), Stop> {
+        let Some(recorded) = &self.tool.text else {
+            return Ok(());
+        };
+        let now = states_in(rt, line, recorded.printed.text.as_bytes())?;
+        match are_same(now.as_slice(), self.states.as_slice()) {
+            true => Ok(()),
+            false => Err(Stop::Changed),
+        }
+    }
+
     /// Whether the compile printed nothing.
     fn was_silent(&self) -> bool {
         self.printed.as_bytes().is_empty() && self.errors.as_bytes().is_empty()
@@ -474,6 +508,7 @@ impl Known {
         rt: &R,
         line: &CommandLine,
     ) -> Result<KeptMessages, Stop> {
+        self.check_sources(rt, line)?;
         let mut sources = None;
         if !self.was_silent() {
             sources = self.digest_of_sources(rt, line)?;
@@ -494,7 +529,7 @@ impl Known {
     }
 
     /// Has the host run what the tool lacks. False where it lacks nothing, or would compile once more.
-    pub fn record<P: Print + std::rt::Files + AllocGlobal, I: Read>(
+    pub fn record<P: Print + std::rt::Files<File = File> + AllocGlobal, I: Read>(
         &mut self,
         rt: &P,
         line: &CommandLine,

@@ -3,4 +3,5 @@
 
 pub mod kept;
 pub mod known;
+pub mod outputs;
 mod watched;
