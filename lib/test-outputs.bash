@@ -45,10 +45,10 @@ outputs() {
     mark
     for turn in first second; do
         rm -f asm.o asm.d
-        $cc -MD -c asm.s -o asm.o 2>plain.err
+        $cc -MD -Wno-unused-command-line-argument -c asm.s -o asm.o 2>plain.err
         mv asm.o plain.o
         rm -f asm.d
-        "$host" $cc -MD -c asm.s -o asm.o 2>ours.err
+        "$host" $cc -MD -Wno-unused-command-line-argument -c asm.s -o asm.o 2>ours.err
         is "$cc: assembler with -MD, $turn: object" cmp -s plain.o asm.o
         is "$cc: assembler with -MD, $turn: messages" cmp -s plain.err ours.err
         is "$cc: assembler with -MD, $turn: no dependency file" [ ! -e asm.d ]

@@ -152,7 +152,7 @@ pub fn states_in<R: Files + AllocGlobal>(
         let Mark::Named(raw) = mark else {
             continue;
         };
-        if !seen.insert(raw)? || raw.starts_with(b"<") {
+        if !seen.insert(raw)? || raw.starts_with(b"<") || raw.ends_with(b"//") {
             continue;
         }
         let name = unescaped(alloc, raw)?.into_owned(alloc)?;
