@@ -15,7 +15,8 @@ import running
 TOP = Path(__file__).resolve().parents[2]
 # How many words or lines are made of an input at most.
 MOST_MADE = 1 << 20
-LINES = re.compile(rb"(?:[0-9]+ (?:pass|fresh|stored|direct|fault)(?: [^\n]*)?\n)*compiles [0-9]+\n")
+# Reasons hold the words of requests as they stand, so a line of one may go on behind a line end.
+LINES = re.compile(rb"(?s)(?:1 (?:pass|fresh|stored|direct|fault)\b.*\n)?compiles [0-9]+\n")
 REFUSALS = {
     "sccache_wrap": rb"sccache-wrap: (?:scenario cannot be read|memory)\n",
     "sccache_explain": rb"sccache-explain: (?:scenario cannot be read|memory)\n",
@@ -256,7 +257,7 @@ class Kept:
         (self.cache / file).write_bytes(data)
         name = random.choice(("foo.o", "dep.o", "new.o"))
         words = ["gcc", *(["-MD"] if name == "dep.o" else []), "-c", "foo.c", "-o", name]
-        calls = ([str(self.host), *words], [str(self.host), "--why", name], [str(self.host), "--show-stats"], [str(self.host), "--cleanup"])
+        calls = ([str(self.host), *words], [str(self.host), "--why", *words], [str(self.host), "--show-stats"], [str(self.host), "--cleanup"])
         return random.choice(calls[:1] * 4 + calls), str(file).encode() + b"\0" + data, 1 << 20
 
     def fault(self, ended):
