@@ -127,7 +127,7 @@ def change_place(random, holder, name, others):
         if key in there if isinstance(there, dict) else key < len(there):
             holder[name] = copy.deepcopy(there[key])
     elif kind == 4 and isinstance(holder, list):
-        holder[name:name] = [copy.deepcopy(holder[name]) for _ in range(random.choice((1, 2, 30)))]
+        holder[name:name] = [copy.deepcopy(holder[name]) for _ in range(random.choice((1, 2, 30, 30, 2000)))]
     elif kind == 5 and isinstance(holder, dict):
         holder[random.choice(("", "a", "@a.rsp", "/w/a.rsp", str(name) + "x"))] = copy.deepcopy(holder[name])
     else:
