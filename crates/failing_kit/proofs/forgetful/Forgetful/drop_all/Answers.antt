@@ -1,7 +1,7 @@
 use Rattle.std.proofs.Common.{◌≡◌, ◌↔◌, true, length}
 use Rattle.ckeys_base.proofs.EmptiedShelf.{keeps_none}
-use Rattle.wrap_tests.proofs.forgetful.Forgetful.drop_all.Goals as goal
-use Rattle.wrap_tests.proofs.forgetful.Forgetful.drop_all.Goals.{then-self, else-self}
+use Rattle.failing_kit.proofs.forgetful.Forgetful.drop_all.Goals as goal
+use Rattle.failing_kit.proofs.forgetful.Forgetful.drop_all.Goals.{then-self, else-self}
 
 pub returns-clause-kept : goal.returns-clause-kept
 returns-clause-kept g c =

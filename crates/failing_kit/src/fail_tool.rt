@@ -16,21 +16,23 @@ use wrap_base::tool::{Compiled, Tool};
 
 /// For tests: a tool whose device fails at one call, of whichever step. No call after it fails here.
 #[derive(Drop)]
-pub(crate) struct FailTool<T> {
-    pub(crate) tool: T,
+pub struct FailTool<T> {
+    pub tool: T,
     /// How many calls come before the one that fails.
-    pub(crate) calls_left: u64,
+    pub calls_left: u64,
     /// How often steps failed here, which the tool itself never ran.
-    pub(crate) own: Ticks,
+    pub own: Ticks,
     /// How often the digest of a static library was asked for.
     archived: u64,
     /// The step of the failing call.
-    pub(crate) failed_step: Option<Step>,
+    pub failed_step: Option<Step>,
+    /// The step of the last call.
+    pub last_step: Option<Step>,
 }
 
 impl<T> FailTool<T> {
     /// This tool, whose device fails at the call after that many.
-    pub(crate) fn new(tool: T, calls_left: u64) -> FailTool<T>
+    pub fn new(tool: T, calls_left: u64) -> FailTool<T>
         ensures tool { result.tool ≡ tool }
         ensures calls_left { result.calls_left ≡ calls_left }
         ensures own { result.own ≡ record { preprocess = 0; compile = 0; failure = 0 } }
@@ -46,6 +48,7 @@ impl<T> FailTool<T> {
             },
             archived: 0,
             failed_step: None,
+            last_step: None,
         }
     }
 
@@ -65,6 +68,7 @@ impl<T> FailTool<T> {
             (StepTicks step self.old.own.preprocess self.new.own.preprocess self.old.own.compile
             self.new.own.compile) }
     {
+        self.last_step = Some(step);
         if self.calls_left > 0 {
             self.calls_left -= 1;
             return Ok(());
