@@ -195,3 +195,6 @@ search_toolchain() {
         clang --gcc-toolchain="$PWD/tools" -x c++
     search_tree
 }
+
+# Trees of headers that are changed at random.
+random_trees() { python3 "$top/lib/searches/random_trees.py" "$host" "$1" 300; }
