@@ -87,8 +87,8 @@ struct Given<'a> {
     messages: Option<&'a KeptMessages>,
 }
 
-/// Keeps the record that was put with what to watch of the text, where that can be told, or notes that the one of that name was used. False
-/// where none was kept.
+/// Keeps the record that was put with what to watch of the text, where that can be told, or notes that the one of that name was used, with what
+/// is new of its headers. False where none was kept.
 fn finish_record<R: Files + AllocGlobal>(
     rt: &R,
     line: &CommandLine,
@@ -99,6 +99,9 @@ fn finish_record<R: Files + AllocGlobal>(
 ) -> Result<bool, Stop> {
     match (newest, list) {
         (None, _) => {
+            if known.keep_noted(rt, line)? {
+                return Ok(true);
+            }
             let name = known.name_to_note();
             line.folder.renew(rt, Kind::Records, name, line.moment)?;
             Ok(false)

@@ -3,6 +3,7 @@
 ghost use Rattle.std.specs.Prelude.{◌≡◌, ◌≤◌};
 
 use crate::outputs::{are_same, lock_paths, made_since, states_in, states_of};
+use crate::watched::noted_in;
 use ckeys::hasher::needs_c_preprocessing;
 use ckeys_records::output_name::OutputName;
 use kept_entries::entry::KeptMessages;
@@ -16,6 +17,7 @@ use loaded_files::lists::{digest_of_list, names_files_of};
 use loaded_files::loading::{load, load_all, load_named};
 use loaded_files::outputs::regular;
 use loaded_files::precompiled::has_precompiled;
+use loaded_files::tokens::Tokens;
 use os_files::listed::Listed;
 use os_files::os_bytes::OsBytes;
 use replay::replay_tool::{RecordedOutputs, RecordedText, ReplayTool, Wanted};
@@ -58,6 +60,8 @@ pub struct Known {
     /// The folders that don't count.
     pub basedirs: Listed<OsBytes>,
     pub files: SnapshotFiles,
+    /// What stands for the contents of headers.
+    pub(crate) tokens: Tokens,
     pub tool: ReplayTool,
     /// What a disk keeps that may fit.
     pub entry: Option<Kept>,
@@ -104,6 +108,7 @@ impl Known {
             unwatched: None,
             basedirs,
             files: SnapshotFiles::new(alloc),
+            tokens: Tokens::new(alloc),
             tool: ReplayTool::new(),
             entry: None,
             looked_up: None,
@@ -135,6 +140,7 @@ impl Known {
             return Ok(false);
         }
         self.loaded = Some(path.clone()?);
+        self.tokens.take_whole(path.clone()?)?;
         if !load(rt, path, &mut self.files)? {
             self.turn_off(Unwatched::Device);
         }
@@ -162,7 +168,15 @@ impl Known {
             names,
             watched,
         } = found;
-        if !load_all(rt, line, names.as_slice(), &mut self.files)? {
+        self.tokens
+            .take_rows(rt.alloc(), noted_in(watched.as_bytes()).0)?;
+        if !load_all(
+            rt,
+            line,
+            names.as_slice(),
+            &mut self.files,
+            &mut self.tokens,
+        )? {
             return Ok(false);
         }
         self.record_kept = Some((key, entry));
@@ -224,7 +238,7 @@ impl Known {
         let text = recorded.printed.text.as_bytes();
         if !self.preprocessor.as_bytes().is_empty() {
             self.turn_off(Unwatched::Messages);
-        } else if !load_named(rt, line, text, &mut self.files)? {
+        } else if !load_named(rt, line, text, &mut self.files, &mut self.tokens)? {
             self.turn_off(Unwatched::Changed);
         }
         Ok(())

@@ -3,9 +3,11 @@
 ghost use Rattle.std.specs.Prelude.{◌≡◌};
 
 use crate::known::Known;
+use byte_formats::fields::{put_framed, read_framed};
 use cmdlines_tables::language::{language_to_clang_arg, language_to_gcc_arg};
 use kept_pairs::record_files::put_record;
 use loaded_files::loading::settled_before;
+use loaded_files::outputs::regular;
 use marker_walk::line::Mark;
 use marker_walk::markers::Markers;
 use marker_walk::names::unescaped;
@@ -19,7 +21,7 @@ use std::alloc::Global;
 use std::collections::HashSet;
 use std::io::Read;
 use std::rt::Files;
-use wrap::{CCompilerKind, EntryKey, Files as CallFiles, PreprocessorCacheEntry, Shape, StoreKey};
+use wrap::{CCompilerKind, EntryKey, PreprocessorCacheEntry, Shape, StoreKey};
 use wrapper_host::command_line::CommandLine;
 use wrapper_host::host::Host;
 use wrapper_host::stop::Stop;
@@ -32,6 +34,20 @@ fn language_of(kind: CCompilerKind, key: &StoreKey) -> Option<&'static str> {
     match kind {
         CCompilerKind::Clang => language_to_clang_arg(shape.language),
         _ => language_to_gcc_arg(shape.language),
+    }
+}
+
+/// What is noted of headers in what a record has beside its results, and the lists behind it.
+pub(crate) fn noted_in(watched: &[u8]) -> (&[u8], &[u8]) {
+    let Ok((key, rest)) = read_framed(watched) else {
+        return (&[], watched);
+    };
+    if !key.is_empty() {
+        return (&[], watched);
+    }
+    match read_framed(rest) {
+        Ok((noted, lists)) => (noted, lists),
+        Err(_) => (&[], watched),
     }
 }
 
@@ -65,7 +81,12 @@ impl Known {
     }
 
     /// The files that the text names, of which the first is the input.
-    fn sources(&mut self, alloc: Global, line: &CommandLine) -> Result<Vec<Source>, Unwatched> {
+    fn sources<R: Files + AllocGlobal>(
+        &self,
+        rt: &R,
+        line: &CommandLine,
+    ) -> Result<Vec<Source>, Unwatched> {
+        let alloc: Global = rt.alloc();
         let mut sources = Vec::new(alloc);
         let Some(recorded) = &self.tool.text else {
             return Err(Unwatched::Device);
@@ -80,10 +101,11 @@ impl Known {
             }
             let name = unescaped(alloc, raw)?.into_owned(alloc)?;
             let path = join(alloc, line.dir.as_bytes(), name.as_slice())?;
-            match self.files.read(alloc, &path) {
-                Ok(Some(contents)) => sources.push(Source { path, contents })?,
-                Ok(None) => {}
-                Err(_) => return Err(Unwatched::Device),
+            let Ok(place) = str::from_utf8(path.as_bytes()) else {
+                return Err(Unwatched::Path);
+            };
+            if let Some(contents) = regular(rt, place) {
+                sources.push(Source { path, contents })?;
             }
         }
         Ok(sources)
@@ -106,7 +128,7 @@ impl Known {
             return Err(Unwatched::List);
         };
         let before = settled_before(line.moment);
-        let sources = self.sources(rt.alloc(), line)?;
+        let sources = self.sources(rt, line)?;
         let said = said_of(rt, line, host, language, before)?;
         list_of(rt, line, sources.as_slice(), said.as_slice(), before)
     }
@@ -127,10 +149,43 @@ impl Known {
         };
         let dir = line.dir.as_bytes();
         let digest = key.digest.as_bytes();
-        let watched = with_list(alloc, self.watched.as_bytes(), &whole, dir, digest, list)?;
+        let lists = with_list(alloc, self.watched.as_bytes(), &whole, dir, digest, list)?;
+        self.put_whole(rt, line, &newest.0, &whole, lists.as_slice())
+    }
+
+    /// Puts a record with these lists, behind what is noted of its headers.
+    fn put_whole<R: Files + AllocGlobal>(
+        &self,
+        rt: &R,
+        line: &CommandLine,
+        key: &EntryKey,
+        entry: &PreprocessorCacheEntry,
+        lists: &[u8],
+    ) -> Result<(), Stop> {
+        let alloc = rt.alloc();
+        let mut watched = Vec::new(alloc);
+        put_framed(&mut watched, b"")?;
+        put_framed(&mut watched, self.tokens.rows(alloc)?.as_slice())?;
+        watched.extend_from_slice(lists)?;
         let (folder, zone) = (&line.folder, line.zone.as_str());
         let watched = OsBytes::from_vec(watched);
-        let name = self.name_to_note();
-        Ok(put_record(rt, folder, zone, name, &newest.0, &whole, watched)?)
+        Ok(put_record(rt, folder, zone, self.name_to_note(), key, entry, watched)?)
+    }
+
+    /// Keeps what was noted anew of the headers of a record that was used. False where nothing was.
+    pub fn keep_noted<R: Files + AllocGlobal>(
+        &self,
+        rt: &R,
+        line: &CommandLine,
+    ) -> Result<bool, Stop> {
+        let (true, Some((key, entry))) = (self.tokens.are_new, &self.record_kept) else {
+            return Ok(false);
+        };
+        let entry = match &self.whole {
+            Some(whole) => whole,
+            None => entry,
+        };
+        self.put_whole(rt, line, key, entry, noted_in(self.watched.as_bytes()).1)?;
+        Ok(true)
     }
 }
