@@ -39,8 +39,8 @@ pub struct Directives<'a> {
 /// By what a source asks whether a file is there.
 pub const PROBE: &[u8] = b"__has_include";
 
-/// Other spellings of `#` and of the end of a line that goes on.
-const SPELLINGS: [&[u8]; 3] = [b"%:", b"??=", b"??/"];
+/// Other spellings of `#` and of the end of a line that goes on, and a probe for what may be embedded.
+const SPELLINGS: [&[u8]; 4] = [b"%:", b"??=", b"??/", b"__has_embed"];
 
 /// Whether it is a space within a line.
 fn is_space(byte: u8) -> bool {

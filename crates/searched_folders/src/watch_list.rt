@@ -1,16 +1,40 @@
 //! What to watch of a text: where its compiler looked for files, and what lay there.
 //!
 //! Its bytes are the folder of the call, the folders in which something was looked for, and files, each list behind its number. A folder
-//! has its path, its state, whether its names are to be looked at in each case, and its names with what lay there, all of them behind
-//! their length; a file has its path and its state. docs/FORMATS.md has the layout.
+//! has its path, its state, how it may be another one, and its names with what lay there, all of them behind their length; a file has its
+//! path, its state and the digest of its contents. docs/FORMATS.md has the layout.
 
 use crate::found::{Found, State, found_at};
 use crate::unwatched::Unwatched;
 use byte_formats::fault::ReadFault;
 use byte_formats::fields::{put_framed, put_number, read_framed, read_number};
+use kept_folder::file_digests::digest_of;
+use os_files::file_time::FileTime;
 use std::alloc::AllocError;
 use std::fs;
 use std::rt::Files;
+
+/// How a folder may be another one than it was.
+#[derive(Clone, Copy, PartialEq, Eq)]
+pub(crate) enum Hold {
+    /// Its names are looked at in each case: it was changed since the call began, or about then.
+    Names,
+    /// Its names are looked at where its state is another one.
+    Settled,
+    /// It must be the same one, and so for names: the compiler left it out as one that it has already.
+    Same,
+}
+
+impl Hold {
+    /// Its number in a layout.
+    fn code(self) -> u64 {
+        match self {
+            Hold::Names => 0,
+            Hold::Settled => 1,
+            Hold::Same => 2,
+        }
+    }
+}
 
 /// A folder in which names were looked for.
 #[derive(Drop)]
@@ -18,6 +42,8 @@ pub(crate) struct Folder {
     pub(crate) state: State,
     /// The names, each behind its length and with the number of what lay there.
     pub(crate) names: Vec<u8>,
+    /// Whether the compiler left it out as one that it has already.
+    pub(crate) is_left_out: bool,
 }
 
 impl Folder {
@@ -31,12 +57,17 @@ impl Folder {
     pub(crate) fn put(
         &self,
         path: &str,
-        is_settled: bool,
+        before: FileTime,
         out: &mut Vec<u8>,
     ) -> Result<(), AllocError> {
+        let hold = match (self.is_left_out, self.state.is_before(before)) {
+            (true, _) => Hold::Same,
+            (false, true) => Hold::Settled,
+            (false, false) => Hold::Names,
+        };
         put_framed(out, path.as_bytes())?;
         self.state.put(out)?;
-        put_number(out, u64::from(is_settled))?;
+        put_number(out, hold.code())?;
         put_framed(out, self.names.as_slice())
     }
 }
@@ -99,20 +130,37 @@ fn folder_holds<'a, R: Files + AllocGlobal>(
 ) -> Result<(bool, &'a [u8]), Unwatched> {
     let (path, rest) = read_framed(bytes)?;
     let (then, rest) = State::read(rest)?;
-    let (settled, rest) = read_number(rest)?;
+    let (hold, rest) = read_number(rest)?;
     let (names, rest) = read_framed(rest)?;
     let path = text_of(path)?;
     let now = state_at(rt, path)?;
-    let holds = (settled == 1 && now == then)
-        || (now.is_same(then) && names_hold(rt, path, names)?);
+    let may_be_another = hold != Hold::Same.code() || now.is_same(then);
+    let holds = (hold == Hold::Settled.code() && now == then)
+        || (may_be_another && names_hold(rt, path, names)?);
     Ok((holds, rest))
 }
 
-/// Whether the file that is ahead in these bytes is as it was, and what stands behind it.
-fn file_holds<'a, R: Files>(rt: &R, bytes: &'a [u8]) -> Result<(bool, &'a [u8]), Unwatched> {
+/// The digest of the contents of a file, as text; an empty one where it is a folder.
+pub(crate) fn contents_at<R: Files + AllocGlobal>(rt: &R, path: &str) -> Result<String, Unwatched> {
+    if fs::metadata(rt, path)?.is_dir() {
+        return Ok(String::new(rt.alloc()));
+    }
+    Ok(digest_of(rt.alloc(), fs::read(rt, path)?.as_slice())?)
+}
+
+/// Whether the file that is ahead in these bytes is as it was, and what stands behind it. One in another state may have the same contents; a
+/// folder is another one then.
+fn file_holds<'a, R: Files + AllocGlobal>(
+    rt: &R,
+    bytes: &'a [u8],
+) -> Result<(bool, &'a [u8]), Unwatched> {
     let (path, rest) = read_framed(bytes)?;
     let (then, rest) = State::read(rest)?;
-    Ok((state_at(rt, text_of(path)?)? == then, rest))
+    let (digest, rest) = read_framed(rest)?;
+    let path = text_of(path)?;
+    let holds = state_at(rt, path)? == then
+        || (!digest.is_empty() && contents_at(rt, path)?.as_bytes() == digest);
+    Ok((holds, rest))
 }
 
 /// Whether the folders ahead in these bytes are as they were, and what stands behind them.
@@ -132,7 +180,7 @@ fn folders_hold<'a, R: Files + AllocGlobal>(
 }
 
 /// Whether the files ahead in these bytes are as they were.
-fn files_hold<R: Files>(rt: &R, bytes: &[u8]) -> Result<bool, Unwatched> {
+fn files_hold<R: Files + AllocGlobal>(rt: &R, bytes: &[u8]) -> Result<bool, Unwatched> {
     let (count, mut rest) = read_number(bytes)?;
     for _ in 0..count {
         let (holds, behind) = file_holds(rt, rest)?;

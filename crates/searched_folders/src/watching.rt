@@ -6,6 +6,7 @@ use crate::search_list::SearchList;
 use crate::unwatched::Unwatched;
 use crate::watch_list::{Folder, state_at};
 use byte_formats::fields::{put_framed, put_number};
+use kept_folder::file_digests::digest_of;
 use os_files::file_time::FileTime;
 use os_files::path::join;
 use std::alloc::Global;
@@ -24,8 +25,8 @@ pub struct Watching<'a> {
     folders: BTreeMap<String, Option<Folder>>,
     /// What lies under the paths that were looked at.
     looked_at: BTreeMap<String, Found>,
-    /// Files that must be as they are.
-    files: BTreeMap<String, State>,
+    /// Files that must be as they are, with the digest of their contents, and folders, with an empty one.
+    files: BTreeMap<String, (State, String)>,
     /// The paths of the files that the text names.
     named: BTreeSet<String>,
     /// The contents of those that are taken in once.
@@ -88,6 +89,7 @@ impl<'a> Watching<'a> {
             Ok(metadata) if metadata.is_dir() => Some(Folder {
                 state: State::of(&metadata),
                 names: Vec::new(rt.alloc()),
+                is_left_out: false,
             }),
             Ok(_) => None,
             Err(error) if is_nothing(&error) && found_at(rt, path) == Some(Found::Nothing) => None,
@@ -150,8 +152,9 @@ impl<'a> Watching<'a> {
         if (&self.once).contains(&contents.as_slice()) {
             return Err(Unwatched::Equal);
         }
+        let digest = digest_of(rt.alloc(), contents.as_slice())?;
         self.files
-            .insert(String::from_str(rt.alloc(), path)?, state)?;
+            .insert(String::from_str(rt.alloc(), path)?, (state, digest))?;
         Ok(())
     }
 
@@ -224,6 +227,22 @@ impl<'a> Watching<'a> {
         Ok(is_there)
     }
 
+    /// Has a folder watched that the compiler leaves out, or that there is none.
+    fn take_left_out<R: Files + AllocGlobal>(
+        &mut self,
+        rt: &R,
+        folder: &str,
+    ) -> Result<(), Unwatched> {
+        if !self.take_folder(rt, folder)? {
+            return Ok(());
+        }
+        let path = path_in(rt.alloc(), self.dir, folder.as_bytes(), b"")?;
+        if let Some(Some(folder)) = self.folders.get_mut(path.trim_end_matches('/')) {
+            folder.is_left_out = true;
+        }
+        Ok(())
+    }
+
     /// Has the folders watched in which the compiler looks, and those that it leaves out.
     pub fn take_folders<R: Files + AllocGlobal>(
         &mut self,
@@ -236,7 +255,7 @@ impl<'a> Watching<'a> {
             }
         }
         for folder in list.left_out.as_slice() {
-            self.take_folder(rt, folder)?;
+            self.take_left_out(rt, folder)?;
         }
         self.take_installations(rt, list)
     }
@@ -250,8 +269,9 @@ impl<'a> Watching<'a> {
         for installation in list.installations.as_slice() {
             for folder in [above(installation), above(above(installation))] {
                 let state = state_at(rt, folder)?;
+                let digest = String::new(rt.alloc());
                 self.files
-                    .insert(String::from_str(rt.alloc(), folder)?, state)?;
+                    .insert(String::from_str(rt.alloc(), folder)?, (state, digest))?;
             }
         }
         Ok(())
@@ -285,7 +305,7 @@ impl<'a> Watching<'a> {
         put_number(out, count as u64)?;
         for (path, folder) in self.folders.iter() {
             if let Some(folder) = folder {
-                folder.put(path.as_str(), folder.state.is_before(self.before), out)?;
+                folder.put(path.as_str(), self.before, out)?;
             }
         }
         Ok(())
@@ -297,9 +317,10 @@ impl<'a> Watching<'a> {
         put_framed(&mut out, self.dir)?;
         self.put_folders(&mut out)?;
         put_number(&mut out, self.files.len() as u64)?;
-        for (path, state) in self.files.iter() {
+        for (path, file) in self.files.iter() {
             put_framed(&mut out, path.as_bytes())?;
-            state.put(&mut out)?;
+            file.0.put(&mut out)?;
+            put_framed(&mut out, file.1.as_bytes())?;
         }
         Ok(out)
     }
