@@ -4,8 +4,8 @@
 
 Of a crate only the functions that hold what an edit changes are checked, with those that they call: no other proof reads what a function does, but
 goes by what it promises, so no other can refuse the edit. Edits of several functions are tried in one check, in which each function has its own
-verdict; what isn't refused there is tried alone. An edit is refused where the check names a goal of such a function that it couldn't
-prove. One of specs or proofs is tried on the whole crate, by rt must-fail.
+verdict; what isn't refused there is tried again, without those that are, and at last alone. An edit is refused where the check names a goal of
+such a function that it couldn't prove. One of specs or proofs is tried on the whole crate, by rt must-fail.
 """
 
 import glob
@@ -102,16 +102,13 @@ class Edit:
             write(f"{folder}/{path}", read(f"{folder}/{path}").replace(old, new))
 
 
-def rounds(edits):
-    """The edits in rounds, in none of which two change one function."""
-    made = []
+def first_round(edits):
+    """Some of the edits, the first among them, of which no two change one function."""
+    chosen = []
     for edit in edits:
-        fit = next((it for it in made if not any(edit.meets(other) for other in it)), None)
-        if fit:
-            fit.append(edit)
-        else:
-            made.append([edit])
-    return made
+        if not any(edit.meets(other) for other in chosen):
+            chosen.append(edit)
+    return chosen
 
 
 def run(folder, *words):
@@ -183,12 +180,15 @@ def try_crate(room, crate):
             told[edit.name] = tried_whole(edit, crate, folder)
         if edit.name in told:
             say(f"{edit.name}: {told[edit.name][1]}")
-    for side_by_side in rounds([it for it in edits if it.name not in told]):
-        _, said = checked(folder, side_by_side)
-        for edit in side_by_side:
-            why = why_refused(edit, said)
-            told[edit.name] = (True, f"refused: {why}") if why else judged(edit, *checked(folder, [edit]))
+    left = [it for it in edits if it.name not in told]
+    while left:
+        together = first_round(left)
+        status, said = checked(folder, together)
+        known = [it for it in together if len(together) == 1 or why_refused(it, said)]
+        for edit in known or together:
+            told[edit.name] = judged(edit, *((status, said) if known else checked(folder, [edit])))
             say(f"{edit.name}: {told[edit.name][1]}")
+        left = [it for it in left if it.name not in told]
     is_well = all(it for it, _ in told.values())
     say(f"{crate}: {sum(it for it, _ in told.values())} of {len(told)} edits refused, in {time.monotonic() - began:.0f} seconds")
     return is_well
