@@ -5,7 +5,7 @@
 Of a crate only the functions that hold what an edit changes are checked, with those that they call: no other proof reads what a function does, but
 goes by what it promises, so no other can refuse the edit. Edits of several functions are tried in one check, in which each function has its own
 verdict; what isn't refused there is tried again, without those that are, and at last alone. An edit is refused where the check names a goal of
-such a function that it couldn't prove. One of specs or proofs is tried on the whole crate, by rt must-fail.
+the proof of such a function that it couldn't prove. One of specs or proofs is tried on the whole crate, by rt must-fail.
 """
 
 import glob
@@ -23,10 +23,10 @@ import sums
 from places import holder
 
 TOP = sums.TOP
-# A function that isn't proved, and not for the sake of another that isn't; the goals of its proof that are left; an answer that doesn't
-# prove its goal; one that names what is no longer there, which says nothing of the goal; and what a goal says.
-FAILED = re.compile(r"^fn \w+::(\S+): (?:not proved|no proof)(?!.*(?:it calls|it passes|a call of))(.*)", re.M)
-GOAL = re.compile(r"`(?!search`|grind`)([\w-]+)`")
+# A function that isn't proved; the goals of its own proof that are left; an answer that doesn't prove its goal; one that names what is no
+# longer there, which says nothing of the goal; and what a goal says.
+FAILED = re.compile(r"^fn \w+::(\S+): (?:not proved|no proof)(.*)", re.M)
+LEFT = re.compile(r"did not prove (`[\w-]+`(?:,? (?:and )?`[\w-]+`)*)")
 ANSWER = r"^(?:\./)?proofs/%s/\w+\.antt:\d+:\d+: error: `(\S+)`: (.*)"
 NAMES = re.compile(r"is not in scope|has no field|has no `|is no name|was not admitted")
 MEANT = r"^note: `%s` of proofs/%s/\S+ must prove: (.*)"
@@ -135,12 +135,13 @@ def why_refused(edit, said):
     """The goals of its functions that weren't proved, with what is said of the first; nothing where there is none."""
     for name, line in FAILED.findall(said):
         if any(f"{name}::".startswith(f"{it}::" if it else "") for it in edit.holders):
-            folder, goals = re.escape(name.replace("::", "/")), GOAL.findall(line)
+            folder, left = re.escape(name.replace("::", "/")), LEFT.search(line)
+            goals = re.findall(r"`(.*?)`", left[1]) if left else []
             answers = [it for it in re.findall(ANSWER % folder, said, re.M) if not NAMES.search(it[1])]
             meant = re.search(MEANT % (goals[0], folder), said, re.M) if goals else None
             more = meant[1] if meant else answers[0][1] if answers else ""
             if goals or answers:
-                return f"{name} {', '.join([*goals, *(it for it, _ in answers)])}: {more[:300]}"
+                return f"{name} {', '.join(dict.fromkeys([*goals, *(it for it, _ in answers)]))}: {more[:300]}"
     return None
 
 
