@@ -23,12 +23,12 @@ import sums
 from places import holder
 
 TOP = sums.TOP
-# A function that isn't proved; the goals of its own proof that are left; an answer that doesn't prove its goal; one that names what is no
-# longer there, which says nothing of the goal; and what a goal says.
-FAILED = re.compile(r"^fn \w+::(\S+): (?:not proved|no proof)(.*)", re.M)
-LEFT = re.compile(r"did not prove (`[\w-]+`(?:,? (?:and )?`[\w-]+`)*)")
+# A goal that is left of the function whose line is the next; a function that isn't proved; an answer that doesn't prove its goal; one that
+# names what is no longer there, which says nothing of the goal; and what a goal says.
+LEFT = re.compile(r"note: \S+: it is not proved that .* \(`([\w-]+)`\)")
+FAILED = re.compile(r"fn \w+::(\S+): (?:not proved|no proof)")
 ANSWER = r"^(?:\./)?proofs/%s/\w+\.antt:\d+:\d+: error: `(\S+)`: (.*)"
-NAMES = re.compile(r"is not in scope|has no field|has no `|is no name|was not admitted")
+NAMES = re.compile(r"^`goal\.|is not in scope|has no field|has no `|is no name|was not admitted")
 MEANT = r"^note: `%s` of proofs/%s/\S+ must prove: (.*)"
 SAYING = threading.Lock()
 
@@ -131,12 +131,23 @@ def checked(folder, edits):
             write(f"{folder}/{path}", text)
 
 
+def failed(said):
+    """The functions that aren't proved, each with the goals of its own proof that are left."""
+    goals = []
+    for line in said.split("\n"):
+        goals += LEFT.findall(line)
+        if line.startswith("fn "):
+            found = FAILED.match(line)
+            if found:
+                yield found[1], goals
+            goals = []
+
+
 def why_refused(edit, said):
     """The goals of its functions that weren't proved, with what is said of the first; nothing where there is none."""
-    for name, line in FAILED.findall(said):
+    for name, goals in failed(said):
         if any(f"{name}::".startswith(f"{it}::" if it else "") for it in edit.holders):
-            folder, left = re.escape(name.replace("::", "/")), LEFT.search(line)
-            goals = re.findall(r"`(.*?)`", left[1]) if left else []
+            folder = re.escape(name.replace("::", "/"))
             answers = [it for it in re.findall(ANSWER % folder, said, re.M) if not NAMES.search(it[1])]
             meant = re.search(MEANT % (goals[0], folder), said, re.M) if goals else None
             more = meant[1] if meant else answers[0][1] if answers else ""
