@@ -20,7 +20,7 @@ import threading
 import time
 
 import sums
-from places import holder
+from places import holder, module
 
 TOP = sums.TOP
 # A goal that is left of the function whose line is the next; a function that isn't proved; an answer that doesn't prove its goal; one that
@@ -91,6 +91,8 @@ class Edit:
         for path, old, _ in self.pairs if self.fits and self.is_of_source else []:
             text = read(f"{folder}/{path}")
             self.holders.append(holder(path, text, text.index(old), text.index(old) + len(old)))
+        # What stands outside functions, as a field does, is tried by the functions that the edit changes beside it, where there are any.
+        self.holders = [it for it in self.holders if it not in [module(path) for path, _, _ in self.pairs]] or self.holders
 
     def meets(self, other):
         """Whether a function of the one is one of the other's, or may be."""
