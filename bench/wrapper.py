@@ -31,7 +31,7 @@ BUILD_ROUNDS = 3
 JOBS = str(os.cpu_count())
 
 OURS = "gulmaat"
-OURS_DIRECT = "gulmaat in direct mode"
+OURS_BY_TEXT = "gulmaat without direct mode"
 DIRECT = "ccache"
 BY_TEXT = "ccache without direct mode"
 SERVED = "sccache"
@@ -50,8 +50,8 @@ def build():
 def caches(folder):
     """The words to put before a compiler, and the variables, of each cache that is there."""
     found = {OURS: ([str(HOST)], {"GULMAAT_DIR": os.path.join(folder, "gulmaat")})}
-    by_records = os.path.join(folder, "gulmaat_direct")
-    found[OURS_DIRECT] = ([str(HOST)], {"GULMAAT_DIR": by_records, "GULMAAT_DIRECT": "1"})
+    by_text = os.path.join(folder, "gulmaat_by_text")
+    found[OURS_BY_TEXT] = ([str(HOST)], {"GULMAAT_DIR": by_text, "GULMAAT_DIRECT": "0"})
     if shutil.which("ccache"):
         found[DIRECT] = (["ccache"], {"CCACHE_DIR": os.path.join(folder, "ccache")})
         by_text = os.path.join(folder, "ccache_by_text")
@@ -145,9 +145,6 @@ def measure_builds(folder):
     configure(plain, None)
     cold[NO_CACHE] = lambda: seconds_of_build(plain, {})
     for name, (before, variables) in caches(folder).items():
-        if name == OURS_DIRECT:
-            # Ninja's builds ask for dependency files, for which direct mode isn't used.
-            continue
         place = os.path.join(folder, "build_by_" + name.replace(" ", "_"))
         configure(place, before[0])
         kept = next(iter(variables.values()))

@@ -79,10 +79,10 @@ habits_help() {
 
 habits_statistics() {
     local option
+    GULMAAT_DIRECT=0 "$host" gcc -DCOUNT=1 -c it.c -o it.o
+    GULMAAT_DIRECT=0 "$host" gcc -DCOUNT=1 -c it.c -o it.o
     "$host" gcc -DCOUNT=1 -c it.c -o it.o
     "$host" gcc -DCOUNT=1 -c it.c -o it.o
-    GULMAAT_DIRECT=1 "$host" gcc -DCOUNT=1 -c it.c -o it.o
-    GULMAAT_DIRECT=1 "$host" gcc -DCOUNT=1 -c it.c -o it.o
     prints "statistics: hits by text" 2 number preprocessed_cache_hit
     prints "statistics: direct hits" 1 number direct_cache_hit
     prints "statistics: misses" 1 number cache_miss
@@ -103,13 +103,13 @@ habits_statistics() {
     is "statistics: updated" [ "$(number stats_updated_timestamp)" -gt $(($(date +%s) - 100)) ]
     prints "statistics: not zeroed yet" 0 number stats_zeroed_timestamp
     for option in -z --zero-stats; do
-        counts "before $option" preprocessed_cache_hit "$host" gcc -DCOUNT=1 -c it.c -o it.o
+        counts "before $option" direct_cache_hit "$host" gcc -DCOUNT=1 -c it.c -o it.o
         "$host" $option
-        prints "$option: hits" 0 number preprocessed_cache_hit
+        prints "$option: hits" 0 number direct_cache_hit
         is "$option: when" [ "$(number stats_zeroed_timestamp)" -gt $(($(date +%s) - 100)) ]
         is "$option: what is kept stays" [ "$(entries_kept)" = 1 ]
     done
-    counts "two letters" preprocessed_cache_hit "$host" gcc -DCOUNT=1 -c it.c -o it.o
+    counts "two letters" direct_cache_hit "$host" gcc -DCOUNT=1 -c it.c -o it.o
     is "-zs does both" grep -q "^Hits: *0 / 0\$" <("$host" -zs)
 }
 
@@ -292,7 +292,7 @@ habits_variables() {
     done
     "$host" gcc -DCOUNT=1 -c it.c -o it.o
     for value in 0 no false off; do
-        counts "GULMAAT_DISABLE=$value" preprocessed_cache_hit env GULMAAT_DISABLE=$value "$host" gcc -DCOUNT=1 -c it.c -o it.o
+        counts "GULMAAT_DISABLE=$value" direct_cache_hit env GULMAAT_DISABLE=$value "$host" gcc -DCOUNT=1 -c it.c -o it.o
     done
     for value in GULMAAT_DISABLE GULMAAT_RECACHE GULMAAT_READONLY GULMAAT_DIRECT GULMAAT_STATS; do
         rm -f it.o
@@ -303,17 +303,17 @@ habits_variables() {
     done
     habits_umask
     counts "GULMAAT_RECACHE=1" recache env GULMAAT_RECACHE=1 "$host" gcc -DCOUNT=1 -c it.c -o it.o
-    counts "GULMAAT_RECACHE=0" preprocessed_cache_hit env GULMAAT_RECACHE=0 "$host" gcc -DCOUNT=1 -c it.c -o it.o
+    counts "GULMAAT_RECACHE=0" direct_cache_hit env GULMAAT_RECACHE=0 "$host" gcc -DCOUNT=1 -c it.c -o it.o
     value=$(number files_in_cache)
     counts "GULMAAT_READONLY=1, a miss" cache_miss env GULMAAT_READONLY=1 "$host" gcc -DCOUNT=77 -c it.c -o it.o
     prints "GULMAAT_READONLY=1: nothing is kept" "$value" number files_in_cache
-    counts "GULMAAT_READONLY=1, a hit" preprocessed_cache_hit env GULMAAT_READONLY=1 "$host" gcc -DCOUNT=1 -c it.c -o it.o
+    counts "GULMAAT_READONLY=1, a hit" direct_cache_hit env GULMAAT_READONLY=1 "$host" gcc -DCOUNT=1 -c it.c -o it.o
     value=$("$host" --print-stats | grep -v updated)
     GULMAAT_STATS=0 "$host" gcc -DCOUNT=1 -c it.c -o it.o
     prints "GULMAAT_STATS=0" "$value" eval "'$host' --print-stats | grep -v updated"
     GULMAAT_LOGFILE=$dir/log "$host" gcc -DCOUNT=1 -c it.c -o it.o
     GULMAAT_LOGFILE=$dir/log "$host" gcc it.o -o it 2>/dev/null
-    is "GULMAAT_LOGFILE: a hit" grep -qE "^[0-9]+ preprocessed_cache_hit [0-9]+ ms: [^ ]*gcc -DCOUNT=1 -c it.c -o it.o\$" log
+    is "GULMAAT_LOGFILE: a hit" grep -qE "^[0-9]+ direct_cache_hit [0-9]+ ms: [^ ]*gcc -DCOUNT=1 -c it.c -o it.o\$" log
     is "GULMAAT_LOGFILE: a pass" grep -qE "^[0-9]+ called_for_link [0-9]+ ms: [^ ]*gcc it.o -o it \(pass: not a compilation\)\$" log
     is "GULMAAT_LOGFILE: a line a call" [ "$(wc -l <log)" = 2 ]
     is "GULMAAT_MAXSIZE" grep -q "of at most 7000\$" <(GULMAAT_MAXSIZE=7k "$host" -s)
@@ -337,7 +337,7 @@ habits_links() {
     is "--links: each compiler of the path" [ -L links/g++ ]
     is "--links: nothing else" [ ! -e links/ld ]
     is "--links: it says which" grep -qx "$PWD/links/gcc" made
-    counts "--links: a link works" preprocessed_cache_hit env PATH="$PWD/links:$PATH" gcc -DCOUNT=1 -c it.c -o it.o
+    counts "--links: a link works" direct_cache_hit env PATH="$PWD/links:$PATH" gcc -DCOUNT=1 -c it.c -o it.o
     "$host" --links links >/dev/null
     is "--links: again" [ -L links/gcc ]
     rm links/gcc

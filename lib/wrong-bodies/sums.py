@@ -1,7 +1,6 @@
 """Which wrong bodies were refused on the sources as they are: beside a crate's edits, the file `refused` holds a sum of what that rested on.
 
-    python3 lib/wrong-bodies/sums.py stale              names the crates with edits whose sum is another one now, or none
-    python3 lib/wrong-bodies/sums.py note CRATE..       writes the sums of these crates
+    python3 lib/wrong-bodies/sums.py stale [CRATE..]    names the crates with edits whose sum is another one now, or none
 
 The sum is of the crate's own sources, specs, proofs and edits, of the kit's version, and of what the crates below promise: their specs, and their
 sources without what functions do. Comments, and how lines are cut, don't count.
@@ -15,9 +14,9 @@ import re
 import subprocess
 import sys
 
+from places import TOKEN, functions
+
 TOP = os.path.dirname(os.path.dirname(os.path.dirname(os.path.realpath(__file__))))
-FUNCTION = re.compile(r"\bfn\s+\w+")
-CLAUSE = re.compile(r"\b(ensures|requires)\b[^{}]*$")
 
 
 def crates_below():
@@ -31,49 +30,18 @@ def crates_below():
     return below
 
 
-# What braces and slashes don't count in, and the braces.
-TOKEN = re.compile(
-    r"""//[^\n]*|"(?:\\.|[^"\\])*"|\bb?r(?P<marks>#*)".*?"(?P=marks)|'(?:\\u\{\w+\}|\\x\w\w|\\.|[^'\\\n])'|[{}]""",
-    re.S,
-)
-
-
 def without_comments(text):
     """A source without its comments."""
     return TOKEN.sub(lambda found: "" if found[0].startswith("//") else found[0], text)
 
 
-def group_end(text, at):
-    """Where the group of braces that begins there ends."""
-    depth = 0
-    for found in TOKEN.finditer(text, at):
-        depth += {"{": 1, "}": -1}.get(found[0], 0)
-        if not depth:
-            return found.end()
-    return len(text)
-
-
 def without_bodies(text):
     """A source in which functions say what they promise and not what they do; those that no other file can name are gone."""
     parts, at = [], 0
-    for found in FUNCTION.finditer(text):
-        if found.start() < at:
-            continue
-        line = text.rfind("\n", 0, found.start()) + 1
-        is_hidden = line == found.start()
-        parts.append(text[at : found.start()])
-        end = begin = found.end()
-        while end < len(text) and text[end] != ";":
-            if text[end] == "{":
-                close = group_end(text, end)
-                if not CLAUSE.search(text[begin:end]):
-                    break
-                begin = end = close
-                continue
-            end += 1
-        head = text[found.start() : end]
-        at = group_end(text, end) if text[end : end + 1] == "{" else end
-        parts.append("" if is_hidden else head)
+    for _, start, end, last in functions(text):
+        is_hidden = start == text.rfind("\n", 0, start) + 1
+        parts += [text[at:start], "" if is_hidden else text[start:end]]
+        at = last
     return "".join(parts) + text[at:]
 
 
@@ -124,16 +92,18 @@ def noted(crate):
         return ""
 
 
+def note(crate, sum):
+    """Notes that all edits of a crate were refused on what has this sum."""
+    with open(f"{TOP}/crates/{crate}/wrong-bodies/refused", "w", encoding="utf-8") as it:
+        it.write(sum + "\n")
+
+
 def main(verb, *names):
     below = crates_below()
     if verb == "stale":
         for crate in below:
-            if files(crate, "wrong-bodies/*.edit") and noted(crate) != sum_of(crate, below):
+            if (not names or crate in names) and files(crate, "wrong-bodies/*.edit") and noted(crate) != sum_of(crate, below):
                 print(crate)
-    elif verb == "note":
-        for crate in names:
-            with open(f"{TOP}/crates/{crate}/wrong-bodies/refused", "w", encoding="utf-8") as it:
-                it.write(sum_of(crate, below) + "\n")
 
 
 if __name__ == "__main__":

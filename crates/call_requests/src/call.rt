@@ -6,28 +6,18 @@ ghost use Rattle.std.specs.Prelude.{◌≡◌};
 use key_additions::additions::{Additions, VARIABLE};
 use known_compilers::compilers::{KnownCompiler, add_surroundings, compiler_at};
 use known_options::dependencies::{Dependencies, dependencies_of};
+use known_options::variables::is_read;
 use os_files::listed::Listed;
 use os_files::os_bytes::OsBytes;
 use settings::key::Key;
 use std::alloc::Global;
+use std::collections::BTreeMap;
 use std::io::Read;
 use std::rt::Files;
 use wrap::{CCompilerKind, Request};
 use wrapper_host::command_line::CommandLine;
 use wrapper_host::host::Host;
 use wrapper_host::stop::Stop;
-
-/// Variables that shells and Make set from call to call, and that no compiler reads.
-const IDLE: [&str; 8] = [
-    "_",
-    "OLDPWD",
-    "SHLVL",
-    "MAKEFLAGS",
-    "MAKELEVEL",
-    "MAKE_TERMERR",
-    "MAKE_TERMOUT",
-    "MFLAGS",
-];
 
 /// What inputs are called that are compiled as they stand, or of which an assembler notes where they lie.
 const WITHOUT_FOLDER: [&str; 5] = [".i", ".ii", ".s", ".S", ".sx"];
@@ -43,36 +33,25 @@ const LANGUAGES: [&str; 4] = [
     "cpp-output",
 ];
 
-/// Whether it is a variable that the session isn't told: one that no compiler reads, or the one that stands for all additions.
-fn is_left_out(name: &[u8]) -> bool {
-    IDLE.iter().any(|variable| name == variable.as_bytes()) || name == VARIABLE.as_bytes()
-}
-
-/// Copies of the words.
-fn words_again(alloc: Global, words: &[OsBytes]) -> Result<Listed<OsBytes>, Stop> {
-    let mut copies = Listed::new(alloc);
-    for word in words {
-        copies.push(word.clone()?)?;
-    }
-    Ok(copies)
-}
-
-/// The variables that the session is told.
+/// The variables that the session is told: those that compilers read, in the order of their names, and the one that stands for all
+/// additions.
 fn env_of(
     alloc: Global,
     env: &[(OsBytes, OsBytes)],
     additions: &Additions,
 ) -> Result<Listed<(OsBytes, OsBytes)>, Stop> {
-    let mut copies = Listed::new(alloc);
+    let mut read = BTreeMap::new(alloc);
     for (name, value) in env {
-        if is_left_out(name.as_bytes()) {
-            continue;
+        if is_read(name.as_bytes()) && name.as_bytes() != VARIABLE.as_bytes() {
+            read.insert(name.clone()?, value.clone()?)?;
         }
-        let name = name.clone()?;
-        copies.push((name, value.clone()?))?;
     }
-    copies.push(additions.variable(alloc)?)?;
-    Ok(copies)
+    let mut told = Listed::new(alloc);
+    for (name, value) in read {
+        told.push((name, value))?;
+    }
+    told.push(additions.variable(alloc)?)?;
+    Ok(told)
 }
 
 /// Whether a word names an input, a language or an option by which an object has the input's place in it, though no text shows that.
@@ -155,8 +134,8 @@ pub fn call_of<P: Print + Files + AllocGlobal, I: Read>(
     let dependencies = dependencies_in(alloc, line)?;
     let additions = additions_of(alloc, line, kind, dependencies.as_ref())?;
     let words = match &dependencies {
-        Some(dependencies) => words_again(alloc, dependencies.others.as_slice())?,
-        None => words_again(alloc, line.words.as_slice())?,
+        Some(dependencies) => dependencies.others.clone()?,
+        None => line.words.clone()?,
     };
     let env = env_of(alloc, line.env.as_slice(), &additions)?;
     let dir = line.dir.clone()?;

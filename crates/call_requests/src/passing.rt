@@ -12,7 +12,8 @@ use wrapper_host::command_line::CommandLine;
 use wrapper_host::stop::Stop;
 
 /// Variables under which a compiler reads or writes something else.
-const VARIABLES: [&str; 13] = [
+const VARIABLES: [&str; 14] = [
+    "AS_SECURE_LOG_FILE",
     "COMPILER_PATH",
     "GCC_EXEC_PREFIX",
     "GCC_COMPARE_DEBUG",

@@ -4,6 +4,7 @@ use crate::deciding::End;
 use settings::key::Key;
 use statistics::calls::counters_of;
 use statistics::file::count;
+use statistics::names::name_of;
 use std::alloc::Global;
 use std::fs::{File, OpenOptions};
 use std::io::Write;
@@ -23,10 +24,11 @@ fn counter_of(line: &CommandLine, how: How) -> &'static str {
     }
 }
 
-/// Why a call was passed through; nothing where its outputs are there.
+/// Why a call was passed through, or has no record; nothing where neither is so.
 fn reason_of(alloc: Global, end: &Result<End, Stop>) -> Result<String, Stop> {
     match end {
-        Ok(End::Done(_)) => Ok(String::new(alloc)),
+        Ok(End::Done(_, Some(why))) => Ok(format!(in alloc; "no record: {why}")?),
+        Ok(End::Done(_, None)) => Ok(String::new(alloc)),
         Ok(End::Pass(reason)) => Ok(String::from_str(alloc, reason.as_str())?),
         Err(stop) => Ok(format!(in alloc; "stop: {stop}")?),
     }
@@ -39,11 +41,14 @@ fn counters(
     end: &Result<End, Stop>,
     reason: &str,
 ) -> Result<Vec<String>, Stop> {
-    let Ok(End::Done(how)) = end else {
+    let Ok(End::Done(how, unwatched)) = end else {
         return Ok(counters_of(alloc, reason, line.words.as_slice())?);
     };
     let mut counters = Vec::new(alloc);
     counters.push(String::from_str(alloc, counter_of(line, *how))?)?;
+    if unwatched.is_some() {
+        counters.push(name_of(alloc, "", reason)?)?;
+    }
     if line.folder.has_made_room.get() {
         counters.push(String::from_str(alloc, "cleanups_performed")?)?;
     }
@@ -61,7 +66,7 @@ fn milliseconds<R: Clock>(rt: &R, line: &CommandLine) -> u128 {
     }
 }
 
-/// Puts a line into the log: when, what it came to, how long it took, the command, and why where it was passed through.
+/// Puts a line into the log: when, what it came to, how long it took, the command, and why where it was passed through or has no record.
 fn log<R: Files + Clock + AllocGlobal>(
     rt: &R,
     line: &CommandLine,

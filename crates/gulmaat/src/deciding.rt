@@ -2,8 +2,6 @@
 
 ghost use Rattle.std.specs.Prelude.{◌≡◌, ◌≤◌};
 
-use crate::kept::{Hint, found, hint_at, hint_name, keep, kept_under, note_hint, renew};
-use crate::known::Known;
 use call_requests::call::{Call, call_of};
 use call_requests::passing::reason_against;
 use explained_misses::why::note_fingerprint;
@@ -12,15 +10,20 @@ use kept_entries::entry::KeptMessages;
 use kept_folder::folder::Kind;
 use kept_folder::making_room::make_room;
 use kept_pairs::entries::Kept;
-use kept_pairs::record_files::{name_of_record, put_record};
+use kept_pairs::record_files::name_of_record;
+use known_calls::kept::{Hint, found, hint_at, hint_name, keep, kept_under, note_hint, renew};
+use known_calls::known::Known;
+use known_calls::outputs::lock_paths;
 use known_compilers::compilers::kind_of;
 use loaded_files::outputs::{print_again, write_dependencies, write_outputs};
 use os_files::listed::Listed;
 use os_files::os_bytes::OsBytes;
 use replay::kept_session::{SessionAnswer, answered, session_over};
+use searched_folders::unwatched::Unwatched;
 use settings::key::Key;
 use sha2::Sha256;
 use std::alloc::Global;
+use std::fs::File;
 use std::io::Read;
 use std::rt::Files;
 use wrap::{
@@ -35,8 +38,8 @@ use wrapper_host::stop::Stop;
 /// What the host is to do at the end.
 #[derive(Drop)]
 pub enum End {
-    /// The outputs are there: kept ones, or those that the compiler made.
-    Done(How),
+    /// The outputs are there: kept ones, or those that the compiler made; and why no record says of what the text is made, if so.
+    Done(How, Option<Unwatched>),
     /// The compiler is to run, or its status is the answer where it ran; and why.
     Pass(String),
 }
@@ -49,8 +52,17 @@ fn pass(alloc: Global, reason: &str) -> Result<End, Stop> {
     Ok(End::Pass(String::from_str(alloc, reason)?))
 }
 
+/// The paths of outputs.
+fn paths_of(alloc: Global, outputs: &[Output]) -> Result<Listed<OsBytes>, Stop> {
+    let mut paths = Listed::new(alloc);
+    for output in outputs {
+        paths.push(output.path.clone()?)?;
+    }
+    Ok(paths)
+}
+
 /// Puts kept outputs and a dependency file where the request wants them, and has printed again what was printed beside them.
-fn give<R: Files + AllocGlobal>(
+fn give<R: Files<File = File> + AllocGlobal>(
     rt: &R,
     line: &CommandLine,
     outputs: &[Output],
@@ -60,79 +72,135 @@ fn give<R: Files + AllocGlobal>(
     let Some(messages) = messages else {
         return Err(Stop::Unreadable);
     };
+    let locks = lock_paths(rt, line, paths_of(rt.alloc(), outputs)?.as_slice())?;
     write_dependencies(rt, known.dependency_file(), messages)?;
     write_outputs(rt, outputs)?;
+    drop(locks);
     print_again(rt, line, messages)
 }
 
-/// Keeps the record that was put, or notes that the one of that name was used.
+/// What a call was answered with: outputs, where they come from, and what was printed beside kept ones.
+#[derive(Clone, Copy)]
+struct Given<'a> {
+    how: How,
+    outputs: &'a [Output],
+    messages: Option<&'a KeptMessages>,
+}
+
+/// Keeps the record that was put with what to watch of the text, where that can be told, or notes that the one of that name was used, with what
+/// is new of its headers. False where none was kept.
 fn finish_record<R: Files + AllocGlobal>(
     rt: &R,
     line: &CommandLine,
     newest: Option<&(EntryKey, PreprocessorCacheEntry)>,
-    name: &str,
-) -> Result<(), Stop> {
-    let folder = &line.folder;
-    let Some((key, entry)) = newest else {
-        return Ok(folder.renew(rt, Kind::Records, name, line.moment)?);
-    };
-    Ok(put_record(rt, folder, line.zone.as_str(), name, key, entry)?)
+    key: &StoreKey,
+    list: &Result<Vec<u8>, Unwatched>,
+    known: &Known,
+) -> Result<bool, Stop> {
+    match (newest, list) {
+        (None, _) => {
+            if known.keep_noted(rt, line)? {
+                return Ok(true);
+            }
+            let name = known.name_to_note();
+            line.folder.renew(rt, Kind::Records, name, line.moment)?;
+            Ok(false)
+        }
+        (Some(newest), Ok(list)) => {
+            known.keep_record(rt, line, newest, key, list.as_slice())?;
+            Ok(true)
+        }
+        (Some(_), Err(_)) => Ok(false),
+    }
 }
 
-/// Keeps the record and the hint of a call that has this digest, and sees to it that the limit holds, once for all that the call put.
+/// Keeps the record and the hint of a call, and sees to it that the limit holds, once for all that the call put.
 fn note_call<R: Files + AllocGlobal>(
     rt: &R,
     line: &CommandLine,
     hint: &str,
-    digest: &OsBytes,
+    answered: &SessionAnswer<Sha256>,
+    key: &StoreKey,
     fresh: bool,
-    newest: Option<&(EntryKey, PreprocessorCacheEntry)>,
-    name: &str,
+    list: &Result<Vec<u8>, Unwatched>,
+    known: &Known,
 ) -> Result<(), Stop> {
-    let digest_name = into_text(digest.clone()?)?;
+    let digest_name = into_text(key.digest.clone()?)?;
+    let name = known.name_to_note();
     let mut names = Vec::new(rt.alloc());
     if fresh {
         names.push(digest_name.as_str())?;
         names.push(hint)?;
     }
     if !name.is_empty() {
-        let _ = finish_record(rt, line, newest, name);
-        if newest.is_some() {
+        let newest = answered.session.entries().newest();
+        if let Ok(true) = finish_record(rt, line, newest, key, list, known) {
             names.push(name)?;
         }
     }
-    let _ = note_hint(rt, line, hint, digest, name);
+    let _ = note_hint(rt, line, hint, &key.digest, name);
     Ok(make_room(&rt, &line.folder, names.as_slice())?)
 }
 
-/// Keeps outputs that were made afresh, and gives those that were kept, each with what was printed beside them.
-fn finish<R: Files + AllocGlobal>(
-    rt: &R,
+/// What to watch of the text, where the session put a record. Where that can't be told it is noted why.
+fn list_to_watch<P: Print + Files + AllocGlobal, I: Read>(
+    rt: &P,
     line: &CommandLine,
+    host: &mut Host<I>,
+    answered: &SessionAnswer<Sha256>,
+    key: &StoreKey,
+    known: &mut Known,
+) -> Result<Vec<u8>, Unwatched>
+    ensures { host.new.compiled ≡ host.old.compiled }
+{
+    if answered.session.entries().newest().is_none() {
+        return Err(Unwatched::List);
+    }
+    let list = known.list_to_watch(rt, line, host, key);
+    known.unwatched = list.as_ref().err().copied();
+    list
+}
+
+/// Keeps outputs that were made afresh, and gives those that were kept, each with what was printed beside them.
+fn finish<P: Print + Files<File = File> + AllocGlobal, I: Read>(
+    rt: &P,
+    line: &CommandLine,
+    host: &mut Host<I>,
     hint: &str,
     answered: &SessionAnswer<Sha256>,
-    how: How,
-    outputs: &[Output],
-    messages: Option<&KeptMessages>,
-    known: &Known,
-) -> Result<(), Stop> {
-    let fresh = how == How::Fresh;
-    if !fresh {
-        give(rt, line, outputs, messages, known)?;
-    }
+    given: &Given<'_>,
+    known: &mut Known,
+) -> Result<(), Stop>
+    ensures { host.new.compiled ≡ host.old.compiled }
+{
     let Some(key) = answered.session.objects().asked() else {
-        return Ok(());
+        return finish_without_key(rt, line, given, known);
     };
+    // What the compiler prints for this isn't a message of the call.
+    let list = list_to_watch(rt, line, host, answered, key, known);
+    let fresh = given.how == How::Fresh;
     if fresh {
-        keep(rt, line, key, outputs, known.messages(rt, line)?)?;
+        keep(rt, line, key, given.outputs, known.messages(rt, line)?)?;
     } else {
+        give(rt, line, given.outputs, given.messages, known)?;
         let _ = renew(rt, line, &key.digest);
     }
-    let newest = answered.session.entries().newest();
-    let name = known.name_to_note();
     // What was made is there, whatever becomes of this.
-    let _ = note_call(rt, line, hint, &key.digest, fresh, newest, name);
+    let _ = note_call(rt, line, hint, answered, key, fresh, &list, known);
     Ok(())
+}
+
+/// Gives outputs of which it isn't known under which key they were kept.
+fn finish_without_key<R: Files<File = File> + AllocGlobal>(
+    rt: &R,
+    line: &CommandLine,
+    given: &Given<'_>,
+    known: &Known,
+) -> Result<(), Stop> {
+    match given.how {
+        How::Fresh => Ok(()),
+        _ => give(rt, line, given.outputs, given.messages, known),
+    }
 }
 
 /// Asks the disk for the key that the store was asked for, once. False where it has nothing.
@@ -168,7 +236,7 @@ fn look_up_record<R: Files + AllocGlobal>(
 }
 
 /// Finds out what the text is: by a record, or by the preprocessor. False where it was printed already.
-fn find_text<P: Print + Files + AllocGlobal, I: Read>(
+fn find_text<P: Print + Files<File = File> + AllocGlobal, I: Read>(
     rt: &P,
     line: &CommandLine,
     host: &mut Host<I>,
@@ -193,7 +261,7 @@ fn find_text<P: Print + Files + AllocGlobal, I: Read>(
 }
 
 /// Finds out what was made: by an entry, or by the compiler. False where that ran already.
-fn find_outputs<P: Print + Files + AllocGlobal, I: Read>(
+fn find_outputs<P: Print + Files<File = File> + AllocGlobal, I: Read>(
     rt: &P,
     line: &CommandLine,
     host: &mut Host<I>,
@@ -210,7 +278,7 @@ fn find_outputs<P: Print + Files + AllocGlobal, I: Read>(
 }
 
 /// Finds out what a fault says is lacking. False where nothing is.
-fn find_out<P: Print + Files + AllocGlobal, I: Read>(
+fn find_out<P: Print + Files<File = File> + AllocGlobal, I: Read>(
     rt: &P,
     line: &CommandLine,
     host: &mut Host<I>,
@@ -268,7 +336,7 @@ fn answer_by(
 }
 
 /// Acts on what the session answered, and on what was printed beside the kept outputs that it had for it. None where more is known then.
-fn act_on<P: Print + Files + AllocGlobal, I: Read>(
+fn act_on<P: Print + Files<File = File> + AllocGlobal, I: Read>(
     rt: &P,
     line: &CommandLine,
     host: &mut Host<I>,
@@ -284,12 +352,21 @@ fn act_on<P: Print + Files + AllocGlobal, I: Read>(
     match &answered.answer {
         Ok(Answer::Outputs { map, how, .. }) => {
             let key = answered.session.objects().asked();
-            if *how != How::Fresh && !known.may_give(rt, line, key, messages)? {
+            let how = *how;
+            let may_give = how == How::Fresh
+                || (known.may_go_by_record(rt, line, key)?
+                    && known.may_give(rt, line, key, messages)?);
+            if !may_give {
                 return Ok(None);
             }
             let outputs = map.as_slice();
-            finish(rt, line, hint, answered, *how, outputs, messages, known)?;
-            Ok(Some(End::Done(*how)))
+            let given = Given {
+                how,
+                outputs,
+                messages,
+            };
+            finish(rt, line, host, hint, answered, &given, known)?;
+            Ok(Some(End::Done(how, known.unwatched)))
         }
         Ok(Answer::Pass(reason)) => Ok(Some(End::Pass(format!(in alloc; "pass: {reason}")?))),
         Err(fault) => {
@@ -340,7 +417,7 @@ fn load_ahead<R: Files + AllocGlobal>(
 }
 
 /// One attempt. None where more is known after it.
-fn attempt<P: Print + Files + AllocGlobal, I: Read>(
+fn attempt<P: Print + Files<File = File> + AllocGlobal, I: Read>(
     rt: &P,
     line: &CommandLine,
     host: &mut Host<I>,
@@ -356,7 +433,7 @@ fn attempt<P: Print + Files + AllocGlobal, I: Read>(
 }
 
 /// Asks the session about the request until it answers, each time with more that is known.
-fn ask_until<P: Print + Files + AllocGlobal, I: Read>(
+fn ask_until<P: Print + Files<File = File> + AllocGlobal, I: Read>(
     rt: &P,
     line: &CommandLine,
     host: &mut Host<I>,
@@ -402,7 +479,7 @@ fn basedirs_of(alloc: Global, line: &CommandLine) -> Result<Listed<OsBytes>, Sto
 /// Whether the compiler made the outputs.
 fn was_compiled(end: &Result<End, Stop>) -> bool {
     match end {
-        Ok(End::Done(how)) => *how == How::Fresh,
+        Ok(End::Done(how, _)) => *how == How::Fresh,
         Ok(End::Pass(_)) | Err(_) => false,
     }
 }
@@ -434,7 +511,7 @@ fn note_made<R: Files + AllocGlobal>(
 }
 
 /// Asks the session about the request until it answers, and notes what was compiled.
-fn ask_and_note<P: Print + Files + AllocGlobal, I: Read>(
+fn ask_and_note<P: Print + Files<File = File> + AllocGlobal, I: Read>(
     rt: &P,
     line: &CommandLine,
     host: &mut Host<I>,
@@ -452,7 +529,7 @@ fn ask_and_note<P: Print + Files + AllocGlobal, I: Read>(
 }
 
 /// Asks the session about a call of a compiler of that kind, of which nothing is known yet.
-fn ask_about<P: Print + Files + AllocGlobal, I: Read>(
+fn ask_about<P: Print + Files<File = File> + AllocGlobal, I: Read>(
     rt: &P,
     line: &CommandLine,
     host: &mut Host<I>,
@@ -482,7 +559,7 @@ fn ask_about<P: Print + Files + AllocGlobal, I: Read>(
 }
 
 /// Asks the session about the command line of a compiler of that kind.
-fn ask<P: Print + Files + AllocGlobal, I: Read>(
+fn ask<P: Print + Files<File = File> + AllocGlobal, I: Read>(
     rt: &P,
     line: &CommandLine,
     host: &mut Host<I>,
@@ -496,7 +573,7 @@ fn ask<P: Print + Files + AllocGlobal, I: Read>(
 }
 
 /// Decides on the command line.
-pub fn decide<P: Print + Files + AllocGlobal, I: Read>(
+pub fn decide<P: Print + Files<File = File> + AllocGlobal, I: Read>(
     rt: &P,
     line: &CommandLine,
     host: &mut Host<I>,

@@ -9,8 +9,6 @@ ghost use Rattle.std.specs.Prelude.{◌≡◌};
 
 mod counting;
 mod deciding;
-mod kept;
-mod known;
 
 use counting::note;
 use deciding::{End, decide};
@@ -141,7 +139,7 @@ where
     let end = decide(rt, &line, &mut host);
     let _ = note(rt, &line, &end);
     match end {
-        Ok(End::Done(_)) => ExitCode::from(DONE),
+        Ok(End::Done(_, _)) => ExitCode::from(DONE),
         Ok(End::Pass(_)) | Err(_) => ExitCode::from(PASS),
     }
 }

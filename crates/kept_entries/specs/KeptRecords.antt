@@ -10,33 +10,33 @@ use Rattle.kept_entries.specs.declared.kept_record.KeptRecord.{KeptRecord}
 
 -- its fields, in order
 abbrev pub KeptFields : Type 0
-KeptFields = Bytes × (Bytes × (Bytes × Bytes))
+KeptFields = Bytes × (Bytes × (Bytes × (Bytes × Bytes)))
 
 abbrev pub kept_fields : KeptRecord → KeptFields
-kept_fields k = (k.zone, (k.identity, (k.key, k.results)))
+kept_fields k = (k.zone, (k.identity, (k.key, (k.results, k.watched))))
 
 abbrev pub kept_from : KeptFields → KeptRecord
-kept_from f = record { zone = f.0; identity = f.1.0; key = f.1.1.0; results = f.1.1.1 }
+kept_from f = record { zone = f.0; identity = f.1.0; key = f.1.1.0; results = f.1.1.1.0; watched = f.1.1.1.1 }
 
 -- how it is spelled
 abbrev pub kept_bytes : KeptRecord → Bytes
-kept_bytes k = both framed (both framed (both framed framed)) (kept_fields k)
+kept_bytes k = both framed (both framed (both framed (both framed framed))) (kept_fields k)
 
 -- each length fits its eight bytes
 abbrev pub KeptFits : KeptRecord → Type 0
-KeptFits k = BothFit FitsFrame (BothFit FitsFrame (BothFit FitsFrame FitsFrame)) (kept_fields k)
+KeptFits k = BothFit FitsFrame (BothFit FitsFrame (BothFit FitsFrame (BothFit FitsFrame FitsFrame))) (kept_fields k)
 
 -- reading it
 unfoldable pub kept_at : Bytes → Read KeptRecord
-kept_at = made_at kept_from (both_at framed_at (both_at framed_at (both_at framed_at framed_at)))
+kept_at = made_at kept_from (both_at framed_at (both_at framed_at (both_at framed_at (both_at framed_at framed_at))))
 
 pub kept_format : IsFormat kept_at kept_bytes KeptFits
 unfolding kept_at
-kept_format = made_format kept_from kept_fields _ _ _ (λ x. refl) (λ y. refl) (both_format _ _ _ _ _ _ framed_format (both_format _ _ _ _ _ _ framed_format (both_format _ _ _ _ _ _ framed_format framed_format)))
+kept_format = made_format kept_from kept_fields _ _ _ (λ x. refl) (λ y. refl) (both_format _ _ _ _ _ _ framed_format (both_format _ _ _ _ _ _ framed_format (both_format _ _ _ _ _ _ framed_format (both_format _ _ _ _ _ _ framed_format framed_format))))
 
 -- the version of this layout
 abbrev pub record_version : ℕ
-record_version = 1
+record_version = 2
 
 -- the version and the fields, and the digest of these
 abbrev pub record_bytes : (Bytes → Bytes) → KeptRecord → Bytes

@@ -16,9 +16,11 @@ pub struct KeptRecord {
     pub identity: OsBytes,
     pub key: OsBytes,
     pub results: OsBytes,
+    /// What to watch of its results.
+    pub watched: OsBytes,
 }
 
-/// The zone, the entry key and the record.
+/// The zone, the entry key, the record, and what to watch of its results.
 impl Field for KeptRecord {
     ghost reads = { kept_at };
 
@@ -34,11 +36,13 @@ impl Field for KeptRecord {
         let (identity, rest) = OsBytes::read(alloc, rest)?;
         let (key, rest) = OsBytes::read(alloc, rest)?;
         let (results, rest) = OsBytes::read(alloc, rest)?;
+        let (watched, rest) = OsBytes::read(alloc, rest)?;
         let kept = KeptRecord {
             zone,
             identity,
             key,
             results,
+            watched,
         };
         Ok((kept, rest))
     }
@@ -48,6 +52,7 @@ impl Field for KeptRecord {
         self.identity.put(out)?;
         self.key.put(out)?;
         self.results.put(out)?;
+        self.watched.put(out)?;
         Ok(())
     }
 }

@@ -22,7 +22,7 @@ use std::alloc::{AllocError, Global};
 const ENTRY_VERSION: u8 = 3;
 
 /// That of include records.
-const RECORD_VERSION: u8 = 1;
+const RECORD_VERSION: u8 = 2;
 
 /// That of the parts of calls.
 const PARTS_VERSION: u8 = 1;

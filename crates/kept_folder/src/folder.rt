@@ -24,17 +24,20 @@ pub enum Kind {
     Parts,
     /// Of what the key was made of the last call with these outputs that was compiled.
     Fingerprints,
+    /// What a compiler says of where it looks for files, under the digest of its words.
+    Searches,
 }
 
 impl Kind {
     /// All kinds.
-    pub const ALL: [Kind; 6] = [
+    pub const ALL: [Kind; 7] = [
         Kind::Entries,
         Kind::Records,
         Kind::Fingerprints,
         Kind::Hints,
         Kind::Compilers,
         Kind::Parts,
+        Kind::Searches,
     ];
 
     /// The folder's name.
@@ -46,6 +49,7 @@ impl Kind {
             Kind::Compilers => "compilers",
             Kind::Parts => "parts",
             Kind::Fingerprints => "fingerprints",
+            Kind::Searches => "searches",
         }
     }
 }

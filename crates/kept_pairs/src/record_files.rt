@@ -13,6 +13,7 @@ use kept_entries::sealed::{read_record, record_bytes};
 use kept_folder::error::FolderError;
 use kept_folder::file_digests::digest_of;
 use kept_folder::folder::{KeptFolder, Kind};
+use os_files::os_bytes::OsBytes;
 use sha2::Sha256;
 use std::alloc::Global;
 use std::rt::Files;
@@ -29,7 +30,7 @@ pub fn name_of_record(alloc: Global, zone: &str, key: &EntryKey) -> Result<Strin
     digest_of(alloc, row.as_slice())
 }
 
-/// Puts a record of calls that told days in that zone under its key, which has this name.
+/// Puts a record of calls that told days in that zone under its key, which has this name, with what to watch of its results.
 pub fn put_record<R: Files + AllocGlobal>(
     rt: &R,
     folder: &KeptFolder,
@@ -37,8 +38,9 @@ pub fn put_record<R: Files + AllocGlobal>(
     name: &str,
     key: &EntryKey,
     entry: &PreprocessorCacheEntry,
+    watched: OsBytes,
 ) -> Result<(), FolderError> {
-    let kept = kept_of(rt.alloc(), zone, key, entry)?;
+    let kept = kept_of(rt.alloc(), zone, key, entry, watched)?;
     let bytes = record_bytes::<Sha256>(rt.alloc(), &kept)?;
     folder.put(rt, Kind::Records, name, bytes.as_slice())
 }

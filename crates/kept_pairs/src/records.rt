@@ -16,12 +16,14 @@ use os_files::os_bytes::OsBytes;
 use rustc_options::sets::in_order;
 use std::alloc::{AllocError, Global};
 
-/// A record under its key, with the names of the files that its results name, each once, in the order of their bytes.
+/// A record under its key, with the names of the files that its results name, each once, in the order of their bytes, and what to watch of
+/// its results.
 #[derive(Drop)]
 pub struct FoundRecord {
     pub key: EntryKey,
     pub entry: PreprocessorCacheEntry,
     pub names: Listed<OsBytes>,
+    pub watched: OsBytes,
 }
 
 /// Adds the names of these includes.
@@ -72,6 +74,7 @@ pub fn found_in(alloc: Global, kept: KeptRecord) -> Result<Option<FoundRecord>, 
     ensures only { (results : List CachedResult) → IsRecord results →
         kept.results ≡ record_bytes results →
         IfOk result (λ found. IsSomeAnd found (λ f. f.entry.results ≡ results)) }
+    ensures watched { IfOk result (λ found. IfSome found (λ f. f.watched ≡ kept.watched)) }
     // The names are those of all results, each once.
     ensures names { IfOk result (λ found. IfSome found (λ f. f.names ≡ names_in f.entry.results)) }
 {
@@ -80,6 +83,7 @@ pub fn found_in(alloc: Global, kept: KeptRecord) -> Result<Option<FoundRecord>, 
         identity,
         key,
         results,
+        watched,
     } = kept;
     drop(zone);
     let Some(entry) = entry_read(alloc, results.as_bytes())? else {
@@ -87,7 +91,12 @@ pub fn found_in(alloc: Global, kept: KeptRecord) -> Result<Option<FoundRecord>, 
     };
     let names = names_in(alloc, entry.results())?;
     let key = EntryKey { identity, key };
-    Ok(Some(FoundRecord { key, entry, names }))
+    Ok(Some(FoundRecord {
+        key,
+        entry,
+        names,
+        watched,
+    }))
 }
 
 /// The bytes of a record.
@@ -101,17 +110,19 @@ fn results_of(alloc: Global, entry: &PreprocessorCacheEntry) -> Result<OsBytes, 
     }
 }
 
-/// A record under its key, as it is kept of calls that told days in that zone.
+/// A record under its key with what to watch of its results, as it is kept of calls that told days in that zone.
 pub fn kept_of(
     alloc: Global,
     zone: &str,
     key: &EntryKey,
     entry: &PreprocessorCacheEntry,
+    watched: OsBytes,
 ) -> Result<KeptRecord, AllocError>
     ensures zone { IfOk result (λ kept. kept.zone ≡ zone.now) }
     ensures identity { IfOk result (λ kept. kept.identity ≡ key.now.identity) }
     ensures key { IfOk result (λ kept. kept.key ≡ key.now.key) }
     ensures results { IfOk result (λ kept. kept.results ≡ record_bytes entry.now.results) }
+    ensures watched { IfOk result (λ kept. kept.watched ≡ watched) }
 {
     let zone = OsBytes::from_slice(alloc, zone.as_bytes())?;
     let identity = key.identity.clone()?;
@@ -122,5 +133,6 @@ pub fn kept_of(
         identity,
         key,
         results,
+        watched,
     })
 }

@@ -50,8 +50,9 @@ const OF_MESSAGES: [&str; 8] = [
 ];
 
 /// Variables that choose what a compiler loads or makes, though no text shows it.
-const OF_OBJECTS: [&str; 3] = [
+const OF_OBJECTS: [&str; 4] = [
     "LD_LIBRARY_PATH",
+    "LLVM_OVERRIDE_PRODUCER",
     "MACOSX_DEPLOYMENT_TARGET",
     "RC_DEBUG_OPTIONS",
 ];

@@ -5,4 +5,5 @@
 pub mod dependencies;
 pub mod tables;
 pub mod text_words;
+pub mod variables;
 pub mod words;

@@ -1,5 +1,6 @@
 //! Files that are loaded from the disk, and those that a text names.
 
+use crate::tokens::{Tokens, token_of};
 use marker_walk::line::Mark;
 use marker_walk::markers::Markers;
 use marker_walk::names::unescaped;
@@ -73,6 +74,41 @@ fn look_at<R: Files + AllocGlobal>(rt: &R, path: &str) -> OnDisk {
     OnDisk::File(OsBytes::from_vec(contents), metadata)
 }
 
+/// Looks at the path of a header: its token stands for its contents. One that was changed before that moment is known again.
+fn look_for_token<R: Files + AllocGlobal>(
+    rt: &R,
+    path: &OsBytes,
+    before: FileTime,
+    tokens: &mut Tokens,
+) -> Result<OnDisk, Stop> {
+    let Ok(place) = into_text(path.clone()?) else {
+        return Ok(OnDisk::Unknown);
+    };
+    let found = match fs::metadata(rt, place.as_str()) {
+        Ok(found) => found,
+        Err(error) => return Ok(without(&error)),
+    };
+    if !found.is_file() {
+        return Ok(OnDisk::NoFile);
+    }
+    let metadata = Metadata {
+        size: found.len(),
+        mtime: time_of(found.mtime(), found.mtime_nsec()),
+        ctime: time_of(found.ctime(), found.ctime_nsec()),
+    };
+    if let Some(token) = tokens.get(path, &found) {
+        return Ok(OnDisk::File(token.clone()?, metadata));
+    }
+    let Ok(contents) = fs::read(rt, place.as_str()) else {
+        return Ok(OnDisk::Unknown);
+    };
+    let Some(token) = token_of(rt.alloc(), contents.as_slice())? else {
+        return Ok(OnDisk::Unknown);
+    };
+    tokens.note(rt, path, &found, &token, before)?;
+    Ok(OnDisk::File(token, metadata))
+}
+
 /// Loads what was found under a path. False where that can't be told.
 fn take(path: OsBytes, found: OnDisk, files: &mut SnapshotFiles) -> Result<bool, Stop> {
     match found {
@@ -134,7 +170,7 @@ fn is_recorded(found: &OnDisk, before: FileTime) -> bool {
 }
 
 /// Until when a file must have been changed so that it's certain to have been the same since that moment.
-fn settled_before(moment: SystemTime) -> FileTime {
+pub fn settled_before(moment: SystemTime) -> FileTime {
     let Ok(since) = moment.duration_since(UNIX_EPOCH) else {
         return FileTime::from_seconds(0);
     };
@@ -143,39 +179,49 @@ fn settled_before(moment: SystemTime) -> FileTime {
     time_of(seconds, i64::from(since.subsec_nanos()))
 }
 
-/// Loads the files of these names. False where one of them can't be told.
+/// Loads the headers of these names, by their tokens. False where one of them can't be told. What was loaded as it is stays.
 pub fn load_all<R: Files + AllocGlobal>(
     rt: &R,
     line: &CommandLine,
     names: &[OsBytes],
     files: &mut SnapshotFiles,
+    tokens: &mut Tokens,
 ) -> Result<bool, Stop> {
+    let before = settled_before(line.moment);
     for name in names {
         let path = join(rt.alloc(), line.dir.as_bytes(), name.as_bytes())?;
-        if !load(rt, path, files)? {
+        if tokens.has_whole(&path) {
+            continue;
+        }
+        let found = look_for_token(rt, &path, before, tokens)?;
+        if !take(path, found, files)? {
             return Ok(false);
         }
     }
     Ok(true)
 }
 
-/// Loads the file of a marker. False where it can't be recorded.
+/// Loads the file of a marker, by its token unless it was loaded as it is. False where it can't be recorded.
 fn load_marked<R: Files + AllocGlobal>(
     rt: &R,
     line: &CommandLine,
     raw: &[u8],
     before: FileTime,
     files: &mut SnapshotFiles,
+    tokens: &mut Tokens,
 ) -> Result<bool, Stop> {
     if raw.starts_with(b"<") {
         return Ok(true);
     }
     let name = unescaped(rt.alloc(), raw)?.into_owned(rt.alloc())?;
     let path = join(rt.alloc(), line.dir.as_bytes(), name.as_slice())?;
-    let Ok(place) = into_text(path.clone()?) else {
-        return Ok(false);
-    };
-    let found = look_at(rt, place.as_str());
+    if tokens.has_whole(&path) {
+        let Ok(place) = into_text(path) else {
+            return Ok(false);
+        };
+        return Ok(is_recorded(&look_at(rt, place.as_str()), before));
+    }
+    let found = look_for_token(rt, &path, before, tokens)?;
     Ok(is_recorded(&found, before) && take(path, found, files)?)
 }
 
@@ -186,6 +232,7 @@ pub fn load_named<R: Files + AllocGlobal>(
     line: &CommandLine,
     text: &[u8],
     files: &mut SnapshotFiles,
+    tokens: &mut Tokens,
 ) -> Result<bool, Stop> {
     let before = settled_before(line.moment);
     let mut seen: HashSet<&[u8]> = HashSet::new(rt.alloc());
@@ -196,7 +243,7 @@ pub fn load_named<R: Files + AllocGlobal>(
         if !seen.insert(raw)? {
             continue;
         }
-        if !load_marked(rt, line, raw, before, files)? {
+        if !load_marked(rt, line, raw, before, files, tokens)? {
             return Ok(false);
         }
     }

@@ -1,7 +1,6 @@
-//! Files that the compiler made, and outputs that are written in its place.
+//! Outputs that the compiler made, or that are written in its place.
 
 use kept_entries::entry::KeptMessages;
-use os_files::listed::Listed;
 use os_files::os_bytes::OsBytes;
 use std::fs;
 use std::rt::Files;
@@ -17,19 +16,6 @@ pub fn regular<R: Files + AllocGlobal>(rt: &R, path: &str) -> Option<OsBytes> {
         return None;
     }
     Some(OsBytes::from_vec(fs::read(rt, path).ok()?))
-}
-
-/// What was made at each of these paths; what is no regular file wasn't made.
-pub fn made_at<R: Files + AllocGlobal>(
-    rt: &R,
-    paths: &[OsBytes],
-) -> Result<Listed<Option<OsBytes>>, Stop> {
-    let mut files = Listed::new(rt.alloc());
-    for path in paths {
-        let path = into_text(path.clone()?)?;
-        files.push(regular(rt, path.as_str()))?;
-    }
-    Ok(files)
 }
 
 /// Takes away a file or a link of that path, as compilers do, so that no other name of the old file shows the new contents.

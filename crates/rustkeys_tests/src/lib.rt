@@ -16,3 +16,5 @@ mod keys;
 mod memory;
 #[cfg(test)]
 mod refusals;
+#[cfg(test)]
+mod values;

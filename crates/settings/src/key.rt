@@ -110,9 +110,9 @@ impl Key {
             | Key::LogFile
             | Key::Sloppiness
             | Key::Umask => "",
-            Key::DirectMode | Key::Disable | Key::ReadOnly | Key::Recache => "false",
+            Key::Disable | Key::ReadOnly | Key::Recache => "false",
             Key::MaxSize => "5G",
-            Key::Stats => "true",
+            Key::DirectMode | Key::Stats => "true",
         }
     }
 

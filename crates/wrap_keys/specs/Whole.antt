@@ -1,5 +1,5 @@
 -- Whole runs.
-use Rattle.std.specs.Prelude.{◌≡◌, ℕ, true, false, List, [], ◌∷◌, map, Option, Some, None, Result, Ok, Err, OnOk, IsErrOf}
+use Rattle.std.specs.Prelude.{◌≡◌, ℕ, true, false, List, [], ◌∷◌, map, Option, Some, None, Result, Ok, Err, IfErr, OnOk, IsErrOf}
 use Rattle.std.specs.List.{AllByRecursion}
 use Rattle.os_files.specs.Bytes.{Bytes, ticked}
 use Rattle.os_files.specs.Views.{FilesFail, FilesView}
@@ -11,11 +11,13 @@ use Rattle.ckeys_records.specs.declared.fault.Fault.{Fault}
 use Rattle.ckeys_records.specs.declared.fault.Fault.TheVariants.{Memory}
 use Rattle.wrap_keys.specs.Verdicts.{Why}
 use Rattle.wrap_keys.specs.Account.{Account, passed, worked, Pairs, account_at, why_passed}
-use Rattle.wrap_keys.specs.Answers.{Answers, GoesOn, OnPass, Says, SaysBy, SaysPassed, settled, settled_by}
+use Rattle.wrap_keys.specs.Answers.{Answers, EarlyCause, GoesOn, OnPass, Says, SaysBy, SaysPassed, settled, settled_by}
 use Rattle.wrap_keys.specs.Asking.{AskedTurn, EntriesTurn, IsOfOneCall, OnOutputs, RecordsAreTrue, Shelves}
+use Rattle.wrap_keys.specs.Early.{IsAskedEarly, OfPassed}
 use Rattle.wrap_keys.specs.Sizes.{is_within, size_in}
 use Rattle.wrap_keys.specs.StoreKeys.{HasRecord, SameRecord}
 use Rattle.wrap_keys.specs.Turn.{StoreTurn}
+use Rattle.wrap_base.specs.Commands.{named_by}
 use Rattle.wrap_base.specs.declared.answer.Answer.{Answer}
 use Rattle.wrap_base.specs.declared.answer.Answer.TheVariants.{Pass, Outputs}
 use Rattle.wrap_base.specs.declared.answer.How.TheVariants.{Direct, Stored, Fresh}
@@ -173,10 +175,11 @@ Each P (b ∷ begins) [] results = Unit {0}
 Each P (b ∷ begins) (e ∷ ends) [] = Unit {0}
 Each P (b ∷ begins) (e ∷ ends) (r ∷ results) = P b e r × Each P begins ends results
 
--- A call is answered: its answer says what it may, a fault only with its cause, and outputs, where no records are kept, only where the call has no fault before; no failure tick has moved, unless the fault tells of a device; and its request, the tree of its files and its tool's meaning are as they were.
+-- A call is answered: its answer says what it may, a fault only with its cause, and outputs, where no records are kept, only where the call has no fault before; a fault of one that is passed through names no file but those that its words ask for; no failure tick has moved, unless the fault tells of a device; and its request, the tree of its files and its tool's meaning are as they were.
 pub record IsAnswered {F T : Type 0} (settings : Settings) (files : FilesView F) (tool : ToolView T) (begin end : Call F T) (result : Result Answer Fault) : Type 0 where
   pub says : SaysBy GoesOn (account_at (tool.meaning begin.tool) (files.tree begin.files) settings begin.request) (FilesFail files begin.files end.files) (ToolFails tool begin.tool end.tool) result
   pub plain : settings.direct ≡ false → Says (account_at (tool.meaning begin.tool) (files.tree begin.files) settings begin.request) (FilesFail files begin.files end.files) (ToolFails tool begin.tool end.tool) result
+  pub passed : IfErr result (λ fault. OfPassed (account_at (tool.meaning begin.tool) (files.tree begin.files) settings begin.request) (EarlyCause (IsAskedEarly (named_by begin.request.compiler) begin.request (files.tree begin.files)) fault))
   pub steady : OnOk result (AreSteady tool files begin.tool begin.files end.tool end.files)
   pub still : HasOwnFault result → AreSteady tool files begin.tool begin.files end.tool end.files
   pub request : end.request ≡ begin.request

@@ -1,16 +1,8 @@
-//! Tests of sessions, over the scripted tool: what is held, what is run, and devices and stores that fail.
+//! Tests of sessions, over the scripted tool: what is held, and what is run.
 #![tactic(auto)]
 
 #[cfg(test)]
 mod calls;
-#[cfg(test)]
-mod devices;
-#[cfg(test)]
-mod direct;
-#[cfg(test)]
-mod fail_tool;
-#[cfg(test)]
-mod forgetful;
 #[cfg(test)]
 mod idle_tool;
 #[cfg(test)]

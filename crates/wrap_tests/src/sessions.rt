@@ -1,7 +1,7 @@
 //! What sessions answer to several requests, what runs for them, and what is held of them.
 
 use crate::calls::all_served;
-use crate::scene::{NO_FAILURE, Scene, call};
+use crate::scene::{Scene, call};
 use crate::support::{MapSession, session, told};
 use ckeys_base::hash_state::HashState;
 use ckeys_records::fault::Fault;
@@ -24,7 +24,7 @@ use wrap_base::call::Call;
 fn told_twice(alloc: Global, scene: &mut Scene) -> Result<String, Fail> {
     let first = scene.serve()?;
     let second = scene.serve()?;
-    let (ticks, held) = (scene.ticks(), scene.held().1);
+    let (ticks, held) = (scene.ticks(), scene.held());
     let (preprocess, compile) = (ticks.preprocess, ticks.compile);
     let work = format!(in alloc; "preprocess {preprocess}, compile {compile}, held {held}")?;
     Ok(format!(in alloc; "{first};{second};{work}")?)
@@ -35,7 +35,7 @@ fn served_twice(alloc: Global, line: &str) -> Result<String, Fail> {
     let print: StatusOf = Box::new(alloc, |text: &[u8]| print_status(text))?;
     let compile: StatusOf = Box::new(alloc, |text: &[u8]| error_status(text))?;
     let statuses = Statuses::new(print, compile);
-    let mut scene = Scene::new(alloc, statuses, line, false, NO_FAILURE)?;
+    let mut scene = Scene::new(alloc, statuses, line)?;
     told_twice(alloc, &mut scene)
 }
 

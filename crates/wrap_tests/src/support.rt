@@ -9,14 +9,12 @@ use cmdlines::gcc::Gcc;
 use os_files::listed::Listed;
 use os_files::memory_files::MemoryFiles;
 use os_files::os_bytes::OsBytes;
-use rustc_compiler::rust::Rust;
 use script_tool::crate_texts::CrateTexts;
 use script_tool::script::ScriptTool;
 use script_tool::statuses::Statuses;
 use script_tool::trees::Trees;
 use sha2::Sha256;
 use std::alloc::{AllocError, Global};
-use std::collections::BTreeMap;
 use std::test::Fail;
 use test_kit::rows::words;
 use time_macros::zone::Zone;
@@ -48,28 +46,10 @@ pub(crate) fn session(alloc: Global, direct: bool) -> Result<MapSession, Fail> {
     Ok(session_over(alloc, config, MapStore::new(alloc), MapStore::new(alloc)))
 }
 
-/// A static library, and its digest.
-fn archives(alloc: Global) -> Result<BTreeMap<OsBytes, OsBytes>, AllocError> {
-    let mut archives = BTreeMap::new(alloc);
-    let path = OsBytes::from_slice(alloc, b"/w/lib/libz.a")?;
-    let digest = OsBytes::from_vec(vec![in alloc; b'0'; 64]?);
-    archives.insert(path, digest)?;
-    Ok(archives)
-}
-
-/// What rustc tells of the crate of `foo.rs`.
-fn crate_texts(alloc: Global) -> Result<CrateTexts, AllocError> {
-    Ok(CrateTexts {
-        dep_info: OsBytes::from_slice(alloc, b"deps.d: foo.rs\n\nfoo.rs:\n")?,
-        file_names: OsBytes::from_slice(alloc, b"libfoo.rlib\n")?,
-        archives: archives(alloc)?,
-    })
-}
-
 /// A scripted tool without folders that has not run yet, whose compilers end with these statuses.
 pub(crate) fn script_tool(alloc: Global, statuses: Statuses) -> Result<ScriptTool, Fail> {
     let keys = KeyConfig::new(alloc, &[], Zone::utc(), false)?;
-    let told = crate_texts(alloc)?;
+    let told = CrateTexts::empty(alloc);
     Ok(ScriptTool::new(keys, told, Trees::new(alloc)?, statuses))
 }
 
@@ -81,37 +61,12 @@ fn gcc(alloc: Global) -> Result<Compiler, AllocError> {
     Ok(Compiler::Gcc(CCompiler::with_digest(gcc, executable, digest)))
 }
 
-/// A rustc without libraries of its own, whose version tells a host: only memory can be lacking for it.
-fn rustc(alloc: Global) -> Result<Compiler, AllocError> {
-    let executable = OsBytes::from_slice(alloc, b"rustc")?;
-    let version = OsBytes::from_slice(alloc, b"host: x")?;
-    let sysroot = OsBytes::from_slice(alloc, b"/s")?;
-    let libraries = Listed::new(alloc);
-    let mut files = MemoryFiles::new(alloc);
-    let found = Rust::new::<Sha256, MemoryFiles>(
-        alloc, executable, version, sysroot, libraries, None, &mut files,
-    );
-    match found {
-        Ok(rust) => Ok(Compiler::Rust(rust)),
-        Err(_) => Err(AllocError),
-    }
-}
-
-/// The compiler of this line: rustc where it begins so, whose own first word that is, and else gcc.
-fn compiler(alloc: Global, line: &str) -> Result<Compiler, AllocError> {
-    if line.starts_with("rustc ") {
-        rustc(alloc)
-    } else {
-        gcc(alloc)
-    }
-}
-
-/// The request of this line in `/w`.
+/// The request of this line to a gcc in `/w`.
 pub(crate) fn request(alloc: Global, line: &str) -> Result<Request, AllocError> {
     let words = Listed::from_vec(words(alloc, line)?);
     let dir = OsBytes::from_slice(alloc, b"/w")?;
     Ok(Request {
-        compiler: compiler(alloc, line)?,
+        compiler: gcc(alloc)?,
         words,
         dir,
         env: Listed::new(alloc),

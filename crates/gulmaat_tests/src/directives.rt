@@ -1,0 +1,184 @@
+//! What sources ask for, and the times that they may paste. Names in quotes stand in quotes, and those that come next behind `next`.
+
+use os_files::lossy::Lossy;
+use searched_folders::directives::{Asked, Search, directives_of, may_define};
+use searched_folders::times::{pastes_time, tells_time};
+use std::alloc::{AllocError, Global};
+use std::fmt::Write;
+use std::test::Fail;
+use test_kit::rows::words;
+use test_kit::texts::{holds, is_that};
+
+/// Sources, and what they ask for; `none` where that can't be told.
+const SOURCES: [(&str, &str); 49] = [
+    ("", ""),
+    ("int x;\n", ""),
+    ("#include \"a.h\"\n", " \"a.h\""),
+    ("#include <a.h>", " <a.h>"),
+    ("  #  include\t\"d/a b.h\"\r\n", " \"d/a b.h\""),
+    ("#include\"a.h\"\n#include<b.h>\n", " \"a.h\" <b.h>"),
+    ("#include_next <a.h>\n", " next a.h"),
+    ("#include_next \"a.h\"\n", " next a.h"),
+    ("#import \"a.h\"\n", " \"a.h\" once"),
+    ("#pragma once\n#include <a.h> // b\n", " <a.h> once"),
+    ("#if 0\n#include <never.h>\n#endif\n", " <never.h>"),
+    ("// #include <a.h>\n", ""),
+    ("/* #include <a.h>\n*/\n", ""),
+    ("/* a */ #include <a.h>\n", " <a.h>"),
+    ("/* a\n b */ #include <a.h>\n", " <a.h>"),
+    ("/* a\n#include <a.h>\n*/\n", " <a.h>"),
+    ("x #include <a.h>\n", ""),
+    ("#includes <a.h>\n", ""),
+    ("#define X include <a.h>\n", ""),
+    ("#include NAME\n", " takes NAME"),
+    ("#include NAME // a\n", "none"),
+    ("#include NAME(a)\n", "none"),
+    ("#include\n", ""),
+    ("  #include's protect themselves, and so do others\n", ""),
+    ("#include (a)\n", ""),
+    ("#include /* a */ <a.h>\n", "none"),
+    ("#/* a */include <a.h>\n", "none"),
+    ("#inc\\\nlude <a.h>\n", "none"),
+    ("#\\\ninclude <a.h>\n", "none"),
+    ("#include \\\n<a.h>\n", "none"),
+    ("#include \"<a.h>\"\n", "none"),
+    ("#include <a.h\n", ""),
+    ("%:include <a.h>\n", "none"),
+    ("??=include <a.h>\n", "none"),
+    ("#embed <a.bin>\n", "none"),
+    ("#pragma GCC dependency \"a.h\"\n", "none"),
+    ("#pragma GCC diagnostic push\n", ""),
+    ("#pragma clang module import a\n", "none"),
+    ("#pragma include_alias(\"a.h\", \"b.h\")\n", "none"),
+    ("#if __has_include(<a.h>)\n", " <a.h>"),
+    (
+        "#if defined __has_include && __has_include (\"a.h\")\n",
+        " \"a.h\"",
+    ),
+    ("#ifdef __has_include\n#if defined(__has_include)\n", ""),
+    (
+        "#if __has_include(<a.h>) || __has_include_next(<b.h>)\n",
+        " <a.h> next b.h",
+    ),
+    ("#if __has_include(NAME)\n", "none"),
+    ("#if __has_include \\\n(<a.h>)\n", "none"),
+    ("#define __has_include(x) 0\n", ""),
+    ("#define HAS(x) __has_include(x)\n", " asks HAS"),
+    ("#define HAS __has_include\n", "none"),
+    ("#define HAS_A __has_include(A)\n", "none"),
+];
+
+/// Adds what is asked for.
+fn write_asked(text: &mut String, asked: Asked<'_>) -> Result<(), AllocError> {
+    let Asked { name, search } = asked;
+    let bytes = name;
+    let name = Lossy { bytes };
+    match search {
+        Search::Quoted => write!(text, " \"{name}\""),
+        Search::Bracketed => write!(text, " <{name}>"),
+        Search::Next => write!(text, " next {name}"),
+    }
+}
+
+/// What a source asks for, as text.
+fn text_of(alloc: Global, source: &str) -> Result<String, AllocError> {
+    let mut text = String::new(alloc);
+    let Some(found) = directives_of(alloc, source.as_bytes())? else {
+        text.push_str("none")?;
+        return Ok(text);
+    };
+    for asked in found.asked.as_slice() {
+        write_asked(&mut text, *asked)?;
+    }
+    for bytes in found.probes.as_slice() {
+        write!(text, " asks {}", Lossy { bytes })?;
+    }
+    for bytes in found.computed.as_slice() {
+        write!(text, " takes {}", Lossy { bytes })?;
+    }
+    if found.is_once {
+        text.push_str(" once")?;
+    }
+    Ok(text)
+}
+
+#[test]
+fn sources_ask_for_files(rt: HostRuntime) -> Result<(), Fail> {
+    for (source, want) in SOURCES {
+        let text = text_of(rt.alloc(), source)?;
+        is_that(text.as_str(), want, source)?;
+    }
+    Ok(())
+}
+
+/// Sources, and whether `NAME` may be defined in them.
+const DEFINED: [(&str, bool); 6] = [
+    ("#define NAME <a.h>\n", true),
+    ("# define\tNAME", true),
+    ("#ifdef NAME\n#include NAME\n#endif\n", false),
+    ("#if defined(NAME)\n", false),
+    ("#define OTHER NAME\n", false),
+    ("#define NAMES 1\n", true),
+];
+
+#[test]
+fn macros_may_be_defined(_rt: HostRuntime) -> Result<(), Fail> {
+    for (source, want) in DEFINED {
+        holds(may_define(source.as_bytes(), b"NAME") == want, source)?;
+    }
+    Ok(())
+}
+
+/// Sources that may paste a macro of the time.
+const PASTED: [&str; 6] = [
+    "PASTE(__TI, ME__)",
+    "PASTE( __DATE_ , _)",
+    "a = __TIME ## S;",
+    "#define FIRST __TIMEST\n",
+    "__DA",
+    "PASTE(__TIM/**/, E__)",
+];
+
+/// Sources that paste none.
+const WHOLE: [&str; 6] = [
+    "",
+    "__TIME__ __DATE__ __TIMESTAMP__",
+    "/* Defines __TIME*_T_TYPE macros. */",
+    "__TIMESIZE __DADDR_T_TYPE",
+    "a__TI, x__DATE)",
+    "TIME DATE __T",
+];
+
+#[test]
+fn times_are_pasted(_rt: HostRuntime) -> Result<(), Fail> {
+    for source in PASTED {
+        holds(pastes_time(source.as_bytes()), source)?;
+    }
+    Ok(())
+}
+
+#[test]
+fn others_are_whole(_rt: HostRuntime) -> Result<(), Fail> {
+    for source in WHOLE {
+        holds(!pastes_time(source.as_bytes()), source)?;
+    }
+    Ok(())
+}
+
+/// Words, and whether one of them may bring a day or a time into a text.
+const WORDS: [(&str, bool); 5] = [
+    ("-c a.c", false),
+    ("-DNOW=__TIME__ -c a.c", true),
+    ("-D DAY=__DATE__", true),
+    ("-DFIRST=__TI", true),
+    ("-DTIME -UDATE", false),
+];
+
+#[test]
+fn words_tell_times(rt: HostRuntime) -> Result<(), Fail> {
+    for (line, want) in WORDS {
+        let list = words(rt.alloc(), line)?;
+        holds(tells_time(list.as_slice()) == want, line)?;
+    }
+    Ok(())
+}

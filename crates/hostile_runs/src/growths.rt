@@ -1,0 +1,110 @@
+//! Two runs of a scenario, in one of which one growth of memory may be refused.
+
+use crate::answers::{Told, push_unless};
+use crate::refusals::push_unless_kept;
+use crate::runs::{NONE_FAILS, Run, Stop, Turn, plain_run, push_answers};
+use std::alloc::{AllocError, Global};
+
+/// What the request is answered at last.
+fn last_of(turn: &Turn) -> &Told {
+    match &turn.again {
+        Some(again) => again,
+        None => &turn.answer,
+    }
+}
+
+/// Whether no growth was refused in the run, as far as that is seen: no request was served again, and both stores kept all.
+fn is_whole(run: &Run) -> bool {
+    let served_again = run.turns.iter().any(|turn| turn.again.is_some());
+    run.end.outputs.kept && run.end.records.kept && !served_again
+}
+
+/// Adds a line where a call that lacked memory changed the stores, or where what it is answered tells of a device.
+fn push_refused(turn: &Turn, text: &mut String) -> Result<(), AllocError> {
+    let compiles = turn
+        .after
+        .ticks
+        .compile
+        .wrapping_sub(turn.before.ticks.compile);
+    let failed = turn.after.ticks.failure != turn.before.ticks.failure;
+    push_unless(
+        turn.due.is_none() && !failed,
+        "no failure of a device",
+        text,
+    )?;
+    push_unless(compiles <= 1, "one compile at most", text)?;
+    push_unless_kept(turn, text)
+}
+
+/// Adds a line where outputs that weren't kept are answered as others than those of a compile, or are held.
+fn push_unkept(turn: &Turn, text: &mut String) -> Result<(), AllocError> {
+    let (before, after) = (&turn.before.outputs, &turn.after.outputs);
+    push_unless(
+        turn.answer.word == "fresh",
+        "fresh where outputs aren't kept",
+        text,
+    )?;
+    push_unless(
+        after.held == before.held,
+        "nothing held of what is refused",
+        text,
+    )?;
+    push_unless(
+        after.puts == before.puts.wrapping_add(1),
+        "one put of what is refused",
+        text,
+    )
+}
+
+/// Adds lines where a request of the run isn't answered as in the whole one. How many growths were refused in it, as far as that is seen.
+fn push_turn(turn: &Turn, whole: &Turn, text: &mut String) -> Result<u64, AllocError> {
+    let agrees = last_of(turn).agrees(&whole.answer);
+    push_unless(agrees, "the same outputs at last", text)?;
+    if turn.again.is_some() {
+        push_refused(turn, text)?;
+        return Ok(1);
+    }
+    let (before, after) = (&turn.before, &turn.after);
+    if before.outputs.kept && !after.outputs.kept {
+        push_unkept(turn, text)?;
+        return Ok(1);
+    }
+    Ok(u64::from(before.records.kept && !after.records.kept))
+}
+
+/// Adds lines where the run's requests aren't answered as those of the whole run, where more than one growth was refused, and where
+/// outputs come from elsewhere although all was kept.
+fn push_compared(run: &Run, whole: &Run, text: &mut String) -> Result<(), AllocError> {
+    let all_kept = run.end.outputs.kept && run.end.records.kept;
+    let mut refused = 0u64;
+    push_unless(
+        run.turns.len() == whole.turns.len(),
+        "as many answers",
+        text,
+    )?;
+    for (turn, due) in run.turns.iter().zip(whole.turns.iter()) {
+        refused = refused.saturating_add(push_turn(turn, due, text)?);
+        let same = last_of(turn).word == due.answer.word;
+        push_unless(same || !all_kept, "the same word where all is kept", text)?;
+    }
+    push_unless(refused <= 1, "one refusal", text)
+}
+
+/// Adds the answers of the whole one of two runs in brief, and lines where those of the other aren't as they have to be.
+fn push_two(first: &Run, second: &Run, text: &mut String) -> Result<(), AllocError> {
+    let (run, whole) = match is_whole(second) {
+        true => (first, second),
+        false => (second, first),
+    };
+    push_answers(whole.turns.as_slice(), text)?;
+    text.push('\n')?;
+    push_unless(is_whole(whole), "one whole run", text)?;
+    push_compared(run, whole, text)
+}
+
+/// Adds what came of two runs of the scenario of this line.
+pub(crate) fn push_growths(alloc: Global, line: &[u8], text: &mut String) -> Result<(), Stop> {
+    let first = plain_run(alloc, line, NONE_FAILS)?;
+    let second = plain_run(alloc, line, NONE_FAILS)?;
+    Ok(push_two(&first, &second, text)?)
+}

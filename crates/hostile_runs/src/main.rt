@@ -1,0 +1,166 @@
+//! Hostile use: reads scenarios, a line each, from standard input, and serves each again and again, while each call of a device fails in
+//! turn and while stores forget and refuse. It prints what came of it, and what isn't as it has to be.
+//!
+//! Of each scenario these lines are printed:
+//!
+//! - what each request is answered where nothing fails, and how often a step before the compile and a compile ran:
+//!   `1: fresh obj:22; stored obj:22; preprocesses 2; compiles 1`;
+//! - the faults of the runs in which each call of the files fails in turn, each fault once, and of those in which each of the tool does:
+//!   `files fail: tool preprocess, tool compile,`;
+//! - how often the store of include records and that of outputs are asked, and then, for each run in which one of them drops all at one
+//!   call, or at each, or refuses one pair, or each: `drop at 3: fresh fresh; compiles 2; forgot 1; lost some; holds 1`;
+//! - where the scenario has a capacity, the same of a store of outputs that holds no more.
+//!
+//! In each of these runs a request is answered the outputs of the first run, or the fault of the call that failed, and then its outputs
+//! when it is served again. Where it isn't so, a line says it: `not so: ..`.
+//!
+//! With the argument `growths` each scenario is served twice alone, and one growth of memory may be refused meanwhile: what is printed
+//! is then the same, or nothing, with status 2. `bin/refusals` refuses each growth in turn.
+//!
+//! With `record` or `key` it says what is read of the bytes of standard input as an include record, or, behind three lines with its shape,
+//! as what is hashed of a request to rustc. `bin/hostile` changes such bytes at random.
+#![tactic(auto)]
+
+mod answers;
+mod forgetting;
+mod growths;
+mod readings;
+mod refusals;
+mod runs;
+mod stores;
+
+use crate::forgetting::push_forgetting;
+use crate::growths::push_growths;
+use crate::readings::{push_key, push_record};
+use crate::refusals::push_refusals;
+use crate::runs::{NONE_FAILS, Stop, plain_run, push_answers};
+use std::alloc::Global;
+use std::io::{ErrorKind, Read, Write};
+use std::process::ExitCode;
+use std::rt::Env;
+use std::{env, io};
+
+/// The status of a program that couldn't run.
+const FAILED: u8 = 2;
+
+/// What is done with what standard input gives.
+#[derive(Clone, Copy)]
+enum Mode {
+    /// Of scenarios calls of devices fail, and stores forget and refuse.
+    Devices,
+    /// A growth of memory may be refused.
+    Growths,
+    /// A record is read.
+    Record,
+    /// What is hashed is read.
+    Key,
+}
+
+fn main(rt: HostRuntime) -> ExitCode {
+    match run_on(&rt) {
+        Ok(()) => ExitCode::SUCCESS,
+        Err(stop) => {
+            let _ = eprintln!(rt; "{stop}");
+            ExitCode::from(FAILED)
+        }
+    }
+}
+
+/// Runs on standard input and output.
+fn run_on<R: Print + Input + Env + AllocGlobal>(rt: &R) -> Result<(), Stop> {
+    let alloc = rt.alloc();
+    let mode = mode_of(rt)?;
+    let mut bytes = Vec::new(alloc);
+    rt.reader()
+        .read_to_end(&mut bytes)
+        .map_err(|error| stop_of(&error, Stop::Scenario))?;
+    let mut text = String::new(alloc);
+    push_bytes(alloc, mode, bytes.as_slice(), &mut text)?;
+    io::writer(rt)
+        .write_all(text.as_bytes())
+        .map_err(|error| stop_of(&error, Stop::Output))
+}
+
+/// Want of memory where that is what a device lacked, and the other reason where it is anything else.
+fn stop_of(error: &io::Error, other: Stop) -> Stop {
+    if error.kind() == ErrorKind::OutOfMemory {
+        Stop::Memory
+    } else {
+        other
+    }
+}
+
+/// What the argument says.
+fn mode_of<R: Env + AllocGlobal>(rt: &R) -> Result<Mode, Stop> {
+    let mut words = env::args(rt).map_err(|error| stop_of(&error, Stop::Arguments))?;
+    match words.nth(1) {
+        None => Ok(Mode::Devices),
+        Some(word) => mode_named(word.as_str()),
+    }
+}
+
+/// What that argument says.
+fn mode_named(word: &str) -> Result<Mode, Stop> {
+    match word {
+        "growths" => Ok(Mode::Growths),
+        "record" => Ok(Mode::Record),
+        "key" => Ok(Mode::Key),
+        _ => Err(Stop::Arguments),
+    }
+}
+
+/// Adds what is printed of these bytes.
+fn push_bytes(alloc: Global, mode: Mode, bytes: &[u8], text: &mut String) -> Result<(), Stop> {
+    match mode {
+        Mode::Devices => push_lines(alloc, false, bytes, text),
+        Mode::Growths => push_lines(alloc, true, bytes, text),
+        Mode::Record => push_record(alloc, bytes, text),
+        Mode::Key => push_key(alloc, bytes, text),
+    }
+}
+
+/// Adds what is printed of the scenarios of these lines. An empty line is none.
+fn push_lines(
+    alloc: Global,
+    is_growths: bool,
+    bytes: &[u8],
+    text: &mut String,
+) -> Result<(), Stop> {
+    let mut number = 0u64;
+    for line in bytes.split(|byte| *byte == b'\n') {
+        if !line.is_empty() {
+            number = number.wrapping_add(1);
+            write!(text, "{number}: ")?;
+            push_scenario(alloc, is_growths, line, text)?;
+        }
+    }
+    Ok(())
+}
+
+/// Adds what is printed of the scenario of this line.
+fn push_scenario(
+    alloc: Global,
+    is_growths: bool,
+    line: &[u8],
+    text: &mut String,
+) -> Result<(), Stop> {
+    if is_growths {
+        return push_growths(alloc, line, text);
+    }
+    push_devices(alloc, line, text)
+}
+
+/// Adds what came of the runs in which devices fail and stores forget and refuse.
+fn push_devices(alloc: Global, line: &[u8], text: &mut String) -> Result<(), Stop> {
+    let plain = plain_run(alloc, line, NONE_FAILS)?;
+    let turns = plain.turns.as_slice();
+    push_answers(turns, text)?;
+    let ticks = plain.end.ticks;
+    writeln!(
+        text,
+        "preprocesses {}; compiles {}",
+        ticks.preprocess, ticks.compile
+    )?;
+    push_refusals(alloc, line, turns, text)?;
+    push_forgetting(alloc, line, turns, text)
+}

@@ -1,0 +1,641 @@
+//! What is known of a request, more from attempt to attempt.
+
+ghost use Rattle.std.specs.Prelude.{◌≡◌, ◌≤◌};
+
+use crate::outputs::{are_same, lock_paths, made_since, states_in, states_of};
+use crate::watched::noted_in;
+use ckeys::hasher::needs_c_preprocessing;
+use ckeys_records::output_name::OutputName;
+use kept_entries::entry::KeptMessages;
+use kept_folder::error::FolderError;
+use kept_pairs::entries::Kept;
+use kept_pairs::record_files::record_under;
+use kept_pairs::records::FoundRecord;
+use known_options::dependencies::Dependencies;
+use known_options::text_words::text_words;
+use loaded_files::lists::{digest_of_list, names_files_of};
+use loaded_files::loading::{load, load_all, load_named};
+use loaded_files::outputs::regular;
+use loaded_files::precompiled::has_precompiled;
+use loaded_files::tokens::Tokens;
+use os_files::listed::Listed;
+use os_files::os_bytes::OsBytes;
+use replay::replay_tool::{RecordedOutputs, RecordedText, ReplayTool, Wanted};
+use replay::snapshot_files::SnapshotFiles;
+use replay::watched_records::pair_again;
+use searched_folders::found::State;
+use searched_folders::unwatched::Unwatched;
+use settings::key::Key;
+use std::alloc::Global;
+use std::fs;
+use std::fs::File;
+use std::io::Read;
+use std::rt::Files;
+use unkept_texts::directives::takes_files;
+use unkept_texts::times::tells_time;
+use wrap::{
+    CCompilerKind, Compiled, EntryKey, Files as CallFiles, PreprocessorCacheEntry, Printed, Shape,
+    Step, StoreKey, Zone,
+};
+use wrapper_host::command_line::CommandLine;
+use wrapper_host::fields::into_text;
+use wrapper_host::host::{Ended, Host};
+use wrapper_host::stop::Stop;
+use written_lines::asked::Asked;
+use written_lines::lines::{digest_asked, digest_of_contents};
+use written_lines::sources::Sources;
+
+/// Files and answers that are known so far.
+#[derive(Drop)]
+pub struct Known {
+    pub kind: CCompilerKind,
+    /// Whether the compiler takes the word by which its messages are in colour.
+    takes_color: bool,
+    /// What the words say of a dependency file; nothing where the session is told of it.
+    dependencies: Option<Dependencies>,
+    /// The zone in which days are told, where direct mode is on.
+    pub zone: Option<Zone>,
+    /// Why no record says of what the text is made, where direct mode was on.
+    pub unwatched: Option<Unwatched>,
+    /// The folders that don't count.
+    pub basedirs: Listed<OsBytes>,
+    pub files: SnapshotFiles,
+    /// What stands for the contents of headers.
+    pub(crate) tokens: Tokens,
+    pub tool: ReplayTool,
+    /// What a disk keeps that may fit.
+    pub entry: Option<Kept>,
+    /// The digest by which the disk was asked already.
+    pub looked_up: Option<OsBytes>,
+    /// The include record that a disk keeps, which may fit, without the results that were left out.
+    pub(crate) record_kept: Option<(EntryKey, PreprocessorCacheEntry)>,
+    /// That record with them, where some were.
+    pub(crate) whole: Option<PreprocessorCacheEntry>,
+    /// What to watch of its results.
+    pub(crate) watched: OsBytes,
+    /// The name of the record for which the disk was asked already; an empty one where it wasn't.
+    record_name: String,
+    /// The file that was loaded last.
+    loaded: Option<OsBytes>,
+    /// The states of the files that the text names, once it was printed.
+    states: Vec<Option<State>>,
+    /// The files of the text, as the compiler lists them for a dependency file; nothing where none is asked for.
+    list: OsBytes,
+    /// The dependency file that the compile wrote.
+    written: Option<OsBytes>,
+    /// What the preprocessor printed on its standard error; nothing where it didn't run.
+    pub preprocessor: OsBytes,
+    /// What the compile printed on its standard output and its standard error; nothing where it didn't run.
+    pub printed: OsBytes,
+    pub errors: OsBytes,
+}
+
+impl Known {
+    /// Nothing is known yet.
+    pub fn new(
+        alloc: Global,
+        kind: CCompilerKind,
+        takes_color: bool,
+        dependencies: Option<Dependencies>,
+        zone: Option<Zone>,
+        basedirs: Listed<OsBytes>,
+    ) -> Known {
+        Known {
+            kind,
+            takes_color,
+            dependencies,
+            zone,
+            unwatched: None,
+            basedirs,
+            files: SnapshotFiles::new(alloc),
+            tokens: Tokens::new(alloc),
+            tool: ReplayTool::new(),
+            entry: None,
+            looked_up: None,
+            record_kept: None,
+            whole: None,
+            watched: OsBytes::empty(alloc),
+            record_name: String::new(alloc),
+            loaded: None,
+            states: Vec::new(alloc),
+            list: OsBytes::empty(alloc),
+            written: None,
+            preprocessor: OsBytes::empty(alloc),
+            printed: OsBytes::empty(alloc),
+            errors: OsBytes::empty(alloc),
+        }
+    }
+
+    /// Turns direct mode off.
+    fn turn_off(&mut self, why: Unwatched) {
+        if self.zone.take().is_some() {
+            self.unwatched = Some(why);
+        }
+    }
+
+    /// Loads the file of that path, as it is there or not. Where that can't be told direct mode goes off. False where it was the last
+    /// one already.
+    pub fn load<R: Files + AllocGlobal>(&mut self, rt: &R, path: OsBytes) -> Result<bool, Stop> {
+        if self.loaded.as_ref() == Some(&path) {
+            return Ok(false);
+        }
+        self.loaded = Some(path.clone()?);
+        self.tokens.take_whole(path.clone()?)?;
+        if !load(rt, path, &mut self.files)? {
+            self.turn_off(Unwatched::Device);
+        }
+        Ok(true)
+    }
+
+    /// A copy of the include record that is kept, where direct mode is on.
+    pub fn record_again(&self) -> Result<Option<(EntryKey, PreprocessorCacheEntry)>, Stop> {
+        match (&self.zone, &self.record_kept) {
+            (Some(_), Some((key, entry))) => Ok(Some(pair_again(key, entry)?)),
+            (_, _) => Ok(None),
+        }
+    }
+
+    /// Has the files loaded that a record names, which is taken then. False where one of them can't be told.
+    fn take_record<R: Files + AllocGlobal>(
+        &mut self,
+        rt: &R,
+        line: &CommandLine,
+        found: FoundRecord,
+    ) -> Result<bool, Stop> {
+        let FoundRecord {
+            key,
+            entry,
+            names,
+            watched,
+        } = found;
+        self.tokens
+            .take_rows(rt.alloc(), noted_in(watched.as_bytes()).0)?;
+        if !load_all(
+            rt,
+            line,
+            names.as_slice(),
+            &mut self.files,
+            &mut self.tokens,
+        )? {
+            return Ok(false);
+        }
+        self.record_kept = Some((key, entry));
+        self.watched = watched;
+        Ok(true)
+    }
+
+    /// Asks the disk for the record of that name, once, and for the files that it names. False where it has none.
+    pub fn look_up_record<R: Files + AllocGlobal>(
+        &mut self,
+        rt: &R,
+        line: &CommandLine,
+        name: String,
+    ) -> Result<bool, Stop> {
+        if self.record_name == name {
+            return Ok(false);
+        }
+        self.record_kept = None;
+        self.whole = None;
+        self.watched = OsBytes::empty(rt.alloc());
+        let found = record_under(rt, &line.folder, line.zone.as_str(), name.as_str());
+        self.record_name = name;
+        match found {
+            Ok(Some(found)) => self.take_record(rt, line, found),
+            Ok(None) => Ok(false),
+            Err(FolderError::Memory) => Err(Stop::Memory),
+            Err(_) => Ok(false),
+        }
+    }
+
+    /// The name of this request's record; an empty one where it has none.
+    pub fn name_to_note(&self) -> &str {
+        match &self.zone {
+            Some(_) => self.record_name.as_str(),
+            None => "",
+        }
+    }
+
+    /// Lets go of the record by which a key is known that nothing is kept under, since the text is needed then. False where no key came
+    /// from a record.
+    pub fn drop_record(&mut self) -> bool {
+        let dropped = self.record_kept.is_some() && self.tool.text.is_none();
+        if dropped {
+            self.record_kept = None;
+        }
+        dropped
+    }
+
+    /// Loads what the text names that was printed last. Direct mode goes off where what was read for it can't be told, or the preprocessor
+    /// printed messages, which no record has.
+    pub fn follow_text<R: Files + AllocGlobal>(
+        &mut self,
+        rt: &R,
+        line: &CommandLine,
+    ) -> Result<(), Stop> {
+        let Some(recorded) = &self.tool.text else {
+            return Ok(());
+        };
+        let text = recorded.printed.text.as_bytes();
+        if !self.preprocessor.as_bytes().is_empty() {
+            self.turn_off(Unwatched::Messages);
+        } else if !load_named(rt, line, text, &mut self.files, &mut self.tokens)? {
+            self.turn_off(Unwatched::Changed);
+        }
+        Ok(())
+    }
+
+    /// Refuses an input that is compiled as it stands and takes in files.
+    fn refuse_input(&mut self, alloc: Global, key: &StoreKey) -> Result<(), Stop> {
+        if is_preprocessed(key) {
+            return Ok(());
+        }
+        let Some(path) = &self.loaded else {
+            return Ok(());
+        };
+        match self.files.read(alloc, path) {
+            Ok(Some(text)) if takes_files(text.as_bytes()) => Err(Stop::TakesFiles),
+            _ => Ok(()),
+        }
+    }
+
+    /// The path of the dependency file, where one is asked for.
+    pub fn dependency_file(&self) -> Option<&OsBytes> {
+        match &self.dependencies {
+            Some(dependencies) => dependencies.file.as_ref(),
+            None => None,
+        }
+    }
+
+    /// Whether a dependency file is to be there after a compile under this key. Of an input that isn't preprocessed none is written.
+    fn wants_dependencies(&self, key: Option<&StoreKey>) -> bool {
+        if key.is_some_and(|key| !is_preprocessed(key)) {
+            return false;
+        }
+        match self.dependency_file() {
+            Some(path) => path.as_bytes() != b"/dev/null".as_slice(),
+            None => false,
+        }
+    }
+
+    /// Whether messages may be printed again: a line that they quote is as it was. By a record all files are as they were.
+    fn may_print_again<R: std::rt::Files + AllocGlobal>(
+        &self,
+        rt: &R,
+        line: &CommandLine,
+        messages: &KeptMessages,
+    ) -> Result<bool, Stop> {
+        if messages.sources.is_none() || self.tool.text.is_none() {
+            return Ok(true);
+        }
+        Ok(self.digest_of_sources(rt, line)? == messages.sources)
+    }
+
+    /// Whether outputs may be given that were kept beside these. Where they may not, they are a miss from now on.
+    pub fn may_give<R: std::rt::Files + AllocGlobal>(
+        &mut self,
+        rt: &R,
+        line: &CommandLine,
+        key: Option<&StoreKey>,
+        messages: Option<&KeptMessages>,
+    ) -> Result<bool, Stop> {
+        let Some(messages) = messages else {
+            return Ok(true);
+        };
+        let is_whole = messages.dependencies.is_some() || !self.wants_dependencies(key);
+        if is_whole && self.may_print_again(rt, line, messages)? {
+            return Ok(true);
+        }
+        if let Some(key) = key {
+            self.looked_up = Some(key.digest.clone()?);
+        }
+        Ok(false)
+    }
+
+    /// The words by which the compiler prints the text, and lists the files that it read where a dependency file is asked for.
+    fn words_for_text(&self, alloc: Global, line: &CommandLine) -> Result<Listed<OsBytes>, Stop> {
+        let Some(dependencies) = &self.dependencies else {
+            return Ok(text_words(alloc, line.words.as_slice(), None)?);
+        };
+        let list = dependencies.file.as_ref().map(|_| line.list.as_str());
+        Ok(text_words(alloc, dependencies.others.as_slice(), list)?)
+    }
+
+    /// The text that was printed, and behind it what it doesn't say of its sources: the digest of lines as they were written, and that of the
+    /// list of its files, where a dependency file is asked for.
+    fn text_at<R: std::rt::Files + AllocGlobal>(
+        &mut self,
+        rt: &R,
+        line: &CommandLine,
+    ) -> Result<Vec<u8>, Stop> {
+        let alloc = rt.alloc();
+        let mut text = fs::read(rt, line.text.as_str())?;
+        refuse_text(line, text.as_slice())?;
+        if text.is_empty() {
+            return Ok(text);
+        }
+        self.states = states_in(rt, line, text.as_slice())?;
+        if has_precompiled(rt, line, text.as_slice())? {
+            return Err(Stop::Precompiled);
+        }
+        let lines = lines_of(rt, line, self.kind, text.as_slice())?;
+        push_digest(&mut text, "lines as they were written", lines.as_bytes())?;
+        if self.dependency_file().is_some() {
+            self.list = OsBytes::from_vec(fs::read(rt, line.list.as_str())?);
+            let digest = digest_of_list(alloc, self.list.as_bytes())?;
+            push_digest(&mut text, "files for Make", digest.as_bytes())?;
+        }
+        Ok(text)
+    }
+
+    /// The digest of all files that the text names; nothing where there is no text, or a line may be of another file than a marker says.
+    fn digest_of_sources<R: std::rt::Files + AllocGlobal>(
+        &self,
+        rt: &R,
+        line: &CommandLine,
+    ) -> Result<Option<OsBytes>, Stop> {
+        let Some(recorded) = &self.tool.text else {
+            return Ok(None);
+        };
+        let sources = Sources::of(rt, line, recorded.printed.text.as_bytes())?;
+        if sources.are_renumbered() {
+            return Ok(None);
+        }
+        Ok(Some(digest_of_contents(rt.alloc(), &sources)?))
+    }
+
+    /// Has the host preprocess by the caller's own words, and records the text as that of the session's.
+    fn record_text<P: Print + std::rt::Files + AllocGlobal, I: Read>(
+        &mut self,
+        rt: &P,
+        line: &CommandLine,
+        host: &mut Host<I>,
+        words: Listed<OsBytes>,
+    ) -> Result<(), Stop>
+        ensures { host.new.compiled ≡ host.old.compiled }
+    {
+        let own = self.words_for_text(rt.alloc(), line)?;
+        let ended = host.preprocess(rt, rt.alloc(), own.as_slice())?;
+        self.preprocessor = printed_at(rt, &ended, line.errors.as_str())?;
+        let text = OsBytes::from_vec(self.text_at(rt, line)?);
+        let status = ended.status;
+        self.tool.text = Some(RecordedText {
+            kind: self.kind,
+            words,
+            printed: Printed { status, text },
+        });
+        Ok(())
+    }
+
+    /// Whether the preprocessor printed a text: an input that it only hands on to a linker has none.
+    fn has_text(&self) -> bool {
+        match &self.tool.text {
+            Some(recorded) => !recorded.printed.text.as_bytes().is_empty(),
+            None => false,
+        }
+    }
+
+    /// The words by which the host compiles: the caller's own, and behind them the one for colours, where the session's have it, the compiler
+    /// takes it, and there is a text to which that compiler has something to say.
+    fn own_words(
+        &self,
+        alloc: Global,
+        line: &CommandLine,
+        words: &[OsBytes],
+    ) -> Result<Listed<OsBytes>, Stop> {
+        let mut own = Listed::new(alloc);
+        for word in line.words.as_slice() {
+            own.push(word.clone()?)?;
+        }
+        let color = self.kind.color_word().unwrap_or("");
+        if self.takes_color && self.has_text() && has_word(words, color) {
+            own.push(OsBytes::from_slice(alloc, color.as_bytes())?)?;
+        }
+        Ok(own)
+    }
+
+    /// Takes the dependency file that the compile wrote. What is missing, or names files that the text doesn't have, isn't kept.
+    fn take_written<R: std::rt::Files + AllocGlobal>(
+        &mut self,
+        rt: &R,
+        key: &StoreKey,
+    ) -> Result<(), Stop> {
+        if !self.wants_dependencies(Some(key)) {
+            return Ok(());
+        }
+        let Some(path) = self.dependency_file() else {
+            return Ok(());
+        };
+        let path = into_text(path.clone()?)?;
+        let Some(written) = regular(rt, path.as_str()) else {
+            return Err(Stop::Changed);
+        };
+        if !names_files_of(rt.alloc(), written.as_bytes(), self.list.as_bytes())? {
+            return Err(Stop::Changed);
+        }
+        self.written = Some(written);
+        Ok(())
+    }
+
+    /// Has the host compile by the caller's own words, and records what was made of these names at these paths as what the session's words
+    /// make.
+    fn record_outputs<P: Print + std::rt::Files<File = File> + AllocGlobal, I: Read>(
+        &mut self,
+        rt: &P,
+        line: &CommandLine,
+        host: &mut Host<I>,
+        key: &StoreKey,
+        words: Listed<OsBytes>,
+        paths: &[OsBytes],
+    ) -> Result<(), Stop>
+        requires { host.old.compiled ≡ 0 }
+        ensures { host.new.compiled ≤ 1 }
+    {
+        let names = names_again(rt.alloc(), key.names.as_slice())?;
+        let own = self.own_words(rt.alloc(), line, words.as_slice())?;
+        // Until what was made is read no other call writes these files.
+        let locks = lock_paths(rt, line, paths)?;
+        let before = states_of(rt, paths)?;
+        let ended = host.compile(rt, rt.alloc(), own.as_slice())?;
+        self.printed = printed_at(rt, &ended, line.printed.as_str())?;
+        self.errors = printed_at(rt, &ended, line.errors.as_str())?;
+        let contents = made_since(rt, paths, before.as_slice())?;
+        let status = ended.status;
+        if status == 0 {
+            self.take_written(rt, key)?;
+        }
+        drop(locks);
+        self.tool.outputs = Some(RecordedOutputs {
+            kind: self.kind,
+            words,
+            names,
+            made: Compiled { status, contents },
+        });
+        Ok(())
+    }
+
+    /// Has the host compile where it didn't yet, and records what was made. False where it did.
+    fn record_once<P: Print + std::rt::Files<File = File> + AllocGlobal, I: Read>(
+        &mut self,
+        rt: &P,
+        line: &CommandLine,
+        host: &mut Host<I>,
+        key: &StoreKey,
+        words: Listed<OsBytes>,
+        paths: &[OsBytes],
+    ) -> Result<bool, Stop>
+        requires { host.old.compiled ≤ 1 }
+        ensures { host.new.compiled ≤ 1 }
+    {
+        self.refuse_input(rt.alloc(), key)?;
+        if host.compiled() != 0 {
+            return Ok(false);
+        }
+        self.record_outputs(rt, line, host, key, words, paths)?;
+        Ok(true)
+    }
+
+    /// Refuses what was made where a file that the text names was changed since it was printed.
+    fn check_sources<R: std::rt::Files + AllocGlobal>(
+        &self,
+        rt: &R,
+        line: &CommandLine,
+    ) -> Result<(), Stop> {
+        let Some(recorded) = &self.tool.text else {
+            return Ok(());
+        };
+        let now = states_in(rt, line, recorded.printed.text.as_bytes())?;
+        match are_same(now.as_slice(), self.states.as_slice()) {
+            true => Ok(()),
+            false => Err(Stop::Changed),
+        }
+    }
+
+    /// Whether the compile printed nothing.
+    fn was_silent(&self) -> bool {
+        self.printed.as_bytes().is_empty() && self.errors.as_bytes().is_empty()
+    }
+
+    /// Copies of what was printed and written beside the outputs that the compiler made. Messages that can't be told to be as they would be
+    /// in another call are an error.
+    pub fn messages<R: std::rt::Files + AllocGlobal>(
+        &self,
+        rt: &R,
+        line: &CommandLine,
+    ) -> Result<KeptMessages, Stop> {
+        self.check_sources(rt, line)?;
+        let mut sources = None;
+        if !self.was_silent() {
+            sources = self.digest_of_sources(rt, line)?;
+            if sources.is_none() {
+                return Err(Stop::Quotes);
+            }
+        }
+        Ok(KeptMessages {
+            preprocessor: self.preprocessor.clone()?,
+            printed: self.printed.clone()?,
+            errors: self.errors.clone()?,
+            dependencies: match &self.written {
+                Some(written) => Some(written.clone()?),
+                None => None,
+            },
+            sources,
+        })
+    }
+
+    /// Has the host run what the tool lacks. False where it lacks nothing, or would compile once more.
+    pub fn record<P: Print + std::rt::Files<File = File> + AllocGlobal, I: Read>(
+        &mut self,
+        rt: &P,
+        line: &CommandLine,
+        host: &mut Host<I>,
+        key: Option<&StoreKey>,
+    ) -> Result<bool, Stop>
+        requires { host.old.compiled ≤ 1 }
+        ensures { host.new.compiled ≤ 1 }
+    {
+        let Some(wanted) = self.tool.wanted.take() else {
+            return Ok(false);
+        };
+        let Wanted { step, words, paths } = wanted;
+        match (step, key) {
+            (Step::Preprocess, _) => {
+                self.record_text(rt, line, host, words)?;
+                Ok(true)
+            }
+            (Step::Compile, Some(key)) => {
+                self.record_once(rt, line, host, key, words, paths.as_slice())
+            }
+            (_, _) => Ok(false),
+        }
+    }
+}
+
+/// The digest of what a text doesn't say of its sources, as far as what is made of it hangs on that; an empty one where nothing does.
+fn lines_of<R: std::rt::Files + AllocGlobal>(
+    rt: &R,
+    line: &CommandLine,
+    kind: CCompilerKind,
+    text: &[u8],
+) -> Result<OsBytes, Stop> {
+    let alloc = rt.alloc();
+    let asked = Asked::by(kind, line.words.as_slice(), text);
+    if asked == Asked::Nothing || !line.settings.value_of(Key::Sloppiness).is_empty() {
+        return Ok(OsBytes::empty(alloc));
+    }
+    let sources = Sources::of(rt, line, text)?;
+    digest_asked(alloc, asked, text, &sources)
+}
+
+/// Puts a digest behind a text, as lines of a file that is none. An empty one isn't put there.
+fn push_digest(text: &mut Vec<u8>, name: &str, digest: &[u8]) -> Result<(), Stop> {
+    if digest.is_empty() {
+        return Ok(());
+    }
+    text.extend_from_slice(b"\n# 1 \"<")?;
+    text.extend_from_slice(name.as_bytes())?;
+    text.extend_from_slice(b">\"\n")?;
+    Ok(text.extend_from_slice(digest)?)
+}
+
+/// Refuses a text by which what is made of it can't be found again.
+fn refuse_text(line: &CommandLine, text: &[u8]) -> Result<(), Stop> {
+    if takes_files(text) {
+        return Err(Stop::TakesFiles);
+    }
+    if tells_time(text, line.second(), line.zone.as_str()) {
+        return Err(Stop::TellsTime);
+    }
+    Ok(())
+}
+
+/// Whether a word is among these.
+fn has_word(words: &[OsBytes], word: &str) -> bool {
+    words.iter().any(|it| it.as_bytes() == word.as_bytes())
+}
+
+/// Whether what is compiled under this key was preprocessed.
+fn is_preprocessed(key: &StoreKey) -> bool {
+    match &key.shape {
+        Shape::C(shape) => needs_c_preprocessing(shape.language),
+        Shape::Rustc(_) => false,
+    }
+}
+
+/// What a command printed there.
+fn printed_at<R: Files + AllocGlobal>(rt: &R, ended: &Ended, place: &str) -> Result<OsBytes, Stop> {
+    if ended.silent {
+        return Ok(OsBytes::empty(rt.alloc()));
+    }
+    Ok(OsBytes::from_vec(fs::read(rt, place)?))
+}
+
+/// Copies of the names.
+fn names_again(alloc: Global, names: &[OutputName]) -> Result<Listed<OutputName>, Stop> {
+    let mut copies = Listed::new(alloc);
+    for output in names {
+        let name = output.name.clone()?;
+        let optional = output.optional;
+        copies.push(OutputName { name, optional })?;
+    }
+    Ok(copies)
+}

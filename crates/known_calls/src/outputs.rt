@@ -1,0 +1,174 @@
+//! Files while a compiler writes and reads them: locks on the paths of outputs, which of these it made, and whether sources stayed as they were.
+
+use kept_folder::file_digests::digest_of;
+use loaded_files::outputs::regular;
+use marker_walk::line::Mark;
+use marker_walk::markers::Markers;
+use marker_walk::names::unescaped;
+use os_files::listed::Listed;
+use os_files::os_bytes::OsBytes;
+use os_files::path::join;
+use searched_folders::found::State;
+use settings::rights::{give_rights, make_folders};
+use std::alloc::Global;
+use std::collections::{BTreeSet, HashSet};
+use std::fs;
+use std::fs::{File, OpenOptions};
+use std::rt::Files;
+use wrapper_host::command_line::CommandLine;
+use wrapper_host::fields::into_text;
+use wrapper_host::stop::Stop;
+
+/// How many letters of the digest of a path name its lock.
+const LETTERS: usize = 3;
+
+/// Locks that are held until it is dropped.
+#[derive(Drop)]
+pub struct Locks {
+    files: Vec<File>,
+}
+
+/// The path of a file behind all links of its folder.
+fn real_path<R: Files + AllocGlobal>(
+    rt: &R,
+    line: &CommandLine,
+    path: &[u8],
+) -> Result<String, Stop> {
+    let path = into_text(join(rt.alloc(), line.dir.as_bytes(), path)?)?;
+    let Some((folder, name)) = path.rsplit_once('/') else {
+        return Ok(path);
+    };
+    let real = match fs::canonicalize(rt, folder) {
+        Ok(real) => format!(in rt.alloc(); "{}/{name}", real.as_str())?,
+        Err(_) => return Ok(path),
+    };
+    Ok(real)
+}
+
+/// The names of the locks of these paths, in their order.
+fn names_of<R: Files + AllocGlobal>(
+    rt: &R,
+    line: &CommandLine,
+    paths: &[OsBytes],
+) -> Result<BTreeSet<String>, Stop> {
+    let mut names = BTreeSet::new(rt.alloc());
+    for path in paths {
+        let real = real_path(rt, line, path.as_bytes())?;
+        let digest = digest_of(rt.alloc(), real.as_bytes())?;
+        let name = digest.as_str().get(..LETTERS).unwrap_or("");
+        if !real.as_str().starts_with("/dev/") {
+            names.insert(String::from_str(rt.alloc(), name)?)?;
+        }
+    }
+    Ok(names)
+}
+
+/// Opens the file of a lock, and waits for it.
+fn locked<R: Files<File = File> + AllocGlobal>(
+    rt: &R,
+    line: &CommandLine,
+    folder: &str,
+    name: &str,
+) -> Result<File, Stop> {
+    let place = format!(in rt.alloc(); "{folder}/{name}")?;
+    let is_new = fs::metadata(rt, place.as_str()).is_err();
+    let mut options = OpenOptions::new();
+    options.append(true).create(true);
+    let file = options.open(rt, place.as_str())?;
+    if is_new {
+        give_rights(rt, place.as_str(), line.folder.umask)?;
+    }
+    file.lock()?;
+    Ok(file)
+}
+
+/// Waits until no other call writes or reads one of these paths as an output. Where nothing is to be put into the folder of what is kept, nothing
+/// is waited for.
+pub fn lock_paths<R: Files<File = File> + AllocGlobal>(
+    rt: &R,
+    line: &CommandLine,
+    paths: &[OsBytes],
+) -> Result<Locks, Stop> {
+    let mut files = Vec::new(rt.alloc());
+    if line.folder.is_read_only {
+        return Ok(Locks { files });
+    }
+    let kept = line.folder.path.as_str();
+    let folder = format!(in rt.alloc(); "{kept}/locks")?;
+    make_folders(rt, folder.as_str(), line.folder.umask)?;
+    for name in names_of(rt, line, paths)? {
+        files.push(locked(rt, line, folder.as_str(), name.as_str())?)?;
+    }
+    Ok(Locks { files })
+}
+
+/// The state of what lies under a path, where something does.
+fn state_at<R: Files>(rt: &R, path: &str) -> Option<State> {
+    let metadata = fs::metadata(rt, path).ok()?;
+    Some(State::of(&metadata))
+}
+
+/// The states of what lies under these paths.
+pub fn states_of<R: Files + AllocGlobal>(
+    rt: &R,
+    paths: &[OsBytes],
+) -> Result<Vec<Option<State>>, Stop> {
+    let mut states = Vec::new(rt.alloc());
+    for path in paths {
+        let path = into_text(path.clone()?)?;
+        states.push(state_at(rt, path.as_str()))?;
+    }
+    Ok(states)
+}
+
+/// What was made at each of these paths, which had those states before: a regular file that is another one, or was changed.
+pub fn made_since<R: Files + AllocGlobal>(
+    rt: &R,
+    paths: &[OsBytes],
+    before: &[Option<State>],
+) -> Result<Listed<Option<OsBytes>>, Stop> {
+    let mut files = Listed::new(rt.alloc());
+    for (path, before) in paths.iter().zip(before.iter()) {
+        let path = into_text(path.clone()?)?;
+        let now = state_at(rt, path.as_str());
+        files.push(match now == *before {
+            true => None,
+            false => regular(rt, path.as_str()),
+        })?;
+    }
+    Ok(files)
+}
+
+/// The states of the files that the markers of a text name.
+pub fn states_in<R: Files + AllocGlobal>(
+    rt: &R,
+    line: &CommandLine,
+    text: &[u8],
+) -> Result<Vec<Option<State>>, Stop> {
+    let alloc: Global = rt.alloc();
+    let mut states = Vec::new(alloc);
+    let mut seen: HashSet<&[u8]> = HashSet::new(alloc);
+    for mark in Markers::new(text) {
+        let Mark::Named(raw) = mark else {
+            continue;
+        };
+        if !seen.insert(raw)? || raw.starts_with(b"<") || raw.ends_with(b"//") {
+            continue;
+        }
+        let name = unescaped(alloc, raw)?.into_owned(alloc)?;
+        let path = join(alloc, line.dir.as_bytes(), name.as_slice())?;
+        if let Ok(path) = into_text(path) {
+            states.push(state_at(rt, path.as_str()))?;
+        }
+    }
+    Ok(states)
+}
+
+/// Whether these are the same states.
+pub fn are_same(states: &[Option<State>], others: &[Option<State>]) -> bool {
+    states.len() == others.len()
+        && states
+            .iter()
+            .zip(others.iter())
+            .all(|pair| pair.0 == pair.1)
+}

@@ -1,0 +1,56 @@
+//! The devices of file systems that are mounted, by their types.
+
+use std::alloc::AllocError;
+use std::collections::BTreeSet;
+use std::fs;
+use std::rt::Files;
+
+/// Where the kernel lists what is mounted.
+const LIST: &str = "/proc/self/mountinfo";
+
+/// The types of file systems on which each change of a file gives it another time.
+const TYPES: [&[u8]; 9] = [
+    b"btrfs", b"ext2", b"ext3", b"ext4", b"f2fs", b"overlay", b"tmpfs", b"xfs", b"zfs",
+];
+
+/// The number of a device, as its two parts give it.
+fn device_of(major: u64, minor: u64) -> u64 {
+    let low = (major & 0xfff) << 8 | (minor & 0xff);
+    let high = (major & 0xffff_f000) << 32 | (minor & 0xffff_ff00) << 12;
+    low | high
+}
+
+/// The device of a mount, which is told as two numbers with a colon between them.
+fn device_in(text: &[u8]) -> Option<u64> {
+    let (major, minor) = str::from_utf8(text).ok()?.split_once(':')?;
+    Some(device_of(
+        u64::from(major.parse::<u32>().ok()?),
+        u64::from(minor.parse::<u32>().ok()?),
+    ))
+}
+
+/// The device in a line of the list, where its file system is of one of these types.
+fn trusted_in(line: &[u8]) -> Option<u64> {
+    let mut words = line.split(|byte| *byte == b' ');
+    let device = words.nth(2)?;
+    let mut behind = words.skip_while(|word| *word != b"-".as_slice());
+    let name = behind.nth(1)?;
+    match TYPES.iter().any(|it| *it == name) {
+        true => device_in(device),
+        false => None,
+    }
+}
+
+/// The devices of file systems of which a file that has the state that it had has the contents that it had. None where there is no list.
+pub fn devices<R: Files + AllocGlobal>(rt: &R) -> Result<BTreeSet<u64>, AllocError> {
+    let mut devices = BTreeSet::new(rt.alloc());
+    let Ok(list) = fs::read(rt, LIST) else {
+        return Ok(devices);
+    };
+    for line in list.split(|byte| *byte == b'\n') {
+        if let Some(device) = trusted_in(line) {
+            devices.insert(device)?;
+        }
+    }
+    Ok(devices)
+}

@@ -1,0 +1,306 @@
+//! The files that a source asks for by its directives, live or not.
+//!
+//! Which of them are live hangs on macros, so all of them count: those in comments too. Where it can't be told what is asked for, as where a
+//! macro stands for the name, there is no answer.
+
+use memchr::{memchr, memmem};
+use std::alloc::{AllocError, Global};
+
+/// How a compiler looks for a name.
+#[derive(Clone, Copy, PartialEq, Eq)]
+pub enum Search {
+    /// Beside the source that asks, then in the folders for names in quotes, then in those for names in brackets.
+    Quoted,
+    /// In the folders for names in brackets.
+    Bracketed,
+    /// In the folders that come behind the one in which the source was found that asks.
+    Next,
+}
+
+/// A name that is asked for.
+#[derive(Clone, Copy)]
+pub struct Asked<'a> {
+    pub name: &'a [u8],
+    pub search: Search,
+}
+
+/// What a source asks for.
+#[derive(Drop)]
+pub struct Directives<'a> {
+    pub asked: Vec<Asked<'a>>,
+    /// The macros by which it asks whether a file is there: each hands its parameter on.
+    pub probes: Vec<&'a [u8]>,
+    /// The macros that stand for names that it takes in.
+    pub computed: Vec<&'a [u8]>,
+    /// Whether it may be taken in once alone.
+    pub is_once: bool,
+}
+
+/// By what a source asks whether a file is there.
+pub const PROBE: &[u8] = b"__has_include";
+
+/// Other spellings of `#` and of the end of a line that goes on, and a probe for what may be embedded.
+const SPELLINGS: [&[u8]; 4] = [b"%:", b"??=", b"??/", b"__has_embed"];
+
+/// Whether it is a space within a line.
+fn is_space(byte: u8) -> bool {
+    matches!(byte, b' ' | b'\t' | b'\r' | 11 | 12)
+}
+
+/// Whether it may stand in a name of a macro.
+fn is_letter(byte: u8) -> bool {
+    byte.is_ascii_alphanumeric() || byte == b'_' || byte == b'$' || byte >= 128
+}
+
+/// What stands behind spaces.
+pub(crate) fn behind_spaces(text: &[u8]) -> &[u8] {
+    let spaces = text.iter().take_while(|byte| is_space(**byte)).count();
+    text.get(spaces..).unwrap_or(&[])
+}
+
+/// The word that a text begins with, and what stands behind it.
+pub(crate) fn word_ahead(text: &[u8]) -> (&[u8], &[u8]) {
+    let length = text.iter().take_while(|byte| is_letter(**byte)).count();
+    match text.split_at_checked(length) {
+        Some(parts) => parts,
+        None => (text, &[]),
+    }
+}
+
+/// The line without comments that end on it ahead of a directive.
+fn behind_comments(line: &[u8]) -> &[u8] {
+    if behind_spaces(line).starts_with(b"#") {
+        return line;
+    }
+    match memmem::rfind(line, b"*/") {
+        Some(at) => line.get(at.saturating_add(2)..).unwrap_or(&[]),
+        None => line,
+    }
+}
+
+/// The name between these marks at the front of a text.
+fn between(text: &[u8], first: u8, last: u8) -> Option<&[u8]> {
+    let (front, rest) = text.split_first()?;
+    if *front != first {
+        return None;
+    }
+    let end = memchr(last, rest)?;
+    rest.get(..end)
+}
+
+/// The name in quotes or brackets at the front of a text. None where neither stands there.
+fn name_ahead(text: &[u8]) -> Option<Asked<'_>> {
+    if let Some(name) = between(text, b'<', b'>') {
+        let search = Search::Bracketed;
+        return Some(Asked { name, search });
+    }
+    let name = between(text, b'"', b'"')?;
+    // Clang takes such a name apart once more.
+    if name.starts_with(b"<") {
+        return None;
+    }
+    let search = Search::Quoted;
+    Some(Asked { name, search })
+}
+
+/// Whether a name may be computed by what stands where one isn't written: a macro begins there, or a comment, the end of a line that goes on,
+/// or a name in quotes that is none. All else fails to compile, or stands in a comment.
+fn may_be_computed(operand: &[u8]) -> bool {
+    match operand {
+        [b'/' | b'\\', ..] | [b'"', b'<', ..] => true,
+        [byte, ..] => is_letter(*byte),
+        [] => false,
+    }
+}
+
+/// The name of the macro that a line defines, and whether it takes parameters.
+fn defined_by(line: &[u8]) -> Option<(&[u8], bool)> {
+    let behind = behind_spaces(line).strip_prefix(b"#")?;
+    let (word, rest) = word_ahead(behind_spaces(behind));
+    if word != b"define".as_slice() {
+        return None;
+    }
+    let (name, rest) = word_ahead(behind_spaces(rest));
+    Some((name, rest.starts_with(b"(")))
+}
+
+/// Whether a word stands there that isn't a part of a longer one.
+pub(crate) fn stands_alone(line: &[u8], at: usize) -> bool {
+    match line.get(..at).unwrap_or(&[]).last() {
+        Some(byte) => !is_letter(*byte),
+        None => true,
+    }
+}
+
+/// What stands behind a probe of that name, with how it looks. None where it is a part of a longer word.
+fn behind_probe(behind: &[u8]) -> Option<(&[u8], bool)> {
+    let (word, rest) = word_ahead(behind);
+    match word {
+        b"" | b"__" => Some((rest, false)),
+        b"_next" | b"_next__" => Some((rest, true)),
+        _ => None,
+    }
+}
+
+impl<'a> Directives<'a> {
+    /// Nothing is asked for yet.
+    fn new(alloc: Global) -> Directives<'a> {
+        Directives {
+            asked: Vec::new(alloc),
+            probes: Vec::new(alloc),
+            computed: Vec::new(alloc),
+            is_once: false,
+        }
+    }
+
+    /// Takes the name at the front of what stands behind a directive or a probe. False where one is computed there.
+    fn take_name(&mut self, operand: &'a [u8], is_next: bool) -> Result<bool, AllocError> {
+        let operand = behind_spaces(operand);
+        let Some(Asked { name, search }) = name_ahead(operand) else {
+            return Ok(!may_be_computed(operand));
+        };
+        let search = if is_next { Search::Next } else { search };
+        self.asked.push(Asked { name, search })?;
+        Ok(true)
+    }
+
+    /// Takes what a directive takes in, which a macro may stand for. False where it can't be told what it is.
+    fn take_included(&mut self, operand: &'a [u8], is_next: bool) -> Result<bool, AllocError> {
+        if self.take_name(operand, is_next)? {
+            return Ok(true);
+        }
+        let (name, rest) = word_ahead(behind_spaces(operand));
+        self.computed.push(name)?;
+        Ok(!name.is_empty() && behind_spaces(rest).is_empty())
+    }
+
+    /// Takes what stands behind `pragma`. False where it asks for a file.
+    fn take_pragma(&mut self, operand: &[u8]) -> bool {
+        let (word, rest) = word_ahead(behind_spaces(operand));
+        let (second, _) = word_ahead(behind_spaces(rest));
+        self.is_once = self.is_once || word == b"once".as_slice();
+        match (word, second) {
+            (b"GCC", b"dependency") | (b"clang", b"module") | (b"include_alias", _) => false,
+            (_, _) => true,
+        }
+    }
+
+    /// Takes a directive, which stands behind its `#`. False where it can't be told what it asks for.
+    fn take_directive(&mut self, behind: &'a [u8]) -> Result<bool, AllocError> {
+        let behind = behind_spaces(behind);
+        let (word, operand) = word_ahead(behind);
+        if matches!(operand, [b'\\', ..]) || matches!(behind, [b'/', ..]) {
+            return Ok(false);
+        }
+        match word {
+            b"include" | b"include_next" => {
+                self.take_included(operand, word.ends_with(b"_next"))
+            }
+            b"import" => {
+                self.is_once = true;
+                self.take_included(operand, false)
+            }
+            b"pragma" => Ok(self.take_pragma(operand)),
+            b"embed" | b"__include_macros" => Ok(false),
+            _ => Ok(true),
+        }
+    }
+
+    /// Takes what stands behind one probe in a line. False where it can't be told what it asks for.
+    fn take_probe(&mut self, line: &'a [u8], behind: &'a [u8]) -> Result<bool, AllocError> {
+        let Some((rest, is_next)) = behind_probe(behind) else {
+            return Ok(true);
+        };
+        let defined = defined_by(line);
+        match (behind_spaces(rest), defined) {
+            ([b'(', operand @ ..], None) => self.take_name(operand, is_next),
+            ([b'(', operand @ ..], Some((name, takes))) => {
+                if name.starts_with(PROBE) || self.take_name(operand, is_next)? {
+                    return Ok(true);
+                }
+                self.probes.push(name)?;
+                Ok(takes && !is_next)
+            }
+            // A line that goes on, or another name for the probe.
+            ([b'\\', ..], _) => Ok(false),
+            (_, Some((name, _))) => Ok(name.starts_with(PROBE)),
+            (_, None) => Ok(true),
+        }
+    }
+
+    /// Takes the probes of that name in a line. False where it can't be told what one asks for.
+    fn take_probes(&mut self, line: &'a [u8], probe: &[u8]) -> Result<bool, AllocError> {
+        for at in memmem::find_iter(line, probe) {
+            let behind = line.get(at.saturating_add(probe.len())..).unwrap_or(&[]);
+            if stands_alone(line, at) && !self.take_probe(line, behind)? {
+                return Ok(false);
+            }
+        }
+        Ok(true)
+    }
+
+    /// Takes a line. False where it can't be told what it asks for.
+    fn take_line(&mut self, line: &'a [u8]) -> Result<bool, AllocError> {
+        match behind_spaces(behind_comments(line)) {
+            [b'#', behind @ ..] => {
+                Ok(self.take_directive(behind)? && self.take_probes(line, PROBE)?)
+            }
+            _ => self.take_probes(line, PROBE),
+        }
+    }
+}
+
+/// What a source asks for. None where that can't be told.
+pub fn directives_of(alloc: Global, source: &[u8]) -> Result<Option<Directives<'_>>, AllocError> {
+    let mut found = Directives::new(alloc);
+    if SPELLINGS
+        .iter()
+        .any(|it| memmem::find(source, it).is_some())
+    {
+        return Ok(None);
+    }
+    for line in source.split(|byte| *byte == b'\n') {
+        let may_ask = memchr(b'#', line).is_some() || memmem::find(line, PROBE).is_some();
+        if may_ask && !found.take_line(line)? {
+            return Ok(None);
+        }
+    }
+    Ok(Some(found))
+}
+
+/// Whether a macro may have a definition in a source: its name stands behind `define` there.
+pub fn may_define(source: &[u8], name: &[u8]) -> bool {
+    for at in memmem::find_iter(source, name) {
+        let front = source.get(..at).unwrap_or(&[]);
+        let spaces = front
+            .iter()
+            .rev()
+            .take_while(|byte| is_space(**byte))
+            .count();
+        let front = front
+            .get(..front.len().saturating_sub(spaces))
+            .unwrap_or(&[]);
+        if front.ends_with(b"define") {
+            return true;
+        }
+    }
+    false
+}
+
+/// Adds what a source asks for by a probe of another name. False where that can't be told.
+pub fn add_probed<'a>(
+    source: &'a [u8],
+    probe: &[u8],
+    found: &mut Directives<'a>,
+) -> Result<bool, AllocError> {
+    for line in source.split(|byte| *byte == b'\n') {
+        let is_its_own = match defined_by(line) {
+            Some((name, _)) => name == probe,
+            None => false,
+        };
+        if !is_its_own && !found.take_probes(line, probe)? {
+            return Ok(false);
+        }
+    }
+    Ok(true)
+}

@@ -1,0 +1,13 @@
+//! Where a compiler looked for the files that a text is made of, and whether it would find the same ones there now.
+#![tactic(auto)]
+
+pub mod asking;
+pub mod directives;
+pub mod found;
+pub mod records;
+pub mod search_list;
+pub mod texts;
+pub mod times;
+pub mod unwatched;
+pub mod watch_list;
+pub mod watching;

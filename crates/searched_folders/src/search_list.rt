@@ -1,0 +1,112 @@
+//! The folders in which a compiler looks for what sources take in, as it tells them.
+
+use std::alloc::{AllocError, Global};
+
+/// What a compiler says where its list begins, goes on and ends.
+const QUOTED: &str = "#include \"...\" search starts here:";
+
+const BRACKETED: &str = "#include <...> search starts here:";
+
+const END: &str = "End of search list.";
+
+/// What it says of a folder that it leaves out: it isn't there, or is one of the others.
+const LEFT_OUT: [&str; 2] = [
+    "ignoring nonexistent directory \"",
+    "ignoring duplicate directory \"",
+];
+
+/// What Clang says of a GCC whose headers it may take.
+const INSTALLATIONS: [&str; 2] = [
+    "Found candidate GCC installation: ",
+    "Selected GCC installation: ",
+];
+
+/// The folders in which a compiler looks, in this order.
+#[derive(Drop)]
+pub struct SearchList<'a> {
+    /// For names in quotes alone.
+    pub quoted: Vec<&'a str>,
+    /// For all names.
+    pub bracketed: Vec<&'a str>,
+    /// Those that it leaves out, since they aren't there or are one of the others.
+    pub left_out: Vec<&'a str>,
+    /// Where it found a GCC.
+    pub installations: Vec<&'a str>,
+}
+
+/// Which part of the list a line stands in.
+#[derive(Clone, Copy, PartialEq, Eq)]
+enum Part {
+    Before,
+    Quoted,
+    Bracketed,
+    Behind,
+}
+
+/// What stands behind one of these at the front of a line.
+fn behind_front<'a>(line: &'a str, fronts: &[&str]) -> Option<&'a str> {
+    for front in fronts {
+        if let Some(rest) = line.strip_prefix(*front) {
+            return Some(rest);
+        }
+    }
+    None
+}
+
+impl<'a> SearchList<'a> {
+    /// No folders.
+    fn new(alloc: Global) -> SearchList<'a> {
+        SearchList {
+            quoted: Vec::new(alloc),
+            bracketed: Vec::new(alloc),
+            left_out: Vec::new(alloc),
+            installations: Vec::new(alloc),
+        }
+    }
+
+    /// Takes a line that stands outside of the list.
+    fn take_remark(&mut self, line: &'a str) -> Result<(), AllocError> {
+        if let Some(folder) = behind_front(line, &LEFT_OUT) {
+            self.left_out.push(folder.trim_end_matches('"'))?;
+        }
+        if let Some(folder) = behind_front(line, &INSTALLATIONS) {
+            self.installations.push(folder)?;
+        }
+        Ok(())
+    }
+
+    /// Takes a line, and says in which part the next one stands.
+    fn take(&mut self, part: Part, line: &'a str) -> Result<Part, AllocError> {
+        if line == QUOTED {
+            return Ok(Part::Quoted);
+        }
+        if line == BRACKETED {
+            return Ok(Part::Bracketed);
+        }
+        if line == END {
+            return Ok(Part::Behind);
+        }
+        match (part, line.strip_prefix(' ')) {
+            (Part::Quoted, Some(folder)) => self.quoted.push(folder)?,
+            (Part::Bracketed, Some(folder)) => self.bracketed.push(folder)?,
+            (_, _) => self.take_remark(line)?,
+        }
+        Ok(part)
+    }
+
+    /// The list in what a compiler says beside the text, asked to tell what it does. None where there is none.
+    pub fn read(alloc: Global, said: &'a [u8]) -> Result<Option<SearchList<'a>>, AllocError> {
+        let Ok(said) = str::from_utf8(said) else {
+            return Ok(None);
+        };
+        let mut list = SearchList::new(alloc);
+        let mut part = Part::Before;
+        for line in said.split('\n') {
+            part = list.take(part, line)?;
+        }
+        Ok(match part {
+            Part::Behind => Some(list),
+            _ => None,
+        })
+    }
+}

@@ -1,0 +1,217 @@
+//! What to watch of a text: where its compiler looked for files, and what lay there.
+//!
+//! Its bytes are the folder of the call, the folders in which something was looked for, and files, each list behind its number. A folder
+//! has its path, its state, how it may be another one, and its names with what lay there, all of them behind their length; a file has its
+//! path, its state and the digest of its contents. docs/FORMATS.md has the layout.
+
+use crate::found::{Found, State, found_at};
+use crate::unwatched::Unwatched;
+use byte_formats::fault::ReadFault;
+use byte_formats::fields::{put_framed, put_number, read_framed, read_number};
+use kept_folder::file_digests::digest_of;
+use os_files::file_time::FileTime;
+use std::alloc::AllocError;
+use std::fs;
+use std::rt::Files;
+
+/// How a folder may be another one than it was.
+#[derive(Clone, Copy, PartialEq, Eq)]
+pub(crate) enum Hold {
+    /// Its names are looked at in each case: it was changed since the call began, or about then.
+    Names,
+    /// Its names are looked at where its state is another one.
+    Settled,
+    /// It must be the same one, and so for names: the compiler left it out as one that it has already.
+    Same,
+}
+
+impl Hold {
+    /// Its number in a layout.
+    fn code(self) -> u64 {
+        match self {
+            Hold::Names => 0,
+            Hold::Settled => 1,
+            Hold::Same => 2,
+        }
+    }
+}
+
+/// A folder in which names were looked for.
+#[derive(Drop)]
+pub(crate) struct Folder {
+    pub(crate) state: State,
+    /// The names, each behind its length and with the number of what lay there.
+    pub(crate) names: Vec<u8>,
+    /// Whether the compiler left it out as one that it has already.
+    pub(crate) is_left_out: bool,
+}
+
+impl Folder {
+    /// Adds a name with what lies there.
+    pub(crate) fn note(&mut self, name: &str, found: Found) -> Result<(), AllocError> {
+        put_framed(&mut self.names, name.as_bytes())?;
+        put_number(&mut self.names, found.code())
+    }
+
+    /// Adds the folder of that path.
+    pub(crate) fn put(
+        &self,
+        path: &str,
+        before: FileTime,
+        out: &mut Vec<u8>,
+    ) -> Result<(), AllocError> {
+        let hold = match (self.is_left_out, self.state.is_before(before)) {
+            (true, _) => Hold::Same,
+            (false, true) => Hold::Settled,
+            (false, false) => Hold::Names,
+        };
+        put_framed(out, path.as_bytes())?;
+        self.state.put(out)?;
+        put_number(out, hold.code())?;
+        put_framed(out, self.names.as_slice())
+    }
+}
+
+/// A path as text.
+fn text_of(path: &[u8]) -> Result<&str, Unwatched> {
+    match str::from_utf8(path) {
+        Ok(path) => Ok(path),
+        Err(_) => Err(Unwatched::Path),
+    }
+}
+
+/// The state of what lies under a path, behind all links.
+pub(crate) fn state_at<R: Files>(rt: &R, path: &str) -> Result<State, Unwatched> {
+    Ok(State::of(&fs::metadata(rt, path)?))
+}
+
+/// Whether under the name that is ahead in these bytes the same lies as then, and what stands behind it.
+fn name_holds<'a, R: Files + AllocGlobal>(
+    rt: &R,
+    folder: &str,
+    names: &'a [u8],
+) -> Result<(bool, &'a [u8]), Unwatched> {
+    let (name, rest) = read_framed(names)?;
+    let (code, rest) = read_number(rest)?;
+    let name = text_of(name)?;
+    let path = format!(in rt.alloc(); "{folder}/{name}")?;
+    let holds = match found_at(rt, path.as_str()) {
+        Some(found) => found.code() == code,
+        None => false,
+    };
+    Ok((holds, rest))
+}
+
+/// Whether under all names the same lies as then.
+fn names_hold<R: Files + AllocGlobal>(
+    rt: &R,
+    folder: &str,
+    names: &[u8],
+) -> Result<bool, Unwatched> {
+    let mut rest = names;
+    // Each turn takes a byte at least.
+    for _ in 0..names.len() {
+        if rest.is_empty() {
+            break;
+        }
+        let (holds, behind) = name_holds(rt, folder, rest)?;
+        if !holds {
+            return Ok(false);
+        }
+        rest = behind;
+    }
+    Ok(true)
+}
+
+/// Whether the folder that is ahead in these bytes is as it was, as far as something was looked for in it, and what stands behind it.
+fn folder_holds<'a, R: Files + AllocGlobal>(
+    rt: &R,
+    bytes: &'a [u8],
+) -> Result<(bool, &'a [u8]), Unwatched> {
+    let (path, rest) = read_framed(bytes)?;
+    let (then, rest) = State::read(rest)?;
+    let (hold, rest) = read_number(rest)?;
+    let (names, rest) = read_framed(rest)?;
+    let path = text_of(path)?;
+    let now = state_at(rt, path)?;
+    let may_be_another = hold != Hold::Same.code() || now.is_same(then);
+    let holds = (hold == Hold::Settled.code() && now == then)
+        || (may_be_another && names_hold(rt, path, names)?);
+    Ok((holds, rest))
+}
+
+/// The digest of the contents of a file, as text; an empty one where it is a folder.
+pub(crate) fn contents_at<R: Files + AllocGlobal>(rt: &R, path: &str) -> Result<String, Unwatched> {
+    if fs::metadata(rt, path)?.is_dir() {
+        return Ok(String::new(rt.alloc()));
+    }
+    Ok(digest_of(rt.alloc(), fs::read(rt, path)?.as_slice())?)
+}
+
+/// Whether the file that is ahead in these bytes is as it was, and what stands behind it. One in another state may have the same contents; a
+/// folder is another one then.
+fn file_holds<'a, R: Files + AllocGlobal>(
+    rt: &R,
+    bytes: &'a [u8],
+) -> Result<(bool, &'a [u8]), Unwatched> {
+    let (path, rest) = read_framed(bytes)?;
+    let (then, rest) = State::read(rest)?;
+    let (digest, rest) = read_framed(rest)?;
+    let path = text_of(path)?;
+    let holds = state_at(rt, path)? == then
+        || (!digest.is_empty() && contents_at(rt, path)?.as_bytes() == digest);
+    Ok((holds, rest))
+}
+
+/// Whether the folders ahead in these bytes are as they were, and what stands behind them.
+fn folders_hold<'a, R: Files + AllocGlobal>(
+    rt: &R,
+    bytes: &'a [u8],
+) -> Result<(bool, &'a [u8]), Unwatched> {
+    let (count, mut rest) = read_number(bytes)?;
+    for _ in 0..count {
+        let (holds, behind) = folder_holds(rt, rest)?;
+        if !holds {
+            return Ok((false, behind));
+        }
+        rest = behind;
+    }
+    Ok((true, rest))
+}
+
+/// Whether the files ahead in these bytes are as they were.
+fn files_hold<R: Files + AllocGlobal>(rt: &R, bytes: &[u8]) -> Result<bool, Unwatched> {
+    let (count, mut rest) = read_number(bytes)?;
+    for _ in 0..count {
+        let (holds, behind) = file_holds(rt, rest)?;
+        if !holds {
+            return Ok(false);
+        }
+        rest = behind;
+    }
+    Ok(rest.is_empty())
+}
+
+/// Whether all is as it was, for a call in that folder.
+fn all_holds<R: Files + AllocGlobal>(rt: &R, dir: &[u8], list: &[u8]) -> Result<bool, Unwatched> {
+    let (own, rest) = read_framed(list)?;
+    if own != dir {
+        return Ok(false);
+    }
+    let (holds, rest) = folders_hold(rt, rest)?;
+    Ok(holds && files_hold(rt, rest)?)
+}
+
+/// Whether a call in that folder finds all files where the call found them whose list these bytes are. What can't be told is none.
+pub fn holds<R: Files + AllocGlobal>(rt: &R, dir: &[u8], list: &[u8]) -> Result<bool, AllocError> {
+    match all_holds(rt, dir, list) {
+        Ok(holds) => Ok(holds),
+        Err(Unwatched::Memory) => Err(AllocError),
+        Err(_) => Ok(false),
+    }
+}
+
+/// The folder of the call whose list these bytes are.
+pub fn folder_of(list: &[u8]) -> Result<&[u8], ReadFault> {
+    Ok(read_framed(list)?.0)
+}

@@ -1,0 +1,327 @@
+//! Looking where a compiler looks, and noting what is there.
+
+use crate::directives::{Asked, Search};
+use crate::found::{Found, State, found_at, is_nothing};
+use crate::search_list::SearchList;
+use crate::unwatched::Unwatched;
+use crate::watch_list::{Folder, state_at};
+use byte_formats::fields::{put_framed, put_number};
+use kept_folder::file_digests::digest_of;
+use os_files::file_time::FileTime;
+use os_files::path::join;
+use std::alloc::Global;
+use std::collections::{BTreeMap, BTreeSet, HashSet};
+use std::fs;
+use std::iter::once;
+use std::rt::Files;
+
+/// What was looked at so far.
+#[derive(Drop)]
+pub struct Watching<'a> {
+    dir: &'a [u8],
+    /// Until when something must have been changed so that it's certain to have been the same since the call began.
+    before: FileTime,
+    /// The folders in which something was looked for; nothing where there is none.
+    folders: BTreeMap<String, Option<Folder>>,
+    /// What lies under the paths that were looked at.
+    looked_at: BTreeMap<String, Found>,
+    /// Files that must be as they are, with the digest of their contents, and folders, with an empty one.
+    files: BTreeMap<String, (State, String)>,
+    /// The paths of the files that the text names.
+    named: BTreeSet<String>,
+    /// The contents of those that are taken in once.
+    once: HashSet<&'a [u8]>,
+}
+
+/// The path of a name in a folder, which may be one of the call's.
+fn path_in(alloc: Global, dir: &[u8], folder: &[u8], name: &[u8]) -> Result<String, Unwatched> {
+    let folder = join(alloc, dir, folder)?;
+    let path = join(alloc, folder.as_bytes(), name)?;
+    match String::from_utf8(path.into_vec()) {
+        Ok(path) => Ok(path),
+        Err(_) => Err(Unwatched::Path),
+    }
+}
+
+/// The path of the folder above that one.
+fn above(path: &str) -> &str {
+    match path.rsplit_once('/') {
+        Some((front, _)) => front,
+        None => "",
+    }
+}
+
+impl<'a> Watching<'a> {
+    /// Nothing was looked at for a call in that folder.
+    pub fn new(alloc: Global, dir: &'a [u8], before: FileTime) -> Watching<'a> {
+        Watching {
+            dir,
+            before,
+            folders: BTreeMap::new(alloc),
+            looked_at: BTreeMap::new(alloc),
+            files: BTreeMap::new(alloc),
+            named: BTreeSet::new(alloc),
+            once: HashSet::new(alloc),
+        }
+    }
+
+    /// Takes a file that the text names: its contents are compared by others.
+    pub fn take_named(
+        &mut self,
+        alloc: Global,
+        path: &str,
+        contents: &'a [u8],
+        is_once: bool,
+    ) -> Result<(), Unwatched> {
+        let is_new = self.named.insert(String::from_str(alloc, path)?)?;
+        if is_new && is_once && !self.once.insert(contents)? {
+            return Err(Unwatched::Equal);
+        }
+        Ok(())
+    }
+
+    /// Whether a folder of that path is there.
+    fn is_there<R: Files + AllocGlobal>(&mut self, rt: &R, path: &str) -> Result<bool, Unwatched> {
+        if let Some(known) = self.folders.get(path) {
+            return Ok(known.is_some());
+        }
+        let folder = match fs::metadata(rt, path) {
+            Ok(metadata) if metadata.is_dir() => Some(Folder {
+                state: State::of(&metadata),
+                names: Vec::new(rt.alloc()),
+                is_left_out: false,
+            }),
+            Ok(_) => None,
+            Err(error) if is_nothing(&error) && found_at(rt, path) == Some(Found::Nothing) => None,
+            Err(_) => return Err(Unwatched::Path),
+        };
+        let there = folder.is_some();
+        self.folders
+            .insert(String::from_str(rt.alloc(), path)?, folder)?;
+        Ok(there)
+    }
+
+    /// The nearest folder above a path that is there, and what stands behind it in the path.
+    fn place<'p, R: Files + AllocGlobal>(
+        &mut self,
+        rt: &R,
+        path: &'p str,
+    ) -> Result<(&'p str, &'p str), Unwatched> {
+        let mut front = path;
+        // Each turn takes a byte at least.
+        for _ in 0..path.len() {
+            front = above(front);
+            let folder = if front.is_empty() { "/" } else { front };
+            if self.is_there(rt, folder)? {
+                let rest = path.get(front.len().saturating_add(1)..).unwrap_or("");
+                return Ok((folder, rest));
+            }
+        }
+        Err(Unwatched::Path)
+    }
+
+    /// What lies under a path, which is watched from now on.
+    fn look<R: Files + AllocGlobal>(&mut self, rt: &R, path: &str) -> Result<Found, Unwatched> {
+        if let Some(found) = self.looked_at.get(path) {
+            return Ok(*found);
+        }
+        let (folder, rest) = self.place(rt, path)?;
+        let found = match rest.contains('/') {
+            true => Found::Nothing,
+            false => found_at(rt, path).ok_or(Unwatched::Path)?,
+        };
+        if let Some(Some(folder)) = self.folders.get_mut(folder) {
+            folder.note(rest, found)?;
+        }
+        self.looked_at
+            .insert(String::from_str(rt.alloc(), path)?, found)?;
+        Ok(found)
+    }
+
+    /// Takes a file that was found. One that the text doesn't name must be as it is from now on: the compiler skipped it, or asked only
+    /// whether it is there.
+    fn take_found<R: Files + AllocGlobal>(&mut self, rt: &R, path: &str) -> Result<(), Unwatched> {
+        if self.named.contains(path) || self.files.contains_key(path) {
+            return Ok(());
+        }
+        let state = state_at(rt, path)?;
+        if !state.is_before(self.before) {
+            return Err(Unwatched::Changed);
+        }
+        let contents = fs::read(rt, path)?;
+        if (&self.once).contains(&contents.as_slice()) {
+            return Err(Unwatched::Equal);
+        }
+        let digest = digest_of(rt.alloc(), contents.as_slice())?;
+        self.files
+            .insert(String::from_str(rt.alloc(), path)?, (state, digest))?;
+        Ok(())
+    }
+
+    /// Looks for a name in a folder. Whether it is found there.
+    fn is_in<R: Files + AllocGlobal>(
+        &mut self,
+        rt: &R,
+        folder: &[u8],
+        name: &[u8],
+    ) -> Result<bool, Unwatched> {
+        let path = path_in(rt.alloc(), self.dir, folder, name)?;
+        if self.look(rt, path.as_str())? != Found::File {
+            return Ok(false);
+        }
+        self.take_found(rt, path.as_str())?;
+        Ok(true)
+    }
+
+    /// Looks for a name in these folders, up to the first one that has it, or in all of them. Whether it is found.
+    fn is_in_one<R: Files + AllocGlobal>(
+        &mut self,
+        rt: &R,
+        folders: &[&str],
+        name: &[u8],
+        in_all: bool,
+    ) -> Result<bool, Unwatched> {
+        for folder in folders {
+            if self.is_in(rt, folder.as_bytes(), name)? && !in_all {
+                return Ok(true);
+            }
+        }
+        Ok(false)
+    }
+
+    /// Looks for a name that a source in that folder asks for.
+    pub fn search<R: Files + AllocGlobal>(
+        &mut self,
+        rt: &R,
+        list: &SearchList<'_>,
+        beside: &[u8],
+        asked: Asked<'_>,
+    ) -> Result<(), Unwatched> {
+        let Asked { name, search } = asked;
+        if name.starts_with(b"/") || (search == Search::Quoted && self.is_in(rt, beside, name)?) {
+            self.is_in(rt, beside, name)?;
+            return Ok(());
+        }
+        let in_all = search == Search::Next;
+        if search != Search::Bracketed
+            && self.is_in_one(rt, list.quoted.as_slice(), name, in_all)?
+        {
+            return Ok(());
+        }
+        self.is_in_one(rt, list.bracketed.as_slice(), name, in_all)?;
+        Ok(())
+    }
+
+    /// Has a folder watched, or that there is none.
+    fn take_folder<R: Files + AllocGlobal>(
+        &mut self,
+        rt: &R,
+        folder: &str,
+    ) -> Result<bool, Unwatched> {
+        let path = path_in(rt.alloc(), self.dir, folder.as_bytes(), b"")?;
+        let path = path.trim_end_matches('/');
+        let is_there = self.is_there(rt, path)?;
+        if !is_there {
+            self.look(rt, path)?;
+        }
+        Ok(is_there)
+    }
+
+    /// Has a folder watched that the compiler leaves out, or that there is none.
+    fn take_left_out<R: Files + AllocGlobal>(
+        &mut self,
+        rt: &R,
+        folder: &str,
+    ) -> Result<(), Unwatched> {
+        if !self.take_folder(rt, folder)? {
+            return Ok(());
+        }
+        let path = path_in(rt.alloc(), self.dir, folder.as_bytes(), b"")?;
+        if let Some(Some(folder)) = self.folders.get_mut(path.trim_end_matches('/')) {
+            folder.is_left_out = true;
+        }
+        Ok(())
+    }
+
+    /// Has the folders watched in which the compiler looks, and those that it leaves out.
+    pub fn take_folders<R: Files + AllocGlobal>(
+        &mut self,
+        rt: &R,
+        list: &SearchList<'_>,
+    ) -> Result<(), Unwatched> {
+        for folder in list.quoted.iter().chain(list.bracketed.iter()) {
+            if !self.take_folder(rt, folder)? {
+                return Err(Unwatched::List);
+            }
+        }
+        for folder in list.left_out.as_slice() {
+            self.take_left_out(rt, folder)?;
+        }
+        self.take_installations(rt, list)
+    }
+
+    /// Has the folders watched in which the compiler found a GCC: another one there may be taken in its place.
+    fn take_installations<R: Files + AllocGlobal>(
+        &mut self,
+        rt: &R,
+        list: &SearchList<'_>,
+    ) -> Result<(), Unwatched> {
+        for installation in list.installations.as_slice() {
+            for folder in [above(installation), above(above(installation))] {
+                let state = state_at(rt, folder)?;
+                let digest = String::new(rt.alloc());
+                self.files
+                    .insert(String::from_str(rt.alloc(), folder)?, (state, digest))?;
+            }
+        }
+        Ok(())
+    }
+
+    /// Has it watched that no precompiled header of that ending lies beside a name, in none of the folders in which it is looked for.
+    pub fn look_for_precompiled<R: Files + AllocGlobal>(
+        &mut self,
+        rt: &R,
+        list: &SearchList<'_>,
+        beside: &[u8],
+        name: &[u8],
+        ending: &[u8],
+    ) -> Result<(), Unwatched> {
+        let mut precompiled = Vec::new(rt.alloc());
+        precompiled.extend_from_slice(name)?;
+        precompiled.extend_from_slice(ending)?;
+        let others = list.quoted.iter().chain(list.bracketed.iter());
+        for folder in others.map(|folder| folder.as_bytes()).chain(once(beside)) {
+            let path = path_in(rt.alloc(), self.dir, folder, precompiled.as_slice())?;
+            if self.look(rt, path.as_str())? != Found::Nothing {
+                return Err(Unwatched::Precompiled);
+            }
+        }
+        Ok(())
+    }
+
+    /// Adds the folders that are there, behind their number.
+    fn put_folders(&self, out: &mut Vec<u8>) -> Result<(), Unwatched> {
+        let count = self.folders.values().filter(|it| it.is_some()).count();
+        put_number(out, count as u64)?;
+        for (path, folder) in self.folders.iter() {
+            if let Some(folder) = folder {
+                folder.put(path.as_str(), self.before, out)?;
+            }
+        }
+        Ok(())
+    }
+
+    /// The list of what is watched.
+    pub fn into_list(self, alloc: Global) -> Result<Vec<u8>, Unwatched> {
+        let mut out = Vec::new(alloc);
+        put_framed(&mut out, self.dir)?;
+        self.put_folders(&mut out)?;
+        put_number(&mut out, self.files.len() as u64)?;
+        for (path, file) in self.files.iter() {
+            put_framed(&mut out, path.as_bytes())?;
+            file.0.put(&mut out)?;
+            put_framed(&mut out, file.1.as_bytes())?;
+        }
+        Ok(out)
+    }
+}

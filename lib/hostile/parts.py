@@ -1,0 +1,265 @@
+"""The parts of hostile use: what each gives a program, and which ends are right.
+
+A part makes an input of a random source, and says by `fault` what is wrong with how a program ended over it, or nothing.
+"""
+
+import hashlib
+import json
+import re
+import shutil
+from pathlib import Path
+
+import mutations
+import running
+
+TOP = Path(__file__).resolve().parents[2]
+# How many words or lines are made of an input at most.
+MOST_MADE = 1 << 20
+# Reasons hold the words of requests as they stand, so a line of one may go on behind a line end.
+LINES = re.compile(rb"(?s)(?:1 (?:pass|fresh|stored|direct|fault)\b.*\n)?compiles [0-9]+\n")
+REFUSALS = {
+    "sccache_wrap": rb"sccache-wrap: (?:scenario cannot be read|memory)\n",
+    "sccache_explain": rb"sccache-explain: (?:scenario cannot be read|memory)\n",
+    "sccache_report": rb"sccache-report: [^\n]+\n",
+}
+
+
+def number(value):
+    """A number of eight bytes."""
+    return value.to_bytes(8, "little")
+
+
+def text(held):
+    """A text behind its length."""
+    return number(len(held)) + held
+
+
+def record(results):
+    """The bytes of an include record."""
+    told = b"\1" + number(len(results))
+    for key, includes in results:
+        told += text(key) + number(len(includes))
+        for path, digest, day in includes:
+            told += text(path) + number(3) + text(digest) + (b"\0" if day is None else b"\1" + number(day)) + b"\0"
+    return told
+
+
+RECORDS = (
+    b"", record([]), record([(b"k", [])]), record([(b"a", [(b"x.h", b"ab", 2**64 - 1)])]),
+    record([(b"%03d" % place, [(b"/w/%d.h" % place, b"0" * 64, None)] * 3) for place in range(40)]),
+)
+# The counts and lengths that the bytes don't tell, and the bytes: version, words, digests, variables and directory.
+KEYS = (
+    b"0 0 0 0 0 0 0\n2 1\n\n8" + text(b"abc") + number(0) + b"\xff",
+    b"0 0 0 0 0 0 0\n\n1\n8" + text(b"") + text(b"FOO=") + number(0) + b"\xff",
+    b"0 2 1 0 0 0 0\n\n\n8" + text(b"") + b"a" * 64 + b"b" * 64 + b"c" * 64 + number(0) + b"\xff",
+)
+
+
+def texts_of(folder, suffix=""):
+    """The rows below a folder of cases, with their names."""
+    return [row for row in sorted(Path(TOP, folder).glob("*/*")) if row.suffix not in (".stdout", ".args") and row.name.endswith(suffix)]
+
+
+def dumped(random, value):
+    """The bytes of a value as JSON."""
+    return json.dumps(value, ensure_ascii=bool(random.randrange(2))).encode(errors="surrogatepass")
+
+
+def made_of_request(request):
+    """How many bytes are made at most of a request: of files of words that name one another, and of files that sources include."""
+    files = request.get("files")
+    if not isinstance(files, dict):
+        return 0
+    texts = {}
+    for name, file in files.items():
+        held = mutations.as_bytes(file)
+        if held is None and isinstance(file, dict):
+            held = mutations.as_bytes(file.get("text"))
+        texts[name.rsplit("/", 1)[-1].encode(errors="surrogatepass")] = held or b""
+    size = {name: len(text) for name, text in texts.items()}
+    # Each round opens the files of words once more; a chain is no longer than there are files.
+    named = {name: {other: text.count(other) for other in texts if other} if b"@" in text else {} for name, text in texts.items()}
+    for _ in texts:
+        size = {name: len(texts[name]) + sum(size[other] * count for other, count in named[name].items()) for name in texts}
+        if max(size.values(), default=0) > MOST_MADE:
+            return MOST_MADE + 1
+    words = request.get("words")
+    count = len(words) + 1 if isinstance(words, list) else 1
+    included = sum(text.count(b"#include") for text in texts.values()) * max(map(len, texts.values()), default=0)
+    return count * sum(size.values()) + included
+
+
+def made_of(scenario):
+    """How many bytes are made at most of a scenario."""
+    requests = scenario.get("requests") if isinstance(scenario, dict) else None
+    if not isinstance(requests, list):
+        return 0
+    return sum(made_of_request(request) for request in requests if isinstance(request, dict))
+
+
+def made_of_lines(text):
+    """How many bytes are made at most of command lines: each opens the files that stand ahead of it, and these one another."""
+    lines = text.split(b"\n")
+    made = 1
+    for line in lines:
+        if line.startswith(b"#file"):
+            made = min(made * (1 + line.count(b"@")), MOST_MADE + 1)
+    return 0 if made == 1 else made * len(text)
+
+
+class Scenarios:
+    """Scenarios, with their files of words, texts with markers and texts on dependencies, changed as text or in one of their members."""
+
+    weighty = ("files", "words", "dep_info", "file_names", "env", "archives", "text", "hex", "basedirs", "zone", "version")
+
+    def __init__(self, program):
+        self.program = program
+        rows = texts_of("crates/sccache_wrap/cases") + texts_of("crates/sccache_explain/cases")
+        rows += sorted(Path(TOP, "examples").glob("*.json"))
+        self.rows = [row.read_bytes() for row in rows]
+
+    def scenario(self, random, row):
+        """A row with some changes, and how many bytes are made of it."""
+        if random.randrange(4) == 0:
+            data = mutations.mutated(random, row)
+        else:
+            try:
+                value = json.loads(row)
+            except ValueError:
+                return row, 0
+            value = mutations.mutated_value(random, value, self.weighty)
+            if isinstance(value, dict) and isinstance(value.get("requests"), list) and random.randrange(2):
+                value["requests"] = value["requests"] * 2
+            data = dumped(random, value)
+        try:
+            return data, made_of(json.loads(data))
+        except (ValueError, RecursionError):
+            return data, 0
+
+    def make(self, random):
+        """The bytes of an input, and their size with what is made of them."""
+        while True:
+            data, made = self.scenario(random, random.choice(self.rows))
+            if made <= MOST_MADE:
+                return [], data, len(data) + made
+
+    def fault(self, ended):
+        """What is wrong with how it ended, or nothing."""
+        if ended.status == 0:
+            return None if LINES.fullmatch(ended.output) else "prints other lines"
+        if ended.status == 2 and re.fullmatch(REFUSALS[self.program], ended.errors) and not ended.output:
+            return None
+        return f"ends with {ended.status}"
+
+
+class Databases:
+    """Recorded builds, and command lines with the files that they name."""
+
+    program = "sccache_report"
+
+    def __init__(self):
+        self.rows = []
+        for row in texts_of("crates/sccache_report/cases"):
+            words = []
+            if row.suffix != ".json":
+                names = row.name.split(".")
+                words = ["--lines", names[1]] + [f"--{name}" for name in names[2:]]
+            self.rows.append((words, row.read_bytes()))
+
+    def build(self, random, row):
+        """A recorded build with some changes."""
+        if random.randrange(3):
+            try:
+                return dumped(random, mutations.mutated_value(random, json.loads(row), ("command", "arguments", "directory", "file")))
+            except ValueError:
+                pass
+        return mutations.mutated(random, row)
+
+    def make(self, random):
+        """The arguments and bytes of an input, and their size with what is made of them."""
+        while True:
+            words, row = random.choice(self.rows)
+            if not words:
+                row = self.build(random, row)
+                return words, row, len(row)
+            row = mutations.mutated(random, row)
+            made = made_of_lines(row)
+            if made <= MOST_MADE:
+                return words, row, len(row) + made
+
+    def fault(self, ended):
+        """What is wrong with how it ended, or nothing."""
+        if ended.status == 0:
+            return None
+        if ended.status == 2 and re.fullmatch(REFUSALS[self.program], ended.errors):
+            return None
+        return f"ends with {ended.status}"
+
+
+class Bytes:
+    """The bytes of include records, or what is hashed of requests to rustc behind three lines with its shape."""
+
+    program = "hostile_runs"
+    said = re.compile(rb"(?:a record of [0-9]+ files|the parts of a request|no parts|refused: [^\n]+)\n")
+
+    def __init__(self, word):
+        self.word, self.rows = word, RECORDS if word == "record" else KEYS
+
+    def make(self, random):
+        """The arguments and bytes of an input, and their size."""
+        data = mutations.mutated(random, random.choice(self.rows))
+        return [self.word], data, len(data)
+
+    def fault(self, ended):
+        """What is wrong with how it ended, or nothing."""
+        if ended.status == 0:
+            return None if self.said.fullmatch(ended.output) else "prints other lines"
+        return f"ends with {ended.status}"
+
+
+class Kept:
+    """What gulmaat keeps, each file changed with and without the digest at its end: a real compiler is called beside it."""
+
+    program = "gulmaat"
+    sealed = ("entries", "records", "fingerprints")
+
+    def __init__(self, folder, host):
+        self.folder, self.host = Path(folder), host
+        self.work, self.cache, self.whole = self.folder / "work", self.folder / "cache", self.folder / "whole"
+        self.variables = {"PATH": "/usr/bin:/bin", "GULMAAT_DIR": str(self.cache), "HOME": str(self.folder)}
+        self.work.mkdir(parents=True)
+        (self.work / "h.h").write_text("int y;\n")
+        (self.work / "foo.c").write_text('#include "h.h"\nint x;\n')
+        for _ in range(2):
+            self.call("gcc", "-c", "foo.c", "-o", "foo.o")
+            self.call("gcc", "-MD", "-c", "foo.c", "-o", "dep.o")
+        shutil.copytree(self.cache, self.whole)
+        self.files = [file.relative_to(self.whole) for file in sorted(self.whole.rglob("*")) if file.is_file()]
+        if not any(file.parts[0] == "entries" for file in self.files):
+            raise SystemExit("bin/hostile: gulmaat keeps nothing here")
+
+    def call(self, *words):
+        """Calls the host."""
+        return running.run([str(self.host), *words], b"", self.work, self.variables)
+
+    def make(self, random):
+        """Changes one file of what is kept, and chooses a call."""
+        shutil.rmtree(self.cache)
+        shutil.copytree(self.whole, self.cache)
+        file = random.choice(self.files)
+        data = (self.whole / file).read_bytes()
+        if file.parts[0] in self.sealed and random.randrange(4):
+            data = mutations.mutated(random, data[:-32])
+            data += hashlib.sha256(data).digest()
+        else:
+            data = mutations.mutated(random, data)
+        (self.cache / file).write_bytes(data)
+        name = random.choice(("foo.o", "dep.o", "new.o"))
+        words = ["gcc", *(["-MD"] if name == "dep.o" else []), "-c", "foo.c", "-o", name]
+        calls = ([str(self.host), *words], [str(self.host), "--why", *words], [str(self.host), "--show-stats"], [str(self.host), "--cleanup"])
+        return random.choice(calls[:1] * 4 + calls), str(file).encode() + b"\0" + data, 1 << 20
+
+    def fault(self, ended):
+        """What is wrong with how it ended, or nothing."""
+        return None if ended.status in (0, 1, 2) else f"ends with {ended.status}"

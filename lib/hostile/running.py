@@ -1,0 +1,55 @@
+"""Runs a program over bytes, and says how it ended, in what time and with how much memory."""
+
+import math
+import os
+import resource
+import subprocess
+import tempfile
+
+# What a run may take: so many seconds and so many more for each byte and its logarithm, and so many bytes and so many more for each byte.
+# The bytes are those of its input and of what its definitions make of that.
+SECONDS, SECONDS_EACH = 1.0, 2e-6
+ROOM, ROOM_EACH = 64 << 20, 400
+# Beyond this no run goes.
+MOST_SECONDS, MOST_ROOM = 60, 4 << 30
+
+
+class Ended:
+    """How a run ended."""
+
+    def __init__(self, status, output, errors, seconds, room):
+        self.status, self.output, self.errors, self.seconds, self.room = status, output, errors, seconds, room
+
+
+def limit():
+    """Bounds a process that has just begun."""
+    resource.setrlimit(resource.RLIMIT_CPU, (MOST_SECONDS, MOST_SECONDS))
+    resource.setrlimit(resource.RLIMIT_AS, (MOST_ROOM, MOST_ROOM))
+    resource.setrlimit(resource.RLIMIT_CORE, (0, 0))
+
+
+def run(words, data, folder=None, variables=None):
+    """Runs the command over these bytes."""
+    with tempfile.TemporaryFile() as given, tempfile.TemporaryFile() as output, tempfile.TemporaryFile() as errors:
+        given.write(data)
+        given.seek(0)
+        process = subprocess.Popen(
+            words, stdin=given, stdout=output, stderr=errors, cwd=folder, env=variables, preexec_fn=limit
+        )
+        _, status, used = os.wait4(process.pid, 0)
+        process.returncode = os.waitstatus_to_exitcode(status)
+        output.seek(0)
+        errors.seek(0)
+        seconds = used.ru_utime + used.ru_stime
+        return Ended(process.returncode, output.read(), errors.read(), seconds, used.ru_maxrss << 10)
+
+
+def excess(ended, size):
+    """What is more than it may be for an input of that size, or nothing."""
+    seconds = SECONDS + SECONDS_EACH * size * math.log2(size + 2)
+    room = ROOM + ROOM_EACH * size
+    if ended.seconds > seconds:
+        return f"took {ended.seconds:.2f} s for {size} bytes, more than {seconds:.2f}"
+    if ended.room > room:
+        return f"took {ended.room >> 20} MB for {size} bytes, more than {room >> 20}"
+    return None

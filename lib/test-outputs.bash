@@ -1,0 +1,58 @@
+# shellcheck shell=bash disable=SC2086,SC2154
+# What was made, and of what: parts of bin/test-builds, whose host, work and functions it uses.
+
+outputs() {
+    local cc=$1 dir=$work/outputs-$1 turn number
+    mkdir -p "$dir/fake"
+    cd "$dir" || return
+    "$host" --clear
+    # Two calls at once that write one file: each object is kept under its own key.
+    for turn in $(seq 1 15); do
+        for number in 1 2; do printf 'int it_%s_%s = %s;\n' $turn $number $number >it-$number.c; done
+        for number in 1 2; do "$host" $cc -c it-$number.c -o it.o & done
+        wait
+        for number in 1 2; do
+            $cc -c it-$number.c -o plain.o
+            "$host" $cc -c it-$number.c -o it.o
+            is "$cc: at once, turn $turn, $number" cmp -s plain.o it.o
+        done
+    done
+    # A compiler that changes a source before it compiles, and puts it back: what is made isn't kept.
+    printf 'case " $* " in *" -E "*) exec %s "$@" ;; esac\ncp changed.c own.c\n%s "$@"\nstatus=$?\ncp first.c own.c\nexit $status\n' \
+        "$(command -v $cc)" "$(command -v $cc)" | stand_in "fake/$cc"
+    printf 'int own = 1;\n' >first.c
+    printf 'int own = 2;\n' >changed.c
+    cp first.c own.c
+    settle
+    "$host" "$dir/fake/$cc" -c own.c -o own.o
+    printf 'exec %s "$@"\n' "$(command -v $cc)" | stand_in "fake/$cc"
+    $cc -c own.c -o plain.o
+    "$host" "$dir/fake/$cc" -c own.c -o own.o
+    is "$cc: a source that is changed while it is compiled" cmp -s plain.o own.o
+    # A compiler that makes nothing, beside an old object: that isn't kept.
+    printf 'case " $* " in *" -E "* | *" -print"* | *" -v "*) exec %s "$@" ;; esac\nexit 0\n' "$(command -v $cc)" | stand_in "fake/$cc"
+    printf 'int nothing = 3;\n' >nothing.c
+    printf 'an old object' >nothing.o
+    settle
+    mark
+    "$host" "$dir/fake/$cc" -c nothing.c -o nothing.o
+    "$host" "$dir/fake/$cc" -c nothing.c -o nothing.o
+    is "$cc: nothing was made" since 0 0
+    is "$cc: the old object stays" [ "$(cat nothing.o)" = "an old object" ]
+    # An input that isn't preprocessed, with a word for a dependency file, is kept.
+    printf '\t.globl it\nit:\n\tret\n' >asm.s
+    settle
+    mark
+    for turn in first second; do
+        rm -f asm.o asm.d
+        $cc -MD -Wno-unused-command-line-argument -c asm.s -o asm.o 2>plain.err
+        mv asm.o plain.o
+        rm -f asm.d
+        "$host" $cc -MD -Wno-unused-command-line-argument -c asm.s -o asm.o 2>ours.err
+        is "$cc: assembler with -MD, $turn: object" cmp -s plain.o asm.o
+        is "$cc: assembler with -MD, $turn: messages" cmp -s plain.err ours.err
+        is "$cc: assembler with -MD, $turn: no dependency file" [ ! -e asm.d ]
+    done
+    is "$cc: assembler with -MD: kept" since 1 1
+    cd "$work" || return
+}

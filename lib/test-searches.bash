@@ -1,0 +1,200 @@
+# shellcheck shell=bash disable=SC2086,SC2154
+# Files that would be found elsewhere now: parts of bin/test-builds, whose host, work and functions it uses.
+
+# One call by gulmaat and one by the compiler end the same, print the same, and write the same object and dependency file.
+search_call() {
+    local name=$1 status
+    shift
+    rm -f it.o it.d
+    "$@" -MD -MF it.d -c it.c -o it.o >plain.out 2>plain.err
+    status=$?
+    rm -f plain.o plain.d
+    [ ! -e it.o ] || mv it.o plain.o
+    [ ! -e it.d ] || mv it.d plain.d
+    "$host" "$@" -MD -MF it.d -c it.c -o it.o >ours.out 2>ours.err
+    is "$name: status" [ $? = $status ]
+    is "$name: output" cmp -s plain.out ours.out
+    is "$name: messages" cmp -s plain.err ours.err
+    [ $status != 0 ] || is "$name: object" cmp -s plain.o it.o
+    [ $status != 0 ] || is "$name: dependency file" cmp -s plain.d it.d
+}
+# Calls until one is answered by a record, then makes the change, and back: each call is as by the compiler alone. So it is where the first
+# call comes behind the change, too. In the end it is answered by a record again.
+search_case() {
+    local name=$1 change=$2 back=$3 turn
+    shift 3
+    "$host" --clear
+    for turn in first second third; do
+        [ $turn != third ] || mark
+        search_call "$name, $turn" "$@"
+        settle
+    done
+    is "$name: a direct hit" since 0 0 1
+    for turn in change back change back; do
+        eval "${!turn}"
+        settle
+        search_call "$name, $turn" "$@"
+        search_call "$name, $turn again" "$@"
+    done
+    mark
+    search_call "$name, in the end" "$@"
+    is "$name: a direct hit in the end" since 0 0 1
+}
+# There is no record for such a source, and what is made is right.
+search_none() {
+    local name=$1 turn
+    shift
+    "$host" --clear
+    for turn in first second third; do
+        [ $turn != third ] || mark
+        search_call "$name, $turn" "$@"
+        settle
+    done
+    is "$name: a hit by text" since 1 0 0
+}
+
+# A tree of folders for each kind, in which the last one has the file.
+search_tree() {
+    local folder
+    rm -rf early late quoted system after beside one two it.c
+    mkdir -p early late quoted system after beside one two
+    for folder in late one; do printf '#define VALUE 1\n' >$folder/value.h; done
+    printf '#define VALUE 2\n' >two/value.h
+    printf '#include "value.h"\n#include <stddef.h>\nint value = VALUE;\n' >it.c
+    settle
+}
+
+searches() {
+    local cc=$1 dir=$work/searches-$1 new='printf "#define VALUE 7\n" >'
+    mkdir -p "$dir"
+    cd "$dir" || return
+    search_tree
+    # A new file ahead of the one that was found, in each kind of folder.
+    search_case "$cc: ahead by -I" "$new early/value.h" "rm early/value.h" $cc -Iearly -Ilate
+    search_case "$cc: ahead by -iquote" "$new quoted/value.h" "rm quoted/value.h" $cc -iquote quoted -Ilate
+    search_case "$cc: ahead by -isystem" "$new early/value.h" "rm early/value.h" $cc -isystem early -isystem late
+    search_case "$cc: ahead by -idirafter" "$new early/value.h" "rm early/value.h" $cc -idirafter early -idirafter late
+    CPATH=early:late search_case "$cc: ahead by CPATH" "$new early/value.h" "rm early/value.h" $cc
+    search_case "$cc: beside the source" "$new value.h" "rm value.h" $cc -Ilate
+    search_case "$cc: in a folder of its own" "mkdir -p early/sub; $new early/sub/value.h" "rm -r early/sub" $cc -Iearly/sub -Ilate
+    search_case "$cc: a folder that appears" "mkdir later; $new later/value.h" "rm -r later" $cc -Ilater -Ilate
+    search_case "$cc: a file that goes" "mv one/value.h gone.h" "mv gone.h one/value.h" $cc -Ione -Itwo
+    ln -s one turned
+    search_case "$cc: a link that is turned" "ln -sfn two turned" "ln -sfn one turned" $cc -Iturned
+    ln -s ../nowhere.h early/value.h
+    search_none "$cc: a link that leads nowhere" $cc -Iearly -Ilate
+    printf '#define VALUE 9\n' >nowhere.h
+    search_call "$cc: it leads somewhere now" $cc -Iearly -Ilate
+    rm nowhere.h early/value.h
+    # A header that takes one in: beside it, and behind it.
+    search_tree
+    printf '#include "value.h"\n' >beside/taken.h
+    printf '#include "taken.h"\nint value = VALUE;\n' >it.c
+    settle
+    search_case "$cc: beside a header" "$new beside/value.h" "rm beside/value.h" $cc -Ibeside -Ilate
+    printf '#include_next <value.h>\n' >beside/value.h
+    printf '#include <value.h>\nint value = VALUE;\n' >it.c
+    settle
+    search_case "$cc: the next one" "$new early/value.h" "rm early/value.h" $cc -Ibeside -Iearly -Ilate
+    # A word that takes one in: in the folder of the call first.
+    printf 'int value = VALUE;\n' >it.c
+    settle
+    search_case "$cc: -include" "$new value.h" "rm value.h" $cc -include value.h -Ilate
+    search_case "$cc: -imacros" "$new value.h" "rm value.h" $cc -imacros value.h -Ilate
+    # Files that are asked for and not taken in.
+    printf '#if __has_include("asked.h")\nint value = 1;\n#else\nint value = 2;\n#endif\n' >it.c
+    settle
+    search_case "$cc: one that is asked for" "$new early/asked.h" "rm early/asked.h" $cc -Iearly
+    search_case "$cc: one that is asked for, a link" "$new two/real.h; ln -s ../two/real.h early/asked.h" "rm early/asked.h two/real.h" $cc -Iearly
+    printf '#define HAS(x) __has_include(x)\n#if HAS(<asked.h>)\nint value = 1;\n#else\nint value = 2;\n#endif\n' >it.c
+    settle
+    search_case "$cc: one that a macro asks for" "$new early/asked.h" "rm early/asked.h" $cc -Iearly
+    # What is skipped: a second file that is a link to the first one, or equal to it.
+    printf '#pragma once\nstatic int twice_@;\n' >one/once.h
+    printf '#include "one/once.h"\n#include "two/once.h"\nint value;\n' >it.c
+    sed -i 's/_@//' one/once.h
+    ln -s ../one/once.h two/once.h
+    settle
+    search_none "$cc: a link to a file that is taken in once" $cc
+    rm two/once.h
+    printf '#pragma once\nstatic int other;\n' >two/once.h
+    search_call "$cc: and a file of its own" $cc
+    rm two/once.h
+    search_names "$cc"
+    search_others "$cc"
+    cd "$work" || return
+}
+
+# Names that aren't written, and times that are pasted: there is no record.
+search_names() {
+    local cc=$1
+    printf '#define NAME "late/value.h"\n#include NAME\nint value = VALUE;\n' >it.c
+    settle
+    search_none "$cc: a name that is computed" $cc
+    printf '#define NAME <stdio.h>\n#if __has_include(NAME)\nint value = 1;\n#endif\n' >it.c
+    settle
+    search_none "$cc: a name that is computed, asked for" $cc
+    printf '#define PASTE(a, b) a ## b\nint value = sizeof(PASTE(__DA, TE__));\n' >it.c
+    settle
+    search_none "$cc: a day that is pasted" $cc
+    printf '#ifdef NOW\nint value = 1;\n#endif\n' >it.c
+    settle
+    search_none "$cc: a time in a word" $cc -DNOW=__TIME__
+    [ "$cc" != gcc ] || {
+        printf '#pragma GCC dependency "late/value.h"\nint value;\n' >it.c
+        settle
+        search_none "$cc: a file that is only compared by its time" $cc
+    }
+}
+
+# Precompiled headers, branches, folders in which objects lie, another GCC, and calls at once.
+search_others() {
+    local cc=$1 number
+    search_tree
+    search_call "$cc: before a precompiled header" $cc -Ione
+    search_call "$cc: before a precompiled header, again" $cc -Ione
+    $cc -x c-header one/value.h -o one/value.h.gch
+    search_call "$cc: a precompiled header" $cc -Ione
+    rm one/value.h.gch
+    # Two branches: on one a header is changed and another one is there.
+    search_case "$cc: branches" "printf '#define VALUE 3\n' >late/value.h; printf 'int more;\n' >early/more.h" \
+        "printf '#define VALUE 1\n' >late/value.h; rm early/more.h" $cc -Iearly -Ilate
+    # Objects in a searched folder.
+    search_case "$cc: objects beside headers" "touch early/one.o late/two.o" "rm early/one.o late/two.o" $cc -Iearly -Ilate
+    mark
+    for number in 1 2 3; do
+        touch "late/$number.o"
+        search_call "$cc: an object beside headers, $number" $cc -Iearly -Ilate
+    done
+    is "$cc: objects beside headers: direct hits" since 0 0 3
+    [ "$cc" != clang ] || search_toolchain
+    # Eight at once, and the file appears.
+    "$host" --clear
+    for number in 1 2 3 4 5 6 7 8; do "$host" $cc -Iearly -Ilate -c it.c -o "it-$number.o" & done
+    wait
+    printf '#define VALUE 7\n' >early/value.h
+    for number in 1 2 3 4 5 6 7 8; do "$host" $cc -Iearly -Ilate -c it.c -o "it-$number.o" & done
+    wait
+    $cc -Iearly -Ilate -c it.c -o plain.o
+    for number in 1 2 3 4 5 6 7 8; do is "$cc: eight at once, $number" cmp -s plain.o "it-$number.o"; done
+    rm early/value.h
+}
+
+# Clang takes headers from the newest GCC that it finds.
+search_toolchain() {
+    local version
+    for version in 11 12; do
+        mkdir -p tools/lib/gcc/x86_64-linux-gnu/$version tools/include/c++/$version
+        touch tools/lib/gcc/x86_64-linux-gnu/$version/crtbegin.o
+        printf '#define VALUE %s\n' $version >tools/include/c++/$version/newest.h
+    done
+    mv tools/lib/gcc/x86_64-linux-gnu/12 twelve
+    printf '#include <newest.h>\nint value = VALUE;\n' >it.c
+    settle
+    search_case "clang: another GCC" "mv twelve tools/lib/gcc/x86_64-linux-gnu/12" "mv tools/lib/gcc/x86_64-linux-gnu/12 twelve" \
+        clang --gcc-toolchain="$PWD/tools" -x c++
+    search_tree
+}
+
+# Trees of headers that are changed at random.
+random_trees() { python3 "$top/lib/searches/random_trees.py" "$host" "$1" 300; }

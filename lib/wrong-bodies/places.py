@@ -1,0 +1,86 @@
+"""Where a source's functions stand, and what they are called on the command line of `rt check --only`."""
+
+import re
+
+FUNCTION = re.compile(r"\bfn\s+(\w+)")
+CLAUSE = re.compile(r"\b(ensures|requires)\b[^{}]*$")
+IMPL = re.compile(r"^(?:unsafe )?impl\b", re.M)
+# What braces and slashes don't count in, and the braces.
+TOKEN = re.compile(
+    r"""//[^\n]*|"(?:\\.|[^"\\])*"|\bb?r(?P<marks>#*)".*?"(?P=marks)|'(?:\\u\{\w+\}|\\x\w\w|\\.|[^'\\\n])'|[{}]""",
+    re.S,
+)
+
+
+def group_end(text, at):
+    """Where the group of braces that begins there ends."""
+    depth = 0
+    for found in TOKEN.finditer(text, at):
+        depth += {"{": 1, "}": -1}.get(found[0], 0)
+        if not depth:
+            return found.end()
+    return len(text)
+
+
+def blanked(text):
+    """A source with blanks in the place of its comments."""
+    return TOKEN.sub(lambda found: " " * len(found[0]) if found[0].startswith("//") else found[0], text)
+
+
+def functions(text):
+    """Of the functions of a source that aren't part of another: the name, where the function begins, where its head ends, and where it ends.
+    The source has no comments."""
+    last = 0
+    for found in FUNCTION.finditer(text):
+        if found.start() < last:
+            continue
+        begin = end = found.end()
+        while end < len(text) and text[end] != ";":
+            if text[end] == "{":
+                close = group_end(text, end)
+                if not CLAUSE.search(text[begin:end]):
+                    break
+                begin = end = close
+                continue
+            end += 1
+        last = group_end(text, end) if text[end : end + 1] == "{" else end
+        yield found[1], found.start(), end, last
+
+
+def without_brackets(text):
+    """A text without what stands in angle brackets."""
+    while True:
+        less = re.sub(r"<[^<>]*>", "", text.replace("->", ""))
+        if less == text:
+            return text
+        text = less
+
+
+def owner(text, at):
+    """The type to which a function there belongs, with its trait behind it as rattle names the two; an empty text of one on its own."""
+    for found in IMPL.finditer(text):
+        begin = text.find("{", found.end())
+        if begin < at < group_end(text, begin):
+            head = without_brackets(text[found.end() : begin]).partition(" where ")[0]
+            trait, _, name = head.rpartition(" for ")
+            words = [part.strip().rpartition("::")[2] for part in (name, trait)]
+            return "".join(word[:1].upper() + word[1:] for word in words)
+    return ""
+
+
+def module(path):
+    """The module that a file of src/ is; an empty text of the root."""
+    parts = path.removeprefix("src/").removesuffix(".rt").split("/")
+    parts = parts[:-1] if parts[-1] in ("lib", "main", "mod") else parts
+    return "::".join(parts)
+
+
+def holder(path, text, begin, end):
+    """The function of a file that holds this part of it, as `--only` takes it; the module where there is none, or its type has no plain name."""
+    text = blanked(text)
+    for name, start, _, last in functions(text):
+        if start < end and begin < last:
+            type = owner(text, start)
+            if not type or type.isidentifier():
+                return "::".join(filter(None, [module(path), type, name]))
+    return module(path)
