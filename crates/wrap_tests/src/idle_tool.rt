@@ -6,6 +6,9 @@ ghost use Rattle.ckeys_records.specs.Meaning.{made_of};
 
 use crate::calls::served;
 use crate::support::{request, session, told};
+use ckeys::{EntryKey, PreprocessorCacheEntry};
+use ckeys_base::hash_state::HashState;
+use ckeys_base::store::Store;
 use ckeys_records::preprocessor::{Preprocessor, Printed, Ticks, ToolFail};
 use cmdlines_base::command::{ArtifactDescriptor, SingleCompileCommand};
 use cmdlines_tables::compiler::CCompilerKind;
@@ -18,6 +21,9 @@ use std::alloc::{AllocError, Global};
 use std::test::Fail;
 use test_kit::rows::files_of;
 use test_kit::texts::is_that;
+use wrap::session::Session;
+use wrap_base::call::Call;
+use wrap_base::store_key::{Pairs, StoreKey};
 use wrap_base::tool::{Compiled, Tool};
 
 /// For tests: each compile ends with status 0 and makes the first output, which is empty, or none of them; nothing else can be asked.
@@ -152,21 +158,62 @@ impl Tool for IdleTool {
     }
 }
 
-/// What the request of this line is answered over the tool.
-fn told_over_nothing(alloc: Global, line: &str) -> Result<String, Fail> {
-    let mut session = session(alloc, false)?;
-    let mut files: MemoryFiles = files_of(alloc, &[("/w/y.i", b"int y;\n".as_slice())])?;
-    let mut tool = IdleTool::new(false);
-    let request = request(alloc, line)?;
-    let answer = served(&mut session, &request, &mut files, &mut tool);
-    if (session.objects().len(), tool.ticks.compile) != (0, 1) {
-        return Err("something is held, or another number of compiles".into());
+/// The request of a file that is preprocessed, for such a tool.
+fn idle_call(alloc: Global, makes: bool) -> Result<Call<MemoryFiles, IdleTool>, AllocError> {
+    let files = files_of(alloc, &[("/w/y.i", b"int y;\n".as_slice())])?;
+    Ok(Call {
+        request: request(alloc, "-c y.i")?,
+        files,
+        tool: IdleTool::new(makes),
+    })
+}
+
+/// It so many times. Who holds a call by itself is proved slowly, and who holds a list of them is not.
+pub(crate) fn idle_calls(
+    alloc: Global,
+    count: usize,
+    makes: bool,
+) -> Result<Vec<Call<MemoryFiles, IdleTool>>, Fail> {
+    let mut calls = Vec::new(alloc);
+    for _ in 0..count {
+        calls
+            .push(idle_call(alloc, makes)?)
+            .map_err(AllocError::from)?;
+    }
+    Ok(calls)
+}
+
+/// What a session answers to a call. Nothing may be put, and one compile run.
+fn told_without_puts<
+    H: HashState,
+    E: Store<EntryKey, PreprocessorCacheEntry> + Drop,
+    O: Store<StoreKey, Pairs> + Drop,
+    F: Files,
+    T: Tool,
+>(alloc: Global, session: &mut Session<H, E, O>, call: &mut Call<F, T>) -> Result<String, Fail> {
+    let answer = served(session, &call.request, &mut call.files, &mut call.tool);
+    if (session.objects().puts(), call.tool.ticks().compile) != (0, 1) {
+        return Err("something is put, or another number of compiles".into());
     }
     Ok(told(alloc, &answer)?)
 }
 
+/// Likewise of a session of its own, of each call.
+fn told_over_nothing(
+    alloc: Global,
+    calls: &mut [Call<MemoryFiles, IdleTool>],
+) -> Result<String, Fail> {
+    let mut session = session(alloc, false)?;
+    let mut text = String::new(alloc);
+    for call in calls.iter_mut() {
+        write!(text, "{};", told_without_puts(alloc, &mut session, call)?)?;
+    }
+    Ok(text)
+}
+
 #[test]
 fn an_object_that_is_not_made_is_a_fault(rt: HostRuntime) -> Result<(), Fail> {
-    let told = told_over_nothing(rt.alloc(), "-c y.i")?;
-    is_that(told.as_str(), "fault missing obj", "-c y.i")
+    let mut calls = idle_calls(rt.alloc(), 1, false)?;
+    let told = told_over_nothing(rt.alloc(), calls.as_mut_slice())?;
+    is_that(told.as_str(), "fault missing obj;", "-c y.i")
 }

@@ -2,6 +2,8 @@
 #![tactic(auto)]
 
 #[cfg(test)]
+mod callers;
+#[cfg(test)]
 mod calls;
 #[cfg(test)]
 mod devices;
@@ -25,3 +27,5 @@ mod sessions;
 mod support;
 #[cfg(test)]
 mod uses;
+#[cfg(test)]
+mod values;

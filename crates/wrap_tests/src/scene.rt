@@ -1,5 +1,6 @@
 //! A request that is served again and again, on files and by a tool whose devices may fail at one call.
 
+use crate::callers::{missed_again, stepped};
 use crate::calls::served;
 use crate::fail_tool::FailTool;
 use crate::support::{MapSession, request, script_tool, session, told};
@@ -112,6 +113,28 @@ impl Scene {
             &mut call.tool,
         );
         told(self.alloc, &answer)
+    }
+
+    /// What comes of the request as a step of a build.
+    pub(crate) fn step(&mut self) -> &'static str {
+        let call = &mut self.call;
+        stepped(
+            &mut self.session,
+            &call.request,
+            &mut call.files,
+            &mut call.tool,
+        )
+    }
+
+    /// Whether the request differs from itself.
+    pub(crate) fn miss(&mut self) -> &'static str {
+        let call = &mut self.call;
+        missed_again(
+            &self.session,
+            &call.request,
+            &mut call.files,
+            &mut call.tool,
+        )
     }
 
     /// How many include records and how many requests' outputs are held.

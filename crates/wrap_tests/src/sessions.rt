@@ -20,14 +20,16 @@ use wrap::laws::{
 use wrap_base::answer::Answer;
 use wrap_base::call::Call;
 
-/// What the request is answered, twice, which steps ran for that, and how many requests' outputs are held then.
+/// What the request is answered, twice, which steps ran for that, and how many requests' outputs are held then; what comes of it as a
+/// step of a build, and whether it differs from itself.
 fn told_twice(alloc: Global, scene: &mut Scene) -> Result<String, Fail> {
     let first = scene.serve()?;
     let second = scene.serve()?;
     let (ticks, held) = (scene.ticks(), scene.held().1);
     let (preprocess, compile) = (ticks.preprocess, ticks.compile);
     let work = format!(in alloc; "preprocess {preprocess}, compile {compile}, held {held}")?;
-    Ok(format!(in alloc; "{first};{second};{work}")?)
+    let (step, miss) = (scene.step(), scene.miss());
+    Ok(format!(in alloc; "{first};{second};{work};{step}, {miss}")?)
 }
 
 /// Likewise for the request of this line.
@@ -54,15 +56,19 @@ fn one_request_twice(rt: HostRuntime) -> Result<(), Fail> {
     let rows = [
         (
             "-c y.i",
-            "Fresh obj y.o int y;\n;Stored obj y.o int y;\n;preprocess 0, compile 1, held 1",
+            "Fresh obj y.o int y;\n;Stored obj y.o int y;\n;preprocess 0, compile 1, held 1;kept, nothing differs",
         ),
         (
             "-c foo.c",
-            "Fresh obj foo.o # 1 \"/w/foo.c\"\nint x;\n;Stored obj foo.o # 1 \"/w/foo.c\"\nint x;\n;preprocess 2, compile 1, held 1",
+            "Fresh obj foo.o # 1 \"/w/foo.c\"\nint x;\n;Stored obj foo.o # 1 \"/w/foo.c\"\nint x;\n;preprocess 2, compile 1, held 1;kept, nothing differs",
         ),
         (
             "-c bad.c",
-            "fault compile 1;fault compile 1;preprocess 2, compile 2, held 0",
+            "fault compile 1;fault compile 1;preprocess 2, compile 2, held 0;a fault, nothing differs",
+        ),
+        (
+            "-E y.i",
+            "pass -E;pass -E;preprocess 0, compile 0, held 0;not cached, no fingerprint",
         ),
     ];
     for (line, expected) in rows {
@@ -94,7 +100,20 @@ fn push_compiles(
     Ok(())
 }
 
-/// What the calls of these lines tell, how often each ran the compiler, and how much is held then.
+/// What these calls tell, and how often each ran the compiler.
+fn told_of_all(
+    alloc: Global,
+    session: &mut MapSession,
+    calls: &mut [Call<MemoryFiles, ScriptTool>],
+) -> Result<String, Fail> {
+    let answers = all_served(session, calls)?;
+    let mut text = String::new(alloc);
+    push_told(alloc, &mut text, answers.as_slice())?;
+    push_compiles(&mut text, calls)?;
+    Ok(text)
+}
+
+/// Likewise for the calls of these lines.
 fn told_in_order(alloc: Global, session: &mut MapSession, lines: &[&str]) -> Result<String, Fail> {
     let mut calls = Vec::new(alloc);
     for line in lines {
@@ -103,11 +122,7 @@ fn told_in_order(alloc: Global, session: &mut MapSession, lines: &[&str]) -> Res
         let call = call(alloc, Statuses::new(print, compile), line)?;
         calls.push(call).map_err(AllocError::from)?;
     }
-    let answers = all_served(session, calls.as_mut_slice())?;
-    let mut text = String::new(alloc);
-    push_told(alloc, &mut text, answers.as_slice())?;
-    push_compiles(&mut text, calls.as_slice())?;
-    Ok(text)
+    told_of_all(alloc, session, calls.as_mut_slice())
 }
 
 /// Asserts what the calls of these lines tell, and how many include records and requests' outputs are held then.
