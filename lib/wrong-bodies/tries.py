@@ -223,10 +223,21 @@ def work(crates_left, below, all_crates, results):
                 sums.note(crate, sum)
 
 
+def with_below(crates, below):
+    """These crates and all that they stand on, in the order of crates.txt."""
+    found, left = set(), list(crates)
+    while left:
+        crate = left.pop()
+        if crate in below and crate not in found:
+            found.add(crate)
+            left += below[crate]
+    return [it for it in below if it in found]
+
+
 def main(jobs, *crates):
     below = sums.crates_below()
     crates = [it for it in below if (it in crates or not crates) and sums.files(it, "wrong-bodies/*.edit", "must-fail/*.edit")]
-    copied = [it for it in below if any(it == crate or it in below[crate] for crate in crates)]
+    copied = with_below(crates, below)
     left, results = queue.Queue(), {}
     for crate in crates:
         left.put(crate)
