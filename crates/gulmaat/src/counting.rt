@@ -1,6 +1,7 @@
 //! What a call came to is counted, and told in a line of the log where one is kept.
 
-use crate::deciding::End;
+use crate::deciding::{End, What};
+use known_calls::audits::Audit;
 use settings::key::Key;
 use statistics::calls::counters_of;
 use statistics::file::count;
@@ -26,12 +27,39 @@ fn counter_of(line: &CommandLine, how: How) -> &'static str {
 
 /// Why a call was passed through, or has no record; nothing where neither is so.
 fn reason_of(alloc: Global, end: &Result<End, Stop>) -> Result<String, Stop> {
-    match end {
-        Ok(End::Done(_, Some(why))) => Ok(format!(in alloc; "no record: {why}")?),
-        Ok(End::Done(_, None)) => Ok(String::new(alloc)),
-        Ok(End::Pass(reason)) => Ok(String::from_str(alloc, reason.as_str())?),
-        Err(stop) => Ok(format!(in alloc; "stop: {stop}")?),
+    let end = match end {
+        Ok(end) => end,
+        Err(stop) => return Ok(format!(in alloc; "stop: {stop}")?),
+    };
+    match &end.what {
+        What::Done(_, Some(why)) => Ok(format!(in alloc; "no record: {why}")?),
+        What::Done(_, None) => Ok(String::new(alloc)),
+        What::Pass(reason) => Ok(String::from_str(alloc, reason.as_str())?),
     }
+}
+
+/// Whether what was kept differs from what the compiler made in its place.
+fn differs(end: &Result<End, Stop>) -> bool {
+    match end {
+        Ok(end) => matches!(end.audit, Audit::Differs(_)),
+        Err(_) => false,
+    }
+}
+
+/// The counters of a call whose outputs are there.
+fn counters_done(
+    alloc: Global,
+    line: &CommandLine,
+    how: How,
+    is_unwatched: bool,
+    reason: &str,
+) -> Result<Vec<String>, Stop> {
+    let mut counters = Vec::new(alloc);
+    counters.push(String::from_str(alloc, counter_of(line, how))?)?;
+    if is_unwatched {
+        counters.push(name_of(alloc, "", reason)?)?;
+    }
+    Ok(counters)
 }
 
 /// The counters of a call.
@@ -41,13 +69,17 @@ fn counters(
     end: &Result<End, Stop>,
     reason: &str,
 ) -> Result<Vec<String>, Stop> {
-    let Ok(End::Done(how, unwatched)) = end else {
-        return Ok(counters_of(alloc, reason, line.words.as_slice())?);
+    let mut counters = match end {
+        Ok(
+            End {
+                what: What::Done(how, unwatched),
+                ..
+            },
+        ) => counters_done(alloc, line, *how, unwatched.is_some(), reason)?,
+        Ok(_) | Err(_) => counters_of(alloc, reason, line.words.as_slice())?,
     };
-    let mut counters = Vec::new(alloc);
-    counters.push(String::from_str(alloc, counter_of(line, *how))?)?;
-    if unwatched.is_some() {
-        counters.push(name_of(alloc, "", reason)?)?;
+    if differs(end) {
+        counters.push(String::from_str(alloc, "error_audit")?)?;
     }
     if line.folder.has_made_room.get() {
         counters.push(String::from_str(alloc, "cleanups_performed")?)?;

@@ -2,20 +2,18 @@
 
 ghost use Rattle.std.specs.Prelude.{◌≡◌, ◌≤◌};
 
+use crate::finishing::{Given, finish};
 use call_requests::call::{Call, call_of};
 use call_requests::passing::reason_against;
 use explained_misses::why::note_fingerprint;
 use fingerprints::fingerprint::request_fingerprint;
 use kept_entries::entry::KeptMessages;
-use kept_folder::folder::Kind;
-use kept_folder::making_room::make_room;
 use kept_pairs::entries::Kept;
 use kept_pairs::record_files::name_of_record;
-use known_calls::kept::{Hint, found, hint_at, hint_name, keep, kept_under, note_hint, renew};
+use known_calls::audits::Audit;
+use known_calls::kept::{Hint, found, hint_at, hint_name, kept_under};
 use known_calls::known::Known;
-use known_calls::outputs::lock_paths;
 use known_compilers::compilers::kind_of;
-use loaded_files::outputs::{print_again, write_dependencies, write_outputs};
 use os_files::listed::Listed;
 use os_files::os_bytes::OsBytes;
 use replay::kept_session::{SessionAnswer, answered, session_over};
@@ -27,21 +25,36 @@ use std::fs::File;
 use std::io::Read;
 use std::rt::Files;
 use wrap::{
-    Answer, CCompilerKind, Config, ConfigError, EntryKey, Fault, How, Output,
-    PreprocessorCacheEntry, Request, Step, StoreKey, Zone,
+    Answer, CCompilerKind, Config, ConfigError, EntryKey, Fault, How, Request, Step, StoreKey, Zone,
 };
 use wrapper_host::command_line::CommandLine;
-use wrapper_host::fields::into_text;
 use wrapper_host::host::Host;
 use wrapper_host::stop::Stop;
 
-/// What the host is to do at the end.
+/// What a call came to.
 #[derive(Drop)]
-pub enum End {
+pub enum What {
     /// The outputs are there: kept ones, or those that the compiler made; and why no record says of what the text is made, if so.
     Done(How, Option<Unwatched>),
     /// The compiler is to run, or its status is the answer where it ran; and why.
     Pass(String),
+}
+
+/// What a call came to, and what comparing showed where it was a hit that was compiled too.
+#[derive(Drop)]
+pub struct End {
+    pub what: What,
+    pub audit: Audit,
+}
+
+impl End {
+    /// A pass for that reason.
+    fn pass(reason: String) -> End {
+        End {
+            what: What::Pass(reason),
+            audit: Audit::None,
+        }
+    }
 }
 
 /// How often a request is tried, each time with more that is known.
@@ -49,158 +62,7 @@ const ATTEMPTS: u32 = 64;
 
 /// A pass for that reason.
 fn pass(alloc: Global, reason: &str) -> Result<End, Stop> {
-    Ok(End::Pass(String::from_str(alloc, reason)?))
-}
-
-/// The paths of outputs.
-fn paths_of(alloc: Global, outputs: &[Output]) -> Result<Listed<OsBytes>, Stop> {
-    let mut paths = Listed::new(alloc);
-    for output in outputs {
-        paths.push(output.path.clone()?)?;
-    }
-    Ok(paths)
-}
-
-/// Puts kept outputs and a dependency file where the request wants them, and has printed again what was printed beside them.
-fn give<R: Files<File = File> + AllocGlobal>(
-    rt: &R,
-    line: &CommandLine,
-    outputs: &[Output],
-    messages: Option<&KeptMessages>,
-    known: &Known,
-) -> Result<(), Stop> {
-    let Some(messages) = messages else {
-        return Err(Stop::Unreadable);
-    };
-    let locks = lock_paths(rt, line, paths_of(rt.alloc(), outputs)?.as_slice())?;
-    write_dependencies(rt, known.dependency_file(), messages)?;
-    write_outputs(rt, outputs)?;
-    drop(locks);
-    print_again(rt, line, messages)
-}
-
-/// What a call was answered with: outputs, where they come from, and what was printed beside kept ones.
-#[derive(Clone, Copy)]
-struct Given<'a> {
-    how: How,
-    outputs: &'a [Output],
-    messages: Option<&'a KeptMessages>,
-}
-
-/// Keeps the record that was put with what to watch of the text, where that can be told, or notes that the one of that name was used, with what
-/// is new of its headers. False where none was kept.
-fn finish_record<R: Files + AllocGlobal>(
-    rt: &R,
-    line: &CommandLine,
-    newest: Option<&(EntryKey, PreprocessorCacheEntry)>,
-    key: &StoreKey,
-    list: &Result<Vec<u8>, Unwatched>,
-    known: &Known,
-) -> Result<bool, Stop> {
-    match (newest, list) {
-        (None, _) => {
-            if known.keep_noted(rt, line)? {
-                return Ok(true);
-            }
-            let name = known.name_to_note();
-            line.folder.renew(rt, Kind::Records, name, line.moment)?;
-            Ok(false)
-        }
-        (Some(newest), Ok(list)) => {
-            known.keep_record(rt, line, newest, key, list.as_slice())?;
-            Ok(true)
-        }
-        (Some(_), Err(_)) => Ok(false),
-    }
-}
-
-/// Keeps the record and the hint of a call, and sees to it that the limit holds, once for all that the call put.
-fn note_call<R: Files + AllocGlobal>(
-    rt: &R,
-    line: &CommandLine,
-    hint: &str,
-    answered: &SessionAnswer<Sha256>,
-    key: &StoreKey,
-    fresh: bool,
-    list: &Result<Vec<u8>, Unwatched>,
-    known: &Known,
-) -> Result<(), Stop> {
-    let digest_name = into_text(key.digest.clone()?)?;
-    let name = known.name_to_note();
-    let mut names = Vec::new(rt.alloc());
-    if fresh {
-        names.push(digest_name.as_str())?;
-        names.push(hint)?;
-    }
-    if !name.is_empty() {
-        let newest = answered.session.entries().newest();
-        if let Ok(true) = finish_record(rt, line, newest, key, list, known) {
-            names.push(name)?;
-        }
-    }
-    let _ = note_hint(rt, line, hint, &key.digest, name);
-    Ok(make_room(&rt, &line.folder, names.as_slice())?)
-}
-
-/// What to watch of the text, where the session put a record. Where that can't be told it is noted why.
-fn list_to_watch<P: Print + Files + AllocGlobal, I: Read>(
-    rt: &P,
-    line: &CommandLine,
-    host: &mut Host<I>,
-    answered: &SessionAnswer<Sha256>,
-    key: &StoreKey,
-    known: &mut Known,
-) -> Result<Vec<u8>, Unwatched>
-    ensures { host.new.compiled ≡ host.old.compiled }
-{
-    if answered.session.entries().newest().is_none() {
-        return Err(Unwatched::List);
-    }
-    let list = known.list_to_watch(rt, line, host, key);
-    known.unwatched = list.as_ref().err().copied();
-    list
-}
-
-/// Keeps outputs that were made afresh, and gives those that were kept, each with what was printed beside them.
-fn finish<P: Print + Files<File = File> + AllocGlobal, I: Read>(
-    rt: &P,
-    line: &CommandLine,
-    host: &mut Host<I>,
-    hint: &str,
-    answered: &SessionAnswer<Sha256>,
-    given: &Given<'_>,
-    known: &mut Known,
-) -> Result<(), Stop>
-    ensures { host.new.compiled ≡ host.old.compiled }
-{
-    let Some(key) = answered.session.objects().asked() else {
-        return finish_without_key(rt, line, given, known);
-    };
-    // What the compiler prints for this isn't a message of the call.
-    let list = list_to_watch(rt, line, host, answered, key, known);
-    let fresh = given.how == How::Fresh;
-    if fresh {
-        keep(rt, line, key, given.outputs, known.messages(rt, line)?)?;
-    } else {
-        give(rt, line, given.outputs, given.messages, known)?;
-        let _ = renew(rt, line, &key.digest);
-    }
-    // What was made is there, whatever becomes of this.
-    let _ = note_call(rt, line, hint, answered, key, fresh, &list, known);
-    Ok(())
-}
-
-/// Gives outputs of which it isn't known under which key they were kept.
-fn finish_without_key<R: Files<File = File> + AllocGlobal>(
-    rt: &R,
-    line: &CommandLine,
-    given: &Given<'_>,
-    known: &Known,
-) -> Result<(), Stop> {
-    match given.how {
-        How::Fresh => Ok(()),
-        _ => give(rt, line, given.outputs, given.messages, known),
-    }
+    Ok(End::pass(String::from_str(alloc, reason)?))
 }
 
 /// Asks the disk for the key that the store was asked for, once. False where it has nothing.
@@ -355,7 +217,8 @@ fn act_on<P: Print + Files<File = File> + AllocGlobal, I: Read>(
             let how = *how;
             let may_give = how == How::Fresh
                 || (known.may_go_by_record(rt, line, key)?
-                    && known.may_give(rt, line, key, messages)?);
+                    && known.may_give(rt, line, key, messages)?
+                    && !known.is_to_audit(line, hint, how, key, map, messages)?);
             if !may_give {
                 return Ok(None);
             }
@@ -365,15 +228,14 @@ fn act_on<P: Print + Files<File = File> + AllocGlobal, I: Read>(
                 outputs,
                 messages,
             };
-            finish(rt, line, host, hint, answered, &given, known)?;
-            Ok(Some(End::Done(how, known.unwatched)))
+            Ok(Some(finish(rt, line, host, hint, answered, &given, known)?))
         }
-        Ok(Answer::Pass(reason)) => Ok(Some(End::Pass(format!(in alloc; "pass: {reason}")?))),
+        Ok(Answer::Pass(reason)) => Ok(Some(End::pass(format!(in alloc; "pass: {reason}")?))),
         Err(fault) => {
             if find_out(rt, line, host, hint, fault, answered, known)? {
                 return Ok(None);
             }
-            Ok(Some(End::Pass(format!(in alloc; "fault: {fault}")?)))
+            Ok(Some(End::pass(format!(in alloc; "fault: {fault}")?)))
         }
     }
 }
@@ -476,12 +338,29 @@ fn basedirs_of(alloc: Global, line: &CommandLine) -> Result<Listed<OsBytes>, Sto
     Ok(folders)
 }
 
-/// Whether the compiler made the outputs.
+/// Whether the compiler made the outputs, and they were kept.
 fn was_compiled(end: &Result<End, Stop>) -> bool {
     match end {
-        Ok(End::Done(how, _)) => *how == How::Fresh,
-        Ok(End::Pass(_)) | Err(_) => false,
+        Ok(end) => matches!(end.what, What::Done(How::Fresh, _)),
+        Err(_) => false,
     }
+}
+
+/// Ends the comparison of a hit where the compile in its place failed.
+fn end_audit<R: Files<File = File> + AllocGlobal>(
+    rt: &R,
+    line: &CommandLine,
+    known: &Known,
+    end: End,
+) -> Result<End, Stop> {
+    let End { what, audit } = end;
+    let audit = match &what {
+        What::Pass(_) if known.audited.is_some() => {
+            known.differs(rt, line, String::from_str(rt.alloc(), "status")?)?
+        }
+        _ => audit,
+    };
+    Ok(End { what, audit })
 }
 
 /// Keeps of what the key of a request was made, where it was compiled. What it takes is known, so that nothing runs.
@@ -525,7 +404,7 @@ fn ask_and_note<P: Print + Files<File = File> + AllocGlobal, I: Read>(
     let end = ask_until(rt, line, host, request, hint, known);
     // What was made is there, whatever becomes of this.
     let _ = note_made(rt, line, request, &end, known);
-    end
+    end_audit(rt, line, known, end?)
 }
 
 /// Asks the session about a call of a compiler of that kind, of which nothing is known yet.
@@ -586,7 +465,7 @@ pub fn decide<P: Print + Files<File = File> + AllocGlobal, I: Read>(
         return pass(rt.alloc(), "pass: disabled");
     }
     if let Some(reason) = reason_against(rt.alloc(), line)? {
-        return Ok(End::Pass(format!(in rt.alloc(); "pass: {reason}")?));
+        return Ok(End::pass(format!(in rt.alloc(); "pass: {reason}")?));
     }
     match kind_of(rt, line.executable.as_str())? {
         Some(kind) => ask(rt, line, host, kind),

@@ -9,10 +9,12 @@ ghost use Rattle.std.specs.Prelude.{◌≡◌};
 
 mod counting;
 mod deciding;
+mod finishing;
 
 use counting::note;
-use deciding::{End, decide};
+use deciding::{End, What, decide};
 use explained_misses::why::why;
+use known_calls::audits::Audit;
 use settings::reading::read_settings;
 use std::env;
 use std::fmt::Display;
@@ -124,6 +126,19 @@ fn set_line<R: Eprint + Files + AllocGlobal>(rt: &R, line: &mut CommandLine) -> 
     }
 }
 
+/// Says what comparing a hit with what the compiler makes showed.
+fn tell_audit<R: Eprint>(rt: &R, audit: &Audit) {
+    let _ = match audit {
+        Audit::None => eprintln!(rt; "gulmaat: no hit, so nothing was compared"),
+        Audit::Alike => eprintln!(rt;
+            "gulmaat: a hit: outputs, dependency file and messages are those of the compiler"
+        ),
+        Audit::Differs(what) => eprintln!(rt;
+            "gulmaat: a hit that differs from what the compiler makes: {what}"
+        ),
+    };
+}
+
 /// Decides on the command line that the host asks about, and counts what it came to.
 fn talk<R>(rt: &R) -> ExitCode
 where
@@ -138,8 +153,14 @@ where
     }
     let end = decide(rt, &line, &mut host);
     let _ = note(rt, &line, &end);
-    match end {
-        Ok(End::Done(_, _)) => ExitCode::from(DONE),
-        Ok(End::Pass(_)) | Err(_) => ExitCode::from(PASS),
+    let Ok(end) = end else {
+        return ExitCode::from(PASS);
+    };
+    if line.settings.tells_audit() {
+        tell_audit(rt, &end.audit);
+    }
+    match end.what {
+        What::Done(_, _) => ExitCode::from(DONE),
+        What::Pass(_) => ExitCode::from(PASS),
     }
 }

@@ -1,8 +1,8 @@
 //! What sources ask for, and the times that they may paste. Names in quotes stand in quotes, and those that come next behind `next`.
 
 use os_files::lossy::Lossy;
-use searched_folders::directives::{Asked, Search, directives_of, may_define};
-use searched_folders::times::{pastes_time, tells_time};
+use source_directives::directives::{Asked, Search, add_defined, directives_of};
+use source_directives::times::{pastes_time, tells_time};
 use std::alloc::{AllocError, Global};
 use std::fmt::Write;
 use std::test::Fail;
@@ -111,20 +111,46 @@ fn sources_ask_for_files(rt: HostRuntime) -> Result<(), Fail> {
     Ok(())
 }
 
-/// Sources, and whether `NAME` may be defined in them.
-const DEFINED: [(&str, bool); 6] = [
-    ("#define NAME <a.h>\n", true),
-    ("# define\tNAME", true),
-    ("#ifdef NAME\n#include NAME\n#endif\n", false),
-    ("#if defined(NAME)\n", false),
-    ("#define OTHER NAME\n", false),
-    ("#define NAMES 1\n", true),
+/// Sources, and what `NAME` stands for in them; `none` where that may be another thing than the name of a file.
+const DEFINED: [(&str, &str); 17] = [
+    ("", ""),
+    ("#define NAME <a.h>\n", " <a.h>"),
+    ("#define NAME \"a.h\"", " \"a.h\""),
+    ("# define\tNAME\t\"a.h\" // b\n", " \"a.h\""),
+    ("#define NAME <a.h>\n#define NAME <b.h>\n", " <a.h> <b.h>"),
+    ("#ifdef NAME\n#include NAME\n#endif\n", ""),
+    ("#ifndef NAME\n#undef NAME\n#if defined(NAME)\n", ""),
+    ("#define OTHER NAME\n", ""),
+    ("#define NAMES 1\n#define A_NAME 1\n", ""),
+    ("#define NAME\n", "none"),
+    ("#define NAME OTHER\n", "none"),
+    ("#define NAME(x) <a.h>\n", "none"),
+    ("#define NAME \"a\" \".h\"\n", "none"),
+    ("#define NAME \"<a.h>\"\n", "none"),
+    ("#define \\\n NAME OTHER\n", "none"),
+    ("#define /* a */ NAME OTHER\n", "none"),
+    ("#define NAME \\\n <a.h>\n", "none"),
 ];
 
+/// What a macro stands for in a source, as text.
+fn text_of_defined(alloc: Global, source: &str) -> Result<String, AllocError> {
+    let mut found = Vec::new(alloc);
+    let mut text = String::new(alloc);
+    if !add_defined(source.as_bytes(), b"NAME", &mut found)? {
+        text.push_str("none")?;
+        return Ok(text);
+    }
+    for asked in found.as_slice() {
+        write_asked(&mut text, *asked)?;
+    }
+    Ok(text)
+}
+
 #[test]
-fn macros_may_be_defined(_rt: HostRuntime) -> Result<(), Fail> {
+fn macros_stand_for_files(rt: HostRuntime) -> Result<(), Fail> {
     for (source, want) in DEFINED {
-        holds(may_define(source.as_bytes(), b"NAME") == want, source)?;
+        let text = text_of_defined(rt.alloc(), source)?;
+        is_that(text.as_str(), want, source)?;
     }
     Ok(())
 }

@@ -1,5 +1,5 @@
-//! Tests of what gulmaat stands on, by example: what sources ask for, where compilers look, dependency files, variables, and what is bound to
-//! keys.
+//! Tests of what gulmaat stands on, by example: what sources ask for, where compilers look, what is watched, states of files, lines as they were
+//! written, records, dependency files, variables, and what is bound to keys.
 #![tactic(auto)]
 
 #[cfg(test)]
@@ -9,8 +9,18 @@ mod dependencies;
 #[cfg(test)]
 mod directives;
 #[cfg(test)]
+mod disks;
+#[cfg(test)]
+mod lines;
+#[cfg(test)]
 mod lists;
+#[cfg(test)]
+mod records;
 #[cfg(test)]
 mod searches;
 #[cfg(test)]
+mod states;
+#[cfg(test)]
 mod variables;
+#[cfg(test)]
+mod watching;

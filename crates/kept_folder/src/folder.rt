@@ -141,6 +141,20 @@ impl KeptFolder {
         Ok(fs::read(rt, place.file.as_str())?)
     }
 
+    /// Takes a file away, where it is there and anything is to be put here.
+    pub fn remove<R: Files + AllocGlobal>(
+        &self,
+        rt: &R,
+        kind: Kind,
+        name: &str,
+    ) -> Result<(), FolderError> {
+        if self.is_read_only {
+            return Ok(());
+        }
+        let place = self.place(rt.alloc(), kind, name)?;
+        Ok(fs::remove_file(rt, place.file.as_str())?)
+    }
+
     /// Notes that a file was used at that moment, where anything is to be put here.
     pub fn renew<R: Files + AllocGlobal>(
         &self,

@@ -2,19 +2,16 @@
 
 ghost use Rattle.std.specs.Prelude.{◌≡◌, ◌≤◌};
 
-use crate::outputs::{are_same, lock_paths, made_since, states_in, states_of};
-use crate::watched::noted_in;
+use crate::audits::Audited;
+use crate::outputs::{lock_paths, made_since, states_of};
+use crate::records::KnownRecord;
 use ckeys::hasher::needs_c_preprocessing;
-use ckeys_records::output_name::OutputName;
 use kept_entries::entry::KeptMessages;
-use kept_folder::error::FolderError;
 use kept_pairs::entries::Kept;
-use kept_pairs::record_files::record_under;
-use kept_pairs::records::FoundRecord;
 use known_options::dependencies::Dependencies;
 use known_options::text_words::text_words;
 use loaded_files::lists::{digest_of_list, names_files_of};
-use loaded_files::loading::{load, load_all, load_named};
+use loaded_files::loading::{load, load_named};
 use loaded_files::outputs::regular;
 use loaded_files::precompiled::has_precompiled;
 use loaded_files::tokens::Tokens;
@@ -22,27 +19,24 @@ use os_files::listed::Listed;
 use os_files::os_bytes::OsBytes;
 use replay::replay_tool::{RecordedOutputs, RecordedText, ReplayTool, Wanted};
 use replay::snapshot_files::SnapshotFiles;
-use replay::watched_records::pair_again;
 use searched_folders::found::State;
 use searched_folders::unwatched::Unwatched;
 use settings::key::Key;
-use std::alloc::Global;
+use std::alloc::{AllocError, Global};
 use std::fs;
 use std::fs::File;
 use std::io::Read;
 use std::rt::Files;
 use unkept_texts::directives::takes_files;
 use unkept_texts::times::tells_time;
-use wrap::{
-    CCompilerKind, Compiled, EntryKey, Files as CallFiles, PreprocessorCacheEntry, Printed, Shape,
-    Step, StoreKey, Zone,
-};
+use wrap::{CCompilerKind, Compiled, Files as CallFiles, Printed, Shape, Step, StoreKey, Zone};
 use wrapper_host::command_line::CommandLine;
 use wrapper_host::fields::into_text;
 use wrapper_host::host::{Ended, Host};
 use wrapper_host::stop::Stop;
 use written_lines::asked::Asked;
 use written_lines::lines::{digest_asked, digest_of_contents};
+use written_lines::named::NamedFiles;
 use written_lines::sources::Sources;
 
 /// Files and answers that are known so far.
@@ -67,22 +61,19 @@ pub struct Known {
     pub entry: Option<Kept>,
     /// The digest by which the disk was asked already.
     pub looked_up: Option<OsBytes>,
-    /// The include record that a disk keeps, which may fit, without the results that were left out.
-    pub(crate) record_kept: Option<(EntryKey, PreprocessorCacheEntry)>,
-    /// That record with them, where some were.
-    pub(crate) whole: Option<PreprocessorCacheEntry>,
-    /// What to watch of its results.
-    pub(crate) watched: OsBytes,
-    /// The name of the record for which the disk was asked already; an empty one where it wasn't.
-    record_name: String,
+    /// The include record that a disk keeps, which may fit.
+    pub(crate) record: KnownRecord,
+    /// The hit that is compiled too.
+    pub audited: Option<Audited>,
     /// The file that was loaded last.
     loaded: Option<OsBytes>,
-    /// The states of the files that the text names, once it was printed.
+    /// The files that the text names, once it was printed, and their states then.
+    pub(crate) named: NamedFiles,
     states: Vec<Option<State>>,
     /// The files of the text, as the compiler lists them for a dependency file; nothing where none is asked for.
     list: OsBytes,
     /// The dependency file that the compile wrote.
-    written: Option<OsBytes>,
+    pub(crate) written: Option<OsBytes>,
     /// What the preprocessor printed on its standard error; nothing where it didn't run.
     pub preprocessor: OsBytes,
     /// What the compile printed on its standard output and its standard error; nothing where it didn't run.
@@ -112,11 +103,10 @@ impl Known {
             tool: ReplayTool::new(),
             entry: None,
             looked_up: None,
-            record_kept: None,
-            whole: None,
-            watched: OsBytes::empty(alloc),
-            record_name: String::new(alloc),
+            record: KnownRecord::new(alloc),
+            audited: None,
             loaded: None,
+            named: NamedFiles::new(alloc),
             states: Vec::new(alloc),
             list: OsBytes::empty(alloc),
             written: None,
@@ -147,84 +137,6 @@ impl Known {
         Ok(true)
     }
 
-    /// A copy of the include record that is kept, where direct mode is on.
-    pub fn record_again(&self) -> Result<Option<(EntryKey, PreprocessorCacheEntry)>, Stop> {
-        match (&self.zone, &self.record_kept) {
-            (Some(_), Some((key, entry))) => Ok(Some(pair_again(key, entry)?)),
-            (_, _) => Ok(None),
-        }
-    }
-
-    /// Has the files loaded that a record names, which is taken then. False where one of them can't be told.
-    fn take_record<R: Files + AllocGlobal>(
-        &mut self,
-        rt: &R,
-        line: &CommandLine,
-        found: FoundRecord,
-    ) -> Result<bool, Stop> {
-        let FoundRecord {
-            key,
-            entry,
-            names,
-            watched,
-        } = found;
-        self.tokens
-            .take_rows(rt.alloc(), noted_in(watched.as_bytes()).0)?;
-        if !load_all(
-            rt,
-            line,
-            names.as_slice(),
-            &mut self.files,
-            &mut self.tokens,
-        )? {
-            return Ok(false);
-        }
-        self.record_kept = Some((key, entry));
-        self.watched = watched;
-        Ok(true)
-    }
-
-    /// Asks the disk for the record of that name, once, and for the files that it names. False where it has none.
-    pub fn look_up_record<R: Files + AllocGlobal>(
-        &mut self,
-        rt: &R,
-        line: &CommandLine,
-        name: String,
-    ) -> Result<bool, Stop> {
-        if self.record_name == name {
-            return Ok(false);
-        }
-        self.record_kept = None;
-        self.whole = None;
-        self.watched = OsBytes::empty(rt.alloc());
-        let found = record_under(rt, &line.folder, line.zone.as_str(), name.as_str());
-        self.record_name = name;
-        match found {
-            Ok(Some(found)) => self.take_record(rt, line, found),
-            Ok(None) => Ok(false),
-            Err(FolderError::Memory) => Err(Stop::Memory),
-            Err(_) => Ok(false),
-        }
-    }
-
-    /// The name of this request's record; an empty one where it has none.
-    pub fn name_to_note(&self) -> &str {
-        match &self.zone {
-            Some(_) => self.record_name.as_str(),
-            None => "",
-        }
-    }
-
-    /// Lets go of the record by which a key is known that nothing is kept under, since the text is needed then. False where no key came
-    /// from a record.
-    pub fn drop_record(&mut self) -> bool {
-        let dropped = self.record_kept.is_some() && self.tool.text.is_none();
-        if dropped {
-            self.record_kept = None;
-        }
-        dropped
-    }
-
     /// Loads what the text names that was printed last. Direct mode goes off where what was read for it can't be told, or the preprocessor
     /// printed messages, which no record has.
     pub fn follow_text<R: Files + AllocGlobal>(
@@ -232,30 +144,39 @@ impl Known {
         rt: &R,
         line: &CommandLine,
     ) -> Result<(), Stop> {
-        let Some(recorded) = &self.tool.text else {
-            return Ok(());
-        };
-        let text = recorded.printed.text.as_bytes();
         if !self.preprocessor.as_bytes().is_empty() {
             self.turn_off(Unwatched::Messages);
-        } else if !load_named(rt, line, text, &mut self.files, &mut self.tokens)? {
+        } else if !load_named(rt, line, &self.named, &mut self.files, &mut self.tokens)? {
             self.turn_off(Unwatched::Changed);
         }
         Ok(())
     }
 
-    /// Refuses an input that is compiled as it stands and takes in files.
-    fn refuse_input(&mut self, alloc: Global, key: &StoreKey) -> Result<(), Stop> {
-        if is_preprocessed(key) {
-            return Ok(());
-        }
-        let Some(path) = &self.loaded else {
+    /// Takes the state of an input that is compiled as it stands. One that takes in files is refused.
+    fn take_input<R: Files + AllocGlobal>(&mut self, rt: &R, key: &StoreKey) -> Result<(), Stop> {
+        let (false, Some(path)) = (is_preprocessed(key), &self.loaded) else {
             return Ok(());
         };
-        match self.files.read(alloc, path) {
-            Ok(Some(text)) if takes_files(text.as_bytes()) => Err(Stop::TakesFiles),
-            _ => Ok(()),
+        if let Ok(Some(text)) = self.files.read(rt.alloc(), path) {
+            if takes_files(text.as_bytes()) {
+                return Err(Stop::TakesFiles);
+            }
         }
+        self.named.paths.push(path.clone()?)?;
+        self.states = states_of(rt, self.named.paths.as_slice())?;
+        Ok(())
+    }
+
+    /// Whether an input that is compiled as it stands has the contents that were loaded of it.
+    fn has_loaded_input<R: Files + AllocGlobal>(&mut self, rt: &R) -> Result<bool, Stop> {
+        let (None, Some(path)) = (&self.tool.text, &self.loaded) else {
+            return Ok(true);
+        };
+        let place = into_text(path.clone()?)?;
+        let Ok(contents) = self.files.read(rt.alloc(), path) else {
+            return Ok(false);
+        };
+        Ok(regular(rt, place.as_str()) == contents)
     }
 
     /// The path of the dependency file, where one is asked for.
@@ -278,7 +199,7 @@ impl Known {
     }
 
     /// Whether messages may be printed again: a line that they quote is as it was. By a record all files are as they were.
-    fn may_print_again<R: std::rt::Files + AllocGlobal>(
+    fn may_print_again<R: Files + AllocGlobal>(
         &self,
         rt: &R,
         line: &CommandLine,
@@ -291,7 +212,7 @@ impl Known {
     }
 
     /// Whether outputs may be given that were kept beside these. Where they may not, they are a miss from now on.
-    pub fn may_give<R: std::rt::Files + AllocGlobal>(
+    pub fn may_give<R: Files + AllocGlobal>(
         &mut self,
         rt: &R,
         line: &CommandLine,
@@ -322,7 +243,7 @@ impl Known {
 
     /// The text that was printed, and behind it what it doesn't say of its sources: the digest of lines as they were written, and that of the
     /// list of its files, where a dependency file is asked for.
-    fn text_at<R: std::rt::Files + AllocGlobal>(
+    fn text_at<R: Files + AllocGlobal>(
         &mut self,
         rt: &R,
         line: &CommandLine,
@@ -333,8 +254,9 @@ impl Known {
         if text.is_empty() {
             return Ok(text);
         }
-        self.states = states_in(rt, line, text.as_slice())?;
-        if has_precompiled(rt, line, text.as_slice())? {
+        self.named = NamedFiles::of(alloc, line.dir.as_bytes(), text.as_slice())?;
+        self.states = states_of(rt, self.named.paths.as_slice())?;
+        if has_precompiled(rt, &self.named)? {
             return Err(Stop::Precompiled);
         }
         let lines = lines_of(rt, line, self.kind, text.as_slice())?;
@@ -348,7 +270,7 @@ impl Known {
     }
 
     /// The digest of all files that the text names; nothing where there is no text, or a line may be of another file than a marker says.
-    fn digest_of_sources<R: std::rt::Files + AllocGlobal>(
+    fn digest_of_sources<R: Files + AllocGlobal>(
         &self,
         rt: &R,
         line: &CommandLine,
@@ -364,7 +286,7 @@ impl Known {
     }
 
     /// Has the host preprocess by the caller's own words, and records the text as that of the session's.
-    fn record_text<P: Print + std::rt::Files + AllocGlobal, I: Read>(
+    fn record_text<P: Print + Files + AllocGlobal, I: Read>(
         &mut self,
         rt: &P,
         line: &CommandLine,
@@ -414,11 +336,7 @@ impl Known {
     }
 
     /// Takes the dependency file that the compile wrote. What is missing, or names files that the text doesn't have, isn't kept.
-    fn take_written<R: std::rt::Files + AllocGlobal>(
-        &mut self,
-        rt: &R,
-        key: &StoreKey,
-    ) -> Result<(), Stop> {
+    fn take_written<R: Files + AllocGlobal>(&mut self, rt: &R, key: &StoreKey) -> Result<(), Stop> {
         if !self.wants_dependencies(Some(key)) {
             return Ok(());
         }
@@ -438,22 +356,23 @@ impl Known {
 
     /// Has the host compile by the caller's own words, and records what was made of these names at these paths as what the session's words
     /// make.
-    fn record_outputs<P: Print + std::rt::Files<File = File> + AllocGlobal, I: Read>(
+    fn record_outputs<P: Print + Files<File = File> + AllocGlobal, I: Read>(
         &mut self,
         rt: &P,
         line: &CommandLine,
         host: &mut Host<I>,
         key: &StoreKey,
-        words: Listed<OsBytes>,
-        paths: &[OsBytes],
+        wanted: Wanted,
     ) -> Result<(), Stop>
         requires { host.old.compiled ≡ 0 }
         ensures { host.new.compiled ≤ 1 }
     {
-        let names = names_again(rt.alloc(), key.names.as_slice())?;
+        let Wanted { words, paths, .. } = wanted;
+        let names = key.names.clone()?;
         let own = self.own_words(rt.alloc(), line, words.as_slice())?;
+        let paths = paths.as_slice();
         // Until what was made is read no other call writes these files.
-        let locks = lock_paths(rt, line, paths)?;
+        let locks = lock_paths(rt, line, paths, self.dependency_file())?;
         let before = states_of(rt, paths)?;
         let ended = host.compile(rt, rt.alloc(), own.as_slice())?;
         self.printed = printed_at(rt, &ended, line.printed.as_str())?;
@@ -474,37 +393,36 @@ impl Known {
     }
 
     /// Has the host compile where it didn't yet, and records what was made. False where it did.
-    fn record_once<P: Print + std::rt::Files<File = File> + AllocGlobal, I: Read>(
+    fn record_once<P: Print + Files<File = File> + AllocGlobal, I: Read>(
         &mut self,
         rt: &P,
         line: &CommandLine,
         host: &mut Host<I>,
         key: &StoreKey,
-        words: Listed<OsBytes>,
-        paths: &[OsBytes],
+        wanted: Wanted,
     ) -> Result<bool, Stop>
         requires { host.old.compiled ≤ 1 }
         ensures { host.new.compiled ≤ 1 }
     {
-        self.refuse_input(rt.alloc(), key)?;
         if host.compiled() != 0 {
             return Ok(false);
         }
-        self.record_outputs(rt, line, host, key, words, paths)?;
+        self.take_input(rt, key)?;
+        self.record_outputs(rt, line, host, key, wanted)?;
         Ok(true)
     }
 
-    /// Refuses what was made where a file that the text names was changed since it was printed.
-    fn check_sources<R: std::rt::Files + AllocGlobal>(
+    /// Whether the files that the text names are in the states that they had when it was printed.
+    pub(crate) fn are_as_printed<R: Files + AllocGlobal>(
         &self,
         rt: &R,
-        line: &CommandLine,
-    ) -> Result<(), Stop> {
-        let Some(recorded) = &self.tool.text else {
-            return Ok(());
-        };
-        let now = states_in(rt, line, recorded.printed.text.as_bytes())?;
-        match are_same(now.as_slice(), self.states.as_slice()) {
+    ) -> Result<bool, AllocError> {
+        Ok(states_of(rt, self.named.paths.as_slice())? == self.states)
+    }
+
+    /// Refuses what was made where a file that the text names, or an input that is compiled as it stands, was changed meanwhile.
+    pub(crate) fn check_sources<R: Files + AllocGlobal>(&mut self, rt: &R) -> Result<(), Stop> {
+        match self.are_as_printed(rt)? && self.has_loaded_input(rt)? {
             true => Ok(()),
             false => Err(Stop::Changed),
         }
@@ -517,12 +435,12 @@ impl Known {
 
     /// Copies of what was printed and written beside the outputs that the compiler made. Messages that can't be told to be as they would be
     /// in another call are an error.
-    pub fn messages<R: std::rt::Files + AllocGlobal>(
-        &self,
+    pub fn messages<R: Files + AllocGlobal>(
+        &mut self,
         rt: &R,
         line: &CommandLine,
     ) -> Result<KeptMessages, Stop> {
-        self.check_sources(rt, line)?;
+        self.check_sources(rt)?;
         let mut sources = None;
         if !self.was_silent() {
             sources = self.digest_of_sources(rt, line)?;
@@ -543,7 +461,7 @@ impl Known {
     }
 
     /// Has the host run what the tool lacks. False where it lacks nothing, or would compile once more.
-    pub fn record<P: Print + std::rt::Files<File = File> + AllocGlobal, I: Read>(
+    pub fn record<P: Print + Files<File = File> + AllocGlobal, I: Read>(
         &mut self,
         rt: &P,
         line: &CommandLine,
@@ -556,22 +474,19 @@ impl Known {
         let Some(wanted) = self.tool.wanted.take() else {
             return Ok(false);
         };
-        let Wanted { step, words, paths } = wanted;
-        match (step, key) {
+        match (wanted.step, key) {
             (Step::Preprocess, _) => {
-                self.record_text(rt, line, host, words)?;
+                self.record_text(rt, line, host, wanted.words)?;
                 Ok(true)
             }
-            (Step::Compile, Some(key)) => {
-                self.record_once(rt, line, host, key, words, paths.as_slice())
-            }
+            (Step::Compile, Some(key)) => self.record_once(rt, line, host, key, wanted),
             (_, _) => Ok(false),
         }
     }
 }
 
 /// The digest of what a text doesn't say of its sources, as far as what is made of it hangs on that; an empty one where nothing does.
-fn lines_of<R: std::rt::Files + AllocGlobal>(
+fn lines_of<R: Files + AllocGlobal>(
     rt: &R,
     line: &CommandLine,
     kind: CCompilerKind,
@@ -627,15 +542,4 @@ fn printed_at<R: Files + AllocGlobal>(rt: &R, ended: &Ended, place: &str) -> Res
         return Ok(OsBytes::empty(rt.alloc()));
     }
     Ok(OsBytes::from_vec(fs::read(rt, place)?))
-}
-
-/// Copies of the names.
-fn names_again(alloc: Global, names: &[OutputName]) -> Result<Listed<OutputName>, Stop> {
-    let mut copies = Listed::new(alloc);
-    for output in names {
-        let name = output.name.clone()?;
-        let optional = output.optional;
-        copies.push(OutputName { name, optional })?;
-    }
-    Ok(copies)
 }

@@ -1,17 +1,14 @@
-//! Files while a compiler writes and reads them: locks on the paths of outputs, which of these it made, and whether sources stayed as they were.
+//! Files while a compiler writes and reads them: locks on the paths of outputs, and which of these it made.
 
 use kept_folder::file_digests::digest_of;
 use loaded_files::outputs::regular;
-use marker_walk::line::Mark;
-use marker_walk::markers::Markers;
-use marker_walk::names::unescaped;
 use os_files::listed::Listed;
 use os_files::os_bytes::OsBytes;
 use os_files::path::join;
 use searched_folders::found::State;
 use settings::rights::{give_rights, make_folders};
-use std::alloc::Global;
-use std::collections::{BTreeSet, HashSet};
+use std::alloc::AllocError;
+use std::collections::BTreeSet;
 use std::fs;
 use std::fs::{File, OpenOptions};
 use std::rt::Files;
@@ -45,19 +42,32 @@ fn real_path<R: Files + AllocGlobal>(
     Ok(real)
 }
 
-/// The names of the locks of these paths, in their order.
+/// The name of the lock of a path. None of a device's.
+fn name_of<R: Files + AllocGlobal>(
+    rt: &R,
+    line: &CommandLine,
+    path: &OsBytes,
+) -> Result<Option<String>, Stop> {
+    let real = real_path(rt, line, path.as_bytes())?;
+    if real.as_str().starts_with("/dev/") {
+        return Ok(None);
+    }
+    let digest = digest_of(rt.alloc(), real.as_bytes())?;
+    let name = digest.as_str().get(..LETTERS).unwrap_or("");
+    Ok(Some(String::from_str(rt.alloc(), name)?))
+}
+
+/// The names of the locks of outputs' paths and of a dependency file's, in their order.
 fn names_of<R: Files + AllocGlobal>(
     rt: &R,
     line: &CommandLine,
     paths: &[OsBytes],
+    dependency_file: Option<&OsBytes>,
 ) -> Result<BTreeSet<String>, Stop> {
     let mut names = BTreeSet::new(rt.alloc());
-    for path in paths {
-        let real = real_path(rt, line, path.as_bytes())?;
-        let digest = digest_of(rt.alloc(), real.as_bytes())?;
-        let name = digest.as_str().get(..LETTERS).unwrap_or("");
-        if !real.as_str().starts_with("/dev/") {
-            names.insert(String::from_str(rt.alloc(), name)?)?;
+    for path in paths.iter().chain(dependency_file) {
+        if let Some(name) = name_of(rt, line, path)? {
+            names.insert(name)?;
         }
     }
     Ok(names)
@@ -82,12 +92,13 @@ fn locked<R: Files<File = File> + AllocGlobal>(
     Ok(file)
 }
 
-/// Waits until no other call writes or reads one of these paths as an output. Where nothing is to be put into the folder of what is kept, nothing
-/// is waited for.
+/// Waits until no other call writes or reads one of these paths as an output's or a dependency file's. Where nothing is to be put into the
+/// folder of what is kept, nothing is waited for.
 pub fn lock_paths<R: Files<File = File> + AllocGlobal>(
     rt: &R,
     line: &CommandLine,
     paths: &[OsBytes],
+    dependency_file: Option<&OsBytes>,
 ) -> Result<Locks, Stop> {
     let mut files = Vec::new(rt.alloc());
     if line.folder.is_read_only {
@@ -96,27 +107,23 @@ pub fn lock_paths<R: Files<File = File> + AllocGlobal>(
     let kept = line.folder.path.as_str();
     let folder = format!(in rt.alloc(); "{kept}/locks")?;
     make_folders(rt, folder.as_str(), line.folder.umask)?;
-    for name in names_of(rt, line, paths)? {
+    for name in names_of(rt, line, paths, dependency_file)? {
         files.push(locked(rt, line, folder.as_str(), name.as_str())?)?;
     }
     Ok(Locks { files })
 }
 
-/// The state of what lies under a path, where something does.
-fn state_at<R: Files>(rt: &R, path: &str) -> Option<State> {
-    let metadata = fs::metadata(rt, path).ok()?;
-    Some(State::of(&metadata))
-}
-
-/// The states of what lies under these paths.
+/// The states of what lies under these paths, where something does.
 pub fn states_of<R: Files + AllocGlobal>(
     rt: &R,
     paths: &[OsBytes],
-) -> Result<Vec<Option<State>>, Stop> {
-    let mut states = Vec::new(rt.alloc());
+) -> Result<Vec<Option<State>>, AllocError> {
+    let mut states = Vec::with_capacity(rt.alloc(), paths.len())?;
     for path in paths {
-        let path = into_text(path.clone()?)?;
-        states.push(state_at(rt, path.as_str()))?;
+        states.push(match str::from_utf8(path.as_bytes()) {
+            Ok(place) => State::at(rt, place).ok(),
+            Err(_) => None,
+        })?;
     }
     Ok(states)
 }
@@ -130,45 +137,11 @@ pub fn made_since<R: Files + AllocGlobal>(
     let mut files = Listed::new(rt.alloc());
     for (path, before) in paths.iter().zip(before.iter()) {
         let path = into_text(path.clone()?)?;
-        let now = state_at(rt, path.as_str());
+        let now = State::at(rt, path.as_str()).ok();
         files.push(match now == *before {
             true => None,
             false => regular(rt, path.as_str()),
         })?;
     }
     Ok(files)
-}
-
-/// The states of the files that the markers of a text name.
-pub fn states_in<R: Files + AllocGlobal>(
-    rt: &R,
-    line: &CommandLine,
-    text: &[u8],
-) -> Result<Vec<Option<State>>, Stop> {
-    let alloc: Global = rt.alloc();
-    let mut states = Vec::new(alloc);
-    let mut seen: HashSet<&[u8]> = HashSet::new(alloc);
-    for mark in Markers::new(text) {
-        let Mark::Named(raw) = mark else {
-            continue;
-        };
-        if !seen.insert(raw)? || raw.starts_with(b"<") || raw.ends_with(b"//") {
-            continue;
-        }
-        let name = unescaped(alloc, raw)?.into_owned(alloc)?;
-        let path = join(alloc, line.dir.as_bytes(), name.as_slice())?;
-        if let Ok(path) = into_text(path) {
-            states.push(state_at(rt, path.as_str()))?;
-        }
-    }
-    Ok(states)
-}
-
-/// Whether these are the same states.
-pub fn are_same(states: &[Option<State>], others: &[Option<State>]) -> bool {
-    states.len() == others.len()
-        && states
-            .iter()
-            .zip(others.iter())
-            .all(|pair| pair.0 == pair.1)
 }

@@ -4,7 +4,7 @@
 
 pub mod lists;
 pub mod loading;
-mod mounts;
+pub mod mounts;
 pub mod outputs;
 pub mod precompiled;
 pub mod tokens;

@@ -1,16 +1,13 @@
 //! Files that are loaded from the disk, and those that a text names.
 
 use crate::tokens::{Tokens, token_of};
-use marker_walk::line::Mark;
-use marker_walk::markers::Markers;
-use marker_walk::names::unescaped;
 use memchr::memmem;
 use os_files::file_time::FileTime;
 use os_files::files::Metadata;
 use os_files::os_bytes::OsBytes;
 use os_files::path::join;
 use replay::snapshot_files::{LoadedFile, SnapshotFiles};
-use std::collections::HashSet;
+use searched_folders::found::{is_before, time_of};
 use std::io::ErrorKind;
 use std::os::unix::fs::MetadataExt;
 use std::rt::Files;
@@ -19,6 +16,7 @@ use std::{fs, io};
 use wrapper_host::command_line::CommandLine;
 use wrapper_host::fields::into_text;
 use wrapper_host::stop::Stop;
+use written_lines::named::NamedFiles;
 
 /// How many milliseconds the times of files may stand behind the clock: they are told by the ticks of a kernel.
 const TICK: u64 = 20;
@@ -37,15 +35,6 @@ enum OnDisk {
     Unknown,
 }
 
-/// A moment by its seconds and nanoseconds.
-fn time_of(seconds: i64, nanoseconds: i64) -> FileTime {
-    let nanoseconds = u32::try_from(nanoseconds).unwrap_or(0);
-    match FileTime::new(seconds, nanoseconds) {
-        Some(time) => time,
-        None => FileTime::from_seconds(seconds),
-    }
-}
-
 /// What a failed look means.
 fn without(error: &io::Error) -> OnDisk {
     match error.kind() {
@@ -54,23 +43,34 @@ fn without(error: &io::Error) -> OnDisk {
     }
 }
 
+/// What the disk says of the regular file of that path, or what it has there in its place.
+fn regular_at<R: Files>(rt: &R, path: &str) -> Result<fs::Metadata, OnDisk> {
+    match fs::metadata(rt, path) {
+        Ok(found) if found.is_file() => Ok(found),
+        Ok(_) => Err(OnDisk::NoFile),
+        Err(error) => Err(without(&error)),
+    }
+}
+
+/// What a session is told of a file of that size.
+fn metadata_of(found: &fs::Metadata, size: u64) -> Metadata {
+    Metadata {
+        size,
+        mtime: time_of(found.mtime(), found.mtime_nsec()),
+        ctime: time_of(found.ctime(), found.ctime_nsec()),
+    }
+}
+
 /// Looks at the path.
 fn look_at<R: Files + AllocGlobal>(rt: &R, path: &str) -> OnDisk {
-    let found = match fs::metadata(rt, path) {
+    let found = match regular_at(rt, path) {
         Ok(found) => found,
-        Err(error) => return without(&error),
+        Err(other) => return other,
     };
-    if !found.is_file() {
-        return OnDisk::NoFile;
-    }
     let Ok(contents) = fs::read(rt, path) else {
         return OnDisk::Unknown;
     };
-    let metadata = Metadata {
-        size: contents.len() as u64,
-        mtime: time_of(found.mtime(), found.mtime_nsec()),
-        ctime: time_of(found.ctime(), found.ctime_nsec()),
-    };
+    let metadata = metadata_of(&found, contents.len() as u64);
     OnDisk::File(OsBytes::from_vec(contents), metadata)
 }
 
@@ -84,18 +84,11 @@ fn look_for_token<R: Files + AllocGlobal>(
     let Ok(place) = into_text(path.clone()?) else {
         return Ok(OnDisk::Unknown);
     };
-    let found = match fs::metadata(rt, place.as_str()) {
+    let found = match regular_at(rt, place.as_str()) {
         Ok(found) => found,
-        Err(error) => return Ok(without(&error)),
+        Err(other) => return Ok(other),
     };
-    if !found.is_file() {
-        return Ok(OnDisk::NoFile);
-    }
-    let metadata = Metadata {
-        size: found.len(),
-        mtime: time_of(found.mtime(), found.mtime_nsec()),
-        ctime: time_of(found.ctime(), found.ctime_nsec()),
-    };
+    let metadata = metadata_of(&found, found.len());
     if let Some(token) = tokens.get(path, &found) {
         return Ok(OnDisk::File(token.clone()?, metadata));
     }
@@ -143,12 +136,6 @@ pub fn load<R: Files + AllocGlobal>(
         return Ok(false);
     };
     take(path, look_at(rt, place.as_str()), files)
-}
-
-/// Whether the one moment comes before the other.
-fn is_before(one: FileTime, other: FileTime) -> bool {
-    one.seconds < other.seconds
-        || (one.seconds == other.seconds && one.nanoseconds < other.nanoseconds)
 }
 
 /// Whether the contents take in another file, which no marker names.
@@ -201,49 +188,39 @@ pub fn load_all<R: Files + AllocGlobal>(
     Ok(true)
 }
 
-/// Loads the file of a marker, by its token unless it was loaded as it is. False where it can't be recorded.
-fn load_marked<R: Files + AllocGlobal>(
+/// Loads a file that a text names, by its token unless it was loaded as it is. False where it can't be recorded.
+fn load_named_file<R: Files + AllocGlobal>(
     rt: &R,
-    line: &CommandLine,
-    raw: &[u8],
+    path: &OsBytes,
     before: FileTime,
     files: &mut SnapshotFiles,
     tokens: &mut Tokens,
 ) -> Result<bool, Stop> {
-    if raw.starts_with(b"<") {
-        return Ok(true);
-    }
-    let name = unescaped(rt.alloc(), raw)?.into_owned(rt.alloc())?;
-    let path = join(rt.alloc(), line.dir.as_bytes(), name.as_slice())?;
-    if tokens.has_whole(&path) {
-        let Ok(place) = into_text(path) else {
+    if tokens.has_whole(path) {
+        let Ok(place) = into_text(path.clone()?) else {
             return Ok(false);
         };
         return Ok(is_recorded(&look_at(rt, place.as_str()), before));
     }
-    let found = look_for_token(rt, &path, before, tokens)?;
-    Ok(is_recorded(&found, before) && take(path, found, files)?)
+    let found = look_for_token(rt, path, before, tokens)?;
+    Ok(is_recorded(&found, before) && take(path.clone()?, found, files)?)
 }
 
-/// Loads the files that the markers of a text name, once the preprocessor printed it. False where what it read can't be told: a line can't
-/// be told from a marker, a file was changed since the call began, or takes in another one.
+/// Loads the files that a text names, once the preprocessor printed it. False where what it read can't be told: a line can't be told from a
+/// marker, a file was changed since the call began, or takes in another one.
 pub fn load_named<R: Files + AllocGlobal>(
     rt: &R,
     line: &CommandLine,
-    text: &[u8],
+    named: &NamedFiles,
     files: &mut SnapshotFiles,
     tokens: &mut Tokens,
 ) -> Result<bool, Stop> {
+    if !named.are_all {
+        return Ok(false);
+    }
     let before = settled_before(line.moment);
-    let mut seen: HashSet<&[u8]> = HashSet::new(rt.alloc());
-    for mark in Markers::new(text) {
-        let Mark::Named(raw) = mark else {
-            return Ok(false);
-        };
-        if !seen.insert(raw)? {
-            continue;
-        }
-        if !load_marked(rt, line, raw, before, files, tokens)? {
+    for path in named.paths.as_slice() {
+        if !load_named_file(rt, path, before, files, tokens)? {
             return Ok(false);
         }
     }

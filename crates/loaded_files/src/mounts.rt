@@ -1,6 +1,6 @@
 //! The devices of file systems that are mounted, by their types.
 
-use std::alloc::AllocError;
+use std::alloc::{AllocError, Global};
 use std::collections::BTreeSet;
 use std::fs;
 use std::rt::Files;
@@ -41,16 +41,21 @@ fn trusted_in(line: &[u8]) -> Option<u64> {
     }
 }
 
-/// The devices of file systems of which a file that has the state that it had has the contents that it had. None where there is no list.
-pub fn devices<R: Files + AllocGlobal>(rt: &R) -> Result<BTreeSet<u64>, AllocError> {
-    let mut devices = BTreeSet::new(rt.alloc());
-    let Ok(list) = fs::read(rt, LIST) else {
-        return Ok(devices);
-    };
+/// The devices in a list of what is mounted of which a file that has the state that it had has the contents that it had.
+pub fn devices_in(alloc: Global, list: &[u8]) -> Result<BTreeSet<u64>, AllocError> {
+    let mut devices = BTreeSet::new(alloc);
     for line in list.split(|byte| *byte == b'\n') {
         if let Some(device) = trusted_in(line) {
             devices.insert(device)?;
         }
     }
     Ok(devices)
+}
+
+/// Those of this machine. None where there is no list.
+pub(crate) fn devices<R: Files + AllocGlobal>(rt: &R) -> Result<BTreeSet<u64>, AllocError> {
+    match fs::read(rt, LIST) {
+        Ok(list) => devices_in(rt.alloc(), list.as_slice()),
+        Err(_) => Ok(BTreeSet::new(rt.alloc())),
+    }
 }

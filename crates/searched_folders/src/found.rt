@@ -68,7 +68,7 @@ pub struct State {
 }
 
 /// A moment by its seconds and nanoseconds.
-fn time_of(seconds: i64, nanoseconds: i64) -> FileTime {
+pub fn time_of(seconds: i64, nanoseconds: i64) -> FileTime {
     match FileTime::new(seconds, u32::try_from(nanoseconds).unwrap_or(0)) {
         Some(time) => time,
         None => FileTime::from_seconds(seconds),
@@ -76,7 +76,7 @@ fn time_of(seconds: i64, nanoseconds: i64) -> FileTime {
 }
 
 /// Whether the one moment comes before the other.
-fn is_before(one: FileTime, other: FileTime) -> bool {
+pub fn is_before(one: FileTime, other: FileTime) -> bool {
     one.seconds < other.seconds
         || (one.seconds == other.seconds && one.nanoseconds < other.nanoseconds)
 }
@@ -96,6 +96,11 @@ fn read_time(bytes: &[u8]) -> Result<(FileTime, &[u8]), ReadFault> {
 }
 
 impl State {
+    /// That of what lies under a path, behind all links.
+    pub fn at<R: Files>(rt: &R, path: &str) -> io::Result<State> {
+        Ok(State::of(&fs::metadata(rt, path)?))
+    }
+
     /// That of what was found.
     pub fn of(metadata: &Metadata) -> State {
         State {

@@ -2,12 +2,10 @@
 #![tactic(auto)]
 
 pub mod asking;
-pub mod directives;
 pub mod found;
 pub mod records;
 pub mod search_list;
 pub mod texts;
-pub mod times;
 pub mod unwatched;
 pub mod watch_list;
 pub mod watching;

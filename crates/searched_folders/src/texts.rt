@@ -1,14 +1,16 @@
 //! What to watch of a text: all that its sources ask for, and where the compiler looks for it.
 
-use crate::directives::{Asked, Directives, Search, add_probed, directives_of, may_define};
 use crate::search_list::SearchList;
-use crate::times::{pastes_time, tells_time};
 use crate::unwatched::Unwatched;
 use crate::watching::Watching;
 use known_options::words::takes_next;
 use memchr::memmem;
 use os_files::file_time::FileTime;
 use os_files::os_bytes::OsBytes;
+use source_directives::directives::{
+    Asked, Directives, Search, add_defined, add_probed, directives_of,
+};
+use source_directives::times::{pastes_time, tells_time};
 use std::alloc::Global;
 use std::rt::Files;
 use wrapper_host::command_line::CommandLine;
@@ -57,32 +59,45 @@ fn directives_in(alloc: Global, sources: &[Source]) -> Result<Vec<Directives<'_>
     Ok(all)
 }
 
-/// Whether a macro isn't defined, neither by these sources nor by words nor by the compiler, whose own names begin with `_` or have small
-/// letters. A line that takes in what it stands for isn't live then, or nothing is made.
-fn is_undefined(name: &[u8], words: &[OsBytes], sources: &[Source]) -> bool {
+/// Whether a macro is one of the sources' alone, or of none: the compiler's own names begin with `_` or have small letters.
+fn is_of_sources(name: &[u8], words: &[OsBytes]) -> bool {
     let is_own = name.starts_with(b"_") || name.iter().any(|byte| byte.is_ascii_lowercase());
     !is_own
         && !words
             .iter()
             .any(|word| memmem::find(word.as_bytes(), name).is_some())
-        && !sources
-            .iter()
-            .any(|source| may_define(source.contents.as_bytes(), name))
 }
 
-/// Refuses sources that take in what a macro stands for.
-fn refuse_computed(
-    all: &[Directives<'_>],
+/// Adds what a source takes in that these macros stand for: each name that sources define them to be. One that none defines isn't live, or
+/// nothing is made.
+fn add_computed<'a>(
+    sources: &'a [Source],
     words: &[OsBytes],
-    sources: &[Source],
+    found: &mut Directives<'a>,
 ) -> Result<(), Unwatched> {
-    for found in all {
-        let mut names = found.computed.iter();
-        if !names.all(|name| is_undefined(name, words, sources)) {
+    for name in found.computed.iter() {
+        if !is_of_sources(name, words) {
+            return Err(Unwatched::Computed);
+        }
+        if !add_all_defined(sources, name, &mut found.asked)? {
             return Err(Unwatched::Computed);
         }
     }
     Ok(())
+}
+
+/// Adds what a macro may stand for by its definitions in these sources. False where that can't be told.
+fn add_all_defined<'a>(
+    sources: &'a [Source],
+    name: &[u8],
+    asked: &mut Vec<Asked<'a>>,
+) -> Result<bool, Unwatched> {
+    for source in sources {
+        if !add_defined(source.contents.as_bytes(), name, asked)? {
+            return Ok(false);
+        }
+    }
+    Ok(true)
 }
 
 /// The macros by which sources ask whether a file is there.
@@ -110,32 +125,21 @@ fn add_all_probed<'a>(
     Ok(())
 }
 
-/// Looks for all that a source asks for.
+/// Looks for all that a source asks for, and for the input has it watched that no precompiled header lies beside that.
 fn search_all<R: Files + AllocGlobal>(
     rt: &R,
     source: &Source,
     list: &SearchList<'_>,
     found: &Directives<'_>,
+    is_input: bool,
     watching: &mut Watching<'_>,
 ) -> Result<(), Unwatched> {
     let beside = folder_of(source.path.as_bytes());
     for asked in found.asked.as_slice() {
         watching.search(rt, list, beside, *asked)?;
-    }
-    Ok(())
-}
-
-/// Has it watched that no precompiled header lies beside what the input asks for.
-fn look_for_precompiled<R: Files + AllocGlobal>(
-    rt: &R,
-    source: &Source,
-    list: &SearchList<'_>,
-    found: &Directives<'_>,
-    watching: &mut Watching<'_>,
-) -> Result<(), Unwatched> {
-    let beside = folder_of(source.path.as_bytes());
-    for asked in found.asked.as_slice() {
-        watching.look_for_precompiled(rt, list, beside, asked.name, b".gch")?;
+        if is_input {
+            watching.look_for_precompiled(rt, list, beside, asked.name, b".gch")?;
+        }
     }
     Ok(())
 }
@@ -205,18 +209,22 @@ fn take_sources<'a>(
     Ok(())
 }
 
-/// Looks for all that these sources ask for.
+/// Looks for all that these sources ask for, of which the first is the input.
 fn search_sources<'a, R: Files + AllocGlobal>(
     rt: &R,
+    words: &[OsBytes],
     list: &SearchList<'_>,
     sources: &'a [Source],
     all: &mut [Directives<'a>],
     watching: &mut Watching<'_>,
 ) -> Result<(), Unwatched> {
     let probes = probes_in(rt.alloc(), all)?;
+    let mut is_input = true;
     for (source, found) in sources.iter().zip(all.iter_mut()) {
+        add_computed(sources, words, found)?;
         add_all_probed(source, probes.as_slice(), found)?;
-        search_all(rt, source, list, found, watching)?;
+        search_all(rt, source, list, found, is_input, watching)?;
+        is_input = false;
     }
     Ok(())
 }
@@ -238,7 +246,6 @@ pub fn list_of<R: Files + AllocGlobal>(
         return Err(Unwatched::List);
     };
     let mut all = directives_in(alloc, sources)?;
-    refuse_computed(all.as_slice(), words, sources)?;
     let mut watching = Watching::new(alloc, line.dir.as_bytes(), before);
     take_sources(alloc, sources, all.as_slice(), &mut watching)?;
     watching.take_folders(rt, &list)?;
@@ -246,9 +253,6 @@ pub fn list_of<R: Files + AllocGlobal>(
     let name = PREDEFINED;
     let search = Search::Bracketed;
     watching.search(rt, &list, b"", Asked { name, search })?;
-    search_sources(rt, &list, sources, all.as_mut_slice(), &mut watching)?;
-    if let (Some(input), Some(found)) = (sources.first(), all.first()) {
-        look_for_precompiled(rt, input, &list, found, &mut watching)?;
-    }
+    search_sources(rt, words, &list, sources, all.as_mut_slice(), &mut watching)?;
     watching.into_list(alloc)
 }

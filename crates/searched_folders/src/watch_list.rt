@@ -80,11 +80,6 @@ fn text_of(path: &[u8]) -> Result<&str, Unwatched> {
     }
 }
 
-/// The state of what lies under a path, behind all links.
-pub(crate) fn state_at<R: Files>(rt: &R, path: &str) -> Result<State, Unwatched> {
-    Ok(State::of(&fs::metadata(rt, path)?))
-}
-
 /// Whether under the name that is ahead in these bytes the same lies as then, and what stands behind it.
 fn name_holds<'a, R: Files + AllocGlobal>(
     rt: &R,
@@ -133,7 +128,7 @@ fn folder_holds<'a, R: Files + AllocGlobal>(
     let (hold, rest) = read_number(rest)?;
     let (names, rest) = read_framed(rest)?;
     let path = text_of(path)?;
-    let now = state_at(rt, path)?;
+    let now = State::at(rt, path)?;
     let may_be_another = hold != Hold::Same.code() || now.is_same(then);
     let holds = (hold == Hold::Settled.code() && now == then)
         || (may_be_another && names_hold(rt, path, names)?);
@@ -158,7 +153,7 @@ fn file_holds<'a, R: Files + AllocGlobal>(
     let (then, rest) = State::read(rest)?;
     let (digest, rest) = read_framed(rest)?;
     let path = text_of(path)?;
-    let holds = state_at(rt, path)? == then
+    let holds = State::at(rt, path)? == then
         || (!digest.is_empty() && contents_at(rt, path)?.as_bytes() == digest);
     Ok((holds, rest))
 }

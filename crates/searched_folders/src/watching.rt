@@ -1,14 +1,14 @@
 //! Looking where a compiler looks, and noting what is there.
 
-use crate::directives::{Asked, Search};
 use crate::found::{Found, State, found_at, is_nothing};
 use crate::search_list::SearchList;
 use crate::unwatched::Unwatched;
-use crate::watch_list::{Folder, state_at};
+use crate::watch_list::Folder;
 use byte_formats::fields::{put_framed, put_number};
 use kept_folder::file_digests::digest_of;
 use os_files::file_time::FileTime;
 use os_files::path::join;
+use source_directives::directives::{Asked, Search};
 use std::alloc::Global;
 use std::collections::{BTreeMap, BTreeSet, HashSet};
 use std::fs;
@@ -144,7 +144,7 @@ impl<'a> Watching<'a> {
         if self.named.contains(path) || self.files.contains_key(path) {
             return Ok(());
         }
-        let state = state_at(rt, path)?;
+        let state = State::at(rt, path)?;
         if !state.is_before(self.before) {
             return Err(Unwatched::Changed);
         }
@@ -198,8 +198,11 @@ impl<'a> Watching<'a> {
         asked: Asked<'_>,
     ) -> Result<(), Unwatched> {
         let Asked { name, search } = asked;
-        if name.starts_with(b"/") || (search == Search::Quoted && self.is_in(rt, beside, name)?) {
+        if name.starts_with(b"/") {
             self.is_in(rt, beside, name)?;
+            return Ok(());
+        }
+        if search == Search::Quoted && self.is_in(rt, beside, name)? {
             return Ok(());
         }
         let in_all = search == Search::Next;
@@ -212,14 +215,12 @@ impl<'a> Watching<'a> {
         Ok(())
     }
 
-    /// Has a folder watched, or that there is none.
+    /// Has a folder of that path watched, or that there is none.
     fn take_folder<R: Files + AllocGlobal>(
         &mut self,
         rt: &R,
-        folder: &str,
+        path: &str,
     ) -> Result<bool, Unwatched> {
-        let path = path_in(rt.alloc(), self.dir, folder.as_bytes(), b"")?;
-        let path = path.trim_end_matches('/');
         let is_there = self.is_there(rt, path)?;
         if !is_there {
             self.look(rt, path)?;
@@ -233,11 +234,10 @@ impl<'a> Watching<'a> {
         rt: &R,
         folder: &str,
     ) -> Result<(), Unwatched> {
-        if !self.take_folder(rt, folder)? {
-            return Ok(());
-        }
         let path = path_in(rt.alloc(), self.dir, folder.as_bytes(), b"")?;
-        if let Some(Some(folder)) = self.folders.get_mut(path.trim_end_matches('/')) {
+        let path = path.trim_end_matches('/');
+        self.take_folder(rt, path)?;
+        if let Some(Some(folder)) = self.folders.get_mut(path) {
             folder.is_left_out = true;
         }
         Ok(())
@@ -250,7 +250,8 @@ impl<'a> Watching<'a> {
         list: &SearchList<'_>,
     ) -> Result<(), Unwatched> {
         for folder in list.quoted.iter().chain(list.bracketed.iter()) {
-            if !self.take_folder(rt, folder)? {
+            let path = path_in(rt.alloc(), self.dir, folder.as_bytes(), b"")?;
+            if !self.take_folder(rt, path.trim_end_matches('/'))? {
                 return Err(Unwatched::List);
             }
         }
@@ -268,7 +269,7 @@ impl<'a> Watching<'a> {
     ) -> Result<(), Unwatched> {
         for installation in list.installations.as_slice() {
             for folder in [above(installation), above(above(installation))] {
-                let state = state_at(rt, folder)?;
+                let state = State::at(rt, folder)?;
                 let digest = String::new(rt.alloc());
                 self.files
                     .insert(String::from_str(rt.alloc(), folder)?, (state, digest))?;

@@ -7,6 +7,8 @@ use crate::values::{mask_named, size_named, truth_named};
 pub enum Key {
     /// Words that may be kept though they aren't known, with spaces between them.
     AllowOptions,
+    /// Of how many hits one is compiled too and compared; 0 is none.
+    Audit,
     /// Folders that don't count in what is compared, with colons between them.
     BaseDir,
     /// The folder of what is kept.
@@ -31,6 +33,9 @@ pub enum Key {
     Umask,
 }
 
+/// The value of `audit` by which each hit is compared, and a user is told.
+pub const TELL: &str = "tell";
+
 /// What the values of a key are.
 #[derive(Clone, Copy, PartialEq, Eq)]
 pub enum Kind {
@@ -40,6 +45,8 @@ pub enum Kind {
     Path,
     /// Absolute paths with colons between them, or nothing.
     Paths,
+    /// A whole number, or `tell`.
+    Audit,
     /// A umask, or nothing.
     Mask,
     /// `lines`, or nothing.
@@ -50,8 +57,9 @@ pub enum Kind {
 
 impl Key {
     /// All of them, in the order of their names.
-    pub const ALL: [Key; 12] = [
+    pub const ALL: [Key; 13] = [
         Key::AllowOptions,
+        Key::Audit,
         Key::BaseDir,
         Key::CacheDir,
         Key::DirectMode,
@@ -69,6 +77,7 @@ impl Key {
     pub fn name(self) -> &'static str {
         match self {
             Key::AllowOptions => "allow_options",
+            Key::Audit => "audit",
             Key::BaseDir => "base_dir",
             Key::CacheDir => "cache_dir",
             Key::DirectMode => "direct_mode",
@@ -87,6 +96,7 @@ impl Key {
     pub fn variable(self) -> &'static str {
         match self {
             Key::AllowOptions => "GULMAAT_ALLOW_OPTIONS",
+            Key::Audit => "GULMAAT_AUDIT",
             Key::BaseDir => "GULMAAT_BASEDIRS",
             Key::CacheDir => "GULMAAT_DIR",
             Key::DirectMode => "GULMAAT_DIRECT",
@@ -110,6 +120,7 @@ impl Key {
             | Key::LogFile
             | Key::Sloppiness
             | Key::Umask => "",
+            Key::Audit => "0",
             Key::Disable | Key::ReadOnly | Key::Recache => "false",
             Key::MaxSize => "5G",
             Key::DirectMode | Key::Stats => "true",
@@ -120,6 +131,7 @@ impl Key {
     pub fn kind(self) -> Kind {
         match self {
             Key::AllowOptions => Kind::Options,
+            Key::Audit => Kind::Audit,
             Key::BaseDir => Kind::Paths,
             Key::CacheDir | Key::LogFile => Kind::Path,
             Key::MaxSize => Kind::Size,
@@ -155,6 +167,7 @@ impl Kind {
                 "a whole number with k, M, G, T, Ki, Mi, Gi or Ti behind it, or none for G; 0 is no limit",
             Kind::Path => "an absolute path",
             Kind::Paths => "absolute paths with colons between them",
+            Kind::Audit => "a whole number, or tell",
             Kind::Mask => "an octal number up to 777",
             Kind::Sloppiness => "lines",
             Kind::Options => "options with spaces between them, each of which begins with -",
@@ -168,6 +181,7 @@ impl Kind {
             Kind::Size => size_named(text).is_some(),
             Kind::Path => is_path(text),
             Kind::Paths => text.split(':').all(is_path),
+            Kind::Audit => text == TELL || text.parse::<u64>().is_ok(),
             Kind::Mask => text.is_empty() || mask_named(text).is_some(),
             Kind::Sloppiness => matches!(text, "" | "lines"),
             Kind::Options => text.split(' ').all(is_option),

@@ -1,7 +1,7 @@
 //! Settings: values of keys, with where each comes from.
 
 use crate::error::SettingsError;
-use crate::key::Key;
+use crate::key::{Key, TELL};
 use crate::values::{mask_named, size_named, truth_named};
 use std::alloc::{AllocError, Global};
 
@@ -56,6 +56,20 @@ impl Settings {
     /// How many bytes are kept at most; 0 is no limit.
     pub fn max_size(&self) -> u64 {
         size_named(self.value_of(Key::MaxSize)).unwrap_or(0)
+    }
+
+    /// Of how many hits one is compiled too and compared; 0 is none.
+    pub fn audit(&self) -> u64 {
+        let value = self.value_of(Key::Audit);
+        match value.parse::<u64>() {
+            Ok(number) => number,
+            Err(_) => u64::from(value == TELL),
+        }
+    }
+
+    /// Whether a user wants to be told what comparing showed.
+    pub fn tells_audit(&self) -> bool {
+        self.value_of(Key::Audit) == TELL
     }
 
     /// The umask under which files and folders of what is kept are made; none is that of the process.

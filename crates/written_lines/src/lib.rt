@@ -3,5 +3,6 @@
 
 pub mod asked;
 pub mod lines;
+pub mod named;
 pub mod sources;
 mod written;

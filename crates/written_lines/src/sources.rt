@@ -1,5 +1,6 @@
 //! The files that the markers of a text name, with their lines.
 
+use crate::named::is_file_name;
 use ckeys_base::digest::Digest;
 use marker_walk::line::Mark;
 use marker_walk::markers::Markers;
@@ -155,11 +156,6 @@ pub struct Sources<'a> {
     names: Vec<&'a [u8]>,
     /// Whether one that is named isn't there.
     lacks: bool,
-}
-
-/// Whether a marker's name is that of a file: those in brackets are none, and one with two slashes behind it is a folder.
-fn is_file_name(name: &[u8]) -> bool {
-    !name.starts_with(b"<") && !name.ends_with(b"//")
 }
 
 /// The contents of the file of a marker, where there is one.

@@ -5,20 +5,18 @@ ghost use Rattle.std.specs.Prelude.{◌≡◌};
 use crate::known::Known;
 use byte_formats::fields::{put_framed, read_framed};
 use cmdlines_tables::language::{language_to_clang_arg, language_to_gcc_arg};
-use kept_pairs::record_files::put_record;
-use loaded_files::loading::settled_before;
+use kept_folder::error::FolderError;
+use kept_pairs::record_files::{put_record, record_under};
+use kept_pairs::records::FoundRecord;
+use loaded_files::loading::{load_all, settled_before};
 use loaded_files::outputs::regular;
-use marker_walk::line::Mark;
-use marker_walk::markers::Markers;
-use marker_walk::names::unescaped;
 use os_files::os_bytes::OsBytes;
-use os_files::path::join;
+use replay::watched_records::pair_again;
 use searched_folders::asking::said_of;
 use searched_folders::records::{joined, result_holds, with_list, without};
 use searched_folders::texts::{Source, list_of};
 use searched_folders::unwatched::Unwatched;
 use std::alloc::Global;
-use std::collections::HashSet;
 use std::io::Read;
 use std::rt::Files;
 use wrap::{CCompilerKind, EntryKey, PreprocessorCacheEntry, Shape, StoreKey};
@@ -37,8 +35,33 @@ fn language_of(kind: CCompilerKind, key: &StoreKey) -> Option<&'static str> {
     }
 }
 
+/// The include record that a disk keeps, which may fit.
+#[derive(Drop)]
+pub(crate) struct KnownRecord {
+    /// Its name, by which the disk was asked already; an empty one where it wasn't.
+    name: String,
+    /// It without the results that were left out.
+    kept: Option<(EntryKey, PreprocessorCacheEntry)>,
+    /// It with them, where some were.
+    whole: Option<PreprocessorCacheEntry>,
+    /// What is noted of headers, and what to watch of its results.
+    watched: OsBytes,
+}
+
+impl KnownRecord {
+    /// The disk wasn't asked yet.
+    pub(crate) fn new(alloc: Global) -> KnownRecord {
+        KnownRecord {
+            name: String::new(alloc),
+            kept: None,
+            whole: None,
+            watched: OsBytes::empty(alloc),
+        }
+    }
+}
+
 /// What is noted of headers in what a record has beside its results, and the lists behind it.
-pub(crate) fn noted_in(watched: &[u8]) -> (&[u8], &[u8]) {
+fn noted_in(watched: &[u8]) -> (&[u8], &[u8]) {
     let Ok((key, rest)) = read_framed(watched) else {
         return (&[], watched);
     };
@@ -52,6 +75,88 @@ pub(crate) fn noted_in(watched: &[u8]) -> (&[u8], &[u8]) {
 }
 
 impl Known {
+    /// A copy of the include record that is kept, where direct mode is on.
+    pub fn record_again(&self) -> Result<Option<(EntryKey, PreprocessorCacheEntry)>, Stop> {
+        match (&self.zone, &self.record.kept) {
+            (Some(_), Some((key, entry))) => Ok(Some(pair_again(key, entry)?)),
+            (_, _) => Ok(None),
+        }
+    }
+
+    /// Has the files loaded that a record names, which is taken then. False where one of them can't be told.
+    fn take_record<R: Files + AllocGlobal>(
+        &mut self,
+        rt: &R,
+        line: &CommandLine,
+        found: FoundRecord,
+    ) -> Result<bool, Stop> {
+        let FoundRecord {
+            key,
+            entry,
+            names,
+            watched,
+        } = found;
+        self.tokens
+            .take_rows(rt.alloc(), noted_in(watched.as_bytes()).0)?;
+        if !load_all(
+            rt,
+            line,
+            names.as_slice(),
+            &mut self.files,
+            &mut self.tokens,
+        )? {
+            return Ok(false);
+        }
+        self.record.kept = Some((key, entry));
+        self.record.watched = watched;
+        Ok(true)
+    }
+
+    /// Asks the disk for the record of that name, once, and for the files that it names. False where it has none.
+    pub fn look_up_record<R: Files + AllocGlobal>(
+        &mut self,
+        rt: &R,
+        line: &CommandLine,
+        name: String,
+    ) -> Result<bool, Stop> {
+        if self.record.name == name {
+            return Ok(false);
+        }
+        let found = record_under(rt, &line.folder, line.zone.as_str(), name.as_str());
+        self.record = KnownRecord::new(rt.alloc());
+        self.record.name = name;
+        match found {
+            Ok(Some(found)) => self.take_record(rt, line, found),
+            Ok(None) => Ok(false),
+            Err(FolderError::Memory) => Err(Stop::Memory),
+            Err(_) => Ok(false),
+        }
+    }
+
+    /// The name of this request's record; an empty one where it has none.
+    pub fn name_to_note(&self) -> &str {
+        match &self.zone {
+            Some(_) => self.record.name.as_str(),
+            None => "",
+        }
+    }
+
+    /// Lets go of the record by which a key is known that nothing is kept under, since the text is needed then. False where no key came
+    /// from a record.
+    pub fn drop_record(&mut self) -> bool {
+        if self.tool.text.is_some() {
+            return false;
+        }
+        let Some((_, entry)) = self.record.kept.take() else {
+            return false;
+        };
+        // Its other results stay in the record that is put then.
+        if self.record.whole.is_none() {
+            self.record.whole = Some(entry);
+        }
+        true
+    }
+
     /// Whether what lies under this key may be given, where it is known by a record alone: the compiler would find the same files now. Where
     /// it wouldn't, that result is left out from now on.
     pub fn may_go_by_record<R: Files + AllocGlobal>(
@@ -63,52 +168,47 @@ impl Known {
         let (Some(key), None) = (key, &self.tool.text) else {
             return Ok(true);
         };
-        let Some((entry_key, entry)) = self.record_kept.take() else {
+        let Some((entry_key, entry)) = self.record.kept.take() else {
             return Ok(true);
         };
         let digest = key.digest.as_bytes();
-        if result_holds(rt, line.dir.as_bytes(), self.watched.as_bytes(), digest)? {
-            self.record_kept = Some((entry_key, entry));
+        if result_holds(
+            rt,
+            line.dir.as_bytes(),
+            self.record.watched.as_bytes(),
+            digest,
+        )? {
+            self.record.kept = Some((entry_key, entry));
             return Ok(true);
         }
         let rest = without(rt.alloc(), &entry, digest)?;
-        if self.whole.is_none() {
-            self.whole = Some(entry);
+        if self.record.whole.is_none() {
+            self.record.whole = Some(entry);
         }
-        self.record_kept = Some((entry_key, rest));
+        self.record.kept = Some((entry_key, rest));
         self.looked_up = None;
         Ok(false)
     }
 
     /// The files that the text names, of which the first is the input.
-    fn sources<R: Files + AllocGlobal>(
-        &self,
-        rt: &R,
-        line: &CommandLine,
-    ) -> Result<Vec<Source>, Unwatched> {
-        let alloc: Global = rt.alloc();
-        let mut sources = Vec::new(alloc);
-        let Some(recorded) = &self.tool.text else {
-            return Err(Unwatched::Device);
-        };
-        let mut seen: HashSet<&[u8]> = HashSet::new(alloc);
-        for mark in Markers::new(recorded.printed.text.as_bytes()) {
-            let Mark::Named(raw) = mark else {
-                return Err(Unwatched::Computed);
-            };
-            if !seen.insert(raw)? || raw.starts_with(b"<") || raw.ends_with(b"//") {
-                continue;
-            }
-            let name = unescaped(alloc, raw)?.into_owned(alloc)?;
-            let path = join(alloc, line.dir.as_bytes(), name.as_slice())?;
+    fn sources<R: Files + AllocGlobal>(&self, rt: &R) -> Result<Vec<Source>, Unwatched> {
+        let mut sources = Vec::new(rt.alloc());
+        if !self.named.are_all {
+            return Err(Unwatched::Computed);
+        }
+        for path in self.named.paths.as_slice() {
             let Ok(place) = str::from_utf8(path.as_bytes()) else {
                 return Err(Unwatched::Path);
             };
             if let Some(contents) = regular(rt, place) {
+                let path = path.clone()?;
                 sources.push(Source { path, contents })?;
             }
         }
-        Ok(sources)
+        match self.are_as_printed(rt)? {
+            true => Ok(sources),
+            false => Err(Unwatched::Changed),
+        }
     }
 
     /// What to watch of the text that was printed. The compiler runs where it didn't say yet where it looks.
@@ -128,7 +228,7 @@ impl Known {
             return Err(Unwatched::List);
         };
         let before = settled_before(line.moment);
-        let sources = self.sources(rt, line)?;
+        let sources = self.sources(rt)?;
         let said = said_of(rt, line, host, language, before)?;
         list_of(rt, line, sources.as_slice(), said.as_slice(), before)
     }
@@ -143,13 +243,20 @@ impl Known {
         list: &[u8],
     ) -> Result<(), Stop> {
         let alloc = rt.alloc();
-        let whole = match &self.whole {
+        let whole = match &self.record.whole {
             Some(whole) => joined(alloc, &newest.1, whole)?,
             None => newest.1.clone()?,
         };
         let dir = line.dir.as_bytes();
         let digest = key.digest.as_bytes();
-        let lists = with_list(alloc, self.watched.as_bytes(), &whole, dir, digest, list)?;
+        let lists = with_list(
+            alloc,
+            self.record.watched.as_bytes(),
+            &whole,
+            dir,
+            digest,
+            list,
+        )?;
         self.put_whole(rt, line, &newest.0, &whole, lists.as_slice())
     }
 
@@ -178,14 +285,20 @@ impl Known {
         rt: &R,
         line: &CommandLine,
     ) -> Result<bool, Stop> {
-        let (true, Some((key, entry))) = (self.tokens.are_new, &self.record_kept) else {
+        let (true, Some((key, entry))) = (self.tokens.are_new, &self.record.kept) else {
             return Ok(false);
         };
-        let entry = match &self.whole {
+        let entry = match &self.record.whole {
             Some(whole) => whole,
             None => entry,
         };
-        self.put_whole(rt, line, key, entry, noted_in(self.watched.as_bytes()).1)?;
+        self.put_whole(
+            rt,
+            line,
+            key,
+            entry,
+            noted_in(self.record.watched.as_bytes()).1,
+        )?;
         Ok(true)
     }
 }

@@ -171,7 +171,7 @@ impl<'a> Directives<'a> {
         }
         let (name, rest) = word_ahead(behind_spaces(operand));
         self.computed.push(name)?;
-        Ok(!name.is_empty() && behind_spaces(rest).is_empty())
+        Ok(!is_next && !name.is_empty() && behind_spaces(rest).is_empty())
     }
 
     /// Takes what stands behind `pragma`. False where it asks for a file.
@@ -268,23 +268,51 @@ pub fn directives_of(alloc: Global, source: &[u8]) -> Result<Option<Directives<'
     Ok(Some(found))
 }
 
-/// Whether a macro may have a definition in a source: its name stands behind `define` there.
-pub fn may_define(source: &[u8], name: &[u8]) -> bool {
+/// What stands before spaces and ends of lines that go on.
+fn before_spaces(front: &[u8]) -> &[u8] {
+    let is_gap = |byte: &u8| is_space(*byte) || *byte == b'\\' || *byte == b'\n';
+    let gap = front.iter().rev().take_while(|byte| is_gap(*byte)).count();
+    front.get(..front.len().saturating_sub(gap)).unwrap_or(&[])
+}
+
+/// Whether a name may be defined that these bytes stand before: `define` does, or a comment that may stand behind that.
+fn may_be_defined(front: &[u8]) -> bool {
+    let before = before_spaces(front);
+    before.ends_with(b"define") || before.ends_with(b"*/")
+}
+
+/// The name of a file that is all that a macro stands for, behind its own name.
+fn literal_ahead(behind: &[u8]) -> Option<Asked<'_>> {
+    let operand = behind_spaces(behind);
+    let asked = name_ahead(operand)?;
+    // Its two marks stand around it.
+    let rest = operand.get(asked.name.len().saturating_add(2)..)?;
+    match behind_spaces(rest) {
+        [] | [b'\n', ..] | [b'/', b'*' | b'/', ..] => Some(asked),
+        _ => None,
+    }
+}
+
+/// Adds what a macro may stand for by its definitions in a source, live or not. False where one of them may be another thing than a name in
+/// quotes or brackets.
+pub fn add_defined<'a>(
+    source: &'a [u8],
+    name: &[u8],
+    found: &mut Vec<Asked<'a>>,
+) -> Result<bool, AllocError> {
     for at in memmem::find_iter(source, name) {
         let front = source.get(..at).unwrap_or(&[]);
-        let spaces = front
-            .iter()
-            .rev()
-            .take_while(|byte| is_space(**byte))
-            .count();
-        let front = front
-            .get(..front.len().saturating_sub(spaces))
-            .unwrap_or(&[]);
-        if front.ends_with(b"define") {
-            return true;
+        let behind = source.get(at.saturating_add(name.len())..).unwrap_or(&[]);
+        let is_longer = behind.first().is_some_and(|byte| is_letter(*byte));
+        if is_longer || !may_be_defined(front) {
+            continue;
         }
+        let Some(asked) = literal_ahead(behind) else {
+            return Ok(false);
+        };
+        found.push(asked)?;
     }
-    false
+    Ok(true)
 }
 
 /// Adds what a source asks for by a probe of another name. False where that can't be told.

@@ -1,0 +1,206 @@
+//! The end of a call: what was made is kept, and what was kept is given, each with what was printed beside it.
+
+ghost use Rattle.std.specs.Prelude.{◌≡◌};
+
+use crate::deciding::{End, What};
+use kept_entries::entry::KeptMessages;
+use kept_folder::folder::Kind;
+use kept_folder::making_room::make_room;
+use known_calls::audits::Audit;
+use known_calls::kept::{keep, note_hint, renew};
+use known_calls::known::Known;
+use known_calls::outputs::lock_paths;
+use loaded_files::outputs::{print_again, write_dependencies, write_outputs};
+use os_files::listed::Listed;
+use os_files::os_bytes::OsBytes;
+use replay::kept_session::SessionAnswer;
+use sha2::Sha256;
+use std::alloc::Global;
+use std::fs::File;
+use std::io::Read;
+use std::rt::Files;
+use wrap::{EntryKey, How, Output, PreprocessorCacheEntry, StoreKey};
+use wrapper_host::command_line::CommandLine;
+use wrapper_host::fields::into_text;
+use wrapper_host::host::Host;
+use wrapper_host::stop::Stop;
+
+/// What a call was answered with: outputs, where they come from, and what was printed beside kept ones.
+#[derive(Clone, Copy)]
+pub struct Given<'a> {
+    pub how: How,
+    pub outputs: &'a [Output],
+    pub messages: Option<&'a KeptMessages>,
+}
+
+/// The paths of outputs.
+fn paths_of(alloc: Global, outputs: &[Output]) -> Result<Listed<OsBytes>, Stop> {
+    let mut paths = Listed::new(alloc);
+    for output in outputs {
+        paths.push(output.path.clone()?)?;
+    }
+    Ok(paths)
+}
+
+/// Puts kept outputs and a dependency file where the request wants them, and has printed again what was printed beside them. A hit is given
+/// without locks where none can be had.
+fn give<R: Files<File = File> + AllocGlobal>(
+    rt: &R,
+    line: &CommandLine,
+    given: &Given<'_>,
+    known: &Known,
+) -> Result<(), Stop> {
+    let Some(messages) = given.messages else {
+        return Err(Stop::Unreadable);
+    };
+    let paths = paths_of(rt.alloc(), given.outputs)?;
+    let dependency_file = known.dependency_file();
+    let locks = lock_paths(rt, line, paths.as_slice(), dependency_file);
+    write_dependencies(rt, dependency_file, messages)?;
+    write_outputs(rt, given.outputs)?;
+    drop(locks);
+    print_again(rt, line, messages)
+}
+
+/// Keeps the record that was put with what to watch of the text, where that can be told, or notes that the one of that name was used, with what
+/// is new of its headers. False where none was kept.
+fn finish_record<R: Files + AllocGlobal>(
+    rt: &R,
+    line: &CommandLine,
+    newest: Option<&(EntryKey, PreprocessorCacheEntry)>,
+    key: &StoreKey,
+    list: Option<&[u8]>,
+    known: &Known,
+) -> Result<bool, Stop> {
+    match (newest, list) {
+        (None, _) => {
+            if known.keep_noted(rt, line)? {
+                return Ok(true);
+            }
+            let name = known.name_to_note();
+            line.folder.renew(rt, Kind::Records, name, line.moment)?;
+            Ok(false)
+        }
+        (Some(newest), Some(list)) => {
+            known.keep_record(rt, line, newest, key, list)?;
+            Ok(true)
+        }
+        (Some(_), None) => Ok(false),
+    }
+}
+
+/// Keeps the record and the hint of a call, and sees to it that the limit holds, once for all that the call put.
+fn note_call<R: Files + AllocGlobal>(
+    rt: &R,
+    line: &CommandLine,
+    hint: &str,
+    answered: &SessionAnswer<Sha256>,
+    key: &StoreKey,
+    is_kept: bool,
+    list: Option<&[u8]>,
+    known: &Known,
+) -> Result<(), Stop> {
+    let digest_name = into_text(key.digest.clone()?)?;
+    let name = known.name_to_note();
+    let mut names = Vec::new(rt.alloc());
+    if is_kept {
+        names.push(digest_name.as_str())?;
+        names.push(hint)?;
+    }
+    if !name.is_empty() {
+        let newest = answered.session.entries().newest();
+        if let Ok(true) = finish_record(rt, line, newest, key, list, known) {
+            names.push(name)?;
+        }
+    }
+    let _ = note_hint(rt, line, hint, &key.digest, name);
+    Ok(make_room(&rt, &line.folder, names.as_slice())?)
+}
+
+/// What to watch of the text, where the session put a record. Where that can't be told there is none, and it is noted why.
+fn list_to_watch<P: Print + Files + AllocGlobal, I: Read>(
+    rt: &P,
+    line: &CommandLine,
+    host: &mut Host<I>,
+    answered: &SessionAnswer<Sha256>,
+    key: &StoreKey,
+    known: &mut Known,
+) -> Option<Vec<u8>>
+    ensures { host.new.compiled ≡ host.old.compiled }
+{
+    answered.session.entries().newest()?;
+    match known.list_to_watch(rt, line, host, key) {
+        Ok(list) => Some(list),
+        Err(why) => {
+            known.unwatched = Some(why);
+            None
+        }
+    }
+}
+
+/// Gives what was kept, and notes that it was used.
+fn give_kept<R: Files<File = File> + AllocGlobal>(
+    rt: &R,
+    line: &CommandLine,
+    key: &StoreKey,
+    given: &Given<'_>,
+    known: &Known,
+) -> Result<(), Stop> {
+    give(rt, line, given, known)?;
+    let _ = renew(rt, line, &key.digest);
+    Ok(())
+}
+
+/// Keeps outputs that were made afresh, and gives those that were kept, each with what was printed beside them. What was made in the place of
+/// a hit is compared with that, and isn't kept.
+pub fn finish<P: Print + Files<File = File> + AllocGlobal, I: Read>(
+    rt: &P,
+    line: &CommandLine,
+    host: &mut Host<I>,
+    hint: &str,
+    answered: &SessionAnswer<Sha256>,
+    given: &Given<'_>,
+    known: &mut Known,
+) -> Result<End, Stop>
+    ensures { host.new.compiled ≡ host.old.compiled }
+{
+    let Some(key) = answered.session.objects().asked() else {
+        return finish_without_key(rt, line, given, known);
+    };
+    let audit = known.compare(rt, line, key, given.outputs)?;
+    // What the compiler prints for this isn't a message of the call.
+    let list = list_to_watch(rt, line, host, answered, key, known);
+    let is_kept = given.how == How::Fresh && matches!(audit, Audit::None);
+    if is_kept {
+        keep(rt, line, key, given.outputs, known.messages(rt, line)?)?;
+    } else if given.how != How::Fresh {
+        give_kept(rt, line, key, given, known)?;
+    }
+    // What was made is there, whatever becomes of this.
+    if !matches!(audit, Audit::Differs(_)) {
+        let list = list.as_deref();
+        let _ = note_call(rt, line, hint, answered, key, is_kept, list, known);
+    }
+    let how = match (&audit, &known.audited) {
+        (Audit::Alike, Some(audited)) => audited.how,
+        (_, _) => given.how,
+    };
+    let what = What::Done(how, known.unwatched);
+    Ok(End { what, audit })
+}
+
+/// Gives outputs of which it isn't known under which key they were kept.
+fn finish_without_key<R: Files<File = File> + AllocGlobal>(
+    rt: &R,
+    line: &CommandLine,
+    given: &Given<'_>,
+    known: &Known,
+) -> Result<End, Stop> {
+    if given.how != How::Fresh {
+        give(rt, line, given, known)?;
+    }
+    Ok(End {
+        what: What::Done(given.how, known.unwatched),
+        audit: Audit::None,
+    })
+}

@@ -1,0 +1,79 @@
+//! Files and folders that tests make and change, by rows: each test has a folder of its own.
+
+use byte_formats::fields::{put_framed, put_number};
+use std::alloc::{Alloc, AllocError, Global};
+use std::fs;
+use std::rt::Files;
+use std::test::Fail;
+use std::time::UNIX_EPOCH;
+use wrapper_host::command_line::CommandLine;
+
+/// Makes a folder of that name, without anything in it.
+pub fn make_fresh<R: Files + Alloc>(rt: &R, folder: &str) -> Result<(), Fail> {
+    let _ = fs::remove_dir_all(rt, folder);
+    fs::create_dir(rt, folder)?;
+    Ok(())
+}
+
+/// Does in a folder what a row says: `folder PATH`, `write PATH TEXT`, `link PATH TO`, `remove PATH` or `unfold PATH`; nothing where it is
+/// empty.
+pub fn change<R: Files + AllocGlobal>(rt: &R, folder: &str, row: &str) -> Result<(), Fail> {
+    let mut words = row.split(' ');
+    let verb = words.next().unwrap_or("");
+    let path = words.next().unwrap_or("");
+    let path = format!(in rt.alloc(); "{folder}/{path}")?;
+    let path = path.as_str();
+    let text = words.next().unwrap_or("");
+    match verb {
+        "folder" => fs::create_dir(rt, path)?,
+        "write" => fs::write(rt, path, text.as_bytes())?,
+        "link" => std::os::unix::fs::symlink(rt, text, path)?,
+        "remove" => fs::remove_file(rt, path)?,
+        "unfold" => fs::remove_dir(rt, path)?,
+        _ => {}
+    }
+    Ok(())
+}
+
+/// Does what all of these rows say.
+pub fn change_all<R: Files + AllocGlobal>(rt: &R, folder: &str, rows: &[&str]) -> Result<(), Fail> {
+    for row in rows {
+        change(rt, folder, row)?;
+    }
+    Ok(())
+}
+
+/// The message by which a host asks about these words in a folder, where things are kept in its folder `kept`.
+fn message_of(alloc: Global, dir: &str, words: &str) -> Result<Vec<u8>, AllocError> {
+    let mut message = Vec::new(alloc);
+    let kept = format!(in alloc; "{dir}/kept")?;
+    for field in [
+        kept.as_str(),
+        "text",
+        "errors",
+        "printed",
+        "list",
+        "own",
+        "/usr/bin/gcc",
+        dir,
+    ] {
+        put_framed(&mut message, field.as_bytes())?;
+    }
+    let count = words.split(' ').count();
+    put_number(&mut message, count as u64)?;
+    for word in words.split(' ') {
+        put_framed(&mut message, word.as_bytes())?;
+    }
+    put_number(&mut message, 0)?;
+    put_framed(&mut message, b"UTC0")?;
+    Ok(message)
+}
+
+/// The command line of these words in a folder, without variables.
+pub fn line_of(alloc: Global, dir: &str, words: &str) -> Result<CommandLine, Fail> {
+    let message = message_of(alloc, dir, words)?;
+    match CommandLine::read(alloc, message.as_slice(), UNIX_EPOCH) {
+        Ok(line) => Ok(line),
+        Err(_) => Err("no command line".into()),
+    }
+}

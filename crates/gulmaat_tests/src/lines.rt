@@ -1,0 +1,109 @@
+//! Lines as they were written: which changes of a source change what is bound to a key beside its text.
+
+use crate::disks::{line_of, make_fresh};
+use os_files::os_bytes::OsBytes;
+use std::fs;
+use std::rt::Files;
+use std::test::Fail;
+use test_kit::texts::holds;
+use written_lines::asked::Asked;
+use written_lines::lines::digest_asked;
+use written_lines::named::NamedFiles;
+use written_lines::sources::Sources;
+
+/// A source before and after a change, the text of both, and whether their lines are the same.
+const CHANGES: [(&str, &str, &str, bool); 7] = [
+    ("int x;\n", "int x;\n", "# 1 \"a.c\"\nint x;\n", true),
+    (
+        "int  x;\n",
+        "int /* y */ x;\n",
+        "# 1 \"a.c\"\nint x;\n",
+        false,
+    ),
+    (
+        "int x;\n// one\n",
+        "int x;\n// two\n",
+        "# 1 \"a.c\"\nint x;\n",
+        true,
+    ),
+    (
+        "#if 0\nx\n#endif\nint x;\n",
+        "#if 0\ny\n#endif\nint x;\n",
+        "# 1 \"a.c\"\n\n\n\nint x;\n",
+        true,
+    ),
+    (
+        "int x = N;\n",
+        "int x =  N;\n",
+        "# 1 \"a.c\"\nint x = 1;\n",
+        false,
+    ),
+    (" int x;\n", "\tint x;\n", "# 1 \"a.c\"\n int x;\n", false),
+    (
+        "#line 7\nint x;\n",
+        "#line 8\nint x;\n",
+        "# 7 \"a.c\"\nint x;\n",
+        false,
+    ),
+];
+
+/// The digest of what is asked of a source with these contents and that text.
+fn digest_of<R: Files + AllocGlobal>(
+    rt: &R,
+    asked: Asked,
+    source: &str,
+    text: &str,
+) -> Result<OsBytes, Fail> {
+    let line = line_of(rt.alloc(), "gulmaat_tests_lines", "-c a.c")?;
+    fs::write(rt, "gulmaat_tests_lines/a.c", source.as_bytes())?;
+    let Ok(sources) = Sources::of(rt, &line, text.as_bytes()) else {
+        return Err("no sources".into());
+    };
+    match digest_asked(rt.alloc(), asked, text.as_bytes(), &sources) {
+        Ok(digest) => Ok(digest),
+        Err(_) => Err("no digest".into()),
+    }
+}
+
+#[test]
+fn lines_are_as_written(rt: HostRuntime) -> Result<(), Fail> {
+    make_fresh(&rt, "gulmaat_tests_lines")?;
+    for (before, after, text, are_same) in CHANGES {
+        let one = digest_of(&rt, Asked::Lines, before, text)?;
+        let other = digest_of(&rt, Asked::Lines, after, text)?;
+        holds((one == other) == are_same, after)?;
+        let whole = digest_of(&rt, Asked::Contents, before, text)?;
+        let changed = digest_of(&rt, Asked::Contents, after, text)?;
+        holds((whole == changed) == (before == after), before)?;
+    }
+    Ok(())
+}
+
+/// Texts, and the files that they name for a call in `/d`.
+const NAMED: [(&str, &[&str]); 5] = [
+    ("", &[]),
+    (
+        "# 1 \"a.c\"\n# 1 \"<built-in>\"\n# 1 \"a.c\"\n",
+        &["/d/a.c"],
+    ),
+    (
+        "# 1 \"a.c\"\n# 1 \"/d//\"\n# 1 \"/i/x.h\" 1 3 4\nint x;\n# 2 \"a.c\" 2\n",
+        &["/d/a.c", "/i/x.h"],
+    ),
+    ("# 1 \"b\\\\c.h\"\n", &["/d/b\\c.h"]),
+    ("#line 1 \"a.c\"\n", &["/d/a.c"]),
+];
+
+#[test]
+fn texts_name_files(rt: HostRuntime) -> Result<(), Fail> {
+    for (text, want) in NAMED {
+        let named = NamedFiles::of(rt.alloc(), b"/d", text.as_bytes())?;
+        let mut pairs = named.paths.iter().zip(want.iter());
+        let are_equal = pairs.all(|pair| pair.0.as_bytes() == pair.1.as_bytes());
+        holds(
+            are_equal && named.paths.len() == want.len() && named.are_all,
+            text,
+        )?;
+    }
+    Ok(())
+}

@@ -1,0 +1,173 @@
+//! What is watched of a text: each row changes a tree of folders, and says whether a compiler would find the same files as before.
+
+use crate::disks::{change, change_all, line_of, make_fresh};
+use os_files::file_time::FileTime;
+use os_files::os_bytes::OsBytes;
+use searched_folders::search_list::SearchList;
+use searched_folders::texts::{Source, list_of};
+use searched_folders::watch_list::holds as list_holds;
+use searched_folders::watching::Watching;
+use source_directives::directives::{Asked, Search};
+use std::alloc::Global;
+use std::rt::Files;
+use std::test::Fail;
+use test_kit::texts::{holds, is_that};
+
+/// What a compiler says that looks in `a`, then in `b`, and leaves out `c`.
+const SAID: &str = "ignoring nonexistent directory \"c\"\n\
+    #include \"...\" search starts here:\n#include <...> search starts here:\n a\n b\nEnd of search list.\n";
+
+/// Folders, and a header in the second one.
+const TREE: [&str; 3] = ["folder a", "folder b", "write b/x.h one"];
+
+/// A list of what is watched where `<x.h>` is asked for in that folder; what was changed before that moment is settled.
+fn list_in<R: Files + AllocGlobal>(
+    rt: &R,
+    folder: &str,
+    before: FileTime,
+    named: &str,
+) -> Result<Vec<u8>, Fail> {
+    let alloc = rt.alloc();
+    let Some(list) = SearchList::read(alloc, SAID.as_bytes())? else {
+        return Err("no search list".into());
+    };
+    let mut watching = Watching::new(alloc, folder.as_bytes(), before);
+    let name: &[u8] = b"x.h";
+    let search = Search::Bracketed;
+    let taken = watching.take_named(alloc, named, b"one", false);
+    let folders = watching.take_folders(rt, &list);
+    let searched = watching.search(rt, &list, b"", Asked { name, search });
+    let list = watching.into_list(alloc);
+    match (taken, folders, searched, list) {
+        (Ok(()), Ok(()), Ok(()), Ok(list)) => Ok(list),
+        (_, _, _, _) => Err("nothing can be watched".into()),
+    }
+}
+
+/// Makes these changes one after the other, and asks after each whether the list holds.
+fn hold_as<R: Files + AllocGlobal>(
+    rt: &R,
+    folder: &str,
+    list: &[u8],
+    changes: &[(&str, bool)],
+) -> Result<(), Fail> {
+    for (row, want) in changes {
+        change(rt, folder, row)?;
+        let found = list_holds(rt, folder.as_bytes(), list)?;
+        holds(found == *want, row)?;
+    }
+    Ok(())
+}
+
+/// Changes of names, and whether the compiler finds what it found.
+const NAMES: [(&str, bool); 15] = [
+    ("", true),
+    ("write a/y.h new", true),
+    ("write a/x.h earlier", false),
+    ("remove a/x.h", true),
+    ("remove b/x.h", false),
+    ("write b/x.h one", true),
+    ("folder a/x.h", false),
+    ("unfold a/x.h", true),
+    ("link a/x.h ../b/x.h", false),
+    ("remove a/x.h", true),
+    ("link a/x.h nowhere", false),
+    ("remove a/x.h", true),
+    ("folder c", false),
+    ("unfold c", true),
+    ("write b/z.h new", true),
+];
+
+#[test]
+fn names_are_watched(rt: HostRuntime) -> Result<(), Fail> {
+    let folder = "gulmaat_tests_names";
+    make_fresh(&rt, folder)?;
+    change_all(&rt, folder, &TREE)?;
+    let before = FileTime::from_seconds(0);
+    let list = list_in(&rt, folder, before, "gulmaat_tests_names/b/x.h")?;
+    hold_as(&rt, folder, list.as_slice(), &NAMES)
+}
+
+/// Changes of a file that was found and that the text doesn't name, and whether it counts as the same.
+const CONTENTS: [(&str, bool); 4] = [
+    ("", true),
+    ("write b/x.h another", false),
+    ("write b/x.h one", true),
+    ("remove b/x.h", false),
+];
+
+#[test]
+fn files_are_watched(rt: HostRuntime) -> Result<(), Fail> {
+    let folder = "gulmaat_tests_files";
+    make_fresh(&rt, folder)?;
+    change_all(&rt, folder, &TREE)?;
+    let before = FileTime::from_seconds(i64::MAX);
+    let list = list_in(&rt, folder, before, "gulmaat_tests_files/none.h")?;
+    hold_as(&rt, folder, list.as_slice(), &CONTENTS)?;
+    let found = list_holds(&rt, b"elsewhere", list.as_slice())?;
+    holds(!found, "a call in another folder")
+}
+
+/// Words, a source, and why there is no list of what to watch, if so.
+const SOURCES: [(&str, &str, &str); 12] = [
+    ("-c a.c", "int x;\n", ""),
+    ("-c a.c", "#include NAME\n", ""),
+    ("-c a.c -DNAME=<x.h>", "#include NAME\n", "computed name"),
+    ("-c a.c", "#define NAME <x.h>\n#include NAME\n", ""),
+    (
+        "-c a.c",
+        "#define NAME(x) <x.h>\n#include NAME\n",
+        "computed name",
+    ),
+    (
+        "-c a.c",
+        "#define NAME OTHER\n#include NAME\n",
+        "computed name",
+    ),
+    (
+        "-c a.c",
+        "#define __NAME <x.h>\n#include __NAME\n",
+        "computed name",
+    ),
+    (
+        "-c a.c",
+        "#define name <x.h>\n#include name\n",
+        "computed name",
+    ),
+    ("-c a.c -DNOW=__TIME__", "int x;\n", "option"),
+    ("-c a.c -I-", "int x;\n", "option"),
+    ("-c a.c", "PASTE(__TI, ME__)\n", "pasted time"),
+    ("-c a.c", "#embed <x.bin>\n", "computed name"),
+];
+
+/// Why there is no list of what to watch, as text; an empty one where there is one.
+fn why_none<R: Files + AllocGlobal>(
+    rt: &R,
+    folder: &str,
+    words: &str,
+    source: &str,
+) -> Result<String, Fail> {
+    let alloc: Global = rt.alloc();
+    let line = line_of(alloc, folder, words)?;
+    let mut sources = Vec::new(alloc);
+    let path = OsBytes::from_slice(alloc, b"gulmaat_tests_lists/a.c")?;
+    let contents = OsBytes::from_slice(alloc, source.as_bytes())?;
+    sources.push(Source { path, contents })?;
+    let before = FileTime::from_seconds(i64::MAX);
+    match list_of(rt, &line, sources.as_slice(), SAID.as_bytes(), before) {
+        Ok(_) => Ok(String::new(alloc)),
+        Err(why) => Ok(format!(in alloc; "{why}")?),
+    }
+}
+
+#[test]
+fn sources_have_lists(rt: HostRuntime) -> Result<(), Fail> {
+    let folder = "gulmaat_tests_lists";
+    make_fresh(&rt, folder)?;
+    change_all(&rt, folder, &TREE)?;
+    for (words, source, want) in SOURCES {
+        let why = why_none(&rt, folder, words, source)?;
+        is_that(why.as_str(), want, source)?;
+    }
+    Ok(())
+}
