@@ -64,6 +64,30 @@ search_tree() {
     settle
 }
 
+# Rights that are taken: by a user who hasn't all of them, with a cache folder of its own.
+search_rights() {
+    local cc=$1
+    search_tree
+    search_case "$cc: a folder that can't be looked into" "chmod 000 early" "chmod 700 early" $cc -Iearly -Ilate
+    search_case "$cc: a header that can't be read" "chmod 000 late/value.h" "chmod 600 late/value.h" $cc -Iearly -Ilate
+    search_case "$cc: a source that can't be read" "chmod 000 it.c" "chmod 600 it.c" $cc -Iearly -Ilate
+    search_case "$cc: a folder that can't be listed" "chmod 300 early" "chmod 700 early" $cc -Iearly -Ilate
+}
+# Runs them as another user, and takes over what passed and what failed.
+search_as_another() {
+    local cc=$1 dir=$work/rights-$1 functions counts
+    chmod 711 "$work"
+    mkdir -p "$dir"
+    chown 65534 "$dir"
+    functions=$(declare -f is counted mark since settle search_call search_case search_tree search_rights)
+    cd "$dir" || return
+    setpriv --reuid=65534 --regid=65534 --clear-groups env GULMAAT_DIR="$dir/cache" \
+        bash -c "$functions; host=$host passed=0 failed=0; search_rights $cc; echo \$passed \$failed >counts"
+    read -r -a counts <counts
+    passed=$((passed + counts[0])) failed=$((failed + counts[1]))
+    cd "$work" || return
+}
+
 searches() {
     local cc=$1 dir=$work/searches-$1 new='printf "#define VALUE 7\n" >'
     mkdir -p "$dir"

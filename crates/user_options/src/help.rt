@@ -21,6 +21,7 @@ gulmaat OPTION..
   -k, --get-config KEY           the value of a key
   -o, --set-config KEY=VALUE     sets a key in the user's file of settings
   -d, --dir DIR                  the options with it are of what is kept there
+      --audit COMMAND ..         runs the command; a hit is compiled too, and what differs is said
       --why COMMAND ..           what differed, at the last call with the outputs of this command that was compiled, from the one before it
       --links DIR                puts links into this folder, by which gulmaat stands before the compilers that are on the path
 
