@@ -225,8 +225,8 @@ habits_settings() {
         shows max_size 5G "$file"
     done
     for option in -k --get-config; do prints "$option" 5G "$host" $option max_size; done
-    prints "all keys are read" "" "$host" -o read_only=no -o recache=off -o stats=on -o disable=0 -o direct_mode=false -o log_file= -o base_dir= -o umask=002 -o sloppiness=lines -o allow_options="-fone -ftwo"
-    for key in read_only recache stats disable direct_mode log_file base_dir max_size umask sloppiness allow_options; do
+    prints "all keys are read" "" "$host" -o read_only=no -o recache=off -o stats=on -o disable=0 -o direct_mode=false -o log_file= -o base_dir= -o umask=002 -o sloppiness=lines -o audit=7 -o allow_options="-fone -ftwo"
+    for key in read_only recache stats disable direct_mode log_file base_dir max_size umask sloppiness audit allow_options; do
         is "$key comes from the file" grep -q "^($file) $key = " <("$host" -p)
     done
     printf '# a comment\n\n  stats=yes\n' >"$file"
@@ -235,6 +235,7 @@ habits_settings() {
     refused "-o nothing=1" "no key is called nothing" "$host" -o nothing=1
     refused "-o stats" "-o takes KEY=VALUE" "$host" -o stats
     refused "-o stats=maybe" "stats is maybe: set it to 1, yes, true or on, or 0, no, false or off" "$host" -o stats=maybe
+    refused "-o audit=some" "audit is some: set it to a whole number, or tell" "$host" -o audit=some
     refused "-o cache_dir=here" "cache_dir is here: set it to an absolute path" "$host" -o cache_dir=here
     for value in 8 1777 -2 rw; do
         refused "-o umask=$value" "umask is $value: set it to an octal number up to 777" "$host" -o umask=$value
