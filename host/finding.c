@@ -49,6 +49,7 @@ void tell_inside(void) {
     struct stat file;
     char host[48], runs[48] = "";
     size_t size = strlen(told), most = sizeof tells - 128;
+    if (tells[sizeof INSIDE]) return;
     name_file(host, sizeof host, &own);
     if (!stat(compiler, &file)) name_file(runs, sizeof runs, &file);
     snprintf(tells, sizeof tells, INSIDE "=%s%s%s", told + (size > most ? size - most : 0), host, runs);

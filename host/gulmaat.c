@@ -283,11 +283,9 @@ int main(int count, char **list) {
         if (errno == ENOEXEC || errno == EACCES || errno == ENOENT) perror(program);
         pass_through();
     }
-    tell_inside();
     int compiled = send_message(to) ? -1 : answer_questions(from, to);
     close(to);
     int status = end_of(child, from);
-    close(from);
     if (compiled >= 0 && WIFEXITED(compiled)) return WEXITSTATUS(compiled);
     if (compiled >= 0) end_by(WTERMSIG(compiled));
     if (stopped) end_by(stopped);

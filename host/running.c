@@ -169,6 +169,7 @@ pid_t start(const char *program, int *to, int *from) {
 
 /* Starts the compiler, whose output and messages go to these files. */
 static int start_compiler(char **line, int output, int errors, int has_list) {
+    tell_inside();
     sigprocmask(SIG_BLOCK, &stops, NULL);
     pid_t child = stopped ? -1 : launch(compiler, line, (const int[]){-1, output, errors}, 0, has_list);
     if (child > 0 && fault) waitpid(child, NULL, 0);

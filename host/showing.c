@@ -40,18 +40,23 @@ int write_all(int file, const void *bytes, size_t size) {
 
 /* ---- Whether colours are wanted. */
 
-/* Whether the caller's own words say something of colours. The program adds no word then. */
-static int says_of_colours(void) {
-    for (char **word = words + 1; *word; word++)
-        if (!strncmp(*word, "-fdiagnostics-color", 19) || !strcmp(*word, "-fno-diagnostics-color") ||
-            !strcmp(*word, "-fcolor-diagnostics") || !strcmp(*word, "-fno-color-diagnostics")) return 1;
-    return 0;
+/* When the caller's own words would have messages in colour: the last one that says so. */
+static enum { NEVER, AT_A_TERMINAL, ALWAYS } asks_for_colours(void) {
+    int asks = AT_A_TERMINAL;
+    for (char **word = words + 1; *word; word++) {
+        const char *value = !strncmp(*word, "-fdiagnostics-color", 19) ? *word + 19 : NULL;
+        if (!strcmp(*word, "-fcolor-diagnostics") || (value && (!*value || !strcmp(value, "=always")))) asks = ALWAYS;
+        else if (!strcmp(*word, "-fno-color-diagnostics") || !strcmp(*word, "-fno-diagnostics-color")) asks = NEVER;
+        else if (value && *value == '=') asks = strcmp(value, "=never") ? AT_A_TERMINAL : NEVER;
+    }
+    return asks;
 }
 
-/* Whether a compiler prints in colour where no word says so, as GCC asks. An empty GCC_COLORS it sees itself. */
+/* Whether messages are to be in colour, as GCC asks where it is to find out. That GCC_COLORS is empty it sees itself. */
 static int wants_colours(void) {
     const char *terminal = getenv("TERM");
-    return terminal && strcmp(terminal, "dumb") && isatty(2);
+    int asks = asks_for_colours();
+    return asks == ALWAYS || (asks == AT_A_TERMINAL && terminal && strcmp(terminal, "dumb") && isatty(2));
 }
 
 /* ---- Whether an escape may be of the source. */
@@ -177,12 +182,12 @@ void begin_messages(char **line) {
 /* Shows a part of what a compile prints, of at most 65536 bytes. Where its colours can't be told from other escapes it isn't kept and, where
  * they would be taken out, the compiler runs itself. */
 void show_part(int to, const char *part, size_t size) {
-    if (!is_begun && is_coloured && may_quote_escapes()) {
+    if (!is_begun && is_coloured && asks_for_colours() != ALWAYS && may_quote_escapes()) {
         isnt_kept = 1;
         is_withheld = takes_out;
     }
     is_begun = 1;
-    if (to == 2 && !is_coloured && has_escape(part, size) && !says_of_colours()) isnt_kept = 1;
+    if (to == 2 && !is_coloured && asks_for_colours() != ALWAYS && has_escape(part, size)) isnt_kept = 1;
     if (is_withheld) isnt_shown = 1;
     else show(to, part, size);
 }
@@ -199,7 +204,7 @@ static int show_file(int file, int to) {
     char part[65536];
     ssize_t size;
     for (off_t at = 0; (size = pread(file, part, sizeof part, at)) > 0; at += size) {
-        if (!at && to == 2) takes_out = !says_of_colours() && !wants_colours();
+        if (!at && to == 2) takes_out = !wants_colours();
         show(to, part, size);
     }
     return size < 0 ? -1 : 0;
