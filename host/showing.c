@@ -52,11 +52,12 @@ static enum { NEVER, AT_A_TERMINAL, ALWAYS } asks_for_colours(void) {
     return asks;
 }
 
-/* Whether messages are to be in colour, as GCC asks where it is to find out. That GCC_COLORS is empty it sees itself. */
-static int wants_colours(void) {
-    const char *terminal = getenv("TERM");
+/* Whether messages are to be in colour, by the questions of GCC where it is to find out. Clang has no GCC_COLORS. */
+static int wants_colours(int is_gcc) {
+    const char *terminal = getenv("TERM"), *colours = is_gcc ? getenv("GCC_COLORS") : NULL;
     int asks = asks_for_colours();
-    return asks == ALWAYS || (asks == AT_A_TERMINAL && terminal && strcmp(terminal, "dumb") && isatty(2));
+    if (asks != AT_A_TERMINAL) return asks == ALWAYS;
+    return terminal && strcmp(terminal, "dumb") && isatty(2) && !(colours && !*colours);
 }
 
 /* ---- Whether an escape may be of the source. */
@@ -176,7 +177,7 @@ void begin_messages(char **line) {
     while (words[before]) before++;
     while (line[now]) now++;
     is_coloured = now > before;
-    takes_out = is_coloured && !wants_colours();
+    takes_out = is_coloured && !wants_colours(!strcmp(line[now - 1], "-fdiagnostics-color=always"));
 }
 
 /* Shows a part of what a compile prints, of at most 65536 bytes. Where its colours can't be told from other escapes it isn't kept and, where
@@ -204,7 +205,8 @@ static int show_file(int file, int to) {
     char part[65536];
     ssize_t size;
     for (off_t at = 0; (size = pread(file, part, sizeof part, at)) > 0; at += size) {
-        if (!at && to == 2) takes_out = !wants_colours();
+        /* Behind each colour GCC clears the line, and Clang does not. */
+        if (!at && to == 2) takes_out = !wants_colours(memmem(part, size, "\033[K", 3) != NULL);
         show(to, part, size);
     }
     return size < 0 ? -1 : 0;
