@@ -85,7 +85,7 @@ host_calls() {
 
 # The same by a host that a sanitizer watches. What that finds is told in files.
 host_sanitized() {
-    local host=$work/sanitized-host sanitized=sanitized-
+    local host=$work/gulmaat-sanitized sanitized=sanitized-
     local -x GULMAAT_BIN=$built/gulmaat ASAN_OPTIONS=log_path=$work/sanitizer:detect_leaks=1 UBSAN_OPTIONS=log_path=$work/sanitizer
     is "a host with sanitizers" gcc -g -O1 -fsanitize=address,undefined -fno-sanitize-recover=all "$top"/host/*.c -o "$host"
     host_calls gcc
