@@ -43,6 +43,10 @@ audit() {
     mark
     "$host" "fake/$cc" -c it.c -o it.o
     is "$cc: what was kept is gone" since 0 1
+    rm -f it.o
+    "$host" --audit $cc -c it.c -o it.o 2>err
+    is "$cc: one command is compared" grep -q 'gulmaat: \(a hit: \|no hit\)' err
+    is "$cc: its object is there" [ -s it.o ]
     # None is compared, and a value that is none is refused.
     GULMAAT_AUDIT=0 "$host" $cc -c it.c -o it.o 2>err
     is "$cc: none is compared" [ ! -s err ]

@@ -65,13 +65,30 @@ host_ignores() {
 }
 
 host_calls() {
-    local cc=$1 dir=$work/host-$1
+    local cc=$1 dir=$work/host-${sanitized:-}$1
     mkdir -p "$dir"
     cd "$dir" || return
     # Clang takes a SIGQUIT for a crash of its own, or doesn't, by how far it is.
     if [ "$cc" = gcc ]; then host_signals "$cc" QUIT; else host_signals "$cc"; fi
     host_ignores "$cc"
+    host_hands_on "$cc"
+    host_itself "$cc"
+    host_fails "$cc"
+    host_deaths "$cc"
+    host_shows_early "$cc"
+    host_streams "$cc"
+    host_colours "$cc"
     # Nothing lies in the cache folder but what is kept.
     is "$cc: no folder of a process" [ ! -e "$GULMAAT_DIR/own" ]
     cd "$work" || return
+}
+
+# The same by a host that a sanitizer watches. What that finds is told in files.
+host_sanitized() {
+    local host=$work/gulmaat-sanitized sanitized=sanitized-
+    local -x GULMAAT_BIN=$built/gulmaat ASAN_OPTIONS=log_path=$work/sanitizer:detect_leaks=1 UBSAN_OPTIONS=log_path=$work/sanitizer
+    is "a host with sanitizers" gcc -g -O1 -fsanitize=address,undefined -fno-sanitize-recover=all "$top"/host/*.c -o "$host"
+    host_calls gcc
+    host_calls clang
+    is "no sanitizer found anything" [ -z "$(cat "$work"/sanitizer.* 2>/dev/null | head -n 30 | tee /dev/stderr)" ]
 }

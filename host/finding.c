@@ -1,0 +1,145 @@
+/* Which files run: this host's own, the compiler's and the program's. */
+#define _GNU_SOURCE
+#include "host.h"
+#include <errno.h>
+#include <fcntl.h>
+#include <stdint.h>
+#include <stdio.h>
+#include <stdlib.h>
+#include <string.h>
+#include <sys/auxv.h>
+#include <sys/stat.h>
+#include <unistd.h>
+
+/* What a host tells those that it runs: the device and inode of itself and of what it runs, behind those that it was told. */
+#define INSIDE "GULMAAT_INSIDE"
+
+char **words, compiler[PATH_MAX], self[PATH_MAX];
+int is_inside;
+
+static struct stat own;                 /* what this host's own file is */
+static const char *told = "";           /* which files hosts ran so far, in this chain of calls */
+static char tells[4096] = INSIDE "=";
+
+/* Finds this host's own file, also where /proc isn't there, and which host runs this one. */
+void find_self(void) {
+    ssize_t size = readlink("/proc/self/exe", self, sizeof self - 1);
+    self[size < 0 ? 0 : size] = 0;
+    if (size < 0 && !realpath((const char *)getauxval(AT_EXECFN), self)) self[0] = 0;
+    if (stat(size < 0 ? self : "/proc/self/exe", &own)) memset(&own, 0, sizeof own);
+    if (getenv(INSIDE)) told = getenv(INSIDE);
+    is_inside = *told != 0;
+}
+
+static void name_file(char *name, size_t size, const struct stat *file) {
+    snprintf(name, size, " %jx:%jx ", (uintmax_t)file->st_dev, (uintmax_t)file->st_ino);
+}
+
+/* How often that file ran in this chain of calls. */
+static int runs_of(const struct stat *file) {
+    char name[48];
+    int count = 0;
+    name_file(name, sizeof name, file);
+    for (const char *at = told; (at = strstr(at, name)); at++) count++;
+    return count;
+}
+
+/* Tells what this process runs from now on that this host runs it. Of a chain that is too long the end is told. */
+void tell_inside(void) {
+    struct stat file;
+    char host[48], runs[48] = "";
+    size_t size = strlen(told), most = sizeof tells - 128;
+    if (tells[sizeof INSIDE]) return;
+    name_file(host, sizeof host, &own);
+    if (!stat(compiler, &file)) name_file(runs, sizeof runs, &file);
+    snprintf(tells, sizeof tells, INSIDE "=%s%s%s", told + (size > most ? size - most : 0), host, runs);
+    putenv(tells);
+}
+
+/* Whether a file has the bytes of this host. */
+static int is_copy(const char *path) {
+    char one[4096], other[sizeof one];
+    int ours = open(self, O_RDONLY | O_CLOEXEC), its = open(path, O_RDONLY | O_CLOEXEC), is = ours >= 0 && its >= 0;
+    for (ssize_t size = 1; is && size > 0;) {
+        size = read(ours, one, sizeof one);
+        is = size >= 0 && read(its, other, sizeof other) == size && !memcmp(one, other, size);
+    }
+    if (ours >= 0) close(ours);
+    if (its >= 0) close(its);
+    return is;
+}
+
+/* Whether a file is this host, under another name or as a copy. */
+static int is_self(const char *path, const struct stat *file) {
+    if (file->st_dev == own.st_dev && file->st_ino == own.st_ino) return 1;
+    return file->st_size == own.st_size && own.st_size && is_copy(path);
+}
+
+/* Whether a file can be run, and isn't one to be skipped: this host, or one that ran more than so often in this chain of calls. */
+static enum { NONE, SKIPPED, FOUND } look_at(const char *path, int most) {
+    struct stat file;
+    if (stat(path, &file) || access(path, X_OK)) return NONE;
+    if (!S_ISREG(file.st_mode)) { errno = EACCES; return NONE; }
+    return is_self(path, &file) || runs_of(&file) > most ? SKIPPED : FOUND;
+}
+
+/* The first file of that name on the path that can be run and isn't skipped. A driver that is called by its name looks for its parts beside the
+ * first file of that name on the path: where that is skipped, it is called by its own path. */
+static int search(const char *name, int most) {
+    const char *path = getenv("PATH"), *end;
+    for (path = path ? path : "/usr/bin:/bin"; path; path = *end ? end + 1 : NULL) {
+        end = strchrnul(path, ':');
+        int length = snprintf(compiler, sizeof compiler, "%.*s/%s", end > path ? (int)(end - path) : 1, end > path ? path : ".", name);
+        if (length >= (int)sizeof compiler) continue;
+        switch (look_at(compiler, most)) {
+        case FOUND: return 0;
+        case SKIPPED: words[0] = compiler; break;
+        case NONE: break;
+        }
+    }
+    errno = ENOENT;
+    return -1;
+}
+
+/* The file of that name, where it can be run, by the usual search. A host is none, and its name is searched. Nor is a file that ran in this chain
+ * of calls already, as a script of that name that calls a host: the next one is taken, or it once more where there is none. */
+int find_compiler(const char *name) {
+    const char *slash = strrchr(name, '/');
+    if (slash) {
+        if (strlen(name) >= sizeof compiler) { errno = ENAMETOOLONG; return -1; }
+        strcpy(compiler, name);
+        switch (look_at(compiler, 1)) {
+        case FOUND: return 0;
+        case NONE: return -1;
+        case SKIPPED: break;
+        }
+        name = slash + 1;
+        words[0] = compiler;
+    }
+    return search(name, 0) && (!is_inside || search(name, 1)) ? -1 : 0;
+}
+
+/* Whether this is a program that can be started, and not this host. */
+static int is_program(const char *path) {
+    struct stat file;
+    return !stat(path, &file) && S_ISREG(file.st_mode) && file.st_mode & 0111 && !is_self(path, &file);
+}
+
+/* The program: the one that GULMAAT_BIN names, or where an installation has it, or beside this host. Says where it isn't. */
+const char *find_program(void) {
+    static char program[PATH_MAX + 32];
+    const char *named = getenv("GULMAAT_BIN"), *slash = strrchr(self, '/');
+    int size = slash ? (int)(slash - self) : 0;
+    if (named && is_program(named)) return named;
+    if (named) {
+        fprintf(stderr, "gulmaat: its program isn't at %s: set GULMAAT_BIN to it\n", named);
+        return NULL;
+    }
+    snprintf(program, sizeof program, "%.*s/../lib/gulmaat/gulmaat", size, self);
+    if (is_program(program)) return program;
+    snprintf(program, sizeof program, "%.*s/gulmaat", size, self);
+    if (is_program(program)) return program;
+    fprintf(stderr, "gulmaat: its program isn't at %.*s/../lib/gulmaat/gulmaat nor, beside this, at %s: set GULMAAT_BIN to it, or run "
+        "bin/build\n", size, self, program);
+    return NULL;
+}

@@ -1,0 +1,220 @@
+/* What a compiler prints. The program has it print its messages in colour, by a word of its own behind the caller's, so that what is kept serves
+ * a terminal and a log: where the caller wants none, these colours are taken out as messages are shown. Nothing else is, and nothing of standard
+ * output.
+ */
+#define _GNU_SOURCE
+#include "host.h"
+#include <errno.h>
+#include <fcntl.h>
+#include <poll.h>
+#include <stdlib.h>
+#include <string.h>
+#include <sys/mman.h>
+#include <sys/stat.h>
+#include <unistd.h>
+
+#define ESCAPE 27
+
+int isnt_shown, isnt_kept;
+
+static int is_coloured;     /* whether the program's word for colours is among the words of the compile */
+static int takes_out;       /* whether colours are taken out of what is shown */
+static int is_begun;        /* whether something was printed */
+static int is_withheld;     /* whether it is shown to nobody, since its colours can't be told from other escapes */
+
+/* Writes all of it, and waits where a file takes nothing now. Gives up where a signal stops this process, which may wait for a reader then. */
+int write_all(int file, const void *bytes, size_t size) {
+    for (const char *at = bytes; size;) {
+        ssize_t written = write(file, at, size);
+        if (written < 0 && errno == EINTR && !stopped) continue;
+        if (written < 0 && errno == EAGAIN) {
+            struct pollfd ready = {file, POLLOUT, 0};
+            if (poll(&ready, 1, -1) >= 0 || !stopped) continue;
+        }
+        if (written < 0) return -1;
+        at += written;
+        size -= written;
+    }
+    return 0;
+}
+
+/* ---- Whether colours are wanted. */
+
+/* When the caller's own words would have messages in colour: the last one that says so. */
+static enum { NEVER, AT_A_TERMINAL, ALWAYS } asks_for_colours(void) {
+    int asks = AT_A_TERMINAL;
+    for (char **word = words + 1; *word; word++) {
+        const char *value = !strncmp(*word, "-fdiagnostics-color", 19) ? *word + 19 : NULL;
+        if (!strcmp(*word, "-fcolor-diagnostics") || (value && (!*value || !strcmp(value, "=always")))) asks = ALWAYS;
+        else if (!strcmp(*word, "-fno-color-diagnostics") || !strcmp(*word, "-fno-diagnostics-color")) asks = NEVER;
+        else if (value && *value == '=') asks = strcmp(value, "=never") ? AT_A_TERMINAL : NEVER;
+    }
+    return asks;
+}
+
+/* Whether messages are to be in colour, by the questions of GCC where it is to find out. Clang has no GCC_COLORS. */
+static int wants_colours(int is_gcc) {
+    const char *terminal = getenv("TERM"), *colours = is_gcc ? getenv("GCC_COLORS") : NULL;
+    int asks = asks_for_colours();
+    if (asks != AT_A_TERMINAL) return asks == ALWAYS;
+    return terminal && strcmp(terminal, "dumb") && isatty(2) && !(colours && !*colours);
+}
+
+/* ---- Whether an escape may be of the source. */
+
+static int has_escape(const char *bytes, size_t size) { return memchr(bytes, ESCAPE, size) != NULL; }
+
+/* What a file has in it, or NULL where it is empty or can't be read. */
+static const char *map(int file, size_t *size) {
+    struct stat state;
+    if (fstat(file, &state) || !S_ISREG(state.st_mode) || !state.st_size) return NULL;
+    *size = state.st_size;
+    const char *bytes = mmap(NULL, *size, PROT_READ, MAP_PRIVATE, file, 0);
+    return bytes == MAP_FAILED ? NULL : bytes;
+}
+
+/* Whether a file that a text names may have an escape in it. One that isn't there is quoted by no compiler. */
+static int source_has_escape(const char *path) {
+    struct stat state;
+    size_t size;
+    if (stat(path, &state)) return errno != ENOENT && errno != ENOTDIR;
+    if (!S_ISREG(state.st_mode) || !state.st_size) return 0;
+    int file = open(path, O_RDONLY | O_CLOEXEC), has = 1;
+    const char *bytes = file < 0 ? NULL : map(file, &size);
+    if (bytes) {
+        has = has_escape(bytes, size);
+        munmap((void *)bytes, size);
+    }
+    if (file >= 0) close(file);
+    return has;
+}
+
+enum { NO_NAME, GOES_IN, GOES_BACK, UNREADABLE };
+
+/* Reads the name in a line of the text, where it is a marker: # 12 "name" 1, with a 2 at its end where a file goes on that was named before. */
+static int name_in(const char *line, const char *end, char *name) {
+    const char *at = line + 2, *last = name + PATH_MAX - 1;
+    if (end - line < 5 || line[0] != '#' || line[1] != ' ') return NO_NAME;
+    while (at < end && *at >= '0' && *at <= '9') at++;
+    if (at == line + 2 || end - at < 2 || at[0] != ' ' || at[1] != '"') return NO_NAME;
+    for (at += 2; at < end && *at != '"'; at++) {
+        if (*at == '\\' && (++at == end || (*at != '\\' && *at != '"'))) return UNREADABLE;
+        if (name == last) return UNREADABLE;
+        *name++ = *at;
+    }
+    *name = 0;
+    return end - at < 3 || at[2] != '2' ? GOES_IN : GOES_BACK;
+}
+
+/* Whether any file that the text names may have one. A text that names none doesn't tell. */
+static int sources_have_escapes(const char *text, size_t size) {
+    char name[PATH_MAX], before[PATH_MAX] = "";
+    int is_named = 0;
+    for (const char *line = text, *end; line < text + size; line = end + 1) {
+        end = memchr(line, '\n', text + size - line);
+        if (!end) end = text + size;
+        int found = name_in(line, end, name);
+        if (found == UNREADABLE) return 1;
+        if (found == NO_NAME || !strcmp(name, before)) continue;
+        strcpy(before, name);
+        if (found == GOES_BACK) continue;
+        is_named = 1;
+        if (name[0] != '<' && source_has_escape(name)) return 1;
+    }
+    return !is_named;
+}
+
+/* Whether messages of the compile may have escapes in them that aren't the compiler's own: of a word, or of a file that it may quote. */
+static int may_quote_escapes(void) {
+    size_t size;
+    for (char **word = words + 1; *word; word++)
+        if (strchr(*word, ESCAPE)) return 1;
+    const char *bytes = map(text, &size);
+    if (!bytes) return 1;
+    int may = has_escape(bytes, size) || sources_have_escapes(bytes, size);
+    munmap((void *)bytes, size);
+    return may;
+}
+
+/* ---- Showing. */
+
+/* What may be a colour and isn't ended yet: an escape, a bracket, digits and semicolons. */
+static char held[32];
+static size_t held_size;
+
+/* Copies bytes without colours, each of which is an escape, a bracket, digits and semicolons, and an m or a K. Gives the new size, of
+ * which there may be more than before, by what was held. */
+static size_t without_colours(char *to, const char *from, size_t size) {
+    size_t end = 0;
+    for (size_t i = 0; i < size; i++) {
+        char byte = from[i];
+        int ends = held_size > 1 && (byte == 'm' || byte == 'K');
+        int goes_on = held_size == 0 ? byte == ESCAPE : held_size == 1 ? byte == '[' : strchr("0123456789;", byte) && byte;
+        if (ends) { held_size = 0; continue; }
+        if (!goes_on || held_size == sizeof held) {
+            memcpy(to + end, held, held_size);
+            end += held_size;
+            held_size = 0;
+            if (byte != ESCAPE) { to[end++] = byte; continue; }
+        }
+        held[held_size++] = byte;
+    }
+    return end;
+}
+
+static void show(int to, const char *part, size_t size) {
+    char plain[65536 + sizeof held];
+    if (to == 2 && takes_out) {
+        size = without_colours(plain, part, size);
+        part = plain;
+    }
+    if (!isnt_shown && write_all(to, part, size)) isnt_shown = 1;
+}
+
+/* What comes is printed by a compile of these words. */
+void begin_messages(char **line) {
+    int before = 0, now = 0;
+    while (words[before]) before++;
+    while (line[now]) now++;
+    is_coloured = now > before;
+    takes_out = is_coloured && !wants_colours(!strcmp(line[now - 1], "-fdiagnostics-color=always"));
+}
+
+/* Shows a part of what a compile prints, of at most 65536 bytes. Where its colours can't be told from other escapes it isn't kept and, where
+ * they would be taken out, the compiler runs itself. */
+void show_part(int to, const char *part, size_t size) {
+    if (!is_begun && is_coloured && asks_for_colours() != ALWAYS && may_quote_escapes()) {
+        isnt_kept = 1;
+        is_withheld = takes_out;
+    }
+    is_begun = 1;
+    if (to == 2 && !is_coloured && asks_for_colours() != ALWAYS && has_escape(part, size)) isnt_kept = 1;
+    if (is_withheld) isnt_shown = 1;
+    else show(to, part, size);
+}
+
+/* What was held back at the end was no colour. */
+void end_messages(void) {
+    takes_out = 0;
+    show(2, held, held_size);
+    held_size = 0;
+}
+
+/* Shows what lies in a file in memory. */
+static int show_file(int file, int to) {
+    char part[65536];
+    ssize_t size;
+    for (off_t at = 0; (size = pread(file, part, sizeof part, at)) > 0; at += size) {
+        /* Behind each colour GCC clears the line, and Clang does not. */
+        if (!at && to == 2) takes_out = !wants_colours(memmem(part, size, "\033[K", 3) != NULL);
+        show(to, part, size);
+    }
+    return size < 0 ? -1 : 0;
+}
+
+/* Shows what was printed beside kept outputs. */
+int show_kept(void) {
+    if (show_file(printed, 1) || show_file(messages, 2)) return -1;
+    end_messages();
+    return isnt_shown ? -1 : 0;
+}
