@@ -85,9 +85,9 @@ lines() {
     # A user may say that lines don't count.
     sed -i 's#/\* one and two \*/#/* three */#' lines.c
     mark
-    GULMAAT_SLOPPINESS=lines "$host" "$cc" -g -c lines.c -o it.o
+    GULMAAT_AUDIT=0 GULMAAT_SLOPPINESS=lines "$host" "$cc" -g -c lines.c -o it.o
     sed -i 's#/\* three \*/#/* four */#' lines.c
-    GULMAAT_SLOPPINESS=lines "$host" "$cc" -g -c lines.c -o it.o
+    GULMAAT_AUDIT=0 GULMAAT_SLOPPINESS=lines "$host" "$cc" -g -c lines.c -o it.o
     is "$cc: lines don't count" since 1 1
     cd "$work" || return
 }
