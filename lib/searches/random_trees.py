@@ -32,7 +32,11 @@ def spell(name, chance):
         return f'#if 0\n#include "{name}"\n#endif\n'
     if way < 0.9:
         return f'#ifdef __has_include\n#if __has_include("{name}")\n#include "{name}"\n#endif\n#endif\n'
-    return f"#define PROBE(x) __has_include(x)\n#if PROBE(<{name}>)\nint probed_@;\n#endif\n#undef PROBE\n"
+    if way < 0.95:
+        return f"#define PROBE(x) __has_include(x)\n#if PROBE(<{name}>)\nint probed_@;\n#endif\n#undef PROBE\n"
+    # A macro that stands for a header, which another one may have defined first, in quotes or in brackets.
+    macro, spelled = f"TAKEN_{NAMES.index(name)}", chance.choice([f'"{name}"', f"<{name}>"])
+    return f"#ifndef {macro}\n#define {macro} {spelled}\n#endif\n#include {macro}\n"
 
 
 class Tree:
