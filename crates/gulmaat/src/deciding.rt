@@ -11,7 +11,7 @@ use kept_entries::entry::KeptMessages;
 use kept_pairs::entries::Kept;
 use kept_pairs::record_files::name_of_record;
 use known_calls::audits::Audit;
-use known_calls::kept::{Hint, found, hint_at, hint_name, kept_under};
+use known_calls::kept::{found, hint_at, hint_name, kept_under};
 use known_calls::known::Known;
 use known_compilers::compilers::kind_of;
 use os_files::listed::Listed;
@@ -250,7 +250,9 @@ fn load_entry<R: Files + AllocGlobal>(
     let Some(had) = hint_at(rt, line, hint)? else {
         return Ok(());
     };
-    known.entry = kept_under(rt, line, had.digest, known.preprocessor.as_bytes())?;
+    let digest = had.digest.clone()?;
+    known.entry = kept_under(rt, line, digest, known.preprocessor.as_bytes())?;
+    known.hint = Some(had);
     Ok(())
 }
 
@@ -268,13 +270,11 @@ fn load_ahead<R: Files + AllocGlobal>(
     let Some(had) = hint_at(rt, line, hint)? else {
         return Ok(());
     };
-    let Hint {
-        digest,
-        record_name,
-    } = had;
+    let record_name = String::from_str(rt.alloc(), had.record_name.as_str())?;
     if known.look_up_record(rt, line, record_name)? {
-        known.entry = kept_under(rt, line, digest, &[])?;
+        known.entry = kept_under(rt, line, had.digest.clone()?, &[])?;
     }
+    known.hint = Some(had);
     Ok(())
 }
 

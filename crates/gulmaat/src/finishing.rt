@@ -113,7 +113,9 @@ fn note_call<R: Files + AllocGlobal>(
             names.push(name)?;
         }
     }
-    let _ = note_hint(rt, line, hint, &key.digest, name);
+    if !known.has_hint(&key.digest, name) {
+        let _ = note_hint(rt, line, hint, &key.digest, name);
+    }
     Ok(make_room(&rt, &line.folder, names.as_slice())?)
 }
 

@@ -3,6 +3,7 @@
 ghost use Rattle.std.specs.Prelude.{◌≡◌, ◌≤◌};
 
 use crate::audits::Audited;
+use crate::kept::Hint;
 use crate::outputs::{lock_paths, made_since, states_of};
 use crate::records::KnownRecord;
 use ckeys::hasher::needs_c_preprocessing;
@@ -63,6 +64,8 @@ pub struct Known {
     pub looked_up: Option<OsBytes>,
     /// The include record that a disk keeps, which may fit.
     pub(crate) record: KnownRecord,
+    /// What this command line had last, once the disk was asked.
+    pub hint: Option<Hint>,
     /// The hit that is compiled too.
     pub audited: Option<Audited>,
     /// The file that was loaded last.
@@ -104,6 +107,7 @@ impl Known {
             entry: None,
             looked_up: None,
             record: KnownRecord::new(alloc),
+            hint: None,
             audited: None,
             loaded: None,
             named: NamedFiles::new(alloc),
@@ -113,6 +117,14 @@ impl Known {
             preprocessor: OsBytes::empty(alloc),
             printed: OsBytes::empty(alloc),
             errors: OsBytes::empty(alloc),
+        }
+    }
+
+    /// Whether this command line is known to have had this digest and record last.
+    pub fn has_hint(&self, digest: &OsBytes, record_name: &str) -> bool {
+        match &self.hint {
+            Some(had) => had.digest == *digest && had.record_name.as_str() == record_name,
+            None => false,
         }
     }
 

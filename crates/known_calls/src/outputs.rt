@@ -9,9 +9,10 @@ use searched_folders::found::State;
 use settings::rights::{give_rights, make_folders};
 use std::alloc::AllocError;
 use std::collections::BTreeSet;
-use std::fs;
 use std::fs::{File, OpenOptions};
+use std::io::ErrorKind;
 use std::rt::Files;
+use std::{fs, io};
 use wrapper_host::command_line::CommandLine;
 use wrapper_host::fields::into_text;
 use wrapper_host::stop::Stop;
@@ -73,7 +74,14 @@ fn names_of<R: Files + AllocGlobal>(
     Ok(names)
 }
 
-/// Opens the file of a lock, and waits for it.
+/// Opens the file of a lock, which is made where it isn't there.
+fn opened<R: Files<File = File>>(rt: &R, place: &str) -> io::Result<File> {
+    let mut options = OpenOptions::new();
+    options.append(true).create(true);
+    options.open(rt, place)
+}
+
+/// Opens the file of a lock in a folder, which is made where it isn't there, and waits for it.
 fn locked<R: Files<File = File> + AllocGlobal>(
     rt: &R,
     line: &CommandLine,
@@ -81,12 +89,17 @@ fn locked<R: Files<File = File> + AllocGlobal>(
     name: &str,
 ) -> Result<File, Stop> {
     let place = format!(in rt.alloc(); "{folder}/{name}")?;
-    let is_new = fs::metadata(rt, place.as_str()).is_err();
-    let mut options = OpenOptions::new();
-    options.append(true).create(true);
-    let file = options.open(rt, place.as_str())?;
-    if is_new {
-        give_rights(rt, place.as_str(), line.folder.umask)?;
+    let umask = line.folder.umask;
+    let is_given_rights = umask.is_some() && fs::metadata(rt, place.as_str()).is_err();
+    let file = match opened(rt, place.as_str()) {
+        Err(error) if error.kind() == ErrorKind::NotFound => {
+            make_folders(rt, folder, umask)?;
+            opened(rt, place.as_str())?
+        }
+        opened => opened?,
+    };
+    if is_given_rights {
+        give_rights(rt, place.as_str(), umask)?;
     }
     file.lock()?;
     Ok(file)
@@ -106,7 +119,6 @@ pub fn lock_paths<R: Files<File = File> + AllocGlobal>(
     }
     let kept = line.folder.path.as_str();
     let folder = format!(in rt.alloc(); "{kept}/locks")?;
-    make_folders(rt, folder.as_str(), line.folder.umask)?;
     for name in names_of(rt, line, paths, dependency_file)? {
         files.push(locked(rt, line, folder.as_str(), name.as_str())?)?;
     }
