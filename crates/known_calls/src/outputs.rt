@@ -96,7 +96,7 @@ fn locked<R: Files<File = File> + AllocGlobal>(
             make_folders(rt, folder, umask)?;
             opened(rt, place.as_str())?
         }
-        opened => opened?,
+        other => other?,
     };
     if is_given_rights {
         give_rights(rt, place.as_str(), umask)?;
