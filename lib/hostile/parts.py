@@ -9,12 +9,15 @@ import re
 import shutil
 from pathlib import Path
 
+import growth
 import mutations
 import running
 
 TOP = Path(__file__).resolve().parents[2]
 # How many words or lines are made of an input at most.
 MOST_MADE = 1 << 20
+# How many pairs are looked at in the time that one byte takes.
+PAIRS_A_BYTE = 256
 # Reasons hold the words of requests as they stand, so a line of one may go on behind a line end.
 LINES = re.compile(rb"(?s)(?:1 (?:pass|fresh|stored|direct|fault)\b.*\n)?compiles [0-9]+\n")
 REFUSALS = {
@@ -90,12 +93,35 @@ def made_of_request(request):
     return count * sum(size.values()) + included
 
 
+def texts_in(value):
+    """All texts of a value, the names of its members among them."""
+    if isinstance(value, str):
+        yield value
+    elif isinstance(value, dict):
+        for name, part in value.items():
+            yield name
+            yield from texts_in(part)
+    elif isinstance(value, list):
+        for part in value:
+            yield from texts_in(part)
+
+
+def pairs_in(scenario, requests):
+    """How many pairs there are at most of which each is looked at: a folder that doesn't count and a place of a text, and a folder in which
+    rustc looks and a static library."""
+    folders = scenario.get("basedirs")
+    texts = list(texts_in(requests))
+    places = len(folders) * sum(map(len, texts)) if isinstance(folders, list) else 0
+    return places + sum(text.count("-L") for text in texts) * sum(text.count("static") for text in texts)
+
+
 def made_of(scenario):
     """How many bytes are made at most of a scenario."""
     requests = scenario.get("requests") if isinstance(scenario, dict) else None
     if not isinstance(requests, list):
         return 0
-    return sum(made_of_request(request) for request in requests if isinstance(request, dict))
+    pairs = pairs_in(scenario, requests) // PAIRS_A_BYTE
+    return pairs + sum(made_of_request(request) for request in requests if isinstance(request, dict))
 
 
 def made_of_lines(text):
@@ -108,7 +134,13 @@ def made_of_lines(text):
     return 0 if made == 1 else made * len(text)
 
 
-class Scenarios:
+class Part:
+    """A part, whose runs may take so many seconds for each byte and its logarithm."""
+
+    seconds_each = running.SECONDS_EACH
+
+
+class Scenarios(Part):
     """Scenarios, with their files of words, texts with markers and texts on dependencies, changed as text or in one of their members."""
 
     weighty = ("files", "words", "dep_info", "file_names", "env", "archives", "text", "hex", "basedirs", "zone", "version")
@@ -153,7 +185,26 @@ class Scenarios:
         return f"ends with {ended.status}"
 
 
-class Databases:
+class Grown(Part):
+    """Scenarios in which one list is long. Each is compiled, and what is of the square of the length takes too long."""
+
+    program = "sccache_wrap"
+    seconds_each = running.SECONDS_EACH / 10
+
+    def make(self, random):
+        """The bytes of an input, and their size with the pairs that are looked at."""
+        scenario = growth.scenario(random)
+        data = dumped(random, scenario)
+        return [], data, len(data) + pairs_in(scenario, scenario["requests"]) // PAIRS_A_BYTE
+
+    def fault(self, ended):
+        """What is wrong with how it ended, or nothing."""
+        if ended.status != 0:
+            return f"ends with {ended.status}"
+        return None if ended.output.startswith(b"1 fresh ") and LINES.fullmatch(ended.output) else "isn't compiled"
+
+
+class Databases(Part):
     """Recorded builds, and command lines with the files that they name."""
 
     program = "sccache_report"
@@ -197,7 +248,7 @@ class Databases:
         return f"ends with {ended.status}"
 
 
-class Bytes:
+class Bytes(Part):
     """The bytes of include records, or what is hashed of requests to rustc behind three lines with its shape."""
 
     program = "hostile_runs"
@@ -218,7 +269,7 @@ class Bytes:
         return f"ends with {ended.status}"
 
 
-class Kept:
+class Kept(Part):
     """What gulmaat keeps, each file changed with and without the digest at its end: a real compiler is called beside it."""
 
     program = "gulmaat"

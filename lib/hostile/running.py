@@ -44,9 +44,9 @@ def run(words, data, folder=None, variables=None):
         return Ended(process.returncode, output.read(), errors.read(), seconds, used.ru_maxrss << 10)
 
 
-def excess(ended, size):
+def excess(ended, size, seconds_each):
     """What is more than it may be for an input of that size, or nothing."""
-    seconds = SECONDS + SECONDS_EACH * size * math.log2(size + 2)
+    seconds = SECONDS + seconds_each * size * math.log2(size + 2)
     room = ROOM + ROOM_EACH * size
     if ended.seconds > seconds:
         return f"took {ended.seconds:.2f} s for {size} bytes, more than {seconds:.2f}"

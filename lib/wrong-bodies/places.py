@@ -1,6 +1,7 @@
 """Where a source's functions stand, and what they are called on the command line of `rt check --only`."""
 
 import re
+from pathlib import Path
 
 FUNCTION = re.compile(r"\bfn\s+(\w+)")
 CLAUSE = re.compile(r"\b(ensures|requires)\b[^{}]*$")
@@ -57,15 +58,14 @@ def without_brackets(text):
 
 
 def owner(text, at):
-    """The type to which a function there belongs, with its trait behind it as rattle names the two; an empty text of one on its own."""
+    """The type to which a function there belongs, and its trait, which is empty where it's no trait's; empty texts of one on its own."""
     for found in IMPL.finditer(text):
         begin = text.find("{", found.end())
         if begin < at < group_end(text, begin):
             head = without_brackets(text[found.end() : begin]).partition(" where ")[0]
             trait, _, name = head.rpartition(" for ")
-            words = [part.strip().rpartition("::")[2] for part in (name, trait)]
-            return "".join(word[:1].upper() + word[1:] for word in words)
-    return ""
+            return tuple(part.strip().rpartition("::")[2] for part in (name, trait))
+    return "", ""
 
 
 def module(path):
@@ -75,12 +75,24 @@ def module(path):
     return "::".join(parts)
 
 
-def holder(path, text, begin, end):
-    """The function of a file that holds this part of it, as `--only` takes it; the module where there is none, or its type has no plain name."""
+def home(folder, path, type):
+    """The file of a crate that declares that type; the file itself where none does."""
+    for file in sorted(Path(folder, "src").rglob("*.rt")):
+        if re.search(rf"\b(?:struct|enum|union)\s+{type}\b", blanked(file.read_text(encoding="utf-8"))):
+            return str(file.relative_to(folder))
+    return path
+
+
+def holder(folder, path, text, begin, end):
+    """The function of a crate's file that holds this part of it, as `--only` takes it: a type's own by where the type is declared, a trait's by
+    where it stands, with both names in one; the module where there is none, or its type has no plain name."""
     text = blanked(text)
     for name, start, _, last in functions(text):
         if start < end and begin < last:
-            type = owner(text, start)
-            if not type or type.isidentifier():
-                return "::".join(filter(None, [module(path), type, name]))
+            type, trait = owner(text, start)
+            if not type:
+                return "::".join(filter(None, [module(path), name]))
+            if type.isidentifier():
+                place = path if trait else home(folder, path, type)
+                return "::".join(filter(None, [module(place), "".join(word[:1].upper() + word[1:] for word in (type, trait)), name]))
     return module(path)

@@ -90,7 +90,7 @@ class Edit:
         self.fits = bool(self.pairs) and all(old and read(f"{folder}/{it}").count(old) == 1 for it, old, _ in self.pairs)
         for path, old, _ in self.pairs if self.fits and self.is_of_source else []:
             text = read(f"{folder}/{path}")
-            self.holders.append(holder(path, text, text.index(old), text.index(old) + len(old)))
+            self.holders.append(holder(folder, path, text, text.index(old), text.index(old) + len(old)))
         # What stands outside functions, as a field does, is tried by the functions that the edit changes beside it, where there are any.
         self.holders = [it for it in self.holders if it not in [module(path) for path, _, _ in self.pairs]] or self.holders
 

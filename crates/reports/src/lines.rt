@@ -2,6 +2,7 @@
 
 use crate::fault::ReportFault;
 use crate::request_texts::{Detail, write_compile, write_kept, write_preprocess};
+use crate::texts::push_line;
 use crate::usage::Shown;
 use os_files::file_time::FileTime;
 use os_files::listed::Listed;
@@ -86,15 +87,16 @@ pub(crate) fn text_of_lines(
     let mut lines = String::new(alloc);
     for entry in entries.as_slice() {
         let decided = compilers.decide(alloc, entry, &mut files)?;
+        let mut line = String::new(alloc);
         match (reason_of(alloc, &decided, &entry.executable)?, shown) {
-            (Some(reason), _) => lines.push_str(reason.as_str())?,
-            (None, Shown::Lists) => write_kept(&mut lines, &decided, Detail::Lists)?,
-            (None, Shown::Compile) => write_compile(alloc, &mut lines, &compilers, &decided)?,
+            (Some(reason), _) => line.push_str(reason.as_str())?,
+            (None, Shown::Lists) => write_kept(&mut line, &decided, Detail::Lists)?,
+            (None, Shown::Compile) => write_compile(alloc, &mut line, &compilers, &decided)?,
             (None, Shown::Preprocess) => {
-                write_preprocess(alloc, &mut lines, &compilers, &decided)?;
+                write_preprocess(alloc, &mut line, &compilers, &decided)?;
             }
         }
-        lines.push('\n')?;
+        push_line(&mut lines, line.as_str())?;
     }
     Ok(lines)
 }

@@ -7,6 +7,7 @@ use crate::database::{TakesEntries, read_database};
 use crate::fault::ReportFault;
 use crate::request_texts::{Detail, write_compile, write_kept, write_preprocess};
 use crate::tally::write_rows;
+use crate::texts::push_line;
 use cmdlines_base::compiler_arguments::CompilerArguments;
 use os_files::os_bytes::OsBytes;
 use recorded_builds::deciding::{Compilers, Decided};
@@ -46,20 +47,20 @@ fn write_commands(
 ) -> Result<(), AllocError> {
     match decided {
         Decided::C(_, CompilerArguments::Ok(_)) => {
-            text.push_str("  compile")?;
-            write_compile(alloc, text, compilers, decided)?;
-            text.push_str("\n  preprocess")?;
-            write_preprocess(alloc, text, compilers, decided)?;
-            text.push('\n')?;
+            let mut compile = String::from_str(alloc, "  compile")?;
+            write_compile(alloc, &mut compile, compilers, decided)?;
+            push_line(text, compile.as_str())?;
+            let mut preprocess = String::from_str(alloc, "  preprocess")?;
+            write_preprocess(alloc, &mut preprocess, compilers, decided)?;
+            push_line(text, preprocess.as_str())
         }
         Decided::Rustc(CompilerArguments::Ok(_)) => {
-            text.push_str("  compile ")?;
-            write_compile(alloc, text, compilers, decided)?;
-            text.push('\n')?;
+            let mut compile = String::from_str(alloc, "  compile ")?;
+            write_compile(alloc, &mut compile, compilers, decided)?;
+            push_line(text, compile.as_str())
         }
-        _ => {}
+        _ => Ok(()),
     }
-    Ok(())
 }
 
 /// Adds what follows what is kept or why not: files of words that aren't there, and options to beware of.
@@ -74,7 +75,7 @@ fn write_marks(
     for option in beware {
         write!(text, "; beware {option}")?;
     }
-    text.push('\n')
+    Ok(())
 }
 
 impl<'a> Lines for ReportLines<'a> {
@@ -89,14 +90,16 @@ impl<'a> Lines for ReportLines<'a> {
             self.has_asked = true;
         }
         let text = &mut self.text;
+        let mut line = String::new(self.alloc);
         match &told.reason {
-            Some(reason) => write!(text, "{number} pass {reason}")?,
+            Some(reason) => write!(line, "{number} pass {reason}")?,
             None => {
-                write!(text, "{number} keeps ")?;
-                write_kept(text, &told.decided, self.shape.detail)?;
+                write!(line, "{number} keeps ")?;
+                write_kept(&mut line, &told.decided, self.shape.detail)?;
             }
         }
-        write_marks(text, files.read.as_slice(), told.beware.as_slice())?;
+        write_marks(&mut line, files.read.as_slice(), told.beware.as_slice())?;
+        push_line(text, line.as_str())?;
         if self.shape.commands {
             write_commands(self.alloc, text, self.compilers, &told.decided)?;
         }
@@ -105,12 +108,17 @@ impl<'a> Lines for ReportLines<'a> {
 }
 
 /// Adds the summary.
-fn write_summary(text: &mut String, summary: &Summary) -> Result<(), AllocError> {
+fn write_summary(alloc: Global, text: &mut String, summary: &Summary) -> Result<(), AllocError> {
     let (entries, kept) = (summary.entries, summary.kept);
     write!(text, "\nentries {entries}\nkept {kept}\n")?;
-    write_rows(text, "passed through", summary.reasons.as_slice())?;
-    write_rows(text, "without direct mode", summary.blockers.as_slice())?;
-    write_rows(text, "beware", summary.beware.as_slice())
+    write_rows(alloc, text, "passed through", summary.reasons.as_slice())?;
+    write_rows(
+        alloc,
+        text,
+        "without direct mode",
+        summary.blockers.as_slice(),
+    )?;
+    write_rows(alloc, text, "beware", summary.beware.as_slice())
 }
 
 /// A report on the entries that were taken so far.
@@ -141,8 +149,12 @@ impl<'a> Report<'a> {
     fn into_text(self) -> Result<String, AllocError> {
         let Report { telling, lines, .. } = self;
         let summary = telling.into_summary(lines.alloc)?;
-        let ReportLines { mut text, .. } = lines;
-        write_summary(&mut text, &summary)?;
+        let ReportLines {
+            alloc,
+            mut text,
+            ..
+        } = lines;
+        write_summary(alloc, &mut text, &summary)?;
         Ok(text)
     }
 }

@@ -1,14 +1,20 @@
 //! The rows of a summary as text.
 
+use crate::texts::push_line;
 use recorded_builds::tally::Row;
-use std::alloc::AllocError;
+use std::alloc::{AllocError, Global};
 use std::fmt::Write;
 
 /// How many numbers are shown of a name.
 const SHOWN: usize = 5;
 
 /// Adds a heading and a line for each row, and nothing where there is none.
-pub(crate) fn write_rows(text: &mut String, heading: &str, rows: &[Row]) -> Result<(), AllocError> {
+pub(crate) fn write_rows(
+    alloc: Global,
+    text: &mut String,
+    heading: &str,
+    rows: &[Row],
+) -> Result<(), AllocError> {
     if rows.is_empty() {
         return Ok(());
     }
@@ -18,20 +24,21 @@ pub(crate) fn write_rows(text: &mut String, heading: &str, rows: &[Row]) -> Resu
     }
     write!(text, "{heading} {all}\n")?;
     for row in rows {
-        write_row(text, row.0.as_str(), row.1.as_slice())?;
+        let line = row_line(alloc, row.0.as_str(), row.1.as_slice())?;
+        push_line(text, line.as_str())?;
     }
     Ok(())
 }
 
-/// Adds the line of a name: how many entries have it, and the numbers of the first of these.
-fn write_row(text: &mut String, name: &str, numbers: &[u64]) -> Result<(), AllocError> {
+/// The line of a name: how many entries have it, and the numbers of the first of these.
+fn row_line(alloc: Global, name: &str, numbers: &[u64]) -> Result<String, AllocError> {
     let count = numbers.len();
-    write!(text, "  {count} {name}:")?;
+    let mut line = format!(in alloc; "  {count} {name}:")?;
     for number in numbers.iter().take(SHOWN) {
-        write!(text, " {number}")?;
+        write!(line, " {number}")?;
     }
     if count > SHOWN {
-        text.push_str(" ..")?;
+        line.push_str(" ..")?;
     }
-    text.push('\n')
+    Ok(line)
 }

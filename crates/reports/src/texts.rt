@@ -1,8 +1,21 @@
-//! Lists of words as text.
+//! Lines and lists of words as text.
 
 use os_files::os_bytes::OsBytes;
 use std::alloc::AllocError;
 use std::fmt::Write;
+
+/// Adds a line. A line end that a word of it holds is shown as U+FFFD, so that it stays one line.
+pub(crate) fn push_line(text: &mut String, line: &str) -> Result<(), AllocError> {
+    let mut is_first = true;
+    for piece in line.split('\n') {
+        if !is_first {
+            text.push('\u{fffd}')?;
+        }
+        is_first = false;
+        text.push_str(piece)?;
+    }
+    text.push('\n')
+}
 
 /// Adds words, each behind a space, an empty one as two quotes.
 pub(crate) fn write_words(text: &mut String, words: &[OsBytes]) -> Result<(), AllocError> {

@@ -27,17 +27,32 @@ fn wanted(alloc: Global, outputs: &[Output]) -> Result<Wanted, AllocError> {
     Ok(Listed::from_vec(wanted))
 }
 
+/// Puts a remark behind a line. A line end that it holds is shown as U+FFFD, so that the line stays one.
+fn push_behind(line: &mut String, remark: &str) -> Result<(), AllocError> {
+    line.push_str(" #")?;
+    let mut mark = ' ';
+    for piece in remark.split('\n') {
+        line.push(mark)?;
+        line.push_str(piece)?;
+        mark = '\u{fffd}';
+    }
+    Ok(())
+}
+
 /// Puts behind a line how a request differs from the latest earlier one with the same outputs, or that there was none.
 fn push_reason(
+    alloc: Global,
     one: &Fingerprint,
     earlier: Option<&Fingerprint>,
     line: &mut String,
 ) -> Result<(), AllocError> {
     match earlier {
-        Some(earlier) => write!(line, " # {}", Difference { one, earlier })?,
-        None => line.push_str(" # first with these outputs")?,
+        Some(earlier) => {
+            let difference = format!(in alloc; "{}", Difference { one, earlier })?;
+            push_behind(line, difference.as_str())
+        }
+        None => push_behind(line, "first with these outputs"),
     }
-    Ok(())
 }
 
 impl Explainer {
@@ -80,7 +95,7 @@ impl Explainer {
         };
         let outputs = wanted(alloc, map.as_slice())?;
         if matches!(how, How::Fresh) {
-            push_reason(made, self.earlier.get(&outputs), line)?;
+            push_reason(alloc, made, self.earlier.get(&outputs), line)?;
         }
         Ok(Some(outputs))
     }

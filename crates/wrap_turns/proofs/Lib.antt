@@ -4,3 +4,4 @@ pub mod RustLemmas
 pub mod GatherLemmas
 pub mod PrepareLemmas
 pub mod PassedLemmas
+pub mod PathLemmas

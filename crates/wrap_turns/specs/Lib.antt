@@ -1,4 +1,5 @@
 pub mod Prepared
 pub mod RustPrepared
 pub mod Gathering
+pub mod PathMap
 pub mod Steps

@@ -3,7 +3,9 @@
 ghost use Rattle.std.specs.Prelude.{◌≡◌, IfOk, IfErr};
 ghost use Rattle.std.specs.Vec.Iter.{into_iter_items};
 ghost use Rattle.ckeys_records.specs.Meaning.{names_of};
+ghost use Rattle.cmdlines_base.specs.Artifacts.{Artifacts};
 ghost use Rattle.wrap_keys.specs.Account.{collected, all, first_file, files_behind, path_of, placed};
+ghost use Rattle.wrap_turns.specs.PathMap.{HasPaths};
 ghost use Rattle.wrap_turns.specs.Steps.{CollectCause};
 
 use ckeys_records::fault::Fault;
@@ -11,6 +13,7 @@ use cmdlines_base::command::ArtifactDescriptor;
 use os_files::listed::Listed;
 use os_files::os_bytes::OsBytes;
 use std::alloc::{AllocError, Global};
+use std::collections::BTreeMap;
 use std::vec::IntoIter;
 use wrap_base::answer::Output;
 use wrap_base::store_key::Pairs;
@@ -48,18 +51,32 @@ pub fn collected(
     Ok(Listed::from_vec(pairs))
 }
 
-/// Where a request wants the output of this name.
-fn path_of<'a>(outputs: &'a [(OsBytes, ArtifactDescriptor)], name: &[u8]) -> &'a [u8]
-    ensures { result.now ≡ path_of outputs.now name.now }
+/// Where the outputs are wanted, by their names.
+fn paths_of<'a>(
+    alloc: Global,
+    outputs: &'a [(OsBytes, ArtifactDescriptor)],
+) -> Result<BTreeMap<OsBytes, &'a [u8]>, AllocError>
+    ensures { IfOk result (λ paths. HasPaths paths outputs.now) }
 {
+    let mut paths = BTreeMap::new(alloc);
     let mut rest = outputs;
-    while let Some((output, others)) = rest.split_first() {
-        if output.0.as_bytes() == name {
-            return output.1.path.as_bytes();
-        }
-        rest = others;
+    // The first output of a name stands for it, so it comes last.
+    while let Some(((name, artifact), before)) = rest.split_last() {
+        paths.insert(name.clone()?, artifact.path.as_bytes())?;
+        rest = before;
     }
-    &[]
+    Ok(paths)
+}
+
+/// Where the output of this name is wanted.
+fn path_of<'a>(paths: &BTreeMap<OsBytes, &'a [u8]>, name: &OsBytes) -> &'a [u8]
+    ensures { (outputs : Artifacts) → HasPaths paths.now outputs
+        → result.now ≡ path_of outputs name.now }
+{
+    match paths.get(name) {
+        Some(path) => *path,
+        None => &[],
+    }
 }
 
 /// Outputs on a request's own paths.
@@ -70,11 +87,12 @@ pub fn placed(
 ) -> Result<Listed<Output>, AllocError>
     ensures { IfOk result (λ map. map ≡ placed outputs.now pairs.now) }
 {
+    let paths = paths_of(alloc, outputs)?;
     let mut map = Vec::with_capacity(alloc, pairs.len())?;
     for (name, contents) in pairs {
         map.push(Output {
             name: name.clone()?,
-            path: OsBytes::from_slice(alloc, path_of(outputs, name.as_bytes()))?,
+            path: OsBytes::from_slice(alloc, path_of(&paths, name))?,
             contents: contents.clone()?,
         })?;
     }
