@@ -75,6 +75,7 @@ host_calls() {
     host_itself "$cc"
     host_fails "$cc"
     host_deaths "$cc"
+    host_is_light "$cc"
     host_shows_early "$cc"
     host_streams "$cc"
     host_colours "$cc"
