@@ -1,4 +1,4 @@
-# shellcheck shell=bash disable=SC2154
+# shellcheck shell=bash disable=SC2016,SC2154
 # The host's calls beside the compiler alone: what it hands on, itself and other hosts on the path, and what fails: a part of bin/test-builds,
 # whose host, work, built and functions it uses.
 
@@ -120,7 +120,7 @@ host_hands_on() {
     is "$cc: open files: there are some" [ "$(grep -c '^[347] ' state)" = 3 ]
     before=(sh -c 'exec "$@" <&-' -)
     same_state "$cc: no standard input" "$cc"
-    before=(env --ignore-signal=PIPE,XFSZ,CHLD,HUP --block-signal=USR1,TERM)
+    before=(env '--ignore-signal=PIPE,XFSZ,CHLD,HUP' '--block-signal=USR1,TERM')
     same_state "$cc: signals" "$cc"
     before=()
     # Make's job server, by two descriptors and by a name.
@@ -196,7 +196,9 @@ host_itself() {
     CCACHE_DIR=$PWD/ccache ends_on_path "$cc: ccache behind it" "$cc" "$links:$PWD/mask"
     CCACHE_DIR=$PWD/ccache ends_on_path "$cc: ccache before it" "$cc" "$PWD/mask:$links"
     # Without /proc, which a sanitizer needs.
-    if [ -z "${sanitized:-}" ]; then
+    if [ "$(id -u)" != 0 ]; then
+        echo "  left out: $cc without /proc: only root takes it away" >&2
+    elif [ -z "${sanitized:-}" ]; then
         before=(unshare -m sh -c 'mount -t tmpfs none /proc && exec "$@"' -)
         as_alone "$cc: no /proc" 2 "$cc" -Wall -c it.c -o it.o
         as_alone "$cc: no /proc, by a link" 1 "$links/$cc" -Wall -c it.c -o it.o
@@ -225,11 +227,14 @@ host_fails() {
     before=()
     # Outputs on a full disk.
     mkdir -p small
-    if mount -t tmpfs -o size=400k none small; then
+    if [ "$(id -u)" != 0 ]; then
+        echo "  left out: $cc on a full disk: only root mounts one" >&2
+    else
+        is "$cc: a small disk is there" mount -t tmpfs -o size=400k none small
         cd small || return
         cp ../it.c .
         as_alone "$cc: a small disk" 2 "$cc" -Wall -c it.c -o it.o
-        head -c 300000 /dev/zero >full
+        cat /dev/zero >full 2>/dev/null
         rm -f it.o alone.o
         as_alone "$cc: a full disk" 2 "$cc" -Wall -c it.c -o it.o
         cd "$dir" || return
@@ -241,10 +246,20 @@ host_fails() {
         echo "${PIPESTATUS[0]}" >alone.status
         (sleep 0.2; "$host" "$cc" -Wall -c it.c -o it.o) 2>&1 | :
         is "$cc: nobody reads, $number" [ "${PIPESTATUS[0]}" = "$(cat alone.status)" ]
-        "$cc" -Wall -c it.c -o it.o 2>/dev/full
+        ("$cc" -Wall -c it.c -o it.o 2>/dev/full) 2>/dev/null
         echo $? >alone.status
-        "$host" "$cc" -Wall -c it.c -o it.o 2>/dev/full
+        ("$host" "$cc" -Wall -c it.c -o it.o 2>/dev/full) 2>/dev/null
         is "$cc: no room for messages, $number" [ $? = "$(cat alone.status)" ]
+    done
+    # Messages that are longer than a file may be, in a pipe.
+    stand_in_compiler "$cc" <<<'seq 3000 >&2'
+    echo 'int it;' >short.c
+    for number in 1 2; do
+        rm -f it.o
+        (ulimit -f 4; timeout 60 "$host" "$dir/fake/$cc" -c short.c -o it.o) 2>&1 | cat >shown
+        is "$cc: long messages, $number: status" [ "${PIPESTATUS[0]}" = 0 ]
+        is "$cc: long messages, $number" cmp <(seq 3000) shown
+        is "$cc: long messages, $number: object" [ -s it.o ]
     done
     # The folder of what is kept goes meanwhile.
     stand_in_compiler "$cc" <<<'rm -rf "$GULMAAT_DIR"'
@@ -273,7 +288,7 @@ host_deaths() {
         is "$cc: no program from $step on: messages" cmp alone.err ours.err
     done
     stand_in_compiler "$cc" <<<"$find_program"' >program; kill -9 $PPID; exit 1'
-    timeout 60 "$host" "$PWD/fake/$cc" -Wall -c it.c -o it.o 2>ours.err
+    (timeout 60 "$host" "$PWD/fake/$cc" -Wall -c it.c -o it.o 2>ours.err) 2>/dev/null
     is "$cc: no host" [ $? = 137 ]
     program=$(cat program)
     for step in $(seq 100); do
@@ -289,6 +304,19 @@ host_deaths() {
     is "$cc: no zombie" [ "$(grep -c ' Z' beside)" = 0 ]
     "$host" "$PWD/fake/$cc" -Wall -c it.c -o it.o -fstack-usage 2>ours.err
     is "$cc: no zombie behind a pass" [ "$(grep -c . below) $(grep -c ' Z' below)" = "1 0" ]
+    # A signal while a text is printed.
+    stand_in_always "$cc" <<<'case " $* " in *" -E "*) echo $$ >text; exec sleep 300 ;; esac'
+    rm -f text it.o
+    timeout 60 "$host" "$PWD/fake/$cc" -Wall -c it.c -o it.o 2>ours.err &
+    for step in $(seq 100); do
+        [ ! -s text ] || break
+        sleep 0.1
+    done
+    kill "$(pgrep -P $!)"
+    wait $!
+    is "$cc: a signal while a text is printed" [ $? = 143 ]
+    is "$cc: a signal while a text is printed: it ended" [ ! -e "/proc/$(cat text)" ]
+    is "$cc: a signal while a text is printed: no object" [ ! -e it.o ]
     # A program that never ends.
     printf 'echo $$ >program; exec sleep 300\n' | stand_in never
     GULMAAT_BIN=$PWD/never timeout 60 "$host" "$cc" -Wall -c it.c -o it.o 2>ours.err &
@@ -301,4 +329,19 @@ host_deaths() {
     wait $!
     is "$cc: a program that never ends" [ $? = 143 ]
     kill -9 "$(cat program)"
+}
+
+# A hit starts one process, the program.
+host_is_light() {
+    local cc=$1 turn
+    if [ -n "${sanitized:-}" ] || ! command -v strace >/dev/null; then return; fi
+    printf 'int light;\n' >light.c
+    for turn in 1 2 3; do
+        sleep 0.1
+        mark
+        strace -f -qq -e trace=clone,clone3,fork,vfork,execve -o calls "$host" "$cc" -c light.c -o light.o
+    done
+    is "$cc: a direct hit" since 0 0 1
+    is "$cc: a direct hit: one process" [ "$(grep -cE ' (clone|clone3|fork|vfork)\(' calls)" = 1 ]
+    is "$cc: a direct hit: two programs" [ "$(grep -c ' execve(' calls)" = 2 ]
 }

@@ -75,6 +75,7 @@ host_calls() {
     host_itself "$cc"
     host_fails "$cc"
     host_deaths "$cc"
+    host_is_light "$cc"
     host_shows_early "$cc"
     host_streams "$cc"
     host_colours "$cc"
@@ -85,10 +86,11 @@ host_calls() {
 
 # The same by a host that a sanitizer watches. What that finds is told in files.
 host_sanitized() {
-    local host=$work/gulmaat-sanitized sanitized=sanitized-
+    local host=$work/gulmaat-sanitized sanitized=sanitized- found
     local -x GULMAAT_BIN=$built/gulmaat ASAN_OPTIONS=log_path=$work/sanitizer:detect_leaks=1 UBSAN_OPTIONS=log_path=$work/sanitizer
     is "a host with sanitizers" gcc -g -O1 -fsanitize=address,undefined -fno-sanitize-recover=all "$top"/host/*.c -o "$host"
     host_calls gcc
     host_calls clang
-    is "no sanitizer found anything" [ -z "$(cat "$work"/sanitizer.* 2>/dev/null | head -n 30 | tee /dev/stderr)" ]
+    found=$(cat "$work"/sanitizer.* 2>/dev/null | head -n 30)
+    is "no sanitizer found anything: $found" [ -z "$found" ]
 }
