@@ -279,7 +279,6 @@ int main(int count, char **list) {
     const char *program = is_poor || is_inside ? NULL : find_program();
     if (!program || find_kept() || !can_keep() || make_files()) pass_through();
     watch_signals();
-    tell_command_line();
 
     int to, from;
     pid_t child = start(program, &to, &from);
@@ -287,6 +286,8 @@ int main(int count, char **list) {
         if (errno == ENOEXEC || errno == EACCES || errno == ENOENT) perror(program);
         pass_through();
     }
+    /* While it is loaded. */
+    tell_command_line();
     int compiled = send_message(to) ? -1 : answer_questions(from, to);
     close(to);
     int status = end_of(child, from);
