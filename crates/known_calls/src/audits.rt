@@ -200,7 +200,7 @@ impl Known {
         Ok(true)
     }
 
-    /// Ends a comparison in which that differs: what is kept of this call goes, and a line says so.
+    /// Ends a comparison in which that differs: what is kept of this call goes, and a line says so, where that can be done.
     pub fn differs<R: Files<File = File> + AllocGlobal>(
         &self,
         rt: &R,
@@ -211,7 +211,7 @@ impl Known {
             let name = into_text(audited.digest.clone()?)?;
             let _ = line.folder.remove(rt, Kind::Entries, name.as_str());
             let _ = line.folder.remove(rt, Kind::Records, self.name_to_note());
-            log(rt, line, &audited.digest, what.as_str())?;
+            let _ = log(rt, line, &audited.digest, what.as_str());
         }
         Ok(Audit::Differs(what))
     }
