@@ -1,6 +1,43 @@
 # shellcheck shell=bash disable=SC2086,SC2154
 # What was made, and of what: parts of bin/test-builds, whose host, work and functions it uses.
 
+# What lies at the object's path before a hit: it ends as by the compiler alone.
+output_places() {
+    local cc=$1 place make
+    printf 'int value = 3;\n' >place.c
+    "$host" $cc -c place.c -o place.o
+    for place in "a file" "a link to a file" "a link that leads nowhere" "a file of two names" "a read-only file" "a folder" "nothing"; do
+        case $place in
+            "a file") make='echo old >place.o' ;;
+            "a link to a file") make='echo old >target; ln -s target place.o' ;;
+            "a link that leads nowhere") make='ln -s target place.o' ;;
+            "a file of two names") make='echo old >target; ln target place.o' ;;
+            "a read-only file") make='echo old >place.o; chmod 400 place.o' ;;
+            "a folder") make='mkdir place.o' ;;
+            *) make=true ;;
+        esac
+        rm -rf place.o target
+        eval "$make"
+        $cc -c place.c -o place.o 2>plain.err
+        echo $? >plain.state
+        stat -c '%F %a %h' place.o target >>plain.state 2>&1
+        cat place.o target >plain.bytes 2>&1
+        rm -rf place.o target
+        eval "$make"
+        "$host" $cc -c place.c -o place.o 2>ours.err
+        echo $? >ours.state
+        stat -c '%F %a %h' place.o target >>ours.state 2>&1
+        cat place.o target >ours.bytes 2>&1
+        is "$cc: onto $place: status and state" cmp -s plain.state ours.state
+        is "$cc: onto $place: contents" cmp -s plain.bytes ours.bytes
+        is "$cc: onto $place: messages" cmp -s plain.err ours.err
+    done
+    rm -rf place.o target
+    mark
+    "$host" $cc -c place.c -o place.o
+    is "$cc: onto nothing: a hit" since 1 0
+}
+
 outputs() {
     local cc=$1 dir=$work/outputs-$1 turn number
     mkdir -p "$dir/fake"
@@ -54,5 +91,6 @@ outputs() {
         is "$cc: assembler with -MD, $turn: no dependency file" [ ! -e asm.d ]
     done
     is "$cc: assembler with -MD: kept" since 1 1
+    output_places "$cc"
     cd "$work" || return
 }

@@ -14,6 +14,7 @@ use known_calls::audits::Audit;
 use known_calls::kept::{found, hint_at, hint_name, kept_under};
 use known_calls::known::Known;
 use known_compilers::compilers::kind_of;
+use loaded_files::outputs::have_plain_places;
 use os_files::listed::Listed;
 use os_files::os_bytes::OsBytes;
 use replay::kept_session::{SessionAnswer, answered, session_over};
@@ -223,6 +224,9 @@ fn act_on<P: Print + Files<File = File> + AllocGlobal, I: Read>(
                 return Ok(None);
             }
             let outputs = map.as_slice();
+            if how != How::Fresh && !have_plain_places(rt, outputs)? {
+                return Ok(Some(pass(alloc, "pass: output is no plain file")?));
+            }
             let given = Given {
                 how,
                 outputs,

@@ -3,6 +3,8 @@
 use kept_entries::entry::KeptMessages;
 use os_files::os_bytes::OsBytes;
 use std::fs;
+use std::io::ErrorKind;
+use std::os::unix::fs::MetadataExt;
 use std::rt::Files;
 use wrap_base::answer::Output;
 use wrapper_host::command_line::CommandLine;
@@ -18,20 +20,33 @@ pub fn regular<R: Files + AllocGlobal>(rt: &R, path: &str) -> Option<OsBytes> {
     Some(OsBytes::from_vec(fs::read(rt, path).ok()?))
 }
 
-/// Takes away a file or a link of that path, as compilers do, so that no other name of the old file shows the new contents.
-fn make_room<R: Files>(rt: &R, path: &str) {
-    if let Ok(metadata) = fs::symlink_metadata(rt, path) {
-        if metadata.is_file() || metadata.is_symlink() {
-            let _ = fs::remove_file(rt, path);
-        }
+/// The rights to write.
+const WRITE: u32 = 0o222;
+
+/// Whether nothing lies under a path, or a regular file that may be written and has no other name.
+fn is_plain<R: Files>(rt: &R, path: &str) -> bool {
+    match fs::symlink_metadata(rt, path) {
+        Ok(found) => found.is_file() && found.nlink() == 1 && found.mode() & WRITE != 0,
+        Err(error) => error.kind() == ErrorKind::NotFound,
     }
 }
 
-/// Writes each output where the request wants it.
+/// Whether kept outputs can be put where the request wants them as a compiler would: onto what is something else compilers write in ways of
+/// their own.
+pub fn have_plain_places<R: Files + AllocGlobal>(rt: &R, outputs: &[Output]) -> Result<bool, Stop> {
+    for output in outputs {
+        if !is_plain(rt, into_text(output.path.clone()?)?.as_str()) {
+            return Ok(false);
+        }
+    }
+    Ok(true)
+}
+
+/// Writes each output where the request wants it, in the place of an old file, as compilers do.
 pub fn write_outputs<R: Files + AllocGlobal>(rt: &R, outputs: &[Output]) -> Result<(), Stop> {
     for output in outputs {
         let path = into_text(output.path.clone()?)?;
-        make_room(rt, path.as_str());
+        let _ = fs::remove_file(rt, path.as_str());
         fs::write(rt, path.as_str(), output.contents.as_bytes())?;
     }
     Ok(())
