@@ -57,7 +57,7 @@ habits_help() {
     done
     # Each option of the help is in the manual page and the completions, and the other way round.
     grep -o '^ *-[A-Za-z], --[a-z-]*\|^ *--[a-z-]*' help | grep -o -- '--[a-z-]*' | sort >options
-    is "help: all options" [ "$(wc -l <options)" = 15 ]
+    is "help: all options" [ "$(wc -l <options)" = 16 ]
     sed 's/\\-/-/g; s/"//g' "$top/share/gulmaat.1" | grep '^\.BR\? -' | grep -o -- '--[a-z-]*' | sort >manual
     is "the manual page has all of them, and -v" diff <(sort options <(echo --verbose)) manual
     is "bash completes all of them, and -v" diff manual <(grep -o -- '--[a-z-]*[a-z]' "$top/share/gulmaat.bash" | sort -u |

@@ -1,0 +1,47 @@
+# shellcheck shell=bash disable=SC2086,SC2154
+# Headers that aren't read again as long as they are in the state that they had: a part of bin/test-builds, whose host, work and functions it uses.
+
+# Calls until the header is known by its state, makes a change, and calls again: each call is as by the compiler alone. The last words say what
+# the call behind the change is: so many hits by text, compiles and direct hits.
+token_case() {
+    local name=$1 change=$2 wanted=$3 cc=$4 turn
+    "$host" --clear
+    printf '#define VALUE 1\n' >value.h
+    touch -d '1 hour ago' value.h
+    settle
+    for turn in first second third; do
+        search_call "$name, $turn" $cc -I.
+        settle
+    done
+    eval "$change"
+    settle
+    mark
+    search_call "$name" $cc -I.
+    is "$name: what it is" since $wanted
+    search_call "$name, again" $cc -I.
+}
+
+tokens() {
+    local cc=$1 dir=$work/tokens-$1 other
+    mkdir -p "$dir"
+    cd "$dir" || return
+    printf '#include <value.h>\nint value = VALUE;\n' >it.c
+    token_case "$cc: as it was" "true" "0 0 1" $cc
+    token_case "$cc: touched" "touch value.h" "0 0 1" $cc
+    token_case "$cc: another one of its size and time" "echo '#define VALUE 2' >new.h; touch -r value.h new.h; mv new.h value.h" "0 1 0" $cc
+    token_case "$cc: written over, and its time put back" "touch -r value.h time; echo '#define VALUE 3' >value.h; touch -r time value.h" "0 1 0" $cc
+    token_case "$cc: a byte written, and its time put back" \
+        "touch -r value.h time; printf 4 | dd of=value.h bs=1 seek=14 conv=notrunc status=none; touch -r time value.h" "0 1 0" $cc
+    token_case "$cc: taken away and put back" "mv value.h aside.h; mv aside.h value.h" "0 0 1" $cc
+    token_case "$cc: a link to one of its size and time" \
+        "mkdir -p linked; echo '#define VALUE 5' >linked/value.h; touch -r value.h linked/value.h; ln -sf linked/value.h value.h" "0 1 0" $cc
+    rm -f value.h
+    # On another device.
+    other=$(mktemp -d -p /dev/shm 2>/dev/null) || other=
+    if [ -n "$other" ]; then
+        token_case "$cc: on another device" \
+            "echo '#define VALUE 6' >$other/value.h; touch -r value.h $other/value.h; ln -sf $other/value.h value.h" "0 1 0" $cc
+        rm -rf "$other" value.h
+    fi
+    cd "$work" || return
+}
