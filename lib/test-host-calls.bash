@@ -246,9 +246,9 @@ host_fails() {
         echo "${PIPESTATUS[0]}" >alone.status
         (sleep 0.2; "$host" "$cc" -Wall -c it.c -o it.o) 2>&1 | :
         is "$cc: nobody reads, $number" [ "${PIPESTATUS[0]}" = "$(cat alone.status)" ]
-        ("$cc" -Wall -c it.c -o it.o 2>/dev/full) 2>/dev/null
+        { "$cc" -Wall -c it.c -o it.o 2>/dev/full; } 2>/dev/null
         echo $? >alone.status
-        ("$host" "$cc" -Wall -c it.c -o it.o 2>/dev/full) 2>/dev/null
+        { "$host" "$cc" -Wall -c it.c -o it.o 2>/dev/full; } 2>/dev/null
         is "$cc: no room for messages, $number" [ $? = "$(cat alone.status)" ]
     done
     # Messages that are longer than a file may be, in a pipe.
@@ -288,7 +288,7 @@ host_deaths() {
         is "$cc: no program from $step on: messages" cmp alone.err ours.err
     done
     stand_in_compiler "$cc" <<<"$find_program"' >program; kill -9 $PPID; exit 1'
-    (timeout 60 "$host" "$PWD/fake/$cc" -Wall -c it.c -o it.o 2>ours.err) 2>/dev/null
+    { timeout 60 "$host" "$PWD/fake/$cc" -Wall -c it.c -o it.o 2>ours.err; } 2>/dev/null
     is "$cc: no host" [ $? = 137 ]
     program=$(cat program)
     for step in $(seq 100); do

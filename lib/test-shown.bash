@@ -29,10 +29,12 @@ host_streams() {
     local cc=$1 words
     printf 'int f(void) { return 1; }\n' >it.c
     stand_in_compiler "$cc" <<'SCRIPT'
-for part in 1 2 3; do echo out $part; sleep 0.3; echo err $part >&2; sleep 0.3; done
+await() { for tries in $(seq 200); do grep -q "$1" "$SHOWN" && return; sleep 0.1; done; }
+for part in 1 2 3; do echo out $part; await "out $part"; echo err $part >&2; await "err $part"; done
 SCRIPT
-    "$PWD/fake/$cc" -c it.c -o it.o >wanted 2>&1
-    "$host" "$PWD/fake/$cc" -c it.c -o it.o >shown 2>&1
+    SHOWN=wanted "$PWD/fake/$cc" -c it.c -o it.o >wanted 2>&1
+    SHOWN=shown "$host" "$PWD/fake/$cc" -c it.c -o it.o >shown 2>&1
+    is "$cc: order of both streams: all six lines" [ "$(wc -l <shown)" = 6 ]
     is "$cc: order of both streams" cmp wanted shown
     stand_in_compiler "$cc" <<'SCRIPT'
 sleep 300 &
