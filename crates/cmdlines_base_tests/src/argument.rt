@@ -1,5 +1,6 @@
 //! Each function once.
 
+use crate::handed::{are_equal, copy_of};
 use cmdlines_base::argument::{ArgDisposition, Argument, NormalizedDisposition};
 use os_files::os_bytes::OsBytes;
 use std::alloc::{AllocError, Global};
@@ -11,48 +12,77 @@ fn with_value(alloc: Global, disposition: ArgDisposition) -> Result<Argument<OsB
     Ok(Argument::WithValue("-I", value, disposition))
 }
 
+/// The option with that value as it stands where it is wanted so.
+fn normalized(
+    alloc: Global,
+    read: ArgDisposition,
+    wanted: NormalizedDisposition,
+) -> Result<Argument<OsBytes>, AllocError> {
+    Ok(with_value(alloc, read)?.normalize(wanted))
+}
+
 #[test]
 fn either_way_stands_as_is_wanted(rt: HostRuntime) -> Result<(), Fail> {
-    let alloc = rt.alloc();
     let apart = NormalizedDisposition::Separated;
     let joined = NormalizedDisposition::Concatenated;
-    for (read, wanted, stands) in [
+    for (read, wanted, stands, what) in [
         (
             ArgDisposition::CanBeConcatenated(None),
             apart,
             ArgDisposition::Separated,
+            "joined or apart, wanted apart",
         ),
         (
             ArgDisposition::CanBeSeparated(Some(b'=')),
             apart,
             ArgDisposition::Separated,
+            "apart or joined by a sign, wanted apart",
         ),
         (
             ArgDisposition::CanBeConcatenated(Some(b'=')),
             joined,
             ArgDisposition::Concatenated(Some(b'=')),
+            "joined by a sign or apart, wanted joined",
         ),
         (
             ArgDisposition::CanBeSeparated(None),
             joined,
             ArgDisposition::Concatenated(None),
+            "apart or joined, wanted joined",
         ),
-        (ArgDisposition::Separated, joined, ArgDisposition::Separated),
+        (
+            ArgDisposition::Separated,
+            joined,
+            ArgDisposition::Separated,
+            "apart, wanted joined",
+        ),
         (
             ArgDisposition::Concatenated(None),
             apart,
             ArgDisposition::Concatenated(None),
+            "joined, wanted apart",
         ),
     ] {
-        let argument = with_value(alloc, read)?.normalize(wanted);
-        assert!(rt;
-            argument == with_value(alloc, stands)?,
-            "{read:?} {wanted:?}"
-        );
+        let read = normalized(rt.alloc(), read, wanted);
+        are_equal(read, with_value(rt.alloc(), stands), what)?;
     }
-    let raw = Argument::<OsBytes>::Raw(OsBytes::from_slice(alloc, b"a.c")?);
-    assert!(rt; raw.clone()?.normalize(apart) == raw);
     Ok(())
+}
+
+/// A loose word.
+fn loose(alloc: Global) -> Result<Argument<OsBytes>, AllocError> {
+    Ok(Argument::Raw(word(alloc, "a.c")?))
+}
+
+/// The copy of it, wanted apart.
+fn copied(alloc: Global) -> Result<Argument<OsBytes>, AllocError> {
+    let copy = copy_of(loose(alloc)?)?;
+    Ok(copy.normalize(NormalizedDisposition::Separated))
+}
+
+#[test]
+fn a_loose_word_stays(rt: HostRuntime) -> Result<(), Fail> {
+    are_equal(copied(rt.alloc()), loose(rt.alloc()), "a loose word")
 }
 
 /// What is seen of an argument: its first word, its flag and its value.
@@ -70,25 +100,37 @@ fn word(alloc: Global, text: &str) -> Result<OsBytes, AllocError> {
     OsBytes::from_slice(alloc, text.as_bytes())
 }
 
-fn told_of_option(alloc: Global) -> Result<String, Fail> {
-    told(alloc, &with_value(alloc, ArgDisposition::Separated)?)
+/// Likewise of one that is handed over.
+fn told_of(alloc: Global, argument: Result<Argument<OsBytes>, AllocError>) -> Result<String, Fail> {
+    let argument = argument?;
+    let text = told(alloc, &argument);
+    drop(argument);
+    text
 }
 
-fn told_of_flag(alloc: Global) -> Result<String, Fail> {
-    told(alloc, &Argument::Flag("-c", word(alloc, "inc")?))
+fn flag(alloc: Global) -> Result<Argument<OsBytes>, AllocError> {
+    Ok(Argument::Flag("-c", word(alloc, "inc")?))
 }
 
-fn told_of_unknown(alloc: Global) -> Result<String, Fail> {
-    told(alloc, &Argument::UnknownFlag(word(alloc, "-u")?))
+fn unknown(alloc: Global) -> Result<Argument<OsBytes>, AllocError> {
+    Ok(Argument::UnknownFlag(word(alloc, "-u")?))
 }
 
 #[test]
 fn parts_are_looked_at(rt: HostRuntime) -> Result<(), Fail> {
     let alloc = rt.alloc();
-    is_that(told_of_option(alloc)?.as_str(), "-I; -I; inc", "an option")?;
-    is_that(told_of_flag(alloc)?.as_str(), "-c; -c; inc", "a flag")?;
     is_that(
-        told_of_unknown(alloc)?.as_str(),
+        told_of(alloc, with_value(alloc, ArgDisposition::Separated))?.as_str(),
+        "-I; -I; inc",
+        "an option",
+    )?;
+    is_that(
+        told_of(alloc, flag(alloc))?.as_str(),
+        "-c; -c; inc",
+        "a flag",
+    )?;
+    is_that(
+        told_of(alloc, unknown(alloc))?.as_str(),
         "-u; no flag; no value",
         "an unknown flag",
     )

@@ -1,33 +1,42 @@
 //! Printed errors.
 
+use crate::handed::is_printed;
 use cmdlines_base::argument_error::{ArgParseError, ArgToStringError};
 use os_files::os_bytes::OsBytes;
+use std::alloc::{AllocError, Global};
 use std::test::Fail;
 
+/// A word that is no text.
+fn word(alloc: Global) -> Result<OsBytes, AllocError> {
+    OsBytes::from_slice(alloc, b"a\xff")
+}
+
 #[test]
-fn errors_are_printed(rt: HostRuntime) -> Result<(), Fail> {
+fn errors_of_words_are_printed(rt: HostRuntime) -> Result<(), Fail> {
     let alloc = rt.alloc();
-    let word = OsBytes::from_slice(alloc, b"a\xff")?;
-    let lines = [
-        format!(in alloc; "{}", ArgParseError::UnexpectedEndOfArgs)?,
-        format!(in alloc; "{}", ArgParseError::InvalidUnicode(word.clone()?))?,
-        format!(in alloc; "{}", ArgParseError::Other("not a kind of crate"))?,
-        format!(in alloc; "{}", ArgParseError::Memory)?,
-        format!(in alloc; "{}", ArgToStringError::FailedPathTransform(word.clone()?))?,
-        format!(in alloc; "{}", ArgToStringError::InvalidUnicode(word))?,
-        format!(in alloc; "{}", ArgToStringError::Memory)?,
-    ];
-    let expected = [
-        "the arguments end where a value should come",
-        r#"an argument is not UTF-8: "a\xff""#,
-        "not a kind of crate",
-        "no memory was left",
-        r#"a path cannot be transformed: "a\xff""#,
-        r#"an argument is not UTF-8: "a\xff""#,
-        "no memory was left",
-    ];
-    for (line, text) in lines.iter().zip(expected) {
-        assert_eq!(rt; line.as_str(), text);
-    }
-    Ok(())
+    let ends = "the arguments end where a value should come";
+    is_printed(alloc, ArgParseError::UnexpectedEndOfArgs, ends)?;
+    let refused = r#"an argument is not UTF-8: "a\xff""#;
+    is_printed(alloc, ArgParseError::InvalidUnicode(word(alloc)?), refused)?;
+    let other = "not a kind of crate";
+    is_printed(alloc, ArgParseError::Other(other), other)?;
+    is_printed(alloc, ArgParseError::Memory, "no memory was left")
+}
+
+#[test]
+fn errors_of_values_are_printed(rt: HostRuntime) -> Result<(), Fail> {
+    let alloc = rt.alloc();
+    let path = r#"a path cannot be transformed: "a\xff""#;
+    is_printed(
+        alloc,
+        ArgToStringError::FailedPathTransform(word(alloc)?),
+        path,
+    )?;
+    let refused = r#"an argument is not UTF-8: "a\xff""#;
+    is_printed(
+        alloc,
+        ArgToStringError::InvalidUnicode(word(alloc)?),
+        refused,
+    )?;
+    is_printed(alloc, ArgToStringError::Memory, "no memory was left")
 }

@@ -1,15 +1,15 @@
 //! Whether the clauses say what is meant, by words that are cut by hand.
 
 use crate::examples::{ALL, TEXT, Value, table, words};
+use crate::handed::is_shown;
 use cmdlines_base::argument::{ArgDisposition, Argument};
 use cmdlines_base::argument_error::ArgParseError;
 use cmdlines_base::cutting::ArgsIter;
 use cmdlines_base::table::{ArgInfo, SearchableArgInfo, Table};
-use os_files::os_bytes::OsBytes;
 use std::alloc::{AllocError, Global};
 use std::fmt::Write;
 use std::test::Fail;
-use test_kit::texts::is_that;
+use test_kit::texts::{holds, is_that};
 
 fn write_argument(text: &mut String, argument: &Argument<Value>) -> Result<(), AllocError> {
     match argument {
@@ -32,6 +32,16 @@ fn write_error(text: &mut String, error: &ArgParseError) -> Result<(), AllocErro
     }
 }
 
+fn write_item(
+    text: &mut String,
+    item: &Result<Argument<Value>, ArgParseError>,
+) -> Result<(), AllocError> {
+    match item {
+        Ok(argument) => write_argument(text, argument),
+        Err(error) => write_error(text, error),
+    }
+}
+
 /// What an iterator gives, as text.
 fn written<S: SearchableArgInfo<Value>>(
     alloc: Global,
@@ -39,10 +49,9 @@ fn written<S: SearchableArgInfo<Value>>(
 ) -> Result<String, AllocError> {
     let mut text = String::new(alloc);
     for item in arguments {
-        match item {
-            Ok(argument) => write_argument(&mut text, &argument)?,
-            Err(error) => write_error(&mut text, &error)?,
-        }
+        let wrote = write_item(&mut text, &item);
+        drop(item);
+        wrote?;
     }
     Ok(text)
 }
@@ -114,18 +123,25 @@ const CUT_TO_DASHES: &str = "\
 -o -- => -o <--> Separated; false\n\
 --c a.c => unknown <--c>; raw <a.c>; false";
 
+/// Whether double dashes are seen once all words are cut, and none before.
+fn sees_double_dashes<S: SearchableArgInfo<Value>>(
+    mut arguments: ArgsIter<'_, Value, S>,
+) -> Result<bool, Fail> {
+    if arguments.seen_double_dashes() {
+        return Err("double dashes before the first word".into());
+    }
+    while arguments.next().is_some() {}
+    Ok(arguments.seen_double_dashes())
+}
+
 /// What words are cut into where double dashes end the options, and whether such were seen.
 fn cut_to_dashes(alloc: Global, line: &str) -> Result<String, Fail> {
     let table = table(alloc)?;
     let list = words(alloc, line.as_bytes())?;
     let arguments = ArgsIter::new(alloc, list.as_slice(), &table).with_double_dashes();
+    let seen = sees_double_dashes(arguments)?;
+    let arguments = ArgsIter::new(alloc, list.as_slice(), &table).with_double_dashes();
     let text = written(alloc, arguments)?;
-    let mut arguments = ArgsIter::new(alloc, list.as_slice(), &table).with_double_dashes();
-    if arguments.seen_double_dashes() {
-        return Err("double dashes before the first word".into());
-    }
-    while arguments.next().is_some() {}
-    let seen = arguments.seen_double_dashes();
     Ok(format!(in alloc; "{text}{seen}")?)
 }
 
@@ -138,36 +154,66 @@ fn double_dashes_end_the_options(rt: HostRuntime) -> Result<(), Fail> {
     Ok(())
 }
 
-#[test]
-fn an_error_is_the_end(rt: HostRuntime) -> Result<(), Fail> {
-    let alloc = rt.alloc();
-    let table = table(alloc)?;
-    let list = words(alloc, b"-x  -c")?;
-    let mut arguments = ArgsIter::new(alloc, list.as_slice(), &table);
-    if !matches!(arguments.next(), Some(Err(ArgParseError::Other("empty")))) {
-        return Err("not refused".into());
-    }
-    if arguments.next().is_some() || arguments.next().is_some() {
-        return Err("words behind an error".into());
+/// Asserts what comes at first, and then, and then.
+fn gives<S: SearchableArgInfo<Value>>(
+    alloc: Global,
+    mut arguments: ArgsIter<'_, Value, S>,
+    wants: &[&str],
+) -> Result<(), Fail> {
+    for want in wants {
+        is_shown(alloc, arguments.next(), want)?;
     }
     Ok(())
 }
 
+/// Asserts it of these words.
+fn words_give(alloc: Global, line: &[u8], wants: &[&str]) -> Result<(), Fail> {
+    let table = table(alloc)?;
+    let list = words(alloc, line)?;
+    gives(alloc, ArgsIter::new(alloc, list.as_slice(), &table), wants)
+}
+
+#[test]
+fn an_error_is_the_end(rt: HostRuntime) -> Result<(), Fail> {
+    let wants = [r#"Some(Err(Other("empty")))"#, "None", "None"];
+    words_give(rt.alloc(), b"-x  -c", &wants)
+}
+
+#[test]
+fn words_are_kept_as_bytes(rt: HostRuntime) -> Result<(), Fail> {
+    words_give(
+        rt.alloc(),
+        b"\xff.c",
+        &[r#"Some(Ok(Raw("\xff.c")))"#, "None"],
+    )
+}
+
+/// Whether these two entries, the second with that delimiter, make a table.
+fn is_table(
+    alloc: Global,
+    first: &'static str,
+    second: &'static str,
+    delimiter: u8,
+) -> Result<bool, AllocError> {
+    let entries = vec![in alloc;
+        ArgInfo::<Value>::Flag(first, ALL),
+        ArgInfo::TakeArg(second, ALL, ArgDisposition::Concatenated(Some(delimiter))),
+    ]?;
+    Ok(Table::new(entries).is_some())
+}
+
 #[test]
 fn tables_by_example(rt: HostRuntime) -> Result<(), Fail> {
-    let alloc = rt.alloc();
-    for (first, second, delimiter, is_table) in [
-        ("-b", "-c", 127, true),
-        ("-b", "-c", 128, false),
-        ("-c", "-c", 127, false),
-        ("-c", "-b", 127, false),
+    for (first, second, delimiter, wanted, what) in [
+        ("-b", "-c", 127, true, "in order"),
+        ("-b", "-c", 128, false, "a delimiter that is no text"),
+        ("-c", "-c", 127, false, "twice"),
+        ("-c", "-b", 127, false, "out of order"),
     ] {
-        let entries = vec![in alloc;
-            ArgInfo::<Value>::Flag(first, ALL),
-            ArgInfo::TakeArg(second, ALL, ArgDisposition::Concatenated(Some(delimiter))),
-        ]?;
-        let table = Table::new(entries);
-        assert_eq!(rt; table.is_some(), is_table, "{first}, {second}, {delimiter}");
+        holds(
+            is_table(rt.alloc(), first, second, delimiter)? == wanted,
+            what,
+        )?;
     }
     Ok(())
 }
@@ -194,23 +240,34 @@ const CUT_BY_TWO: &str = "\
 -c a => -c <a> Separated; \n\
 -cc => unknown <-cc>; ";
 
-/// The second table's on equal flags, and the first's where the second's doesn't fit.
-#[test]
-fn of_two_tables_the_longer_flag_is_found(rt: HostRuntime) -> Result<(), Fail> {
-    let alloc = rt.alloc();
-    let pair = pair(alloc)?;
+/// What the words of a line are cut into by both.
+fn cut_by_two(
+    alloc: Global,
+    pair: &(Table<Value>, Table<Value>),
+    line: &str,
+) -> Result<String, AllocError> {
+    let list = words(alloc, line.as_bytes())?;
+    written(alloc, ArgsIter::new(alloc, list.as_slice(), pair))
+}
+
+/// Asserts each row.
+fn rows_are_cut(alloc: Global, pair: &(Table<Value>, Table<Value>)) -> Result<(), Fail> {
     for row in CUT_BY_TWO.lines() {
         let (line, want) = parts(row)?;
-        let list = words(alloc, line.as_bytes())?;
-        let text = written(alloc, ArgsIter::new(alloc, list.as_slice(), &pair))?;
-        is_that(text.as_str(), want, line)?;
+        is_that(cut_by_two(alloc, pair, line)?.as_str(), want, line)?;
     }
     Ok(())
 }
 
+/// The second table's on equal flags, and the first's where the second's doesn't fit.
 #[test]
-fn a_pair_of_tables_is_searched(rt: HostRuntime) -> Result<(), Fail> {
+fn of_two_tables_the_longer_flag_is_found(rt: HostRuntime) -> Result<(), Fail> {
     let pair = pair(rt.alloc())?;
+    rows_are_cut(rt.alloc(), &pair)
+}
+
+/// Asserts what is found in a pair of tables.
+fn is_searched(pair: &(Table<Value>, Table<Value>)) -> Result<(), Fail> {
     if !pair.check() {
         return Err("a table isn't in order".into());
     }
@@ -224,14 +281,7 @@ fn a_pair_of_tables_is_searched(rt: HostRuntime) -> Result<(), Fail> {
 }
 
 #[test]
-fn words_are_kept_as_bytes(rt: HostRuntime) -> Result<(), Fail> {
-    let alloc = rt.alloc();
-    let table = table(alloc)?;
-    let list = vec![in alloc; OsBytes::from_slice(alloc, b"\xff.c")?]?;
-    let mut arguments = ArgsIter::new(alloc, list.as_slice(), &table);
-    match arguments.next() {
-        Some(Ok(Argument::Raw(word))) => assert_eq!(rt; word.as_bytes(), b"\xff.c".as_slice()),
-        _ => return Err("no loose word".into()),
-    }
-    Ok(())
+fn a_pair_of_tables_is_searched(rt: HostRuntime) -> Result<(), Fail> {
+    let pair = pair(rt.alloc())?;
+    is_searched(&pair)
 }

@@ -10,6 +10,8 @@ mod cutting;
 #[cfg(test)]
 mod examples;
 #[cfg(test)]
+mod handed;
+#[cfg(test)]
 mod printing;
 #[cfg(test)]
 mod splitting;

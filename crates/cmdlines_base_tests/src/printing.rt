@@ -2,7 +2,9 @@
 
 use crate::examples::{Value, table, words};
 use cmdlines_base::argument::{ArgDisposition, Argument};
+use cmdlines_base::argument_error::ArgParseError;
 use cmdlines_base::cutting::ArgsIter;
+use cmdlines_base::table::Table;
 use os_files::os_bytes::OsBytes;
 use std::alloc::{AllocError, Global};
 use std::fmt::Write;
@@ -18,18 +20,34 @@ fn printed(alloc: Global, argument: &Argument<Value>) -> Result<String, AllocErr
     Ok(text)
 }
 
+/// Adds them, of an argument that was cut.
+fn push_printed(
+    alloc: Global,
+    text: &mut String,
+    item: &Result<Argument<Value>, ArgParseError>,
+) -> Result<(), Fail> {
+    match item {
+        Ok(argument) => Ok(text.push_str(printed(alloc, argument)?.as_str())?),
+        Err(_) => Err("not cut".into()),
+    }
+}
+
 /// The words of a line, cut and printed again, each behind a space.
+fn printed_by(alloc: Global, list: &[OsBytes], table: &Table<Value>) -> Result<String, Fail> {
+    let mut text = String::new(alloc);
+    for item in ArgsIter::new(alloc, list, table) {
+        let pushed = push_printed(alloc, &mut text, &item);
+        drop(item);
+        pushed?;
+    }
+    Ok(text)
+}
+
+/// Likewise by the table of the tests.
 fn printed_again(alloc: Global, line: &str) -> Result<String, Fail> {
     let table = table(alloc)?;
     let list = words(alloc, line.as_bytes())?;
-    let mut text = String::new(alloc);
-    for argument in ArgsIter::new(alloc, list.as_slice(), &table) {
-        match argument {
-            Ok(argument) => text.push_str(printed(alloc, &argument)?.as_str())?,
-            Err(_) => return Err("not cut".into()),
-        }
-    }
-    Ok(text)
+    printed_by(alloc, list.as_slice(), &table)
 }
 
 /// Lines, and what is printed of them again. A delimiter before nothing is dropped.
@@ -49,7 +67,11 @@ fn words_are_printed_as_they_stood(rt: HostRuntime) -> Result<(), Fail> {
     Ok(())
 }
 
-fn path(alloc: Global, flag: &'static str, read: ArgDisposition) -> Result<Argument<Value>, Fail> {
+fn path(
+    alloc: Global,
+    flag: &'static str,
+    read: ArgDisposition,
+) -> Result<Argument<Value>, AllocError> {
     let word = OsBytes::from_slice(alloc, b"/s")?;
     let value = Value {
         word: Some(word),
@@ -76,40 +98,49 @@ fn texts_of<F: FnMut(&[u8]) -> Option<String> + Drop>(
     Ok(text)
 }
 
+/// Those of an argument whose paths are elsewhere.
+fn moved(alloc: Global, argument: &Argument<Value>) -> Result<String, AllocError> {
+    texts_of(
+        alloc,
+        argument,
+        |_path: &[u8]| String::from_str(alloc, "/there").ok(),
+    )
+}
+
+/// Those of one whose paths are empty.
+fn emptied(alloc: Global, argument: &Argument<Value>) -> Result<String, AllocError> {
+    texts_of(alloc, argument, |_path: &[u8]| Some(String::new(alloc)))
+}
+
+/// Both of the option `--sysroot` that stands so.
+fn moved_and_emptied(alloc: Global, read: ArgDisposition) -> Result<String, AllocError> {
+    let argument = path(alloc, "--sysroot", read)?;
+    let moved = moved(alloc, &argument);
+    let emptied = emptied(alloc, &argument);
+    drop(argument);
+    let (moved, emptied) = (moved?, emptied?);
+    format!(in alloc; "{moved} {emptied}")
+}
+
 #[test]
 fn paths_are_what_the_closure_answers(rt: HostRuntime) -> Result<(), Fail> {
-    let alloc = rt.alloc();
-    for (read, there, none) in [
+    for (read, want) in [
         (
             ArgDisposition::Concatenated(Some(b'=')),
-            "--sysroot=/there|",
-            "--sysroot|",
+            "--sysroot=/there| --sysroot|",
         ),
         (
             ArgDisposition::CanBeSeparated(None),
-            "--sysroot/there|",
-            "--sysroot|",
+            "--sysroot/there| --sysroot|",
         ),
-        (
-            ArgDisposition::Separated,
-            "--sysroot|/there|",
-            "--sysroot||",
-        ),
+        (ArgDisposition::Separated, "--sysroot|/there| --sysroot||"),
         (
             ArgDisposition::CanBeConcatenated(Some(b'=')),
-            "--sysroot|/there|",
-            "--sysroot||",
+            "--sysroot|/there| --sysroot||",
         ),
     ] {
-        let argument = path(alloc, "--sysroot", read)?;
-        let moved = texts_of(
-            alloc,
-            &argument,
-            |_path: &[u8]| String::from_str(alloc, "/there").ok(),
-        )?;
-        assert_eq!(rt; moved.as_str(), there);
-        let gone = texts_of(alloc, &argument, |_path: &[u8]| Some(String::new(alloc)))?;
-        assert_eq!(rt; gone.as_str(), none);
+        let text = moved_and_emptied(rt.alloc(), read)?;
+        is_that(text.as_str(), want, "--sysroot")?;
     }
     Ok(())
 }
@@ -118,9 +149,19 @@ fn refuse(_path: &[u8]) -> Option<String> {
     None
 }
 
+/// The texts of an argument whose paths are refused.
+fn refused(
+    alloc: Global,
+    argument: Result<Argument<Value>, AllocError>,
+) -> Result<String, AllocError> {
+    let argument = argument?;
+    let text = texts_of(alloc, &argument, refuse);
+    drop(argument);
+    text
+}
+
 #[test]
 fn a_refused_path_is_the_end(rt: HostRuntime) -> Result<(), Fail> {
-    let alloc = rt.alloc();
     for (read, want) in [
         (
             ArgDisposition::Concatenated(None),
@@ -131,26 +172,46 @@ fn a_refused_path_is_the_end(rt: HostRuntime) -> Result<(), Fail> {
             r#"-I|a path cannot be transformed: "/s""#,
         ),
     ] {
-        let argument = path(alloc, "-I", read)?;
-        assert_eq!(rt; texts_of(alloc, &argument, refuse)?.as_str(), want);
+        let text = refused(rt.alloc(), path(rt.alloc(), "-I", read))?;
+        is_that(text.as_str(), want, "-I")?;
     }
     Ok(())
 }
 
+/// A loose word that is no text.
+fn no_text(alloc: Global) -> Result<Argument<Value>, AllocError> {
+    Ok(Argument::Raw(OsBytes::from_slice(alloc, b"\xff.c")?))
+}
+
 #[test]
-fn what_is_no_text_is_refused(rt: HostRuntime) -> Result<(), Fail> {
-    let alloc = rt.alloc();
-    let word = OsBytes::from_slice(alloc, b"\xff.c")?;
-    let raw = Argument::<Value>::Raw(word);
-    let refused = texts_of(alloc, &raw, refuse)?;
-    assert_eq!(rt; refused.as_str(), r#"an argument is not UTF-8: "\xff.c""#);
-    // No table has such a delimiter, but an argument may.
-    let joined = path(alloc, "-I", ArgDisposition::Concatenated(Some(200)))?;
-    let refused = texts_of(
+fn a_word_that_is_no_text_is_refused(rt: HostRuntime) -> Result<(), Fail> {
+    let text = refused(rt.alloc(), no_text(rt.alloc()))?;
+    is_that(
+        text.as_str(),
+        r#"an argument is not UTF-8: "\xff.c""#,
+        "a loose word",
+    )
+}
+
+/// The texts of a path behind a delimiter that is no text.
+fn joined(alloc: Global) -> Result<String, AllocError> {
+    let argument = path(alloc, "-I", ArgDisposition::Concatenated(Some(200)))?;
+    let text = texts_of(
         alloc,
-        &joined,
+        &argument,
         |_path: &[u8]| String::from_str(alloc, "s").ok(),
-    )?;
-    assert_eq!(rt; refused.as_str(), r#"an argument is not UTF-8: "-I\xc8s""#);
-    Ok(())
+    );
+    drop(argument);
+    text
+}
+
+/// No table has such a delimiter, but an argument may.
+#[test]
+fn a_delimiter_that_is_no_text_is_refused(rt: HostRuntime) -> Result<(), Fail> {
+    let text = joined(rt.alloc())?;
+    is_that(
+        text.as_str(),
+        r#"an argument is not UTF-8: "-I\xc8s""#,
+        "a delimiter",
+    )
 }

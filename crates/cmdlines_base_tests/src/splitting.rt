@@ -1,23 +1,28 @@
 //! Words cut in two, by example.
 
-use cmdlines_base::argument_error::ArgParseError;
+use crate::handed::is_shown;
 use cmdlines_base::splitting::split_os_string_arg;
 use os_files::os_bytes::OsBytes;
-use std::alloc::Global;
+use std::alloc::{AllocError, Global};
 use std::test::Fail;
 use test_kit::texts::is_that;
 
-/// What stands before and behind the separator.
+/// What stands before and behind the separator, as text.
+fn told(alloc: Global, parts: &(String, Option<String>)) -> Result<String, AllocError> {
+    let before = parts.0.as_str();
+    match &parts.1 {
+        Some(behind) => format!(in alloc; "<{before}> and <{behind}>"),
+        None => format!(in alloc; "<{before}>"),
+    }
+}
+
+/// Likewise of a word.
 fn split(alloc: Global, word: &str, separator: &str) -> Result<String, Fail> {
     let bytes = OsBytes::from_slice(alloc, word.as_bytes())?;
     let Ok(parts) = split_os_string_arg(alloc, bytes, separator) else {
         return Err("not split".into());
     };
-    let before = parts.0.as_str();
-    match &parts.1 {
-        Some(behind) => Ok(format!(in alloc; "<{before}> and <{behind}>")?),
-        None => Ok(format!(in alloc; "<{before}>")?),
-    }
+    Ok(told(alloc, &parts)?)
 }
 
 #[test]
@@ -40,7 +45,10 @@ fn splits_at_the_first_separator(rt: HostRuntime) -> Result<(), Fail> {
 #[test]
 fn what_is_no_text_is_not_split(rt: HostRuntime) -> Result<(), Fail> {
     let broken = OsBytes::from_slice(rt.alloc(), b"a=\xff")?;
-    let refused = Err(ArgParseError::InvalidUnicode(broken.clone()?));
-    assert!(rt; split_os_string_arg(rt.alloc(), broken, "=") == refused);
-    Ok(())
+    let refused = r#"Err(InvalidUnicode("a=\xff"))"#;
+    is_shown(
+        rt.alloc(),
+        split_os_string_arg(rt.alloc(), broken, "="),
+        refused,
+    )
 }

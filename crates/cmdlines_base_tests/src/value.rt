@@ -1,9 +1,10 @@
 //! Each call through its bound, at the types of the crate.
 
-use cmdlines_base::argument_error::{ArgParseError, ArgToStringError};
+use crate::handed::is_shown;
+use cmdlines_base::argument_error::{ArgParseResult, ArgToStringResult};
 use cmdlines_base::value::{ArgumentValue, FromArg, IntoArg};
 use os_files::os_bytes::OsBytes;
-use std::alloc::Global;
+use std::alloc::{AllocError, Global};
 use std::test::Fail;
 use test_kit::texts::is_that;
 
@@ -65,14 +66,21 @@ fn flags_have_nothing(rt: HostRuntime) -> Result<(), Fail> {
     Ok(())
 }
 
+/// What comes of a word that is no text as a value that is one.
+fn processed(alloc: Global) -> Result<ArgParseResult<String>, AllocError> {
+    Ok(String::process(OsBytes::from_slice(alloc, b"a\xff")?))
+}
+
+/// Its text as an option's value.
+fn text_of_no_text(alloc: Global) -> Result<ArgToStringResult, AllocError> {
+    let word = OsBytes::from_slice(alloc, b"a\xff")?;
+    Ok(word.into_arg_string(alloc, &mut refuse))
+}
+
 #[test]
 fn what_is_no_text_is_handed_back(rt: HostRuntime) -> Result<(), Fail> {
     let alloc = rt.alloc();
-    let word = OsBytes::from_slice(alloc, b"a\xff")?;
-    assert!(rt;
-        String::process(word.clone()?) == Err(ArgParseError::InvalidUnicode(word.clone()?))
-    );
-    let refused = Err(ArgToStringError::InvalidUnicode(word.clone()?));
-    assert!(rt; word.into_arg_string(alloc, &mut refuse) == refused);
-    Ok(())
+    let refused = r#"Err(InvalidUnicode("a\xff"))"#;
+    is_shown(alloc, processed(alloc)?, refused)?;
+    is_shown(alloc, text_of_no_text(alloc)?, refused)
 }

@@ -9,10 +9,12 @@ use cmdlines::gcc::GccKind;
 use cmdlines::msvc::MsvcKind;
 use cmdlines::tasking_vx::TaskingVXKind;
 use cmdlines_base::value::ArgumentValue;
+use cmdlines_requests::parsed::ParsedArguments;
 use cmdlines_tables::compiler::CCompilerKind;
 use os_files::os_bytes::OsBytes;
 use response_files::fault::ParseFault;
 use std::alloc::{AllocError, Global};
+use std::fmt::Display;
 use std::test::Fail;
 use test_kit::texts::{holds, prints};
 
@@ -33,12 +35,17 @@ fn tells_its_traits<K: HasKind>(alloc: Global) -> Result<bool, AllocError> {
     let version = String::from_str(alloc, "13.2.0")?;
     let digest = String::from_str(alloc, "0a1b")?;
     let full = FoundCompiler::<K>::new(alloc, true, Some(version), Some(digest))?;
-    Ok(tells(&full, true, Some("13.2.0"), Some("0a1b")))
+    let tells = tells(&full, true, Some("13.2.0"), Some("0a1b"));
+    drop(full);
+    Ok(tells)
 }
 
 /// Whether one of which nothing more is known tells so.
 fn tells_nothing_more<K: HasKind>(alloc: Global) -> Result<bool, AllocError> {
-    Ok(tells(&bare::<K>(alloc)?, false, None, None))
+    let bare = bare::<K>(alloc)?;
+    let tells = tells(&bare, false, None, None);
+    drop(bare);
+    Ok(tells)
 }
 
 /// Asserts that a compiler is of this kind and tells what it was made with.
@@ -58,25 +65,36 @@ fn traits_of_all_compilers(rt: HostRuntime) -> Result<(), Fail> {
     traits_are_told::<TaskingVXKind>(alloc, CCompilerKind::TaskingVX)
 }
 
-#[test]
-fn faults_as_text(rt: HostRuntime) -> Result<(), Fail> {
-    let alloc = rt.alloc();
-    let read = ParseFault::Read(OsBytes::from_slice(alloc, b"/w/args")?);
-    prints(alloc, &read, "cannot read /w/args")?;
-    prints(alloc, &ParseFault::from(AllocError), "no memory was left")?;
-    prints(alloc, &CommandError::from(AllocError), "no memory was left")?;
-    let missing = CommandError::NoObjOutput;
-    prints(alloc, &missing, "no object is among the outputs")
+/// Asserts that a fault prints this text.
+fn tells_why<T: Display + Drop>(alloc: Global, fault: T, want: &str) -> Result<(), Fail> {
+    prints(alloc, &fault, want)
 }
 
 #[test]
-fn the_object_of_a_request(rt: HostRuntime) -> Result<(), Fail> {
+fn faults_as_text(rt: HostRuntime) -> Result<(), Fail> {
     let alloc = rt.alloc();
-    let line = "-c foo.c --serialize-diagnostics foo.dia";
-    let request = parsed_by_clang(alloc, line)?;
+    let path = OsBytes::from_slice(alloc, b"/w/args")?;
+    tells_why(alloc, ParseFault::Read(path), "cannot read /w/args")?;
+    tells_why(alloc, ParseFault::from(AllocError), "no memory was left")?;
+    tells_why(alloc, CommandError::from(AllocError), "no memory was left")?;
+    let missing = CommandError::NoObjOutput;
+    tells_why(alloc, missing, "no object is among the outputs")
+}
+
+/// Asserts which object a request has.
+fn has_its_object(request: &ParsedArguments) -> Result<(), Fail> {
     let Some(object) = request.object() else {
         return Err("no object".into());
     };
     holds(object.path.as_bytes() == b"foo.o".as_slice(), "its path")?;
     holds(!object.optional, "it is demanded")
+}
+
+#[test]
+fn the_object_of_a_request(rt: HostRuntime) -> Result<(), Fail> {
+    let line = "-c foo.c --serialize-diagnostics foo.dia";
+    let request = parsed_by_clang(rt.alloc(), line)?;
+    let has = has_its_object(&request);
+    drop(request);
+    has
 }

@@ -30,7 +30,9 @@ fn command_for(
     let program = OsBytes::from_slice(alloc, b"/opt/bin/cc")?;
     let dir = OsBytes::from_slice(alloc, b"/some/dir")?;
     let compiler = bare::<GccKind>(alloc)?;
-    Ok(compiler.generate_compile_commands(alloc, &program, request, &dir, variables)?)
+    let command = compiler.generate_compile_commands(alloc, &program, request, &dir, variables);
+    drop(compiler);
+    Ok(command?)
 }
 
 /// The command runs Gcc in its folder with these variables, and can be kept.
@@ -50,15 +52,23 @@ fn runs_with(
     holds(command.env_vars.as_slice() == variables, "its variables")
 }
 
-#[test]
-fn what_is_run_where_and_with_what(rt: HostRuntime) -> Result<(), Fail> {
-    let alloc = rt.alloc();
+/// Asserts it of the command for the request, with two variables.
+fn runs(alloc: Global, request: &ParsedArguments) -> Result<(), Fail> {
     let mut variables = Vec::new(alloc);
     variables.push(variable(alloc, "LANG", "C")?)?;
     variables.push(variable(alloc, "EMPTY", "")?)?;
-    let request = parsed_by_gcc(alloc, "-c foo.c")?;
-    let command = command_for(alloc, &request, variables.as_slice())?;
-    runs_with(&command, variables.as_slice())
+    let command = command_for(alloc, request, variables.as_slice())?;
+    let ran = runs_with(&command, variables.as_slice());
+    drop(command);
+    ran
+}
+
+#[test]
+fn what_is_run_where_and_with_what(rt: HostRuntime) -> Result<(), Fail> {
+    let request = parsed_by_gcc(rt.alloc(), "-c foo.c")?;
+    let ran = runs(rt.alloc(), &request);
+    drop(request);
+    ran
 }
 
 /// Whether a compiler of that kind has no command for the request, as it lacks an object.
@@ -67,16 +77,14 @@ fn lacks_an_object<K: HasKind>(alloc: Global, request: &ParsedArguments) -> Resu
     let dir = OsBytes::from_slice(alloc, b"/work")?;
     let compiler = bare::<K>(alloc)?;
     let answer = compiler.generate_compile_commands(alloc, &program, request, &dir, &[]);
-    Ok(matches!(&answer, Err(CommandError::NoObjOutput)))
+    drop(compiler);
+    let lacks = matches!(&answer, Err(CommandError::NoObjOutput));
+    drop(answer);
+    Ok(lacks)
 }
 
-/// Asserts that the request without outputs has no command, of any kind, and the other one has.
-fn objects_are_needed(
-    alloc: Global,
-    whole: &ParsedArguments,
-    lacking: &ParsedArguments,
-) -> Result<(), Fail> {
-    holds(!lacks_an_object::<ClangKind>(alloc, whole)?, "an object")?;
+/// Asserts that the request without outputs has no command, of any kind.
+fn none_has_a_command(alloc: Global, lacking: &ParsedArguments) -> Result<(), Fail> {
     holds(lacks_an_object::<GccKind>(alloc, lacking)?, "none for Gcc")?;
     holds(
         lacks_an_object::<MsvcKind>(alloc, lacking)?,
@@ -86,8 +94,16 @@ fn objects_are_needed(
 
 #[test]
 fn without_an_object_there_is_no_command(rt: HostRuntime) -> Result<(), Fail> {
-    let alloc = rt.alloc();
-    let whole = parsed_by_clang(alloc, "-c foo.c -MD")?;
-    let lacking = without_outputs(alloc)?;
-    objects_are_needed(alloc, &whole, &lacking)
+    let lacking = without_outputs(rt.alloc())?;
+    let none = none_has_a_command(rt.alloc(), &lacking);
+    drop(lacking);
+    none
+}
+
+#[test]
+fn with_an_object_there_is_a_command(rt: HostRuntime) -> Result<(), Fail> {
+    let whole = parsed_by_clang(rt.alloc(), "-c foo.c -MD")?;
+    let lacks = lacks_an_object::<ClangKind>(rt.alloc(), &whole);
+    drop(whole);
+    holds(!lacks?, "an object")
 }

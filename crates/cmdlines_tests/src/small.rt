@@ -8,7 +8,7 @@ use cmdlines_requests::parsed::ParsedArguments;
 use cmdlines_tables::laws::arguments_are_their_items;
 use os_files::listed::Listed;
 use os_files::os_bytes::OsBytes;
-use std::alloc::Global;
+use std::alloc::{AllocError, Global};
 use std::test::Fail;
 use test_kit::rows::words;
 use test_kit::texts::{holds, is_that, write_words};
@@ -21,7 +21,9 @@ fn shows(alloc: Global, request: &ParsedArguments, name: &str, line: &str) -> Re
 /// Likewise of what the words of a line ask Gcc for.
 fn shows_by_gcc(alloc: Global, line: &str, name: &str) -> Result<(), Fail> {
     let request = parsed_by_gcc(alloc, line)?;
-    shows(alloc, &request, name, line)
+    let shown = shows(alloc, &request, name, line);
+    drop(request);
+    shown
 }
 
 #[test]
@@ -39,12 +41,9 @@ fn a_name_that_is_no_text_is_shown_as_well_as_it_can(rt: HostRuntime) -> Result<
     let mut list = words(alloc, "-c foo.c -o")?;
     list.push(OsBytes::from_slice(alloc, b"a/\xff.o")?)?;
     let request = asked_of::<GccKind>(alloc, list.as_slice())?;
-    shows(alloc, &request, "\u{FFFD}.o", "no text")
-}
-
-/// Asserts that a request has an object.
-fn has_an_object(request: &ParsedArguments) -> Result<(), Fail> {
-    holds(request.object().is_some(), "an object")
+    let shown = shows(alloc, &request, "\u{FFFD}.o", "no text");
+    drop(request);
+    shown
 }
 
 /// Asserts that a request has no object, and how its name is shown.
@@ -54,10 +53,19 @@ fn has_no_object(alloc: Global, request: &ParsedArguments) -> Result<(), Fail> {
 }
 
 #[test]
+fn a_request_has_an_object(rt: HostRuntime) -> Result<(), Fail> {
+    let request = parsed_by_clang(rt.alloc(), "-c foo.c")?;
+    let has_one = request.object().is_some();
+    drop(request);
+    holds(has_one, "an object")
+}
+
+#[test]
 fn without_an_object_there_is_no_name(rt: HostRuntime) -> Result<(), Fail> {
-    let alloc = rt.alloc();
-    has_an_object(&parsed_by_clang(alloc, "-c foo.c")?)?;
-    has_no_object(alloc, &without_outputs(alloc)?)
+    let request = without_outputs(rt.alloc())?;
+    let has_none = has_no_object(rt.alloc(), &request);
+    drop(request);
+    has_none
 }
 
 /// The found words are the wanted ones, in order.
@@ -86,7 +94,9 @@ fn has_architectures(alloc: Global, line: &str, architectures: &str) -> Result<(
     let list = Listed::from_vec(words(alloc, line)?);
     let mut request = parsed_by_gcc(alloc, "-c foo.c")?;
     request.arch_args = list;
-    are_its_architectures(alloc, &request, architectures)
+    let are = are_its_architectures(alloc, &request, architectures);
+    drop(request);
+    are
 }
 
 #[test]
@@ -105,18 +115,34 @@ fn laws_are_called(rt: HostRuntime) -> Result<(), Fail> {
     inputs_are_safe();
     requests_have_an_object();
     arguments_are_their_items();
-    holds(!bare::<ClangKind>(alloc)?.plusplus(), "C alone")?;
-    Ok(())
+    let clang = bare::<ClangKind>(alloc)?;
+    let plusplus = clang.plusplus();
+    drop(clang);
+    holds(!plusplus, "C alone")
 }
 
-/// The words of the preprocess command of what a line asks Gcc for.
-fn preprocess_words(alloc: Global, line: &str) -> Result<String, Fail> {
-    let gcc = Gcc::new(alloc, false, None, None)?;
-    let request = parsed_by_gcc(alloc, line)?;
-    let words = gcc.preprocess_words(alloc, &request)?;
+/// Words as text.
+fn written(alloc: Global, words: &[OsBytes]) -> Result<String, AllocError> {
     let mut text = String::new(alloc);
-    write_words(&mut text, words.as_slice())?;
+    write_words(&mut text, words)?;
     Ok(text)
+}
+
+/// The words of the preprocess command of a request to Gcc.
+fn words_of(alloc: Global, request: &ParsedArguments) -> Result<String, Fail> {
+    let gcc = Gcc::new(alloc, false, None, None)?;
+    let words = gcc.preprocess_words(alloc, request);
+    drop(gcc);
+    let words = words?;
+    Ok(written(alloc, words.as_slice())?)
+}
+
+/// Likewise of what a line asks Gcc for.
+fn preprocess_words(alloc: Global, line: &str) -> Result<String, Fail> {
+    let request = parsed_by_gcc(alloc, line)?;
+    let text = words_of(alloc, &request);
+    drop(request);
+    text
 }
 
 #[test]
@@ -130,7 +156,9 @@ fn a_compiler_gives_the_preprocess_words(rt: HostRuntime) -> Result<(), Fail> {
 fn a_compiler_is_printed(rt: HostRuntime) -> Result<(), Fail> {
     let alloc = rt.alloc();
     let gcc = Gcc::new(alloc, true, None, None)?;
-    let text = format!(in alloc; "{gcc:?}")?;
+    let text = format!(in alloc; "{gcc:?}");
+    drop(gcc);
+    let text = text?;
     let want = "FoundCompiler { kind: Gcc, plusplus: true, version: None, assembler_digest: None }";
     is_that(text.as_str(), want, "a compiler")
 }

@@ -1,4 +1,7 @@
 //! What compilers answer on the words of a line.
+//!
+//! The proof of a function grows with what it drops by itself, field by field, at each of its ends. So requests, compilers and commands are
+//! lent, each function holds one at most, and it hands that over to `drop`, which is one call.
 
 use cmdlines::clang::ClangKind;
 use cmdlines::found::{FoundCompiler, HasKind};
@@ -17,6 +20,16 @@ pub(crate) fn bare<K: HasKind>(alloc: Global) -> Result<FoundCompiler<K>, AllocE
     FoundCompiler::new(alloc, false, None, None)
 }
 
+/// What is asked for; a test fails where words ask for nothing.
+fn requested(asked: CompilerArguments<ParsedArguments>) -> Result<ParsedArguments, Fail> {
+    match asked {
+        CompilerArguments::Ok(parsed) => Ok(parsed),
+        CompilerArguments::NotCompilation | CompilerArguments::CannotCache(_, _) => {
+            Err("no request".into())
+        }
+    }
+}
+
 /// What these words ask for by a compiler of that kind, in a folder with no files.
 pub(crate) fn asked_of<K: HasKind>(
     alloc: Global,
@@ -25,12 +38,9 @@ pub(crate) fn asked_of<K: HasKind>(
     let dir = OsBytes::from_slice(alloc, b"/w")?;
     let mut files = MemoryFiles::new(alloc);
     let compiler = bare::<K>(alloc)?;
-    match compiler.parse_arguments(alloc, words, &dir, &mut files)? {
-        CompilerArguments::Ok(parsed) => Ok(parsed),
-        CompilerArguments::NotCompilation | CompilerArguments::CannotCache(_, _) => {
-            Err("no request".into())
-        }
-    }
+    let asked = compiler.parse_arguments(alloc, words, &dir, &mut files);
+    drop(compiler);
+    requested(asked?)
 }
 
 /// Likewise the words of a line.

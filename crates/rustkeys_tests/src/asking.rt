@@ -1,4 +1,7 @@
 //! Requests to rustc, and what comes of their keys.
+//!
+//! The proof of a function grows with what it drops by itself, field by field, at each of its ends. So large values are lent, each function
+//! holds one at most, and it hands that over to `drop`, which is one call.
 
 use crate::answer_tool::{AnswerTool, RustTexts};
 use ckeys_base::digest::Digest;
@@ -132,6 +135,23 @@ pub(crate) fn asked_at<F: Files>(
     hasher.generate_hash_key::<Sha256, F, AnswerTool>(alloc, &dir, env, files, tool)
 }
 
+/// What is answered of the key of what is asked for, in `/w`.
+fn asked_of<F: Files>(
+    alloc: Global,
+    parsed: &ParsedArguments,
+    files: &mut F,
+    tool: &mut AnswerTool,
+) -> Result<Result<Made, Fault>, RustFault> {
+    let compiler = rust(alloc)?;
+    let hasher = RustHasher {
+        compiler: &compiler,
+        parsed,
+    };
+    let made = asked_at(alloc, &hasher, "/w", &[], files, tool);
+    drop(compiler);
+    Ok(made)
+}
+
 /// What is answered of the key of a line's request, in `/w`.
 pub(crate) fn asked<F: Files>(
     alloc: Global,
@@ -139,20 +159,25 @@ pub(crate) fn asked<F: Files>(
     files: &mut F,
     tool: &mut AnswerTool,
 ) -> Result<Result<Made, Fault>, Fail> {
-    let compiler = rust(alloc)?;
     let parsed = parsed(alloc, line)?;
-    let hasher = RustHasher {
-        compiler: &compiler,
-        parsed: &parsed,
-    };
-    Ok(asked_at(alloc, &hasher, "/w", &[], files, tool))
+    let made = asked_of(alloc, &parsed, files, tool);
+    drop(parsed);
+    Ok(made?)
 }
 
 /// The key, or the fault.
-pub(crate) fn told(alloc: Global, made: Result<Made, Fault>) -> Result<String, Fail> {
+pub(crate) fn told(alloc: Global, made: &Result<Made, Fault>) -> Result<String, AllocError> {
     match made {
-        Ok((_, key, _, _)) => Ok(key),
-        Err(fault) => Ok(format!(in alloc; "fault {fault}")?),
+        Ok((_, key, _, _)) => key.clone(),
+        Err(fault) => format!(in alloc; "fault {fault}"),
+    }
+}
+
+/// The key that was made; a fault fails the test.
+pub(crate) fn made(asked: Result<Made, Fault>) -> Result<Made, Fail> {
+    match asked {
+        Ok(made) => Ok(made),
+        Err(fault) => Err(Fail::new(fault)),
     }
 }
 
@@ -163,5 +188,8 @@ pub(crate) fn told_on<F: Files>(
     files: &mut F,
     tool: &mut AnswerTool,
 ) -> Result<String, Fail> {
-    told(alloc, asked(alloc, line, files, tool)?)
+    let made = asked(alloc, line, files, tool)?;
+    let text = told(alloc, &made);
+    drop(made);
+    Ok(text?)
 }

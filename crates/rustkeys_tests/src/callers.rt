@@ -1,9 +1,11 @@
 //! What callers of a request's parts get with ample memory: its name, what is run for it, and the pieces of a key that was recorded.
 
-use crate::asking::{DEPENDENCIES, FIRST, OF_NOTHING, all_files, asked, parsed, rust, tool};
+use crate::asking::{DEPENDENCIES, FIRST, OF_NOTHING, all_files, asked, made, parsed, rust, tool};
 use crate::keys::made_of;
 use os_files::os_bytes::OsBytes;
-use rustc_parts::parts::RShape;
+use rustc_parts::parts::{Parts, RShape};
+use rustkeys::ParsedArguments;
+use rustkeys::compilation::RustCompilation;
 use rustkeys::hasher::RustHasher;
 use rustkeys_uses::recorded_keys::{RecordedKey, pieces_of_key};
 use std::alloc::{AllocError, Global};
@@ -14,15 +16,24 @@ use test_kit::texts::is_that;
 const WITH_LIBRARIES: &str =
     "--emit link foo.rs --out-dir out --crate-name foo --crate-type lib -L native=lib -l static=z -l static=y";
 
-/// The name of a line's request, for printing.
-fn name_of(alloc: Global, line: &str) -> Result<String, Fail> {
+/// The name of what is asked for, for printing.
+fn name_in(alloc: Global, parsed: &ParsedArguments) -> Result<String, Fail> {
     let compiler = rust(alloc)?;
-    let parsed = parsed(alloc, line)?;
     let hasher = RustHasher {
         compiler: &compiler,
-        parsed: &parsed,
+        parsed,
     };
-    Ok(hasher.output_pretty(alloc)?)
+    let name = hasher.output_pretty(alloc);
+    drop(compiler);
+    Ok(name?)
+}
+
+/// Likewise of a line's request.
+fn name_of(alloc: Global, line: &str) -> Result<String, Fail> {
+    let parsed = parsed(alloc, line)?;
+    let name = name_in(alloc, &parsed);
+    drop(parsed);
+    name
 }
 
 #[test]
@@ -31,11 +42,20 @@ fn a_request_is_named_by_its_crate(rt: HostRuntime) -> Result<(), Fail> {
     is_that(name.as_str(), "foo", FIRST)
 }
 
+/// What is run for a compile.
+fn run_by(alloc: Global, compilation: &RustCompilation) -> Result<OsBytes, AllocError> {
+    let commands = compilation.generate_compile_commands(alloc)?;
+    let executable: Result<_, _> = commands.0.executable.clone();
+    drop(commands);
+    executable
+}
+
 /// What is run for the compile of a line's request.
 fn run_for(alloc: Global, line: &str) -> Result<OsBytes, Fail> {
-    let (compilation, _, _, _) = made_of(alloc, line)?;
-    let (command, _) = compilation.generate_compile_commands(alloc)?;
-    Ok(command.executable)
+    let made = made_of(alloc, line)?;
+    let executable = run_by(alloc, &made.0);
+    drop(made);
+    Ok(executable?)
 }
 
 #[test]
@@ -47,8 +67,10 @@ fn the_compiler_is_run(rt: HostRuntime) -> Result<(), Fail> {
 
 /// The shape of a line's key.
 fn shape_of(alloc: Global, line: &str) -> Result<RShape, Fail> {
-    let (_, _, shape, _) = made_of(alloc, line)?;
-    Ok(shape)
+    let made = made_of(alloc, line)?;
+    let shape: Result<_, _> = made.2.clone();
+    drop(made);
+    Ok(shape?)
 }
 
 /// The bytes that are hashed of the first request, whose source has this digest: no library, the words, the source, no variable, and
@@ -62,14 +84,29 @@ fn bytes_of_first(alloc: Global, source: &[u8]) -> Result<OsBytes, AllocError> {
     Ok(OsBytes::from_vec(bytes))
 }
 
-/// The directory in the pieces of a key of these bytes and the first request's shape, if there are such pieces.
+/// The directory in these pieces, if there are any.
+fn dir_of(pieces: &Option<Parts>) -> Result<Option<OsBytes>, AllocError> {
+    match pieces {
+        Some(pieces) => Ok(Some(pieces.dir.clone()?)),
+        None => Ok(None),
+    }
+}
+
+/// The directory in the pieces of a key, if there are such pieces.
+fn dir_by(alloc: Global, key: &RecordedKey) -> Result<Option<OsBytes>, AllocError> {
+    let pieces = pieces_of_key(alloc, key)?;
+    let dir = dir_of(&pieces);
+    drop(pieces);
+    dir
+}
+
+/// Likewise of a key of these bytes and the first request's shape.
 fn dir_in(alloc: Global, bytes: OsBytes) -> Result<Option<OsBytes>, Fail> {
     let shape = shape_of(alloc, FIRST)?;
     let key = RecordedKey { bytes, shape };
-    match pieces_of_key(alloc, &key)? {
-        Some(pieces) => Ok(Some(pieces.dir)),
-        None => Ok(None),
-    }
+    let dir = dir_by(alloc, &key);
+    drop(key);
+    Ok(dir?)
 }
 
 #[test]
@@ -95,10 +132,9 @@ fn other_bytes_are_no_key(rt: HostRuntime) -> Result<(), Fail> {
 fn asked_for_digests(alloc: Global, line: &str) -> Result<u64, Fail> {
     let mut files = all_files(alloc)?;
     let mut tool = tool(alloc, DEPENDENCIES, b"libfoo.rlib\n", OF_NOTHING.as_bytes())?;
-    match asked(alloc, line, &mut files, &mut tool)? {
-        Ok(_) => Ok(tool.archived),
-        Err(fault) => Err(Fail::new(fault)),
-    }
+    let made = made(asked(alloc, line, &mut files, &mut tool)?)?;
+    drop(made);
+    Ok(tool.archived)
 }
 
 #[test]

@@ -3,17 +3,17 @@
 use crate::answer_tool::AnswerTool;
 use crate::asking::{
     DEPENDENCIES, FIRST, Made, OF_NOTHING, SECOND, SOURCE, all_files, asked, asked_at,
-    digest_of_all, parsed, rust_with, told, told_on, tool,
+    digest_of_all, made, parsed, rust_with, told, told_on, tool,
 };
 use cmdlines_base::argument::{ArgDisposition, Argument};
 use os_files::listed::Listed;
 use os_files::memory_files::MemoryFiles;
 use os_files::os_bytes::OsBytes;
 use rustc_options::data::ArgData;
-use rustkeys::ParsedArguments;
 use rustkeys::compilation::RustCompilation;
 use rustkeys::hasher::RustHasher;
 use rustkeys::laws::rustc_keys_tell_records;
+use rustkeys::{ParsedArguments, Rust};
 use sha2::Sha256;
 use std::alloc::{AllocError, Global};
 use std::fmt::Write;
@@ -70,10 +70,7 @@ fn crates_in_another_order_have_one_key(rt: HostRuntime) -> Result<(), Fail> {
 pub(crate) fn made_of(alloc: Global, line: &str) -> Result<Made, Fail> {
     let mut files = all_files(alloc)?;
     let mut tool = tool(alloc, DEPENDENCIES, b"libfoo.rlib\n", b"")?;
-    match asked(alloc, line, &mut files, &mut tool)? {
-        Ok(made) => Ok(made),
-        Err(fault) => Err(Fail::new(fault)),
-    }
+    made(asked(alloc, line, &mut files, &mut tool)?)
 }
 
 /// The outputs of a compilation, each with its path behind a bar.
@@ -87,7 +84,10 @@ fn listed(alloc: Global, compilation: &RustCompilation) -> Result<String, Fail> 
 
 /// Those of a line's request.
 fn outputs_of(alloc: Global, line: &str) -> Result<String, Fail> {
-    listed(alloc, &made_of(alloc, line)?.0)
+    let made = made_of(alloc, line)?;
+    let text = listed(alloc, &made.0);
+    drop(made);
+    text
 }
 
 #[test]
@@ -106,7 +106,10 @@ fn shown(alloc: Global, text: &Option<OsBytes>) -> Result<String, Fail> {
 
 /// That of a line's request.
 fn dep_info_of(alloc: Global, line: &str) -> Result<String, Fail> {
-    shown(alloc, &made_of(alloc, line)?.3)
+    let made = made_of(alloc, line)?;
+    let text = shown(alloc, &made.3);
+    drop(made);
+    text
 }
 
 #[test]
@@ -202,10 +205,27 @@ fn key_by(
     tool: &mut AnswerTool,
 ) -> Result<String, Fail> {
     let env = variables(alloc)?;
-    told(
-        alloc,
-        asked_at(alloc, hasher, "/t", env.as_slice(), files, tool),
-    )
+    let made = asked_at(alloc, hasher, "/t", env.as_slice(), files, tool);
+    let text = told(alloc, &made);
+    drop(made);
+    Ok(text?)
+}
+
+/// Likewise of the request of a rustc.
+fn key_with(
+    alloc: Global,
+    compiler: &Rust,
+    files: &mut MemoryFiles,
+    tool: &mut AnswerTool,
+) -> Result<String, Fail> {
+    let parsed = request(alloc)?;
+    let hasher = RustHasher {
+        compiler,
+        parsed: &parsed,
+    };
+    let key = key_by(alloc, &hasher, files, tool);
+    drop(parsed);
+    key
 }
 
 /// The key of that request of a rustc with one library.
@@ -213,12 +233,9 @@ fn key_of_request(alloc: Global) -> Result<String, Fail> {
     let mut files = empty_files(alloc)?;
     let mut tool = tool(alloc, b"d: foo.rs bar.rs\n", b"", OF_NOTHING.as_bytes())?;
     let compiler = rust_with(alloc, words(alloc, "/s/lib.so")?, &mut files)?;
-    let parsed = request(alloc)?;
-    let hasher = RustHasher {
-        compiler: &compiler,
-        parsed: &parsed,
-    };
-    key_by(alloc, &hasher, &mut files, &mut tool)
+    let key = key_with(alloc, &compiler, &mut files, &mut tool);
+    drop(compiler);
+    key
 }
 
 /// The digest of what is hashed of it: the library's digest, the words, those of two sources, of a crate and of an archive, the

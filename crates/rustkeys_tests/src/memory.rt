@@ -9,7 +9,7 @@ use ckeys_records::preprocessor::{Preprocessor, Ticks};
 use cmdlines_base::compiler_arguments::CompilerArguments;
 use os_files::memory_files::MemoryFiles;
 use rustkeys::hasher::RustHasher;
-use rustkeys::{Rust, RustFault};
+use rustkeys::{ParsedArguments, Rust, RustFault};
 use std::alloc::Global;
 use std::test::Fail;
 
@@ -111,7 +111,9 @@ fn ask(
 ) -> Outcome {
     let before = tool.ticks();
     let made = asked_at(alloc, hasher, "/w", &[], files, tool);
-    outcome_of(&made, row, before, tool.ticks())
+    let outcome = outcome_of(&made, row, before, tool.ticks());
+    drop(made);
+    outcome
 }
 
 /// Asks for the key twice.
@@ -128,18 +130,31 @@ fn ask_twice(
     Ok(both(first, second))
 }
 
-/// Asks this rustc for the key of a line's request.
-fn session_of(alloc: Global, compiler: &Rust, row: &Row) -> Result<Outcome, Fault> {
-    let mut files = all_files(alloc)?;
-    match parse(alloc, row.line, &mut files)? {
+/// Asks this rustc for the key of what a line's words come to.
+fn ask_of(
+    alloc: Global,
+    compiler: &Rust,
+    parsed: &CompilerArguments<ParsedArguments>,
+    row: &Row,
+    files: &mut MemoryFiles,
+) -> Result<Outcome, Fault> {
+    match parsed {
         CompilerArguments::Ok(parsed) => {
-            let parsed = &parsed;
-            ask_twice(alloc, &RustHasher { compiler, parsed }, row, &mut files)
+            ask_twice(alloc, &RustHasher { compiler, parsed }, row, files)
         }
         CompilerArguments::NotCompilation | CompilerArguments::CannotCache(_, _) => {
             Ok(Outcome::Wrong)
         }
     }
+}
+
+/// Asks this rustc for the key of a line's request.
+fn session_of(alloc: Global, compiler: &Rust, row: &Row) -> Result<Outcome, Fault> {
+    let mut files = all_files(alloc)?;
+    let parsed = parse(alloc, row.line, &mut files)?;
+    let outcome = ask_of(alloc, compiler, &parsed, row, &mut files);
+    drop(parsed);
+    outcome
 }
 
 /// How the making of a compiler went that failed.
@@ -150,12 +165,24 @@ fn of_rust_fault(fault: &RustFault) -> Outcome {
     }
 }
 
+/// A session of a row's request by this rustc.
+fn session_by(
+    alloc: Global,
+    compiler: &Result<Rust, RustFault>,
+    row: &Row,
+) -> Result<Outcome, Fault> {
+    match compiler {
+        Ok(compiler) => session_of(alloc, compiler, row),
+        Err(fault) => Ok(of_rust_fault(fault)),
+    }
+}
+
 /// A session of a row's request.
 fn session(alloc: Global, row: &Row) -> Result<Outcome, Fault> {
-    match rust(alloc) {
-        Ok(compiler) => session_of(alloc, &compiler, row),
-        Err(fault) => Ok(of_rust_fault(&fault)),
-    }
+    let compiler = rust(alloc);
+    let outcome = session_by(alloc, &compiler, row);
+    drop(compiler);
+    outcome
 }
 
 /// How a session went.

@@ -37,12 +37,18 @@ fn differ<T: Eq>(value: &T, other: &T) -> Result<(), Fail> {
 const COMPILER: &str =
     "Rust { executable: \"rustc\", version: \"host: x\", sysroot: \"/s\", archive: None, ";
 
+/// Asserts that a compiler is a value, and is printed so.
+fn is_a_compiler(alloc: Global, compiler: &Rust) -> Result<(), Fail> {
+    has_a_copy::<Rust>(alloc, compiler)?;
+    begins::<Rust>(alloc, compiler, COMPILER)
+}
+
 #[test]
 fn compilers_are_values(rt: HostRuntime) -> Result<(), Fail> {
-    let alloc = rt.alloc();
-    let compiler = rust(alloc)?;
-    has_a_copy::<Rust>(alloc, &compiler)?;
-    begins::<Rust>(alloc, &compiler, COMPILER)
+    let compiler = rust(rt.alloc())?;
+    let is = is_a_compiler(rt.alloc(), &compiler);
+    drop(compiler);
+    is
 }
 
 /// Asserts that these requests are values, and are told from one another.
@@ -66,31 +72,41 @@ fn second_hasher_differs(
     first: &ParsedArguments,
 ) -> Result<(), Fail> {
     let second = parsed(alloc, SECOND)?;
-    hashers_differ(alloc, compiler, first, &second)
+    let differ = hashers_differ(alloc, compiler, first, &second);
+    drop(second);
+    differ
 }
 
 /// Asserts it of the two requests to this compiler.
 fn two_hashers_differ(alloc: Global, compiler: &Rust) -> Result<(), Fail> {
     let first = parsed(alloc, FIRST)?;
-    second_hasher_differs(alloc, compiler, &first)
+    let differ = second_hasher_differs(alloc, compiler, &first);
+    drop(first);
+    differ
 }
 
 #[test]
 fn hashers_are_values(rt: HostRuntime) -> Result<(), Fail> {
     let compiler = rust(rt.alloc())?;
-    two_hashers_differ(rt.alloc(), &compiler)
+    let differ = two_hashers_differ(rt.alloc(), &compiler);
+    drop(compiler);
+    differ
 }
 
 /// The compile of a line's request.
 fn compile_of(alloc: Global, line: &str) -> Result<RustCompilation, Fail> {
-    let (compilation, _, _, _) = made_of(alloc, line)?;
-    Ok(compilation)
+    let made = made_of(alloc, line)?;
+    let compilation: Result<_, _> = made.0.clone();
+    drop(made);
+    Ok(compilation?)
 }
 
 /// Asserts that a compile is told from that of the second request.
 fn second_compile_differs(alloc: Global, first: &RustCompilation) -> Result<(), Fail> {
     let second = compile_of(alloc, SECOND)?;
-    differ::<RustCompilation>(first, &second)
+    let differ = differ::<RustCompilation>(first, &second);
+    drop(second);
+    differ
 }
 
 /// Asserts that a compile is a value, and is told from that of the second request.
@@ -102,5 +118,7 @@ fn compiles_differ(alloc: Global, first: &RustCompilation) -> Result<(), Fail> {
 #[test]
 fn compiles_are_values(rt: HostRuntime) -> Result<(), Fail> {
     let first = compile_of(rt.alloc(), FIRST)?;
-    compiles_differ(rt.alloc(), &first)
+    let differ = compiles_differ(rt.alloc(), &first);
+    drop(first);
+    differ
 }

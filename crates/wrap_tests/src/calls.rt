@@ -1,4 +1,4 @@
-//! Calls of sessions, without clauses: who calls these loads none of what those promise.
+//! Calls of sessions and of callers through `wrap`'s own names, without clauses: who calls these loads none of what those promise.
 
 use ckeys::{EntryKey, PreprocessorCacheEntry};
 use ckeys_base::hash_state::HashState;
@@ -6,13 +6,19 @@ use ckeys_base::store::Store;
 use ckeys_records::fault::Fault;
 use os_files::files::Files;
 use std::alloc::{AllocError, Global};
+use std::num::NonZeroUsize;
 use wrap::session::Session;
+use wrap::{Fingerprint, Part};
 use wrap_base::answer::Answer;
 use wrap_base::call::Call;
 use wrap_base::config::Config;
-use wrap_base::request::Request;
+use wrap_base::reason::Reason;
 use wrap_base::store_key::{Pairs, StoreKey};
 use wrap_base::tool::Tool;
+use wrap_uses::build::{Build, run_steps};
+use wrap_uses::misses::why_missed;
+use wrap_uses::step::{Outcome, run_step};
+use wrap_uses::within::answer_within;
 
 /// A session over these stores.
 pub(crate) fn session_over<
@@ -21,22 +27,6 @@ pub(crate) fn session_over<
     O: Store<StoreKey, Pairs> + Drop,
 >(alloc: Global, config: Config, entries: E, objects: O) -> Session<H, E, O> {
     Session::new(alloc, config, entries, objects)
-}
-
-/// What the session answers.
-pub(crate) fn served<
-    H: HashState,
-    E: Store<EntryKey, PreprocessorCacheEntry> + Drop,
-    O: Store<StoreKey, Pairs> + Drop,
-    F: Files,
-    T: Tool,
->(
-    session: &mut Session<H, E, O>,
-    request: &Request,
-    files: &mut F,
-    tool: &mut T,
-) -> Result<Answer, Fault> {
-    session.serve(request, files, tool)
 }
 
 /// What the session answers to each of these calls.
@@ -51,4 +41,67 @@ pub(crate) fn all_served<
     calls: &mut [Call<F, T>],
 ) -> Result<Vec<Result<Answer, Fault>>, AllocError> {
     session.serve_all(calls)
+}
+
+/// What a build of these calls answers.
+pub(crate) fn built<H: HashState, F: Files, T: Tool>(
+    alloc: Global,
+    config: Config,
+    calls: &mut [Call<F, T>],
+) -> Result<Build, AllocError> {
+    run_steps::<H, F, T>(alloc, config, calls)
+}
+
+/// What these calls are answered where one pair is kept.
+pub(crate) fn within_one<H: HashState, F: Files, T: Tool>(
+    alloc: Global,
+    config: Config,
+    calls: &mut [Call<F, T>],
+) -> Result<Vec<Result<Answer, Fault>>, AllocError> {
+    answer_within::<H, F, T>(alloc, config, NonZeroUsize::MIN, calls)
+}
+
+/// What comes of a call that the session is asked for as a step of a build.
+pub(crate) fn stepped<
+    H: HashState,
+    E: Store<EntryKey, PreprocessorCacheEntry> + Drop,
+    O: Store<StoreKey, Pairs> + Drop,
+    F: Files,
+    T: Tool,
+>(session: &mut Session<H, E, O>, call: &mut Call<F, T>) -> Result<Outcome, Fault> {
+    run_step(session, &call.request, &mut call.files, &mut call.tool)
+}
+
+/// The fingerprint of a call, or why it has none.
+pub(crate) type Asked = Result<Result<Fingerprint, Reason>, Fault>;
+
+/// The fingerprint of a call.
+pub(crate) fn fingerprint<
+    H: HashState,
+    E: Store<EntryKey, PreprocessorCacheEntry> + Drop,
+    O: Store<StoreKey, Pairs> + Drop,
+    F: Files,
+    T: Tool,
+>(session: &Session<H, E, O>, call: &mut Call<F, T>) -> Asked {
+    session.fingerprint(&call.request, &mut call.files, &mut call.tool)
+}
+
+/// In which part a call differs from the one of that fingerprint, or why it has none.
+pub(crate) type Why = Result<Result<Option<Part>, Reason>, Fault>;
+
+/// In which part a call differs from the one of that fingerprint.
+pub(crate) fn missed<
+    H: HashState,
+    E: Store<EntryKey, PreprocessorCacheEntry> + Drop,
+    O: Store<StoreKey, Pairs> + Drop,
+    F: Files,
+    T: Tool,
+>(session: &Session<H, E, O>, call: &mut Call<F, T>, earlier: &Fingerprint) -> Why {
+    why_missed(
+        session,
+        &call.request,
+        &mut call.files,
+        &mut call.tool,
+        earlier,
+    )
 }

@@ -10,6 +10,7 @@ use os_files::listed::Listed;
 use os_files::os_bytes::OsBytes;
 use std::alloc::{AllocError, Global};
 use std::test::Fail;
+use test_kit::texts::is_that;
 
 /// One object, which a compile may leave out or not.
 fn object(alloc: Global, optional: bool) -> Result<Listed<OutputName>, AllocError> {
@@ -32,27 +33,35 @@ fn with_names(alloc: Global, names: Listed<OutputName>) -> Fingerprint {
     })
 }
 
-/// How the first differs from the earlier one, where they differ in their outputs alone.
-fn told(
+/// How the first differs from the earlier one.
+fn told(alloc: Global, one: &Fingerprint, earlier: &Fingerprint) -> Result<String, AllocError> {
+    let difference = Difference { one, earlier };
+    format!(in alloc; "{difference}")
+}
+
+/// How a fingerprint with these outputs differs from one with those. Each is handed over to `drop`, since a function that drops such a
+/// value by itself is proved slowly.
+fn told_of_names(
     alloc: Global,
     names: Listed<OutputName>,
     earlier: Listed<OutputName>,
 ) -> Result<String, AllocError> {
     let one = with_names(alloc, names);
     let earlier = with_names(alloc, earlier);
-    let difference = Difference {
-        one: &one,
-        earlier: &earlier,
-    };
-    format!(in alloc; "{difference}")
+    let told = told(alloc, &one, &earlier);
+    drop(one);
+    drop(earlier);
+    told
 }
 
 #[test]
 fn marks_count(rt: HostRuntime) -> Result<(), Fail> {
-    let alloc = rt.alloc();
-    let marked = object(alloc, true)?;
-    let plain = object(alloc, false)?;
-    let text = told(alloc, marked, plain)?;
-    assert_eq!(rt; text.as_str(), "output 1: obj (optional), earlier obj");
-    Ok(())
+    let marked = object(rt.alloc(), true)?;
+    let plain = object(rt.alloc(), false)?;
+    let text = told_of_names(rt.alloc(), marked, plain)?;
+    is_that(
+        text.as_str(),
+        "output 1: obj (optional), earlier obj",
+        "marks",
+    )
 }

@@ -1,14 +1,12 @@
-//! What sessions answer to several requests, what runs for them, and what is held of them.
+//! What sessions answer to several requests, what runs for them, and what is put into their stores.
 
-use crate::calls::all_served;
-use crate::scene::{Scene, call};
-use crate::support::{MapSession, session, told};
+use crate::calls::{all_served, session_over};
+use crate::support::{all_told, config};
+use crate::text_tool::text_calls;
+use ckeys::{EntryKey, PreprocessorCacheEntry};
 use ckeys_base::hash_state::HashState;
-use ckeys_records::fault::Fault;
-use ckeys_records::preprocessor::Preprocessor;
-use os_files::memory_files::MemoryFiles;
-use script_tool::script::ScriptTool;
-use script_tool::statuses::{StatusOf, Statuses, error_status, print_status};
+use ckeys_base::store::Store;
+use os_files::files::Files;
 use sha2::Sha256;
 use std::alloc::{AllocError, Global};
 use std::test::Fail;
@@ -17,27 +15,12 @@ use wrap::laws::{
     premises_can_be_met, records_that_are_not_kept_change_nothing, store_keys_tell_records,
     two_direct_runs_agree, two_runs_agree,
 };
-use wrap_base::answer::Answer;
+use wrap::session::Session;
 use wrap_base::call::Call;
-
-/// What the request is answered, twice, which steps ran for that, and how many requests' outputs are held then.
-fn told_twice(alloc: Global, scene: &mut Scene) -> Result<String, Fail> {
-    let first = scene.serve()?;
-    let second = scene.serve()?;
-    let (ticks, held) = (scene.ticks(), scene.held());
-    let (preprocess, compile) = (ticks.preprocess, ticks.compile);
-    let work = format!(in alloc; "preprocess {preprocess}, compile {compile}, held {held}")?;
-    Ok(format!(in alloc; "{first};{second};{work}")?)
-}
-
-/// Likewise for the request of this line.
-fn served_twice(alloc: Global, line: &str) -> Result<String, Fail> {
-    let print: StatusOf = Box::new(alloc, |text: &[u8]| print_status(text))?;
-    let compile: StatusOf = Box::new(alloc, |text: &[u8]| error_status(text))?;
-    let statuses = Statuses::new(print, compile);
-    let mut scene = Scene::new(alloc, statuses, line)?;
-    told_twice(alloc, &mut scene)
-}
+use wrap_base::config::Config;
+use wrap_base::map_store::MapStore;
+use wrap_base::store_key::{Pairs, StoreKey};
+use wrap_base::tool::Tool;
 
 /// Laws, which cost nothing: what is seen here of some runs and keys holds of all.
 fn laws<H: HashState>() {
@@ -48,93 +31,87 @@ fn laws<H: HashState>() {
     premises_can_be_met();
 }
 
-#[test]
-fn one_request_twice(rt: HostRuntime) -> Result<(), Fail> {
-    laws::<Sha256>();
-    let rows = [
-        (
-            "-c y.i",
-            "Fresh obj y.o int y;\n;Stored obj y.o int y;\n;preprocess 0, compile 1, held 1",
-        ),
-        (
-            "-c foo.c",
-            "Fresh obj foo.o # 1 \"/w/foo.c\"\nint x;\n;Stored obj foo.o # 1 \"/w/foo.c\"\nint x;\n;preprocess 2, compile 1, held 1",
-        ),
-        (
-            "-c bad.c",
-            "fault compile 1;fault compile 1;preprocess 2, compile 2, held 0",
-        ),
-    ];
-    for (line, expected) in rows {
-        is_that(served_twice(rt.alloc(), line)?.as_str(), expected, line)?;
-    }
-    Ok(())
-}
-
-/// Adds what these answers tell, in order.
-fn push_told(
-    alloc: Global,
+/// Adds how often the preprocessor and the compiler ran in each of these calls.
+fn push_ticks<F: Files, T: Tool>(
     text: &mut String,
-    answers: &[Result<Answer, Fault>],
-) -> Result<(), AllocError> {
-    for answer in answers {
-        write!(text, "{};", told(alloc, answer)?)?;
-    }
-    Ok(())
-}
-
-/// Adds how often the compiler ran in each of these calls.
-fn push_compiles(
-    text: &mut String,
-    calls: &[Call<MemoryFiles, ScriptTool>],
+    calls: &[Call<F, T>],
 ) -> Result<(), AllocError> {
     for call in calls {
-        write!(text, " {}", call.tool.ticks().compile)?;
+        let ticks = call.tool.ticks();
+        let (preprocess, compile) = (ticks.preprocess, ticks.compile);
+        write!(text, " {preprocess} {compile},")?;
     }
     Ok(())
 }
 
-/// What the calls of these lines tell, how often each ran the compiler, and how much is held then.
-fn told_in_order(alloc: Global, session: &mut MapSession, lines: &[&str]) -> Result<String, Fail> {
-    let mut calls = Vec::new(alloc);
-    for line in lines {
-        let print: StatusOf = Box::new(alloc, |text: &[u8]| print_status(text))?;
-        let compile: StatusOf = Box::new(alloc, |text: &[u8]| error_status(text))?;
-        let call = call(alloc, Statuses::new(print, compile), line)?;
-        calls.push(call).map_err(AllocError::from)?;
-    }
-    let answers = all_served(session, calls.as_mut_slice())?;
-    let mut text = String::new(alloc);
-    push_told(alloc, &mut text, answers.as_slice())?;
-    push_compiles(&mut text, calls.as_slice())?;
+/// What a session answers to these calls, what ran for each, and how many pairs its stores were given.
+fn told_of_session<
+    H: HashState,
+    E: Store<EntryKey, PreprocessorCacheEntry> + Drop,
+    O: Store<StoreKey, Pairs> + Drop,
+    F: Files,
+    T: Tool,
+>(
+    alloc: Global,
+    session: &mut Session<H, E, O>,
+    calls: &mut [Call<F, T>],
+) -> Result<String, AllocError> {
+    let answers = all_served(session, calls)?;
+    let mut text = all_told(alloc, answers.as_slice())?;
+    push_ticks(&mut text, calls)?;
+    let (entries, objects) = (session.entries().puts(), session.objects().puts());
+    write!(text, " put {entries} {objects}")?;
     Ok(text)
 }
 
-/// Asserts what the calls of these lines tell, and how many include records and requests' outputs are held then.
-fn calls_tell(
+/// Likewise of a session of its own over these stores.
+fn told_over<
+    H: HashState,
+    E: Store<EntryKey, PreprocessorCacheEntry> + Drop,
+    O: Store<StoreKey, Pairs> + Drop,
+    F: Files,
+    T: Tool,
+>(
     alloc: Global,
-    direct: bool,
-    lines: &[&str],
-    expected: &str,
-    held: (usize, usize),
-) -> Result<(), Fail> {
-    let mut session = session(alloc, direct)?;
-    let text = told_in_order(alloc, &mut session, lines)?;
-    if (session.entries().len(), session.objects().len()) != held {
-        return Err("another number of pairs".into());
-    }
-    is_that(text.as_str(), expected, "in order")
+    config: Config,
+    entries: E,
+    objects: O,
+    calls: &mut [Call<F, T>],
+) -> Result<String, AllocError> {
+    let mut session: Session<H, E, O> = session_over(alloc, config, entries, objects);
+    told_of_session(alloc, &mut session, calls)
+}
+
+/// Likewise of the calls of these lines, over stores that are empty.
+fn told_in_order(alloc: Global, direct: bool, gives: bool, lines: &[&str]) -> Result<String, Fail> {
+    let config = config(alloc, direct)?;
+    let mut calls = text_calls(alloc, gives, lines)?;
+    let entries = MapStore::<EntryKey, PreprocessorCacheEntry>::new(alloc);
+    let objects = MapStore::<StoreKey, Pairs>::new(alloc);
+    Ok(told_over::<Sha256, _, _, _, _>(alloc, config, entries, objects, calls.as_mut_slice())?)
 }
 
 #[test]
-fn calls_over_records(rt: HostRuntime) -> Result<(), Fail> {
-    let expected =
-        "Fresh obj m.o # 1 \"/w/m.c\"\n# 1 \"/w/h.h\"\nA\n# 1 \"/w/m.c\"\n;Direct obj m.o # 1 \"/w/m.c\"\n# 1 \"/w/h.h\"\nA\n# 1 \"/w/m.c\"\n; 1 0";
-    calls_tell(
-        rt.alloc(),
-        true,
-        &["-c m.c -o m.o", "-c m.c -o m.o"],
-        expected,
-        (1, 1),
-    )
+fn calls_in_order(rt: HostRuntime) -> Result<(), Fail> {
+    laws::<Sha256>();
+    let rows: [(bool, bool, &[&str], &str); 3] = [
+        (
+            false,
+            true,
+            &["-c y.i", "-c y.i", "-c m.c", "-c m.c", "-E y.i"],
+            "Fresh obj y.o # 1 \"/w/h.h\"\nA\n;Stored obj y.o # 1 \"/w/h.h\"\nA\n;Fresh obj m.o # 1 \"/w/h.h\"\nA\n;Stored obj m.o # 1 \"/w/h.h\"\nA\n;pass -E; 0 1, 0 0, 1 1, 1 0, 0 0, put 0 2",
+        ),
+        (
+            true,
+            true,
+            &["-c m.c", "-c m.c"],
+            "Fresh obj m.o # 1 \"/w/h.h\"\nA\n;Direct obj m.o # 1 \"/w/h.h\"\nA\n; 1 1, 0 0, put 1 1",
+        ),
+        (false, false, &["-c y.i"], "fault missing obj; 0 1, put 0 0"),
+    ];
+    for (direct, gives, lines, expected) in rows {
+        let told = told_in_order(rt.alloc(), direct, gives, lines)?;
+        is_that(told.as_str(), expected, "in order")?;
+    }
+    Ok(())
 }

@@ -1,63 +1,35 @@
-//! Requests in `/w`, sessions, and what their answers tell.
+//! Requests in `/w`, and what sessions answer, as text.
+//!
+//! The proof of a function grows with what it drops by itself, field by field, at each of its ends. So large values are held in lists, which
+//! are dropped by one call, or handed over to `drop`, and what only passes them on takes them as values of any type.
 
-use crate::calls::session_over;
 use ckeys::compiler::CCompiler;
-use ckeys::{EntryKey, PreprocessorCacheEntry};
-use ckeys_records::config::KeyConfig;
 use ckeys_records::fault::Fault;
 use cmdlines::gcc::Gcc;
+use os_files::files::Files;
 use os_files::listed::Listed;
-use os_files::memory_files::MemoryFiles;
 use os_files::os_bytes::OsBytes;
-use script_tool::crate_texts::CrateTexts;
-use script_tool::script::ScriptTool;
-use script_tool::statuses::Statuses;
-use script_tool::trees::Trees;
-use sha2::Sha256;
 use std::alloc::{AllocError, Global};
 use std::test::Fail;
 use test_kit::rows::words;
 use time_macros::zone::Zone;
-use wrap::session::Session;
-use wrap_base::answer::Answer;
+use wrap_base::answer::{Answer, How, Output};
+use wrap_base::call::Call;
 use wrap_base::compiler::Compiler;
 use wrap_base::config::Config;
-use wrap_base::map_store::MapStore;
 use wrap_base::request::Request;
-use wrap_base::store_key::{Pairs, StoreKey};
-
-/// The include records of requests.
-pub(crate) type Entries = MapStore<EntryKey, PreprocessorCacheEntry>;
-
-/// What is kept of each request.
-pub(crate) type Kept = MapStore<StoreKey, Pairs>;
-
-/// The session of most tests.
-pub(crate) type MapSession = Session<Sha256, Entries, Kept>;
+use wrap_base::tool::Tool;
 
 /// The configuration without folders and without a limit, in UTC. Include records are kept where `direct` says so.
 pub(crate) fn config(alloc: Global, direct: bool) -> Result<Config, Fail> {
     Ok(Config::new(alloc, &[], Zone::utc(), direct, None)?)
 }
 
-/// A session over empty stores.
-pub(crate) fn session(alloc: Global, direct: bool) -> Result<MapSession, Fail> {
-    let config = config(alloc, direct)?;
-    Ok(session_over(alloc, config, MapStore::new(alloc), MapStore::new(alloc)))
-}
-
-/// A scripted tool without folders that has not run yet, whose compilers end with these statuses.
-pub(crate) fn script_tool(alloc: Global, statuses: Statuses) -> Result<ScriptTool, Fail> {
-    let keys = KeyConfig::new(alloc, &[], Zone::utc(), false)?;
-    let told = CrateTexts::empty(alloc);
-    Ok(ScriptTool::new(keys, told, Trees::new(alloc)?, statuses))
-}
-
 /// A gcc with the digest `d`.
 fn gcc(alloc: Global) -> Result<Compiler, AllocError> {
-    let gcc = Gcc::new(alloc, false, None, None)?;
-    let executable = OsBytes::from_slice(alloc, b"gcc")?;
     let digest = String::from_str(alloc, "d")?;
+    let executable = OsBytes::from_slice(alloc, b"gcc")?;
+    let gcc = Gcc::new(alloc, false, None, None)?;
     Ok(Compiler::Gcc(CCompiler::with_digest(gcc, executable, digest)))
 }
 
@@ -74,20 +46,66 @@ pub(crate) fn request(alloc: Global, line: &str) -> Result<Request, AllocError> 
     })
 }
 
-/// An answer as text: why it passes or fails, or where its outputs came from and the name, the path and the contents of each.
-pub(crate) fn told(alloc: Global, answer: &Result<Answer, Fault>) -> Result<String, AllocError> {
-    let (map, how, dep_info) = match answer {
-        Ok(Answer::Pass(reason)) => return format!(in alloc; "pass {reason}"),
-        Err(fault) => return format!(in alloc; "fault {fault}"),
-        Ok(Answer::Outputs { map, how, dep_info }) => (map, how, dep_info),
-    };
-    let mut text = format!(in alloc; "{how:?}")?;
-    for output in map.as_slice() {
+/// The call of this line on these files and by this tool.
+pub(crate) fn call_of<F: Files + Drop, T: Tool + Drop>(
+    alloc: Global,
+    line: &str,
+    files: F,
+    tool: T,
+) -> Result<Call<F, T>, AllocError> {
+    let request = request(alloc, line)?;
+    Ok(Call {
+        request,
+        files,
+        tool,
+    })
+}
+
+/// Adds the name, the path and the contents of each output.
+pub(crate) fn push_outputs(text: &mut String, outputs: &[Output]) -> Result<(), AllocError> {
+    for output in outputs {
         let (name, path, contents) = (&output.name, &output.path, &output.contents);
         write!(text, " {name} {path} {contents}")?;
     }
+    Ok(())
+}
+
+/// Adds where outputs came from, each of them, and the text on dependencies where there is one.
+fn push_map(
+    text: &mut String,
+    how: How,
+    map: &[Output],
+    dep_info: &Option<OsBytes>,
+) -> Result<(), AllocError> {
+    write!(text, "{how:?}")?;
+    push_outputs(text, map)?;
     if let Some(dep_info) = dep_info {
         write!(text, " {dep_info}")?;
+    }
+    Ok(())
+}
+
+/// Adds an answer: why it passes or fails, or what it gives.
+fn push_answer(text: &mut String, answer: &Result<Answer, Fault>) -> Result<(), AllocError> {
+    match answer {
+        Ok(Answer::Pass(reason)) => write!(text, "pass {reason};")?,
+        Err(fault) => write!(text, "fault {fault};")?,
+        Ok(Answer::Outputs { map, how, dep_info }) => {
+            push_map(text, *how, map.as_slice(), dep_info)?;
+            text.push_str(";")?;
+        }
+    }
+    Ok(())
+}
+
+/// What these answers tell, in order.
+pub(crate) fn all_told(
+    alloc: Global,
+    answers: &[Result<Answer, Fault>],
+) -> Result<String, AllocError> {
+    let mut text = String::new(alloc);
+    for answer in answers {
+        push_answer(&mut text, answer)?;
     }
     Ok(text)
 }

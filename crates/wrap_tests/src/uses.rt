@@ -1,75 +1,245 @@
-//! What a build through `wrap`'s own names answers with ample memory.
+//! What builds, lists of calls, steps and reports on misses through `wrap`'s own names answer with ample memory.
 
-use crate::idle_tool::IdleTool;
-use crate::support::{config, request, told};
+use crate::calls::{Asked, Why, built, fingerprint, missed, session_over, stepped, within_one};
+use crate::support::{all_told, config, push_outputs};
+use crate::text_tool::text_calls;
+use ckeys::{EntryKey, PreprocessorCacheEntry};
+use ckeys_base::hash_state::HashState;
+use ckeys_base::store::Store;
 use ckeys_records::fault::Fault;
-use os_files::memory_files::MemoryFiles;
+use os_files::files::Files;
 use sha2::Sha256;
 use std::alloc::{AllocError, Global};
 use std::test::Fail;
-use test_kit::rows::files_of;
 use test_kit::texts::is_that;
-use wrap_base::answer::Answer;
+use wrap::session::Session;
 use wrap_base::call::Call;
-use wrap_uses::build::run_steps;
+use wrap_base::config::Config;
+use wrap_base::map_store::MapStore;
+use wrap_base::store_key::{Pairs, StoreKey};
+use wrap_base::tool::Tool;
+use wrap_uses::step::Outcome;
 
-/// The request of each test.
-const LINE: &str = "-c y.i";
-
-/// The files of each request.
-fn sources(alloc: Global) -> Result<MemoryFiles, AllocError> {
-    files_of(alloc, &[("/w/y.i", b"int y;\n".as_slice())])
-}
-
-/// Its call, by a tool that makes an empty object.
-fn one_call(alloc: Global) -> Result<Call<MemoryFiles, IdleTool>, Fail> {
-    let files = sources(alloc)?;
-    Ok(Call {
-        request: request(alloc, LINE)?,
-        files,
-        tool: IdleTool::new(true),
-    })
-}
-
-/// It twice.
-fn two_calls(alloc: Global) -> Result<Vec<Call<MemoryFiles, IdleTool>>, Fail> {
-    let mut calls = Vec::new(alloc);
-    calls.push(one_call(alloc)?).map_err(AllocError::from)?;
-    calls.push(one_call(alloc)?).map_err(AllocError::from)?;
-    Ok(calls)
-}
-
-/// What these answers tell.
-fn all_told(alloc: Global, answers: &[Result<Answer, Fault>]) -> Result<String, AllocError> {
-    let mut text = String::new(alloc);
-    for answer in answers {
-        write!(text, "{};", told(alloc, answer)?)?;
-    }
+/// What a build of these calls answers, and whether all is kept.
+fn told_of_build<H: HashState, F: Files, T: Tool>(
+    alloc: Global,
+    config: Config,
+    calls: &mut [Call<F, T>],
+) -> Result<String, AllocError> {
+    let build = built::<H, F, T>(alloc, config, calls)?;
+    let mut text = all_told(alloc, build.answers.as_slice())?;
+    let kept_all = build.kept_all;
+    write!(text, " kept all: {kept_all}")?;
     Ok(text)
 }
 
-/// What the first and the second of two equal calls are answered.
-const MADE_AND_KEPT: &str = "Fresh obj y.o ;Stored obj y.o ;";
-
-/// What a build of these steps answers.
-fn built(
+/// What they are answered where one pair is kept.
+fn told_within_one<H: HashState, F: Files, T: Tool>(
     alloc: Global,
-    calls: &mut [Call<MemoryFiles, IdleTool>],
-) -> Result<Vec<Result<Answer, Fault>>, Fail> {
-    let config = config(alloc, false)?;
-    let build = run_steps::<Sha256, MemoryFiles, IdleTool>(alloc, config, calls)?;
-    Ok(build.answers)
+    config: Config,
+    calls: &mut [Call<F, T>],
+) -> Result<String, AllocError> {
+    let answers = within_one::<H, F, T>(alloc, config, calls)?;
+    all_told(alloc, answers.as_slice())
 }
 
-/// What a build of the two answers.
-fn told_of_build(alloc: Global) -> Result<String, Fail> {
-    let mut calls = two_calls(alloc)?;
-    let answers = built(alloc, calls.as_mut_slice())?;
-    Ok(all_told(alloc, answers.as_slice())?)
+/// A call, its like, and another one.
+const LINES: [&str; 3] = ["-c y.i", "-c y.i", "-c y.i -O2"];
+
+#[test]
+fn builds_make_each_step_once(rt: HostRuntime) -> Result<(), Fail> {
+    let config = config(rt.alloc(), false)?;
+    let mut calls = text_calls(rt.alloc(), true, &LINES)?;
+    let told = told_of_build::<Sha256, _, _>(rt.alloc(), config, calls.as_mut_slice())?;
+    let expected =
+        "Fresh obj y.o # 1 \"/w/h.h\"\nA\n;Stored obj y.o # 1 \"/w/h.h\"\nA\n;Fresh obj y.o # 1 \"/w/h.h\"\nA\n; kept all: true";
+    is_that(told.as_str(), expected, "a build")
 }
 
 #[test]
-fn a_build_makes_each_step_once(rt: HostRuntime) -> Result<(), Fail> {
-    let told = told_of_build(rt.alloc())?;
-    is_that(told.as_str(), MADE_AND_KEPT, LINE)
+fn calls_are_answered_where_one_pair_is_kept(rt: HostRuntime) -> Result<(), Fail> {
+    let config = config(rt.alloc(), false)?;
+    let mut calls = text_calls(rt.alloc(), true, &LINES)?;
+    let told = told_within_one::<Sha256, _, _>(rt.alloc(), config, calls.as_mut_slice())?;
+    let expected =
+        "Fresh obj y.o # 1 \"/w/h.h\"\nA\n;Stored obj y.o # 1 \"/w/h.h\"\nA\n;Fresh obj y.o # 1 \"/w/h.h\"\nA\n;";
+    is_that(told.as_str(), expected, "one pair")
+}
+
+/// Adds what came of a step.
+fn push_step(text: &mut String, outcome: &Result<Outcome, Fault>) -> Result<(), AllocError> {
+    match outcome {
+        Ok(Outcome::RunItYourself(reason)) => write!(text, "not cached {reason}")?,
+        Ok(Outcome::Kept(map)) => {
+            text.push_str("kept")?;
+            push_outputs(text, map.as_slice())?;
+        }
+        Ok(Outcome::Made(map)) => {
+            text.push_str("made")?;
+            push_outputs(text, map.as_slice())?;
+        }
+        Err(fault) => write!(text, "fault {fault}")?,
+    }
+    text.push_str(";")
+}
+
+/// Adds what comes of each of these calls as a step of a build.
+fn push_steps<
+    H: HashState,
+    E: Store<EntryKey, PreprocessorCacheEntry> + Drop,
+    O: Store<StoreKey, Pairs> + Drop,
+    F: Files,
+    T: Tool,
+>(
+    text: &mut String,
+    session: &mut Session<H, E, O>,
+    calls: &mut [Call<F, T>],
+) -> Result<(), AllocError> {
+    for call in calls.iter_mut() {
+        let outcome = stepped(session, call);
+        let pushed = push_step(text, &outcome);
+        drop(outcome);
+        pushed?;
+    }
+    Ok(())
+}
+
+/// Adds in which part a call differs from an earlier one.
+fn push_why(text: &mut String, why: &Why) -> Result<(), AllocError> {
+    match why {
+        Ok(Ok(None)) => text.push_str("nothing;"),
+        Ok(Ok(Some(part))) => write!(text, "{part:?};"),
+        Ok(Err(reason)) => write!(text, "pass {reason};"),
+        Err(fault) => write!(text, "fault {fault};"),
+    }
+}
+
+/// Adds in which part a call differs from an earlier one that was asked for its fingerprint.
+fn push_miss<
+    H: HashState,
+    E: Store<EntryKey, PreprocessorCacheEntry> + Drop,
+    O: Store<StoreKey, Pairs> + Drop,
+    F: Files,
+    T: Tool,
+>(
+    text: &mut String,
+    session: &Session<H, E, O>,
+    call: &mut Call<F, T>,
+    asked: &Asked,
+) -> Result<(), AllocError> {
+    let Ok(Ok(earlier)) = asked else {
+        return text.push_str("no fingerprint;");
+    };
+    let why = missed(session, call, earlier);
+    let pushed = push_why(text, &why);
+    drop(why);
+    pushed
+}
+
+/// Adds in which part each of these calls differs from each of those.
+fn push_misses<
+    H: HashState,
+    E: Store<EntryKey, PreprocessorCacheEntry> + Drop,
+    O: Store<StoreKey, Pairs> + Drop,
+    F: Files,
+    T: Tool,
+>(
+    text: &mut String,
+    session: &Session<H, E, O>,
+    calls: &mut [Call<F, T>],
+    asked: &Asked,
+) -> Result<(), AllocError> {
+    for call in calls.iter_mut() {
+        push_miss(text, session, call, asked)?;
+    }
+    Ok(())
+}
+
+/// Adds in which part each of these calls differs from each of the earlier ones.
+fn push_all_misses<
+    H: HashState,
+    E: Store<EntryKey, PreprocessorCacheEntry> + Drop,
+    O: Store<StoreKey, Pairs> + Drop,
+    F: Files,
+    T: Tool,
+>(
+    text: &mut String,
+    session: &Session<H, E, O>,
+    earlier: &mut [Call<F, T>],
+    calls: &mut [Call<F, T>],
+) -> Result<(), AllocError> {
+    for first in earlier.iter_mut() {
+        let asked = fingerprint(session, first);
+        let pushed = push_misses(text, session, calls, &asked);
+        drop(asked);
+        pushed?;
+    }
+    Ok(())
+}
+
+/// What comes of these calls as steps of a build over these stores, and in which part each differs from each of the earlier ones.
+fn told_of_steps<
+    H: HashState,
+    E: Store<EntryKey, PreprocessorCacheEntry> + Drop,
+    O: Store<StoreKey, Pairs> + Drop,
+    F: Files,
+    T: Tool,
+>(
+    alloc: Global,
+    config: Config,
+    entries: E,
+    objects: O,
+    earlier: &mut [Call<F, T>],
+    calls: &mut [Call<F, T>],
+) -> Result<String, AllocError> {
+    let mut session: Session<H, E, O> = session_over(alloc, config, entries, objects);
+    let mut text = String::new(alloc);
+    push_steps(&mut text, &mut session, calls)?;
+    push_all_misses(&mut text, &session, earlier, calls)?;
+    Ok(text)
+}
+
+/// Likewise of the calls of these lines, over stores that are empty.
+fn steps_in_order(
+    alloc: Global,
+    gives: bool,
+    earlier: &[&str],
+    lines: &[&str],
+) -> Result<String, Fail> {
+    let config = config(alloc, false)?;
+    let mut earlier = text_calls(alloc, gives, earlier)?;
+    let mut calls = text_calls(alloc, gives, lines)?;
+    let entries = MapStore::<EntryKey, PreprocessorCacheEntry>::new(alloc);
+    let objects = MapStore::<StoreKey, Pairs>::new(alloc);
+    Ok(told_of_steps::<Sha256, _, _, _, _>(
+        alloc,
+        config,
+        entries,
+        objects,
+        earlier.as_mut_slice(),
+        calls.as_mut_slice(),
+    )?)
+}
+
+#[test]
+fn steps_and_misses(rt: HostRuntime) -> Result<(), Fail> {
+    let rows: [(bool, &[&str], &[&str], &str); 2] = [
+        (
+            true,
+            &["-c y.i", "-E y.i"],
+            &["-c y.i", "-c y.i", "-c y.i -O2", "-E y.i"],
+            "made obj y.o # 1 \"/w/h.h\"\nA\n;kept obj y.o # 1 \"/w/h.h\"\nA\n;made obj y.o # 1 \"/w/h.h\"\nA\n;not cached -E;nothing;nothing;Words;pass -E;no fingerprint;no fingerprint;no fingerprint;no fingerprint;",
+        ),
+        (
+            false,
+            &["-c y.i"],
+            &["-c y.i"],
+            "fault missing obj;nothing;",
+        ),
+    ];
+    for (gives, earlier, lines, expected) in rows {
+        let told = steps_in_order(rt.alloc(), gives, earlier, lines)?;
+        is_that(told.as_str(), expected, "steps")?;
+    }
+    Ok(())
 }

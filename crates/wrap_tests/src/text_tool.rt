@@ -1,11 +1,10 @@
-//! A tool that ends with status 0 and makes one empty output or nothing, and what a session answers over it.
+//! A tool that ends with status 0 and gives one text or nothing, and calls by it.
 
 ghost use Rattle.std.specs.Prelude.{◌≡◌, pos, [], ◌∷◌, Some, IfOk, if◌then◌else◌};
 ghost use Rattle.os_files.specs.Bytes.{ticked};
 ghost use Rattle.ckeys_records.specs.Meaning.{made_of};
 
-use crate::calls::served;
-use crate::support::{request, session, told};
+use crate::support::call_of;
 use ckeys_records::preprocessor::{Preprocessor, Printed, Ticks, ToolFail};
 use cmdlines_base::command::{ArtifactDescriptor, SingleCompileCommand};
 use cmdlines_tables::compiler::CCompilerKind;
@@ -15,26 +14,28 @@ use os_files::memory_files::MemoryFiles;
 use os_files::os_bytes::OsBytes;
 use rustkeys::answers::RustcAnswers;
 use std::alloc::{AllocError, Global};
-use std::test::Fail;
 use test_kit::rows::files_of;
-use test_kit::texts::is_that;
+use wrap_base::call::Call;
 use wrap_base::tool::{Compiled, Tool};
 
-/// For tests: each compile ends with status 0 and makes the first output, which is empty, or none of them; nothing else can be asked.
+/// For tests: each step ends with status 0. The preprocessor prints the text, and a compile makes it as the first output; or a compile
+/// makes nothing, and nothing else can be asked.
 #[derive(Drop)]
-pub(crate) struct IdleTool {
-    /// Whether the first output is made.
-    makes: bool,
-    pub(crate) ticks: Ticks,
+pub(crate) struct TextTool {
+    /// Whether the text is given.
+    gives: bool,
+    text: OsBytes,
+    ticks: Ticks,
     /// How often the digest of a static library was asked for.
     archived: u64,
 }
 
-impl IdleTool {
+impl TextTool {
     /// A tool that has not run yet.
-    pub(crate) fn new(makes: bool) -> IdleTool {
-        IdleTool {
-            makes,
+    pub(crate) fn new(gives: bool, text: OsBytes) -> TextTool {
+        TextTool {
+            gives,
+            text,
             ticks: Ticks {
                 preprocess: 0,
                 compile: 0,
@@ -44,23 +45,24 @@ impl IdleTool {
         }
     }
 
-    /// Fails where a text or rustc is asked for.
+    /// Fails where nothing is given, and where rustc is asked.
     fn fail(&mut self) -> ToolFail
         ensures device { result ≡ ToolFail.Device }
         ensures preprocess { self.new.ticks.preprocess ≡ self.old.ticks.preprocess }
         ensures compile { self.new.ticks.compile ≡ self.old.ticks.compile }
         ensures failure { self.new.ticks.failure ≡ ticked self.old.ticks.failure }
         ensures archived { self.new.archived ≡ self.old.archived }
-        ensures makes { self.new.makes ≡ self.old.makes }
+        ensures gives { self.new.gives ≡ self.old.gives }
+        ensures text { self.new.text ≡ self.old.text }
     {
         self.ticks.failure = self.ticks.failure.wrapping_add(1);
         ToolFail::Device
     }
 }
 
-impl Preprocessor for IdleTool {
+impl Preprocessor for TextTool {
     ghost meaning = { λ t step asked outputs scene.
-        made_of (pos 0) (if t.makes then Some [] ∷ [] else []) };
+        made_of (pos 0) (if t.gives then Some t.text ∷ [] else []) };
 
     ghost preprocessed = { λ t. t.ticks.preprocess };
 
@@ -79,7 +81,11 @@ impl Preprocessor for IdleTool {
         _moment: i64,
     ) -> Result<Printed, ToolFail> {
         self.ticks.preprocess = self.ticks.preprocess.wrapping_add(1);
-        Err(self.fail())
+        if !self.gives {
+            return Err(self.fail());
+        }
+        let text = self.text.clone()?;
+        Ok(Printed { status: 0, text })
     }
 
     fn ticks(&self) -> Ticks {
@@ -87,7 +93,7 @@ impl Preprocessor for IdleTool {
     }
 }
 
-impl RustcAnswers for IdleTool {
+impl RustcAnswers for TextTool {
     ghost archived = { λ t. t.archived };
 
     fn dep_info<F: Files>(
@@ -121,19 +127,23 @@ impl RustcAnswers for IdleTool {
     }
 }
 
-/// What is made of outputs: an empty one alone, or nothing.
-fn contents_of(alloc: Global, makes: bool) -> Result<Listed<Option<OsBytes>>, AllocError>
-    ensures { IfOk result (λ made. made ≡ (if makes then Some [] ∷ [] else [])) }
+/// What is made of outputs: the text alone, or nothing.
+fn contents_of(
+    alloc: Global,
+    gives: bool,
+    text: &OsBytes,
+) -> Result<Listed<Option<OsBytes>>, AllocError>
+    ensures { IfOk result (λ made. made ≡ (if gives then Some text.now ∷ [] else [])) }
 {
     let mut contents = Listed::new(alloc);
-    if !makes {
+    if !gives {
         return Ok(contents);
     }
-    contents.push(Some(OsBytes::empty(alloc)))?;
+    contents.push(Some(text.clone()?))?;
     Ok(contents)
 }
 
-impl Tool for IdleTool {
+impl Tool for TextTool {
     fn compile<F: Files>(
         &mut self,
         alloc: Global,
@@ -144,7 +154,7 @@ impl Tool for IdleTool {
         _moment: i64,
     ) -> Result<Compiled, ToolFail> {
         self.ticks.compile = self.ticks.compile.wrapping_add(1);
-        let contents = contents_of(alloc, self.makes)?;
+        let contents = contents_of(alloc, self.gives, &self.text)?;
         Ok(Compiled {
             status: 0,
             contents,
@@ -152,21 +162,35 @@ impl Tool for IdleTool {
     }
 }
 
-/// What the request of this line is answered over the tool.
-fn told_over_nothing(alloc: Global, line: &str) -> Result<String, Fail> {
-    let mut session = session(alloc, false)?;
-    let mut files: MemoryFiles = files_of(alloc, &[("/w/y.i", b"int y;\n".as_slice())])?;
-    let mut tool = IdleTool::new(false);
-    let request = request(alloc, line)?;
-    let answer = served(&mut session, &request, &mut files, &mut tool);
-    if (session.objects().len(), tool.ticks.compile) != (0, 1) {
-        return Err("something is held, or another number of compiles".into());
-    }
-    Ok(told(alloc, &answer)?)
+/// A call by such a tool.
+pub(crate) type TextCall = Call<MemoryFiles, TextTool>;
+
+/// The files of each request.
+const FILES: [(&str, &[u8]); 3] = [
+    ("/w/y.i", b"int y;\n"),
+    ("/w/m.c", b"#include \"h.h\"\n"),
+    ("/w/h.h", b"A\n"),
+];
+
+/// The text that is given, as it might be printed of `m.c`.
+const TEXT: &[u8] = b"# 1 \"/w/h.h\"\nA\n";
+
+/// The call of this line.
+fn text_call(alloc: Global, gives: bool, line: &str) -> Result<TextCall, AllocError> {
+    let files = files_of(alloc, &FILES)?;
+    let text = OsBytes::from_slice(alloc, TEXT)?;
+    call_of(alloc, line, files, TextTool::new(gives, text))
 }
 
-#[test]
-fn an_object_that_is_not_made_is_a_fault(rt: HostRuntime) -> Result<(), Fail> {
-    let told = told_over_nothing(rt.alloc(), "-c y.i")?;
-    is_that(told.as_str(), "fault missing obj", "-c y.i")
+/// The calls of these lines. A list of calls is dropped by one call, and so a function that holds one is proved fast.
+pub(crate) fn text_calls(
+    alloc: Global,
+    gives: bool,
+    lines: &[&str],
+) -> Result<Vec<TextCall>, AllocError> {
+    let mut calls = Vec::new(alloc);
+    for line in lines {
+        calls.push(text_call(alloc, gives, line)?)?;
+    }
+    Ok(calls)
 }
