@@ -94,16 +94,22 @@ const NAMED: [(&str, &[&str]); 5] = [
     ("#line 1 \"a.c\"\n", &["/d/a.c"]),
 ];
 
+/// Whether these are the paths.
+fn are_paths(paths: &[OsBytes], wanted: &[&str]) -> bool {
+    let mut are = paths.len() == wanted.len();
+    for (path, wanted) in paths.iter().zip(wanted.iter()) {
+        let wanted = *wanted;
+        are = are && path.as_bytes() == wanted.as_bytes();
+    }
+    are
+}
+
 #[test]
 fn texts_name_files(rt: HostRuntime) -> Result<(), Fail> {
-    for (text, want) in NAMED {
+    for (text, wanted) in NAMED {
         let named = NamedFiles::of(rt.alloc(), b"/d", text.as_bytes())?;
-        let mut pairs = named.paths.iter().zip(want.iter());
-        let are_equal = pairs.all(|pair| pair.0.as_bytes() == pair.1.as_bytes());
-        holds(
-            are_equal && named.paths.len() == want.len() && named.are_all,
-            text,
-        )?;
+        let paths = named.paths.as_slice();
+        holds(named.are_all && are_paths(paths, wanted), text)?;
     }
     Ok(())
 }
