@@ -2,7 +2,7 @@
 //! docs/WRAPPER.md says what each variable and option does.
 
 use known_options::dependencies::{dependencies_of, for_preprocessor};
-use known_options::words::unknown_word;
+use known_options::words::{takes_next, unknown_word};
 use os_files::os_bytes::OsBytes;
 use recorded_builds::beware::options_in;
 use settings::key::Key;
@@ -90,10 +90,31 @@ fn unknown_in(alloc: Global, line: &CommandLine) -> Result<Option<String>, Stop>
         Some(word) => Some(word),
         None => unclear_word(alloc, line)?,
     };
-    match word {
+    match word.or(late_language(words)) {
         Some(word) => Ok(Some(format!(in alloc; "{word}")?)),
         None => Ok(None),
     }
+}
+
+/// Whether a word says of which language the inputs behind it are.
+fn is_language(word: &[u8]) -> bool {
+    word.starts_with(b"-x") || word.starts_with(b"--language")
+}
+
+/// The word of a language behind an input: compilers take it for those behind it, and the session for all.
+fn late_language(words: &[OsBytes]) -> Option<&OsBytes> {
+    let mut before: &[u8] = &[];
+    let mut has_input = false;
+    for word in words {
+        let bytes = word.as_bytes();
+        let is_value = takes_next(before);
+        if !is_value && has_input && is_language(bytes) {
+            return Some(word);
+        }
+        has_input = has_input || (!is_value && !bytes.starts_with(b"-"));
+        before = if is_value { &[] } else { bytes };
+    }
+    None
 }
 
 /// The word by which it isn't clear which dependency file is written, or is that of a preprocessor which is to write it in each call.
