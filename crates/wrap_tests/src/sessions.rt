@@ -83,9 +83,15 @@ fn told_over<
 }
 
 /// Likewise of the calls of these lines, over stores that are empty.
-fn told_in_order(alloc: Global, direct: bool, gives: bool, lines: &[&str]) -> Result<String, Fail> {
+fn told_in_order(
+    alloc: Global,
+    direct: bool,
+    gives: bool,
+    status: i32,
+    lines: &[&str],
+) -> Result<String, Fail> {
     let config = config(alloc, direct)?;
-    let mut calls = text_calls(alloc, gives, lines)?;
+    let mut calls = text_calls(alloc, gives, status, lines)?;
     let entries = MapStore::<EntryKey, PreprocessorCacheEntry>::new(alloc);
     let objects = MapStore::<StoreKey, Pairs>::new(alloc);
     Ok(told_over::<Sha256, _, _, _, _>(alloc, config, entries, objects, calls.as_mut_slice())?)
@@ -94,23 +100,38 @@ fn told_in_order(alloc: Global, direct: bool, gives: bool, lines: &[&str]) -> Re
 #[test]
 fn calls_in_order(rt: HostRuntime) -> Result<(), Fail> {
     laws::<Sha256>();
-    let rows: [(bool, bool, &[&str], &str); 3] = [
+    let rows: [(bool, bool, i32, &[&str], &str); 4] = [
         (
             false,
             true,
+            0,
             &["-c y.i", "-c y.i", "-c m.c", "-c m.c", "-E y.i"],
             "Fresh obj y.o # 1 \"/w/h.h\"\nA\n;Stored obj y.o # 1 \"/w/h.h\"\nA\n;Fresh obj m.o # 1 \"/w/h.h\"\nA\n;Stored obj m.o # 1 \"/w/h.h\"\nA\n;pass -E; 0 1, 0 0, 1 1, 1 0, 0 0, put 0 2",
         ),
         (
             true,
             true,
+            0,
             &["-c m.c", "-c m.c"],
             "Fresh obj m.o # 1 \"/w/h.h\"\nA\n;Direct obj m.o # 1 \"/w/h.h\"\nA\n; 1 1, 0 0, put 1 1",
         ),
-        (false, false, &["-c y.i"], "fault missing obj; 0 1, put 0 0"),
+        (
+            false,
+            true,
+            1,
+            &["-c m.c", "-c m.c"],
+            "fault compile 1;fault compile 1; 1 1, 1 1, put 0 0",
+        ),
+        (
+            false,
+            false,
+            0,
+            &["-c y.i"],
+            "fault missing obj; 0 1, put 0 0",
+        ),
     ];
-    for (direct, gives, lines, expected) in rows {
-        let told = told_in_order(rt.alloc(), direct, gives, lines)?;
+    for (direct, gives, status, lines, expected) in rows {
+        let told = told_in_order(rt.alloc(), direct, gives, status, lines)?;
         is_that(told.as_str(), expected, "in order")?;
     }
     Ok(())

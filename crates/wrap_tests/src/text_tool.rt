@@ -1,8 +1,8 @@
-//! A tool that ends with status 0 and gives one text or nothing, and calls by it.
+//! A tool that gives one text or nothing, and calls by it.
 
-ghost use Rattle.std.specs.Prelude.{◌≡◌, pos, [], ◌∷◌, Some, IfOk, if◌then◌else◌};
+ghost use Rattle.std.specs.Prelude.{◌≡◌, [], ◌∷◌, Some, IfOk, if◌then◌else◌};
 ghost use Rattle.os_files.specs.Bytes.{ticked};
-ghost use Rattle.ckeys_records.specs.Meaning.{made_of};
+ghost use Rattle.wrap_tests.specs.Giving.{giving};
 
 use crate::support::call_of;
 use ckeys_records::preprocessor::{Preprocessor, Printed, Ticks, ToolFail};
@@ -18,12 +18,14 @@ use test_kit::rows::files_of;
 use wrap_base::call::Call;
 use wrap_base::tool::{Compiled, Tool};
 
-/// For tests: each step ends with status 0. The preprocessor prints the text, and a compile makes it as the first output; or a compile
-/// makes nothing, and nothing else can be asked.
+/// For tests: the preprocessor prints the text and ends with status 0, and a compile makes it as the first output; or a compile makes
+/// nothing, and nothing else can be asked.
 #[derive(Drop)]
 pub(crate) struct TextTool {
     /// Whether the text is given.
     gives: bool,
+    /// With which a compile ends.
+    status: i32,
     text: OsBytes,
     ticks: Ticks,
     /// How often the digest of a static library was asked for.
@@ -32,9 +34,10 @@ pub(crate) struct TextTool {
 
 impl TextTool {
     /// A tool that has not run yet.
-    pub(crate) fn new(gives: bool, text: OsBytes) -> TextTool {
+    pub(crate) fn new(gives: bool, status: i32, text: OsBytes) -> TextTool {
         TextTool {
             gives,
+            status,
             text,
             ticks: Ticks {
                 preprocess: 0,
@@ -53,6 +56,7 @@ impl TextTool {
         ensures failure { self.new.ticks.failure ≡ ticked self.old.ticks.failure }
         ensures archived { self.new.archived ≡ self.old.archived }
         ensures gives { self.new.gives ≡ self.old.gives }
+        ensures status { self.new.status ≡ self.old.status }
         ensures text { self.new.text ≡ self.old.text }
     {
         self.ticks.failure = self.ticks.failure.wrapping_add(1);
@@ -61,8 +65,7 @@ impl TextTool {
 }
 
 impl Preprocessor for TextTool {
-    ghost meaning = { λ t step asked outputs scene.
-        made_of (pos 0) (if t.gives then Some t.text ∷ [] else []) };
+    ghost meaning = { λ t. giving t.gives t.status t.text };
 
     ghost preprocessed = { λ t. t.ticks.preprocess };
 
@@ -156,7 +159,7 @@ impl Tool for TextTool {
         self.ticks.compile = self.ticks.compile.wrapping_add(1);
         let contents = contents_of(alloc, self.gives, &self.text)?;
         Ok(Compiled {
-            status: 0,
+            status: self.status,
             contents,
         })
     }
@@ -176,21 +179,22 @@ const FILES: [(&str, &[u8]); 3] = [
 const TEXT: &[u8] = b"# 1 \"/w/h.h\"\nA\n";
 
 /// The call of this line.
-fn text_call(alloc: Global, gives: bool, line: &str) -> Result<TextCall, AllocError> {
+fn text_call(alloc: Global, gives: bool, status: i32, line: &str) -> Result<TextCall, AllocError> {
     let files = files_of(alloc, &FILES)?;
     let text = OsBytes::from_slice(alloc, TEXT)?;
-    call_of(alloc, line, files, TextTool::new(gives, text))
+    call_of(alloc, line, files, TextTool::new(gives, status, text))
 }
 
 /// The calls of these lines. A list of calls is dropped by one call, and so a function that holds one is proved fast.
 pub(crate) fn text_calls(
     alloc: Global,
     gives: bool,
+    status: i32,
     lines: &[&str],
 ) -> Result<Vec<TextCall>, AllocError> {
     let mut calls = Vec::new(alloc);
     for line in lines {
-        calls.push(text_call(alloc, gives, line)?)?;
+        calls.push(text_call(alloc, gives, status, line)?)?;
     }
     Ok(calls)
 }

@@ -49,7 +49,7 @@ const LINES: [&str; 3] = ["-c y.i", "-c y.i", "-c y.i -O2"];
 #[test]
 fn builds_make_each_step_once(rt: HostRuntime) -> Result<(), Fail> {
     let config = config(rt.alloc(), false)?;
-    let mut calls = text_calls(rt.alloc(), true, &LINES)?;
+    let mut calls = text_calls(rt.alloc(), true, 0, &LINES)?;
     let told = told_of_build::<Sha256, _, _>(rt.alloc(), config, calls.as_mut_slice())?;
     let expected =
         "Fresh obj y.o # 1 \"/w/h.h\"\nA\n;Stored obj y.o # 1 \"/w/h.h\"\nA\n;Fresh obj y.o # 1 \"/w/h.h\"\nA\n; kept all: true";
@@ -59,7 +59,7 @@ fn builds_make_each_step_once(rt: HostRuntime) -> Result<(), Fail> {
 #[test]
 fn calls_are_answered_where_one_pair_is_kept(rt: HostRuntime) -> Result<(), Fail> {
     let config = config(rt.alloc(), false)?;
-    let mut calls = text_calls(rt.alloc(), true, &LINES)?;
+    let mut calls = text_calls(rt.alloc(), true, 0, &LINES)?;
     let told = told_within_one::<Sha256, _, _>(rt.alloc(), config, calls.as_mut_slice())?;
     let expected =
         "Fresh obj y.o # 1 \"/w/h.h\"\nA\n;Stored obj y.o # 1 \"/w/h.h\"\nA\n;Fresh obj y.o # 1 \"/w/h.h\"\nA\n;";
@@ -207,8 +207,8 @@ fn steps_in_order(
     lines: &[&str],
 ) -> Result<String, Fail> {
     let config = config(alloc, false)?;
-    let mut earlier = text_calls(alloc, gives, earlier)?;
-    let mut calls = text_calls(alloc, gives, lines)?;
+    let mut earlier = text_calls(alloc, gives, 0, earlier)?;
+    let mut calls = text_calls(alloc, gives, 0, lines)?;
     let entries = MapStore::<EntryKey, PreprocessorCacheEntry>::new(alloc);
     let objects = MapStore::<StoreKey, Pairs>::new(alloc);
     Ok(told_of_steps::<Sha256, _, _, _, _>(
