@@ -1,7 +1,6 @@
 /* Refuses growths of memory, as a library that stands before the C library's allocator (bin/refusals).
  *
- * With REFUSED_GROWTH=N the Nth growth of the process is refused, and `refused` is said on standard error; with REFUSED_FROM=N too, and each
- * behind it.
+ * With REFUSED_GROWTH=N the Nth growth of the process is refused, and `refused` is said on standard error.
  *
  * With EXPECTED=FILE the process begins as many others as it makes growths, each ahead of its `main`: in the first of them the first growth
  * is refused, in the next one the second, up to one that meets no refusal. Each must print what the file holds and end with status 0, or
@@ -19,19 +18,15 @@
 
 /* How many growths are left up to the one that is refused, and 0 behind it. */
 static long left = -1;
-/* Whether all behind it are refused too. */
-static int is_last = 0;
 /* Whether one was refused, where the process that began this one sees it. */
 static int *seen;
 
 static int is_refused(void) {
     if (left < 0) {
-        const char *number = getenv("REFUSED_GROWTH"), *first = getenv("REFUSED_FROM");
-        is_last = first != NULL;
-        left = first ? atol(first) : number ? atol(number) : 0;
+        const char *number = getenv("REFUSED_GROWTH");
+        left = number ? atol(number) : 0;
     }
     if (left == 0 || --left > 0) return 0;
-    if (is_last) left = 1;
     if (seen) *seen = 1;
     else if (write(2, "refused\n", 8) != 8) _exit(3);
     return 1;

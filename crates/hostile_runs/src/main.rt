@@ -19,13 +19,9 @@
 //!
 //! With `record` or `key` it says what is read of the bytes of standard input as an include record, or, behind three lines with its shape,
 //! as what is hashed of a request to rustc. `bin/hostile` changes such bytes at random.
-//!
-//! With `calls` it makes what calls that take no memory are asked about, says `ready` on standard error, makes these calls, and prints what
-//! isn't answered as it has to be. `bin/refusals` lets no memory grow from any growth on.
 #![tactic(auto)]
 
 mod answers;
-mod calls;
 mod forgetting;
 mod growths;
 mod readings;
@@ -33,7 +29,6 @@ mod refusals;
 mod runs;
 mod stores;
 
-use crate::calls::Ready;
 use crate::forgetting::push_forgetting;
 use crate::growths::push_growths;
 use crate::readings::{push_key, push_record};
@@ -59,8 +54,6 @@ enum Mode {
     Record,
     /// What is hashed is read.
     Key,
-    /// Calls are made that take no memory; nothing is read.
-    Calls,
 }
 
 fn main(rt: HostRuntime) -> ExitCode {
@@ -74,12 +67,9 @@ fn main(rt: HostRuntime) -> ExitCode {
 }
 
 /// Runs on standard input and output.
-fn run_on<R: Print + Eprint + Input + Env + AllocGlobal>(rt: &R) -> Result<(), Stop> {
+fn run_on<R: Print + Input + Env + AllocGlobal>(rt: &R) -> Result<(), Stop> {
     let alloc = rt.alloc();
     let mode = mode_of(rt)?;
-    if let Mode::Calls = mode {
-        return tell_calls(rt);
-    }
     let mut bytes = Vec::new(alloc);
     rt.reader()
         .read_to_end(&mut bytes)
@@ -89,13 +79,6 @@ fn run_on<R: Print + Eprint + Input + Env + AllocGlobal>(rt: &R) -> Result<(), S
     io::writer(rt)
         .write_all(text.as_bytes())
         .map_err(|error| stop_of(&error, Stop::Output))
-}
-
-/// Makes the calls that take no memory, once it has said that all is ready.
-fn tell_calls<R: Print + Eprint + AllocGlobal>(rt: &R) -> Result<(), Stop> {
-    let ready = Ready::new(rt.alloc())?;
-    let _ = eprintln!(rt; "ready");
-    ready.tell(&mut io::writer(rt))
 }
 
 /// Want of memory where that is what a device lacked, and the other reason where it is anything else.
@@ -122,7 +105,6 @@ fn mode_named(word: &str) -> Result<Mode, Stop> {
         "growths" => Ok(Mode::Growths),
         "record" => Ok(Mode::Record),
         "key" => Ok(Mode::Key),
-        "calls" => Ok(Mode::Calls),
         _ => Err(Stop::Arguments),
     }
 }
@@ -134,7 +116,6 @@ fn push_bytes(alloc: Global, mode: Mode, bytes: &[u8], text: &mut String) -> Res
         Mode::Growths => push_lines(alloc, true, bytes, text),
         Mode::Record => push_record(alloc, bytes, text),
         Mode::Key => push_key(alloc, bytes, text),
-        Mode::Calls => Ok(()),
     }
 }
 

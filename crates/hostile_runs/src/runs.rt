@@ -27,7 +27,7 @@ use wrap_base::tool::Tool;
 /// Why nothing is printed.
 #[derive(Debug, Drop, Error)]
 pub(crate) enum Stop {
-    #[error("hostile_runs: one argument is taken: growths, record, key or calls")]
+    #[error("hostile_runs: one argument is taken: growths, record or key")]
     Arguments,
     #[error("hostile_runs: a scenario cannot be read")]
     Scenario,
