@@ -152,7 +152,10 @@ searches() {
 # Names that aren't written, and times that are pasted: there is no record.
 search_names() {
     local cc=$1
-    printf '#define NAME "late/value.h"\n#include NAME\nint value = VALUE;\n' >it.c
+    printf '#define NAME "value.h"\n#include NAME\nint value = VALUE;\n' >it.c
+    settle
+    search_case "$cc: a name that is defined" 'printf "#define VALUE 7\n" >early/value.h' "rm early/value.h" $cc -Iearly -Ilate
+    printf '#define OTHER "late/value.h"\n#define NAME OTHER\n#include NAME\nint value = VALUE;\n' >it.c
     settle
     search_none "$cc: a name that is computed" $cc
     printf '#define NAME <stdio.h>\n#if __has_include(NAME)\nint value = 1;\n#endif\n' >it.c
