@@ -57,14 +57,31 @@ def without_brackets(text):
         text = less
 
 
+def behind_parameters(head):
+    """The names of an impl's own parameters, and its head behind them."""
+    depth = 0
+    for at, byte in enumerate(head.replace("->", "  ")):
+        depth += {"<": 1, ">": -1}.get(byte, 0)
+        if not depth:
+            return (re.findall(r"(?:^|,)\s*(\w+)", without_brackets(head[1:at])), head[at + 1 :]) if byte == ">" else ([], head)
+    return [], head
+
+
+def joined(type, parameters):
+    """A type's name and those of its arguments that are no parameters, in one, each without its path."""
+    words = [word.rpartition("::")[2] for word in re.findall(r"[\w:]+", type)]
+    return "".join(word for word in words if word not in parameters)
+
+
 def owner(text, at):
-    """The type to which a function there belongs, and its trait, which is empty where it's no trait's; empty texts of one on its own."""
+    """The type to which a function there belongs, and its trait with its arguments, which is empty where it's no trait's; empty texts of one
+    on its own."""
     for found in IMPL.finditer(text):
         begin = text.find("{", found.end())
         if begin < at < group_end(text, begin):
-            head = without_brackets(text[found.end() : begin]).partition(" where ")[0]
+            parameters, head = behind_parameters(text[found.end() : begin].partition(" where ")[0])
             trait, _, name = head.rpartition(" for ")
-            return tuple(part.strip().rpartition("::")[2] for part in (name, trait))
+            return without_brackets(name).strip().rpartition("::")[2], joined(trait, parameters)
     return "", ""
 
 
