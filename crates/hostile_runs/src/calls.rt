@@ -143,21 +143,28 @@ impl Ready {
     }
 
     /// Makes the calls, and writes which isn't answered as it has to be, and at last that all are made.
-    pub(crate) fn tell<W: Write>(mut self, writer: &mut W) -> Result<(), Stop> {
+    pub(crate) fn tell<W: Write>(self, writer: &mut W) -> Result<(), Stop> {
         write_unless(writer, self.finds_words(), "words are found")?;
         write_unless(writer, self.knows_hazards(), "hazards are known")?;
         write_unless(writer, self.leaves_slices(), "slices are left")?;
         write_unless(writer, self.compares(), "values are compared")?;
         write_unless(writer, finds_macros(), "macros are found")?;
-        let plain = has_its_pair(&mut self.plain, &self.held, &self.other);
-        let bounded = has_its_pair(&mut self.bounded, &self.held, &self.other);
-        write_unless(writer, plain && bounded, "stores have their pairs")?;
-        self.digest.update(b"abc");
-        write_unless(
-            writer,
-            is_made_normal(self.argument),
-            "an argument is made normal",
-        )?;
+        let Ready {
+            argument,
+            mut digest,
+            mut plain,
+            mut bounded,
+            held,
+            other,
+            ..
+        } = self;
+        digest.update(b"abc");
+        let has_pair = has_its_pair(&mut plain, &held, &other);
+        write_unless(writer, has_pair, "a store has its pair")?;
+        let has_pair = has_its_pair(&mut bounded, &held, &other);
+        write_unless(writer, has_pair, "a bounded store has its pair")?;
+        let is_normal = is_made_normal(argument);
+        write_unless(writer, is_normal, "an argument is made normal")?;
         write(writer, "all calls are made\n")
     }
 
