@@ -155,6 +155,13 @@ search_names() {
     printf '#define NAME "value.h"\n#include NAME\nint value = VALUE;\n' >it.c
     settle
     search_case "$cc: a name that is defined" 'printf "#define VALUE 7\n" >early/value.h' "rm early/value.h" $cc -Iearly -Ilate
+    printf '#include NAME\nint value = VALUE;\n' >it.c
+    settle
+    search_case "$cc: a name that a word defines" 'printf "#define VALUE 7\n" >early/value.h' "rm early/value.h" \
+        $cc -DNAME='"value.h"' -Iearly -Ilate
+    search_case "$cc: a name that a word of its own defines" 'printf "#define VALUE 7\n" >early/value.h' "rm early/value.h" \
+        $cc -D 'NAME=<value.h>' -Iearly -Ilate
+    search_none "$cc: a name that a word computes" $cc -DOTHER='"value.h"' -DNAME=OTHER -Ilate
     printf '#define OTHER "late/value.h"\n#define NAME OTHER\n#include NAME\nint value = VALUE;\n' >it.c
     settle
     search_none "$cc: a name that is computed" $cc

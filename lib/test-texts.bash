@@ -1,4 +1,4 @@
-# shellcheck shell=bash disable=SC2154
+# shellcheck shell=bash disable=SC2086,SC2154
 # Texts that speak against keeping: a part of bin/test-builds, whose host, work and functions it uses.
 
 # A source gives the compiler's own object twice, and of two calls so many are kept and compiled.
@@ -12,6 +12,26 @@ text_case() {
     "$host" "$cc" -c it.c -o it.o
     is "$cc: $name: object again" cmp -s plain.o it.o
     is "$cc: $name: calls" since "$hits" "$misses"
+}
+
+# A precompiled header that lies in a folder where the compiler comes by before it finds the header itself.
+precompiled_ahead() {
+    local cc=$1 words
+    printf '#include <first.h>\nint a = ONE;\n' >it.c
+    mkdir -p ahead
+    printf '#define ONE 9\n' >ahead/first.h
+    (cd ahead && "$cc" -x c-header first.h -o first.h.gch && rm first.h)
+    for words in "-Iahead -I." "-I ahead -I." "-iquote ahead -I." "-isystem ahead -isystem ." "-include first.h -Iahead -I."; do
+        $cc $words -c it.c -o plain.o
+        mark
+        "$host" "$cc" $words -c it.c -o it.o
+        is "$cc $words: a precompiled header ahead: object" cmp -s plain.o it.o
+        "$host" "$cc" $words -c it.c -o it.o
+        is "$cc $words: a precompiled header ahead: object again" cmp -s plain.o it.o
+        is "$cc $words: a precompiled header ahead: calls" since 0 0
+    done
+    rm -r ahead
+    echo 'int it;' >it.c
 }
 
 texts() {
@@ -53,6 +73,7 @@ texts() {
     "$cc" -x c-header first.h -o first.h.gch
     text_case "$cc" "a precompiled header" $'#include "first.h"\n#include "second.h"\nint a = ONE;' 0 0
     rm first.h.gch second.h.gch
+    precompiled_ahead "$cc"
     # A word that a user allows.
     mark
     "$host" "$cc" -fverbose-asm -c it.c -o it.o

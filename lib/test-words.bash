@@ -149,8 +149,29 @@ CC -g -fmacro-prefix-map=/a=/b -ffile-prefix-map=/c=/d -fstack-protector-strong 
 CC -std=gnu11 -pthread -pipe -fPIC -isystem share -I. -iquote d\ ir -include list.h -c foo.c
 CC --param max-inline-insns-single=100 -O1 -c foo.c
 CC -Wa,--noexecstack -Wl,-z,now -c foo.c
+CC -O2 -march=native -mtune=native -c foo.c
 END
     cd "$work" || return
+}
+
+# A Clang that is called for a machine looks beside it for files of words by that name. With one nothing is kept.
+configured_clang() {
+    local real clang file
+    mkdir -p tool/bin
+    real=$(readlink -f "$(command -v clang)")
+    clang=$PWD/tool/bin/x86_64-pc-linux-gnu-clang
+    cp "$real" "$clang"
+    ln -sfn "${real%/bin/*}/lib" tool/lib
+    kept_case "$clang" "CC -O1 -c foo.c"
+    for file in x86_64-pc-linux-gnu x86_64-pc-linux-gnu-clang; do
+        echo "-DX=7 -g" >"tool/bin/$file.cfg"
+        word_case "$clang" "CC -O1 -c foo.c"
+        mark
+        word_run got "$(word_line "$clang" "CC -O1 -c foo.c" "'$host' ")"
+        is "$clang: $file.cfg: not kept" since 0 0
+        rm "tool/bin/$file.cfg"
+    done
+    kept_case "$clang" "CC -O1 -c foo.c"
 }
 
 # What the compilers have alone.
@@ -173,6 +194,7 @@ END
     kept_case clang "CC -Qunused-arguments -mllvm -inline-threshold=100 -Xclang -disable-O0-optnone -c foo.c"
     kept_case gcc "CC -fsanitize=undefined,address -c foo.c"
     word_case gcc "CC -gsplit-dwarf -g -c foo.c"
+    configured_clang
     # A compiler that doesn't take the word for colours isn't given it.
     printf 'for word; do case $word in -fdiagnostics-color*) echo "no such word" >&2; exit 1 ;; esac; done\nexec gcc "$@"\n' | stand_in old-gcc
     ln -sf old-gcc gcc

@@ -5,6 +5,7 @@ ghost use Rattle.std.specs.Prelude.{◌≡◌};
 
 use key_additions::additions::{Additions, VARIABLE};
 use known_compilers::compilers::{KnownCompiler, add_surroundings, compiler_at};
+use known_compilers::native::native_of;
 use known_options::dependencies::{Dependencies, dependencies_of};
 use known_options::variables::is_read;
 use os_files::listed::Listed;
@@ -132,7 +133,10 @@ pub fn call_of<P: Print + Files + AllocGlobal, I: Read>(
 {
     let alloc = rt.alloc();
     let dependencies = dependencies_in(alloc, line)?;
-    let additions = additions_of(alloc, line, kind, dependencies.as_ref())?;
+    let mut additions = additions_of(alloc, line, kind, dependencies.as_ref())?;
+    if let Some(native) = native_of(rt, line, host)? {
+        additions.add(alloc, "native", native.as_bytes())?;
+    }
     let words = match &dependencies {
         Some(dependencies) => dependencies.others.clone()?,
         None => line.words.clone()?,

@@ -2,7 +2,8 @@
 //! docs/WRAPPER.md says what each variable and option does.
 
 use known_options::dependencies::{dependencies_of, for_preprocessor};
-use known_options::words::{takes_next, unknown_word};
+use known_options::placed::PlacedWords;
+use known_options::words::unknown_word;
 use os_files::os_bytes::OsBytes;
 use recorded_builds::beware::options_in;
 use settings::key::Key;
@@ -103,16 +104,12 @@ fn is_language(word: &[u8]) -> bool {
 
 /// The word of a language behind an input: compilers take it for those behind it, and the session for all.
 fn late_language(words: &[OsBytes]) -> Option<&OsBytes> {
-    let mut before: &[u8] = &[];
     let mut has_input = false;
-    for word in words {
-        let bytes = word.as_bytes();
-        let is_value = takes_next(before);
-        if !is_value && has_input && is_language(bytes) {
-            return Some(word);
+    for placed in PlacedWords::of(words) {
+        if has_input && placed.option.is_none() && is_language(placed.word.as_bytes()) {
+            return Some(placed.word);
         }
-        has_input = has_input || (!is_value && !bytes.starts_with(b"-"));
-        before = if is_value { &[] } else { bytes };
+        has_input = has_input || placed.is_input();
     }
     None
 }

@@ -2,13 +2,13 @@
 
 use crate::deciding::{End, What};
 use known_calls::audits::Audit;
+use known_calls::logging::log;
 use settings::key::Key;
 use statistics::calls::counters_of;
 use statistics::file::count;
 use statistics::names::name_of;
 use std::alloc::Global;
-use std::fs::{File, OpenOptions};
-use std::io::Write;
+use std::fs::File;
 use std::rt::{Clock, Files};
 use std::time::SystemTime;
 use wrap::How;
@@ -98,29 +98,17 @@ fn milliseconds<R: Clock>(rt: &R, line: &CommandLine) -> u128 {
     }
 }
 
-/// Puts a line into the log: when, what it came to, how long it took, the command, and why where it was passed through or has no record.
-fn log<R: Files + Clock + AllocGlobal>(
+/// Puts a line into the log: what a call came to, how long it took, the command, and why where it was passed through or has no record.
+fn log_call<R: Files<File = File> + Clock + AllocGlobal>(
     rt: &R,
     line: &CommandLine,
     counter: &str,
     reason: &str,
 ) -> Result<(), Stop> {
-    let alloc = rt.alloc();
-    let second = line.second();
     let time = milliseconds(rt, line);
-    let executable = line.executable.as_str();
-    let mut text = format!(in alloc; "{second} {counter} {time} ms: {executable}")?;
-    for word in line.words.as_slice() {
-        write!(text, " {word}")?;
-    }
-    if !reason.is_empty() {
-        write!(text, " ({reason})")?;
-    }
-    text.push('\n')?;
-    let mut options = OpenOptions::new();
-    options.append(true).create(true);
-    let mut file = options.open(rt, line.settings.value_of(Key::LogFile))?;
-    Ok(file.write_all(text.as_bytes())?)
+    let what = format!(in rt.alloc(); "{counter} {time} ms")?;
+    let place = line.settings.value_of(Key::LogFile);
+    log(rt, line, place, what.as_str(), reason)
 }
 
 /// Counts what a call came to, and logs it, as the settings have it.
@@ -139,7 +127,7 @@ pub fn note<R: Files<File = File> + Clock + AllocGlobal>(
     let counters = counters(alloc, line, end, reason.as_str())?;
     if is_logged {
         if let Some(first) = counters.first() {
-            let _ = log(rt, line, first.as_str(), reason.as_str());
+            let _ = log_call(rt, line, first.as_str(), reason.as_str());
         }
     }
     if is_counted {

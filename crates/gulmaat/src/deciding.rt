@@ -2,7 +2,7 @@
 
 ghost use Rattle.std.specs.Prelude.{◌≡◌, ◌≤◌};
 
-use crate::finishing::{Given, finish};
+use crate::finishing::finish;
 use call_requests::call::{Call, call_of};
 use call_requests::passing::reason_against;
 use explained_misses::why::note_fingerprint;
@@ -12,7 +12,7 @@ use kept_pairs::entries::Kept;
 use kept_pairs::record_files::name_of_record;
 use known_calls::audits::Audit;
 use known_calls::kept::{found, hint_at, hint_name, kept_under};
-use known_calls::known::Known;
+use known_calls::known::{Given, Known};
 use known_compilers::compilers::kind_of;
 use loaded_files::outputs::have_plain_places;
 use os_files::listed::Listed;
@@ -198,6 +198,61 @@ fn answer_by(
     Ok((answer, messages))
 }
 
+/// What becomes of outputs with which the session answered.
+enum Turn {
+    /// They are the answer.
+    Give,
+    /// More is known now, so the session is asked again.
+    Ask,
+    /// They were kept, and where they belong lies what only the compiler writes as it does.
+    Pass,
+}
+
+/// What becomes of kept outputs.
+fn turn_of<R: Files + AllocGlobal>(
+    rt: &R,
+    line: &CommandLine,
+    hint: &str,
+    key: Option<&StoreKey>,
+    given: &Given<'_>,
+    known: &mut Known,
+) -> Result<Turn, Stop> {
+    if !known.may_go_by_record(rt, line, key)? || !known.may_give(rt, key, given.messages)? {
+        return Ok(Turn::Ask);
+    }
+    if !have_plain_places(rt, given.outputs)? {
+        return Ok(Turn::Pass);
+    }
+    match known.is_to_audit(rt.alloc(), line, hint, key, given)? {
+        true => Ok(Turn::Ask),
+        false => Ok(Turn::Give),
+    }
+}
+
+/// Acts on outputs with which the session answered. None where more is known then.
+fn act_on_outputs<P: Print + Files<File = File> + AllocGlobal, I: Read>(
+    rt: &P,
+    line: &CommandLine,
+    host: &mut Host<I>,
+    hint: &str,
+    answered: &SessionAnswer<Sha256>,
+    given: &Given<'_>,
+    known: &mut Known,
+) -> Result<Option<End>, Stop>
+    ensures { host.new.compiled ≡ host.old.compiled }
+{
+    let key = answered.session.objects().asked();
+    let turn = match given.how {
+        How::Fresh => Turn::Give,
+        _ => turn_of(rt, line, hint, key, given, known)?,
+    };
+    match turn {
+        Turn::Give => Ok(Some(finish(rt, line, host, hint, answered, given, known)?)),
+        Turn::Ask => Ok(None),
+        Turn::Pass => Ok(Some(pass(rt.alloc(), "pass: output is no plain file")?)),
+    }
+}
+
 /// Acts on what the session answered, and on what was printed beside the kept outputs that it had for it. None where more is known then.
 fn act_on<P: Print + Files<File = File> + AllocGlobal, I: Read>(
     rt: &P,
@@ -214,25 +269,12 @@ fn act_on<P: Print + Files<File = File> + AllocGlobal, I: Read>(
     let alloc = rt.alloc();
     match &answered.answer {
         Ok(Answer::Outputs { map, how, .. }) => {
-            let key = answered.session.objects().asked();
-            let how = *how;
-            let may_give = how == How::Fresh
-                || (known.may_go_by_record(rt, line, key)?
-                    && known.may_give(rt, line, key, messages)?
-                    && !known.is_to_audit(line, hint, how, key, map, messages)?);
-            if !may_give {
-                return Ok(None);
-            }
-            let outputs = map.as_slice();
-            if how != How::Fresh && !have_plain_places(rt, outputs)? {
-                return Ok(Some(pass(alloc, "pass: output is no plain file")?));
-            }
             let given = Given {
-                how,
-                outputs,
+                how: *how,
+                outputs: map.as_slice(),
                 messages,
             };
-            Ok(Some(finish(rt, line, host, hint, answered, &given, known)?))
+            act_on_outputs(rt, line, host, hint, answered, &given, known)
         }
         Ok(Answer::Pass(reason)) => Ok(Some(End::pass(format!(in alloc; "pass: {reason}")?))),
         Err(fault) => {

@@ -3,12 +3,11 @@
 ghost use Rattle.std.specs.Prelude.{◌≡◌};
 
 use crate::deciding::{End, What};
-use kept_entries::entry::KeptMessages;
 use kept_folder::folder::Kind;
 use kept_folder::making_room::make_room;
 use known_calls::audits::Audit;
 use known_calls::kept::{keep, note_hint, renew};
-use known_calls::known::Known;
+use known_calls::known::{Given, Known};
 use known_calls::outputs::lock_paths;
 use loaded_files::outputs::{print_again, write_dependencies, write_outputs};
 use os_files::listed::Listed;
@@ -24,14 +23,6 @@ use wrapper_host::command_line::CommandLine;
 use wrapper_host::fields::into_text;
 use wrapper_host::host::Host;
 use wrapper_host::stop::Stop;
-
-/// What a call was answered with: outputs, where they come from, and what was printed beside kept ones.
-#[derive(Clone, Copy)]
-pub struct Given<'a> {
-    pub how: How,
-    pub outputs: &'a [Output],
-    pub messages: Option<&'a KeptMessages>,
-}
 
 /// The paths of outputs.
 fn paths_of(alloc: Global, outputs: &[Output]) -> Result<Listed<OsBytes>, Stop> {
@@ -174,7 +165,7 @@ pub fn finish<P: Print + Files<File = File> + AllocGlobal, I: Read>(
     let list = list_to_watch(rt, line, host, answered, key, known);
     let is_kept = given.how == How::Fresh && matches!(audit, Audit::None);
     if is_kept {
-        keep(rt, line, key, given.outputs, known.messages(rt, line)?)?;
+        keep(rt, line, key, given.outputs, known.messages(rt)?)?;
     } else if given.how != How::Fresh {
         give_kept(rt, line, key, given, known)?;
     }

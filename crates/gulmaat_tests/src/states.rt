@@ -7,7 +7,7 @@ use known_calls::outputs::{lock_paths, made_since, states_of};
 use loaded_files::mounts::devices_in;
 use loaded_files::tokens::Tokens;
 use os_files::os_bytes::OsBytes;
-use searched_folders::found::State;
+use disk_files::found::State;
 use std::alloc::Global;
 use std::fs;
 use std::fs::{File, OpenOptions};

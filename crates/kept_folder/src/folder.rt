@@ -1,7 +1,8 @@
 //! Whole files in the folder, by kind and name.
 
 use crate::error::FolderError;
-use settings::rights::{give_rights, make_folders};
+use disk_files::whole::read_whole;
+use disk_files::rights::{give_rights, make_folders};
 use std::alloc::Global;
 use std::cell::Cell;
 use std::fs;
@@ -138,7 +139,7 @@ impl KeptFolder {
         name: &str,
     ) -> Result<Vec<u8>, FolderError> {
         let place = self.place(rt.alloc(), kind, name)?;
-        Ok(fs::read(rt, place.file.as_str())?)
+        Ok(read_whole(rt, place.file.as_str())?)
     }
 
     /// Takes a file away, where it is there and anything is to be put here.

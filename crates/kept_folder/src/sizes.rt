@@ -7,7 +7,8 @@ ghost use Rattle.kept_folder.specs.Together.{saturated};
 use crate::error::FolderError;
 use crate::listing::KeptFile;
 use byte_formats::fields::{put_number, read_number};
-use settings::rights::give_rights;
+use disk_files::whole::read_whole;
+use disk_files::rights::give_rights;
 use std::alloc::Global;
 use std::fs;
 use std::fs::OpenOptions;
@@ -75,7 +76,7 @@ impl Sizes {
     /// Those that were noted in the folder of this path.
     pub fn read<R: Files + AllocGlobal>(rt: &R, path: &str) -> Result<Sizes, FolderError> {
         let place = place_of(rt.alloc(), path)?;
-        let bytes = fs::read(rt, place.as_str())?;
+        let bytes = read_whole(rt, place.as_str())?;
         let numbers = numbers_of(rt.alloc(), bytes.as_slice())?;
         Ok(Sizes { numbers })
     }

@@ -1,17 +1,15 @@
 //! Hits that are compiled too, so that what is kept is compared with what the compiler makes: some of them, or all, as a user sets it.
 
-use crate::known::Known;
-use kept_entries::entry::KeptMessages;
+use crate::known::{Given, Known};
+use crate::logging::log;
 use kept_folder::folder::Kind;
-use os_files::listed::Listed;
 use os_files::os_bytes::OsBytes;
 use std::alloc::{AllocError, Global};
-use std::fs::{File, OpenOptions};
-use std::io::Write;
+use std::fs::File;
 use std::rt::Files;
 use wrap::{How, Output, StoreKey};
 use wrapper_host::command_line::CommandLine;
-use wrapper_host::fields::into_text;
+use wrapper_host::fields::text_in;
 use wrapper_host::stop::Stop;
 
 /// How many letters of a call's digest say whether it is compared.
@@ -33,7 +31,7 @@ pub enum Audit {
 pub struct Audited {
     pub how: How,
     digest: OsBytes,
-    outputs: Listed<Output>,
+    outputs: Vec<Output>,
     printed: OsBytes,
     errors: OsBytes,
     dependencies: Option<OsBytes>,
@@ -60,6 +58,15 @@ fn difference(one: &[u8], other: &[u8]) -> Option<usize> {
     Some(alike.count())
 }
 
+/// Copies of outputs.
+fn copies_of(alloc: Global, outputs: &[Output]) -> Result<Vec<Output>, AllocError> {
+    let mut copies = Vec::with_capacity(alloc, outputs.len())?;
+    for output in outputs {
+        copies.push(output.clone()?)?;
+    }
+    Ok(copies)
+}
+
 /// Where those that are kept of the outputs differ from those that the compiler made.
 fn difference_of_outputs(
     alloc: Global,
@@ -70,10 +77,10 @@ fn difference_of_outputs(
         return Ok(Some(format!(in alloc; "outputs")?));
     }
     for (kept, made) in kept.iter().zip(made.iter()) {
-        let name = kept.name.as_bytes() == made.name.as_bytes();
-        let found = difference(kept.contents.as_bytes(), made.contents.as_bytes());
-        let at = if name { found } else { Some(0) };
-        if let Some(at) = at {
+        if kept.name.as_bytes() != made.name.as_bytes() {
+            return Ok(Some(format!(in alloc; "outputs")?));
+        }
+        if let Some(at) = difference(kept.contents.as_bytes(), made.contents.as_bytes()) {
             return Ok(Some(format!(in alloc; "object at byte {at}")?));
         }
     }
@@ -101,28 +108,19 @@ fn bytes_of(contents: &Option<OsBytes>) -> &[u8] {
     }
 }
 
-/// Puts a line into the log of what differed: when, under which digest, what, and the command.
-fn log<R: Files<File = File> + AllocGlobal>(
+/// Puts a line into the log of what differed: under which digest, what, and the command.
+fn log_difference<R: Files<File = File> + AllocGlobal>(
     rt: &R,
     line: &CommandLine,
     digest: &OsBytes,
     what: &str,
 ) -> Result<(), Stop> {
     let alloc = rt.alloc();
-    let second = line.second();
-    let digest = into_text(digest.clone()?)?;
-    let executable = line.executable.as_str();
-    let mut text = format!(in alloc; "{second} {digest} {what}: {executable}")?;
-    for word in line.words.as_slice() {
-        write!(text, " {word}")?;
-    }
-    text.push('\n')?;
+    let digest = text_in(digest)?;
     let folder = line.folder.path.as_str();
     let place = format!(in alloc; "{folder}/audit.log")?;
-    let mut options = OpenOptions::new();
-    options.append(true).create(true);
-    let mut file = options.open(rt, place.as_str())?;
-    Ok(file.write_all(text.as_bytes())?)
+    let said = format!(in alloc; "{digest} {what}")?;
+    log(rt, line, place.as_str(), said.as_str(), "")
 }
 
 impl Audited {
@@ -168,14 +166,13 @@ impl Known {
     /// Whether a hit is compiled too. It is a miss from now on then.
     pub fn is_to_audit(
         &mut self,
+        alloc: Global,
         line: &CommandLine,
         hint: &str,
-        how: How,
         key: Option<&StoreKey>,
-        outputs: &Listed<Output>,
-        messages: Option<&KeptMessages>,
+        given: &Given<'_>,
     ) -> Result<bool, Stop> {
-        let (Some(key), Some(messages)) = (key, messages) else {
+        let (Some(key), Some(messages)) = (key, given.messages) else {
             return Ok(false);
         };
         if let Some(audited) = &self.audited {
@@ -187,9 +184,9 @@ impl Known {
         }
         self.looked_up = Some(key.digest.clone()?);
         self.audited = Some(Audited {
-            how,
+            how: given.how,
             digest: key.digest.clone()?,
-            outputs: outputs.clone()?,
+            outputs: copies_of(alloc, given.outputs)?,
             printed: messages.printed.clone()?,
             errors: messages.errors.clone()?,
             dependencies: match &messages.dependencies {
@@ -208,10 +205,10 @@ impl Known {
         what: String,
     ) -> Result<Audit, Stop> {
         if let Some(audited) = &self.audited {
-            let name = into_text(audited.digest.clone()?)?;
-            let _ = line.folder.remove(rt, Kind::Entries, name.as_str());
+            let name = text_in(&audited.digest)?;
+            let _ = line.folder.remove(rt, Kind::Entries, name);
             let _ = line.folder.remove(rt, Kind::Records, self.name_to_note());
-            let _ = log(rt, line, &audited.digest, what.as_str());
+            let _ = log_difference(rt, line, &audited.digest, what.as_str());
         }
         Ok(Audit::Differs(what))
     }
@@ -219,24 +216,23 @@ impl Known {
     /// Compares what the compiler made with the hit in whose place it ran, where there was one. Where a source was changed meanwhile nothing
     /// is compared.
     pub fn compare<R: Files<File = File> + AllocGlobal>(
-        &mut self,
+        &self,
         rt: &R,
         line: &CommandLine,
         key: &StoreKey,
         outputs: &[Output],
     ) -> Result<Audit, Stop> {
-        let alloc = rt.alloc();
-        if self.audited.is_none() || self.check_sources(rt).is_err() {
-            return Ok(Audit::None);
-        }
         let Some(audited) = &self.audited else {
             return Ok(Audit::None);
         };
+        if self.check_sources(rt).is_err() {
+            return Ok(Audit::None);
+        }
         if audited.digest != key.digest {
-            let what = String::from_str(alloc, "record")?;
+            let what = String::from_str(rt.alloc(), "record")?;
             return self.differs(rt, line, what);
         }
-        match audited.difference(alloc, outputs, self)? {
+        match audited.difference(rt.alloc(), outputs, self)? {
             Some(what) => self.differs(rt, line, what),
             None => Ok(Audit::Alike),
         }

@@ -7,6 +7,7 @@ use crate::kept::Hint;
 use crate::outputs::{lock_paths, made_since, states_of};
 use crate::records::KnownRecord;
 use ckeys::hasher::needs_c_preprocessing;
+use disk_files::whole::read_whole;
 use kept_entries::entry::KeptMessages;
 use kept_pairs::entries::Kept;
 use known_options::dependencies::Dependencies;
@@ -20,25 +21,33 @@ use os_files::listed::Listed;
 use os_files::os_bytes::OsBytes;
 use replay::replay_tool::{RecordedOutputs, RecordedText, ReplayTool, Wanted};
 use replay::snapshot_files::SnapshotFiles;
-use searched_folders::found::State;
 use searched_folders::unwatched::Unwatched;
 use settings::key::Key;
-use std::alloc::{AllocError, Global};
-use std::fs;
+use std::alloc::Global;
 use std::fs::File;
 use std::io::Read;
 use std::rt::Files;
 use unkept_texts::directives::takes_files;
 use unkept_texts::times::tells_time;
-use wrap::{CCompilerKind, Compiled, Files as CallFiles, Printed, Shape, Step, StoreKey, Zone};
+use wrap::{
+    CCompilerKind, Compiled, Files as CallFiles, How, Output, Printed, Shape, Step, StoreKey, Zone,
+};
 use wrapper_host::command_line::CommandLine;
-use wrapper_host::fields::into_text;
+use wrapper_host::fields::text_in;
 use wrapper_host::host::{Ended, Host};
 use wrapper_host::stop::Stop;
 use written_lines::asked::Asked;
 use written_lines::lines::{digest_asked, digest_of_contents};
 use written_lines::named::NamedFiles;
 use written_lines::sources::Sources;
+
+/// What a call was answered with: outputs, where they come from, and what was printed beside kept ones.
+#[derive(Clone, Copy)]
+pub struct Given<'a> {
+    pub how: How,
+    pub outputs: &'a [Output],
+    pub messages: Option<&'a KeptMessages>,
+}
 
 /// Files and answers that are known so far.
 #[derive(Drop)]
@@ -70,9 +79,8 @@ pub struct Known {
     pub audited: Option<Audited>,
     /// The file that was loaded last.
     loaded: Option<OsBytes>,
-    /// The files that the text names, once it was printed, and their states then.
+    /// The files that the text names, once it was printed, or an input that is compiled as it stands.
     pub(crate) named: NamedFiles,
-    states: Vec<Option<State>>,
     /// The files of the text, as the compiler lists them for a dependency file; nothing where none is asked for.
     list: OsBytes,
     /// The dependency file that the compile wrote.
@@ -111,7 +119,6 @@ impl Known {
             audited: None,
             loaded: None,
             named: NamedFiles::new(alloc),
-            states: Vec::new(alloc),
             list: OsBytes::empty(alloc),
             written: None,
             preprocessor: OsBytes::empty(alloc),
@@ -158,37 +165,39 @@ impl Known {
     ) -> Result<(), Stop> {
         if !self.preprocessor.as_bytes().is_empty() {
             self.turn_off(Unwatched::Messages);
-        } else if !load_named(rt, line, &self.named, &mut self.files, &mut self.tokens)? {
+            return Ok(());
+        }
+        self.named.read(rt);
+        if !load_named(rt, line, &self.named, &mut self.files, &mut self.tokens)? {
             self.turn_off(Unwatched::Changed);
         }
         Ok(())
     }
 
-    /// Takes the state of an input that is compiled as it stands. One that takes in files is refused.
+    /// Takes an input that is compiled as it stands, as it was loaded. One that takes in files is refused.
     fn take_input<R: Files + AllocGlobal>(&mut self, rt: &R, key: &StoreKey) -> Result<(), Stop> {
         let (false, Some(path)) = (is_preprocessed(key), &self.loaded) else {
             return Ok(());
         };
-        if let Ok(Some(text)) = self.files.read(rt.alloc(), path) {
-            if takes_files(text.as_bytes()) {
-                return Err(Stop::TakesFiles);
-            }
+        let Ok(Some(contents)) = self.files.read(rt.alloc(), path) else {
+            return Err(Stop::Changed);
+        };
+        if takes_files(contents.as_bytes()) {
+            return Err(Stop::TakesFiles);
         }
-        self.named.paths.push(path.clone()?)?;
-        self.states = states_of(rt, self.named.paths.as_slice())?;
+        self.named = NamedFiles::of_input(rt, path.clone()?, contents)?;
         Ok(())
     }
 
     /// Whether an input that is compiled as it stands has the contents that were loaded of it.
-    fn has_loaded_input<R: Files + AllocGlobal>(&mut self, rt: &R) -> Result<bool, Stop> {
-        let (None, Some(path)) = (&self.tool.text, &self.loaded) else {
-            return Ok(true);
+    fn has_loaded_input<R: Files + AllocGlobal>(&self, rt: &R) -> bool {
+        let (None, Some(input)) = (&self.tool.text, self.named.files.first()) else {
+            return true;
         };
-        let place = into_text(path.clone()?)?;
-        let Ok(contents) = self.files.read(rt.alloc(), path) else {
-            return Ok(false);
-        };
-        Ok(regular(rt, place.as_str()) == contents)
+        match str::from_utf8(input.path.as_bytes()) {
+            Ok(place) => regular(rt, place).as_ref() == input.contents(),
+            Err(_) => false,
+        }
     }
 
     /// The path of the dependency file, where one is asked for.
@@ -212,22 +221,20 @@ impl Known {
 
     /// Whether messages may be printed again: a line that they quote is as it was. By a record all files are as they were.
     fn may_print_again<R: Files + AllocGlobal>(
-        &self,
+        &mut self,
         rt: &R,
-        line: &CommandLine,
         messages: &KeptMessages,
     ) -> Result<bool, Stop> {
         if messages.sources.is_none() || self.tool.text.is_none() {
             return Ok(true);
         }
-        Ok(self.digest_of_sources(rt, line)? == messages.sources)
+        Ok(self.digest_of_sources(rt)? == messages.sources)
     }
 
     /// Whether outputs may be given that were kept beside these. Where they may not, they are a miss from now on.
     pub fn may_give<R: Files + AllocGlobal>(
         &mut self,
         rt: &R,
-        line: &CommandLine,
         key: Option<&StoreKey>,
         messages: Option<&KeptMessages>,
     ) -> Result<bool, Stop> {
@@ -235,7 +242,7 @@ impl Known {
             return Ok(true);
         };
         let is_whole = messages.dependencies.is_some() || !self.wants_dependencies(key);
-        if is_whole && self.may_print_again(rt, line, messages)? {
+        if is_whole && self.may_print_again(rt, messages)? {
             return Ok(true);
         }
         if let Some(key) = key {
@@ -261,36 +268,48 @@ impl Known {
         line: &CommandLine,
     ) -> Result<Vec<u8>, Stop> {
         let alloc = rt.alloc();
-        let mut text = fs::read(rt, line.text.as_str())?;
+        let mut text = read_whole(rt, line.text.as_str())?;
         refuse_text(line, text.as_slice())?;
         if text.is_empty() {
             return Ok(text);
         }
-        self.named = NamedFiles::of(alloc, line.dir.as_bytes(), text.as_slice())?;
-        self.states = states_of(rt, self.named.paths.as_slice())?;
-        if has_precompiled(rt, &self.named)? {
+        self.named = NamedFiles::of(rt, line.dir.as_bytes(), text.as_slice())?;
+        if has_precompiled(rt, line, &self.named)? {
             return Err(Stop::Precompiled);
         }
-        let lines = lines_of(rt, line, self.kind, text.as_slice())?;
+        let lines = self.lines_of(rt, line, text.as_slice())?;
         push_digest(&mut text, "lines as they were written", lines.as_bytes())?;
         if self.dependency_file().is_some() {
-            self.list = OsBytes::from_vec(fs::read(rt, line.list.as_str())?);
+            self.list = OsBytes::from_vec(read_whole(rt, line.list.as_str())?);
             let digest = digest_of_list(alloc, self.list.as_bytes())?;
             push_digest(&mut text, "files for Make", digest.as_bytes())?;
         }
         Ok(text)
     }
 
-    /// The digest of all files that the text names; nothing where there is no text, or a line may be of another file than a marker says.
-    fn digest_of_sources<R: Files + AllocGlobal>(
-        &self,
+    /// The digest of what a text doesn't say of its sources, as far as what is made of it hangs on that; an empty one where nothing does.
+    fn lines_of<R: Files + AllocGlobal>(
+        &mut self,
         rt: &R,
         line: &CommandLine,
+        text: &[u8],
+    ) -> Result<OsBytes, Stop> {
+        let alloc = rt.alloc();
+        let asked = Asked::by(self.kind, line.words.as_slice(), text);
+        if asked == Asked::Nothing || !line.settings.value_of(Key::Sloppiness).is_empty() {
+            return Ok(OsBytes::empty(alloc));
+        }
+        self.named.read(rt);
+        digest_asked(alloc, asked, text, Sources::of(alloc, &self.named)?)
+    }
+
+    /// The digest of all files that the text names; nothing where a line may be of another file than a marker says.
+    fn digest_of_sources<R: Files + AllocGlobal>(
+        &mut self,
+        rt: &R,
     ) -> Result<Option<OsBytes>, Stop> {
-        let Some(recorded) = &self.tool.text else {
-            return Ok(None);
-        };
-        let sources = Sources::of(rt, line, recorded.printed.text.as_bytes())?;
+        self.named.read(rt);
+        let sources = Sources::of(rt.alloc(), &self.named)?;
         if sources.are_renumbered() {
             return Ok(None);
         }
@@ -355,8 +374,7 @@ impl Known {
         let Some(path) = self.dependency_file() else {
             return Ok(());
         };
-        let path = into_text(path.clone()?)?;
-        let Some(written) = regular(rt, path.as_str()) else {
+        let Some(written) = regular(rt, text_in(path)?) else {
             return Err(Stop::Changed);
         };
         if !names_files_of(rt.alloc(), written.as_bytes(), self.list.as_bytes())? {
@@ -424,17 +442,9 @@ impl Known {
         Ok(true)
     }
 
-    /// Whether the files that the text names are in the states that they had when it was printed.
-    pub(crate) fn are_as_printed<R: Files + AllocGlobal>(
-        &self,
-        rt: &R,
-    ) -> Result<bool, AllocError> {
-        Ok(states_of(rt, self.named.paths.as_slice())? == self.states)
-    }
-
     /// Refuses what was made where a file that the text names, or an input that is compiled as it stands, was changed meanwhile.
-    pub(crate) fn check_sources<R: Files + AllocGlobal>(&mut self, rt: &R) -> Result<(), Stop> {
-        match self.are_as_printed(rt)? && self.has_loaded_input(rt)? {
+    pub(crate) fn check_sources<R: Files + AllocGlobal>(&self, rt: &R) -> Result<(), Stop> {
+        match self.named.are_unchanged(rt) && self.has_loaded_input(rt) {
             true => Ok(()),
             false => Err(Stop::Changed),
         }
@@ -447,15 +457,13 @@ impl Known {
 
     /// Copies of what was printed and written beside the outputs that the compiler made. Messages that can't be told to be as they would be
     /// in another call are an error.
-    pub fn messages<R: Files + AllocGlobal>(
-        &mut self,
-        rt: &R,
-        line: &CommandLine,
-    ) -> Result<KeptMessages, Stop> {
+    pub fn messages<R: Files + AllocGlobal>(&mut self, rt: &R) -> Result<KeptMessages, Stop> {
         self.check_sources(rt)?;
         let mut sources = None;
         if !self.was_silent() {
-            sources = self.digest_of_sources(rt, line)?;
+            if self.tool.text.is_some() {
+                sources = self.digest_of_sources(rt)?;
+            }
             if sources.is_none() {
                 return Err(Stop::Quotes);
             }
@@ -495,22 +503,6 @@ impl Known {
             (_, _) => Ok(false),
         }
     }
-}
-
-/// The digest of what a text doesn't say of its sources, as far as what is made of it hangs on that; an empty one where nothing does.
-fn lines_of<R: Files + AllocGlobal>(
-    rt: &R,
-    line: &CommandLine,
-    kind: CCompilerKind,
-    text: &[u8],
-) -> Result<OsBytes, Stop> {
-    let alloc = rt.alloc();
-    let asked = Asked::by(kind, line.words.as_slice(), text);
-    if asked == Asked::Nothing || !line.settings.value_of(Key::Sloppiness).is_empty() {
-        return Ok(OsBytes::empty(alloc));
-    }
-    let sources = Sources::of(rt, line, text)?;
-    digest_asked(alloc, asked, text, &sources)
 }
 
 /// Puts a digest behind a text, as lines of a file that is none. An empty one isn't put there.
@@ -553,5 +545,5 @@ fn printed_at<R: Files + AllocGlobal>(rt: &R, ended: &Ended, place: &str) -> Res
     if ended.silent {
         return Ok(OsBytes::empty(rt.alloc()));
     }
-    Ok(OsBytes::from_vec(fs::read(rt, place)?))
+    Ok(OsBytes::from_vec(read_whole(rt, place)?))
 }

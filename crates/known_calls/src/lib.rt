@@ -4,5 +4,6 @@
 pub mod audits;
 pub mod kept;
 pub mod known;
+pub mod logging;
 pub mod outputs;
 mod records;

@@ -9,7 +9,6 @@ use kept_folder::error::FolderError;
 use kept_pairs::record_files::{put_record, record_under};
 use kept_pairs::records::FoundRecord;
 use loaded_files::loading::{load_all, settled_before};
-use loaded_files::outputs::regular;
 use os_files::os_bytes::OsBytes;
 use replay::watched_records::pair_again;
 use searched_folders::asking::said_of;
@@ -190,22 +189,22 @@ impl Known {
         Ok(false)
     }
 
-    /// The files that the text names, of which the first is the input.
-    fn sources<R: Files + AllocGlobal>(&self, rt: &R) -> Result<Vec<Source>, Unwatched> {
-        let mut sources = Vec::new(rt.alloc());
+    /// The regular files that the text names, of which the first is the input.
+    fn sources<R: Files + AllocGlobal>(&self, rt: &R) -> Result<Vec<Source<'_>>, Unwatched> {
         if !self.named.are_all {
             return Err(Unwatched::Computed);
         }
-        for path in self.named.paths.as_slice() {
-            let Ok(place) = str::from_utf8(path.as_bytes()) else {
+        let mut sources = Vec::new(rt.alloc());
+        for file in self.named.files.iter() {
+            let Ok(path) = str::from_utf8(file.path.as_bytes()) else {
                 return Err(Unwatched::Path);
             };
-            if let Some(contents) = regular(rt, place) {
-                let path = path.clone()?;
+            if let Some(contents) = file.contents() {
+                let contents = contents.as_bytes();
                 sources.push(Source { path, contents })?;
             }
         }
-        match self.are_as_printed(rt)? {
+        match self.named.are_unchanged(rt) {
             true => Ok(sources),
             false => Err(Unwatched::Changed),
         }
@@ -228,6 +227,7 @@ impl Known {
             return Err(Unwatched::List);
         };
         let before = settled_before(line.moment);
+        self.named.read(rt);
         let sources = self.sources(rt)?;
         let said = said_of(rt, line, host, language, before)?;
         list_of(rt, line, sources.as_slice(), said.as_slice(), before)

@@ -58,7 +58,7 @@ const OF_OBJECTS: [&str; 4] = [
 ];
 
 /// The name of a file, behind the folders of its path.
-fn file_name(path: &str) -> &str {
+pub(crate) fn file_name(path: &str) -> &str {
     match path.rsplit_once('/') {
         Some((_, name)) => name,
         None => path,

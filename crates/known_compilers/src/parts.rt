@@ -2,15 +2,15 @@
 
 ghost use Rattle.std.specs.Prelude.{◌≡◌};
 
+use crate::clang_files::{add_clang_files, names_configuration};
 use byte_formats::fields::{put_framed, put_number};
 use cmdlines_tables::compiler::CCompilerKind;
+use disk_files::whole::read_whole;
 use kept_folder::file_digests::state_of;
 use kept_folder::folder::Kind;
-use memchr::memmem;
 use os_files::listed::Listed;
 use os_files::os_bytes::OsBytes;
 use std::alloc::Global;
-use std::collections::BTreeSet;
 use std::fs;
 use std::io::Read;
 use std::rt::Files;
@@ -63,7 +63,7 @@ fn ask<P: Print + Files + AllocGlobal, I: Read>(
     if ended.status != 0 || !ended.silent {
         return Err(Stop::Parts);
     }
-    Ok(fs::read(rt, line.text.as_str())?)
+    Ok(read_whole(rt, line.text.as_str())?)
 }
 
 /// What a driver says of a program that it runs: a path, or a name that is searched as commands are.
@@ -173,54 +173,26 @@ fn ask_color<P: Print + Files + AllocGlobal, I: Read>(
     Ok(OsBytes::from_slice(rt.alloc(), word.as_bytes())?)
 }
 
-/// Whether a file of that name is one of Clang's own libraries.
-fn is_library(name: &[u8]) -> bool {
-    (name.starts_with(b"libLLVM") || name.starts_with(b"libclang-cpp"))
-        && memmem::find(name, b".so").is_some()
-}
-
-/// Adds Clang's libraries in that folder, behind all links.
-fn add_libraries<R: Files + AllocGlobal>(
-    rt: &R,
-    folder: &str,
-    libraries: &mut BTreeSet<String>,
-) -> Result<(), Stop> {
-    let Ok(entries) = fs::read_dir(&rt, folder) else {
-        return Ok(());
-    };
-    for entry in entries {
-        let Ok(entry) = entry else {
-            continue;
-        };
-        if !is_library(entry.file_name().as_bytes()) {
-            continue;
-        }
-        if let Ok(file) = fs::canonicalize(rt, entry.path()) {
-            libraries.insert(String::from_str(rt.alloc(), file.as_str())?)?;
-        }
-    }
-    Ok(())
-}
-
-/// Clang's libraries beside the folder that it lies in.
-fn libraries_of<R: Files + AllocGlobal>(
-    rt: &R,
+/// Refuses a driver that says of itself that it reads a file of words.
+fn refuse_configuration<P: Print + Files + AllocGlobal, I: Read>(
+    rt: &P,
     line: &CommandLine,
-) -> Result<BTreeSet<String>, Stop> {
+    host: &mut Host<I>,
+) -> Result<(), Stop>
+    requires { host.old.compiled ≡ 0 }
+    ensures { host.new.compiled ≡ 0 }
+{
     let alloc = rt.alloc();
-    let mut libraries = BTreeSet::new(alloc);
-    let file = fs::canonicalize(rt, line.executable.as_str())?;
-    let Some((folder, _)) = file.as_str().rsplit_once('/') else {
-        return Ok(libraries);
-    };
-    let Some((above, _)) = folder.rsplit_once('/') else {
-        return Ok(libraries);
-    };
-    for name in ["lib", "lib64"] {
-        let folder = format!(in alloc; "{above}/{name}")?;
-        add_libraries(rt, folder.as_str(), &mut libraries)?;
+    let mut words = Listed::new(alloc);
+    words.push(OsBytes::from_slice(alloc, b"-v")?)?;
+    host.preprocess(rt, alloc, words.as_slice())?;
+    let said = read_whole(rt, line.errors.as_str())?;
+    // The host prints what it finds there.
+    fs::write(rt, line.errors.as_str(), b"")?;
+    match names_configuration(said.as_slice()) {
+        true => Err(Stop::Configuration),
+        false => Ok(()),
     }
-    Ok(libraries)
 }
 
 /// The word by which the messages of a driver of that kind are in colour, and behind it the names of what it runs and reads.
@@ -236,6 +208,7 @@ fn ask_names<P: Print + Files + AllocGlobal, I: Read>(
     let mut names = Listed::new(rt.alloc());
     names.push(ask_color(rt, host, kind)?)?;
     if kind == CCompilerKind::Clang {
+        refuse_configuration(rt, line, host)?;
         names.push(ask_name(rt, line, host, "as")?)?;
         ask_lists(rt, line, host, &mut names)?;
         return Ok(names);
@@ -291,8 +264,9 @@ fn note_said<R: Files + AllocGlobal>(
 
 /// Whether a driver is a script, of which no file tells what it runs.
 fn is_script<R: Files + AllocGlobal>(rt: &R, path: &str) -> bool {
-    match fs::read(rt, path) {
-        Ok(contents) => contents.starts_with(b"#!"),
+    let mut front = [0; 2];
+    match fs::open(rt, path) {
+        Ok(mut file) => file.read_exact(&mut front).is_ok() && front == *b"#!",
         Err(_) => false,
     }
 }
@@ -397,10 +371,7 @@ pub fn driver_of<P: Print + Files + AllocGlobal, I: Read>(
         }
     }
     if kind == CCompilerKind::Clang {
-        // Looked for in each call: a link to a library may be turned to another file.
-        for library in libraries_of(rt, line)? {
-            files.push(library)?;
-        }
+        add_clang_files(rt, line, &mut files)?;
     }
     Ok(Driver { files, takes_color })
 }

@@ -1,8 +1,8 @@
 //! What the words of a command say of its dependency file. The session isn't told of that: what its contents hang on is bound to the key,
 //! and what the compile wrote is kept beside its messages.
 
+use crate::placed::PlacedWords;
 use crate::text_words::dependency_file;
-use crate::words::takes_next;
 use os_files::listed::Listed;
 use os_files::os_bytes::OsBytes;
 use std::alloc::{AllocError, Global};
@@ -166,15 +166,11 @@ pub fn dependencies_of(
     words: &[OsBytes],
 ) -> Result<Option<Dependencies>, AllocError> {
     let mut found = Said::new(alloc);
-    let mut before: &[u8] = &[];
-    for word in words {
-        let bytes = word.as_bytes();
-        if takes_next(before) {
-            found.take_value(alloc, before, bytes)?;
-            before = &[];
-        } else {
-            found.take(alloc, bytes)?;
-            before = bytes;
+    for placed in PlacedWords::of(words) {
+        let word = placed.word.as_bytes();
+        match placed.option {
+            Some(option) => found.take_value(alloc, option.as_bytes(), word)?,
+            None => found.take(alloc, word)?,
         }
     }
     if found.is_unclear() {

@@ -3,6 +3,7 @@
 #![tactic(auto)]
 
 pub mod dependencies;
+pub mod placed;
 pub mod tables;
 pub mod text_words;
 pub mod variables;

@@ -1,6 +1,6 @@
 //! The words by which a compiler prints the text of a command: the caller's own, but for the object, with `-E` behind them.
 
-use crate::words::takes_next;
+use crate::placed::{Placed, PlacedWords};
 use os_files::listed::Listed;
 use os_files::os_bytes::OsBytes;
 use std::alloc::{AllocError, Global};
@@ -17,12 +17,13 @@ struct Dependencies<'a> {
 }
 
 impl<'a> Dependencies<'a> {
-    /// Takes what one word says, with the one behind it.
-    fn take(&mut self, word: &'a [u8], next: &'a [u8]) {
-        if matches!(word, b"-o") {
-            self.object = Some(next);
-        } else if let Some(object) = word.strip_prefix(b"-o") {
+    /// Takes what one word says.
+    fn take(&mut self, placed: Placed<'a>) {
+        let word = placed.word.as_bytes();
+        if let Some(object) = object_in(placed) {
             self.object = Some(object);
+        } else if placed.option.is_some() {
+            // It says no more than its option.
         } else if matches!(word, b"-MD" | b"-MMD") {
             self.is_asked = true;
         } else if word.starts_with(b"-MF") {
@@ -30,6 +31,25 @@ impl<'a> Dependencies<'a> {
         } else if word.starts_with(b"-MT") || word.starts_with(b"-MQ") {
             self.has_target = true;
         }
+    }
+}
+
+/// The object that a word names, by the option before it or in itself.
+fn object_in(placed: Placed<'_>) -> Option<&[u8]> {
+    let word = placed.word.as_bytes();
+    match placed.option {
+        Some(option) if option.as_bytes() == b"-o".as_slice() => Some(word),
+        Some(_) => None,
+        None if placed.takes_value() => None,
+        None => word.strip_prefix(b"-o"),
+    }
+}
+
+/// Whether a word is one of those that name the object.
+fn names_object(placed: Placed<'_>) -> bool {
+    match placed.option {
+        Some(option) => option.as_bytes() == b"-o".as_slice(),
+        None => placed.word.as_bytes().starts_with(b"-o"),
     }
 }
 
@@ -41,19 +61,8 @@ fn dependencies_in(words: &[OsBytes]) -> Dependencies<'_> {
         is_named: false,
         has_target: false,
     };
-    let mut is_value = false;
-    for (at, word) in words.iter().enumerate() {
-        let bytes = word.as_bytes();
-        if is_value {
-            is_value = false;
-            continue;
-        }
-        is_value = takes_next(bytes);
-        let next = match words.get(at.saturating_add(1)) {
-            Some(next) => next.as_bytes(),
-            None => &[],
-        };
-        found.take(bytes, next);
+    for placed in PlacedWords::of(words) {
+        found.take(placed);
     }
     found
 }
@@ -69,19 +78,10 @@ fn push_without_object(
     words: &[OsBytes],
     pushed: &mut Listed<OsBytes>,
 ) -> Result<(), AllocError> {
-    let mut before: &[u8] = &[];
-    for word in words {
-        let bytes = word.as_bytes();
-        let is_value = takes_next(before);
-        let names_object = if is_value {
-            matches!(before, b"-o")
-        } else {
-            bytes.starts_with(b"-o")
-        };
-        if !names_object {
-            push(alloc, pushed, bytes)?;
+    for placed in PlacedWords::of(words) {
+        if !names_object(placed) {
+            push(alloc, pushed, placed.word.as_bytes())?;
         }
-        before = if is_value { &[] } else { bytes };
     }
     Ok(())
 }

@@ -1,48 +1,17 @@
 //! Which words are known: with these alone the object hangs on the text, the words and the compiler, and nothing else is written.
 
 use crate::dependencies::for_preprocessor;
+use crate::placed::{Placed, PlacedWords, is_among, takes_any, takes_next};
 use crate::tables::{ASSEMBLER, CLANG, LLVM, VALUED, WHOLE};
 use memchr::{memchr, memmem};
 use os_files::os_bytes::OsBytes;
 use std::alloc::{AllocError, Global};
-
-/// Words that take the next one as their value, whatever that is.
-const TAKE_NEXT: [&str; 25] = [
-    "-o",
-    "-x",
-    "-D",
-    "-U",
-    "-I",
-    "-L",
-    "-l",
-    "-u",
-    "-z",
-    "-include",
-    "-imacros",
-    "-idirafter",
-    "-iprefix",
-    "-iwithprefix",
-    "-iwithprefixbefore",
-    "-isystem",
-    "-iquote",
-    "-isysroot",
-    "-MF",
-    "-MT",
-    "-MQ",
-    "-arch",
-    "-target",
-    "-Xlinker",
-    "--sysroot",
-];
 
 /// What words begin with that only look as if they began as one of `FRONTS`.
 const OTHERS: [&str; 4] = ["-obj", "-lang", "-include-pch", "-fbuiltin-module-map"];
 
 /// Words that name a file which is written, whether it stands behind them or in the next word.
 const NAME_OUTPUT: [&str; 2] = ["-o", "-MF"];
-
-/// Words that take the next one, which must be known too.
-const TAKE_KNOWN: [&str; 4] = ["-Xassembler", "-Xclang", "-mllvm", "--param"];
 
 /// What words begin with that may go on in any way.
 const FRONTS: [&str; 28] = [
@@ -75,11 +44,6 @@ const FRONTS: [&str; 28] = [
     "-ftemplate-depth-",
     "-stdlib++-isystem",
 ];
-
-/// Whether a word is one of these.
-fn is_among(words: &[&str], word: &[u8]) -> bool {
-    words.iter().any(|it| word == it.as_bytes())
-}
 
 /// Whether a word begins with one of these.
 fn begins_with(fronts: &[&str], word: &[u8]) -> bool {
@@ -233,8 +197,11 @@ fn is_known_option(alloc: Global, word: &[u8]) -> Result<bool, AllocError> {
     Ok(is_listed(alloc, WHOLE, word)? || is_valued(alloc, VALUED, word)?)
 }
 
-/// Whether the value of one of the options `TAKE_KNOWN` is known.
+/// Whether the value of an option is known.
 fn is_known_value(alloc: Global, option: &[u8], value: &[u8]) -> Result<bool, AllocError> {
+    if takes_any(option) {
+        return Ok(!is_among(&NAME_OUTPUT, option) || is_file(value));
+    }
     match option {
         b"-Xassembler" => is_listed(alloc, ASSEMBLER, value),
         b"-Xclang" => is_listed(alloc, CLANG, value),
@@ -243,18 +210,11 @@ fn is_known_value(alloc: Global, option: &[u8], value: &[u8]) -> Result<bool, Al
     }
 }
 
-/// Whether the word takes the next one as its value.
-pub fn takes_next(word: &[u8]) -> bool {
-    is_among(&TAKE_NEXT, word) || is_among(&TAKE_KNOWN, word)
-}
-
-/// Whether a word is known behind that one, of which it is the value where that takes one.
-fn is_known(alloc: Global, before: &[u8], word: &[u8]) -> Result<bool, AllocError> {
-    if is_among(&TAKE_NEXT, before) {
-        return Ok(!is_among(&NAME_OUTPUT, before) || is_file(word));
-    }
-    if is_among(&TAKE_KNOWN, before) {
-        return is_known_value(alloc, before, word);
+/// Whether a word is known where it stands.
+fn is_known(alloc: Global, placed: Placed<'_>) -> Result<bool, AllocError> {
+    let word = placed.word.as_bytes();
+    if let Some(option) = placed.option {
+        return is_known_value(alloc, option.as_bytes(), word);
     }
     if !word.starts_with(b"-") || takes_next(word) {
         return Ok(!word.starts_with(b"@"));
@@ -273,14 +233,10 @@ pub fn unknown_word<'a>(
     words: &'a [OsBytes],
     allowed: &str,
 ) -> Result<Option<&'a OsBytes>, AllocError> {
-    let mut before: &[u8] = &[];
-    for word in words {
-        let bytes = word.as_bytes();
-        if !is_known(alloc, before, bytes)? && !is_allowed(allowed, bytes) {
-            return Ok(Some(word));
+    for placed in PlacedWords::of(words) {
+        if !is_known(alloc, placed)? && !is_allowed(allowed, placed.word.as_bytes()) {
+            return Ok(Some(placed.word));
         }
-        // The value of an option takes no other word, whatever it is.
-        before = if takes_next(before) { &[] } else { bytes };
     }
     Ok(None)
 }

@@ -1,22 +1,23 @@
 //! Files that are loaded from the disk, and those that a text names.
 
 use crate::tokens::{Tokens, token_of};
+use disk_files::found::{is_before, time_of};
+use disk_files::whole::read_of_size;
 use memchr::memmem;
 use os_files::file_time::FileTime;
 use os_files::files::Metadata;
 use os_files::os_bytes::OsBytes;
 use os_files::path::join;
 use replay::snapshot_files::{LoadedFile, SnapshotFiles};
-use searched_folders::found::{is_before, time_of};
+use std::fs;
 use std::io::ErrorKind;
 use std::os::unix::fs::MetadataExt;
 use std::rt::Files;
 use std::time::{Duration, SystemTime, UNIX_EPOCH};
-use std::{fs, io};
 use wrapper_host::command_line::CommandLine;
 use wrapper_host::fields::into_text;
 use wrapper_host::stop::Stop;
-use written_lines::named::NamedFiles;
+use written_lines::named::{Lying, NamedFile, NamedFiles};
 
 /// How many milliseconds the times of files may stand behind the clock: they are told by the ticks of a kernel.
 const TICK: u64 = 20;
@@ -35,20 +36,13 @@ enum OnDisk {
     Unknown,
 }
 
-/// What a failed look means.
-fn without(error: &io::Error) -> OnDisk {
-    match error.kind() {
-        ErrorKind::NotFound => OnDisk::NoFile,
-        _ => OnDisk::Unknown,
-    }
-}
-
 /// What the disk says of the regular file of that path, or what it has there in its place.
 fn regular_at<R: Files>(rt: &R, path: &str) -> Result<fs::Metadata, OnDisk> {
     match fs::metadata(rt, path) {
         Ok(found) if found.is_file() => Ok(found),
         Ok(_) => Err(OnDisk::NoFile),
-        Err(error) => Err(without(&error)),
+        Err(error) if error.kind() == ErrorKind::NotFound => Err(OnDisk::NoFile),
+        Err(_) => Err(OnDisk::Unknown),
     }
 }
 
@@ -67,14 +61,30 @@ fn look_at<R: Files + AllocGlobal>(rt: &R, path: &str) -> OnDisk {
         Ok(found) => found,
         Err(other) => return other,
     };
-    let Ok(contents) = fs::read(rt, path) else {
+    let Ok(contents) = read_of_size(rt, path, found.len()) else {
         return OnDisk::Unknown;
     };
     let metadata = metadata_of(&found, contents.len() as u64);
     OnDisk::File(OsBytes::from_vec(contents), metadata)
 }
 
-/// Looks at the path of a header: its token stands for its contents. One that was changed before that moment is known again.
+/// The token of a header of these contents, in their place. One that was changed before that moment is known again.
+fn as_token<R: Files + AllocGlobal>(
+    rt: &R,
+    path: &OsBytes,
+    found: &fs::Metadata,
+    contents: &[u8],
+    before: FileTime,
+    tokens: &mut Tokens,
+) -> Result<OnDisk, Stop> {
+    let Some(token) = token_of(rt.alloc(), contents)? else {
+        return Ok(OnDisk::Unknown);
+    };
+    tokens.note(rt, path, found, &token, before)?;
+    Ok(OnDisk::File(token, metadata_of(found, found.len())))
+}
+
+/// Looks at the path of a header, which is read where no token is known of it.
 fn look_for_token<R: Files + AllocGlobal>(
     rt: &R,
     path: &OsBytes,
@@ -88,18 +98,13 @@ fn look_for_token<R: Files + AllocGlobal>(
         Ok(found) => found,
         Err(other) => return Ok(other),
     };
-    let metadata = metadata_of(&found, found.len());
     if let Some(token) = tokens.get(path, &found) {
-        return Ok(OnDisk::File(token.clone()?, metadata));
+        return Ok(OnDisk::File(token.clone()?, metadata_of(&found, found.len())));
     }
-    let Ok(contents) = fs::read(rt, place.as_str()) else {
+    let Ok(contents) = read_of_size(rt, place.as_str(), found.len()) else {
         return Ok(OnDisk::Unknown);
     };
-    let Some(token) = token_of(rt.alloc(), contents.as_slice())? else {
-        return Ok(OnDisk::Unknown);
-    };
-    tokens.note(rt, path, &found, &token, before)?;
-    Ok(OnDisk::File(token, metadata))
+    as_token(rt, path, &found, contents.as_slice(), before, tokens)
 }
 
 /// Loads what was found under a path. False where that can't be told.
@@ -143,17 +148,10 @@ fn embeds(contents: &OsBytes) -> bool {
     EMBEDS.iter().any(|word| memmem::find(contents.as_bytes(), word.as_bytes()).is_some())
 }
 
-/// Whether what was found can be recorded as what a preprocessor read: it was changed before that moment and takes in no other file.
-fn is_recorded(found: &OnDisk, before: FileTime) -> bool {
-    match found {
-        OnDisk::File(contents, metadata) => {
-            is_before(metadata.mtime, before)
-                && is_before(metadata.ctime, before)
-                && !embeds(contents)
-        }
-        OnDisk::NoFile => true,
-        OnDisk::Unknown => false,
-    }
+/// Whether a file of that state and these contents, or their token, can be recorded as what a preprocessor read: it was changed before that
+/// moment and takes in no other file.
+fn is_recorded(metadata: &Metadata, contents: &OsBytes, before: FileTime) -> bool {
+    is_before(metadata.mtime, before) && is_before(metadata.ctime, before) && !embeds(contents)
 }
 
 /// Until when a file must have been changed so that it's certain to have been the same since that moment.
@@ -188,26 +186,63 @@ pub fn load_all<R: Files + AllocGlobal>(
     Ok(true)
 }
 
-/// Loads a file that a text names, by its token unless it was loaded as it is. False where it can't be recorded.
-fn load_named_file<R: Files + AllocGlobal>(
+/// The token of a file that a text names, where none is known of it one of what was read of it.
+fn token_for<R: Files + AllocGlobal>(
     rt: &R,
     path: &OsBytes,
+    found: &fs::Metadata,
+    contents: &OsBytes,
+    before: FileTime,
+    tokens: &mut Tokens,
+) -> Result<OnDisk, Stop> {
+    match tokens.get(path, found) {
+        Some(token) => Ok(OnDisk::File(token.clone()?, metadata_of(found, found.len()))),
+        None => as_token(rt, path, found, contents.as_bytes(), before, tokens),
+    }
+}
+
+/// Loads a regular file that a text names, by its token unless it was loaded as it is. False where it can't be recorded.
+fn load_regular<R: Files + AllocGlobal>(
+    rt: &R,
+    path: &OsBytes,
+    found: &fs::Metadata,
+    contents: &OsBytes,
     before: FileTime,
     files: &mut SnapshotFiles,
     tokens: &mut Tokens,
 ) -> Result<bool, Stop> {
-    if tokens.has_whole(path) {
-        let Ok(place) = into_text(path.clone()?) else {
-            return Ok(false);
-        };
-        return Ok(is_recorded(&look_at(rt, place.as_str()), before));
+    if !is_recorded(&metadata_of(found, found.len()), contents, before) {
+        return Ok(false);
     }
-    let found = look_for_token(rt, path, before, tokens)?;
-    Ok(is_recorded(&found, before) && take(path.clone()?, found, files)?)
+    if tokens.has_whole(path) {
+        return Ok(true);
+    }
+    let token = token_for(rt, path, found, contents, before, tokens)?;
+    take(path.clone()?, token, files)
 }
 
-/// Loads the files that a text names, once the preprocessor printed it. False where what it read can't be told: a line can't be told from a
-/// marker, a file was changed since the call began, or takes in another one.
+/// Loads a file that a text names. False where it can't be recorded.
+fn load_named_file<R: Files + AllocGlobal>(
+    rt: &R,
+    file: &NamedFile,
+    before: FileTime,
+    files: &mut SnapshotFiles,
+    tokens: &mut Tokens,
+) -> Result<bool, Stop> {
+    let path = &file.path;
+    match &file.lying {
+        Lying::File(found, Some(contents)) => {
+            load_regular(rt, path, found, contents, before, files, tokens)
+        }
+        Lying::File(_, None) | Lying::Unknown => Ok(false),
+        Lying::Nothing | Lying::Other => {
+            Ok(tokens.has_whole(path) || take(path.clone()?, OnDisk::NoFile, files)?)
+        }
+    }
+}
+
+/// Loads the files that a text names, which were read once the preprocessor had printed it. False where what that read can't be told: a
+/// line can't be told from a marker, a file was changed since the call began, or takes in another one.
 pub fn load_named<R: Files + AllocGlobal>(
     rt: &R,
     line: &CommandLine,
@@ -219,8 +254,8 @@ pub fn load_named<R: Files + AllocGlobal>(
         return Ok(false);
     }
     let before = settled_before(line.moment);
-    for path in named.paths.as_slice() {
-        if !load_named_file(rt, path, before, files, tokens)? {
+    for file in named.files.iter() {
+        if !load_named_file(rt, file, before, files, tokens)? {
             return Ok(false);
         }
     }

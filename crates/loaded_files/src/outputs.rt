@@ -1,5 +1,6 @@
 //! Outputs that the compiler made, or that are written in its place.
 
+use disk_files::whole::read_of_size;
 use kept_entries::entry::KeptMessages;
 use os_files::os_bytes::OsBytes;
 use std::fs;
@@ -8,7 +9,7 @@ use std::os::unix::fs::MetadataExt;
 use std::rt::Files;
 use wrap_base::answer::Output;
 use wrapper_host::command_line::CommandLine;
-use wrapper_host::fields::into_text;
+use wrapper_host::fields::text_in;
 use wrapper_host::stop::Stop;
 
 /// The contents of the regular file of that path, where it is one.
@@ -17,7 +18,7 @@ pub fn regular<R: Files + AllocGlobal>(rt: &R, path: &str) -> Option<OsBytes> {
     if !metadata.is_file() {
         return None;
     }
-    Some(OsBytes::from_vec(fs::read(rt, path).ok()?))
+    Some(OsBytes::from_vec(read_of_size(rt, path, metadata.len()).ok()?))
 }
 
 /// The rights to write.
@@ -33,27 +34,35 @@ fn is_plain<R: Files>(rt: &R, path: &str) -> bool {
 
 /// Whether kept outputs can be put where the request wants them as a compiler would: onto what is something else compilers write in ways of
 /// their own.
-pub fn have_plain_places<R: Files + AllocGlobal>(rt: &R, outputs: &[Output]) -> Result<bool, Stop> {
+pub fn have_plain_places<R: Files>(rt: &R, outputs: &[Output]) -> Result<bool, Stop> {
     for output in outputs {
-        if !is_plain(rt, into_text(output.path.clone()?)?.as_str()) {
+        if !is_plain(rt, text_in(&output.path)?) {
             return Ok(false);
         }
     }
     Ok(true)
 }
 
-/// Writes each output where the request wants it, in the place of an old file, as compilers do.
-pub fn write_outputs<R: Files + AllocGlobal>(rt: &R, outputs: &[Output]) -> Result<(), Stop> {
+/// Writes a file in the place of an old one. Where it can't be written whole nothing is left of it.
+fn write_anew<R: Files>(rt: &R, path: &str, contents: &[u8]) -> Result<(), Stop> {
+    let _ = fs::remove_file(rt, path);
+    if let Err(error) = fs::write(rt, path, contents) {
+        let _ = fs::remove_file(rt, path);
+        return Err(error.into());
+    }
+    Ok(())
+}
+
+/// Writes each output where the request wants it, as compilers do.
+pub fn write_outputs<R: Files>(rt: &R, outputs: &[Output]) -> Result<(), Stop> {
     for output in outputs {
-        let path = into_text(output.path.clone()?)?;
-        let _ = fs::remove_file(rt, path.as_str());
-        fs::write(rt, path.as_str(), output.contents.as_bytes())?;
+        write_anew(rt, text_in(&output.path)?, output.contents.as_bytes())?;
     }
     Ok(())
 }
 
 /// Writes the dependency file of kept outputs where the request wants it, as compilers do: what lies there is written over.
-pub fn write_dependencies<R: Files + AllocGlobal>(
+pub fn write_dependencies<R: Files>(
     rt: &R,
     path: Option<&OsBytes>,
     messages: &KeptMessages,
@@ -61,12 +70,11 @@ pub fn write_dependencies<R: Files + AllocGlobal>(
     let (Some(path), Some(contents)) = (path, &messages.dependencies) else {
         return Ok(());
     };
-    let path = into_text(path.clone()?)?;
-    Ok(fs::write(rt, path.as_str(), contents.as_bytes())?)
+    Ok(fs::write(rt, text_in(path)?, contents.as_bytes())?)
 }
 
 /// Has the host print what was printed beside kept outputs, in place of what the preprocessor printed in this call.
-pub fn print_again<R: Files + AllocGlobal>(
+pub fn print_again<R: Files>(
     rt: &R,
     line: &CommandLine,
     messages: &KeptMessages,

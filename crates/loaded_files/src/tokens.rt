@@ -4,10 +4,10 @@
 use crate::mounts::devices;
 use byte_formats::fields::{put_framed, read_framed};
 use ckeys_base::digest::Digest;
+use disk_files::found::State;
 use memchr::memmem;
 use os_files::file_time::FileTime;
 use os_files::os_bytes::OsBytes;
-use searched_folders::found::State;
 use sha2::Sha256;
 use std::alloc::{AllocError, Global};
 use std::collections::{BTreeMap, BTreeSet};

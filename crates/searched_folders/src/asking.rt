@@ -7,10 +7,11 @@ use crate::unwatched::Unwatched;
 use crate::watch_list::holds;
 use crate::watching::Watching;
 use byte_formats::fields::{put_framed, read_framed};
+use disk_files::whole::read_whole;
 use kept_folder::file_digests::{digest_of, state_of};
 use kept_folder::folder::Kind;
+use known_options::placed::PlacedWords;
 use known_options::variables::is_read;
-use known_options::words::takes_next;
 use os_files::file_time::FileTime;
 use os_files::listed::Listed;
 use os_files::os_bytes::OsBytes;
@@ -45,14 +46,10 @@ fn asking_words(
     language: &str,
 ) -> Result<Listed<OsBytes>, Unwatched> {
     let mut asking = Listed::new(alloc);
-    let mut before: &[u8] = &[];
-    for word in words {
-        let bytes = word.as_bytes();
-        let is_value = takes_next(before);
-        if says_where(if is_value { before } else { bytes }) {
-            asking.push(word.clone()?)?;
+    for placed in PlacedWords::of(words) {
+        if says_where(placed.option.unwrap_or(placed.word).as_bytes()) {
+            asking.push(placed.word.clone()?)?;
         }
-        before = if is_value { &[] } else { bytes };
     }
     for word in ["-E", "-v", "-x", language, "/dev/null"] {
         asking.push(OsBytes::from_slice(alloc, word.as_bytes())?)?;
@@ -169,7 +166,7 @@ pub fn said_of<P: Print + Files + AllocGlobal, I: Read>(
     if ended.status != 0 {
         return Err(Unwatched::List);
     }
-    let said = fs::read(rt, line.errors.as_str())?;
+    let said = read_whole(rt, line.errors.as_str())?;
     // The host prints what it finds there.
     fs::write(rt, line.errors.as_str(), b"")?;
     keep(rt, line, name.as_str(), said.as_slice(), before)?;

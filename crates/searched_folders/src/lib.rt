@@ -2,7 +2,6 @@
 #![tactic(auto)]
 
 pub mod asking;
-pub mod found;
 pub mod records;
 pub mod search_list;
 pub mod texts;

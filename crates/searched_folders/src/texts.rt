@@ -3,12 +3,13 @@
 use crate::search_list::SearchList;
 use crate::unwatched::Unwatched;
 use crate::watching::Watching;
-use known_options::words::takes_next;
+use disk_files::found::folder_of;
+use known_options::placed::{Placed, PlacedWords};
 use memchr::memmem;
 use os_files::file_time::FileTime;
 use os_files::os_bytes::OsBytes;
 use source_directives::directives::{
-    Asked, Directives, Search, add_defined, add_probed, directives_of,
+    Asked, Directives, Search, add_defined, add_probed, add_said, directives_of,
 };
 use source_directives::times::{pastes_time, tells_time};
 use std::alloc::Global;
@@ -28,30 +29,24 @@ const OWN_WAYS: [&[u8]; 6] = [
 /// What GCC takes in before all else.
 const PREDEFINED: &[u8] = b"stdc-predef.h";
 
-/// A file that a text names.
-#[derive(Drop)]
-pub struct Source {
-    pub path: OsBytes,
-    pub contents: OsBytes,
-}
-
-/// The folder of a path.
-fn folder_of(path: &[u8]) -> &[u8] {
-    match path.iter().rposition(|byte| *byte == b'/') {
-        Some(at) => path.get(..at).unwrap_or(&[]),
-        None => &[],
-    }
+/// A regular file that a text names.
+#[derive(Clone, Copy)]
+pub struct Source<'a> {
+    pub path: &'a str,
+    pub contents: &'a [u8],
 }
 
 /// What each source asks for, in their order.
-fn directives_in(alloc: Global, sources: &[Source]) -> Result<Vec<Directives<'_>>, Unwatched> {
+fn directives_in<'a>(
+    alloc: Global,
+    sources: &[Source<'a>],
+) -> Result<Vec<Directives<'a>>, Unwatched> {
     let mut all = Vec::new(alloc);
     for source in sources {
-        let contents = source.contents.as_bytes();
-        if pastes_time(contents) {
+        if pastes_time(source.contents) {
             return Err(Unwatched::Pasted);
         }
-        match directives_of(alloc, contents)? {
+        match directives_of(alloc, source.contents)? {
             Some(found) => all.push(found)?,
             None => return Err(Unwatched::Computed),
         }
@@ -59,45 +54,69 @@ fn directives_in(alloc: Global, sources: &[Source]) -> Result<Vec<Directives<'_>
     Ok(all)
 }
 
-/// Whether a macro is one of the sources' alone, or of none: the compiler's own names begin with `_` or have small letters.
-fn is_of_sources(name: &[u8], words: &[OsBytes]) -> bool {
-    let is_own = name.starts_with(b"_") || name.iter().any(|byte| byte.is_ascii_lowercase());
-    !is_own
-        && !words
-            .iter()
-            .any(|word| memmem::find(word.as_bytes(), name).is_some())
+/// Whether a macro may be one of the compiler's own: their names begin with `_` or have small letters.
+fn may_be_compilers(name: &[u8]) -> bool {
+    name.starts_with(b"_") || name.iter().any(|byte| byte.is_ascii_lowercase())
 }
 
-/// Adds what a source takes in that these macros stand for: each name that sources define them to be. One that none defines isn't live, or
-/// nothing is made.
-fn add_computed<'a>(
-    sources: &'a [Source],
-    words: &[OsBytes],
-    found: &mut Directives<'a>,
-) -> Result<(), Unwatched> {
-    for name in found.computed.iter() {
-        if !is_of_sources(name, words) {
-            return Err(Unwatched::Computed);
+/// What a word defines, as `NAME=VALUE`.
+fn definition_in(placed: Placed<'_>) -> Option<&[u8]> {
+    let word = placed.word.as_bytes();
+    match placed.option {
+        Some(option) if option.as_bytes() == b"-D".as_slice() => Some(word),
+        Some(_) => None,
+        None => word.strip_prefix(b"-D"),
+    }
+}
+
+/// Adds what a macro may stand for by the words of the command. False where that can't be told.
+fn add_all_said<'a>(
+    words: &'a [OsBytes],
+    name: &[u8],
+    asked: &mut Vec<Asked<'a>>,
+) -> Result<bool, Unwatched> {
+    for placed in PlacedWords::of(words) {
+        if memmem::find(placed.word.as_bytes(), name).is_none() {
+            continue;
         }
-        if !add_all_defined(sources, name, &mut found.asked)? {
-            return Err(Unwatched::Computed);
+        match definition_in(placed) {
+            Some(definition) if add_said(definition, name, asked)? => {}
+            _ => return Ok(false),
         }
     }
-    Ok(())
+    Ok(true)
 }
 
 /// Adds what a macro may stand for by its definitions in these sources. False where that can't be told.
 fn add_all_defined<'a>(
-    sources: &'a [Source],
+    sources: &[Source<'a>],
     name: &[u8],
     asked: &mut Vec<Asked<'a>>,
 ) -> Result<bool, Unwatched> {
     for source in sources {
-        if !add_defined(source.contents.as_bytes(), name, asked)? {
+        if !add_defined(source.contents, name, asked)? {
             return Ok(false);
         }
     }
     Ok(true)
+}
+
+/// Adds what a source takes in that these macros stand for: each name that sources or words define them to be. One that none defines isn't
+/// live, or nothing is made.
+fn add_computed<'a>(
+    sources: &[Source<'a>],
+    words: &'a [OsBytes],
+    found: &mut Directives<'a>,
+) -> Result<(), Unwatched> {
+    for name in found.computed.iter() {
+        let is_told = !may_be_compilers(name)
+            && add_all_said(words, name, &mut found.asked)?
+            && add_all_defined(sources, name, &mut found.asked)?;
+        if !is_told {
+            return Err(Unwatched::Computed);
+        }
+    }
+    Ok(())
 }
 
 /// The macros by which sources ask whether a file is there.
@@ -111,13 +130,13 @@ fn probes_in<'a>(alloc: Global, all: &[Directives<'a>]) -> Result<Vec<&'a [u8]>,
 
 /// Adds what a source asks for by these macros. One that hands on another one's parameter isn't followed.
 fn add_all_probed<'a>(
-    source: &'a Source,
+    source: &Source<'a>,
     probes: &[&[u8]],
     found: &mut Directives<'a>,
 ) -> Result<(), Unwatched> {
     let count = found.probes.len();
     for probe in probes {
-        let is_told = add_probed(source.contents.as_bytes(), probe, found)?;
+        let is_told = add_probed(source.contents, probe, found)?;
         if !is_told || found.probes.len() != count {
             return Err(Unwatched::Computed);
         }
@@ -128,7 +147,7 @@ fn add_all_probed<'a>(
 /// Looks for all that a source asks for, and for the input has it watched that no precompiled header lies beside that.
 fn search_all<R: Files + AllocGlobal>(
     rt: &R,
-    source: &Source,
+    source: &Source<'_>,
     list: &SearchList<'_>,
     found: &Directives<'_>,
     is_input: bool,
@@ -144,17 +163,16 @@ fn search_all<R: Files + AllocGlobal>(
     Ok(())
 }
 
-/// The file that a word takes in before the input, with the word behind it, which may be its value.
-fn taken_in<'a>(word: &'a [u8], next: &'a [u8]) -> Option<&'a [u8]> {
-    for option in [b"-include".as_slice(), b"-imacros".as_slice()] {
-        if word == option {
-            return Some(next);
-        }
-        if let Some(name) = word.strip_prefix(option) {
-            return Some(name);
-        }
+/// The file that a word takes in before the input, by an option before it or as one that has the name in it.
+fn taken_in(placed: Placed<'_>) -> Option<&[u8]> {
+    let word = placed.word.as_bytes();
+    let options = [b"-include".as_slice(), b"-imacros".as_slice()];
+    match placed.option {
+        Some(option) if options.contains(&option.as_bytes()) => Some(word),
+        Some(_) => None,
+        None if placed.takes_value() => None,
+        None => options.iter().find_map(|option| word.strip_prefix(*option)),
     }
-    None
 }
 
 /// Looks for what words take in before the input: in the call's folder, and then as names in quotes are looked for.
@@ -164,22 +182,13 @@ fn search_words<R: Files + AllocGlobal>(
     words: &[OsBytes],
     watching: &mut Watching<'_>,
 ) -> Result<(), Unwatched> {
-    let mut before: &[u8] = &[];
-    for word in words {
-        let bytes = word.as_bytes();
-        let is_value = takes_next(before);
-        let name = match is_value {
-            true => taken_in(before, bytes),
-            false if takes_next(bytes) => None,
-            false => taken_in(bytes, &[]),
-        };
-        if let Some(name) = name {
+    for placed in PlacedWords::of(words) {
+        if let Some(name) = taken_in(placed) {
             let search = Search::Quoted;
             watching.search(rt, list, b"", Asked { name, search })?;
             watching.look_for_precompiled(rt, list, b"", name, b".gch")?;
             watching.look_for_precompiled(rt, list, b"", name, b".pch")?;
         }
-        before = if is_value { &[] } else { bytes };
     }
     Ok(())
 }
@@ -196,15 +205,12 @@ fn are_own_ways(words: &[OsBytes]) -> bool {
 /// Takes all files that the text names.
 fn take_sources<'a>(
     alloc: Global,
-    sources: &'a [Source],
+    sources: &[Source<'a>],
     all: &[Directives<'_>],
     watching: &mut Watching<'a>,
 ) -> Result<(), Unwatched> {
     for (source, found) in sources.iter().zip(all.iter()) {
-        let Ok(path) = str::from_utf8(source.path.as_bytes()) else {
-            return Err(Unwatched::Path);
-        };
-        watching.take_named(alloc, path, source.contents.as_bytes(), found.is_once)?;
+        watching.take_named(alloc, source.path, source.contents, found.is_once)?;
     }
     Ok(())
 }
@@ -212,9 +218,9 @@ fn take_sources<'a>(
 /// Looks for all that these sources ask for, of which the first is the input.
 fn search_sources<'a, R: Files + AllocGlobal>(
     rt: &R,
-    words: &[OsBytes],
+    words: &'a [OsBytes],
     list: &SearchList<'_>,
-    sources: &'a [Source],
+    sources: &[Source<'a>],
     all: &mut [Directives<'a>],
     watching: &mut Watching<'_>,
 ) -> Result<(), Unwatched> {
@@ -230,10 +236,10 @@ fn search_sources<'a, R: Files + AllocGlobal>(
 }
 
 /// What to watch of a text that is made of these sources, of which the first is the input, by what its compiler said of where it looks.
-pub fn list_of<R: Files + AllocGlobal>(
+pub fn list_of<'a, R: Files + AllocGlobal>(
     rt: &R,
-    line: &CommandLine,
-    sources: &[Source],
+    line: &'a CommandLine,
+    sources: &[Source<'a>],
     said: &[u8],
     before: FileTime,
 ) -> Result<Vec<u8>, Unwatched> {

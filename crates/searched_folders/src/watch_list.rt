@@ -4,7 +4,8 @@
 //! has its path, its state, how it may be another one, and its names with what lay there, all of them behind their length; a file has its
 //! path, its state and the digest of its contents. docs/FORMATS.md has the layout.
 
-use crate::found::{Found, State, found_at};
+use disk_files::whole::read_of_size;
+use disk_files::found::{Found, State, found_at};
 use crate::unwatched::Unwatched;
 use byte_formats::fault::ReadFault;
 use byte_formats::fields::{put_framed, put_number, read_framed, read_number};
@@ -137,10 +138,12 @@ fn folder_holds<'a, R: Files + AllocGlobal>(
 
 /// The digest of the contents of a file, as text; an empty one where it is a folder.
 pub(crate) fn contents_at<R: Files + AllocGlobal>(rt: &R, path: &str) -> Result<String, Unwatched> {
-    if fs::metadata(rt, path)?.is_dir() {
+    let found = fs::metadata(rt, path)?;
+    if found.is_dir() {
         return Ok(String::new(rt.alloc()));
     }
-    Ok(digest_of(rt.alloc(), fs::read(rt, path)?.as_slice())?)
+    let contents = read_of_size(rt, path, found.len())?;
+    Ok(digest_of(rt.alloc(), contents.as_slice())?)
 }
 
 /// Whether the file that is ahead in these bytes is as it was, and what stands behind it. One in another state may have the same contents; a

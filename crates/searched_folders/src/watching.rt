@@ -1,6 +1,7 @@
 //! Looking where a compiler looks, and noting what is there.
 
-use crate::found::{Found, State, found_at, is_nothing};
+use disk_files::whole::read_whole;
+use disk_files::found::{Found, State, found_at, is_nothing};
 use crate::search_list::SearchList;
 use crate::unwatched::Unwatched;
 use crate::watch_list::Folder;
@@ -148,7 +149,7 @@ impl<'a> Watching<'a> {
         if !state.is_before(self.before) {
             return Err(Unwatched::Changed);
         }
-        let contents = fs::read(rt, path)?;
+        let contents = read_whole(rt, path)?;
         if (&self.once).contains(&contents.as_slice()) {
             return Err(Unwatched::Equal);
         }

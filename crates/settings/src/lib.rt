@@ -6,6 +6,5 @@ pub mod key;
 pub mod lines;
 pub mod places;
 pub mod reading;
-pub mod rights;
 pub mod settings;
 pub mod values;

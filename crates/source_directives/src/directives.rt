@@ -315,6 +315,23 @@ pub fn add_defined<'a>(
     Ok(true)
 }
 
+/// Adds what a macro stands for by a command's definition, as `NAME="file"`. False where it isn't one of that macro, or may be another thing
+/// than a name in quotes or brackets.
+pub fn add_said<'a>(
+    definition: &'a [u8],
+    name: &[u8],
+    found: &mut Vec<Asked<'a>>,
+) -> Result<bool, AllocError> {
+    let value = definition
+        .strip_prefix(name)
+        .and_then(|behind| behind.strip_prefix(b"="));
+    let Some(asked) = value.and_then(literal_ahead) else {
+        return Ok(false);
+    };
+    found.push(asked)?;
+    Ok(true)
+}
+
 /// Adds what a source asks for by a probe of another name. False where that can't be told.
 pub fn add_probed<'a>(
     source: &'a [u8],

@@ -5,7 +5,8 @@ use crate::counts::Counts;
 use crate::error::StatisticsError;
 use crate::names::ZEROED;
 use crate::record::{SIZE, put_record};
-use settings::rights::{give_rights, make_folders};
+use disk_files::whole::read_whole;
+use disk_files::rights::{give_rights, make_folders};
 use std::alloc::Global;
 use std::fs::{File, OpenOptions};
 use std::io::{ErrorKind, Write};
@@ -96,7 +97,7 @@ fn fold<R: Files + AllocGlobal>(
     place: &str,
     umask: Option<u32>,
 ) -> Result<(), StatisticsError> {
-    let bytes = fs::read(rt, place)?;
+    let bytes = read_whole(rt, place)?;
     let counts = Counts::read(rt.alloc(), bytes.as_slice())?;
     replace(rt, place, umask, counts.records(rt.alloc())?.as_slice())
 }
@@ -130,7 +131,7 @@ pub fn count<R: Files<File = File> + AllocGlobal>(
 /// What was counted so far in the folder of this path; nothing where there is no file.
 pub fn counts_at<R: Files + AllocGlobal>(rt: &R, path: &str) -> Result<Counts, StatisticsError> {
     let place = place_of(rt.alloc(), path)?;
-    match fs::read(rt, place.as_str()) {
+    match read_whole(rt, place.as_str()) {
         Ok(bytes) => Ok(Counts::read(rt.alloc(), bytes.as_slice())?),
         Err(error) if error.kind() == ErrorKind::NotFound => Ok(Counts::new(rt.alloc())),
         Err(_) => Err(StatisticsError::Device),

@@ -13,7 +13,7 @@ use kept_folder::making_room::{hold_limit, remove_unused};
 use settings::key::Key;
 use settings::places::{ListedVariables, OTHERS};
 use settings::reading::{read_settings, set_in_file};
-use settings::rights::make_folders;
+use disk_files::rights::make_folders;
 use settings::settings::Settings;
 use settings::values::age_named;
 use statistics::file::zero;

@@ -62,6 +62,14 @@ impl<'a> Fields<'a> {
     }
 }
 
+/// The text that the bytes are.
+pub fn text_in(bytes: &OsBytes) -> Result<&str, Stop> {
+    match str::from_utf8(bytes.as_bytes()) {
+        Ok(text) => Ok(text),
+        Err(_) => Err(Stop::Unreadable),
+    }
+}
+
 /// The bytes as text.
 pub fn into_text(bytes: OsBytes) -> Result<String, Stop> {
     match String::from_utf8(bytes.into_vec()) {

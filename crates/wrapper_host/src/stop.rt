@@ -39,6 +39,9 @@ pub enum Stop {
     /// The compiler doesn't say what it runs.
     #[error("the compiler doesn't name its parts")]
     Parts,
+    /// The compiler reads a file of words, which isn't looked at.
+    #[error("the compiler has a configuration file")]
+    Configuration,
     /// A folder that isn't to count isn't absolute, or is only slashes.
     #[error("a folder that base_dir names isn't absolute, or is only slashes")]
     Folder,

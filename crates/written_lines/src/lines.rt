@@ -65,9 +65,14 @@ fn take_lines<'s>(
 /// A digest of the lines of which the text shows tokens, where the text doesn't say how they were written: those that aren't as the text
 /// has them, those below that have arguments of a macro, and comments by which a case falls through. Of a file with directives that give
 /// lines other numbers it is of all.
-fn digest_of_lines(alloc: Global, text: &[u8], sources: &Sources<'_>) -> Result<OsBytes, Stop> {
+fn digest_of_lines(
+    alloc: Global,
+    text: &[u8],
+    mut sources: Sources<'_>,
+) -> Result<OsBytes, Stop> {
+    sources.cut_into_lines()?;
     let mut written = Written::new(alloc);
-    take_lines(text, sources, &mut written)?;
+    take_lines(text, &sources, &mut written)?;
     let mut digest = sources.digest_of(false);
     digest.update(written.bytes());
     finish(alloc, digest)
@@ -89,11 +94,11 @@ pub fn digest_asked(
     alloc: Global,
     asked: Asked,
     text: &[u8],
-    sources: &Sources<'_>,
+    sources: Sources<'_>,
 ) -> Result<OsBytes, Stop> {
     match asked {
         Asked::Nothing => Ok(OsBytes::empty(alloc)),
         Asked::Lines => digest_of_lines(alloc, text, sources),
-        Asked::Contents => digest_of_contents(alloc, sources),
+        Asked::Contents => digest_of_contents(alloc, &sources),
     }
 }

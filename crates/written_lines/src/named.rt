@@ -1,5 +1,7 @@
-//! The files that a text is made of, as its markers name them.
+//! The files that a text is made of, as its markers name them: what lay under their paths once the text had been printed.
 
+use disk_files::found::{State, is_nothing};
+use disk_files::whole::read_of_size;
 use marker_walk::line::Mark;
 use marker_walk::markers::Markers;
 use marker_walk::names::unescaped;
@@ -7,44 +9,163 @@ use os_files::os_bytes::OsBytes;
 use os_files::path::join;
 use std::alloc::{AllocError, Global};
 use std::collections::HashSet;
+use std::fs;
+use std::fs::Metadata;
+use std::rt::Files;
+
+/// What lay under a path.
+#[derive(Drop)]
+pub enum Lying {
+    /// Nothing.
+    Nothing,
+    /// A regular file, with its contents, where they were read.
+    File(Metadata, Option<OsBytes>),
+    /// A folder, or what is neither.
+    Other,
+    /// That can't be told.
+    Unknown,
+}
+
+/// A file that a text names.
+#[derive(Drop)]
+pub struct NamedFile {
+    /// Its name, as markers have it.
+    pub name: OsBytes,
+    pub path: OsBytes,
+    pub lying: Lying,
+}
 
 /// The files that the markers of a text name.
 #[derive(Drop)]
 pub struct NamedFiles {
-    /// Their paths, each once, in the order in which they come first: the first one is the input.
-    pub paths: Vec<OsBytes>,
+    /// Each once, in the order in which they come first: the first one is the input.
+    pub files: Vec<NamedFile>,
     /// Whether each line could be told from a marker.
     pub are_all: bool,
+    are_read: bool,
 }
 
 /// Whether a marker's name is that of a file: those in brackets are none, and one with two slashes behind it is a folder.
-pub(crate) fn is_file_name(name: &[u8]) -> bool {
+fn is_file_name(name: &[u8]) -> bool {
     !name.starts_with(b"<") && !name.ends_with(b"//")
+}
+
+/// What lies under a path, of which nothing is read.
+fn lying_at<R: Files>(rt: &R, path: &OsBytes) -> Lying {
+    let Ok(place) = str::from_utf8(path.as_bytes()) else {
+        return Lying::Unknown;
+    };
+    match fs::metadata(rt, place) {
+        Ok(found) if found.is_file() => Lying::File(found, None),
+        Ok(_) => Lying::Other,
+        Err(error) if is_nothing(&error) => Lying::Nothing,
+        Err(_) => Lying::Unknown,
+    }
+}
+
+impl NamedFile {
+    /// The file of that name in a folder.
+    fn of<R: Files + AllocGlobal>(
+        rt: &R,
+        dir: &[u8],
+        name: OsBytes,
+    ) -> Result<NamedFile, AllocError> {
+        let written = unescaped(rt.alloc(), name.as_bytes())?.into_owned(rt.alloc())?;
+        let path = join(rt.alloc(), dir, written.as_slice())?;
+        let lying = lying_at(rt, &path);
+        Ok(NamedFile { name, path, lying })
+    }
+
+    /// Its contents, where it is a regular file that was read.
+    pub fn contents(&self) -> Option<&OsBytes> {
+        match &self.lying {
+            Lying::File(_, contents) => contents.as_ref(),
+            _ => None,
+        }
+    }
+
+    /// Reads it, where it can be read.
+    fn read<R: Files + AllocGlobal>(&mut self, rt: &R) {
+        let Ok(place) = str::from_utf8(self.path.as_bytes()) else {
+            return;
+        };
+        if let Lying::File(found, contents) = &mut self.lying {
+            let read = read_of_size(rt, place, found.len());
+            *contents = read.ok().map(OsBytes::from_vec);
+        }
+    }
+
+    /// Whether the same lies there now, in the same state.
+    fn is_unchanged<R: Files>(&self, rt: &R) -> bool {
+        match (&self.lying, lying_at(rt, &self.path)) {
+            (Lying::File(before, _), Lying::File(now, _)) => State::of(before) == State::of(&now),
+            (Lying::Nothing, Lying::Nothing) | (Lying::Other, Lying::Other) => true,
+            (_, _) => false,
+        }
+    }
 }
 
 impl NamedFiles {
     /// No files.
     pub fn new(alloc: Global) -> NamedFiles {
         NamedFiles {
-            paths: Vec::new(alloc),
+            files: Vec::new(alloc),
             are_all: true,
+            are_read: false,
         }
     }
 
     /// Those of a text, for a call in that folder.
-    pub fn of(alloc: Global, dir: &[u8], text: &[u8]) -> Result<NamedFiles, AllocError> {
-        let mut named = NamedFiles::new(alloc);
-        let mut seen: HashSet<&[u8]> = HashSet::new(alloc);
+    pub fn of<R: Files + AllocGlobal>(
+        rt: &R,
+        dir: &[u8],
+        text: &[u8],
+    ) -> Result<NamedFiles, AllocError> {
+        let mut named = NamedFiles::new(rt.alloc());
+        let mut seen: HashSet<&[u8]> = HashSet::new(rt.alloc());
         for mark in Markers::new(text) {
             let Mark::Named(name) = mark else {
                 named.are_all = false;
                 continue;
             };
             if is_file_name(name) && seen.insert(name)? {
-                let name = unescaped(alloc, name)?.into_owned(alloc)?;
-                named.paths.push(join(alloc, dir, name.as_slice())?)?;
+                let name = OsBytes::from_slice(rt.alloc(), name)?;
+                named.files.push(NamedFile::of(rt, dir, name)?)?;
             }
         }
         Ok(named)
+    }
+
+    /// An input of that path and contents, which is compiled as it stands: no text names it.
+    pub fn of_input<R: Files + AllocGlobal>(
+        rt: &R,
+        path: OsBytes,
+        contents: OsBytes,
+    ) -> Result<NamedFiles, AllocError> {
+        let mut named = NamedFiles::new(rt.alloc());
+        let lying = match lying_at(rt, &path) {
+            Lying::File(found, _) => Lying::File(found, Some(contents)),
+            other => other,
+        };
+        let name = path.clone()?;
+        named.files.push(NamedFile { name, path, lying })?;
+        named.are_read = true;
+        Ok(named)
+    }
+
+    /// Reads all of them, once.
+    pub fn read<R: Files + AllocGlobal>(&mut self, rt: &R) {
+        if self.are_read {
+            return;
+        }
+        self.are_read = true;
+        for file in self.files.iter_mut() {
+            file.read(rt);
+        }
+    }
+
+    /// Whether the same lies under each path now, in the same state. What couldn't be told doesn't.
+    pub fn are_unchanged<R: Files>(&self, rt: &R) -> bool {
+        self.files.iter().all(|file| file.is_unchanged(rt))
     }
 }

@@ -1,26 +1,18 @@
 //! The files that the markers of a text name, with their lines.
 
-use crate::named::is_file_name;
+use crate::named::{Lying, NamedFiles};
 use ckeys_base::digest::Digest;
-use marker_walk::line::Mark;
-use marker_walk::markers::Markers;
-use marker_walk::names::unescaped;
 use memchr::memchr;
-use os_files::path::join;
 use sha2::Sha256;
 use std::alloc::{AllocError, Global};
 use std::collections::HashMap;
-use std::fs;
-use std::rt::Files;
-use wrapper_host::command_line::CommandLine;
-use wrapper_host::fields::into_text;
 use wrapper_host::stop::Stop;
 
 /// A file and where its lines begin.
 #[derive(Drop)]
-pub struct Source {
-    contents: Vec<u8>,
-    /// Where each line begins, and behind them where the file ends.
+pub struct Source<'a> {
+    contents: &'a [u8],
+    /// Where each line begins, and behind them where the file ends; nothing before it is cut into lines.
     starts: Vec<usize>,
     /// Whether it has a directive that says of a line that it is another one, or of another file.
     pub renumbers: bool,
@@ -101,31 +93,34 @@ fn renumbers(contents: &[u8]) -> bool {
     false
 }
 
-impl Source {
+impl<'a> Source<'a> {
     /// The file with these contents.
-    fn new(alloc: Global, contents: Vec<u8>) -> Result<Source, AllocError> {
-        let mut starts = Vec::new(alloc);
-        let renumbers = renumbers(contents.as_slice());
-        let mut rest = contents.as_slice();
+    fn new(alloc: Global, contents: &'a [u8]) -> Source<'a> {
+        Source {
+            contents,
+            starts: Vec::new(alloc),
+            renumbers: renumbers(contents),
+        }
+    }
+
+    /// Notes where its lines begin.
+    fn cut_into_lines(&mut self) -> Result<(), AllocError> {
+        let mut rest = self.contents;
         // Each turn takes a byte at least.
-        for _ in 0..contents.len() {
-            starts.push(contents.len().saturating_sub(rest.len()))?;
+        for _ in 0..self.contents.len() {
+            self.starts
+                .push(self.contents.len().saturating_sub(rest.len()))?;
             rest = behind_line(rest);
             if rest.is_empty() {
                 break;
             }
         }
-        starts.push(contents.len())?;
-        Ok(Source {
-            contents,
-            starts,
-            renumbers,
-        })
+        Ok(self.starts.push(self.contents.len())?)
     }
 
     /// All of it.
     pub fn contents(&self) -> &[u8] {
-        self.contents.as_slice()
+        self.contents
     }
 
     /// The line of that number, of which the first is 1, without its end; an empty one where there is none.
@@ -151,68 +146,45 @@ impl Source {
 /// The files that the markers of a text name, by their names as markers have them.
 #[derive(Drop)]
 pub struct Sources<'a> {
-    files: HashMap<&'a [u8], Source>,
+    files: HashMap<&'a [u8], Source<'a>>,
     /// Their names, in the order in which they come first.
     names: Vec<&'a [u8]>,
     /// Whether one that is named isn't there.
     lacks: bool,
 }
 
-/// The contents of the file of a marker, where there is one.
-fn read_marked<R: Files + AllocGlobal>(
-    rt: &R,
-    line: &CommandLine,
-    name: &[u8],
-) -> Result<Option<Vec<u8>>, Stop> {
-    let name = unescaped(rt.alloc(), name)?.into_owned(rt.alloc())?;
-    let path = into_text(join(rt.alloc(), line.dir.as_bytes(), name.as_slice())?)?;
-    let Ok(metadata) = fs::metadata(rt, path.as_str()) else {
-        return Ok(None);
-    };
-    if !metadata.is_file() {
-        return Err(Stop::Unreadable);
-    }
-    Ok(Some(fs::read(rt, path.as_str())?))
-}
-
 impl<'a> Sources<'a> {
-    /// The files that the markers of this text name. A line that can't be told from a marker, and a file that is none or can't be read,
-    /// is an error.
-    pub fn of<R: Files + AllocGlobal>(
-        rt: &R,
-        line: &CommandLine,
-        text: &'a [u8],
-    ) -> Result<Sources<'a>, Stop> {
+    /// The files of a text, which were read. A line that can't be told from a marker, and a file that is none or can't be read, is an error.
+    pub fn of(alloc: Global, named: &'a NamedFiles) -> Result<Sources<'a>, Stop> {
         let mut sources = Sources {
-            files: HashMap::new(rt.alloc()),
-            names: Vec::new(rt.alloc()),
+            files: HashMap::new(alloc),
+            names: Vec::new(alloc),
             lacks: false,
         };
-        let mut absent: HashMap<&[u8], ()> = HashMap::new(rt.alloc());
-        for mark in Markers::new(text) {
-            let Mark::Named(name) = mark else {
-                return Err(Stop::Unreadable);
-            };
-            let is_known = sources.files.contains_key(&name) || absent.contains_key(&name);
-            if is_known || !is_file_name(name) {
-                continue;
-            }
-            match read_marked(rt, line, name)? {
-                Some(contents) => sources.take(rt.alloc(), name, contents)?,
-                None => {
-                    absent.insert(name, ())?;
-                    sources.lacks = true;
+        if !named.are_all {
+            return Err(Stop::Unreadable);
+        }
+        for file in named.files.iter() {
+            match &file.lying {
+                Lying::File(_, Some(contents)) => {
+                    let name = file.name.as_bytes();
+                    sources.names.push(name)?;
+                    let source = Source::new(alloc, contents.as_bytes());
+                    sources.files.insert(name, source)?;
                 }
+                Lying::Nothing | Lying::Unknown => sources.lacks = true,
+                Lying::File(_, None) | Lying::Other => return Err(Stop::Unreadable),
             }
         }
         sources.check()?;
         Ok(sources)
     }
 
-    /// Takes the file of that name.
-    fn take(&mut self, alloc: Global, name: &'a [u8], contents: Vec<u8>) -> Result<(), Stop> {
-        self.names.push(name)?;
-        self.files.insert(name, Source::new(alloc, contents)?)?;
+    /// Notes where the lines of all files begin.
+    pub fn cut_into_lines(&mut self) -> Result<(), AllocError> {
+        for source in self.files.values_mut() {
+            source.cut_into_lines()?;
+        }
         Ok(())
     }
 
@@ -233,7 +205,7 @@ impl<'a> Sources<'a> {
     }
 
     /// The file of that name, where there is one.
-    pub fn get(&self, name: &[u8]) -> Option<&Source> {
+    pub fn get(&self, name: &[u8]) -> Option<&Source<'a>> {
         self.files.get(name)
     }
 

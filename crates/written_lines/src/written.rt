@@ -171,7 +171,7 @@ impl Written {
 pub struct Place<'s> {
     name: &'s [u8],
     /// The file, if its lines count one by one.
-    file: Option<&'s Source>,
+    file: Option<&'s Source<'s>>,
     /// The number of the line that the text's next line is of.
     number: usize,
     /// The first line that wasn't looked at.

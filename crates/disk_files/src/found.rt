@@ -10,6 +10,14 @@ use std::os::unix::fs::MetadataExt;
 use std::rt::Files;
 use std::{fs, io};
 
+/// The folder of a path; nothing where it is a name alone.
+pub fn folder_of(path: &[u8]) -> &[u8] {
+    match path.iter().rposition(|byte| *byte == b'/') {
+        Some(at) => path.get(..at).unwrap_or(&[]),
+        None => &[],
+    }
+}
+
 /// What lies under a path.
 #[derive(Clone, Copy, PartialEq, Eq)]
 pub enum Found {
