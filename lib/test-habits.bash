@@ -184,16 +184,16 @@ habits_keeping() {
     is "the limit holds" [ "$(bytes_kept)" -le 300000 ]
     is "hints and fingerprints go too" [ "$(find "$GULMAAT_DIR/hints" "$GULMAAT_DIR/fingerprints" -type f | wc -l)" -lt 60 ]
     # A file of another version, and what is noted of sizes is wrong.
-    mkdir -p "$GULMAAT_DIR/entries/00"
-    head -c 100000 /dev/zero >"$GULMAAT_DIR/entries/00/old"
-    touch -d '10 days ago' "$GULMAAT_DIR/entries/00/old"
+    mkdir -p "$GULMAAT_DIR/results/00"
+    head -c 100000 /dev/zero >"$GULMAAT_DIR/results/00/old"
+    touch -d '10 days ago' "$GULMAAT_DIR/results/00/old"
     for option in -c --cleanup; do
         GULMAAT_MAXSIZE=200k "$host" $option
         is "$option" [ "$(bytes_kept)" -le 200000 ]
-        is "$option: what is old goes first" [ ! -e "$GULMAAT_DIR/entries/00/old" ]
+        is "$option: what is old goes first" [ ! -e "$GULMAAT_DIR/results/00/old" ]
     done
     before=$(entries_kept)
-    find "$GULMAAT_DIR/entries" -type f | head -n 1 | xargs touch -d '2 hours ago'
+    find "$GULMAAT_DIR/results" -type f | head -n 1 | xargs touch -d '2 hours ago'
     for option in 3h 1d 200m 8000s; do
         "$host" --evict-older-than $option
         is "--evict-older-than $option" [ "$(entries_kept)" = "$before" ]

@@ -4,8 +4,8 @@
 ghost use Rattle.std.specs.Prelude.{◌≡◌};
 
 use key_additions::additions::{Additions, VARIABLE};
-use known_compilers::compilers::{KnownCompiler, add_surroundings, compiler_at};
-use known_compilers::native::native_of;
+use compiler_id::compilers::{KnownCompiler, add_surroundings, compiler_at};
+use compiler_id::native::native_of;
 use known_options::dependencies::{Dependencies, dependencies_of};
 use known_options::variables::is_read;
 use os_files::listed::Listed;
@@ -16,9 +16,9 @@ use std::collections::BTreeMap;
 use std::io::Read;
 use std::rt::Files;
 use wrap::{CCompilerKind, Request};
-use wrapper_host::command_line::CommandLine;
-use wrapper_host::host::Host;
-use wrapper_host::stop::Stop;
+use host_protocol::command_line::CommandLine;
+use host_protocol::host::Host;
+use host_protocol::host_error::HostError;
 
 /// What inputs are called that are compiled as they stand, or of which an assembler notes where they lie.
 const WITHOUT_FOLDER: [&str; 5] = [".i", ".ii", ".s", ".S", ".sx"];
@@ -40,7 +40,7 @@ fn env_of(
     alloc: Global,
     env: &[(OsBytes, OsBytes)],
     additions: &Additions,
-) -> Result<Listed<(OsBytes, OsBytes)>, Stop> {
+) -> Result<Listed<(OsBytes, OsBytes)>, HostError> {
     let mut read = BTreeMap::new(alloc);
     for (name, value) in env {
         if is_read(name.as_bytes()) && name.as_bytes() != VARIABLE.as_bytes() {
@@ -69,7 +69,7 @@ fn tells_place(word: &[u8]) -> bool {
 }
 
 /// Adds where the input lies, where an object may have that in it though no text shows it.
-fn add_place(alloc: Global, line: &CommandLine, additions: &mut Additions) -> Result<(), Stop> {
+fn add_place(alloc: Global, line: &CommandLine, additions: &mut Additions) -> Result<(), HostError> {
     let words = line.words.as_slice();
     if !words.iter().any(|word| tells_place(word.as_bytes())) {
         return Ok(());
@@ -89,7 +89,7 @@ fn additions_of(
     line: &CommandLine,
     kind: CCompilerKind,
     dependencies: Option<&Dependencies>,
-) -> Result<Additions, Stop> {
+) -> Result<Additions, HostError> {
     let mut additions = Additions::new(alloc);
     additions.add_if_any(alloc, VARIABLE, line.value_of(VARIABLE.as_bytes()))?;
     add_surroundings(alloc, line, kind, &mut additions)?;
@@ -104,7 +104,7 @@ fn additions_of(
 
 /// What the words say of a dependency file; nothing where the preprocessor is to write it in each call. So it is where folders don't count:
 /// lines of the file are as long as their names.
-fn dependencies_in(alloc: Global, line: &CommandLine) -> Result<Option<Dependencies>, Stop> {
+fn dependencies_in(alloc: Global, line: &CommandLine) -> Result<Option<Dependencies>, HostError> {
     if !line.settings.value_of(Key::BaseDir).is_empty() {
         return Ok(None);
     }
@@ -127,7 +127,7 @@ pub fn call_of<P: Print + Files + AllocGlobal, I: Read>(
     line: &CommandLine,
     host: &mut Host<I>,
     kind: CCompilerKind,
-) -> Result<Call, Stop>
+) -> Result<Call, HostError>
     requires { host.old.compiled ≡ 0 }
     ensures { host.new.compiled ≡ 0 }
 {

@@ -9,8 +9,8 @@ use recorded_builds::beware::options_in;
 use settings::key::Key;
 use statistics::calls::TO_STANDARD_OUTPUT;
 use std::alloc::Global;
-use wrapper_host::command_line::CommandLine;
-use wrapper_host::stop::Stop;
+use host_protocol::command_line::CommandLine;
+use host_protocol::host_error::HostError;
 
 /// Variables under which a compiler reads or writes something else.
 const VARIABLES: [&str; 14] = [
@@ -52,7 +52,7 @@ fn is_on_standard_output(words: &[OsBytes]) -> bool {
 }
 
 /// The variable that speaks against keeping, or the option, or the word that isn't known.
-pub fn reason_against(alloc: Global, line: &CommandLine) -> Result<Option<String>, Stop> {
+pub fn reason_against(alloc: Global, line: &CommandLine) -> Result<Option<String>, HostError> {
     for (name, value) in line.env.as_slice() {
         if is_variable(name.as_bytes()) && !value.as_bytes().is_empty() {
             let name = name.clone()?;
@@ -81,7 +81,7 @@ fn may_ask_for_object(words: &[OsBytes]) -> bool {
 }
 
 /// The first word that isn't known, where an object may be asked for; any other command is the session's to pass through.
-fn unknown_in(alloc: Global, line: &CommandLine) -> Result<Option<String>, Stop> {
+fn unknown_in(alloc: Global, line: &CommandLine) -> Result<Option<String>, HostError> {
     let words = line.words.as_slice();
     if !may_ask_for_object(words) {
         return Ok(None);
@@ -115,7 +115,7 @@ fn late_language(words: &[OsBytes]) -> Option<&OsBytes> {
 }
 
 /// The word by which it isn't clear which dependency file is written, or is that of a preprocessor which is to write it in each call.
-fn unclear_word(alloc: Global, line: &CommandLine) -> Result<Option<&OsBytes>, Stop> {
+fn unclear_word(alloc: Global, line: &CommandLine) -> Result<Option<&OsBytes>, HostError> {
     let words = line.words.as_slice();
     let Some(word) = words
         .iter()

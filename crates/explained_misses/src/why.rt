@@ -7,14 +7,14 @@ use cmdlines_base::command::ArtifactDescriptor;
 use cmdlines_base::compiler_arguments::CompilerArguments;
 use cmdlines_requests::parsed::ParsedArguments;
 use differences::difference::Difference;
-use kept_entries::kept_parts::KeptParts;
-use kept_folder::folder::KeptFolder;
-use kept_folder::making_room::make_room;
-use kept_pairs::part_files::{name_of_parts, parts_under, put_parts};
-use kept_pairs::parts::{kept_parts, parts_of};
-use kept_pairs::short_text::{TextDifference, short_text};
+use cache_format::kept_parts::KeptParts;
+use cache_dir::folder::CacheDir;
+use cache_dir::making_room::make_room;
+use cache_files::part_files::{name_of_parts, parts_under, put_parts};
+use cache_files::parts::{kept_parts, parts_of};
+use cache_files::short_text::{TextDifference, short_text};
 use key_additions::additions::difference;
-use known_compilers::compilers::kind_of;
+use compiler_id::compilers::kind_of;
 use known_options::dependencies::dependencies_of;
 use os_files::listed::Listed;
 use os_files::os_bytes::OsBytes;
@@ -22,8 +22,8 @@ use replay::snapshot_files::SnapshotFiles;
 use std::alloc::Global;
 use std::rt::Files;
 use wrap::{CCompilerKind, Files as CallFiles, Fingerprint, Named, Part, Reason, Request, explain};
-use wrapper_host::command_line::CommandLine;
-use wrapper_host::stop::Stop;
+use host_protocol::command_line::CommandLine;
+use host_protocol::host_error::HostError;
 
 /// What words ask a compiler for.
 type Asked = CompilerArguments<ParsedArguments>;
@@ -35,10 +35,10 @@ fn asked_of<C: CCompilerImpl, F: CallFiles>(
     words: &[OsBytes],
     dir: &OsBytes,
     files: &mut F,
-) -> Result<Asked, Stop> {
+) -> Result<Asked, HostError> {
     match compiler.parse_arguments(alloc, words, dir, files) {
         Ok(asked) => Ok(asked),
-        Err(_) => Err(Stop::Unreadable),
+        Err(_) => Err(HostError::Unreadable),
     }
 }
 
@@ -47,21 +47,21 @@ fn name_of_request<F: CallFiles>(
     alloc: Global,
     request: &Request,
     files: &mut F,
-) -> Result<String, Stop> {
+) -> Result<String, HostError> {
     let Named::C(compiler) = request.compiler.named() else {
-        return Err(Stop::Unreadable);
+        return Err(HostError::Unreadable);
     };
     let words = request.words.as_slice();
     match asked_of(alloc, &compiler, words, &request.dir, files)? {
         CompilerArguments::Ok(parsed) => {
             Ok(name_of_parts(alloc, &request.dir, parsed.outputs.as_slice())?)
         }
-        _ => Err(Stop::Unreadable),
+        _ => Err(HostError::Unreadable),
     }
 }
 
 /// What differs in the first part in which two requests do, whose texts are in short.
-fn difference_of(alloc: Global, one: &Fingerprint, earlier: &Fingerprint) -> Result<String, Stop> {
+fn difference_of(alloc: Global, one: &Fingerprint, earlier: &Fingerprint) -> Result<String, HostError> {
     match (explain(one, earlier), one, earlier) {
         (Some(Part::Text), Fingerprint::C(parts), Fingerprint::C(others)) => {
             let told = TextDifference::between(alloc, &parts.text, &others.text)?;
@@ -83,7 +83,7 @@ fn difference_from(
     alloc: Global,
     one: &Fingerprint,
     kept: Option<KeptParts>,
-) -> Result<OsBytes, Stop> {
+) -> Result<OsBytes, HostError> {
     let Some(kept) = kept else {
         return Ok(OsBytes::empty(alloc));
     };
@@ -93,9 +93,9 @@ fn difference_from(
 }
 
 /// The fingerprint with its text in short.
-fn in_short(alloc: Global, fingerprint: Fingerprint) -> Result<Fingerprint, Stop> {
+fn in_short(alloc: Global, fingerprint: Fingerprint) -> Result<Fingerprint, HostError> {
     let Fingerprint::C(mut parts) = fingerprint else {
-        return Err(Stop::Unreadable);
+        return Err(HostError::Unreadable);
     };
     parts.text = short_text(alloc, parts.text.as_bytes())?;
     Ok(Fingerprint::C(parts))
@@ -104,12 +104,12 @@ fn in_short(alloc: Global, fingerprint: Fingerprint) -> Result<Fingerprint, Stop
 /// Keeps the parts of a call that was compiled, whose text is in short, under that name, and what differs from those that lay there.
 fn note_parts<R: Files + AllocGlobal>(
     rt: &R,
-    folder: &KeptFolder,
+    folder: &CacheDir,
     name: &str,
     one: &Fingerprint,
-) -> Result<(), Stop> {
+) -> Result<(), HostError> {
     let Fingerprint::C(parts) = one else {
-        return Err(Stop::Unreadable);
+        return Err(HostError::Unreadable);
     };
     let earlier = parts_under(rt, folder, name)?;
     let difference = difference_from(rt.alloc(), one, earlier)?;
@@ -126,7 +126,7 @@ pub fn note_fingerprint<R: Files + AllocGlobal, F: CallFiles>(
     request: &Request,
     fingerprint: Fingerprint,
     files: &mut F,
-) -> Result<(), Stop> {
+) -> Result<(), HostError> {
     let alloc = rt.alloc();
     let one = in_short(alloc, fingerprint)?;
     let name = name_of_request(alloc, request, files)?;
@@ -134,14 +134,14 @@ pub fn note_fingerprint<R: Files + AllocGlobal, F: CallFiles>(
 }
 
 /// What words ask Gcc for. No file is opened.
-fn asked_by_gcc(alloc: Global, words: &[OsBytes], dir: &OsBytes) -> Result<Asked, Stop> {
+fn asked_by_gcc(alloc: Global, words: &[OsBytes], dir: &OsBytes) -> Result<Asked, HostError> {
     let gcc = Gcc::new(alloc, false, None, None)?;
     let mut files = SnapshotFiles::new(alloc);
     asked_of(alloc, &gcc, words, dir, &mut files)
 }
 
 /// Likewise Clang.
-fn asked_by_clang(alloc: Global, words: &[OsBytes], dir: &OsBytes) -> Result<Asked, Stop> {
+fn asked_by_clang(alloc: Global, words: &[OsBytes], dir: &OsBytes) -> Result<Asked, HostError> {
     let clang = Clang::new(alloc, false, None, None)?;
     let mut files = SnapshotFiles::new(alloc);
     asked_of(alloc, &clang, words, dir, &mut files)
@@ -153,7 +153,7 @@ fn asked_in(
     kind: CCompilerKind,
     words: &[OsBytes],
     dir: &OsBytes,
-) -> Result<Asked, Stop> {
+) -> Result<Asked, HostError> {
     match kind {
         CCompilerKind::Clang => asked_by_clang(alloc, words, dir),
         _ => asked_by_gcc(alloc, words, dir),
@@ -169,7 +169,7 @@ fn object_in(outputs: &[(OsBytes, ArtifactDescriptor)]) -> Option<&OsBytes> {
 }
 
 /// What is known of the last call with these outputs that was compiled.
-fn told_of(alloc: Global, kept: &Option<KeptParts>) -> Result<String, Stop> {
+fn told_of(alloc: Global, kept: &Option<KeptParts>) -> Result<String, HostError> {
     match kept {
         None => Ok(String::from_str(alloc, "nothing is known")?),
         Some(kept) if kept.difference.as_bytes().is_empty() => {
@@ -188,10 +188,10 @@ fn kept_at<R: Files + AllocGlobal>(
     kept: &str,
     dir: &OsBytes,
     outputs: &[(OsBytes, ArtifactDescriptor)],
-) -> Result<Option<KeptParts>, Stop> {
+) -> Result<Option<KeptParts>, HostError> {
     let name = name_of_parts(rt.alloc(), dir, outputs)?;
     let path = String::from_str(rt.alloc(), kept)?;
-    let folder = KeptFolder::new(path, String::new(rt.alloc()));
+    let folder = CacheDir::new(path, String::new(rt.alloc()));
     Ok(parts_under(rt, &folder, name.as_str())?)
 }
 
@@ -200,7 +200,7 @@ fn tell_of<R: Print + AllocGlobal>(
     rt: &R,
     found: &Option<KeptParts>,
     object: Option<&OsBytes>,
-) -> Result<(), Stop> {
+) -> Result<(), HostError> {
     let told = told_of(rt.alloc(), found)?;
     match object {
         Some(path) => println!(rt; "{path}: {told}")?,
@@ -215,13 +215,13 @@ fn tell<R: Print + Files + AllocGlobal>(
     kept: &str,
     dir: &OsBytes,
     outputs: &[(OsBytes, ArtifactDescriptor)],
-) -> Result<(), Stop> {
+) -> Result<(), HostError> {
     let found = kept_at(rt, kept, dir, outputs)?;
     tell_of(rt, &found, object_in(outputs))
 }
 
 /// Says that words are passed through.
-fn tell_pass<R: Print>(rt: &R, reason: Reason) -> Result<(), Stop> {
+fn tell_pass<R: Print>(rt: &R, reason: Reason) -> Result<(), HostError> {
     println!(rt; "pass: {reason}")?;
     Ok(())
 }
@@ -232,7 +232,7 @@ fn tell_asked<R: Print + Files + AllocGlobal>(
     kept: &str,
     dir: &OsBytes,
     asked: Asked,
-) -> Result<(), Stop> {
+) -> Result<(), HostError> {
     match asked {
         CompilerArguments::Ok(parsed) => tell(rt, kept, dir, parsed.outputs.as_slice()),
         CompilerArguments::NotCompilation => tell_pass(rt, Reason::NotCompilation),
@@ -249,13 +249,13 @@ fn tell_words<R: Print + Files + AllocGlobal>(
     kind: CCompilerKind,
     dir: &OsBytes,
     words: &[OsBytes],
-) -> Result<(), Stop> {
+) -> Result<(), HostError> {
     let asked = asked_in(rt.alloc(), kind, words, dir)?;
     tell_asked(rt, kept, dir, asked)
 }
 
 /// The words as bytes.
-fn words_in(alloc: Global, words: &[String]) -> Result<Listed<OsBytes>, Stop> {
+fn words_in(alloc: Global, words: &[String]) -> Result<Listed<OsBytes>, HostError> {
     let mut copies = Listed::new(alloc);
     for word in words {
         copies.push(OsBytes::from_slice(alloc, word.as_bytes())?)?;
@@ -270,7 +270,7 @@ fn tell_command<R: Print + Files + AllocGlobal>(
     kind: CCompilerKind,
     dir: &str,
     words: &[String],
-) -> Result<(), Stop> {
+) -> Result<(), HostError> {
     let dir = OsBytes::from_slice(rt.alloc(), dir.as_bytes())?;
     let words = words_in(rt.alloc(), words)?;
     match dependencies_of(rt.alloc(), words.as_slice())? {
@@ -287,7 +287,7 @@ pub fn why<R: Print + Files + AllocGlobal>(
     executable: &str,
     dir: &str,
     words: &[String],
-) -> Result<(), Stop> {
+) -> Result<(), HostError> {
     if let Some(word) = words.iter().find(|word| word.as_str().starts_with("@")) {
         println!(rt; "nothing is known: {word} isn't opened")?;
         return Ok(());

@@ -12,8 +12,8 @@ use std::fs::File;
 use std::rt::{Clock, Files};
 use std::time::SystemTime;
 use wrap::How;
-use wrapper_host::command_line::CommandLine;
-use wrapper_host::stop::Stop;
+use host_protocol::command_line::CommandLine;
+use host_protocol::host_error::HostError;
 
 /// The counter of a call whose outputs are there.
 fn counter_of(line: &CommandLine, how: How) -> &'static str {
@@ -25,8 +25,8 @@ fn counter_of(line: &CommandLine, how: How) -> &'static str {
     }
 }
 
-/// Why a call was passed through, or has no record; nothing where neither is so.
-fn reason_of(alloc: Global, end: &Result<End, Stop>) -> Result<String, Stop> {
+/// Why a call was passed through, or has no manifest; nothing where neither is so.
+fn reason_of(alloc: Global, end: &Result<End, HostError>) -> Result<String, HostError> {
     let end = match end {
         Ok(end) => end,
         Err(stop) => return Ok(format!(in alloc; "stop: {stop}")?),
@@ -39,7 +39,7 @@ fn reason_of(alloc: Global, end: &Result<End, Stop>) -> Result<String, Stop> {
 }
 
 /// Whether what was kept differs from what the compiler made in its place.
-fn differs(end: &Result<End, Stop>) -> bool {
+fn differs(end: &Result<End, HostError>) -> bool {
     match end {
         Ok(end) => matches!(end.audit, Audit::Differs(_)),
         Err(_) => false,
@@ -53,7 +53,7 @@ fn counters_done(
     how: How,
     is_unwatched: bool,
     reason: &str,
-) -> Result<Vec<String>, Stop> {
+) -> Result<Vec<String>, HostError> {
     let mut counters = Vec::new(alloc);
     counters.push(String::from_str(alloc, counter_of(line, how))?)?;
     if is_unwatched {
@@ -66,9 +66,9 @@ fn counters_done(
 fn counters(
     alloc: Global,
     line: &CommandLine,
-    end: &Result<End, Stop>,
+    end: &Result<End, HostError>,
     reason: &str,
-) -> Result<Vec<String>, Stop> {
+) -> Result<Vec<String>, HostError> {
     let mut counters = match end {
         Ok(
             End {
@@ -98,13 +98,13 @@ fn milliseconds<R: Clock>(rt: &R, line: &CommandLine) -> u128 {
     }
 }
 
-/// Puts a line into the log: what a call came to, how long it took, the command, and why where it was passed through or has no record.
+/// Puts a line into the log: what a call came to, how long it took, the command, and why where it was passed through or has no manifest.
 fn log_call<R: Files<File = File> + Clock + AllocGlobal>(
     rt: &R,
     line: &CommandLine,
     counter: &str,
     reason: &str,
-) -> Result<(), Stop> {
+) -> Result<(), HostError> {
     let time = milliseconds(rt, line);
     let what = format!(in rt.alloc(); "{counter} {time} ms")?;
     let place = line.settings.value_of(Key::LogFile);
@@ -115,8 +115,8 @@ fn log_call<R: Files<File = File> + Clock + AllocGlobal>(
 pub fn note<R: Files<File = File> + Clock + AllocGlobal>(
     rt: &R,
     line: &CommandLine,
-    end: &Result<End, Stop>,
-) -> Result<(), Stop> {
+    end: &Result<End, HostError>,
+) -> Result<(), HostError> {
     let is_logged = !line.settings.value_of(Key::LogFile).is_empty();
     let is_counted = line.settings.is_on(Key::Stats);
     if !is_logged && !is_counted {

@@ -7,14 +7,14 @@ use call_requests::call::{Call, call_of};
 use call_requests::passing::reason_against;
 use explained_misses::why::note_fingerprint;
 use fingerprints::fingerprint::request_fingerprint;
-use kept_entries::entry::KeptMessages;
-use kept_pairs::entries::Kept;
-use kept_pairs::record_files::name_of_record;
+use cache_format::kept_result::KeptMessages;
+use cache_files::results::Kept;
+use cache_files::manifest_files::name_of_manifest;
 use known_calls::audits::Audit;
 use known_calls::kept::{found, hint_at, hint_name, kept_under};
 use known_calls::known::{Given, Known};
-use known_compilers::compilers::kind_of;
-use loaded_files::outputs::have_plain_places;
+use compiler_id::compilers::kind_of;
+use source_files::outputs::have_plain_places;
 use os_files::listed::Listed;
 use os_files::os_bytes::OsBytes;
 use replay::kept_session::{SessionAnswer, answered, session_over};
@@ -28,14 +28,14 @@ use std::rt::Files;
 use wrap::{
     Answer, CCompilerKind, Config, ConfigError, EntryKey, Fault, How, Request, Step, StoreKey, Zone,
 };
-use wrapper_host::command_line::CommandLine;
-use wrapper_host::host::Host;
-use wrapper_host::stop::Stop;
+use host_protocol::command_line::CommandLine;
+use host_protocol::host::Host;
+use host_protocol::host_error::HostError;
 
 /// What a call came to.
 #[derive(Drop)]
 pub enum What {
-    /// The outputs are there: kept ones, or those that the compiler made; and why no record says of what the text is made, if so.
+    /// The outputs are there: kept ones, or those that the compiler made; and why no manifest says of what the text is made, if so.
     Done(How, Option<Unwatched>),
     /// The compiler is to run, or its status is the answer where it ran; and why.
     Pass(String),
@@ -62,7 +62,7 @@ impl End {
 const ATTEMPTS: u32 = 64;
 
 /// A pass for that reason.
-fn pass(alloc: Global, reason: &str) -> Result<End, Stop> {
+fn pass(alloc: Global, reason: &str) -> Result<End, HostError> {
     Ok(End::pass(String::from_str(alloc, reason)?))
 }
 
@@ -72,7 +72,7 @@ fn look_up<R: Files + AllocGlobal>(
     line: &CommandLine,
     key: Option<&StoreKey>,
     known: &mut Known,
-) -> Result<bool, Stop> {
+) -> Result<bool, HostError> {
     let Some(key) = key else {
         return Ok(false);
     };
@@ -84,21 +84,21 @@ fn look_up<R: Files + AllocGlobal>(
     Ok(known.entry.is_some())
 }
 
-/// Asks the disk for the record that the session asked for, once. False where it has none, or none was asked for.
-fn look_up_record<R: Files + AllocGlobal>(
+/// Asks the disk for the manifest that the session asked for, once. False where it has none, or none was asked for.
+fn look_up_manifest<R: Files + AllocGlobal>(
     rt: &R,
     line: &CommandLine,
     asked: Option<&EntryKey>,
     known: &mut Known,
-) -> Result<bool, Stop> {
+) -> Result<bool, HostError> {
     let Some(key) = asked else {
         return Ok(false);
     };
-    let name = name_of_record(rt.alloc(), line.zone.as_str(), key)?;
-    known.look_up_record(rt, line, name)
+    let name = name_of_manifest(rt.alloc(), line.zone.as_str(), key)?;
+    known.look_up_manifest(rt, line, name)
 }
 
-/// Finds out what the text is: by a record, or by the preprocessor. False where it was printed already.
+/// Finds out what the text is: by a manifest, or by the preprocessor. False where it was printed already.
 fn find_text<P: Print + Files<File = File> + AllocGlobal, I: Read>(
     rt: &P,
     line: &CommandLine,
@@ -106,11 +106,11 @@ fn find_text<P: Print + Files<File = File> + AllocGlobal, I: Read>(
     hint: &str,
     asked: Option<&EntryKey>,
     known: &mut Known,
-) -> Result<bool, Stop>
+) -> Result<bool, HostError>
     requires { host.old.compiled ≤ 1 }
     ensures { host.new.compiled ≤ 1 }
 {
-    if look_up_record(rt, line, asked, known)? {
+    if look_up_manifest(rt, line, asked, known)? {
         return Ok(true);
     }
     if !known.record(rt, line, host, None)? {
@@ -118,7 +118,7 @@ fn find_text<P: Print + Files<File = File> + AllocGlobal, I: Read>(
     }
     if asked.is_some() {
         known.follow_text(rt, line)?;
-        load_entry(rt, line, hint, known)?;
+        load_result(rt, line, hint, known)?;
     }
     Ok(true)
 }
@@ -130,11 +130,11 @@ fn find_outputs<P: Print + Files<File = File> + AllocGlobal, I: Read>(
     host: &mut Host<I>,
     key: Option<&StoreKey>,
     known: &mut Known,
-) -> Result<bool, Stop>
+) -> Result<bool, HostError>
     requires { host.old.compiled ≤ 1 }
     ensures { host.new.compiled ≤ 1 }
 {
-    if look_up(rt, line, key, known)? || known.drop_record() {
+    if look_up(rt, line, key, known)? || known.drop_manifest() {
         return Ok(true);
     }
     known.record(rt, line, host, key)
@@ -149,7 +149,7 @@ fn find_out<P: Print + Files<File = File> + AllocGlobal, I: Read>(
     fault: &Fault,
     answered: &SessionAnswer<Sha256>,
     known: &mut Known,
-) -> Result<bool, Stop>
+) -> Result<bool, HostError>
     requires { host.old.compiled ≤ 1 }
     ensures { host.new.compiled ≤ 1 }
 {
@@ -168,16 +168,16 @@ fn find_out<P: Print + Files<File = File> + AllocGlobal, I: Read>(
 }
 
 /// What is fixed for a session: which folders don't count, and in direct mode the zone in which days are told. Outputs of any size are
-/// kept: `kept_folder` has a rule of its own on what is larger than most of its limit.
-fn config_of(alloc: Global, basedirs: &[OsBytes], zone: &Option<Zone>) -> Result<Config, Stop> {
+/// kept: `cache_dir` has a rule of its own on what is larger than most of its limit.
+fn config_of(alloc: Global, basedirs: &[OsBytes], zone: &Option<Zone>) -> Result<Config, HostError> {
     let config = match zone {
         Some(zone) => Config::new(alloc, basedirs, *zone, true, None),
         None => Config::new(alloc, basedirs, Zone::utc(), false, None),
     };
     match config {
         Ok(config) => Ok(config),
-        Err(ConfigError::Memory) => Err(Stop::Memory),
-        Err(ConfigError::BadFolder(_)) => Err(Stop::Folder),
+        Err(ConfigError::Memory) => Err(HostError::Memory),
+        Err(ConfigError::BadFolder(_)) => Err(HostError::Folder),
     }
 }
 
@@ -186,14 +186,14 @@ fn answer_by(
     alloc: Global,
     request: &Request,
     known: &mut Known,
-) -> Result<(SessionAnswer<Sha256>, Option<KeptMessages>), Stop> {
+) -> Result<(SessionAnswer<Sha256>, Option<KeptMessages>), HostError> {
     let config = config_of(alloc, known.basedirs.as_slice(), &known.zone)?;
-    let record_kept = known.record_again()?;
+    let kept_manifest = known.manifest_again()?;
     let (entry, messages) = match known.entry.take() {
         Some(Kept { pair, messages }) => (Some(pair), Some(messages)),
         None => (None, None),
     };
-    let session = session_over::<Sha256>(alloc, config, record_kept, entry);
+    let session = session_over::<Sha256>(alloc, config, kept_manifest, entry);
     let answer = answered(session, request, &mut known.files, &mut known.tool);
     Ok((answer, messages))
 }
@@ -216,8 +216,8 @@ fn turn_of<R: Files + AllocGlobal>(
     key: Option<&StoreKey>,
     given: &Given<'_>,
     known: &mut Known,
-) -> Result<Turn, Stop> {
-    if !known.may_go_by_record(rt, line, key)? || !known.may_give(rt, key, given.messages)? {
+) -> Result<Turn, HostError> {
+    if !known.may_go_by_manifest(rt, line, key)? || !known.may_give(rt, key, given.messages)? {
         return Ok(Turn::Ask);
     }
     if !have_plain_places(rt, given.outputs)? {
@@ -238,7 +238,7 @@ fn act_on_outputs<P: Print + Files<File = File> + AllocGlobal, I: Read>(
     answered: &SessionAnswer<Sha256>,
     given: &Given<'_>,
     known: &mut Known,
-) -> Result<Option<End>, Stop>
+) -> Result<Option<End>, HostError>
     ensures { host.new.compiled ≡ host.old.compiled }
 {
     let key = answered.session.objects().asked();
@@ -262,7 +262,7 @@ fn act_on<P: Print + Files<File = File> + AllocGlobal, I: Read>(
     answered: &SessionAnswer<Sha256>,
     messages: Option<&KeptMessages>,
     known: &mut Known,
-) -> Result<Option<End>, Stop>
+) -> Result<Option<End>, HostError>
     requires { host.old.compiled ≤ 1 }
     ensures { host.new.compiled ≤ 1 }
 {
@@ -287,12 +287,12 @@ fn act_on<P: Print + Files<File = File> + AllocGlobal, I: Read>(
 }
 
 /// Loads what was kept under the digest that this command line had last.
-fn load_entry<R: Files + AllocGlobal>(
+fn load_result<R: Files + AllocGlobal>(
     rt: &R,
     line: &CommandLine,
     hint: &str,
     known: &mut Known,
-) -> Result<(), Stop> {
+) -> Result<(), HostError> {
     let Some(had) = hint_at(rt, line, hint)? else {
         return Ok(());
     };
@@ -302,22 +302,22 @@ fn load_entry<R: Files + AllocGlobal>(
     Ok(())
 }
 
-/// Loads ahead what this command line had last: what was kept, and in direct mode, where no text was printed yet, the record before it.
+/// Loads ahead what this command line had last: what was kept, and in direct mode, where no text was printed yet, the manifest before it.
 /// Without that the text comes first.
 fn load_ahead<R: Files + AllocGlobal>(
     rt: &R,
     line: &CommandLine,
     hint: &str,
     known: &mut Known,
-) -> Result<(), Stop> {
+) -> Result<(), HostError> {
     if known.zone.is_none() || known.tool.text.is_some() {
-        return load_entry(rt, line, hint, known);
+        return load_result(rt, line, hint, known);
     }
     let Some(had) = hint_at(rt, line, hint)? else {
         return Ok(());
     };
-    let record_name = String::from_str(rt.alloc(), had.record_name.as_str())?;
-    if known.look_up_record(rt, line, record_name)? {
+    let manifest_name = String::from_str(rt.alloc(), had.manifest_name.as_str())?;
+    if known.look_up_manifest(rt, line, manifest_name)? {
         known.entry = kept_under(rt, line, had.digest.clone()?, &[])?;
     }
     known.hint = Some(had);
@@ -332,7 +332,7 @@ fn attempt<P: Print + Files<File = File> + AllocGlobal, I: Read>(
     request: &Request,
     hint: &str,
     known: &mut Known,
-) -> Result<Option<End>, Stop>
+) -> Result<Option<End>, HostError>
     requires { host.old.compiled ≤ 1 }
     ensures { host.new.compiled ≤ 1 }
 {
@@ -348,7 +348,7 @@ fn ask_until<P: Print + Files<File = File> + AllocGlobal, I: Read>(
     request: &Request,
     hint: &str,
     known: &mut Known,
-) -> Result<End, Stop>
+) -> Result<End, HostError>
     requires { host.old.compiled ≤ 1 }
     // However often the session is asked, the host compiles at most once.
     ensures once { host.new.compiled ≤ 1 }
@@ -374,7 +374,7 @@ fn zone_of(line: &CommandLine) -> Option<Zone> {
 }
 
 /// The folders that don't count: those that are set, with colons between them.
-fn basedirs_of(alloc: Global, line: &CommandLine) -> Result<Listed<OsBytes>, Stop> {
+fn basedirs_of(alloc: Global, line: &CommandLine) -> Result<Listed<OsBytes>, HostError> {
     let mut folders = Listed::new(alloc);
     for folder in line.settings.value_of(Key::BaseDir).split(':') {
         if !folder.is_empty() {
@@ -385,7 +385,7 @@ fn basedirs_of(alloc: Global, line: &CommandLine) -> Result<Listed<OsBytes>, Sto
 }
 
 /// Whether the compiler made the outputs, and they were kept.
-fn was_compiled(end: &Result<End, Stop>) -> bool {
+fn was_compiled(end: &Result<End, HostError>) -> bool {
     match end {
         Ok(end) => matches!(end.what, What::Done(How::Fresh, _)),
         Err(_) => false,
@@ -398,7 +398,7 @@ fn end_audit<R: Files<File = File> + AllocGlobal>(
     line: &CommandLine,
     known: &Known,
     end: End,
-) -> Result<End, Stop> {
+) -> Result<End, HostError> {
     let End { what, audit } = end;
     let audit = match &what {
         What::Pass(_) if known.audited.is_some() => {
@@ -414,9 +414,9 @@ fn note_made<R: Files + AllocGlobal>(
     rt: &R,
     line: &CommandLine,
     request: &Request,
-    end: &Result<End, Stop>,
+    end: &Result<End, HostError>,
     known: &mut Known,
-) -> Result<(), Stop> {
+) -> Result<(), HostError> {
     if !was_compiled(end) {
         return Ok(());
     }
@@ -443,7 +443,7 @@ fn ask_and_note<P: Print + Files<File = File> + AllocGlobal, I: Read>(
     request: &Request,
     hint: &str,
     known: &mut Known,
-) -> Result<End, Stop>
+) -> Result<End, HostError>
     requires { host.old.compiled ≡ 0 }
     ensures once { host.new.compiled ≤ 1 }
 {
@@ -460,7 +460,7 @@ fn ask_about<P: Print + Files<File = File> + AllocGlobal, I: Read>(
     host: &mut Host<I>,
     kind: CCompilerKind,
     call: Call,
-) -> Result<End, Stop>
+) -> Result<End, HostError>
     requires { host.old.compiled ≡ 0 }
     ensures once { host.new.compiled ≤ 1 }
 {
@@ -489,7 +489,7 @@ fn ask<P: Print + Files<File = File> + AllocGlobal, I: Read>(
     line: &CommandLine,
     host: &mut Host<I>,
     kind: CCompilerKind,
-) -> Result<End, Stop>
+) -> Result<End, HostError>
     requires { host.old.compiled ≡ 0 }
     ensures once { host.new.compiled ≤ 1 }
 {
@@ -502,7 +502,7 @@ pub fn decide<P: Print + Files<File = File> + AllocGlobal, I: Read>(
     rt: &P,
     line: &CommandLine,
     host: &mut Host<I>,
-) -> Result<End, Stop>
+) -> Result<End, HostError>
     requires { host.old.compiled ≡ 0 }
     // The host is asked to compile at most once, whatever it, the disk and the compiler do.
     ensures once { host.new.compiled ≤ 1 }

@@ -3,13 +3,13 @@
 ghost use Rattle.std.specs.Prelude.{◌≡◌};
 
 use crate::deciding::{End, What};
-use kept_folder::folder::Kind;
-use kept_folder::making_room::make_room;
+use cache_dir::folder::Kind;
+use cache_dir::making_room::make_room;
 use known_calls::audits::Audit;
 use known_calls::kept::{keep, note_hint, renew};
 use known_calls::known::{Given, Known};
 use known_calls::outputs::lock_paths;
-use loaded_files::outputs::{print_again, write_dependencies, write_outputs};
+use source_files::outputs::{print_again, write_dependencies, write_outputs};
 use os_files::listed::Listed;
 use os_files::os_bytes::OsBytes;
 use replay::kept_session::SessionAnswer;
@@ -19,13 +19,13 @@ use std::fs::File;
 use std::io::Read;
 use std::rt::Files;
 use wrap::{EntryKey, How, Output, PreprocessorCacheEntry, StoreKey};
-use wrapper_host::command_line::CommandLine;
-use wrapper_host::fields::into_text;
-use wrapper_host::host::Host;
-use wrapper_host::stop::Stop;
+use host_protocol::command_line::CommandLine;
+use host_protocol::fields::into_text;
+use host_protocol::host::Host;
+use host_protocol::host_error::HostError;
 
 /// The paths of outputs.
-fn paths_of(alloc: Global, outputs: &[Output]) -> Result<Listed<OsBytes>, Stop> {
+fn paths_of(alloc: Global, outputs: &[Output]) -> Result<Listed<OsBytes>, HostError> {
     let mut paths = Listed::new(alloc);
     for output in outputs {
         paths.push(output.path.clone()?)?;
@@ -40,9 +40,9 @@ fn give<R: Files<File = File> + AllocGlobal>(
     line: &CommandLine,
     given: &Given<'_>,
     known: &Known,
-) -> Result<(), Stop> {
+) -> Result<(), HostError> {
     let Some(messages) = given.messages else {
-        return Err(Stop::Unreadable);
+        return Err(HostError::Unreadable);
     };
     let paths = paths_of(rt.alloc(), given.outputs)?;
     let dependency_file = known.dependency_file();
@@ -53,34 +53,34 @@ fn give<R: Files<File = File> + AllocGlobal>(
     print_again(rt, line, messages)
 }
 
-/// Keeps the record that was put with what to watch of the text, where that can be told, or notes that the one of that name was used, with what
+/// Keeps the manifest that was put with what to watch of the text, where that can be told, or notes that the one of that name was used, with what
 /// is new of its headers. False where none was kept.
-fn finish_record<R: Files + AllocGlobal>(
+fn finish_manifest<R: Files + AllocGlobal>(
     rt: &R,
     line: &CommandLine,
     newest: Option<&(EntryKey, PreprocessorCacheEntry)>,
     key: &StoreKey,
     list: Option<&[u8]>,
     known: &Known,
-) -> Result<bool, Stop> {
+) -> Result<bool, HostError> {
     match (newest, list) {
         (None, _) => {
             if known.keep_noted(rt, line)? {
                 return Ok(true);
             }
             let name = known.name_to_note();
-            line.folder.renew(rt, Kind::Records, name, line.moment)?;
+            line.folder.renew(rt, Kind::Manifests, name, line.moment)?;
             Ok(false)
         }
         (Some(newest), Some(list)) => {
-            known.keep_record(rt, line, newest, key, list)?;
+            known.keep_manifest(rt, line, newest, key, list)?;
             Ok(true)
         }
         (Some(_), None) => Ok(false),
     }
 }
 
-/// Keeps the record and the hint of a call, and sees to it that the limit holds, once for all that the call put.
+/// Keeps the manifest and the hint of a call, and sees to it that the limit holds, once for all that the call put.
 fn note_call<R: Files + AllocGlobal>(
     rt: &R,
     line: &CommandLine,
@@ -90,7 +90,7 @@ fn note_call<R: Files + AllocGlobal>(
     is_kept: bool,
     list: Option<&[u8]>,
     known: &Known,
-) -> Result<(), Stop> {
+) -> Result<(), HostError> {
     let digest_name = into_text(key.digest.clone()?)?;
     let name = known.name_to_note();
     let mut names = Vec::new(rt.alloc());
@@ -100,7 +100,7 @@ fn note_call<R: Files + AllocGlobal>(
     }
     if !name.is_empty() {
         let newest = answered.session.entries().newest();
-        if let Ok(true) = finish_record(rt, line, newest, key, list, known) {
+        if let Ok(true) = finish_manifest(rt, line, newest, key, list, known) {
             names.push(name)?;
         }
     }
@@ -110,7 +110,7 @@ fn note_call<R: Files + AllocGlobal>(
     Ok(make_room(&rt, &line.folder, names.as_slice())?)
 }
 
-/// What to watch of the text, where the session put a record. Where that can't be told there is none, and it is noted why.
+/// What to watch of the text, where the session put a manifest. Where that can't be told there is none, and it is noted why.
 fn list_to_watch<P: Print + Files + AllocGlobal, I: Read>(
     rt: &P,
     line: &CommandLine,
@@ -138,7 +138,7 @@ fn give_kept<R: Files<File = File> + AllocGlobal>(
     key: &StoreKey,
     given: &Given<'_>,
     known: &Known,
-) -> Result<(), Stop> {
+) -> Result<(), HostError> {
     give(rt, line, given, known)?;
     let _ = renew(rt, line, &key.digest);
     Ok(())
@@ -154,7 +154,7 @@ pub fn finish<P: Print + Files<File = File> + AllocGlobal, I: Read>(
     answered: &SessionAnswer<Sha256>,
     given: &Given<'_>,
     known: &mut Known,
-) -> Result<End, Stop>
+) -> Result<End, HostError>
     ensures { host.new.compiled ≡ host.old.compiled }
 {
     let Some(key) = answered.session.objects().asked() else {
@@ -188,7 +188,7 @@ fn finish_without_key<R: Files<File = File> + AllocGlobal>(
     line: &CommandLine,
     given: &Given<'_>,
     known: &Known,
-) -> Result<End, Stop> {
+) -> Result<End, HostError> {
     if given.how != How::Fresh {
         give(rt, line, given, known)?;
     }

@@ -25,9 +25,9 @@ use std::rt::{Clock, Env, Files};
 use std::time::SystemTime;
 use user_options::doing::{Caller, do_options};
 use user_options::help::help;
-use wrapper_host::command_line::CommandLine;
-use wrapper_host::host::Host;
-use wrapper_host::stop::Stop;
+use host_protocol::command_line::CommandLine;
+use host_protocol::host::Host;
+use host_protocol::host_error::HostError;
 
 /// The status at which the outputs are there.
 const DONE: u8 = 11;
@@ -80,9 +80,9 @@ fn told<R: Print + Files + AllocGlobal>(
     caller: &Caller<'_>,
     compiler: &str,
     command: &[String],
-) -> Result<(), Stop> {
+) -> Result<(), HostError> {
     match compiler.is_empty() {
-        true => Err(Stop::Command),
+        true => Err(HostError::Command),
         false => why(rt, caller.kept, compiler, caller.dir, command),
     }
 }
@@ -99,7 +99,7 @@ fn ended<R: Eprint, E: Display + Drop>(rt: &R, done: &Result<(), E>) -> ExitCode
 }
 
 /// The arguments behind the program's own name.
-fn arguments<R: Env + AllocGlobal>(rt: &R) -> Result<Vec<String>, Stop> {
+fn arguments<R: Env + AllocGlobal>(rt: &R) -> Result<Vec<String>, HostError> {
     let words = env::args(rt)?;
     Ok(words.skip(1).collect(rt.alloc())?)
 }
@@ -108,7 +108,7 @@ fn arguments<R: Env + AllocGlobal>(rt: &R) -> Result<Vec<String>, Stop> {
 fn line_from<R: Clock + AllocGlobal, I: Read>(
     rt: &R,
     host: &mut Host<I>,
-) -> Result<CommandLine, Stop>
+) -> Result<CommandLine, HostError>
     ensures { host.new.compiled ≡ host.old.compiled }
 {
     let message = host.message(rt.alloc())?;

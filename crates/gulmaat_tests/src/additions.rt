@@ -5,7 +5,7 @@ use os_files::os_bytes::OsBytes;
 use std::alloc::Global;
 use std::test::Fail;
 use test_kit::texts::{holds, is_that};
-use wrapper_host::stop::Stop;
+use host_protocol::host_error::HostError;
 
 /// The bytes of two rows, `a` with `1` and `b` with nothing.
 const ROWS: [u8; 43] = [
@@ -14,7 +14,7 @@ const ROWS: [u8; 43] = [
 ];
 
 /// The variable of these rows.
-fn variable_of(alloc: Global, rows: &[(&str, &str)]) -> Result<(OsBytes, OsBytes), Stop> {
+fn variable_of(alloc: Global, rows: &[(&str, &str)]) -> Result<(OsBytes, OsBytes), HostError> {
     let mut additions = Additions::new(alloc);
     for (name, value) in rows {
         additions.add(alloc, name, value.as_bytes())?;
@@ -39,7 +39,7 @@ fn difference_of(
     alloc: Global,
     rows: &[(&str, &str)],
     earlier: &[(&str, &str)],
-) -> Result<String, Stop> {
+) -> Result<String, HostError> {
     let mut here = Vec::new(alloc);
     here.push(variable_of(alloc, rows)?)?;
     let mut there = Vec::new(alloc);

@@ -6,7 +6,7 @@ use std::fs;
 use std::rt::Files;
 use std::test::Fail;
 use std::time::UNIX_EPOCH;
-use wrapper_host::command_line::CommandLine;
+use host_protocol::command_line::CommandLine;
 
 /// Makes a folder of that name, without anything in it.
 pub fn make_fresh<R: Files + Alloc>(rt: &R, folder: &str) -> Result<(), Fail> {

@@ -1,5 +1,5 @@
 //! Tests of what gulmaat stands on, by example: what sources ask for, where compilers look, what is watched, states of files, lines as they were
-//! written, records, dependency files, variables, and what is bound to keys.
+//! written, manifests, dependency files, variables, and what is bound to keys.
 #![tactic(auto)]
 
 #[cfg(test)]

@@ -1,6 +1,6 @@
 //! Lists of files for Make.
 
-use loaded_files::lists::names_files_of;
+use source_files::lists::names_files_of;
 use std::test::Fail;
 use test_kit::texts::holds;
 

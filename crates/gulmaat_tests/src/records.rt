@@ -1,10 +1,10 @@
-//! Lists of what to watch beside a record, and records that lose results and get them back.
+//! Lists of what to watch beside a manifest, and manifests that lose results and get them back.
 
 use byte_formats::fields::{put_framed, put_number};
 use include_records::key_text::KeyText;
 use include_records::record::PreprocessorCacheEntry;
 use os_files::listed::Listed;
-use searched_folders::records::{joined, result_holds, with_list, without};
+use searched_folders::manifests::{joined, result_holds, with_list, without};
 use std::alloc::{AllocError, Global};
 use std::rt::Files;
 use std::test::Fail;
@@ -15,7 +15,7 @@ fn key_of(alloc: Global, letter: &str) -> Result<KeyText, AllocError> {
     Ok(KeyText::new(letter.repeat(alloc, 64)?))
 }
 
-/// A record with results of these letters.
+/// A manifest with results of these letters.
 fn record_of(alloc: Global, letters: &[&str]) -> Result<PreprocessorCacheEntry, Fail> {
     let mut record = PreprocessorCacheEntry::new(alloc);
     for letter in letters {
@@ -24,7 +24,7 @@ fn record_of(alloc: Global, letters: &[&str]) -> Result<PreprocessorCacheEntry, 
     Ok(record)
 }
 
-/// The letters of a record's results.
+/// The letters of a manifest's results.
 fn letters_of(alloc: Global, record: &PreprocessorCacheEntry) -> Result<String, AllocError> {
     let mut letters = String::new(alloc);
     for result in record.results() {
@@ -42,7 +42,7 @@ fn list_for(alloc: Global, folder: &str) -> Result<Vec<u8>, AllocError> {
     Ok(list)
 }
 
-/// Lists with one more: that of a result for a call in a folder, beside a record with these results.
+/// Lists with one more: that of a result for a call in a folder, beside a manifest with these results.
 fn more_lists(
     alloc: Global,
     lists: &[u8],
@@ -120,7 +120,7 @@ fn results_are_left_out(rt: HostRuntime) -> Result<(), Fail> {
     Ok(())
 }
 
-/// Results of two records, and those of both.
+/// Results of two manifests, and those of both.
 const JOINED: [(&[&str], &[&str], &str); 4] = [
     (&[], &[], ""),
     (&["a"], &["b"], "ab"),

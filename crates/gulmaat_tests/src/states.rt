@@ -2,10 +2,10 @@
 
 use crate::disks::{change, line_of, make_fresh};
 use byte_formats::fields::put_framed;
-use kept_folder::file_digests::digest_of;
+use cache_dir::file_digests::digest_of;
 use known_calls::outputs::{lock_paths, made_since, states_of};
-use loaded_files::mounts::devices_in;
-use loaded_files::tokens::Tokens;
+use source_files::mounts::devices_in;
+use source_files::tokens::Tokens;
 use os_files::os_bytes::OsBytes;
 use disk_files::found::State;
 use std::alloc::Global;

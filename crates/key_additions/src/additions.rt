@@ -5,8 +5,8 @@ use byte_formats::fields::{put_framed, put_number};
 use os_files::listed::Listed;
 use os_files::os_bytes::OsBytes;
 use std::alloc::Global;
-use wrapper_host::fields::Fields;
-use wrapper_host::stop::Stop;
+use host_protocol::fields::Fields;
+use host_protocol::host_error::HostError;
 
 /// The variable that the session hashes for a user's own value.
 pub const VARIABLE: &str = "SCCACHE_C_CUSTOM_CACHE_BUSTER";
@@ -29,14 +29,14 @@ impl Additions {
     }
 
     /// Adds a row.
-    pub fn add(&mut self, alloc: Global, name: &str, value: &[u8]) -> Result<(), Stop> {
+    pub fn add(&mut self, alloc: Global, name: &str, value: &[u8]) -> Result<(), HostError> {
         let name = OsBytes::from_slice(alloc, name.as_bytes())?;
         self.rows.push((name, OsBytes::from_slice(alloc, value)?))?;
         Ok(())
     }
 
     /// Adds a row, where the value isn't empty.
-    pub fn add_if_any(&mut self, alloc: Global, name: &str, value: &[u8]) -> Result<(), Stop> {
+    pub fn add_if_any(&mut self, alloc: Global, name: &str, value: &[u8]) -> Result<(), HostError> {
         if value.is_empty() {
             return Ok(());
         }
@@ -44,7 +44,7 @@ impl Additions {
     }
 
     /// The variable, with the rows as its value: their count, and of each the name and the value behind their lengths.
-    pub fn variable(&self, alloc: Global) -> Result<Row, Stop> {
+    pub fn variable(&self, alloc: Global) -> Result<Row, HostError> {
         let mut value = Vec::new(alloc);
         put_number(&mut value, self.rows.as_slice().len() as u64)?;
         for (name, bytes) in self.rows.as_slice() {
@@ -65,12 +65,12 @@ fn value_in(variables: &[Row]) -> Option<&OsBytes> {
 }
 
 /// The rows that are the value of the variable among these; none where it isn't one of rows.
-fn rows_in(alloc: Global, variables: &[Row]) -> Result<Listed<Row>, Stop> {
+fn rows_in(alloc: Global, variables: &[Row]) -> Result<Listed<Row>, HostError> {
     let Some(value) = value_in(variables) else {
         return Ok(Listed::new(alloc));
     };
     match Fields::of(value.as_bytes()).pairs(alloc) {
-        Err(Stop::Memory) => Err(Stop::Memory),
+        Err(HostError::Memory) => Err(HostError::Memory),
         Err(_) => Ok(Listed::new(alloc)),
         Ok(rows) => Ok(rows),
     }
@@ -82,7 +82,7 @@ fn has_name(rows: &[Row], name: &OsBytes) -> bool {
 }
 
 /// A name, and what stands beside it in each of two lists.
-fn told(alloc: Global, name: &OsBytes, here: &str, there: &str) -> Result<String, Stop> {
+fn told(alloc: Global, name: &OsBytes, here: &str, there: &str) -> Result<String, HostError> {
     Ok(format!(in alloc; "{name}: {here}, earlier {there}")?)
 }
 
@@ -92,7 +92,7 @@ fn told_of(
     here: Option<&Row>,
     there: Option<&Row>,
     earlier: &[Row],
-) -> Result<Option<String>, Stop> {
+) -> Result<Option<String>, HostError> {
     match (here, there) {
         (Some(one), Some(other)) if one.0 == other.0 => {
             let value = format!(in alloc; "{}", one.1)?;
@@ -110,7 +110,7 @@ fn told_of(
 }
 
 /// What is said of a row that wasn't there earlier.
-fn new_row(alloc: Global, row: &Row) -> Result<Option<String>, Stop> {
+fn new_row(alloc: Global, row: &Row) -> Result<Option<String>, HostError> {
     let value = format!(in alloc; "{}", row.1)?;
     Ok(Some(told(alloc, &row.0, value.as_str(), "none")?))
 }
@@ -120,7 +120,7 @@ pub fn difference(
     alloc: Global,
     variables: &[Row],
     earlier: &[Row],
-) -> Result<Option<String>, Stop> {
+) -> Result<Option<String>, HostError> {
     let one = rows_in(alloc, variables)?;
     let other = rows_in(alloc, earlier)?;
     let pairs = one.as_slice().iter().zip(other.as_slice().iter());

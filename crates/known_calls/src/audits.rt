@@ -2,15 +2,15 @@
 
 use crate::known::{Given, Known};
 use crate::logging::log;
-use kept_folder::folder::Kind;
+use cache_dir::folder::Kind;
 use os_files::os_bytes::OsBytes;
 use std::alloc::{AllocError, Global};
 use std::fs::File;
 use std::rt::Files;
 use wrap::{How, Output, StoreKey};
-use wrapper_host::command_line::CommandLine;
-use wrapper_host::fields::text_in;
-use wrapper_host::stop::Stop;
+use host_protocol::command_line::CommandLine;
+use host_protocol::fields::text_in;
+use host_protocol::host_error::HostError;
 
 /// How many letters of a call's digest say whether it is compared.
 const LETTERS: usize = 8;
@@ -114,7 +114,7 @@ fn log_difference<R: Files<File = File> + AllocGlobal>(
     line: &CommandLine,
     digest: &OsBytes,
     what: &str,
-) -> Result<(), Stop> {
+) -> Result<(), HostError> {
     let alloc = rt.alloc();
     let digest = text_in(digest)?;
     let folder = line.folder.path.as_str();
@@ -171,12 +171,12 @@ impl Known {
         hint: &str,
         key: Option<&StoreKey>,
         given: &Given<'_>,
-    ) -> Result<bool, Stop> {
+    ) -> Result<bool, HostError> {
         let (Some(key), Some(messages)) = (key, given.messages) else {
             return Ok(false);
         };
         if let Some(audited) = &self.audited {
-            // By its text it has another key than by its record, or comes once more.
+            // By its text it has another key than by its manifest, or comes once more.
             return Ok(audited.digest == key.digest);
         }
         if !is_one_of(hint, line.settings.audit()) {
@@ -203,11 +203,11 @@ impl Known {
         rt: &R,
         line: &CommandLine,
         what: String,
-    ) -> Result<Audit, Stop> {
+    ) -> Result<Audit, HostError> {
         if let Some(audited) = &self.audited {
             let name = text_in(&audited.digest)?;
-            let _ = line.folder.remove(rt, Kind::Entries, name);
-            let _ = line.folder.remove(rt, Kind::Records, self.name_to_note());
+            let _ = line.folder.remove(rt, Kind::Results, name);
+            let _ = line.folder.remove(rt, Kind::Manifests, self.name_to_note());
             let _ = log_difference(rt, line, &audited.digest, what.as_str());
         }
         Ok(Audit::Differs(what))
@@ -221,7 +221,7 @@ impl Known {
         line: &CommandLine,
         key: &StoreKey,
         outputs: &[Output],
-    ) -> Result<Audit, Stop> {
+    ) -> Result<Audit, HostError> {
         let Some(audited) = &self.audited else {
             return Ok(Audit::None);
         };

@@ -2,34 +2,34 @@
 //! file is a miss.
 
 use byte_formats::fields::put_framed;
-use kept_entries::entry::KeptMessages;
-use kept_entries::sealed::{entry_bytes, read_entry};
-use kept_folder::file_digests::digest_of;
-use kept_folder::folder::Kind;
-use kept_folder::limit::takes;
-use kept_pairs::entries::{Kept, entry_of, kept_of};
+use cache_format::kept_result::KeptMessages;
+use cache_format::sealed::{result_bytes, read_result};
+use cache_dir::file_digests::digest_of;
+use cache_dir::folder::Kind;
+use cache_dir::limit::takes;
+use cache_files::results::{Kept, entry_of, kept_of};
 use os_files::os_bytes::OsBytes;
 use settings::key::Key;
 use sha2::Sha256;
 use std::alloc::Global;
 use std::rt::Files;
 use wrap::{Output, StoreKey};
-use wrapper_host::command_line::CommandLine;
-use wrapper_host::fields::into_text;
-use wrapper_host::stop::Stop;
+use host_protocol::command_line::CommandLine;
+use host_protocol::fields::into_text;
+use host_protocol::host_error::HostError;
 
 /// How many bytes the digest of a key has.
 const DIGEST: usize = 64;
 
-/// What a command line had last: the digest of its key, and the name of its include record, where it had one.
+/// What a command line had last: the digest of its key, and the name of its manifest, where it had one.
 #[derive(Drop)]
 pub struct Hint {
     pub digest: OsBytes,
-    pub record_name: String,
+    pub manifest_name: String,
 }
 
 /// The name under which the hint of this command line lies.
-pub fn hint_name(alloc: Global, line: &CommandLine) -> Result<String, Stop> {
+pub fn hint_name(alloc: Global, line: &CommandLine) -> Result<String, HostError> {
     let mut row = Vec::new(alloc);
     put_framed(&mut row, line.executable.as_bytes())?;
     put_framed(&mut row, line.dir.as_bytes())?;
@@ -46,15 +46,15 @@ pub fn found<R: Files + AllocGlobal>(
     line: &CommandLine,
     digest: OsBytes,
     messages: &[u8],
-) -> Result<Option<Kept>, Stop> {
+) -> Result<Option<Kept>, HostError> {
     if line.settings.is_on(Key::Recache) {
         return Ok(None);
     }
     let name = into_text(digest)?;
-    let Ok(bytes) = line.folder.read(rt, Kind::Entries, name.as_str()) else {
+    let Ok(bytes) = line.folder.read(rt, Kind::Results, name.as_str()) else {
         return Ok(None);
     };
-    let Some(entry) = read_entry::<Sha256>(rt.alloc(), bytes.as_slice())? else {
+    let Some(entry) = read_result::<Sha256>(rt.alloc(), bytes.as_slice())? else {
         return Ok(None);
     };
     if entry.messages.preprocessor.as_bytes() != messages {
@@ -68,7 +68,7 @@ pub fn hint_at<R: Files + AllocGlobal>(
     rt: &R,
     line: &CommandLine,
     hint: &str,
-) -> Result<Option<Hint>, Stop> {
+) -> Result<Option<Hint>, HostError> {
     let Ok(bytes) = line.folder.read(rt, Kind::Hints, hint) else {
         return Ok(None);
     };
@@ -80,10 +80,10 @@ pub fn hint_at<R: Files + AllocGlobal>(
         return Ok(None);
     };
     let digest = OsBytes::from_slice(rt.alloc(), digest)?;
-    let record_name = String::from_str(rt.alloc(), name)?;
+    let manifest_name = String::from_str(rt.alloc(), name)?;
     Ok(Some(Hint {
         digest,
-        record_name,
+        manifest_name,
     }))
 }
 
@@ -93,25 +93,25 @@ pub fn kept_under<R: Files + AllocGlobal>(
     line: &CommandLine,
     digest: OsBytes,
     messages: &[u8],
-) -> Result<Option<Kept>, Stop> {
+) -> Result<Option<Kept>, HostError> {
     match found(rt, line, digest, messages) {
-        Err(Stop::Memory) => Err(Stop::Memory),
+        Err(HostError::Memory) => Err(HostError::Memory),
         Err(_) => Ok(None),
         Ok(entry) => Ok(entry),
     }
 }
 
-/// Notes which digest this command line had, and the name of its include record; an empty one where it had none.
+/// Notes which digest this command line had, and the name of its manifest; an empty one where it had none.
 pub fn note_hint<R: Files + AllocGlobal>(
     rt: &R,
     line: &CommandLine,
     hint: &str,
     digest: &OsBytes,
-    record_name: &str,
-) -> Result<(), Stop> {
+    manifest_name: &str,
+) -> Result<(), HostError> {
     let mut bytes = Vec::new(rt.alloc());
     bytes.extend_from_slice(digest.as_bytes())?;
-    bytes.extend_from_slice(record_name.as_bytes())?;
+    bytes.extend_from_slice(manifest_name.as_bytes())?;
     Ok(line.folder.put(rt, Kind::Hints, hint, bytes.as_slice())?)
 }
 
@@ -122,15 +122,15 @@ pub fn keep<R: Files + AllocGlobal>(
     key: &StoreKey,
     outputs: &[Output],
     messages: KeptMessages,
-) -> Result<(), Stop> {
+) -> Result<(), HostError> {
     let entry = entry_of(rt.alloc(), key, outputs, messages)?;
-    let bytes = entry_bytes::<Sha256>(rt.alloc(), &entry)?;
+    let bytes = result_bytes::<Sha256>(rt.alloc(), &entry)?;
     let name = into_text(key.digest.clone()?)?;
     let folder = &line.folder;
     if !takes(folder.limit, bytes.len() as u64) {
         return Ok(());
     }
-    Ok(folder.put(rt, Kind::Entries, name.as_str(), bytes.as_slice())?)
+    Ok(folder.put(rt, Kind::Results, name.as_str(), bytes.as_slice())?)
 }
 
 /// Notes that what is kept under this digest was given, so that it goes last where the limit is passed.
@@ -138,10 +138,10 @@ pub fn renew<R: Files + AllocGlobal>(
     rt: &R,
     line: &CommandLine,
     digest: &OsBytes,
-) -> Result<(), Stop> {
+) -> Result<(), HostError> {
     let name = into_text(digest.clone()?)?;
     Ok(
         line.folder
-            .renew(rt, Kind::Entries, name.as_str(), line.moment)?,
+            .renew(rt, Kind::Results, name.as_str(), line.moment)?,
     )
 }

@@ -5,18 +5,18 @@ ghost use Rattle.std.specs.Prelude.{◌≡◌, ◌≤◌};
 use crate::audits::Audited;
 use crate::kept::Hint;
 use crate::outputs::{lock_paths, made_since, states_of};
-use crate::records::KnownRecord;
+use crate::manifests::KnownManifest;
 use ckeys::hasher::needs_c_preprocessing;
 use disk_files::whole::read_whole;
-use kept_entries::entry::KeptMessages;
-use kept_pairs::entries::Kept;
+use cache_format::kept_result::KeptMessages;
+use cache_files::results::Kept;
 use known_options::dependencies::Dependencies;
 use known_options::text_words::text_words;
-use loaded_files::lists::{digest_of_list, names_files_of};
-use loaded_files::loading::{load, load_named};
-use loaded_files::outputs::regular;
-use loaded_files::precompiled::has_precompiled;
-use loaded_files::tokens::Tokens;
+use source_files::lists::{digest_of_list, names_files_of};
+use source_files::loading::{load, load_named};
+use source_files::outputs::regular;
+use source_files::precompiled::has_precompiled;
+use source_files::tokens::Tokens;
 use os_files::listed::Listed;
 use os_files::os_bytes::OsBytes;
 use replay::replay_tool::{RecordedOutputs, RecordedText, ReplayTool, Wanted};
@@ -32,10 +32,10 @@ use unkept_texts::times::tells_time;
 use wrap::{
     CCompilerKind, Compiled, Files as CallFiles, How, Output, Printed, Shape, Step, StoreKey, Zone,
 };
-use wrapper_host::command_line::CommandLine;
-use wrapper_host::fields::text_in;
-use wrapper_host::host::{Ended, Host};
-use wrapper_host::stop::Stop;
+use host_protocol::command_line::CommandLine;
+use host_protocol::fields::text_in;
+use host_protocol::host::{Ended, Host};
+use host_protocol::host_error::HostError;
 use written_lines::asked::Asked;
 use written_lines::lines::{digest_asked, digest_of_contents};
 use written_lines::named::NamedFiles;
@@ -59,7 +59,7 @@ pub struct Known {
     dependencies: Option<Dependencies>,
     /// The zone in which days are told, where direct mode is on.
     pub zone: Option<Zone>,
-    /// Why no record says of what the text is made, where direct mode was on.
+    /// Why no manifest says of what the text is made, where direct mode was on.
     pub unwatched: Option<Unwatched>,
     /// The folders that don't count.
     pub basedirs: Listed<OsBytes>,
@@ -71,8 +71,8 @@ pub struct Known {
     pub entry: Option<Kept>,
     /// The digest by which the disk was asked already.
     pub looked_up: Option<OsBytes>,
-    /// The include record that a disk keeps, which may fit.
-    pub(crate) record: KnownRecord,
+    /// The manifest that a disk keeps, which may fit.
+    pub(crate) record: KnownManifest,
     /// What this command line had last, once the disk was asked.
     pub hint: Option<Hint>,
     /// The hit that is compiled too.
@@ -114,7 +114,7 @@ impl Known {
             tool: ReplayTool::new(),
             entry: None,
             looked_up: None,
-            record: KnownRecord::new(alloc),
+            record: KnownManifest::new(alloc),
             hint: None,
             audited: None,
             loaded: None,
@@ -127,10 +127,10 @@ impl Known {
         }
     }
 
-    /// Whether this command line is known to have had this digest and record last.
-    pub fn has_hint(&self, digest: &OsBytes, record_name: &str) -> bool {
+    /// Whether this command line is known to have had this digest and manifest last.
+    pub fn has_hint(&self, digest: &OsBytes, manifest_name: &str) -> bool {
         match &self.hint {
-            Some(had) => had.digest == *digest && had.record_name.as_str() == record_name,
+            Some(had) => had.digest == *digest && had.manifest_name.as_str() == manifest_name,
             None => false,
         }
     }
@@ -144,7 +144,7 @@ impl Known {
 
     /// Loads the file of that path, as it is there or not. Where that can't be told direct mode goes off. False where it was the last
     /// one already.
-    pub fn load<R: Files + AllocGlobal>(&mut self, rt: &R, path: OsBytes) -> Result<bool, Stop> {
+    pub fn load<R: Files + AllocGlobal>(&mut self, rt: &R, path: OsBytes) -> Result<bool, HostError> {
         if self.loaded.as_ref() == Some(&path) {
             return Ok(false);
         }
@@ -157,12 +157,12 @@ impl Known {
     }
 
     /// Loads what the text names that was printed last. Direct mode goes off where what was read for it can't be told, or the preprocessor
-    /// printed messages, which no record has.
+    /// printed messages, which no manifest has.
     pub fn follow_text<R: Files + AllocGlobal>(
         &mut self,
         rt: &R,
         line: &CommandLine,
-    ) -> Result<(), Stop> {
+    ) -> Result<(), HostError> {
         if !self.preprocessor.as_bytes().is_empty() {
             self.turn_off(Unwatched::Messages);
             return Ok(());
@@ -175,15 +175,15 @@ impl Known {
     }
 
     /// Takes an input that is compiled as it stands, as it was loaded. One that takes in files is refused.
-    fn take_input<R: Files + AllocGlobal>(&mut self, rt: &R, key: &StoreKey) -> Result<(), Stop> {
+    fn take_input<R: Files + AllocGlobal>(&mut self, rt: &R, key: &StoreKey) -> Result<(), HostError> {
         let (false, Some(path)) = (is_preprocessed(key), &self.loaded) else {
             return Ok(());
         };
         let Ok(Some(contents)) = self.files.read(rt.alloc(), path) else {
-            return Err(Stop::Changed);
+            return Err(HostError::Changed);
         };
         if takes_files(contents.as_bytes()) {
-            return Err(Stop::TakesFiles);
+            return Err(HostError::TakesFiles);
         }
         self.named = NamedFiles::of_input(rt, path.clone()?, contents)?;
         Ok(())
@@ -219,12 +219,12 @@ impl Known {
         }
     }
 
-    /// Whether messages may be printed again: a line that they quote is as it was. By a record all files are as they were.
+    /// Whether messages may be printed again: a line that they quote is as it was. By a manifest all files are as they were.
     fn may_print_again<R: Files + AllocGlobal>(
         &mut self,
         rt: &R,
         messages: &KeptMessages,
-    ) -> Result<bool, Stop> {
+    ) -> Result<bool, HostError> {
         if messages.sources.is_none() || self.tool.text.is_none() {
             return Ok(true);
         }
@@ -237,7 +237,7 @@ impl Known {
         rt: &R,
         key: Option<&StoreKey>,
         messages: Option<&KeptMessages>,
-    ) -> Result<bool, Stop> {
+    ) -> Result<bool, HostError> {
         let Some(messages) = messages else {
             return Ok(true);
         };
@@ -252,7 +252,7 @@ impl Known {
     }
 
     /// The words by which the compiler prints the text, and lists the files that it read where a dependency file is asked for.
-    fn words_for_text(&self, alloc: Global, line: &CommandLine) -> Result<Listed<OsBytes>, Stop> {
+    fn words_for_text(&self, alloc: Global, line: &CommandLine) -> Result<Listed<OsBytes>, HostError> {
         let Some(dependencies) = &self.dependencies else {
             return Ok(text_words(alloc, line.words.as_slice(), None)?);
         };
@@ -266,7 +266,7 @@ impl Known {
         &mut self,
         rt: &R,
         line: &CommandLine,
-    ) -> Result<Vec<u8>, Stop> {
+    ) -> Result<Vec<u8>, HostError> {
         let alloc = rt.alloc();
         let mut text = read_whole(rt, line.text.as_str())?;
         refuse_text(line, text.as_slice())?;
@@ -275,7 +275,7 @@ impl Known {
         }
         self.named = NamedFiles::of(rt, line.dir.as_bytes(), text.as_slice())?;
         if has_precompiled(rt, line, &self.named)? {
-            return Err(Stop::Precompiled);
+            return Err(HostError::Precompiled);
         }
         let lines = self.lines_of(rt, line, text.as_slice())?;
         push_digest(&mut text, "lines as they were written", lines.as_bytes())?;
@@ -293,7 +293,7 @@ impl Known {
         rt: &R,
         line: &CommandLine,
         text: &[u8],
-    ) -> Result<OsBytes, Stop> {
+    ) -> Result<OsBytes, HostError> {
         let alloc = rt.alloc();
         let asked = Asked::by(self.kind, line.words.as_slice(), text);
         if asked == Asked::Nothing || !line.settings.value_of(Key::Sloppiness).is_empty() {
@@ -307,7 +307,7 @@ impl Known {
     fn digest_of_sources<R: Files + AllocGlobal>(
         &mut self,
         rt: &R,
-    ) -> Result<Option<OsBytes>, Stop> {
+    ) -> Result<Option<OsBytes>, HostError> {
         self.named.read(rt);
         let sources = Sources::of(rt.alloc(), &self.named)?;
         if sources.are_renumbered() {
@@ -323,7 +323,7 @@ impl Known {
         line: &CommandLine,
         host: &mut Host<I>,
         words: Listed<OsBytes>,
-    ) -> Result<(), Stop>
+    ) -> Result<(), HostError>
         ensures { host.new.compiled ≡ host.old.compiled }
     {
         let own = self.words_for_text(rt.alloc(), line)?;
@@ -354,7 +354,7 @@ impl Known {
         alloc: Global,
         line: &CommandLine,
         words: &[OsBytes],
-    ) -> Result<Listed<OsBytes>, Stop> {
+    ) -> Result<Listed<OsBytes>, HostError> {
         let mut own = Listed::new(alloc);
         for word in line.words.as_slice() {
             own.push(word.clone()?)?;
@@ -367,7 +367,7 @@ impl Known {
     }
 
     /// Takes the dependency file that the compile wrote. What is missing, or names files that the text doesn't have, isn't kept.
-    fn take_written<R: Files + AllocGlobal>(&mut self, rt: &R, key: &StoreKey) -> Result<(), Stop> {
+    fn take_written<R: Files + AllocGlobal>(&mut self, rt: &R, key: &StoreKey) -> Result<(), HostError> {
         if !self.wants_dependencies(Some(key)) {
             return Ok(());
         }
@@ -375,10 +375,10 @@ impl Known {
             return Ok(());
         };
         let Some(written) = regular(rt, text_in(path)?) else {
-            return Err(Stop::Changed);
+            return Err(HostError::Changed);
         };
         if !names_files_of(rt.alloc(), written.as_bytes(), self.list.as_bytes())? {
-            return Err(Stop::Changed);
+            return Err(HostError::Changed);
         }
         self.written = Some(written);
         Ok(())
@@ -393,7 +393,7 @@ impl Known {
         host: &mut Host<I>,
         key: &StoreKey,
         wanted: Wanted,
-    ) -> Result<(), Stop>
+    ) -> Result<(), HostError>
         requires { host.old.compiled ≡ 0 }
         ensures { host.new.compiled ≤ 1 }
     {
@@ -430,7 +430,7 @@ impl Known {
         host: &mut Host<I>,
         key: &StoreKey,
         wanted: Wanted,
-    ) -> Result<bool, Stop>
+    ) -> Result<bool, HostError>
         requires { host.old.compiled ≤ 1 }
         ensures { host.new.compiled ≤ 1 }
     {
@@ -443,10 +443,10 @@ impl Known {
     }
 
     /// Refuses what was made where a file that the text names, or an input that is compiled as it stands, was changed meanwhile.
-    pub(crate) fn check_sources<R: Files + AllocGlobal>(&self, rt: &R) -> Result<(), Stop> {
+    pub(crate) fn check_sources<R: Files + AllocGlobal>(&self, rt: &R) -> Result<(), HostError> {
         match self.named.are_unchanged(rt) && self.has_loaded_input(rt) {
             true => Ok(()),
-            false => Err(Stop::Changed),
+            false => Err(HostError::Changed),
         }
     }
 
@@ -457,7 +457,7 @@ impl Known {
 
     /// Copies of what was printed and written beside the outputs that the compiler made. Messages that can't be told to be as they would be
     /// in another call are an error.
-    pub fn messages<R: Files + AllocGlobal>(&mut self, rt: &R) -> Result<KeptMessages, Stop> {
+    pub fn messages<R: Files + AllocGlobal>(&mut self, rt: &R) -> Result<KeptMessages, HostError> {
         self.check_sources(rt)?;
         let mut sources = None;
         if !self.was_silent() {
@@ -465,7 +465,7 @@ impl Known {
                 sources = self.digest_of_sources(rt)?;
             }
             if sources.is_none() {
-                return Err(Stop::Quotes);
+                return Err(HostError::Quotes);
             }
         }
         Ok(KeptMessages {
@@ -487,7 +487,7 @@ impl Known {
         line: &CommandLine,
         host: &mut Host<I>,
         key: Option<&StoreKey>,
-    ) -> Result<bool, Stop>
+    ) -> Result<bool, HostError>
         requires { host.old.compiled ≤ 1 }
         ensures { host.new.compiled ≤ 1 }
     {
@@ -506,7 +506,7 @@ impl Known {
 }
 
 /// Puts a digest behind a text, as lines of a file that is none. An empty one isn't put there.
-fn push_digest(text: &mut Vec<u8>, name: &str, digest: &[u8]) -> Result<(), Stop> {
+fn push_digest(text: &mut Vec<u8>, name: &str, digest: &[u8]) -> Result<(), HostError> {
     if digest.is_empty() {
         return Ok(());
     }
@@ -517,12 +517,12 @@ fn push_digest(text: &mut Vec<u8>, name: &str, digest: &[u8]) -> Result<(), Stop
 }
 
 /// Refuses a text by which what is made of it can't be found again.
-fn refuse_text(line: &CommandLine, text: &[u8]) -> Result<(), Stop> {
+fn refuse_text(line: &CommandLine, text: &[u8]) -> Result<(), HostError> {
     if takes_files(text) {
-        return Err(Stop::TakesFiles);
+        return Err(HostError::TakesFiles);
     }
     if tells_time(text, line.second(), line.zone.as_str()) {
-        return Err(Stop::TellsTime);
+        return Err(HostError::TellsTime);
     }
     Ok(())
 }
@@ -541,7 +541,7 @@ fn is_preprocessed(key: &StoreKey) -> bool {
 }
 
 /// What a command printed there.
-fn printed_at<R: Files + AllocGlobal>(rt: &R, ended: &Ended, place: &str) -> Result<OsBytes, Stop> {
+fn printed_at<R: Files + AllocGlobal>(rt: &R, ended: &Ended, place: &str) -> Result<OsBytes, HostError> {
     if ended.silent {
         return Ok(OsBytes::empty(rt.alloc()));
     }

@@ -6,4 +6,4 @@ pub mod kept;
 pub mod known;
 pub mod logging;
 pub mod outputs;
-mod records;
+mod manifests;

@@ -3,8 +3,8 @@
 use std::fs::{File, OpenOptions};
 use std::io::Write;
 use std::rt::Files;
-use wrapper_host::command_line::CommandLine;
-use wrapper_host::stop::Stop;
+use host_protocol::command_line::CommandLine;
+use host_protocol::host_error::HostError;
 
 /// Appends a line to a log, which is made where it isn't there: the second in which the call began, what it came to, the command, and a
 /// remark in brackets, where there is one.
@@ -14,7 +14,7 @@ pub fn log<R: Files<File = File> + AllocGlobal>(
     place: &str,
     what: &str,
     remark: &str,
-) -> Result<(), Stop> {
+) -> Result<(), HostError> {
     let second = line.second();
     let executable = line.executable.as_str();
     let mut text = format!(in rt.alloc(); "{second} {what}: {executable}")?;

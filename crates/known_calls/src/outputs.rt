@@ -1,7 +1,7 @@
 //! Files while a compiler writes and reads them: locks on the paths of outputs, and which of these it made.
 
-use kept_folder::file_digests::digest_of;
-use loaded_files::outputs::regular;
+use cache_dir::file_digests::digest_of;
+use source_files::outputs::regular;
 use os_files::listed::Listed;
 use os_files::os_bytes::OsBytes;
 use os_files::path::join;
@@ -13,9 +13,9 @@ use std::fs::{File, OpenOptions};
 use std::io::ErrorKind;
 use std::rt::Files;
 use std::{fs, io};
-use wrapper_host::command_line::CommandLine;
-use wrapper_host::fields::into_text;
-use wrapper_host::stop::Stop;
+use host_protocol::command_line::CommandLine;
+use host_protocol::fields::into_text;
+use host_protocol::host_error::HostError;
 
 /// How many letters of the digest of a path name its lock.
 const LETTERS: usize = 3;
@@ -31,7 +31,7 @@ fn real_path<R: Files + AllocGlobal>(
     rt: &R,
     line: &CommandLine,
     path: &[u8],
-) -> Result<String, Stop> {
+) -> Result<String, HostError> {
     let path = into_text(join(rt.alloc(), line.dir.as_bytes(), path)?)?;
     let Some((folder, name)) = path.rsplit_once('/') else {
         return Ok(path);
@@ -48,7 +48,7 @@ fn name_of<R: Files + AllocGlobal>(
     rt: &R,
     line: &CommandLine,
     path: &OsBytes,
-) -> Result<Option<String>, Stop> {
+) -> Result<Option<String>, HostError> {
     let real = real_path(rt, line, path.as_bytes())?;
     if real.as_str().starts_with("/dev/") {
         return Ok(None);
@@ -64,7 +64,7 @@ fn names_of<R: Files + AllocGlobal>(
     line: &CommandLine,
     paths: &[OsBytes],
     dependency_file: Option<&OsBytes>,
-) -> Result<BTreeSet<String>, Stop> {
+) -> Result<BTreeSet<String>, HostError> {
     let mut names = BTreeSet::new(rt.alloc());
     for path in paths.iter().chain(dependency_file) {
         if let Some(name) = name_of(rt, line, path)? {
@@ -87,7 +87,7 @@ fn locked<R: Files<File = File> + AllocGlobal>(
     line: &CommandLine,
     folder: &str,
     name: &str,
-) -> Result<File, Stop> {
+) -> Result<File, HostError> {
     let place = format!(in rt.alloc(); "{folder}/{name}")?;
     let umask = line.folder.umask;
     let is_given_rights = umask.is_some() && fs::metadata(rt, place.as_str()).is_err();
@@ -112,7 +112,7 @@ pub fn lock_paths<R: Files<File = File> + AllocGlobal>(
     line: &CommandLine,
     paths: &[OsBytes],
     dependency_file: Option<&OsBytes>,
-) -> Result<Locks, Stop> {
+) -> Result<Locks, HostError> {
     let mut files = Vec::new(rt.alloc());
     if line.folder.is_read_only {
         return Ok(Locks { files });
@@ -145,7 +145,7 @@ pub fn made_since<R: Files + AllocGlobal>(
     rt: &R,
     paths: &[OsBytes],
     before: &[Option<State>],
-) -> Result<Listed<Option<OsBytes>>, Stop> {
+) -> Result<Listed<Option<OsBytes>>, HostError> {
     let mut files = Listed::new(rt.alloc());
     for (path, before) in paths.iter().zip(before.iter()) {
         let path = into_text(path.clone()?)?;

@@ -2,7 +2,7 @@
 #![tactic(auto)]
 
 pub mod asking;
-pub mod records;
+pub mod manifests;
 pub mod search_list;
 pub mod texts;
 pub mod unwatched;

@@ -14,7 +14,7 @@ use source_directives::directives::{
 use source_directives::times::{pastes_time, tells_time};
 use std::alloc::Global;
 use std::rt::Files;
-use wrapper_host::command_line::CommandLine;
+use host_protocol::command_line::CommandLine;
 
 /// What words begin with by which a compiler finds files in a way of its own.
 const OWN_WAYS: [&[u8]; 6] = [

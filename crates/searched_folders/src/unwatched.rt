@@ -1,7 +1,7 @@
-//! Why a text has no list of what to watch: no record says then of what it is made.
+//! Why a text has no list of what to watch: no manifest says then of what it is made.
 
 use byte_formats::fault::ReadFault;
-use kept_folder::error::FolderError;
+use cache_dir::error::CacheDirError;
 use std::alloc::{AllocError, AllocFailed};
 use std::{fmt, io};
 use thiserror::Error;
@@ -25,7 +25,7 @@ pub enum Unwatched {
     /// A path can't be asked, or a link leads nowhere.
     #[error("unclear path")]
     Path,
-    /// The preprocessor printed messages, which no record has.
+    /// The preprocessor printed messages, which no manifest has.
     #[error("message of the preprocessor")]
     Messages,
     /// A file was changed since the call began, or can't be told to have been the same since.
@@ -75,11 +75,11 @@ impl From<ReadFault> for Unwatched {
     }
 }
 
-impl From<FolderError> for Unwatched {
-    fn from(error: FolderError) -> Unwatched {
+impl From<CacheDirError> for Unwatched {
+    fn from(error: CacheDirError) -> Unwatched {
         match error {
-            FolderError::Memory => Unwatched::Memory,
-            FolderError::Device | FolderError::Unreadable => Unwatched::Device,
+            CacheDirError::Memory => Unwatched::Memory,
+            CacheDirError::Device | CacheDirError::Unreadable => Unwatched::Device,
         }
     }
 }

@@ -9,7 +9,7 @@ use disk_files::found::{Found, State, found_at};
 use crate::unwatched::Unwatched;
 use byte_formats::fault::ReadFault;
 use byte_formats::fields::{put_framed, put_number, read_framed, read_number};
-use kept_folder::file_digests::digest_of;
+use cache_dir::file_digests::digest_of;
 use os_files::file_time::FileTime;
 use std::alloc::AllocError;
 use std::fs;

@@ -6,7 +6,7 @@ use crate::search_list::SearchList;
 use crate::unwatched::Unwatched;
 use crate::watch_list::Folder;
 use byte_formats::fields::{put_framed, put_number};
-use kept_folder::file_digests::digest_of;
+use cache_dir::file_digests::digest_of;
 use os_files::file_time::FileTime;
 use os_files::path::join;
 use source_directives::directives::{Asked, Search};

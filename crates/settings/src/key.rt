@@ -13,7 +13,7 @@ pub enum Key {
     BaseDir,
     /// The folder of what is kept.
     CacheDir,
-    /// Whether records are used, so that a hit needs no preprocessor.
+    /// Whether manifests are used, so that a hit needs no preprocessor.
     DirectMode,
     /// Whether each call is the compiler's own.
     Disable,

@@ -8,8 +8,8 @@ use crate::links::links;
 use crate::reading::read_options;
 use crate::settings_shown::{get, set, show_config};
 use crate::statistics_shown::{Statistics, print, show};
-use kept_folder::folder::KeptFolder;
-use kept_folder::making_room::{hold_limit, remove_unused};
+use cache_dir::folder::CacheDir;
+use cache_dir::making_room::{hold_limit, remove_unused};
 use settings::key::Key;
 use settings::places::{ListedVariables, OTHERS};
 use settings::reading::{read_settings, set_in_file};
@@ -103,9 +103,9 @@ fn kept_of(
 }
 
 /// The folder of what is kept, with the limit that is set.
-fn folder_of(alloc: Global, place: &Place) -> Result<KeptFolder, OptionError> {
+fn folder_of(alloc: Global, place: &Place) -> Result<CacheDir, OptionError> {
     let path = String::from_str(alloc, place.kept.as_str())?;
-    let mut folder = KeptFolder::new(path, String::new(alloc));
+    let mut folder = CacheDir::new(path, String::new(alloc));
     folder.limit = place.settings.max_size();
     folder.umask = place.settings.umask();
     Ok(folder)

@@ -1,6 +1,6 @@
 //! Why what a user asked for wasn't done.
 
-use kept_folder::error::FolderError;
+use cache_dir::error::CacheDirError;
 use settings::error::SettingsError;
 use statistics::error::StatisticsError;
 use std::alloc::{AllocError, AllocFailed};
@@ -51,11 +51,11 @@ impl From<fmt::Error> for OptionError {
     }
 }
 
-impl From<FolderError> for OptionError {
-    fn from(error: FolderError) -> OptionError {
+impl From<CacheDirError> for OptionError {
+    fn from(error: CacheDirError) -> OptionError {
         match error {
-            FolderError::Memory => OptionError::Memory,
-            FolderError::Device | FolderError::Unreadable => OptionError::Device,
+            CacheDirError::Memory => OptionError::Memory,
+            CacheDirError::Device | CacheDirError::Unreadable => OptionError::Device,
         }
     }
 }

@@ -4,7 +4,7 @@ ghost use Rattle.std.specs.Prelude.{◌≡◌, ◌*◌, ◌/◌, IfSome};
 
 use crate::error::OptionError;
 use crate::help::line_of;
-use kept_folder::making_room::kept_in;
+use cache_dir::making_room::kept_in;
 use statistics::counts::Counts;
 use statistics::file::{counts_at, updated_at};
 use statistics::names::{HITS, MISSES, PASSED, ZEROED, is_error, is_passed};

@@ -10,7 +10,7 @@ use memchr::memchr;
 use os_files::os_bytes::OsBytes;
 use sha2::Sha256;
 use std::alloc::{AllocError, Global};
-use wrapper_host::stop::Stop;
+use host_protocol::host_error::HostError;
 
 /// The name of the marker that a line is, if it is one, with its number.
 fn marker_in(line: &[u8]) -> Option<(&[u8], usize)> {
@@ -69,7 +69,7 @@ fn digest_of_lines(
     alloc: Global,
     text: &[u8],
     mut sources: Sources<'_>,
-) -> Result<OsBytes, Stop> {
+) -> Result<OsBytes, HostError> {
     sources.cut_into_lines()?;
     let mut written = Written::new(alloc);
     take_lines(text, &sources, &mut written)?;
@@ -79,13 +79,13 @@ fn digest_of_lines(
 }
 
 /// The text of a digest.
-fn finish(alloc: Global, digest: Digest<Sha256>) -> Result<OsBytes, Stop> {
+fn finish(alloc: Global, digest: Digest<Sha256>) -> Result<OsBytes, HostError> {
     let text = digest.finish(alloc)?;
     Ok(OsBytes::from_slice(alloc, text.as_bytes())?)
 }
 
 /// The digest of the contents of all files that a text names, in the order in which it does.
-pub fn digest_of_contents(alloc: Global, sources: &Sources<'_>) -> Result<OsBytes, Stop> {
+pub fn digest_of_contents(alloc: Global, sources: &Sources<'_>) -> Result<OsBytes, HostError> {
     finish(alloc, sources.digest_of(true))
 }
 
@@ -95,7 +95,7 @@ pub fn digest_asked(
     asked: Asked,
     text: &[u8],
     sources: Sources<'_>,
-) -> Result<OsBytes, Stop> {
+) -> Result<OsBytes, HostError> {
     match asked {
         Asked::Nothing => Ok(OsBytes::empty(alloc)),
         Asked::Lines => digest_of_lines(alloc, text, sources),

@@ -6,7 +6,7 @@ use memchr::memchr;
 use sha2::Sha256;
 use std::alloc::{AllocError, Global};
 use std::collections::HashMap;
-use wrapper_host::stop::Stop;
+use host_protocol::host_error::HostError;
 
 /// A file and where its lines begin.
 #[derive(Drop)]
@@ -155,14 +155,14 @@ pub struct Sources<'a> {
 
 impl<'a> Sources<'a> {
     /// The files of a text, which were read. A line that can't be told from a marker, and a file that is none or can't be read, is an error.
-    pub fn of(alloc: Global, named: &'a NamedFiles) -> Result<Sources<'a>, Stop> {
+    pub fn of(alloc: Global, named: &'a NamedFiles) -> Result<Sources<'a>, HostError> {
         let mut sources = Sources {
             files: HashMap::new(alloc),
             names: Vec::new(alloc),
             lacks: false,
         };
         if !named.are_all {
-            return Err(Stop::Unreadable);
+            return Err(HostError::Unreadable);
         }
         for file in named.files.iter() {
             match &file.lying {
@@ -173,7 +173,7 @@ impl<'a> Sources<'a> {
                     sources.files.insert(name, source)?;
                 }
                 Lying::Nothing | Lying::Unknown => sources.lacks = true,
-                Lying::File(_, None) | Lying::Other => return Err(Stop::Unreadable),
+                Lying::File(_, None) | Lying::Other => return Err(HostError::Unreadable),
             }
         }
         sources.check()?;
@@ -189,9 +189,9 @@ impl<'a> Sources<'a> {
     }
 
     /// Refuses a text of which a file isn't there, unless a directive may have named it.
-    fn check(&self) -> Result<(), Stop> {
+    fn check(&self) -> Result<(), HostError> {
         if self.lacks && !self.are_renumbered() {
-            return Err(Stop::Changed);
+            return Err(HostError::Changed);
         }
         Ok(())
     }

@@ -1,0 +1,50 @@
+//! Parts of calls that are put in the folder and read from it. A broken or missing file is as one that isn't there.
+
+use byte_formats::fields::put_framed;
+use cmdlines_base::command::ArtifactDescriptor;
+use cache_format::kept_parts::KeptParts;
+use cache_format::sealed::{parts_bytes, read_parts};
+use cache_dir::error::CacheDirError;
+use cache_dir::file_digests::digest_of;
+use cache_dir::folder::{CacheDir, Kind};
+use os_files::os_bytes::OsBytes;
+use sha2::Sha256;
+use std::alloc::{AllocError, Global};
+use std::rt::Files;
+
+/// The name under which the parts lie of the last call in this folder that asked for outputs at these paths, as they were written.
+pub fn name_of_parts(
+    alloc: Global,
+    dir: &OsBytes,
+    outputs: &[(OsBytes, ArtifactDescriptor)],
+) -> Result<String, CacheDirError> {
+    let mut row = Vec::new(alloc);
+    put_framed(&mut row, dir.as_bytes())?;
+    for output in outputs {
+        put_framed(&mut row, output.1.path.as_bytes())?;
+    }
+    digest_of(alloc, row.as_slice())
+}
+
+/// Puts the parts of a call in the place of those that have this name.
+pub fn put_parts<R: Files + AllocGlobal>(
+    rt: &R,
+    folder: &CacheDir,
+    name: &str,
+    kept: &KeptParts,
+) -> Result<(), CacheDirError> {
+    let bytes = parts_bytes::<Sha256>(rt.alloc(), kept)?;
+    folder.put(rt, Kind::Fingerprints, name, bytes.as_slice())
+}
+
+/// The parts of this name, if there are some.
+pub fn parts_under<R: Files + AllocGlobal>(
+    rt: &R,
+    folder: &CacheDir,
+    name: &str,
+) -> Result<Option<KeptParts>, AllocError> {
+    let Ok(bytes) = folder.read(rt, Kind::Fingerprints, name) else {
+        return Ok(None);
+    };
+    read_parts::<Sha256>(rt.alloc(), bytes.as_slice())
+}

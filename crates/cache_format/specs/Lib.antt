@@ -1,0 +1,6 @@
+pub mod Codes
+pub mod Sealed
+pub mod Layout
+pub mod ResultFormats
+pub mod KeptManifests
+pub mod KeptParts

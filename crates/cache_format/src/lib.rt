@@ -1,0 +1,10 @@
+//! What a compile made, manifests, and of what the keys of compiled calls were made, as bytes on a disk: each ends with a digest of
+//! its bytes, so that what is read is what was written.
+#![tactic(auto)]
+
+pub mod codes;
+pub mod kept_result;
+pub mod kept_parts;
+pub mod kept_manifest;
+pub mod layout;
+pub mod sealed;

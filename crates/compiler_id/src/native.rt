@@ -1,0 +1,105 @@
+//! What a driver makes of `native`: the processor of the machine, with the sizes of its caches, which no word and no text shows.
+
+ghost use Rattle.std.specs.Prelude.{◌≡◌};
+
+use byte_formats::fields::put_framed;
+use disk_files::whole::read_whole;
+use cache_dir::file_digests::{digest_of, state_of};
+use cache_dir::folder::Kind;
+use os_files::listed::Listed;
+use os_files::os_bytes::OsBytes;
+use std::fs;
+use std::io::Read;
+use std::rt::Files;
+use host_protocol::command_line::CommandLine;
+use host_protocol::host::Host;
+use host_protocol::host_error::HostError;
+
+/// What tells one start of a machine from another one: between two of them its processor may be another.
+const START: &str = "/proc/sys/kernel/random/boot_id";
+
+/// How many letters a digest has.
+const DIGEST: usize = 64;
+
+/// The words by which a driver asks the machine for its processor.
+fn native_words<R: AllocGlobal>(rt: &R, line: &CommandLine) -> Result<Listed<OsBytes>, HostError> {
+    let mut words = Listed::new(rt.alloc());
+    for word in line.words.as_slice() {
+        if word.as_bytes().starts_with(b"-m") && word.as_bytes().ends_with(b"=native") {
+            words.push(word.clone()?)?;
+        }
+    }
+    Ok(words)
+}
+
+/// The name under which it is noted what the driver makes of these words on this machine.
+fn name_of<R: Files + AllocGlobal>(
+    rt: &R,
+    line: &CommandLine,
+    words: &[OsBytes],
+) -> Result<String, HostError> {
+    let driver = [line.executable.clone()?];
+    let mut row = Vec::new(rt.alloc());
+    put_framed(&mut row, b"native")?;
+    put_framed(&mut row, state_of(rt, &driver)?.as_bytes())?;
+    put_framed(&mut row, read_whole(rt, START)?.as_slice())?;
+    for word in words {
+        put_framed(&mut row, word.as_bytes())?;
+    }
+    Ok(digest_of(rt.alloc(), row.as_slice())?)
+}
+
+/// The digest that was noted under that name, where it is one.
+fn known<R: Files + AllocGlobal>(rt: &R, line: &CommandLine, name: &str) -> Option<OsBytes> {
+    let bytes = line.folder.read(rt, Kind::Parts, name).ok()?;
+    match bytes.len() == DIGEST {
+        true => Some(OsBytes::from_vec(bytes)),
+        false => None,
+    }
+}
+
+/// The digest of the commands that the driver would run by these words.
+fn ask<P: Print + Files + AllocGlobal, I: Read>(
+    rt: &P,
+    line: &CommandLine,
+    host: &mut Host<I>,
+    mut words: Listed<OsBytes>,
+) -> Result<OsBytes, HostError>
+    requires { host.old.compiled ≡ 0 }
+    ensures { host.new.compiled ≡ 0 }
+{
+    let alloc = rt.alloc();
+    for word in ["-###", "-E", "-x", "c", "/dev/null"] {
+        words.push(OsBytes::from_slice(alloc, word.as_bytes())?)?;
+    }
+    let ended = host.preprocess(rt, alloc, words.as_slice())?;
+    if ended.status != 0 {
+        return Err(HostError::Parts);
+    }
+    let said = read_whole(rt, line.errors.as_str())?;
+    // The host prints what it finds there.
+    fs::write(rt, line.errors.as_str(), b"")?;
+    Ok(OsBytes::from_slice(alloc, digest_of(alloc, said.as_slice())?.as_bytes())?)
+}
+
+/// A digest of what the driver makes of `native` on this machine; nothing where no word has it.
+pub fn native_of<P: Print + Files + AllocGlobal, I: Read>(
+    rt: &P,
+    line: &CommandLine,
+    host: &mut Host<I>,
+) -> Result<Option<OsBytes>, HostError>
+    requires { host.old.compiled ≡ 0 }
+    ensures { host.new.compiled ≡ 0 }
+{
+    let words = native_words(rt, line)?;
+    if words.as_slice().is_empty() {
+        return Ok(None);
+    }
+    let name = name_of(rt, line, words.as_slice())?;
+    if let Some(digest) = known(rt, line, name.as_str()) {
+        return Ok(Some(digest));
+    }
+    let digest = ask(rt, line, host, words)?;
+    let _ = line.folder.put(rt, Kind::Parts, name.as_str(), digest.as_bytes());
+    Ok(Some(digest))
+}

@@ -1,6 +1,0 @@
-use Rattle.std.proofs.Common.{◌≡◌, map, take}
-use Rattle.kept_pairs.specs.Parts.{name_in}
-use Rattle.kept_pairs.proofs.entries.kept_names.Given as goal
-
-abbrev pub invariant-loop-output : goal.invariant-loop-output
-invariant-loop-output l = map name_in l.kept ≡ take l.output-index l.names

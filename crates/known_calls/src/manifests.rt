@@ -1,0 +1,304 @@
+//! Manifests by what is watched of their results: a result is used only where its compiler would find the same files now.
+
+ghost use Rattle.std.specs.Prelude.{◌≡◌};
+
+use crate::known::Known;
+use byte_formats::fields::{put_framed, read_framed};
+use cmdlines_tables::language::{language_to_clang_arg, language_to_gcc_arg};
+use cache_dir::error::CacheDirError;
+use cache_files::manifest_files::{put_manifest, manifest_under};
+use cache_files::manifests::FoundManifest;
+use source_files::loading::{load_all, settled_before};
+use os_files::os_bytes::OsBytes;
+use replay::watched_records::pair_again;
+use searched_folders::asking::said_of;
+use searched_folders::manifests::{joined, result_holds, with_list, without};
+use searched_folders::texts::{Source, list_of};
+use searched_folders::unwatched::Unwatched;
+use std::alloc::Global;
+use std::io::Read;
+use std::rt::Files;
+use wrap::{CCompilerKind, EntryKey, PreprocessorCacheEntry, Shape, StoreKey};
+use host_protocol::command_line::CommandLine;
+use host_protocol::host::Host;
+use host_protocol::host_error::HostError;
+
+/// The word by which a compiler of that kind takes a source of the language of what is compiled under this key.
+fn language_of(kind: CCompilerKind, key: &StoreKey) -> Option<&'static str> {
+    let Shape::C(shape) = &key.shape else {
+        return None;
+    };
+    match kind {
+        CCompilerKind::Clang => language_to_clang_arg(shape.language),
+        _ => language_to_gcc_arg(shape.language),
+    }
+}
+
+/// The manifest that a disk keeps, which may fit.
+#[derive(Drop)]
+pub(crate) struct KnownManifest {
+    /// Its name, by which the disk was asked already; an empty one where it wasn't.
+    name: String,
+    /// It without the results that were left out.
+    kept: Option<(EntryKey, PreprocessorCacheEntry)>,
+    /// It with them, where some were.
+    whole: Option<PreprocessorCacheEntry>,
+    /// What is noted of headers, and what to watch of its results.
+    watched: OsBytes,
+}
+
+impl KnownManifest {
+    /// The disk wasn't asked yet.
+    pub(crate) fn new(alloc: Global) -> KnownManifest {
+        KnownManifest {
+            name: String::new(alloc),
+            kept: None,
+            whole: None,
+            watched: OsBytes::empty(alloc),
+        }
+    }
+}
+
+/// What is noted of headers in what a manifest has beside its results, and the lists behind it.
+fn noted_in(watched: &[u8]) -> (&[u8], &[u8]) {
+    let Ok((key, rest)) = read_framed(watched) else {
+        return (&[], watched);
+    };
+    if !key.is_empty() {
+        return (&[], watched);
+    }
+    match read_framed(rest) {
+        Ok((noted, lists)) => (noted, lists),
+        Err(_) => (&[], watched),
+    }
+}
+
+impl Known {
+    /// A copy of the manifest that is kept, where direct mode is on.
+    pub fn manifest_again(&self) -> Result<Option<(EntryKey, PreprocessorCacheEntry)>, HostError> {
+        match (&self.zone, &self.record.kept) {
+            (Some(_), Some((key, entry))) => Ok(Some(pair_again(key, entry)?)),
+            (_, _) => Ok(None),
+        }
+    }
+
+    /// Has the files loaded that a manifest names, which is taken then. False where one of them can't be told.
+    fn take_manifest<R: Files + AllocGlobal>(
+        &mut self,
+        rt: &R,
+        line: &CommandLine,
+        found: FoundManifest,
+    ) -> Result<bool, HostError> {
+        let FoundManifest {
+            key,
+            entry,
+            names,
+            watched,
+        } = found;
+        self.tokens
+            .take_rows(rt.alloc(), noted_in(watched.as_bytes()).0)?;
+        if !load_all(
+            rt,
+            line,
+            names.as_slice(),
+            &mut self.files,
+            &mut self.tokens,
+        )? {
+            return Ok(false);
+        }
+        self.record.kept = Some((key, entry));
+        self.record.watched = watched;
+        Ok(true)
+    }
+
+    /// Asks the disk for the manifest of that name, once, and for the files that it names. False where it has none.
+    pub fn look_up_manifest<R: Files + AllocGlobal>(
+        &mut self,
+        rt: &R,
+        line: &CommandLine,
+        name: String,
+    ) -> Result<bool, HostError> {
+        if self.record.name == name {
+            return Ok(false);
+        }
+        let found = manifest_under(rt, &line.folder, line.zone.as_str(), name.as_str());
+        self.record = KnownManifest::new(rt.alloc());
+        self.record.name = name;
+        match found {
+            Ok(Some(found)) => self.take_manifest(rt, line, found),
+            Ok(None) => Ok(false),
+            Err(CacheDirError::Memory) => Err(HostError::Memory),
+            Err(_) => Ok(false),
+        }
+    }
+
+    /// The name of this request's manifest; an empty one where it has none.
+    pub fn name_to_note(&self) -> &str {
+        match &self.zone {
+            Some(_) => self.record.name.as_str(),
+            None => "",
+        }
+    }
+
+    /// Lets go of the manifest by which a key is known that nothing is kept under, since the text is needed then. False where no key came
+    /// from a manifest.
+    pub fn drop_manifest(&mut self) -> bool {
+        if self.tool.text.is_some() {
+            return false;
+        }
+        let Some((_, entry)) = self.record.kept.take() else {
+            return false;
+        };
+        // Its other results stay in the manifest that is put then.
+        if self.record.whole.is_none() {
+            self.record.whole = Some(entry);
+        }
+        true
+    }
+
+    /// Whether what lies under this key may be given, where it is known by a manifest alone: the compiler would find the same files now. Where
+    /// it wouldn't, that result is left out from now on.
+    pub fn may_go_by_manifest<R: Files + AllocGlobal>(
+        &mut self,
+        rt: &R,
+        line: &CommandLine,
+        key: Option<&StoreKey>,
+    ) -> Result<bool, HostError> {
+        let (Some(key), None) = (key, &self.tool.text) else {
+            return Ok(true);
+        };
+        let Some((entry_key, entry)) = self.record.kept.take() else {
+            return Ok(true);
+        };
+        let digest = key.digest.as_bytes();
+        if result_holds(
+            rt,
+            line.dir.as_bytes(),
+            self.record.watched.as_bytes(),
+            digest,
+        )? {
+            self.record.kept = Some((entry_key, entry));
+            return Ok(true);
+        }
+        let rest = without(rt.alloc(), &entry, digest)?;
+        if self.record.whole.is_none() {
+            self.record.whole = Some(entry);
+        }
+        self.record.kept = Some((entry_key, rest));
+        self.looked_up = None;
+        Ok(false)
+    }
+
+    /// The regular files that the text names, of which the first is the input.
+    fn sources<R: Files + AllocGlobal>(&self, rt: &R) -> Result<Vec<Source<'_>>, Unwatched> {
+        if !self.named.are_all {
+            return Err(Unwatched::Computed);
+        }
+        let mut sources = Vec::new(rt.alloc());
+        for file in self.named.files.iter() {
+            let Ok(path) = str::from_utf8(file.path.as_bytes()) else {
+                return Err(Unwatched::Path);
+            };
+            if let Some(contents) = file.contents() {
+                let contents = contents.as_bytes();
+                sources.push(Source { path, contents })?;
+            }
+        }
+        match self.named.are_unchanged(rt) {
+            true => Ok(sources),
+            false => Err(Unwatched::Changed),
+        }
+    }
+
+    /// What to watch of the text that was printed. The compiler runs where it didn't say yet where it looks.
+    pub fn list_to_watch<P: Print + Files + AllocGlobal, I: Read>(
+        &mut self,
+        rt: &P,
+        line: &CommandLine,
+        host: &mut Host<I>,
+        key: &StoreKey,
+    ) -> Result<Vec<u8>, Unwatched>
+        ensures { host.new.compiled ≡ host.old.compiled }
+    {
+        if line.folder.is_read_only {
+            return Err(Unwatched::List);
+        }
+        let Some(language) = language_of(self.kind, key) else {
+            return Err(Unwatched::List);
+        };
+        let before = settled_before(line.moment);
+        self.named.read(rt);
+        let sources = self.sources(rt)?;
+        let said = said_of(rt, line, host, language, before)?;
+        list_of(rt, line, sources.as_slice(), said.as_slice(), before)
+    }
+
+    /// Keeps a manifest that the session put, in which the text of this key has that list, with the results that were left out.
+    pub fn keep_manifest<R: Files + AllocGlobal>(
+        &self,
+        rt: &R,
+        line: &CommandLine,
+        newest: &(EntryKey, PreprocessorCacheEntry),
+        key: &StoreKey,
+        list: &[u8],
+    ) -> Result<(), HostError> {
+        let alloc = rt.alloc();
+        let whole = match &self.record.whole {
+            Some(whole) => joined(alloc, &newest.1, whole)?,
+            None => newest.1.clone()?,
+        };
+        let dir = line.dir.as_bytes();
+        let digest = key.digest.as_bytes();
+        let lists = with_list(
+            alloc,
+            self.record.watched.as_bytes(),
+            &whole,
+            dir,
+            digest,
+            list,
+        )?;
+        self.put_whole(rt, line, &newest.0, &whole, lists.as_slice())
+    }
+
+    /// Puts a manifest with these lists, behind what is noted of its headers.
+    fn put_whole<R: Files + AllocGlobal>(
+        &self,
+        rt: &R,
+        line: &CommandLine,
+        key: &EntryKey,
+        entry: &PreprocessorCacheEntry,
+        lists: &[u8],
+    ) -> Result<(), HostError> {
+        let alloc = rt.alloc();
+        let mut watched = Vec::new(alloc);
+        put_framed(&mut watched, b"")?;
+        put_framed(&mut watched, self.tokens.rows(alloc)?.as_slice())?;
+        watched.extend_from_slice(lists)?;
+        let (folder, zone) = (&line.folder, line.zone.as_str());
+        let watched = OsBytes::from_vec(watched);
+        Ok(put_manifest(rt, folder, zone, self.name_to_note(), key, entry, watched)?)
+    }
+
+    /// Keeps what was noted anew of the headers of a manifest that was used. False where nothing was.
+    pub fn keep_noted<R: Files + AllocGlobal>(
+        &self,
+        rt: &R,
+        line: &CommandLine,
+    ) -> Result<bool, HostError> {
+        let (true, Some((key, entry))) = (self.tokens.are_new, &self.record.kept) else {
+            return Ok(false);
+        };
+        let entry = match &self.record.whole {
+            Some(whole) => whole,
+            None => entry,
+        };
+        self.put_whole(
+            rt,
+            line,
+            key,
+            entry,
+            noted_in(self.record.watched.as_bytes()).1,
+        )?;
+        Ok(true)
+    }
+}

@@ -1,0 +1,130 @@
+//! Precompiled headers that a compiler may take in place of one that a text shows.
+
+use disk_files::found::folder_of;
+use known_options::placed::{Placed, PlacedWords};
+use os_files::os_bytes::OsBytes;
+use os_files::path::join;
+use std::alloc::Global;
+use std::fs;
+use std::rt::Files;
+use host_protocol::command_line::CommandLine;
+use host_protocol::host_error::HostError;
+use written_lines::named::NamedFiles;
+
+/// What precompiled headers have behind the name of their header.
+const ENDINGS: [&str; 2] = [".gch", ".pch"];
+
+/// What GCC takes in before all else.
+const PREDEFINED: &[u8] = b"/stdc-predef.h";
+
+/// Words by which a folder is searched, behind them or in the next word.
+const FOLDERS: [&[u8]; 4] = [b"-I", b"-iquote", b"-isystem", b"-idirafter"];
+
+/// Variables that list folders which are searched.
+const VARIABLES: [&[u8]; 3] = [b"CPATH", b"C_INCLUDE_PATH", b"CPLUS_INCLUDE_PATH"];
+
+/// How many of the last parts of a header's path its name has at most.
+const PARTS: usize = 4;
+
+/// The first file that a text takes in: a compiler looks for a precompiled header for that one alone.
+fn first_taken_in(named: &NamedFiles) -> Option<&OsBytes> {
+    let paths = named.files.iter().map(|file| &file.path);
+    paths
+        .filter(|path| !path.as_bytes().ends_with(PREDEFINED))
+        .nth(1)
+}
+
+/// The folder by which a word has a compiler search.
+fn folder_in(placed: Placed<'_>) -> Option<&[u8]> {
+    let word = placed.word.as_bytes();
+    match placed.option {
+        Some(option) if FOLDERS.contains(&option.as_bytes()) => Some(word),
+        Some(_) => None,
+        None => FOLDERS.iter().find_map(|front| word.strip_prefix(*front)),
+    }
+}
+
+/// The folders that are searched for what a call takes in: its own, its input's, and those that words and variables name.
+fn folders_of<'a>(
+    alloc: Global,
+    line: &'a CommandLine,
+    input: &'a [u8],
+) -> Result<Vec<&'a [u8]>, HostError> {
+    let mut folders: Vec<&[u8]> = Vec::new(alloc);
+    folders.push(b"")?;
+    folders.push(folder_of(input))?;
+    for placed in PlacedWords::of(line.words.as_slice()) {
+        if let Some(folder) = folder_in(placed) {
+            folders.push(folder)?;
+        }
+    }
+    for variable in VARIABLES {
+        let list = line.value_of(variable);
+        for folder in list.split(|byte| *byte == b':').filter(|folder| !folder.is_empty()) {
+            folders.push(folder)?;
+        }
+    }
+    Ok(folders)
+}
+
+/// The names by which a header of that path may have been asked for: its last parts, so many at most.
+fn names_of(alloc: Global, path: &[u8]) -> Result<Vec<&[u8]>, HostError> {
+    let mut names = Vec::new(alloc);
+    let slashes = path.iter().enumerate().rev().filter(|pair| *pair.1 == b'/');
+    for (at, _) in slashes.take(PARTS) {
+        names.push(path.get(at.saturating_add(1)..).unwrap_or(&[]))?;
+    }
+    Ok(names)
+}
+
+/// Whether a precompiled header lies beside that path.
+fn is_precompiled<R: Files + AllocGlobal>(rt: &R, path: &[u8]) -> Result<bool, HostError> {
+    let Ok(path) = str::from_utf8(path) else {
+        return Ok(false);
+    };
+    for ending in ENDINGS {
+        let precompiled = format!(in rt.alloc(); "{path}{ending}")?;
+        if fs::metadata(rt, precompiled.as_str()).is_ok() {
+            return Ok(true);
+        }
+    }
+    Ok(false)
+}
+
+/// Whether a precompiled header lies in a folder under one of these names.
+fn has_in<R: Files + AllocGlobal>(
+    rt: &R,
+    line: &CommandLine,
+    folder: &[u8],
+    names: &[&[u8]],
+) -> Result<bool, HostError> {
+    let folder = join(rt.alloc(), line.dir.as_bytes(), folder)?;
+    for name in names {
+        let path = join(rt.alloc(), folder.as_bytes(), name)?;
+        if is_precompiled(rt, path.as_bytes())? {
+            return Ok(true);
+        }
+    }
+    Ok(false)
+}
+
+/// Whether a precompiled header lies beside the first file that a text takes in, or where a compiler comes by before it finds that.
+pub fn has_precompiled<R: Files + AllocGlobal>(
+    rt: &R,
+    line: &CommandLine,
+    named: &NamedFiles,
+) -> Result<bool, HostError> {
+    let (Some(input), Some(path)) = (named.files.first(), first_taken_in(named)) else {
+        return Ok(false);
+    };
+    if is_precompiled(rt, path.as_bytes())? {
+        return Ok(true);
+    }
+    let names = names_of(rt.alloc(), path.as_bytes())?;
+    for folder in folders_of(rt.alloc(), line, input.path.as_bytes())? {
+        if has_in(rt, line, folder, names.as_slice())? {
+            return Ok(true);
+        }
+    }
+    Ok(false)
+}
