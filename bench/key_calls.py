@@ -1,4 +1,4 @@
-"""Times stripping, digests and keys against a copy, `sha256sum` and digests, and compares the memory that they take.
+"""Times stripping, digests and keys against a copy, `sha256sum`, `b2sum` and digests, and compares the memory that they take.
 
 It proves and builds the program first where that isn't built yet or its sources changed.
 """
@@ -67,12 +67,13 @@ def check(text, left, commands):
     """Stops where a command doesn't do what it is timed for."""
     for name, wanted in [("copy", text), ("strip", left)]:
         expect(name, commands[name], f"{len(wanted)} bytes, the middle one {wanted[len(wanted) // 2]}\n")
-    _, line = run(commands["digest"](FEW))
-    _, peer = run(commands["sha256sum"](FEW))
-    # A digest is printed with the low half of each byte first.
-    swapped = "".join(line[place + 1] + line[place] for place in range(0, len(line) - 1, 2))
-    if swapped != peer.split()[0]:
-        stop(f"digest printed {line}and sha256sum {peer}")
+    for name, other in [("digest", "sha256sum"), ("blake2b", "b2sum")]:
+        _, line = run(commands[name](FEW))
+        _, peer = run(commands[other](FEW))
+        # A digest is printed with the low half of each byte first.
+        swapped = "".join(line[place + 1] + line[place] for place in range(0, len(line) - 1, 2))
+        if swapped != peer.split()[0]:
+            stop(f"{name} printed {line}and {other} {peer}")
     # Before the text a key has the digest of the compiler, the byte 0 for C, the version of the layout, and the language.
     expect("key", commands["key"], digest_line(b"d" + b"\0" + b"11" + b"c" + left))
     expect("digest_copy", commands["digest_copy"], digest_line(left))
@@ -93,6 +94,8 @@ def measure():
             "strip": works("strip", file, *FOLDERS),
             "digest": works("digest", file),
             "sha256sum": lambda repeats: ["sha256sum"] + [file] * repeats,
+            "blake2b": works("blake2b", file),
+            "b2sum": lambda repeats: ["b2sum", "-l", "256"] + [file] * repeats,
             "key": works("key", file, *FOLDERS),
             "digest_copy": works("digest_copy", file, *FOLDERS),
             "digest_text": works("digest_text", bare),
@@ -105,6 +108,10 @@ def measure():
         print(f"strip: {strip_anew:.1f} times a copy, where each call takes new memory")
         digest = ratio(commands["digest"], commands["sha256sum"], NEW_MEMORY)
         print(f"digest: {digest:.1f} times sha256sum")
+        blake2b = ratio(commands["blake2b"], commands["b2sum"], NEW_MEMORY)
+        print(f"digest by BLAKE2b: {blake2b:.1f} times b2sum")
+        faster = ratio(commands["digest"], commands["blake2b"], NEW_MEMORY)
+        print(f"digest: {faster:.1f} times that by BLAKE2b")
         times = medians({name: timer(commands[name], SAME_MEMORY) for name in ("key", "digest_copy", "digest_text")})
         print(f"key: {times['key'] / times['digest_text']:.2f} times the digest of a text without folders")
         print(f"key by way of a copy: {times['digest_copy'] / times['digest_text']:.2f} times that")

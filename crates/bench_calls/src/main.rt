@@ -24,8 +24,10 @@ use crate::rustc::{key_copies, key_readings, key_writings, rewritings, source_re
 use crate::stores::{bounded_turns, map_turns};
 use crate::walking::{byte_searches, marker_tallies, walks};
 use crate::words::{Tally, chain_copies, gnu_splittings, msvc_splittings, openings};
+use blake2::Blake2b256;
 use ckeys_base::digest::Digest;
 use ckeys_base::error;
+use ckeys_base::hash_state::HashState;
 use ckeys_base::strip::strip_basedirs;
 use cmdlines_tables::compiler::CCompilerKind;
 use os_files::os_bytes::OsBytes;
@@ -154,7 +156,8 @@ fn line_for<R: Files + AllocGlobal>(
         "copy" | "strip" | "key" | "digest_text" | "digest_copy" => {
             text_line(rt, work, repeats, given, others)
         }
-        "digest" => digests(rt, given, repeats),
+        "digest" => digests::<Sha256, R>(rt, given, repeats),
+        "blake2b" => digests::<Blake2b256, R>(rt, given, repeats),
         "macros" => macro_digests(rt, given, repeats),
         _ => {
             let tally = tally_for(rt, work, repeats, given, others)?;
@@ -395,11 +398,15 @@ fn strippings(
 }
 
 /// Opens and digests the file so often.
-fn digests<R: Files + AllocGlobal>(rt: &R, file: &String, repeats: u32) -> Result<String, Fault> {
+fn digests<H: HashState, R: Files + AllocGlobal>(
+    rt: &R,
+    file: &String,
+    repeats: u32,
+) -> Result<String, Fault> {
     let mut last = String::new(rt.alloc());
     for _ in 0..repeats {
         let reader = fs::open(rt, file.as_str()).map_err(|_error: io::Error| Fault::File)?;
-        last = Digest::<Sha256>::reader_sync(rt.alloc(), reader)?;
+        last = Digest::<H>::reader_sync(rt.alloc(), reader)?;
     }
     Ok(last)
 }

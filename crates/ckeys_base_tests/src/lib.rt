@@ -2,6 +2,8 @@
 #![tactic(auto)]
 
 #[cfg(test)]
+mod blake2b;
+#[cfg(test)]
 mod digest;
 #[cfg(test)]
 mod duration;

@@ -1,0 +1,3 @@
+pub mod Words
+pub mod Absorbing
+pub mod Vectors

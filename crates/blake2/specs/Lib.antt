@@ -1,0 +1,3 @@
+pub mod Blake2b
+pub mod Hashers
+pub mod DigestBytes
