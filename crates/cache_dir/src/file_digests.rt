@@ -8,7 +8,7 @@ use crate::folder::{CacheDir, Kind};
 use byte_formats::fields::{put_framed, put_number};
 use ckeys_base::digest::Digest;
 use ckeys_base::hash_state::HashState;
-use sha2::Sha256;
+use blake2::Blake2b256;
 use std::alloc::Global;
 use std::fs;
 use std::os::unix::fs::MetadataExt;
@@ -17,9 +17,9 @@ use std::rt::Files;
 /// The digest of these bytes, as text.
 pub fn digest_of(alloc: Global, bytes: &[u8]) -> Result<String, CacheDirError>
     ensures { IfOk result (λ text. string_bytes text
-        ≡ hex_of (⟦<Sha256 as HashState>⟧.digest_of bytes.now)) }
+        ≡ hex_of (⟦<Blake2b256 as HashState>⟧.digest_of bytes.now)) }
 {
-    let mut digest: Digest<Sha256> = Digest::new();
+    let mut digest: Digest<Blake2b256> = Digest::new();
     digest.update(bytes);
     Ok(digest.finish(alloc)?)
 }
@@ -50,7 +50,7 @@ fn read_all<R: Files + AllocGlobal>(rt: &R, paths: &[String]) -> Result<String, 
     let mut row = Vec::new(rt.alloc());
     for path in paths {
         let file = fs::open(rt, path.as_str())?;
-        let digest = Digest::<Sha256>::reader_sync(rt.alloc(), file)?;
+        let digest = Digest::<Blake2b256>::reader_sync(rt.alloc(), file)?;
         put_framed(&mut row, digest.as_bytes())?;
     }
     digest_of(rt.alloc(), row.as_slice())

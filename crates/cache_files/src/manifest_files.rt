@@ -14,14 +14,14 @@ use cache_dir::error::CacheDirError;
 use cache_dir::file_digests::digest_of;
 use cache_dir::folder::{CacheDir, Kind};
 use os_files::os_bytes::OsBytes;
-use sha2::Sha256;
+use blake2::Blake2b256;
 use std::alloc::Global;
 use std::rt::Files;
 
 /// The name of the manifest that lies under this key, of calls that told days in that zone: the digest of both.
 pub fn name_of_manifest(alloc: Global, zone: &str, key: &EntryKey) -> Result<String, CacheDirError>
     ensures { IfOk result (λ name. string_bytes name
-        ≡ hex_of (⟦<Sha256 as HashState>⟧.digest_of (row_of zone.now key.now))) }
+        ≡ hex_of (⟦<Blake2b256 as HashState>⟧.digest_of (row_of zone.now key.now))) }
 {
     let mut row = Vec::new(alloc);
     put_framed(&mut row, zone.as_bytes())?;
@@ -41,7 +41,7 @@ pub fn put_manifest<R: Files + AllocGlobal>(
     watched: OsBytes,
 ) -> Result<(), CacheDirError> {
     let kept = kept_of(rt.alloc(), zone, key, entry, watched)?;
-    let bytes = manifest_bytes::<Sha256>(rt.alloc(), &kept)?;
+    let bytes = manifest_bytes::<Blake2b256>(rt.alloc(), &kept)?;
     folder.put(rt, Kind::Manifests, name, bytes.as_slice())
 }
 
@@ -55,7 +55,7 @@ pub fn manifest_under<R: Files + AllocGlobal>(
     let Ok(bytes) = folder.read(rt, Kind::Manifests, name) else {
         return Ok(None);
     };
-    let Some(kept) = read_manifest::<Sha256>(rt.alloc(), bytes.as_slice())? else {
+    let Some(kept) = read_manifest::<Blake2b256>(rt.alloc(), bytes.as_slice())? else {
         return Ok(None);
     };
     if kept.zone.as_bytes() != zone.as_bytes() {

@@ -8,7 +8,7 @@ use cache_dir::error::CacheDirError;
 use cache_dir::file_digests::digest_of;
 use cache_dir::folder::{CacheDir, Kind};
 use os_files::os_bytes::OsBytes;
-use sha2::Sha256;
+use blake2::Blake2b256;
 use std::alloc::{AllocError, Global};
 use std::rt::Files;
 
@@ -33,7 +33,7 @@ pub fn put_parts<R: Files + AllocGlobal>(
     name: &str,
     kept: &KeptParts,
 ) -> Result<(), CacheDirError> {
-    let bytes = parts_bytes::<Sha256>(rt.alloc(), kept)?;
+    let bytes = parts_bytes::<Blake2b256>(rt.alloc(), kept)?;
     folder.put(rt, Kind::Fingerprints, name, bytes.as_slice())
 }
 
@@ -46,5 +46,5 @@ pub fn parts_under<R: Files + AllocGlobal>(
     let Ok(bytes) = folder.read(rt, Kind::Fingerprints, name) else {
         return Ok(None);
     };
-    read_parts::<Sha256>(rt.alloc(), bytes.as_slice())
+    read_parts::<Blake2b256>(rt.alloc(), bytes.as_slice())
 }

@@ -12,7 +12,7 @@ use marker_walk::markers::Markers;
 use memchr::{memchr, memmem};
 use os_files::lossy::Lossy;
 use os_files::os_bytes::OsBytes;
-use sha2::Sha256;
+use blake2::Blake2b256;
 use std::alloc::{AllocError, Global};
 use std::collections::{BTreeMap, HashMap, HashSet};
 use std::fmt;
@@ -21,7 +21,7 @@ use std::fmt;
 #[derive(Drop)]
 struct FileLines<'a> {
     name: &'a [u8],
-    digest: Digest<Sha256>,
+    digest: Digest<Blake2b256>,
     /// How many times lines of a file were taken until its last ones.
     last: usize,
 }
@@ -47,7 +47,7 @@ struct TextFiles<'a> {
     /// How many times lines of a file were taken.
     taken: usize,
     /// The names of all markers.
-    order: Digest<Sha256>,
+    order: Digest<Blake2b256>,
 }
 
 impl<'a> TextFiles<'a> {

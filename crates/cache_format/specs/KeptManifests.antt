@@ -36,7 +36,7 @@ kept_format = made_format kept_from kept_fields _ _ _ (λ x. refl) (λ y. refl) 
 
 -- the version of this layout
 abbrev pub manifest_version : ℕ
-manifest_version = 2
+manifest_version = 3
 
 -- the version and the fields, and the digest of these
 abbrev pub manifest_bytes : (Bytes → Bytes) → KeptManifest → Bytes

@@ -74,7 +74,7 @@ fields_format =
 
 -- the version of this layout
 abbrev pub parts_version : ℕ
-parts_version = 1
+parts_version = 2
 
 -- the version and the fields, and the digest of these
 abbrev pub parts_bytes : (Bytes → Bytes) → KeptParts → Bytes

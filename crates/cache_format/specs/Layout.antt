@@ -105,7 +105,7 @@ contents_at = made_at entry_from (both_at shape_at (both_at (counted_at name_at)
 
 -- the version of this layout
 abbrev pub layout_version : ℕ
-layout_version = 3
+layout_version = 4
 
 -- an entry's bytes: the version and its contents, and the digest of these
 abbrev pub result_bytes : (Bytes → Bytes) → KeptResult → Bytes

@@ -19,13 +19,13 @@ use ckeys_base::hash_state::HashState;
 use std::alloc::{AllocError, Global};
 
 /// The version of the layout of entries, which each begins with.
-const RESULT_VERSION: u8 = 3;
+const RESULT_VERSION: u8 = 4;
 
 /// That of manifests.
-const MANIFEST_VERSION: u8 = 2;
+const MANIFEST_VERSION: u8 = 3;
 
 /// That of the parts of calls.
-const PARTS_VERSION: u8 = 1;
+const PARTS_VERSION: u8 = 2;
 
 /// The digest of these bytes.
 fn digest_of<H: HashState>(alloc: Global, bytes: &[u8]) -> Result<Vec<u8>, AllocError>

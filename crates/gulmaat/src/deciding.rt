@@ -20,7 +20,7 @@ use os_files::os_bytes::OsBytes;
 use replay::kept_session::{SessionAnswer, answered, session_over};
 use searched_folders::unwatched::Unwatched;
 use settings::key::Key;
-use sha2::Sha256;
+use blake2::Blake2b256;
 use std::alloc::Global;
 use std::fs::File;
 use std::io::Read;
@@ -147,7 +147,7 @@ fn find_out<P: Print + Files<File = File> + AllocGlobal, I: Read>(
     host: &mut Host<I>,
     hint: &str,
     fault: &Fault,
-    answered: &SessionAnswer<Sha256>,
+    answered: &SessionAnswer<Blake2b256>,
     known: &mut Known,
 ) -> Result<bool, HostError>
     requires { host.old.compiled ≤ 1 }
@@ -186,14 +186,14 @@ fn answer_by(
     alloc: Global,
     request: &Request,
     known: &mut Known,
-) -> Result<(SessionAnswer<Sha256>, Option<KeptMessages>), HostError> {
+) -> Result<(SessionAnswer<Blake2b256>, Option<KeptMessages>), HostError> {
     let config = config_of(alloc, known.basedirs.as_slice(), &known.zone)?;
     let kept_manifest = known.manifest_again()?;
     let (entry, messages) = match known.entry.take() {
         Some(Kept { pair, messages }) => (Some(pair), Some(messages)),
         None => (None, None),
     };
-    let session = session_over::<Sha256>(alloc, config, kept_manifest, entry);
+    let session = session_over::<Blake2b256>(alloc, config, kept_manifest, entry);
     let answer = answered(session, request, &mut known.files, &mut known.tool);
     Ok((answer, messages))
 }
@@ -235,7 +235,7 @@ fn act_on_outputs<P: Print + Files<File = File> + AllocGlobal, I: Read>(
     line: &CommandLine,
     host: &mut Host<I>,
     hint: &str,
-    answered: &SessionAnswer<Sha256>,
+    answered: &SessionAnswer<Blake2b256>,
     given: &Given<'_>,
     known: &mut Known,
 ) -> Result<Option<End>, HostError>
@@ -259,7 +259,7 @@ fn act_on<P: Print + Files<File = File> + AllocGlobal, I: Read>(
     line: &CommandLine,
     host: &mut Host<I>,
     hint: &str,
-    answered: &SessionAnswer<Sha256>,
+    answered: &SessionAnswer<Blake2b256>,
     messages: Option<&KeptMessages>,
     known: &mut Known,
 ) -> Result<Option<End>, HostError>
@@ -423,7 +423,7 @@ fn note_made<R: Files + AllocGlobal>(
     let alloc = rt.alloc();
     let config = config_of(alloc, known.basedirs.as_slice(), &known.zone)?;
     let files = &mut known.files;
-    match request_fingerprint::<Sha256, _, _>(
+    match request_fingerprint::<Blake2b256, _, _>(
         alloc,
         &config.keys,
         request,

@@ -13,7 +13,7 @@ use source_files::outputs::{print_again, write_dependencies, write_outputs};
 use os_files::listed::Listed;
 use os_files::os_bytes::OsBytes;
 use replay::kept_session::SessionAnswer;
-use sha2::Sha256;
+use blake2::Blake2b256;
 use std::alloc::Global;
 use std::fs::File;
 use std::io::Read;
@@ -85,7 +85,7 @@ fn note_call<R: Files + AllocGlobal>(
     rt: &R,
     line: &CommandLine,
     hint: &str,
-    answered: &SessionAnswer<Sha256>,
+    answered: &SessionAnswer<Blake2b256>,
     key: &StoreKey,
     is_kept: bool,
     list: Option<&[u8]>,
@@ -115,7 +115,7 @@ fn list_to_watch<P: Print + Files + AllocGlobal, I: Read>(
     rt: &P,
     line: &CommandLine,
     host: &mut Host<I>,
-    answered: &SessionAnswer<Sha256>,
+    answered: &SessionAnswer<Blake2b256>,
     key: &StoreKey,
     known: &mut Known,
 ) -> Option<Vec<u8>>
@@ -151,7 +151,7 @@ pub fn finish<P: Print + Files<File = File> + AllocGlobal, I: Read>(
     line: &CommandLine,
     host: &mut Host<I>,
     hint: &str,
-    answered: &SessionAnswer<Sha256>,
+    answered: &SessionAnswer<Blake2b256>,
     given: &Given<'_>,
     known: &mut Known,
 ) -> Result<End, HostError>

@@ -10,7 +10,7 @@ use cache_dir::limit::takes;
 use cache_files::results::{Kept, entry_of, kept_of};
 use os_files::os_bytes::OsBytes;
 use settings::key::Key;
-use sha2::Sha256;
+use blake2::Blake2b256;
 use std::alloc::Global;
 use std::rt::Files;
 use wrap::{Output, StoreKey};
@@ -54,7 +54,7 @@ pub fn found<R: Files + AllocGlobal>(
     let Ok(bytes) = line.folder.read(rt, Kind::Results, name.as_str()) else {
         return Ok(None);
     };
-    let Some(entry) = read_result::<Sha256>(rt.alloc(), bytes.as_slice())? else {
+    let Some(entry) = read_result::<Blake2b256>(rt.alloc(), bytes.as_slice())? else {
         return Ok(None);
     };
     if entry.messages.preprocessor.as_bytes() != messages {
@@ -124,7 +124,7 @@ pub fn keep<R: Files + AllocGlobal>(
     messages: KeptMessages,
 ) -> Result<(), HostError> {
     let entry = entry_of(rt.alloc(), key, outputs, messages)?;
-    let bytes = result_bytes::<Sha256>(rt.alloc(), &entry)?;
+    let bytes = result_bytes::<Blake2b256>(rt.alloc(), &entry)?;
     let name = into_text(key.digest.clone()?)?;
     let folder = &line.folder;
     if !takes(folder.limit, bytes.len() as u64) {

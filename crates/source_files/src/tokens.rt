@@ -8,7 +8,7 @@ use disk_files::found::State;
 use memchr::memmem;
 use os_files::file_time::FileTime;
 use os_files::os_bytes::OsBytes;
-use sha2::Sha256;
+use blake2::Blake2b256;
 use std::alloc::{AllocError, Global};
 use std::collections::{BTreeMap, BTreeSet};
 use std::fs::Metadata;
@@ -32,7 +32,7 @@ pub fn token_of(alloc: Global, contents: &[u8]) -> Result<Option<OsBytes>, Alloc
     if contents.starts_with(MARK) {
         return Ok(None);
     }
-    let mut digest: Digest<Sha256> = Digest::new();
+    let mut digest: Digest<Blake2b256> = Digest::new();
     digest.update(contents);
     let mut token = Vec::with_capacity(alloc, 128)?;
     token.extend_from_slice(MARK)?;

@@ -8,7 +8,7 @@ use marker_walk::line::Mark;
 use marker_walk::markers::Markers;
 use memchr::memchr;
 use os_files::os_bytes::OsBytes;
-use sha2::Sha256;
+use blake2::Blake2b256;
 use std::alloc::{AllocError, Global};
 use host_protocol::host_error::HostError;
 
@@ -79,7 +79,7 @@ fn digest_of_lines(
 }
 
 /// The text of a digest.
-fn finish(alloc: Global, digest: Digest<Sha256>) -> Result<OsBytes, HostError> {
+fn finish(alloc: Global, digest: Digest<Blake2b256>) -> Result<OsBytes, HostError> {
     let text = digest.finish(alloc)?;
     Ok(OsBytes::from_slice(alloc, text.as_bytes())?)
 }

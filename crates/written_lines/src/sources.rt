@@ -3,7 +3,7 @@
 use crate::named::{Lying, NamedFiles};
 use ckeys_base::digest::Digest;
 use memchr::memchr;
-use sha2::Sha256;
+use blake2::Blake2b256;
 use std::alloc::{AllocError, Global};
 use std::collections::HashMap;
 use host_protocol::host_error::HostError;
@@ -211,7 +211,7 @@ impl<'a> Sources<'a> {
 
     /// A digest of the contents of all files, in the order in which the text names them, or of those alone by whose directives lines have
     /// other numbers.
-    pub fn digest_of(&self, all: bool) -> Digest<Sha256> {
+    pub fn digest_of(&self, all: bool) -> Digest<Blake2b256> {
         let mut digest = Digest::new();
         for name in self.names.iter() {
             if let Some(source) = self.files.get(name) {
@@ -230,7 +230,7 @@ impl<'a> Sources<'a> {
 }
 
 /// Feeds bytes behind their length.
-fn feed(digest: &mut Digest<Sha256>, bytes: &[u8]) {
+fn feed(digest: &mut Digest<Blake2b256>, bytes: &[u8]) {
     let length = bytes.len() as u64;
     digest.update(&length.to_le_bytes());
     digest.update(bytes);
