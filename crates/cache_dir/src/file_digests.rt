@@ -5,10 +5,10 @@ ghost use Rattle.ckeys_base.specs.Hex.{hex_of};
 
 use crate::error::CacheDirError;
 use crate::folder::{CacheDir, Kind};
+use blake2::Blake2b256;
 use byte_formats::fields::{put_framed, put_number};
 use ckeys_base::digest::Digest;
 use ckeys_base::hash_state::HashState;
-use blake2::Blake2b256;
 use std::alloc::Global;
 use std::fs;
 use std::os::unix::fs::MetadataExt;

@@ -2,9 +2,9 @@
 //! of compiled calls were made, with their texts in short. A broken file is as one that isn't there.
 #![tactic(auto)]
 
-pub mod results;
-pub mod part_files;
-pub mod parts;
 pub mod manifest_files;
 pub mod manifests;
+pub mod part_files;
+pub mod parts;
+pub mod results;
 pub mod short_text;

@@ -5,16 +5,16 @@ ghost use Rattle.ckeys_base.specs.Hex.{hex_of};
 ghost use Rattle.cache_files.specs.Manifests.{row_of};
 
 use crate::manifests::{FoundManifest, found_in, kept_of};
+use blake2::Blake2b256;
 use byte_formats::fields::put_framed;
-use ckeys_base::hash_state::HashState;
-use entry_keys::entry_key::EntryKey;
-use include_records::record::PreprocessorCacheEntry;
-use cache_format::sealed::{read_manifest, manifest_bytes};
 use cache_dir::error::CacheDirError;
 use cache_dir::file_digests::digest_of;
 use cache_dir::folder::{CacheDir, Kind};
+use cache_format::sealed::{manifest_bytes, read_manifest};
+use ckeys_base::hash_state::HashState;
+use entry_keys::entry_key::EntryKey;
+use include_records::record::PreprocessorCacheEntry;
 use os_files::os_bytes::OsBytes;
-use blake2::Blake2b256;
 use std::alloc::Global;
 use std::rt::Files;
 

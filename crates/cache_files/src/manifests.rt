@@ -5,12 +5,12 @@ ghost use Rattle.include_records.specs.Layout.{IsRecord, manifest_bytes};
 ghost use Rattle.include_records.specs.declared.entry.CachedResult.{CachedResult};
 ghost use Rattle.cache_files.specs.Manifests.{included, names_in};
 
+use cache_dir::error::CacheDirError;
+use cache_format::kept_manifest::KeptManifest;
 use ckeys_base::error::Error;
 use entry_keys::entry_key::EntryKey;
 use include_records::entry::{CachedResult, IncludeEntry};
 use include_records::record::PreprocessorCacheEntry;
-use cache_format::kept_manifest::KeptManifest;
-use cache_dir::error::CacheDirError;
 use os_files::listed::Listed;
 use os_files::os_bytes::OsBytes;
 use rustc_options::sets::in_order;

@@ -1,14 +1,14 @@
 //! Parts of calls that are put in the folder and read from it. A broken or missing file is as one that isn't there.
 
+use blake2::Blake2b256;
 use byte_formats::fields::put_framed;
-use cmdlines_base::command::ArtifactDescriptor;
-use cache_format::kept_parts::KeptParts;
-use cache_format::sealed::{parts_bytes, read_parts};
 use cache_dir::error::CacheDirError;
 use cache_dir::file_digests::digest_of;
 use cache_dir::folder::{CacheDir, Kind};
+use cache_format::kept_parts::KeptParts;
+use cache_format::sealed::{parts_bytes, read_parts};
+use cmdlines_base::command::ArtifactDescriptor;
 use os_files::os_bytes::OsBytes;
-use blake2::Blake2b256;
 use std::alloc::{AllocError, Global};
 use std::rt::Files;
 

@@ -6,13 +6,13 @@
 //! last line has the digest of the names of all markers, one after another, and no space. So two texts are the same where they are the
 //! same in short, if digests are distinct.
 
+use blake2::Blake2b256;
 use ckeys_base::digest::Digest;
 use marker_walk::line::Mark;
 use marker_walk::markers::Markers;
 use memchr::{memchr, memmem};
 use os_files::lossy::Lossy;
 use os_files::os_bytes::OsBytes;
-use blake2::Blake2b256;
 use std::alloc::{AllocError, Global};
 use std::collections::{BTreeMap, HashMap, HashSet};
 use std::fmt;

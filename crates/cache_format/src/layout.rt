@@ -6,7 +6,7 @@ ghost use Rattle.cache_format.specs.ResultFormats.{contents_format, messages_for
 ghost use Rattle.cache_format.specs.Layout.{EntryFits, MessagesFit, NameFits, OutputFits, ShapeFits, contents_at, contents_bytes, messages_at, messages_bytes, name_at, name_bytes, output_at, output_bytes, shape_at, shape_bytes};
 
 use crate::codes::{flag_code, language_code, read_flag, read_language};
-use crate::kept_result::{KeptResult, KeptMessages, KeptName, KeptOutput, KeptShape};
+use crate::kept_result::{KeptMessages, KeptName, KeptOutput, KeptResult, KeptShape};
 use byte_formats::fault::ReadFault;
 use byte_formats::field::Field;
 use os_files::listed::Listed;

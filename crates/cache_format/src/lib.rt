@@ -3,8 +3,8 @@
 #![tactic(auto)]
 
 pub mod codes;
-pub mod kept_result;
-pub mod kept_parts;
 pub mod kept_manifest;
+pub mod kept_parts;
+pub mod kept_result;
 pub mod layout;
 pub mod sealed;

@@ -10,9 +10,9 @@ ghost use Rattle.cache_format.specs.declared.kept_result.KeptResult.{KeptResult}
 ghost use Rattle.cache_format.specs.declared.kept_parts.KeptParts.{KeptParts};
 ghost use Rattle.cache_format.specs.declared.kept_manifest.KeptManifest.{KeptManifest};
 
-use crate::kept_result::KeptResult;
-use crate::kept_parts::KeptParts;
 use crate::kept_manifest::KeptManifest;
+use crate::kept_parts::KeptParts;
+use crate::kept_result::KeptResult;
 use byte_formats::fault::ReadFault;
 use byte_formats::field::Field;
 use ckeys_base::hash_state::HashState;
@@ -133,7 +133,10 @@ pub fn read_result<H: HashState>(
 }
 
 /// The bytes of an manifest: the version of their layout, its fields, and the digest of these.
-pub fn manifest_bytes<H: HashState>(alloc: Global, kept: &KeptManifest) -> Result<Vec<u8>, AllocError>
+pub fn manifest_bytes<H: HashState>(
+    alloc: Global,
+    kept: &KeptManifest,
+) -> Result<Vec<u8>, AllocError>
     ensures bytes { IfOk result (λ bytes. bytes.items ≡ manifest_bytes H.digest_of kept.now) }
     ensures fits { OnOk result (KeptFits kept.now) }
 {

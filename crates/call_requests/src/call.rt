@@ -3,9 +3,12 @@
 
 ghost use Rattle.std.specs.Prelude.{◌≡◌};
 
-use key_additions::additions::{Additions, VARIABLE};
 use compiler_id::compilers::{KnownCompiler, add_surroundings, compiler_at};
 use compiler_id::native::native_of;
+use host_protocol::command_line::CommandLine;
+use host_protocol::host::Host;
+use host_protocol::host_error::HostError;
+use key_additions::additions::{Additions, VARIABLE};
 use known_options::dependencies::{Dependencies, dependencies_of};
 use known_options::variables::is_read;
 use os_files::listed::Listed;
@@ -16,9 +19,6 @@ use std::collections::BTreeMap;
 use std::io::Read;
 use std::rt::Files;
 use wrap::{CCompilerKind, Request};
-use host_protocol::command_line::CommandLine;
-use host_protocol::host::Host;
-use host_protocol::host_error::HostError;
 
 /// What inputs are called that are compiled as they stand, or of which an assembler notes where they lie.
 const WITHOUT_FOLDER: [&str; 5] = [".i", ".ii", ".s", ".S", ".sx"];
@@ -69,7 +69,11 @@ fn tells_place(word: &[u8]) -> bool {
 }
 
 /// Adds where the input lies, where an object may have that in it though no text shows it.
-fn add_place(alloc: Global, line: &CommandLine, additions: &mut Additions) -> Result<(), HostError> {
+fn add_place(
+    alloc: Global,
+    line: &CommandLine,
+    additions: &mut Additions,
+) -> Result<(), HostError> {
     let words = line.words.as_slice();
     if !words.iter().any(|word| tells_place(word.as_bytes())) {
         return Ok(());

@@ -1,6 +1,8 @@
 //! What is passed through before the session is asked, since neither the compiler's words nor its text would tell what was made.
 //! docs/WRAPPER.md says what each variable and option does.
 
+use host_protocol::command_line::CommandLine;
+use host_protocol::host_error::HostError;
 use known_options::dependencies::{dependencies_of, for_preprocessor};
 use known_options::placed::PlacedWords;
 use known_options::words::unknown_word;
@@ -9,8 +11,6 @@ use recorded_builds::beware::options_in;
 use settings::key::Key;
 use statistics::calls::TO_STANDARD_OUTPUT;
 use std::alloc::Global;
-use host_protocol::command_line::CommandLine;
-use host_protocol::host_error::HostError;
 
 /// Variables under which a compiler reads or writes something else.
 const VARIABLES: [&str; 14] = [

@@ -1,13 +1,13 @@
 //! What a Clang loads and reads beside its driver: its libraries, and the files of words that stand before those of each call.
 
 use crate::compilers::file_name;
+use host_protocol::command_line::CommandLine;
+use host_protocol::host_error::HostError;
 use memchr::memmem;
 use std::alloc::Global;
 use std::collections::BTreeSet;
 use std::fs;
 use std::rt::Files;
-use host_protocol::command_line::CommandLine;
-use host_protocol::host_error::HostError;
 
 /// Whether a file of that name is one of Clang's own libraries.
 fn is_library(name: &[u8]) -> bool {
@@ -74,7 +74,11 @@ fn names_of_words(alloc: Global, driver: &str) -> Result<Vec<String>, HostError>
 }
 
 /// Whether a file of words lies beside a driver of that name. What is in it isn't looked at, so nothing is kept of such a compiler.
-fn has_words<R: Files + AllocGlobal>(rt: &R, folder: &str, driver: &str) -> Result<bool, HostError> {
+fn has_words<R: Files + AllocGlobal>(
+    rt: &R,
+    folder: &str,
+    driver: &str,
+) -> Result<bool, HostError> {
     for name in names_of_words(rt.alloc(), driver)? {
         let place = format!(in rt.alloc(); "{folder}/{name}")?;
         if fs::metadata(rt, place.as_str()).is_ok() {

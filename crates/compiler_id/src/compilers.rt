@@ -6,6 +6,9 @@ use crate::parts::{Driver, driver_of};
 use ckeys::compiler::CCompiler;
 use cmdlines::found::FoundCompiler;
 use cmdlines_tables::compiler::CCompilerKind;
+use host_protocol::command_line::CommandLine;
+use host_protocol::host::Host;
+use host_protocol::host_error::HostError;
 use key_additions::additions::Additions;
 use os_files::os_bytes::OsBytes;
 use recorded_builds::executables::{EntryCompiler, compiler_of};
@@ -14,12 +17,12 @@ use std::fs;
 use std::io::Read;
 use std::rt::Files;
 use wrap_base::compiler::Compiler;
-use host_protocol::command_line::CommandLine;
-use host_protocol::host::Host;
-use host_protocol::host_error::HostError;
 
 /// The compiler that the file of this path is, behind all links, where it is one that is answered here.
-pub fn kind_of<R: Files + AllocGlobal>(rt: &R, path: &str) -> Result<Option<CCompilerKind>, HostError> {
+pub fn kind_of<R: Files + AllocGlobal>(
+    rt: &R,
+    path: &str,
+) -> Result<Option<CCompilerKind>, HostError> {
     let file = fs::canonicalize(rt, path)?;
     match compiler_of(file.as_str().as_bytes()) {
         Some(EntryCompiler::C(CCompilerKind::Gcc)) => Ok(Some(CCompilerKind::Gcc)),

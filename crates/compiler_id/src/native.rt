@@ -3,17 +3,17 @@
 ghost use Rattle.std.specs.Prelude.{◌≡◌};
 
 use byte_formats::fields::put_framed;
-use disk_files::whole::read_whole;
 use cache_dir::file_digests::{digest_of, state_of};
 use cache_dir::folder::Kind;
+use disk_files::whole::read_whole;
+use host_protocol::command_line::CommandLine;
+use host_protocol::host::Host;
+use host_protocol::host_error::HostError;
 use os_files::listed::Listed;
 use os_files::os_bytes::OsBytes;
 use std::fs;
 use std::io::Read;
 use std::rt::Files;
-use host_protocol::command_line::CommandLine;
-use host_protocol::host::Host;
-use host_protocol::host_error::HostError;
 
 /// What tells one start of a machine from another one: between two of them its processor may be another.
 const START: &str = "/proc/sys/kernel/random/boot_id";
@@ -100,6 +100,8 @@ pub fn native_of<P: Print + Files + AllocGlobal, I: Read>(
         return Ok(Some(digest));
     }
     let digest = ask(rt, line, host, words)?;
-    let _ = line.folder.put(rt, Kind::Parts, name.as_str(), digest.as_bytes());
+    let _ = line
+        .folder
+        .put(rt, Kind::Parts, name.as_str(), digest.as_bytes());
     Ok(Some(digest))
 }

@@ -4,20 +4,20 @@ ghost use Rattle.std.specs.Prelude.{◌≡◌};
 
 use crate::clang_files::{add_clang_files, names_configuration};
 use byte_formats::fields::{put_framed, put_number};
-use cmdlines_tables::compiler::CCompilerKind;
-use disk_files::whole::read_whole;
 use cache_dir::file_digests::state_of;
 use cache_dir::folder::Kind;
+use cmdlines_tables::compiler::CCompilerKind;
+use disk_files::whole::read_whole;
+use host_protocol::command_line::CommandLine;
+use host_protocol::fields::{Fields, into_text};
+use host_protocol::host::Host;
+use host_protocol::host_error::HostError;
 use os_files::listed::Listed;
 use os_files::os_bytes::OsBytes;
 use std::alloc::Global;
 use std::fs;
 use std::io::Read;
 use std::rt::Files;
-use host_protocol::command_line::CommandLine;
-use host_protocol::fields::{Fields, into_text};
-use host_protocol::host::Host;
-use host_protocol::host_error::HostError;
 
 /// What GCC runs for a compile, by the names that it knows it by: with -gsplit-dwarf a program that takes debug information out. Clang runs
 /// an assembler alone.

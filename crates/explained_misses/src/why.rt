@@ -1,20 +1,22 @@
 //! What differed at the last call with the same outputs that was compiled from the one before it.
 
+use cache_dir::folder::CacheDir;
+use cache_dir::making_room::make_room;
+use cache_files::part_files::{name_of_parts, parts_under, put_parts};
+use cache_files::parts::{kept_parts, parts_of};
+use cache_files::short_text::{TextDifference, short_text};
+use cache_format::kept_parts::KeptParts;
 use ckeys::compiler_impl::CCompilerImpl;
 use cmdlines::clang::Clang;
 use cmdlines::gcc::Gcc;
 use cmdlines_base::command::ArtifactDescriptor;
 use cmdlines_base::compiler_arguments::CompilerArguments;
 use cmdlines_requests::parsed::ParsedArguments;
-use differences::difference::Difference;
-use cache_format::kept_parts::KeptParts;
-use cache_dir::folder::CacheDir;
-use cache_dir::making_room::make_room;
-use cache_files::part_files::{name_of_parts, parts_under, put_parts};
-use cache_files::parts::{kept_parts, parts_of};
-use cache_files::short_text::{TextDifference, short_text};
-use key_additions::additions::difference;
 use compiler_id::compilers::kind_of;
+use differences::difference::Difference;
+use host_protocol::command_line::CommandLine;
+use host_protocol::host_error::HostError;
+use key_additions::additions::difference;
 use known_options::dependencies::dependencies_of;
 use os_files::listed::Listed;
 use os_files::os_bytes::OsBytes;
@@ -22,8 +24,6 @@ use replay::snapshot_files::SnapshotFiles;
 use std::alloc::Global;
 use std::rt::Files;
 use wrap::{CCompilerKind, Files as CallFiles, Fingerprint, Named, Part, Reason, Request, explain};
-use host_protocol::command_line::CommandLine;
-use host_protocol::host_error::HostError;
 
 /// What words ask a compiler for.
 type Asked = CompilerArguments<ParsedArguments>;
@@ -61,7 +61,11 @@ fn name_of_request<F: CallFiles>(
 }
 
 /// What differs in the first part in which two requests do, whose texts are in short.
-fn difference_of(alloc: Global, one: &Fingerprint, earlier: &Fingerprint) -> Result<String, HostError> {
+fn difference_of(
+    alloc: Global,
+    one: &Fingerprint,
+    earlier: &Fingerprint,
+) -> Result<String, HostError> {
     match (explain(one, earlier), one, earlier) {
         (Some(Part::Text), Fingerprint::C(parts), Fingerprint::C(others)) => {
             let told = TextDifference::between(alloc, &parts.text, &others.text)?;

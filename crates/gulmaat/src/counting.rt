@@ -1,6 +1,8 @@
 //! What a call came to is counted, and told in a line of the log where one is kept.
 
 use crate::deciding::{End, What};
+use host_protocol::command_line::CommandLine;
+use host_protocol::host_error::HostError;
 use known_calls::audits::Audit;
 use known_calls::logging::log;
 use settings::key::Key;
@@ -12,8 +14,6 @@ use std::fs::File;
 use std::rt::{Clock, Files};
 use std::time::SystemTime;
 use wrap::How;
-use host_protocol::command_line::CommandLine;
-use host_protocol::host_error::HostError;
 
 /// The counter of a call whose outputs are there.
 fn counter_of(line: &CommandLine, how: How) -> &'static str {

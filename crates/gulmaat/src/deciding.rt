@@ -3,24 +3,27 @@
 ghost use Rattle.std.specs.Prelude.{◌≡◌, ◌≤◌};
 
 use crate::finishing::finish;
+use blake2::Blake2b256;
+use cache_files::manifest_files::name_of_manifest;
+use cache_files::results::Kept;
+use cache_format::kept_result::KeptMessages;
 use call_requests::call::{Call, call_of};
 use call_requests::passing::reason_against;
+use compiler_id::compilers::kind_of;
 use explained_misses::why::note_fingerprint;
 use fingerprints::fingerprint::request_fingerprint;
-use cache_format::kept_result::KeptMessages;
-use cache_files::results::Kept;
-use cache_files::manifest_files::name_of_manifest;
+use host_protocol::command_line::CommandLine;
+use host_protocol::host::Host;
+use host_protocol::host_error::HostError;
 use known_calls::audits::Audit;
 use known_calls::kept::{found, hint_at, hint_name, kept_under};
 use known_calls::known::{Given, Known};
-use compiler_id::compilers::kind_of;
-use source_files::outputs::have_plain_places;
 use os_files::listed::Listed;
 use os_files::os_bytes::OsBytes;
 use replay::kept_session::{SessionAnswer, answered, session_over};
 use searched_folders::unwatched::Unwatched;
 use settings::key::Key;
-use blake2::Blake2b256;
+use source_files::outputs::have_plain_places;
 use std::alloc::Global;
 use std::fs::File;
 use std::io::Read;
@@ -28,9 +31,6 @@ use std::rt::Files;
 use wrap::{
     Answer, CCompilerKind, Config, ConfigError, EntryKey, Fault, How, Request, Step, StoreKey, Zone,
 };
-use host_protocol::command_line::CommandLine;
-use host_protocol::host::Host;
-use host_protocol::host_error::HostError;
 
 /// What a call came to.
 #[derive(Drop)]
@@ -169,7 +169,11 @@ fn find_out<P: Print + Files<File = File> + AllocGlobal, I: Read>(
 
 /// What is fixed for a session: which folders don't count, and in direct mode the zone in which days are told. Outputs of any size are
 /// kept: `cache_dir` has a rule of its own on what is larger than most of its limit.
-fn config_of(alloc: Global, basedirs: &[OsBytes], zone: &Option<Zone>) -> Result<Config, HostError> {
+fn config_of(
+    alloc: Global,
+    basedirs: &[OsBytes],
+    zone: &Option<Zone>,
+) -> Result<Config, HostError> {
     let config = match zone {
         Some(zone) => Config::new(alloc, basedirs, *zone, true, None),
         None => Config::new(alloc, basedirs, Zone::utc(), false, None),

@@ -3,26 +3,26 @@
 ghost use Rattle.std.specs.Prelude.{◌≡◌};
 
 use crate::deciding::{End, What};
+use blake2::Blake2b256;
 use cache_dir::folder::Kind;
 use cache_dir::making_room::make_room;
+use host_protocol::command_line::CommandLine;
+use host_protocol::fields::into_text;
+use host_protocol::host::Host;
+use host_protocol::host_error::HostError;
 use known_calls::audits::Audit;
 use known_calls::kept::{keep, note_hint, renew};
 use known_calls::known::{Given, Known};
 use known_calls::outputs::lock_paths;
-use source_files::outputs::{print_again, write_dependencies, write_outputs};
 use os_files::listed::Listed;
 use os_files::os_bytes::OsBytes;
 use replay::kept_session::SessionAnswer;
-use blake2::Blake2b256;
+use source_files::outputs::{print_again, write_dependencies, write_outputs};
 use std::alloc::Global;
 use std::fs::File;
 use std::io::Read;
 use std::rt::Files;
 use wrap::{EntryKey, How, Output, PreprocessorCacheEntry, StoreKey};
-use host_protocol::command_line::CommandLine;
-use host_protocol::fields::into_text;
-use host_protocol::host::Host;
-use host_protocol::host_error::HostError;
 
 /// The paths of outputs.
 fn paths_of(alloc: Global, outputs: &[Output]) -> Result<Listed<OsBytes>, HostError> {

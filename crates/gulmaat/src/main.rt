@@ -14,6 +14,9 @@ mod finishing;
 use counting::note;
 use deciding::{End, What, decide};
 use explained_misses::why::why;
+use host_protocol::command_line::CommandLine;
+use host_protocol::host::Host;
+use host_protocol::host_error::HostError;
 use known_calls::audits::Audit;
 use settings::reading::read_settings;
 use std::env;
@@ -25,9 +28,6 @@ use std::rt::{Clock, Env, Files};
 use std::time::SystemTime;
 use user_options::doing::{Caller, do_options};
 use user_options::help::help;
-use host_protocol::command_line::CommandLine;
-use host_protocol::host::Host;
-use host_protocol::host_error::HostError;
 
 /// The status at which the outputs are there.
 const DONE: u8 = 11;

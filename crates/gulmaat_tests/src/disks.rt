@@ -1,12 +1,12 @@
 //! Files and folders that tests make and change, by rows: each test has a folder of its own.
 
 use byte_formats::fields::{put_framed, put_number};
+use host_protocol::command_line::CommandLine;
 use std::alloc::{Alloc, AllocError, Global};
 use std::fs;
 use std::rt::Files;
 use std::test::Fail;
 use std::time::UNIX_EPOCH;
-use host_protocol::command_line::CommandLine;
 
 /// Makes a folder of that name, without anything in it.
 pub fn make_fresh<R: Files + Alloc>(rt: &R, folder: &str) -> Result<(), Fail> {

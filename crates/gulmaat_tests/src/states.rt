@@ -3,11 +3,11 @@
 use crate::disks::{change, line_of, make_fresh};
 use byte_formats::fields::put_framed;
 use cache_dir::file_digests::digest_of;
+use disk_files::found::State;
 use known_calls::outputs::{lock_paths, made_since, states_of};
+use os_files::os_bytes::OsBytes;
 use source_files::mounts::devices_in;
 use source_files::tokens::Tokens;
-use os_files::os_bytes::OsBytes;
-use disk_files::found::State;
 use std::alloc::Global;
 use std::fs;
 use std::fs::{File, OpenOptions};

@@ -58,7 +58,11 @@ impl<'a> Variables for LineVariables<'a> {
 
 impl CommandLine {
     /// The one that the message tells, at that moment. Nothing is set yet.
-    pub fn read(alloc: Global, message: &[u8], moment: SystemTime) -> Result<CommandLine, HostError> {
+    pub fn read(
+        alloc: Global,
+        message: &[u8],
+        moment: SystemTime,
+    ) -> Result<CommandLine, HostError> {
         let mut fields = Fields::of(message);
         let path = fields.text(alloc)?;
         let text = fields.text(alloc)?;

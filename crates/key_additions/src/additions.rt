@@ -2,11 +2,11 @@
 //! differ first.
 
 use byte_formats::fields::{put_framed, put_number};
+use host_protocol::fields::Fields;
+use host_protocol::host_error::HostError;
 use os_files::listed::Listed;
 use os_files::os_bytes::OsBytes;
 use std::alloc::Global;
-use host_protocol::fields::Fields;
-use host_protocol::host_error::HostError;
 
 /// The variable that the session hashes for a user's own value.
 pub const VARIABLE: &str = "SCCACHE_C_CUSTOM_CACHE_BUSTER";

@@ -3,14 +3,14 @@
 use crate::known::{Given, Known};
 use crate::logging::log;
 use cache_dir::folder::Kind;
+use host_protocol::command_line::CommandLine;
+use host_protocol::fields::text_in;
+use host_protocol::host_error::HostError;
 use os_files::os_bytes::OsBytes;
 use std::alloc::{AllocError, Global};
 use std::fs::File;
 use std::rt::Files;
 use wrap::{How, Output, StoreKey};
-use host_protocol::command_line::CommandLine;
-use host_protocol::fields::text_in;
-use host_protocol::host_error::HostError;
 
 /// How many letters of a call's digest say whether it is compared.
 const LETTERS: usize = 8;

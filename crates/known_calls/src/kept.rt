@@ -1,22 +1,22 @@
 //! What is kept on a disk: entries by the digest of their key, and for each command line a hint of what it had last. A broken or missing
 //! file is a miss.
 
+use blake2::Blake2b256;
 use byte_formats::fields::put_framed;
-use cache_format::kept_result::KeptMessages;
-use cache_format::sealed::{result_bytes, read_result};
 use cache_dir::file_digests::digest_of;
 use cache_dir::folder::Kind;
 use cache_dir::limit::takes;
 use cache_files::results::{Kept, entry_of, kept_of};
-use os_files::os_bytes::OsBytes;
-use settings::key::Key;
-use blake2::Blake2b256;
-use std::alloc::Global;
-use std::rt::Files;
-use wrap::{Output, StoreKey};
+use cache_format::kept_result::KeptMessages;
+use cache_format::sealed::{read_result, result_bytes};
 use host_protocol::command_line::CommandLine;
 use host_protocol::fields::into_text;
 use host_protocol::host_error::HostError;
+use os_files::os_bytes::OsBytes;
+use settings::key::Key;
+use std::alloc::Global;
+use std::rt::Files;
+use wrap::{Output, StoreKey};
 
 /// How many bytes the digest of a key has.
 const DIGEST: usize = 64;

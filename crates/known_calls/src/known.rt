@@ -4,25 +4,29 @@ ghost use Rattle.std.specs.Prelude.{◌≡◌, ◌≤◌};
 
 use crate::audits::Audited;
 use crate::kept::Hint;
-use crate::outputs::{lock_paths, made_since, states_of};
 use crate::manifests::KnownManifest;
+use crate::outputs::{lock_paths, made_since, states_of};
+use cache_files::results::Kept;
+use cache_format::kept_result::KeptMessages;
 use ckeys::hasher::needs_c_preprocessing;
 use disk_files::whole::read_whole;
-use cache_format::kept_result::KeptMessages;
-use cache_files::results::Kept;
+use host_protocol::command_line::CommandLine;
+use host_protocol::fields::text_in;
+use host_protocol::host::{Ended, Host};
+use host_protocol::host_error::HostError;
 use known_options::dependencies::Dependencies;
 use known_options::text_words::text_words;
-use source_files::lists::{digest_of_list, names_files_of};
-use source_files::loading::{load, load_named};
-use source_files::outputs::regular;
-use source_files::precompiled::has_precompiled;
-use source_files::tokens::Tokens;
 use os_files::listed::Listed;
 use os_files::os_bytes::OsBytes;
 use replay::replay_tool::{RecordedOutputs, RecordedText, ReplayTool, Wanted};
 use replay::snapshot_files::SnapshotFiles;
 use searched_folders::unwatched::Unwatched;
 use settings::key::Key;
+use source_files::lists::{digest_of_list, names_files_of};
+use source_files::loading::{load, load_named};
+use source_files::outputs::regular;
+use source_files::precompiled::has_precompiled;
+use source_files::tokens::Tokens;
 use std::alloc::Global;
 use std::fs::File;
 use std::io::Read;
@@ -32,10 +36,6 @@ use unkept_texts::times::tells_time;
 use wrap::{
     CCompilerKind, Compiled, Files as CallFiles, How, Output, Printed, Shape, Step, StoreKey, Zone,
 };
-use host_protocol::command_line::CommandLine;
-use host_protocol::fields::text_in;
-use host_protocol::host::{Ended, Host};
-use host_protocol::host_error::HostError;
 use written_lines::asked::Asked;
 use written_lines::lines::{digest_asked, digest_of_contents};
 use written_lines::named::NamedFiles;
@@ -144,7 +144,11 @@ impl Known {
 
     /// Loads the file of that path, as it is there or not. Where that can't be told direct mode goes off. False where it was the last
     /// one already.
-    pub fn load<R: Files + AllocGlobal>(&mut self, rt: &R, path: OsBytes) -> Result<bool, HostError> {
+    pub fn load<R: Files + AllocGlobal>(
+        &mut self,
+        rt: &R,
+        path: OsBytes,
+    ) -> Result<bool, HostError> {
         if self.loaded.as_ref() == Some(&path) {
             return Ok(false);
         }
@@ -175,7 +179,11 @@ impl Known {
     }
 
     /// Takes an input that is compiled as it stands, as it was loaded. One that takes in files is refused.
-    fn take_input<R: Files + AllocGlobal>(&mut self, rt: &R, key: &StoreKey) -> Result<(), HostError> {
+    fn take_input<R: Files + AllocGlobal>(
+        &mut self,
+        rt: &R,
+        key: &StoreKey,
+    ) -> Result<(), HostError> {
         let (false, Some(path)) = (is_preprocessed(key), &self.loaded) else {
             return Ok(());
         };
@@ -252,7 +260,11 @@ impl Known {
     }
 
     /// The words by which the compiler prints the text, and lists the files that it read where a dependency file is asked for.
-    fn words_for_text(&self, alloc: Global, line: &CommandLine) -> Result<Listed<OsBytes>, HostError> {
+    fn words_for_text(
+        &self,
+        alloc: Global,
+        line: &CommandLine,
+    ) -> Result<Listed<OsBytes>, HostError> {
         let Some(dependencies) = &self.dependencies else {
             return Ok(text_words(alloc, line.words.as_slice(), None)?);
         };
@@ -367,7 +379,11 @@ impl Known {
     }
 
     /// Takes the dependency file that the compile wrote. What is missing, or names files that the text doesn't have, isn't kept.
-    fn take_written<R: Files + AllocGlobal>(&mut self, rt: &R, key: &StoreKey) -> Result<(), HostError> {
+    fn take_written<R: Files + AllocGlobal>(
+        &mut self,
+        rt: &R,
+        key: &StoreKey,
+    ) -> Result<(), HostError> {
         if !self.wants_dependencies(Some(key)) {
             return Ok(());
         }
@@ -541,7 +557,11 @@ fn is_preprocessed(key: &StoreKey) -> bool {
 }
 
 /// What a command printed there.
-fn printed_at<R: Files + AllocGlobal>(rt: &R, ended: &Ended, place: &str) -> Result<OsBytes, HostError> {
+fn printed_at<R: Files + AllocGlobal>(
+    rt: &R,
+    ended: &Ended,
+    place: &str,
+) -> Result<OsBytes, HostError> {
     if ended.silent {
         return Ok(OsBytes::empty(rt.alloc()));
     }

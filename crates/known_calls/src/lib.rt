@@ -5,5 +5,5 @@ pub mod audits;
 pub mod kept;
 pub mod known;
 pub mod logging;
-pub mod outputs;
 mod manifests;
+pub mod outputs;

@@ -1,10 +1,10 @@
 //! Logs of calls: a line each.
 
+use host_protocol::command_line::CommandLine;
+use host_protocol::host_error::HostError;
 use std::fs::{File, OpenOptions};
 use std::io::Write;
 use std::rt::Files;
-use host_protocol::command_line::CommandLine;
-use host_protocol::host_error::HostError;
 
 /// Appends a line to a log, which is made where it isn't there: the second in which the call began, what it came to, the command, and a
 /// remark in brackets, where there is one.

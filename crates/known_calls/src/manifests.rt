@@ -4,24 +4,24 @@ ghost use Rattle.std.specs.Prelude.{◌≡◌};
 
 use crate::known::Known;
 use byte_formats::fields::{put_framed, read_framed};
-use cmdlines_tables::language::{language_to_clang_arg, language_to_gcc_arg};
 use cache_dir::error::CacheDirError;
-use cache_files::manifest_files::{put_manifest, manifest_under};
+use cache_files::manifest_files::{manifest_under, put_manifest};
 use cache_files::manifests::FoundManifest;
-use source_files::loading::{load_all, settled_before};
+use cmdlines_tables::language::{language_to_clang_arg, language_to_gcc_arg};
+use host_protocol::command_line::CommandLine;
+use host_protocol::host::Host;
+use host_protocol::host_error::HostError;
 use os_files::os_bytes::OsBytes;
 use replay::watched_records::pair_again;
 use searched_folders::asking::said_of;
 use searched_folders::manifests::{joined, result_holds, with_list, without};
 use searched_folders::texts::{Source, list_of};
 use searched_folders::unwatched::Unwatched;
+use source_files::loading::{load_all, settled_before};
 use std::alloc::Global;
 use std::io::Read;
 use std::rt::Files;
 use wrap::{CCompilerKind, EntryKey, PreprocessorCacheEntry, Shape, StoreKey};
-use host_protocol::command_line::CommandLine;
-use host_protocol::host::Host;
-use host_protocol::host_error::HostError;
 
 /// The word by which a compiler of that kind takes a source of the language of what is compiled under this key.
 fn language_of(kind: CCompilerKind, key: &StoreKey) -> Option<&'static str> {

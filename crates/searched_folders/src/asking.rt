@@ -7,9 +7,11 @@ use crate::unwatched::Unwatched;
 use crate::watch_list::holds;
 use crate::watching::Watching;
 use byte_formats::fields::{put_framed, read_framed};
-use disk_files::whole::read_whole;
 use cache_dir::file_digests::{digest_of, state_of};
 use cache_dir::folder::Kind;
+use disk_files::whole::read_whole;
+use host_protocol::command_line::CommandLine;
+use host_protocol::host::Host;
 use known_options::placed::PlacedWords;
 use known_options::variables::is_read;
 use os_files::file_time::FileTime;
@@ -19,8 +21,6 @@ use std::alloc::Global;
 use std::fs;
 use std::io::Read;
 use std::rt::Files;
-use host_protocol::command_line::CommandLine;
-use host_protocol::host::Host;
 
 /// What words begin with that say nothing of where files are looked for.
 const FRONTS: [&[u8]; 6] = [b"-D", b"-U", b"-o", b"-M", b"-include", b"-imacros"];

@@ -4,6 +4,7 @@ use crate::search_list::SearchList;
 use crate::unwatched::Unwatched;
 use crate::watching::Watching;
 use disk_files::found::folder_of;
+use host_protocol::command_line::CommandLine;
 use known_options::placed::{Placed, PlacedWords};
 use memchr::memmem;
 use os_files::file_time::FileTime;
@@ -14,7 +15,6 @@ use source_directives::directives::{
 use source_directives::times::{pastes_time, tells_time};
 use std::alloc::Global;
 use std::rt::Files;
-use host_protocol::command_line::CommandLine;
 
 /// What words begin with by which a compiler finds files in a way of its own.
 const OWN_WAYS: [&[u8]; 6] = [

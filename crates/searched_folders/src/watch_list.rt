@@ -4,12 +4,12 @@
 //! has its path, its state, how it may be another one, and its names with what lay there, all of them behind their length; a file has its
 //! path, its state and the digest of its contents. docs/FORMATS.md has the layout.
 
-use disk_files::whole::read_of_size;
-use disk_files::found::{Found, State, found_at};
 use crate::unwatched::Unwatched;
 use byte_formats::fault::ReadFault;
 use byte_formats::fields::{put_framed, put_number, read_framed, read_number};
 use cache_dir::file_digests::digest_of;
+use disk_files::found::{Found, State, found_at};
+use disk_files::whole::read_of_size;
 use os_files::file_time::FileTime;
 use std::alloc::AllocError;
 use std::fs;

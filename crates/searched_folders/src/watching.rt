@@ -1,12 +1,12 @@
 //! Looking where a compiler looks, and noting what is there.
 
-use disk_files::whole::read_whole;
-use disk_files::found::{Found, State, found_at, is_nothing};
 use crate::search_list::SearchList;
 use crate::unwatched::Unwatched;
 use crate::watch_list::Folder;
 use byte_formats::fields::{put_framed, put_number};
 use cache_dir::file_digests::digest_of;
+use disk_files::found::{Found, State, found_at, is_nothing};
+use disk_files::whole::read_whole;
 use os_files::file_time::FileTime;
 use os_files::path::join;
 use source_directives::directives::{Asked, Search};

@@ -1,10 +1,10 @@
 //! Lists of files that a compiler writes for Make: the files that a text is made of.
 
 use cache_dir::file_digests::digest_of;
+use host_protocol::host_error::HostError;
 use memchr::memmem;
 use std::alloc::{AllocError, Global};
 use std::collections::HashSet;
-use host_protocol::host_error::HostError;
 
 /// The digest of a list.
 pub fn digest_of_list(alloc: Global, list: &[u8]) -> Result<String, HostError> {

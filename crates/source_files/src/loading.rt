@@ -3,6 +3,9 @@
 use crate::tokens::{Tokens, token_of};
 use disk_files::found::{is_before, time_of};
 use disk_files::whole::read_of_size;
+use host_protocol::command_line::CommandLine;
+use host_protocol::fields::into_text;
+use host_protocol::host_error::HostError;
 use memchr::memmem;
 use os_files::file_time::FileTime;
 use os_files::files::Metadata;
@@ -14,9 +17,6 @@ use std::io::ErrorKind;
 use std::os::unix::fs::MetadataExt;
 use std::rt::Files;
 use std::time::{Duration, SystemTime, UNIX_EPOCH};
-use host_protocol::command_line::CommandLine;
-use host_protocol::fields::into_text;
-use host_protocol::host_error::HostError;
 use written_lines::named::{Lying, NamedFile, NamedFiles};
 
 /// How many milliseconds the times of files may stand behind the clock: they are told by the ticks of a kernel.

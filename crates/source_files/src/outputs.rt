@@ -1,16 +1,16 @@
 //! Outputs that the compiler made, or that are written in its place.
 
-use disk_files::whole::read_of_size;
 use cache_format::kept_result::KeptMessages;
+use disk_files::whole::read_of_size;
+use host_protocol::command_line::CommandLine;
+use host_protocol::fields::text_in;
+use host_protocol::host_error::HostError;
 use os_files::os_bytes::OsBytes;
 use std::fs;
 use std::io::ErrorKind;
 use std::os::unix::fs::MetadataExt;
 use std::rt::Files;
 use wrap_base::answer::Output;
-use host_protocol::command_line::CommandLine;
-use host_protocol::fields::text_in;
-use host_protocol::host_error::HostError;
 
 /// The contents of the regular file of that path, where it is one.
 pub fn regular<R: Files + AllocGlobal>(rt: &R, path: &str) -> Option<OsBytes> {

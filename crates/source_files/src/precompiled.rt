@@ -1,14 +1,14 @@
 //! Precompiled headers that a compiler may take in place of one that a text shows.
 
 use disk_files::found::folder_of;
+use host_protocol::command_line::CommandLine;
+use host_protocol::host_error::HostError;
 use known_options::placed::{Placed, PlacedWords};
 use os_files::os_bytes::OsBytes;
 use os_files::path::join;
 use std::alloc::Global;
 use std::fs;
 use std::rt::Files;
-use host_protocol::command_line::CommandLine;
-use host_protocol::host_error::HostError;
 use written_lines::named::NamedFiles;
 
 /// What precompiled headers have behind the name of their header.
@@ -60,7 +60,10 @@ fn folders_of<'a>(
     }
     for variable in VARIABLES {
         let list = line.value_of(variable);
-        for folder in list.split(|byte| *byte == b':').filter(|folder| !folder.is_empty()) {
+        for folder in list
+            .split(|byte| *byte == b':')
+            .filter(|folder| !folder.is_empty())
+        {
             folders.push(folder)?;
         }
     }

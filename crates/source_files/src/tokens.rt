@@ -2,13 +2,13 @@
 //! which stand in them. It is known again by the state of the file, so that a header that is as it was isn't read.
 
 use crate::mounts::devices;
+use blake2::Blake2b256;
 use byte_formats::fields::{put_framed, read_framed};
 use ckeys_base::digest::Digest;
 use disk_files::found::State;
 use memchr::memmem;
 use os_files::file_time::FileTime;
 use os_files::os_bytes::OsBytes;
-use blake2::Blake2b256;
 use std::alloc::{AllocError, Global};
 use std::collections::{BTreeMap, BTreeSet};
 use std::fs::Metadata;

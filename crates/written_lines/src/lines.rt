@@ -3,14 +3,14 @@
 use crate::asked::Asked;
 use crate::sources::Sources;
 use crate::written::{Place, Written};
+use blake2::Blake2b256;
 use ckeys_base::digest::Digest;
+use host_protocol::host_error::HostError;
 use marker_walk::line::Mark;
 use marker_walk::markers::Markers;
 use memchr::memchr;
 use os_files::os_bytes::OsBytes;
-use blake2::Blake2b256;
 use std::alloc::{AllocError, Global};
-use host_protocol::host_error::HostError;
 
 /// The name of the marker that a line is, if it is one, with its number.
 fn marker_in(line: &[u8]) -> Option<(&[u8], usize)> {

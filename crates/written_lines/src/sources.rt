@@ -1,12 +1,12 @@
 //! The files that the markers of a text name, with their lines.
 
 use crate::named::{Lying, NamedFiles};
-use ckeys_base::digest::Digest;
-use memchr::memchr;
 use blake2::Blake2b256;
+use ckeys_base::digest::Digest;
+use host_protocol::host_error::HostError;
+use memchr::memchr;
 use std::alloc::{AllocError, Global};
 use std::collections::HashMap;
-use host_protocol::host_error::HostError;
 
 /// A file and where its lines begin.
 #[derive(Drop)]
