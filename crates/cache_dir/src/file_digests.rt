@@ -14,14 +14,21 @@ use std::fs;
 use std::os::unix::fs::MetadataExt;
 use std::rt::Files;
 
+/// The digest of these bytes by any hash function, as text.
+fn digest_by<H: HashState>(alloc: Global, bytes: &[u8]) -> Result<String, CacheDirError>
+    ensures { IfOk result (λ text. string_bytes text ≡ hex_of (H.digest_of bytes.now)) }
+{
+    let mut digest: Digest<H> = Digest::new();
+    digest.update(bytes);
+    Ok(digest.finish(alloc)?)
+}
+
 /// The digest of these bytes, as text.
 pub fn digest_of(alloc: Global, bytes: &[u8]) -> Result<String, CacheDirError>
     ensures { IfOk result (λ text. string_bytes text
         ≡ hex_of (⟦<Blake2b256 as HashState>⟧.digest_of bytes.now)) }
 {
-    let mut digest: Digest<Blake2b256> = Digest::new();
-    digest.update(bytes);
-    Ok(digest.finish(alloc)?)
+    digest_by::<Blake2b256>(alloc, bytes)
 }
 
 /// Adds what tells whether a file changed.

@@ -4,6 +4,8 @@ use byte_formats::fields::{put_framed, put_number};
 use host_protocol::command_line::CommandLine;
 use std::alloc::{Alloc, AllocError, Global};
 use std::fs;
+use std::fs::Permissions;
+use std::os::unix::fs::PermissionsExt;
 use std::rt::Files;
 use std::test::Fail;
 use std::time::UNIX_EPOCH;
@@ -15,8 +17,8 @@ pub fn make_fresh<R: Files + Alloc>(rt: &R, folder: &str) -> Result<(), Fail> {
     Ok(())
 }
 
-/// Does in a folder what a row says: `folder PATH`, `write PATH TEXT`, `link PATH TO`, `remove PATH` or `unfold PATH`; nothing where it is
-/// empty.
+/// Does in a folder what a row says: `folder PATH`, `write PATH TEXT`, `link PATH TO`, `twin PATH OF`, `deny PATH`, `remove PATH` or
+/// `unfold PATH`; nothing where it is empty.
 pub fn change<R: Files + AllocGlobal>(rt: &R, folder: &str, row: &str) -> Result<(), Fail> {
     let mut words = row.split(' ');
     let verb = words.next().unwrap_or("");
@@ -28,6 +30,8 @@ pub fn change<R: Files + AllocGlobal>(rt: &R, folder: &str, row: &str) -> Result
         "folder" => fs::create_dir(rt, path)?,
         "write" => fs::write(rt, path, text.as_bytes())?,
         "link" => std::os::unix::fs::symlink(rt, text, path)?,
+        "twin" => fs::hard_link(rt, format!(in rt.alloc(); "{folder}/{text}")?.as_str(), path)?,
+        "deny" => fs::set_permissions(rt, path, Permissions::from_mode(0o444))?,
         "remove" => fs::remove_file(rt, path)?,
         "unfold" => fs::remove_dir(rt, path)?,
         _ => {}

@@ -1,5 +1,5 @@
 //! Tests of what gulmaat stands on, by example: what sources ask for, where compilers look, what is watched, states of files, lines as they were
-//! written, manifests, dependency files, variables, and what is bound to keys.
+//! written, manifests, dependency files, variables, what is bound to keys, what is passed through, and where outputs are put.
 #![tactic(auto)]
 
 #[cfg(test)]
@@ -15,7 +15,11 @@ mod lines;
 #[cfg(test)]
 mod lists;
 #[cfg(test)]
-mod records;
+mod manifests;
+#[cfg(test)]
+mod passing;
+#[cfg(test)]
+mod places;
 #[cfg(test)]
 mod searches;
 #[cfg(test)]

@@ -1,6 +1,6 @@
 //! Lines as they were written: which changes of a source change what is bound to a key beside its text.
 
-use crate::disks::{line_of, make_fresh};
+use crate::disks::{change, line_of, make_fresh};
 use os_files::os_bytes::OsBytes;
 use std::fs;
 use std::rt::Files;
@@ -8,7 +8,7 @@ use std::test::Fail;
 use test_kit::texts::holds;
 use written_lines::asked::Asked;
 use written_lines::lines::digest_asked;
-use written_lines::named::NamedFiles;
+use written_lines::named::{NamedFile, NamedFiles};
 use written_lines::sources::Sources;
 
 /// A source before and after a change, the text of both, and whether their lines are the same.
@@ -56,10 +56,12 @@ fn digest_of<R: Files + AllocGlobal>(
 ) -> Result<OsBytes, Fail> {
     let line = line_of(rt.alloc(), "gulmaat_tests_lines", "-c a.c")?;
     fs::write(rt, "gulmaat_tests_lines/a.c", source.as_bytes())?;
-    let Ok(sources) = Sources::of(rt, &line, text.as_bytes()) else {
+    let mut named = NamedFiles::of(rt, line.dir.as_bytes(), text.as_bytes())?;
+    named.read(rt);
+    let Ok(sources) = Sources::of(rt.alloc(), &named) else {
         return Err("no sources".into());
     };
-    match digest_asked(rt.alloc(), asked, text.as_bytes(), &sources) {
+    match digest_asked(rt.alloc(), asked, text.as_bytes(), sources) {
         Ok(digest) => Ok(digest),
         Err(_) => Err("no digest".into()),
     }
@@ -94,12 +96,12 @@ const NAMED: [(&str, &[&str]); 5] = [
     ("#line 1 \"a.c\"\n", &["/d/a.c"]),
 ];
 
-/// Whether these are the paths.
-fn are_paths(paths: &[OsBytes], wanted: &[&str]) -> bool {
-    let mut are = paths.len() == wanted.len();
-    for (path, wanted) in paths.iter().zip(wanted.iter()) {
+/// Whether the files have these paths.
+fn are_paths(files: &[NamedFile], wanted: &[&str]) -> bool {
+    let mut are = files.len() == wanted.len();
+    for (file, wanted) in files.iter().zip(wanted.iter()) {
         let wanted = *wanted;
-        are = are && path.as_bytes() == wanted.as_bytes();
+        are = are && file.path.as_bytes() == wanted.as_bytes();
     }
     are
 }
@@ -107,9 +109,31 @@ fn are_paths(paths: &[OsBytes], wanted: &[&str]) -> bool {
 #[test]
 fn texts_name_files(rt: HostRuntime) -> Result<(), Fail> {
     for (text, wanted) in NAMED {
-        let named = NamedFiles::of(rt.alloc(), b"/d", text.as_bytes())?;
-        let paths = named.paths.as_slice();
-        holds(named.are_all && are_paths(paths, wanted), text)?;
+        let named = NamedFiles::of(&rt, b"/d", text.as_bytes())?;
+        let files = named.files.as_slice();
+        holds(named.are_all && are_paths(files, wanted), text)?;
+    }
+    Ok(())
+}
+
+/// What is done in a folder once a text named its file `a.h`, and whether all is as it was.
+const DONE: [(&str, bool); 4] = [
+    ("", true),
+    ("write other.h 1", true),
+    ("write a.h longer", false),
+    ("remove a.h", false),
+];
+
+#[test]
+fn named_files_are_as_they_were_or_not(rt: HostRuntime) -> Result<(), Fail> {
+    let folder = "gulmaat_tests_named";
+    for (row, are_unchanged) in DONE {
+        make_fresh(&rt, folder)?;
+        change(&rt, folder, "write a.h 1")?;
+        let text = b"# 1 \"a.h\"\n# 1 \"none.h\"\n";
+        let named = NamedFiles::of(&rt, folder.as_bytes(), text.as_slice())?;
+        change(&rt, folder, row)?;
+        holds(named.are_unchanged(&rt) == are_unchanged, row)?;
     }
     Ok(())
 }

@@ -109,10 +109,14 @@ fn files_are_watched(rt: HostRuntime) -> Result<(), Fail> {
 }
 
 /// Words, a source, and why there is no list of what to watch, if so.
-const SOURCES: [(&str, &str, &str); 12] = [
+const SOURCES: [(&str, &str, &str); 16] = [
     ("-c a.c", "int x;\n", ""),
     ("-c a.c", "#include NAME\n", ""),
-    ("-c a.c -DNAME=<x.h>", "#include NAME\n", "computed name"),
+    ("-c a.c -DNAME=<x.h>", "#include NAME\n", ""),
+    ("-c a.c -D NAME=<x.h>", "#include NAME\n", ""),
+    ("-c a.c -DNAME=OTHER", "#include NAME\n", "computed name"),
+    ("-c a.c -UNAME", "#include NAME\n", "computed name"),
+    ("-c a.c -DNAME_2=<x.h>", "#include NAME\n", "computed name"),
     ("-c a.c", "#define NAME <x.h>\n#include NAME\n", ""),
     (
         "-c a.c",
@@ -150,8 +154,8 @@ fn why_none<R: Files + AllocGlobal>(
     let alloc: Global = rt.alloc();
     let line = line_of(alloc, folder, words)?;
     let mut sources = Vec::new(alloc);
-    let path = OsBytes::from_slice(alloc, b"gulmaat_tests_lists/a.c")?;
-    let contents = OsBytes::from_slice(alloc, source.as_bytes())?;
+    let path = "gulmaat_tests_lists/a.c";
+    let contents = source.as_bytes();
     sources.push(Source { path, contents })?;
     let before = FileTime::from_seconds(i64::MAX);
     match list_of(rt, &line, sources.as_slice(), SAID.as_bytes(), before) {
