@@ -142,8 +142,14 @@ impl Written {
         self.put(lines)
     }
 
-    /// Takes how a line was written that the text shows: how many bytes it begins with and ends with as the text has it, and the rest.
+    /// Takes how a line was written that the text shows: with other spaces ahead of it, most often. Else how many bytes it begins with and
+    /// ends with as the text has it, and the rest.
     fn note_line(&mut self, line: &[u8], shown: &[u8]) -> Result<(), AllocError> {
+        let written = behind_spaces(line);
+        if written == behind_spaces(shown) {
+            self.begin(b'i')?;
+            return self.put(up_to(line, line.len().saturating_sub(written.len())));
+        }
         let ahead = alike_ahead(line, shown);
         let rest = behind(line, ahead);
         let shown_rest = behind(shown, ahead);
