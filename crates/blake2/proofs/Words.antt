@@ -1,8 +1,8 @@
 -- Words of blocks, and the vector of a state.
-use Rattle.std.proofs.Common.{◌≡◌, ℕ, zero, suc, ◌+◌, ◌*◌, ◌/◌, ◌%◌, ◌^◌, ◌<◌, ◌≤◌, Bool, List, [], ◌∷◌, ◌++◌, IsTrue, nat_lt, length, get_or, take, drop, bit_xor, slice_index, refl, sym, ap, subst, ◌∙◌, arith}
+use Rattle.std.proofs.Common.{◌≡◌, ℕ, ◌+◌, ◌*◌, ◌/◌, ◌%◌, ◌^◌, ◌<◌, ◌≤◌, Bool, List, [], ◌∷◌, ◌++◌, IsTrue, nat_lt, length, get_or, take, drop, bit_xor, slice_index, refl, sym, ap, subst, ◌∙◌, arith}
 use Rattle.std.specs.Int.{w64, to_le_bytes}
 use Rattle.std.specs.List.{flat_map, list_all}
-use Rattle.std.proofs.lemmas.List.{drop_more, drop_all, take_all, take_more}
+use Rattle.std.proofs.lemmas.List.{drop_more, take_all, take_more}
 use Rattle.std.proofs.lemmas.List.Concat.{flat_map-append}
 use Rattle.std.proofs.lemmas.Slice.{take-put_mid}
 use Rattle.blake2.specs.Blake2b.{compress, iv, mark, vector}
@@ -17,17 +17,17 @@ next b i j e lt = rw e (drop_more b i 0 lt)
 -- eight bytes from a place on, one by one
 pub eight_from : (b : List ℕ) (i : ℕ) → i + 8 ≤ length b
     → take 8 (drop i b) ≡ get_or b i 0 ∷ get_or b (i + 1) 0 ∷ get_or b (i + 2) 0 ∷ get_or b (i + 3) 0 ∷ get_or b (i + 4) 0
-        ∷ get_or b (i + 5) 0 ∷ get_or b (i + 6) 0 ∷ get_or b (i + 7) 0 ∷ []
+    ∷ get_or b (i + 5) 0 ∷ get_or b (i + 6) 0 ∷ get_or b (i + 7) 0 ∷ []
 eight_from b i fits = rw (
-      next b i (i + 1) refl (omega arith),
-      next b (i + 1) (i + 2) (omega arith) (omega arith),
-      next b (i + 2) (i + 3) (omega arith) (omega arith),
-      next b (i + 3) (i + 4) (omega arith) (omega arith),
-      next b (i + 4) (i + 5) (omega arith) (omega arith),
-      next b (i + 5) (i + 6) (omega arith) (omega arith),
-      next b (i + 6) (i + 7) (omega arith) (omega arith),
-      next b (i + 7) (i + 8) (omega arith) (omega arith),
-    ) refl
+  next b i (i + 1) refl (omega arith),
+  next b (i + 1) (i + 2) (omega arith) (omega arith),
+  next b (i + 2) (i + 3) (omega arith) (omega arith),
+  next b (i + 3) (i + 4) (omega arith) (omega arith),
+  next b (i + 4) (i + 5) (omega arith) (omega arith),
+  next b (i + 5) (i + 6) (omega arith) (omega arith),
+  next b (i + 6) (i + 7) (omega arith) (omega arith),
+  next b (i + 7) (i + 8) (omega arith) (omega arith),
+) refl
 
 -- a list of eight, one by one
 pub eight : (h : List ℕ) → length h ≡ 8
@@ -45,13 +45,13 @@ high_half count fits = omega arith
 -- the vector word by word
 pub vector_is : (h : List ℕ) (count : ℕ) (last : Bool) → length h ≡ 8 → count < 2 ^ 128
     → get_or h 0 0 ∷ get_or h 1 0 ∷ get_or h 2 0 ∷ get_or h 3 0 ∷ get_or h 4 0 ∷ get_or h 5 0 ∷ get_or h 6 0 ∷ get_or h 7 0
-        ∷ slice_index iv 0 ∷ slice_index iv 1 ∷ slice_index iv 2 ∷ slice_index iv 3
-        ∷ bit_xor (slice_index iv 4) (count % 2 ^ 64) ∷ bit_xor (slice_index iv 5) (count / 2 ^ 64)
-        ∷ bit_xor (slice_index iv 6) (mark last) ∷ slice_index iv 7 ∷ [] ≡ vector h count last
+    ∷ slice_index iv 0 ∷ slice_index iv 1 ∷ slice_index iv 2 ∷ slice_index iv 3
+    ∷ bit_xor (slice_index iv 4) (count % 2 ^ 64) ∷ bit_xor (slice_index iv 5) (count / 2 ^ 64)
+    ∷ bit_xor (slice_index iv 6) (mark last) ∷ slice_index iv 7 ∷ [] ≡ vector h count last
 unfolding vector
 vector_is h count last len fits =
     let behind : List ℕ = bit_xor (slice_index iv 4) (count % 2 ^ 64) ∷ bit_xor (slice_index iv 5) (count / 2 ^ 64)
-        ∷ bit_xor (slice_index iv 6) (mark last) ∷ slice_index iv 7 ∷ [] in
+    ∷ bit_xor (slice_index iv 6) (mark last) ∷ slice_index iv 7 ∷ [] in
     rw (high_half count fits) (ap (λ (x : List ℕ). x ++ take 4 iv ++ behind) (sym (eight h len)))
 
 -- the vector reads a count modulo 2 ^ 128
@@ -81,4 +81,5 @@ four_words a b c d e f g h = refl
 
 -- the bytes of the first four of eight words
 pub first_four : (h : List ℕ) → length h ≡ 8 → flat_map (to_le_bytes w64) (take 4 h) ≡ take 32 (flat_map (to_le_bytes w64) h)
-first_four h e = subst (λ (x : List ℕ). flat_map (to_le_bytes w64) (take 4 x) ≡ take 32 (flat_map (to_le_bytes w64) x)) (sym (eight h e)) (four_words _ _ _ _ _ _ _ _)
+first_four h e = subst (λ (x : List ℕ). flat_map (to_le_bytes w64) (take 4 x) ≡ take 32 (flat_map (to_le_bytes w64) x)) (sym (eight h e))
+    (four_words (get_or h 0 0) (get_or h 1 0) (get_or h 2 0) (get_or h 3 0) (get_or h 4 0) (get_or h 5 0) (get_or h 6 0) (get_or h 7 0))

@@ -25,8 +25,8 @@ AreBytes-low_first i (suc count) n = All-cons (λ b. b < 256) (byte_at i n) _ (b
 
 AreBytes-words : (words : List ℕ) → AreBytes (flat_map (to_le_bytes w64) words)
 AreBytes-words [] = All-nil _
-AreBytes-words (word ∷ words) = All-append (λ b. b < 256) _ _ (AreBytes-low_first 0 8 word) (AreBytes-words words)
+AreBytes-words (word ∷ words) = All-append (λ b. b < 256) (to_le_bytes w64 word) (flat_map (to_le_bytes w64) words) (AreBytes-low_first 0 8 word) (AreBytes-words words)
 
 pub AreBytes-blake2b-256 : (m : List ℕ) → AreBytes (blake2b-256 m)
 unfolding blake2b
-AreBytes-blake2b-256 m = All-take (λ b. b < 256) 32 _ (AreBytes-words _)
+AreBytes-blake2b-256 m = All-take (λ b. b < 256) 32 (flat_map (to_le_bytes w64) (final_state 32 m)) (AreBytes-words (final_state 32 m))

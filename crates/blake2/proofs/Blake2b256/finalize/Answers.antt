@@ -10,5 +10,5 @@ unfolding blake2b
 returns c = λ m a.
     c.first_bytes.ensures ∙ ap (λ (h : List ℕ). take 32 (flat_map (to_le_bytes w64) h))
     (finished c.args.self m _ _ _ a
-        (zeros_behind c.args.self m _ _ _ _ a (omega arith) (omega arith) (omega arith) (omega arith) (c.fill.ensures.after (λ y e. e)))
-        refl c.compress.ensures)
+    (zeros_behind c.args.self m _ _ _ _ a (omega arith) (omega arith) (omega arith) (omega arith) (c.fill.ensures.after (λ y e. e)))
+    refl c.compress.ensures)

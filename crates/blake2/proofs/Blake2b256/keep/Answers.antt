@@ -7,5 +7,5 @@ returns c = record {
   waiting = refl;
   held = λ m n a.
       kept c.args.self.now _ m c.args.bytes.now n a refl refl refl
-          (written c.args.self.now c.args.bytes.now _ _ _ (omega arith) (omega arith) refl c.copy_from_slice.ensures.after);
+      (written c.args.self.now c.args.bytes.now _ _ _ (omega arith) (omega arith) refl c.copy_from_slice.ensures.after);
 }

@@ -1,4 +1,4 @@
-use Rattle.std.proofs.Common.{◌≡◌, List, ℕ, ◌++◌, arith, ap, sym, length-append, ◌∙◌}
+use Rattle.std.proofs.Common.{List, ℕ, ◌++◌, arith, ap, sym, length-append, ◌∙◌}
 use Rattle.std.proofs.lemmas.List.{append_assoc}
 use Rattle.blake2.proofs.Absorbing.{held}
 use Rattle.blake2.proofs.Blake2b256.update.Goals as goal

@@ -1,4 +1,4 @@
-use Rattle.std.proofs.Common.{rules, ◌≡◌, ℕ, ◌*◌, length, arith, refl, sym, ◌∙◌}
+use Rattle.std.proofs.Common.{rules, ◌≡◌, arith, sym, ◌∙◌}
 use Rattle.std.proofs.lemmas.List.{take_all}
 use Rattle.std.proofs.lemmas.Slice.{overwrites}
 use Rattle.blake2.proofs.Words.{bytes_more, first_four}
