@@ -36,7 +36,10 @@ def functions(text):
         if found.start() < last:
             continue
         begin = end = found.end()
-        while end < len(text) and text[end] != ";":
+        brackets = 0
+        while end < len(text) and (text[end] != ";" or brackets):
+            # (an array's type has a semicolon)
+            brackets += (text[end] == "[") - (text[end] == "]")
             if text[end] == "{":
                 close = group_end(text, end)
                 if not CLAUSE.search(text[begin:end]):
