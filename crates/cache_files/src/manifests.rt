@@ -1,7 +1,7 @@
 //! What a kept manifest says.
 
 ghost use Rattle.std.specs.Prelude.{◌≡◌, ◌⊎◌, ◌++◌, List, [], IfOk, IfSome, IsSomeAnd, OnOk};
-ghost use Rattle.include_records.specs.Layout.{IsRecord, manifest_bytes};
+ghost use Rattle.include_records.specs.Layout.{IsRecord, record_bytes};
 ghost use Rattle.include_records.specs.declared.entry.CachedResult.{CachedResult};
 ghost use Rattle.cache_files.specs.Manifests.{included, names_in};
 
@@ -50,10 +50,10 @@ fn names_in(alloc: Global, results: &[CachedResult]) -> Result<Listed<OsBytes>, 
 /// The manifest whose bytes these are. `None` where they are those of none.
 fn entry_read(alloc: Global, bytes: &[u8]) -> Result<Option<PreprocessorCacheEntry>, CacheDirError>
     ensures found { IfOk result
-        (λ found. IfSome found (λ entry. (bytes.now ≡ manifest_bytes entry.results)
+        (λ found. IfSome found (λ entry. (bytes.now ≡ record_bytes entry.results)
         ⊎ ((bytes.now ≡ []) × (entry.results ≡ [])))) }
     ensures only { (results : List CachedResult) → IsRecord results →
-        bytes.now ≡ manifest_bytes results →
+        bytes.now ≡ record_bytes results →
         IfOk result (λ found. IsSomeAnd found (λ entry. entry.results ≡ results)) }
 {
     match PreprocessorCacheEntry::read(alloc, bytes) {
@@ -68,11 +68,11 @@ pub fn found_in(alloc: Global, kept: KeptManifest) -> Result<Option<FoundManifes
     ensures identity { IfOk result (λ found. IfSome found (λ f. f.key.identity ≡ kept.identity)) }
     ensures key { IfOk result (λ found. IfSome found (λ f. f.key.key ≡ kept.key)) }
     ensures entry { IfOk result (λ found. IfSome found (λ f.
-        (kept.results ≡ manifest_bytes f.entry.results)
+        (kept.results ≡ record_bytes f.entry.results)
         ⊎ ((kept.results ≡ []) × (f.entry.results ≡ [])))) }
     // What was written for a manifest is that manifest.
     ensures only { (results : List CachedResult) → IsRecord results →
-        kept.results ≡ manifest_bytes results →
+        kept.results ≡ record_bytes results →
         IfOk result (λ found. IsSomeAnd found (λ f. f.entry.results ≡ results)) }
     ensures watched { IfOk result (λ found. IfSome found (λ f. f.watched ≡ kept.watched)) }
     // The names are those of all results, each once.
@@ -101,7 +101,7 @@ pub fn found_in(alloc: Global, kept: KeptManifest) -> Result<Option<FoundManifes
 
 /// The bytes of a manifest.
 fn results_of(alloc: Global, entry: &PreprocessorCacheEntry) -> Result<OsBytes, AllocError>
-    ensures { IfOk result (λ bytes. bytes ≡ manifest_bytes entry.now.results) }
+    ensures { IfOk result (λ bytes. bytes ≡ record_bytes entry.now.results) }
 {
     let mut bytes = Vec::new(alloc);
     match entry.serialize_to(&mut bytes) {
@@ -121,7 +121,7 @@ pub fn kept_of(
     ensures zone { IfOk result (λ kept. kept.zone ≡ zone.now) }
     ensures identity { IfOk result (λ kept. kept.identity ≡ key.now.identity) }
     ensures key { IfOk result (λ kept. kept.key ≡ key.now.key) }
-    ensures results { IfOk result (λ kept. kept.results ≡ manifest_bytes entry.now.results) }
+    ensures results { IfOk result (λ kept. kept.results ≡ record_bytes entry.now.results) }
     ensures watched { IfOk result (λ kept. kept.watched ≡ watched) }
 {
     let zone = OsBytes::from_slice(alloc, zone.as_bytes())?;

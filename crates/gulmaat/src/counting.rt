@@ -32,7 +32,7 @@ fn reason_of(alloc: Global, end: &Result<End, HostError>) -> Result<String, Host
         Err(stop) => return Ok(format!(in alloc; "stop: {stop}")?),
     };
     match &end.what {
-        What::Done(_, Some(why)) => Ok(format!(in alloc; "no record: {why}")?),
+        What::Done(_, Some(why)) => Ok(format!(in alloc; "no manifest: {why}")?),
         What::Done(_, None) => Ok(String::new(alloc)),
         What::Pass(reason) => Ok(String::from_str(alloc, reason.as_str())?),
     }

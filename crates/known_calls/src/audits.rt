@@ -229,7 +229,7 @@ impl Known {
             return Ok(Audit::None);
         }
         if audited.digest != key.digest {
-            let what = String::from_str(rt.alloc(), "record")?;
+            let what = String::from_str(rt.alloc(), "manifest")?;
             return self.differs(rt, line, what);
         }
         match audited.difference(rt.alloc(), outputs, self)? {
