@@ -77,9 +77,14 @@ def spots(value, found, inside=None):
         spots(part, found, name if isinstance(value, dict) else inside)
 
 
+def other_value(random):
+    """One of the values that stand in the place of others: a copy, since it is changed in its place later."""
+    return copy.deepcopy(random.choice(VALUES))
+
+
 def nested(random):
     """A value nested deeply."""
-    value = random.choice(VALUES)
+    value = other_value(random)
     for _ in range(random.choice((10, 100, 126, 127, 128, 1000))):
         value = [value] if random.randrange(2) else {"a": value}
     return value
@@ -119,7 +124,7 @@ def change_place(random, holder, name, others):
     if kind == 0:
         del holder[name]
     elif kind == 1:
-        holder[name] = random.choice(VALUES)
+        holder[name] = other_value(random)
     elif kind == 2:
         holder[name] = nested(random)
     elif kind == 3:

@@ -2,6 +2,9 @@
  *
  * With REFUSED_GROWTH=N the Nth growth of the process is refused, and `refused` is said on standard error.
  *
+ * With REFUSED_BEHIND=TEXT each growth is refused behind the first text that the process writes to standard error and that begins so, and
+ * `refused` is said of each.
+ *
  * With EXPECTED=FILE the process begins as many others as it makes growths, each ahead of its `main`: in the first of them the first growth
  * is refused, in the next one the second, up to one that meets no refusal. Each must print what the file holds and end with status 0, or
  * print nothing but a line that ends with `memory` on standard error and end with status 2. How many there were is printed. */
@@ -18,6 +21,8 @@
 
 /* How many growths are left up to the one that is refused, and 0 behind it. */
 static long left = -1;
+/* Whether each is refused from now on. */
+static int is_each = 0;
 /* Whether one was refused, where the process that began this one sees it. */
 static int *seen;
 
@@ -26,7 +31,7 @@ static int is_refused(void) {
         const char *number = getenv("REFUSED_GROWTH");
         left = number ? atol(number) : 0;
     }
-    if (left == 0 || --left > 0) return 0;
+    if (!is_each && (left == 0 || --left > 0)) return 0;
     if (seen) *seen = 1;
     else if (write(2, "refused\n", 8) != 8) _exit(3);
     return 1;
@@ -42,6 +47,14 @@ void *realloc(void *old, size_t size) {
     static void *(*real)(void *, size_t);
     if (!real) real = dlsym(RTLD_NEXT, "realloc");
     return is_refused() ? NULL : real(old, size);
+}
+
+ssize_t write(int file, const void *bytes, size_t length) {
+    static ssize_t (*real)(int, const void *, size_t);
+    if (!real) real = dlsym(RTLD_NEXT, "write");
+    const char *text = getenv("REFUSED_BEHIND");
+    if (text && file == 2 && length >= strlen(text) && memcmp(bytes, text, strlen(text)) == 0) is_each = 1;
+    return real(file, bytes, length);
 }
 
 /* The bytes of an open file, with a zero byte behind them. */

@@ -78,16 +78,6 @@ const NAMES: [(&str, bool); 15] = [
     ("write b/z.h new", true),
 ];
 
-#[test]
-fn names_are_watched(rt: HostRuntime) -> Result<(), Fail> {
-    let folder = "gulmaat_tests_names";
-    make_fresh(&rt, folder)?;
-    change_all(&rt, folder, &TREE)?;
-    let before = FileTime::from_seconds(0);
-    let list = list_in(&rt, folder, before, "gulmaat_tests_names/b/x.h")?;
-    hold_as(&rt, folder, list.as_slice(), &NAMES)
-}
-
 /// Changes of a file that was found and that the text doesn't name, and whether it counts as the same.
 const CONTENTS: [(&str, bool); 4] = [
     ("", true),
@@ -96,16 +86,43 @@ const CONTENTS: [(&str, bool); 4] = [
     ("remove b/x.h", false),
 ];
 
+/// What is watched: in a folder, behind a moment in seconds before which changes are settled, where the text names this file; and changes.
+struct Watch {
+    folder: &'static str,
+    before: i64,
+    named: &'static str,
+    changes: &'static [(&'static str, bool)],
+}
+
+/// A text that names the header, whose changes don't count then, and one that names another file.
+const WATCHES: [Watch; 2] = [
+    Watch {
+        folder: "gulmaat_tests_names",
+        before: 0,
+        named: "gulmaat_tests_names/b/x.h",
+        changes: &NAMES,
+    },
+    Watch {
+        folder: "gulmaat_tests_files",
+        before: i64::MAX,
+        named: "gulmaat_tests_files/none.h",
+        changes: &CONTENTS,
+    },
+];
+
 #[test]
-fn files_are_watched(rt: HostRuntime) -> Result<(), Fail> {
-    let folder = "gulmaat_tests_files";
-    make_fresh(&rt, folder)?;
-    change_all(&rt, folder, &TREE)?;
-    let before = FileTime::from_seconds(i64::MAX);
-    let list = list_in(&rt, folder, before, "gulmaat_tests_files/none.h")?;
-    hold_as(&rt, folder, list.as_slice(), &CONTENTS)?;
-    let found = list_holds(&rt, b"elsewhere", list.as_slice())?;
-    holds(!found, "a call in another folder")
+fn changes_are_watched(rt: HostRuntime) -> Result<(), Fail> {
+    for watch in WATCHES.iter() {
+        let folder = watch.folder;
+        make_fresh(&rt, folder)?;
+        change_all(&rt, folder, &TREE)?;
+        let before = FileTime::from_seconds(watch.before);
+        let list = list_in(&rt, folder, before, watch.named)?;
+        hold_as(&rt, folder, list.as_slice(), watch.changes)?;
+        let found = list_holds(&rt, b"elsewhere", list.as_slice())?;
+        holds(!found, "a call in another folder")?;
+    }
+    Ok(())
 }
 
 /// Words, a source, and why there is no list of what to watch, if so.
