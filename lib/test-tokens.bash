@@ -43,5 +43,14 @@ tokens() {
             "echo '#define VALUE 6' >$other/value.h; touch -r value.h $other/value.h; ln -sf $other/value.h value.h" "0 1 0" $cc
         rm -rf "$other" value.h
     fi
+    # A header from the future, as where the clock was set back since: it can't be told from one that changes within this moment.
+    printf '#define VALUE 1\n' >value.h
+    touch -d 'next year' value.h
+    touch -r value.h time
+    search_none "$cc: a header from the future" $cc -I.
+    echo '#define VALUE 7' >value.h
+    touch -r time value.h
+    search_call "$cc: a header from the future, written over" $cc -I.
+    search_call "$cc: a header from the future, written over, again" $cc -I.
     cd "$work" || return
 }
