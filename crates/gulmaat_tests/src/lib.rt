@@ -1,5 +1,5 @@
 //! Tests of what gulmaat stands on, by example: what sources ask for, where compilers look, what is watched, states of files, lines as they were
-//! written, records, dependency files, variables, and what is bound to keys.
+//! written, records, dependency files, variables, what is bound to keys, and recorded answers of rustc.
 #![tactic(auto)]
 
 #[cfg(test)]
@@ -16,6 +16,8 @@ mod lines;
 mod lists;
 #[cfg(test)]
 mod records;
+#[cfg(test)]
+mod rustc_replays;
 #[cfg(test)]
 mod searches;
 #[cfg(test)]
