@@ -22,6 +22,9 @@ bytes_is v w h = (bytes_eq-Decides v w).0 h
 pub bytes_own : (v : Bytes) → bytes_eq v v ≡ true
 bytes_own v = (bytes_eq-Decides v v).1 refl
 
+pub bytes_alike : (v w : Bytes) → v ≡ w → bytes_eq v w ≡ true
+bytes_alike v w e = (bytes_eq-Decides v w).1 e
+
 kind_is : (k l : ArgKind) → same_kind k l ≡ true → k ≡ l
 kind_is k l h = same_true the_type tt k l h
 

@@ -80,12 +80,12 @@ digest_same None made gives h = cc
 digest_same (Some d) made gives h = sym (gives d refl)
 
 -- where no static library is at fault, each has a digest
-all_found : (archive : Bytes × Bytes) (rest : List (Bytes × Bytes)) → digest_fault_of (archive ∷ rest) ≡ None → (is_digest digest_digits archive.1 ≡ true) × (digest_fault_of rest ≡ None)
-all_found archive rest h = by (is_digest digest_digits archive.1) refl h
+all_found : (library : Bytes × Bytes) (rest : List (Bytes × Bytes)) → digest_fault_of (library ∷ rest) ≡ None → (is_digest digest_digits library.1 ≡ true) × (digest_fault_of rest ≡ None)
+all_found library rest h = found (is_digest digest_digits library.1) refl h
   where
-    by : (b : Bool) → is_digest digest_digits archive.1 ≡ b → option_map (λ (a : Bytes × Bytes). BadDigest a.0) (if not b then Some archive else find (λ (a : Bytes × Bytes). not (is_digest digest_digits a.1)) rest) ≡ None → (is_digest digest_digits archive.1 ≡ true) × (digest_fault_of rest ≡ None)
-    by true e none = (e, none)
-    by false e none = cc
+    found : (b : Bool) → is_digest digest_digits library.1 ≡ b → option_map (λ (l : Bytes × Bytes). BadDigest l.0) (if not b then Some library else find (λ (l : Bytes × Bytes). not (is_digest digest_digits l.1)) rest) ≡ None → (is_digest digest_digits library.1 ≡ true) × (digest_fault_of rest ≡ None)
+    found true e none = (e, none)
+    found false e none = cc
 
 or_first : (first second : Option Fault) → or_else first second ≡ None → first ≡ None
 or_first None second h = refl
@@ -183,7 +183,7 @@ module _ (text : Option RecordedText) (outputs : Option RecordedOutputs) (rustc 
 -- ---- one call
 
 no_match : (digest_of : Bytes → Bytes) (meaning : Meaning) (c : RustCall) (held : Held) (text_key : Bytes) → MatchesFor digest_of (rust_work_at meaning c) held text_key → ⊥
-no_match digest_of meaning c held text_key m = let clash : None ≡ Some m.p = m.has in absurd cc
+no_match digest_of meaning c held text_key m = let clash : None ≡ Some m.p = m.has in cc
 
 module _ (digest_of : Bytes → Bytes) (max_kept : Option ℕ) (tells : Tells digest_of) (text : Option RecordedText) (outputs : Option RecordedOutputs) (rustc : Option RecordedRustc) (world : Meaning) (tree : Tree) (rust : Rustc) (request : Request) (gives : GivesOfRustc rustc (scene_at rust.executable request tree) world) (old new : Shelves) (printed printed_new compiled compiled_new : ℕ) (on_file : Bytes → Type 0) (device_in : Step → Type 0) where
   abbrev told_account : RustJudgement → Account
@@ -247,13 +247,10 @@ module _ (digest_of : Bytes → Bytes) (max_kept : Option ℕ) (tells : Tells di
   pub rust_grows : (d : RustJudgement) (result : Result Answer Fault) → RustTold d result → (earlier : List Account) → Invariant digest_of earlier old.objects.held → Invariant digest_of (earlier ++ world_account d ∷ []) new.objects.held
   rust_grows d result turn earlier inv key pairs h = by d result turn
     where
-      abbrev Found : RustJudgement → Type 0
-      Found e = (w : Work) × Contains (earlier ++ world_account e ∷ []) (worked w) × IsOf digest_of w key pairs
-
-      was : (e : RustJudgement) → old.objects.held key ≡ Some pairs → Found e
+      was : (e : RustJudgement) → old.objects.held key ≡ Some pairs → (w : Work) × Contains (earlier ++ world_account e ∷ []) (worked w) × IsOf digest_of w key pairs
       was e held = let w = inv key pairs held in (w.0, Contains-append_left earlier (world_account e ∷ []) (worked w.0) w.1, w.2)
 
-      by : (e : RustJudgement) (r : Result Answer Fault) → RustTold e r → Found e
+      by : (e : RustJudgement) (r : Result Answer Fault) → RustTold e r → (w : Work) × Contains (earlier ++ world_account e ∷ []) (worked w) × IsOf digest_of w key pairs
       by (passes why) r t = elim (t.0.objects.gains key pairs h) [
         | inl held ↦ was (passes why) held
         | inr own ↦ absurd own
@@ -266,6 +263,6 @@ module _ (digest_of : Bytes → Bytes) (max_kept : Option ℕ) (tells : Tells di
             let c = call_for asked in
             let fine = t.1.1 in
             let same = key_same text outputs rustc world c gives digest_of t.0.text_key fine (own_key asked t.0.from t.0.text_key t.0.is_key) in
-            let told = subst (λ r. IsTold digest_of r) (record_same text outputs rustc world c gives fine) own.told in
-            (world_for_call asked, Contains-push earlier (worked (world_for_call asked)), (has_record text outputs rustc world c gives fine, record { is_key = own.is_key ∙ same; made = success text outputs rustc world c gives pairs fine own.made; told = told })))
+            let is_told = subst (λ r. IsTold digest_of r) (record_same text outputs rustc world c gives fine) own.told in
+            (world_for_call asked, Contains-push earlier (worked (world_for_call asked)), (has_record text outputs rustc world c gives fine, record { is_key = own.is_key ∙ same; made = success text outputs rustc world c gives pairs fine own.made; told = is_told })))
       ]

@@ -71,6 +71,14 @@ pub(crate) fn same_words(words: &Listed<OsBytes>, other: &Listed<OsBytes>) -> bo
     *words == *other
 }
 
+/// Whether they are the same bytes.
+pub(crate) fn same_bytes(bytes: &OsBytes, other: &OsBytes) -> bool
+    ensures same { result ≡ true → bytes.now ≡ other.now }
+    ensures own { bytes.now ≡ other.now → result ≡ true }
+{
+    *bytes == *other
+}
+
 /// Whether it is the C compiler of that kind, and not rustc.
 pub(crate) fn is_of(kind: Option<CCompilerKind>, own: CCompilerKind) -> bool
     ensures same { result ≡ true → kind ≡ Some own }

@@ -4,7 +4,7 @@ ghost use Rattle.std.specs.Prelude.{◌≡◌, true, None};
 ghost use Rattle.os_files.specs.Bytes.{Bytes};
 ghost use Rattle.replay.specs.Recorded.{digest_in, same_outputs};
 
-use crate::commands::{have_names, same_words};
+use crate::commands::{have_names, same_bytes, same_words};
 use ckeys_records::output_name::OutputName;
 use std::alloc::Global;
 use std::collections::BTreeMap;
@@ -48,7 +48,7 @@ impl RecordedAnswer {
         ensures own { self.now.words ≡ command.now.arguments → self.now.dir ≡ command.now.cwd
             → result ≡ true }
     {
-        same_words(&self.words, &command.arguments) && self.dir == command.cwd
+        same_words(&self.words, &command.arguments) && same_bytes(&self.dir, &command.cwd)
     }
 }
 
@@ -69,7 +69,7 @@ impl RecordedCrate {
     {
         kind.is_none()
             && same_words(&self.words, &command.arguments)
-            && self.dir == command.cwd
+            && same_bytes(&self.dir, &command.cwd)
             && have_names(outputs, self.names.as_slice())
     }
 }

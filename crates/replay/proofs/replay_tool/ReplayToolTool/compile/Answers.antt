@@ -1,3 +1,4 @@
+use Rattle.std.proofs.Common.{◌≡◌, Some, rules}
 use Rattle.replay.specs.Recorded.{crate_of}
 use Rattle.replay.proofs.Answering.{compiles_again, crates_again}
 use Rattle.replay.proofs.replay_tool.ReplayToolTool.compile.Goals as goal
@@ -6,3 +7,9 @@ pub returns-then-answers-clause-answer : goal.returns-then-answers-clause-answer
 returns-then-answers-clause-answer g c =
     let same = c.answers.ensures.same c.if-answers.true in
     compiles_again c.args.self.now.outputs (crate_of c.args.self.now.rustc) c.args.command.now.cwd c.in-Some.recorded c.args.kind c.args.command.now.arguments c.args.outputs.now c.in_ok-made_again.field-0 c.in-Some.is same.0 same.1 same.2 c.in_ok-made_again.ensures
+
+pub returns-then-answers-2-clause-answer : goal.returns-then-answers-2-clause-answer
+returns-then-answers-2-clause-answer g c =
+    let same = c.answers-2.ensures.same c.if-answers-2.true in
+    let is : crate_of c.args.self.now.rustc ≡ Some c.in-Some-2.recorded.now = search rules in
+    crates_again c.args.self.now.outputs (crate_of c.args.self.now.rustc) c.in-Some-2.recorded.now c.args.kind c.args.command.now.arguments c.args.command.now.cwd c.args.outputs.now c.in_ok-made_again-2.field-0 is same.0 same.1 same.2.0 same.2.1 c.in_ok-made_again-2.ensures
