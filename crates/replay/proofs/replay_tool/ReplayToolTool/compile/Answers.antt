@@ -10,6 +10,6 @@ returns-then-answers-clause-answer g c =
 
 pub returns-then-answers-2-clause-answer : goal.returns-then-answers-2-clause-answer
 returns-then-answers-2-clause-answer g c =
-    let same = c.answers-2.ensures.same c.if-answers-2.true in
-    let is : crate_of c.args.self.now.rustc ≡ Some c.in-Some-2.recorded.now = search rules in
-    crates_again c.args.self.now.outputs (crate_of c.args.self.now.rustc) c.in-Some-2.recorded.now c.args.kind c.args.command.now.arguments c.args.command.now.cwd c.args.outputs.now c.in_ok-made_again-2.field-0 is same.0 same.1 same.2.0 same.2.1 c.in_ok-made_again-2.ensures
+    let same = c.answers-in-Some-made_crate.ensures.same c.if-answers-2.true in
+    let is : crate_of c.args.self.now.rustc ≡ Some c.in-Some-made_crate.recorded.now = search rules in
+    crates_again c.args.self.now.outputs (crate_of c.args.self.now.rustc) c.in-Some-made_crate.recorded.now c.args.kind c.args.command.now.arguments c.args.command.now.cwd c.args.outputs.now c.in_ok-made_again-2.field-0 is same.0 same.1 same.2 same.3 c.in_ok-made_again-2.ensures
