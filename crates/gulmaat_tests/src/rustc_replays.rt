@@ -33,21 +33,27 @@ use wrap_base::store_key::{Pairs, StoreKey};
 use wrap_base::tool::Compiled;
 
 /// A request for a library of a crate `foo`, with a static library and a text on dependencies.
-const FIRST: &str = "--emit dep-info,link -C opt-level=1 foo.rs --out-dir out --crate-name foo --crate-type lib -L native=lib -l static=z";
+const FIRST: &str =
+    "--emit dep-info,link -C opt-level=1 foo.rs --out-dir out --crate-name foo --crate-type lib -L native=lib -l static=z";
 
 /// It in other words, into another folder.
-const SECOND: &str = "--emit=dep-info,link -Copt-level=1 foo.rs --out-dir=out2 --crate-name=foo --crate-type=lib -L native=lib -l static=z";
+const SECOND: &str =
+    "--emit=dep-info,link -Copt-level=1 foo.rs --out-dir=out2 --crate-name=foo --crate-type=lib -L native=lib -l static=z";
 
 /// The words by which it is asked on dependencies.
-const ON_DEPENDENCIES: &str = "-C opt-level=1 foo.rs --crate-name foo --crate-type rlib -L native=lib -l static=z --emit dep-info";
+const ON_DEPENDENCIES: &str =
+    "-C opt-level=1 foo.rs --crate-name foo --crate-type rlib -L native=lib -l static=z --emit dep-info";
 
 /// Those by which the first and the second request are asked on names.
-const ON_NAMES: &str = "--emit dep-info,link -C opt-level=1 foo.rs --out-dir out --crate-name foo --crate-type rlib -L native=lib -l static=z --print file-names";
+const ON_NAMES: &str =
+    "--emit dep-info,link -C opt-level=1 foo.rs --out-dir out --crate-name foo --crate-type rlib -L native=lib -l static=z --print file-names";
 
-const SECOND_ON_NAMES: &str = "--emit dep-info,link -C opt-level=1 foo.rs --out-dir out2 --crate-name foo --crate-type rlib -L native=lib -l static=z --print file-names";
+const SECOND_ON_NAMES: &str =
+    "--emit dep-info,link -C opt-level=1 foo.rs --out-dir out2 --crate-name foo --crate-type rlib -L native=lib -l static=z --print file-names";
 
 /// Those by which the first one is compiled.
-const COMPILE: &str = "--emit dep-info,link -C opt-level=1 foo.rs --out-dir out --crate-name foo --crate-type rlib -L native=lib -l static=z --color always";
+const COMPILE: &str =
+    "--emit dep-info,link -C opt-level=1 foo.rs --out-dir out --crate-name foo --crate-type rlib -L native=lib -l static=z --color always";
 
 /// What rustc tells of what the crate depends on.
 const DEPENDENCIES: &str = "deps.d: foo.rs\n\nfoo.rs:\n";
@@ -184,11 +190,7 @@ fn add_word(alloc: Global, told: &mut Option<RecordedAnswer>) -> Result<(), Allo
 }
 
 /// Changes what rustc told.
-fn change_told(
-    alloc: Global,
-    rustc: &mut RecordedRustc,
-    change: Change,
-) -> Result<(), AllocError> {
+fn change_told(alloc: Global, rustc: &mut RecordedRustc, change: Change) -> Result<(), AllocError> {
     match change {
         Change::NoDependencies => rustc.dep_info = None,
         Change::NoNames => rustc.file_names = None,
@@ -204,11 +206,7 @@ fn change_told(
 }
 
 /// Changes what it made.
-fn change_made(
-    alloc: Global,
-    rustc: &mut RecordedRustc,
-    change: Change,
-) -> Result<(), AllocError> {
+fn change_made(alloc: Global, rustc: &mut RecordedRustc, change: Change) -> Result<(), AllocError> {
     let Some(made) = &mut rustc.outputs else {
         return Ok(());
     };
@@ -319,16 +317,46 @@ fn told_with(alloc: Global, change: Change) -> Result<String, Fail> {
 /// What is lacking in each case: the fault, the words, and the path of what they are to make.
 const LACKING: [(Change, &str, &str, &str); 11] = [
     (Change::NoDependencies, "tool dep-info", ON_DEPENDENCIES, ""),
-    (Change::DependenciesElsewhere, "tool dep-info", ON_DEPENDENCIES, ""),
-    (Change::DependenciesOfOtherWords, "tool dep-info", ON_DEPENDENCIES, ""),
+    (
+        Change::DependenciesElsewhere,
+        "tool dep-info",
+        ON_DEPENDENCIES,
+        "",
+    ),
+    (
+        Change::DependenciesOfOtherWords,
+        "tool dep-info",
+        ON_DEPENDENCIES,
+        "",
+    ),
     (Change::NoNames, "tool file-names", ON_NAMES, ""),
     (Change::NamesElsewhere, "tool file-names", ON_NAMES, ""),
     (Change::NamesOfOtherWords, "tool file-names", ON_NAMES, ""),
     (Change::NoDigest, "tool archive-digest", "/w/lib/libz.a", ""),
-    (Change::NoOutputs, "tool compile", COMPILE, " > out/libfoo.rlib"),
-    (Change::OutputsElsewhere, "tool compile", COMPILE, " > out/libfoo.rlib"),
-    (Change::OutputsOfOtherWords, "tool compile", COMPILE, " > out/libfoo.rlib"),
-    (Change::OutputsOfOtherNames, "tool compile", COMPILE, " > out/libfoo.rlib"),
+    (
+        Change::NoOutputs,
+        "tool compile",
+        COMPILE,
+        " > out/libfoo.rlib",
+    ),
+    (
+        Change::OutputsElsewhere,
+        "tool compile",
+        COMPILE,
+        " > out/libfoo.rlib",
+    ),
+    (
+        Change::OutputsOfOtherWords,
+        "tool compile",
+        COMPILE,
+        " > out/libfoo.rlib",
+    ),
+    (
+        Change::OutputsOfOtherNames,
+        "tool compile",
+        COMPILE,
+        " > out/libfoo.rlib",
+    ),
 ];
 
 #[test]
@@ -342,9 +370,14 @@ fn what_is_lacking_is_told(rt: HostRuntime) -> Result<(), Fail> {
 }
 
 /// What the session's first request makes: its key, and its outputs by name.
-fn kept_of(alloc: Global, told: &SessionAnswer<Sha256>) -> Result<Option<(StoreKey, Pairs)>, AllocError> {
-    let (Ok(Answer::Outputs { map, .. }), Some(key)) = (&told.answer, told.session.objects().asked())
-    else {
+fn kept_of(
+    alloc: Global,
+    told: &SessionAnswer<Sha256>,
+) -> Result<Option<(StoreKey, Pairs)>, AllocError> {
+    let (Ok(Answer::Outputs { map, .. }), Some(key)) = (
+        &told.answer,
+        told.session.objects().asked(),
+    ) else {
         return Ok(None);
     };
     let mut pairs = Listed::new(alloc);

@@ -1,16 +1,15 @@
 -- A recorded answer is what a replaying tool means.
-use Rattle.std.proofs.Common.{◌≡◌, Bool, true, ◌&&◌, List, [], ◌∷◌, Option, None, Some, refl, sym, ap, ◌∙◌, if◌then◌else◌}
+use Rattle.std.proofs.Common.{◌≡◌, Bool, true, ◌&&◌, List, Option, None, Some, refl, sym, ap, ◌∙◌, if◌then◌else◌}
 use Rattle.std.specs.Str.{bytes_eq}
 use Rattle.std.proofs.lemmas.Bool.{and_from}
 use Rattle.os_files.specs.Bytes.{Bytes}
 use Rattle.cmdlines_base.specs.Artifacts.{Artifacts}
-use Rattle.cmdlines_tables.specs.Tables.{reading_of}
 use Rattle.cmdlines_tables.specs.declared.compiler.CCompilerKind.{CCompilerKind}
-use Rattle.ckeys_records.specs.Meaning.{Made, asked_of, made_of, names_of, options, words}
+use Rattle.ckeys_records.specs.Meaning.{Made, asked_of, names_of, words}
 use Rattle.ckeys_records.specs.declared.preprocessor.Printed.{Printed}
 use Rattle.wrap_base.specs.AskedBy.{asked_by}
 use Rattle.wrap_base.specs.declared.tool.Compiled.{Compiled}
-use Rattle.replay.specs.Recorded.{compiled_for, crate_for, handed_in, made_as, made_for, made_in, printed_as, printed_for, printed_in, same_outputs, told_for, unmade}
+use Rattle.replay.specs.Recorded.{compiled_for, crate_for, made_as, made_for, made_in, printed_as, printed_for, printed_in, same_outputs, told_for, unmade}
 use Rattle.replay.specs.SameAsked.{same_asked, same_list, same_name}
 use Rattle.replay.specs.declared.replay_tool.RecordedOutputs.{RecordedOutputs}
 use Rattle.replay.specs.declared.replay_tool.RecordedText.{RecordedText}

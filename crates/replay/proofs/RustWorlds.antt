@@ -1,5 +1,5 @@
 -- From recorded answers of rustc to a world that gives them.
-use Rattle.std.proofs.Common.{◌≡◌, ℕ, pos, Bool, true, false, not, ◌&&◌, List, [], ◌∷◌, ◌++◌, map, Option, None, Some, Result, Ok, Err, ◌⊎◌, inl, inr, refl, sym, ap, subst, ◌∙◌, if◌then◌else◌}
+use Rattle.std.proofs.Common.{◌≡◌, ℕ, pos, Bool, true, false, not, ◌&&◌, List, [], ◌∷◌, ◌++◌, map, Option, None, Some, Result, Ok, Err, inl, inr, refl, sym, ap, subst, ◌∙◌, if◌then◌else◌}
 use Rattle.std.specs.List.{Contains, find}
 use Rattle.std.specs.Option.{option_map}
 use Rattle.std.specs.Str.{bytes_eq}
@@ -8,7 +8,7 @@ use Rattle.std.proofs.lemmas.List.Elements.{Contains-append_left, Contains-push}
 use Rattle.os_files.specs.Bytes.{Bytes}
 use Rattle.os_files.specs.Tree.{Tree}
 use Rattle.ckeys_records.specs.Faults.{or_else, preprocess_fault_of}
-use Rattle.ckeys_records.specs.Meaning.{Asked, Made, Meaning, Scene, archive, names_of, text_in, words}
+use Rattle.ckeys_records.specs.Meaning.{Asked, Made, Meaning, archive, names_of, text_in, words}
 use Rattle.ckeys_records.specs.declared.fault.Fault.{Fault}
 use Rattle.ckeys_records.specs.declared.fault.Fault.TheVariants.{BadDigest}
 use Rattle.ckeys_records.specs.declared.output_name.OutputName.{OutputName}
@@ -26,7 +26,7 @@ use Rattle.rustkeys.specs.Fresh.{call_outputs, dep_info_by}
 use Rattle.rustkeys.specs.Questions.{Answers, Question, answers_of, dep_info_of, digested, extern_paths, file_names_of}
 use Rattle.ckeys.specs.Entries.{Held}
 use Rattle.rustkeys.specs.Records.{RustRecord}
-use Rattle.wrap.specs.Account.{Account, passed, worked, Work, Pairs, IsSuccess, collected, placed, rust_account_by, rust_call_at, rust_work_at, scene_at}
+use Rattle.wrap.specs.Account.{Account, worked, Work, Pairs, IsSuccess, collected, placed, rust_account_by, rust_call_at, rust_work_at, scene_at}
 use Rattle.wrap.specs.Answers as answers
 use Rattle.wrap.specs.Answers.{GoesOn, SaysBy}
 use Rattle.wrap.specs.Asking.{AskedTurn, MatchesFor, Shelves, WorkKeyFrom}
@@ -38,9 +38,8 @@ use Rattle.wrap_base.specs.declared.answer.Answer.TheVariants.{Pass, Outputs}
 use Rattle.wrap_base.specs.declared.answer.How.TheVariants.{Direct, Stored, Fresh}
 use Rattle.wrap_base.specs.declared.request.Request.{Request}
 use Rattle.wrap_base.specs.declared.store_key.Family.TheVariants as families
-use Rattle.wrap_base.specs.declared.store_key.StoreKey.{StoreKey}
 use Rattle.replay.specs.Beside.{TellsOwnDependencies}
-use Rattle.replay.specs.Recorded.{crate_for, crate_of, digest_for, handed_as, handed_in, library_digest, made_as, on_dependencies, on_names, printed_as, recorded, told_for, unmade}
+use Rattle.replay.specs.Recorded.{crate_for, crate_of, handed_as, handed_in, library_digest, made_as, on_dependencies, on_names, printed_as, recorded, told_for}
 use Rattle.replay.specs.SameAsked.{same_asked, same_list, same_name}
 use Rattle.replay.specs.Worlds.{GivesOfRustc, compile_scene}
 use Rattle.replay.specs.declared.replay_tool.RecordedOutputs.{RecordedOutputs}

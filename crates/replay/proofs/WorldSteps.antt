@@ -1,9 +1,8 @@
 -- From the recorded answers to a world that gives them.
-use Rattle.std.proofs.Common.{◌≡◌, ℕ, ℤ, pos, Bool, true, false, ◌&&◌, List, [], ◌∷◌, ◌++◌, Option, None, Some, Result, Ok, Err, ◌⊎◌, inl, inr, ◌↔◌, refl, sym, ap, subst, ◌∙◌, if◌then◌else◌}
+use Rattle.std.proofs.Common.{◌≡◌, ℕ, ℤ, pos, Bool, true, false, ◌&&◌, List, [], ◌∷◌, ◌++◌, Option, None, Some, Result, Ok, Err, inl, inr, refl, sym, ap, ◌∙◌, if◌then◌else◌}
 use Rattle.std.specs.List.{Contains}
 use Rattle.std.specs.Ordering.{int_eq}
 use Rattle.std.proofs.lemmas.Bool.{and_parts}
-use Rattle.std.proofs.lemmas.Bool.Decides.{Decides-int_eq}
 use Rattle.std.proofs.lemmas.List.Elements.{Contains-append_left, Contains-push}
 use Rattle.os_files.specs.Bytes.{Bytes}
 use Rattle.os_files.specs.Tree.{Tree}
@@ -21,26 +20,21 @@ use Rattle.ckeys_records.specs.declared.fault.Fault.{Fault}
 use Rattle.ckeys_records.specs.declared.fault.Fault.TheVariants.{Memory, Read, Tool, PreprocessFailed, CompileFailed, MissingOutput, NoRule, AnswerNotUtf8, BadDigest}
 use Rattle.ckeys_records.specs.declared.output_name.OutputName.{OutputName}
 use Rattle.ckeys_records.specs.declared.step.Step.{Step}
-use Rattle.ckeys_records.specs.declared.step.Step.TheVariants.{Preprocess, Compile, DepInfo, FileNames}
-use Rattle.rustc_compiler.specs.Compiler.{Rustc}
-use Rattle.rustkeys.specs.Calls.{RustCall, answer_fault_of, dep_info_fault_of, files_fault_of, key_fault_of, sources_fault_of, utf8_fault_of}
-use Rattle.rustkeys.specs.Questions.{answers_of, dep_info_of}
-use Rattle.rustc_requests.specs.Asks.{RustAsks}
+use Rattle.ckeys_records.specs.declared.step.Step.TheVariants.{Preprocess, Compile}
 use Rattle.wrap_base.specs.Commands.{CFound, NamedBy, by_c, by_rustc, words_at}
-use Rattle.wrap.specs.Account.{Account, passed, worked, Work, Pairs, IsSuccess, account_by, account_named, call_at, collected, rust_account_by, rust_call_at, rust_work_at, scene_at, work_at}
-use Rattle.wrap.specs.RustVerdicts as rust_verdicts
-use Rattle.wrap.specs.RustVerdicts.{RustJudgement, rust_verdict_of}
+use Rattle.wrap.specs.Account.{Account, passed, worked, Work, Pairs, IsSuccess, account_by, account_named, call_at, collected, scene_at, work_at}
+use Rattle.wrap.specs.RustVerdicts.{rust_verdict_of}
 use Rattle.wrap.specs.Answers.{Answers, GoesOn, GoesOnWith, SaysBy}
-use Rattle.wrap.specs.CallRecords.{AreDistinct, IsHashedFor, IsTold, family_of, key_of, of_c, record_shape}
+use Rattle.wrap.specs.CallRecords.{family_of, key_of, of_c, record_shape}
 use Rattle.wrap.specs.Asking.{AskedTurn, MatchesFor, RecordsAreTrue, Shelves, WorkKeyFrom}
-use Rattle.wrap.specs.StoreKeys.{HasRecord, Invariant, IsHashedIn, IsOf, Premises, SameRecord, store_key_of, store_key_with}
+use Rattle.wrap.specs.StoreKeys.{HasRecord, Invariant, IsOf, Premises, store_key_of, store_key_with}
 use Rattle.wrap.specs.Verdicts.{Judgement, passes, asks, verdict_of}
 use Rattle.wrap_base.specs.declared.answer.Answer.{Answer}
 use Rattle.wrap_base.specs.declared.answer.Answer.TheVariants.{Pass, Outputs}
 use Rattle.wrap_base.specs.declared.answer.How.TheVariants.{Direct, Stored, Fresh}
 use Rattle.wrap_base.specs.declared.request.Request.{Request}
 use Rattle.wrap_base.specs.declared.store_key.StoreKey.{StoreKey}
-use Rattle.replay.specs.Recorded.{made_for, made_in, printed_for, printed_in, recorded, unmade}
+use Rattle.replay.specs.Recorded.{made_for, made_in, printed_for, printed_in, recorded}
 use Rattle.replay.specs.SameAsked.{same_asked, same_list, same_name}
 use Rattle.replay.specs.Worlds.{Gives, GivesNamed}
 use Rattle.replay.specs.declared.replay_tool.RecordedOutputs.{RecordedOutputs}
