@@ -30,7 +30,11 @@ pub fn change<R: Files + AllocGlobal>(rt: &R, folder: &str, row: &str) -> Result
         "folder" => fs::create_dir(rt, path)?,
         "write" => fs::write(rt, path, text.as_bytes())?,
         "link" => std::os::unix::fs::symlink(rt, text, path)?,
-        "twin" => fs::hard_link(rt, format!(in rt.alloc(); "{folder}/{text}")?.as_str(), path)?,
+        "twin" => fs::hard_link(
+            rt,
+            format!(in rt.alloc(); "{folder}/{text}")?.as_str(),
+            path,
+        )?,
         "deny" => fs::set_permissions(rt, path, Permissions::from_mode(0o444))?,
         "remove" => fs::remove_file(rt, path)?,
         "unfold" => fs::remove_dir(rt, path)?,

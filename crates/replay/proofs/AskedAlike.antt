@@ -6,7 +6,7 @@ use Rattle.std.specs.Str.{bytes_eq}
 use Rattle.std.proofs.lemmas.Bool.{and_parts, and_from, eqb-true, eq-eqb}
 use Rattle.std.proofs.lemmas.Slice.Eq.{bytes_eq-Decides}
 use Rattle.os_files.specs.Bytes.{Bytes}
-use Rattle.cmdlines_base.specs.Reading.{Item, raw, unknown, flag, valued, behind_dashes, Reading}
+use Rattle.cmdlines_base.specs.Reading.{Item, raw, unknown, flag, valued, behind_dashes}
 use Rattle.cmdlines_base.specs.declared.argument.ArgDisposition.{ArgDisposition}
 use Rattle.cmdlines_base.specs.declared.argument.ArgDisposition.TheVariants.{Separated, CanBeConcatenated, CanBeSeparated, Concatenated}
 use Rattle.cmdlines_tables.specs.contracts.kind.ArgKind.{the_type}
@@ -16,11 +16,14 @@ use Rattle.ckeys_records.specs.declared.output_name.OutputName.{OutputName}
 use Rattle.replay.specs.SameAsked.{same_kind, same_delimiter, same_way, same_item, same_list, same_flag, same_asked, same_name}
 use denote.Enum.Bare.{same_true, true_same}
 
-bytes_is : (v w : Bytes) → bytes_eq v w ≡ true → v ≡ w
+pub bytes_is : (v w : Bytes) → bytes_eq v w ≡ true → v ≡ w
 bytes_is v w h = (bytes_eq-Decides v w).0 h
 
-bytes_own : (v : Bytes) → bytes_eq v v ≡ true
+pub bytes_own : (v : Bytes) → bytes_eq v v ≡ true
 bytes_own v = (bytes_eq-Decides v v).1 refl
+
+pub bytes_alike : (v w : Bytes) → v ≡ w → bytes_eq v w ≡ true
+bytes_alike v w e = (bytes_eq-Decides v w).1 e
 
 kind_is : (k l : ArgKind) → same_kind k l ≡ true → k ≡ l
 kind_is k l h = same_true the_type tt k l h
@@ -141,15 +144,17 @@ asked_is (options r) (options s) h =
 asked_is (options r) (words s) h = cc
 asked_is (options r) (archive s) h = cc
 asked_is (words r) (options s) h = cc
-asked_is (words r) (words s) h = cc
+asked_is (words r) (words s) h = ap words (list_is bytes_eq bytes_is r s h)
 asked_is (words r) (archive s) h = cc
 asked_is (archive r) (options s) h = cc
 asked_is (archive r) (words s) h = cc
-asked_is (archive r) (archive s) h = cc
+asked_is (archive r) (archive s) h = ap archive (bytes_is r s h)
 
--- a C compiler is asked what it is asked
-pub asked_own : (r : Reading ArgKind) → same_asked (options r) (options r) ≡ true
-asked_own r = and_from (same_list same_item r.items r.items) (same_flag r.cut_short r.cut_short) (list_own same_item item_own r.items) (flag_own r.cut_short)
+-- a compiler is asked what it is asked
+pub asked_own : (a : Asked) → same_asked a a ≡ true
+asked_own (words r) = list_own bytes_eq bytes_own r
+asked_own (archive path) = bytes_own path
+asked_own (options r) = and_from (same_list same_item r.items r.items) (same_flag r.cut_short r.cut_short) (list_own same_item item_own r.items) (flag_own r.cut_short)
 
 name_is : (a b : OutputName) → same_name a b ≡ true → a ≡ b
 name_is a b h =

@@ -3,3 +3,5 @@ mod AskedAlike
 mod SnapshotLookups
 mod WorldSteps
 mod OneEntry
+mod HeldOutcomes
+mod RustWorlds

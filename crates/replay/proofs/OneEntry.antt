@@ -1,7 +1,7 @@
 -- A store that was empty and was given one pair holds that pair, and no other.
 use Rattle.std.proofs.Common.{◌≡◌, Bool, true, Option, Some, None, Result, Ok, Err, ◌⊎◌, inl, inr, sym, subst, ◌∙◌}
 use Rattle.std.specs.Prelude.{◌↔◌, IsOk, MatchResult}
-use Rattle.ckeys_base.specs.Shelf.{GainsAtMost, Puts, Shelf}
+use Rattle.ckeys_base.specs.Shelf.{Puts, Shelf}
 use Rattle.replay.specs.Kept.{Holds}
 
 abbrev pub some_pair : {K V : Type 0} → K → V → Option (K × V)

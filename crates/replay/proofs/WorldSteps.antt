@@ -1,9 +1,8 @@
 -- From the recorded answers to a world that gives them.
-use Rattle.std.proofs.Common.{◌≡◌, ℕ, ℤ, pos, Bool, true, false, ◌&&◌, List, [], ◌∷◌, ◌++◌, Option, None, Some, Result, Ok, Err, ◌⊎◌, inl, inr, ◌↔◌, refl, sym, ap, subst, ◌∙◌, if◌then◌else◌}
+use Rattle.std.proofs.Common.{◌≡◌, ℕ, ℤ, pos, Bool, true, false, ◌&&◌, List, [], ◌∷◌, ◌++◌, Option, None, Some, Result, Ok, Err, inl, inr, refl, sym, ap, ◌∙◌, if◌then◌else◌}
 use Rattle.std.specs.List.{Contains}
 use Rattle.std.specs.Ordering.{int_eq}
 use Rattle.std.proofs.lemmas.Bool.{and_parts}
-use Rattle.std.proofs.lemmas.Bool.Decides.{Decides-int_eq}
 use Rattle.std.proofs.lemmas.List.Elements.{Contains-append_left, Contains-push}
 use Rattle.os_files.specs.Bytes.{Bytes}
 use Rattle.os_files.specs.Tree.{Tree}
@@ -21,38 +20,32 @@ use Rattle.ckeys_records.specs.declared.fault.Fault.{Fault}
 use Rattle.ckeys_records.specs.declared.fault.Fault.TheVariants.{Memory, Read, Tool, PreprocessFailed, CompileFailed, MissingOutput, NoRule, AnswerNotUtf8, BadDigest}
 use Rattle.ckeys_records.specs.declared.output_name.OutputName.{OutputName}
 use Rattle.ckeys_records.specs.declared.step.Step.{Step}
-use Rattle.ckeys_records.specs.declared.step.Step.TheVariants.{Preprocess, Compile, DepInfo, FileNames}
-use Rattle.rustc_compiler.specs.Compiler.{Rustc}
-use Rattle.rustkeys.specs.Calls.{RustCall, answer_fault_of, dep_info_fault_of, files_fault_of, key_fault_of, sources_fault_of, utf8_fault_of}
-use Rattle.rustkeys.specs.Questions.{answers_of, dep_info_of}
-use Rattle.rustc_requests.specs.Asks.{RustAsks}
+use Rattle.ckeys_records.specs.declared.step.Step.TheVariants.{Preprocess, Compile}
 use Rattle.wrap_base.specs.Commands.{CFound, NamedBy, by_c, by_rustc, words_at}
-use Rattle.wrap.specs.Account.{Account, passed, worked, Work, Pairs, IsSuccess, account_by, account_named, call_at, collected, rust_account_by, rust_call_at, rust_work_at, scene_at, work_at}
-use Rattle.wrap.specs.RustVerdicts as rust_verdicts
-use Rattle.wrap.specs.RustVerdicts.{RustJudgement, rust_verdict_of}
+use Rattle.wrap.specs.Account.{Account, passed, worked, Work, Pairs, IsSuccess, account_by, account_named, call_at, collected, scene_at, work_at}
+use Rattle.wrap.specs.RustVerdicts.{rust_verdict_of}
 use Rattle.wrap.specs.Answers.{Answers, GoesOn, GoesOnWith, SaysBy}
-use Rattle.wrap.specs.CallRecords.{AreDistinct, IsHashedFor, IsTold, family_of, key_of, of_c, record_shape}
+use Rattle.wrap.specs.CallRecords.{family_of, key_of, of_c, record_shape}
 use Rattle.wrap.specs.Asking.{AskedTurn, MatchesFor, RecordsAreTrue, Shelves, WorkKeyFrom}
-use Rattle.wrap.specs.StoreKeys.{HasRecord, Invariant, IsHashedIn, IsOf, Premises, SameRecord, store_key_of, store_key_with}
+use Rattle.wrap.specs.StoreKeys.{HasRecord, Invariant, IsOf, Premises, store_key_of, store_key_with}
 use Rattle.wrap.specs.Verdicts.{Judgement, passes, asks, verdict_of}
 use Rattle.wrap_base.specs.declared.answer.Answer.{Answer}
 use Rattle.wrap_base.specs.declared.answer.Answer.TheVariants.{Pass, Outputs}
 use Rattle.wrap_base.specs.declared.answer.How.TheVariants.{Direct, Stored, Fresh}
 use Rattle.wrap_base.specs.declared.request.Request.{Request}
 use Rattle.wrap_base.specs.declared.store_key.StoreKey.{StoreKey}
-use Rattle.replay.specs.Recorded.{made_for, made_in, printed_for, printed_in, recorded, unmade}
+use Rattle.replay.specs.Recorded.{made_for, made_in, printed_for, printed_in, recorded}
 use Rattle.replay.specs.SameAsked.{same_asked, same_list, same_name}
 use Rattle.replay.specs.Worlds.{Gives, GivesNamed}
 use Rattle.replay.specs.declared.replay_tool.RecordedOutputs.{RecordedOutputs}
 use Rattle.replay.specs.declared.replay_tool.RecordedText.{RecordedText}
+use Rattle.replay.specs.Beside.{TellsOwnDependencies}
+use Rattle.replay.specs.declared.rustc_records.RecordedRustc.{RecordedRustc}
 use Rattle.replay.proofs.AskedAlike.{asked_is, names_are}
+use Rattle.replay.proofs.HeldOutcomes.{Tells, chosen, held_is, status_is}
+use Rattle.replay.proofs.RustWorlds.{rust_answers, rust_grows, rust_tells}
 
 -- ---- what succeeded was recorded, and is the world's
-
--- a test that chose between an answer and a failure chose the answer, where that succeeded
-chosen : (b : Bool) (made other : Made) → (b ≡ true → made ≡ other) → (if b then made else unmade).status ≡ pos 0 → (if b then made else unmade) ≡ other
-chosen true made other same h = same refl
-chosen false made other same h = cc
 
 module _ (world : Meaning) (scene : Scene) where
   printed_same : (r : RecordedText) (asked : Asked) → world Preprocess (asked_of r.kind r.words) [] scene ≡ printed_in r → same_asked asked (asked_of r.kind r.words) ≡ true → printed_in r ≡ world Preprocess asked [] scene
@@ -77,13 +70,6 @@ module _ (world : Meaning) (scene : Scene) where
 
 abbrev with_text : KeyCall → Made → PrintedCall
 with_text c m = record { call = c; printed = m }
-
-status_by : (b : Bool) (m : Made) → int_eq m.status (pos 0) ≡ b → (if b then None else Some (PreprocessFailed m.status)) ≡ None → m.status ≡ pos 0
-status_by true m e h = (Decides-int_eq m.status (pos 0)).0 e
-status_by false m e h = cc
-
-status_is : (m : Made) → preprocess_fault_of m ≡ None → m.status ≡ pos 0
-status_is m h = status_by (int_eq m.status (pos 0)) m refl h
 
 none_fails : (needs : Bool) (first second third : Option Fault) (m : Made) → or_else first (or_else second (if needs then preprocess_fault_of m else third)) ≡ None → needs ≡ true → m.status ≡ pos 0
 none_fails needs (Some f) second third m h n = cc
@@ -162,30 +148,9 @@ matches digest_of told world c held text_key m =
       match = rw (← call_is) m.match;
     }
 
--- keys of outputs tell records
-abbrev pub Tells : (Bytes → Bytes) → Type 0
-Tells digest_of = (one other : Work) → IsTold digest_of one.rec → IsTold digest_of other.rec → AreDistinct digest_of one.rec other.rec → (store_key_of digest_of one ≡ store_key_of digest_of other) ↔ SameRecord one other
-
-module _ (digest_of : Bytes → Bytes) (tells : Tells digest_of) (w v : Work) (run : List Account) (here : Contains run (worked w)) (there : Contains run (worked v)) (premises : Premises digest_of run) (fine : HasRecord w) (also : HasRecord v) (told : IsTold digest_of w.rec) (told_also : IsTold digest_of v.rec) (is_key : store_key_of digest_of w ≡ store_key_of digest_of v) where
-  hashed : (bytes : Bytes) → IsHashedFor digest_of w.rec bytes ⊎ IsHashedFor digest_of v.rec bytes → IsHashedIn digest_of run bytes
-  hashed bytes (inl h) = record { call = w; among = here; is = inl (fine, h) }
-  hashed bytes (inr h) = record { call = v; among = there; is = inl (also, h) }
-
-  one_success : (pairs : Pairs) → IsSuccess v pairs → IsSuccess w pairs
-  one_success pairs s =
-      let same = (tells w v told told_also (λ one other p q. premises.distinct one other (hashed one p) (hashed other q))).0 is_key in
-      let fresh : w.fresh ≡ v.fresh = premises.settled w v here there fine also same in
-      record { succeeded = ap (λ (m : Made). m.status) fresh ∙ s.succeeded; made = (λ i. collected (same.names i) (fresh i).contents) ∙ s.made }
-
--- what is held under a call's key is what its compiler gives afresh
-held_is : (digest_of : Bytes → Bytes) → Tells digest_of → (w : Work) → HasRecord w → IsTold digest_of w.rec → (held : StoreKey → Option Pairs) (pairs : Pairs) → held (store_key_of digest_of w) ≡ Some pairs → (earlier : List Account) → Invariant digest_of earlier held → Premises digest_of (earlier ++ worked w ∷ []) → IsSuccess w pairs
-held_is digest_of tells w fine told held pairs h earlier inv premises =
-    let it = inv (store_key_of digest_of w) pairs h in
-    one_success digest_of tells w it.0 (earlier ++ worked w ∷ []) (Contains-push earlier (worked w)) (Contains-append_left earlier (worked w ∷ []) (worked it.0) it.1) premises fine it.2.0 told it.2.1.told it.2.1.is_key pairs it.2.1.made
-
-module _ (digest_of : Bytes → Bytes) (text : Option RecordedText) (outputs : Option RecordedOutputs) (world : Meaning) (c : KeyCall) (gives : Gives text outputs c.scene world) (held : Held) where
+module _ (digest_of : Bytes → Bytes) (text : Option RecordedText) (outputs : Option RecordedOutputs) (rustc : Option RecordedRustc) (world : Meaning) (c : KeyCall) (gives : Gives text outputs c.scene world) (held : Held) where
   abbrev told_work : Work
-  told_work = work_at (recorded text outputs) c
+  told_work = work_at (recorded text outputs rustc) c
 
   abbrev world_work : Work
   world_work = work_at world c
@@ -202,7 +167,7 @@ module _ (digest_of : Bytes → Bytes) (text : Option RecordedText) (outputs : O
 
   by_text : (text_key : Bytes) → text_key ≡ key_of digest_of told_work.rec → told_work.fault ≡ None → IsWorlds text_key
   by_text text_key is_key fine =
-      let it = fine_text c (printed_of (recorded text outputs) c) (printed_of world c) (printed_is world c.scene text (asked_of c.kind (preprocess_words c.kind c.parsed)) gives.printed) fine in
+      let it = fine_text c (printed_of (recorded text outputs rustc) c) (printed_of world c) (printed_is world c.scene text (asked_of c.kind (preprocess_words c.kind c.parsed)) gives.printed) fine in
       (it.1, λ i. record { family = family_of (of_c (it.0 i)); shape = record_shape digest_of (of_c (it.0 i)); names = names_of c.parsed.outputs; digest = (is_key ∙ ap (λ r. key_of digest_of (of_c r)) it.0) i })
 
   spared_at : (o : Option PrintedCall) (p : PrintedCall) → o ≡ Some p → GoesOnWith o told_work.fault → IsSpared told_work.fault
@@ -211,120 +176,78 @@ module _ (digest_of : Bytes → Bytes) (text : Option RecordedText) (outputs : O
 
   by_record : (text_key : Bytes) → MatchesFor digest_of told_work held text_key → GoesOn told_work → RecordsAreTrue digest_of (worked world_work) held → IsWorlds text_key
   by_record text_key m goes are_true =
-      let it = are_true text_key (matches digest_of (recorded text outputs) world c held text_key m) in
-      let fault = spared c (printed_of (recorded text outputs) c) (printed_of world c) (spared_at told_work.direct m.p m.has goes) in
+      let it = are_true text_key (matches digest_of (recorded text outputs rustc) world c held text_key m) in
+      let fault = spared c (printed_of (recorded text outputs rustc) c) (printed_of world c) (spared_at told_work.direct m.p m.has goes) in
       (spared_none world_work.fault fault it.succeeds, λ i. record { family = family_of world_work.rec; shape = record_shape digest_of world_work.rec; names = names_of c.parsed.outputs; digest = it.is_key i })
 
   key_is : (from : Bool) (text_key : Bytes) → WorkKeyFrom digest_of told_work held from text_key → (from ≡ false → told_work.fault ≡ None) → GoesOn told_work → RecordsAreTrue digest_of (worked world_work) held → IsWorlds text_key
   key_is true text_key is_key fine goes are_true = by_record text_key is_key goes are_true
   key_is false text_key is_key fine goes are_true = by_text text_key is_key (fine refl)
 
-module _ (digest_of : Bytes → Bytes) (max_kept : Option ℕ) (tells : Tells digest_of) (text : Option RecordedText) (outputs : Option RecordedOutputs) (world : Meaning) (c : KeyCall) (gives : Gives text outputs c.scene world) (old new : Shelves) (printed printed_new compiled compiled_new : ℕ) (are_true : RecordsAreTrue digest_of (worked (work_at world c)) old.entries.held) (earlier : List Account) (inv : Invariant digest_of earlier old.objects.held) where
+module _ (digest_of : Bytes → Bytes) (max_kept : Option ℕ) (tells : Tells digest_of) (text : Option RecordedText) (outputs : Option RecordedOutputs) (rustc : Option RecordedRustc) (world : Meaning) (c : KeyCall) (gives : Gives text outputs c.scene world) (old new : Shelves) (printed printed_new compiled compiled_new : ℕ) (are_true : RecordsAreTrue digest_of (worked (work_at world c)) old.entries.held) (earlier : List Account) (inv : Invariant digest_of earlier old.objects.held) where
   abbrev Turned : Result Answer Fault → Type 0
-  Turned result = AskedTurn digest_of max_kept (worked (work_at (recorded text outputs) c)) old new printed printed_new compiled compiled_new result
+  Turned result = AskedTurn digest_of max_kept (worked (work_at (recorded text outputs rustc) c)) old new printed printed_new compiled compiled_new result
 
-  work_answers : (result : Result Answer Fault) → Turned result → (on_file : Bytes → Type 0) (device_in : Step → Type 0) → SaysBy GoesOn (worked (work_at (recorded text outputs) c)) on_file device_in result → Premises digest_of (earlier ++ worked (work_at world c) ∷ []) → Answers (worked (work_at world c)) result
+  work_answers : (result : Result Answer Fault) → Turned result → (on_file : Bytes → Type 0) (device_in : Step → Type 0) → SaysBy GoesOn (worked (work_at (recorded text outputs rustc) c)) on_file device_in result → Premises digest_of (earlier ++ worked (work_at world c) ∷ []) → Answers (worked (work_at world c)) result
   work_answers (Ok (Pass reason)) turn on_file device_in says premises = tt
   work_answers (Err fault) turn on_file device_in says premises = tt
-  work_answers (Ok (Outputs map Fresh dep_info)) turn on_file device_in says premises = (turn.objects.told.0, turn.objects.told.1, success digest_of text outputs world c gives old.entries.held turn.objects.told.0 turn.objects.told.2.made)
+  work_answers (Ok (Outputs map Fresh dep_info)) turn on_file device_in says premises = (turn.objects.told.0, turn.objects.told.1, success digest_of text outputs rustc world c gives old.entries.held turn.objects.told.0 turn.objects.told.2.made)
   work_answers (Ok (Outputs map Stored dep_info)) turn on_file device_in says premises =
-      let it = key_is digest_of text outputs world c gives old.entries.held turn.from turn.text_key turn.is_key turn.fine says.1 are_true in
+      let it = key_is digest_of text outputs rustc world c gives old.entries.held turn.from turn.text_key turn.is_key turn.fine says.1 are_true in
       let kept = turn.objects.told.2 in
       (turn.objects.told.0, turn.objects.told.1, held_is digest_of tells (work_at world c) it.0 kept.told old.objects.held turn.objects.told.0 (ap old.objects.held (sym it.1) ∙ kept.held) earlier inv premises)
   work_answers (Ok (Outputs map Direct dep_info)) turn on_file device_in says premises =
-      let it = key_is digest_of text outputs world c gives old.entries.held turn.from turn.text_key turn.is_key turn.fine says.1 are_true in
+      let it = key_is digest_of text outputs rustc world c gives old.entries.held turn.from turn.text_key turn.is_key turn.fine says.1 are_true in
       let kept = turn.objects.told.1.2 in
       (turn.objects.told.1.0, turn.objects.told.1.1, held_is digest_of tells (work_at world c) it.0 kept.told old.objects.held turn.objects.told.1.0 (ap old.objects.held (sym it.1) ∙ kept.held) earlier inv premises)
 
   was_held : (key : StoreKey) (pairs : Pairs) → old.objects.held key ≡ Some pairs → (w : Work) × Contains (earlier ++ worked (work_at world c) ∷ []) (worked w) × IsOf digest_of w key pairs
   was_held key pairs was = let w = inv key pairs was in (w.0, Contains-append_left earlier (worked (work_at world c) ∷ []) (worked w.0) w.1, w.2)
 
-  work_grows : (result : Result Answer Fault) → Turned result → (on_file : Bytes → Type 0) (device_in : Step → Type 0) → SaysBy GoesOn (worked (work_at (recorded text outputs) c)) on_file device_in result → Invariant digest_of (earlier ++ worked (work_at world c) ∷ []) new.objects.held
+  work_grows : (result : Result Answer Fault) → Turned result → (on_file : Bytes → Type 0) (device_in : Step → Type 0) → SaysBy GoesOn (worked (work_at (recorded text outputs rustc) c)) on_file device_in result → Invariant digest_of (earlier ++ worked (work_at world c) ∷ []) new.objects.held
   work_grows (Ok (Pass reason)) turn on_file device_in says key pairs h = absurd says
   work_grows (Err fault) turn on_file device_in says key pairs h = was_held key pairs (turn.objects.faulted key pairs h)
   work_grows (Ok (Outputs map how dep_info)) turn on_file device_in says key pairs h = elim (turn.objects.gains key pairs h) [
     | inl was ↦ was_held key pairs was
     | inr own ↦ (
-        let it = key_is digest_of text outputs world c gives old.entries.held turn.from turn.text_key turn.is_key turn.fine says.1 are_true in
-        (work_at world c, Contains-push earlier (worked (work_at world c)), (it.0, record { is_key = own.is_key ∙ it.1; made = success digest_of text outputs world c gives old.entries.held pairs own.made; told = own.told })))
+        let it = key_is digest_of text outputs rustc world c gives old.entries.held turn.from turn.text_key turn.is_key turn.fine says.1 are_true in
+        (work_at world c, Contains-push earlier (worked (work_at world c)), (it.0, record { is_key = own.is_key ∙ it.1; made = success digest_of text outputs rustc world c gives old.entries.held pairs own.made; told = own.told })))
   ]
 
-module _ (digest_of : Bytes → Bytes) (max_kept : Option ℕ) (tells : Tells digest_of) (text : Option RecordedText) (outputs : Option RecordedOutputs) (world : Meaning) (tree : Tree) (settings : Settings) (found : CFound) (request : Request) (gives : Gives text outputs (scene_at found.executable request tree) world) (old new : Shelves) (printed printed_new compiled compiled_new : ℕ) (result : Result Answer Fault) (on_file : Bytes → Type 0) (device_in : Step → Type 0) where
+module _ (digest_of : Bytes → Bytes) (max_kept : Option ℕ) (tells : Tells digest_of) (text : Option RecordedText) (outputs : Option RecordedOutputs) (rustc : Option RecordedRustc) (world : Meaning) (tree : Tree) (settings : Settings) (found : CFound) (request : Request) (gives : Gives text outputs (scene_at found.executable request tree) world) (old new : Shelves) (printed printed_new compiled compiled_new : ℕ) (result : Result Answer Fault) (on_file : Bytes → Type 0) (device_in : Step → Type 0) where
   abbrev Told : Judgement → Type 0
-  Told d = AskedTurn digest_of max_kept (account_by (recorded text outputs) tree settings found request d) old new printed printed_new compiled compiled_new result × SaysBy GoesOn (account_by (recorded text outputs) tree settings found request d) on_file device_in result
+  Told d = AskedTurn digest_of max_kept (account_by (recorded text outputs rustc) tree settings found request d) old new printed printed_new compiled compiled_new result × SaysBy GoesOn (account_by (recorded text outputs rustc) tree settings found request d) on_file device_in result
 
   answers_by : (d : Judgement) → Told d → RecordsAreTrue digest_of (account_by world tree settings found request d) old.entries.held → (earlier : List Account) → Invariant digest_of earlier old.objects.held → Premises digest_of (earlier ++ account_by world tree settings found request d ∷ []) → Answers (account_by world tree settings found request d) result
   answers_by (passes why) told are_true earlier inv premises = tt
-  answers_by (asks p) told are_true earlier inv premises = work_answers digest_of max_kept tells text outputs world (call_at found request tree settings p) gives old new printed printed_new compiled compiled_new are_true earlier inv result told.0 on_file device_in told.1 premises
+  answers_by (asks p) told are_true earlier inv premises = work_answers digest_of max_kept tells text outputs rustc world (call_at found request tree settings p) gives old new printed printed_new compiled compiled_new are_true earlier inv result told.0 on_file device_in told.1 premises
 
   grows_by : (d : Judgement) → Told d → RecordsAreTrue digest_of (account_by world tree settings found request d) old.entries.held → (earlier : List Account) → Invariant digest_of earlier old.objects.held → Invariant digest_of (earlier ++ account_by world tree settings found request d ∷ []) new.objects.held
   grows_by (passes why) told are_true earlier inv key pairs h = elim (told.0.objects.gains key pairs h) [
     | inl was ↦ (let w = inv key pairs was in (w.0, Contains-append_left earlier (passed why ∷ []) (worked w.0) w.1, w.2))
     | inr own ↦ absurd own
   ]
-  grows_by (asks p) told are_true earlier inv key pairs h = work_grows digest_of max_kept tells text outputs world (call_at found request tree settings p) gives old new printed printed_new compiled compiled_new are_true earlier inv result told.0 on_file device_in told.1 key pairs h
-
-or_first : (first second : Option Fault) → or_else first second ≡ None → first ≡ None
-or_first None second h = refl
-or_first (Some fault) second h = cc
-
--- where rustc tells nothing of dependencies, there is no record
-unanswered : (call : RustCall) (meaning : Meaning) → dep_info_of meaning call.question ≡ unmade → key_fault_of meaning call ≡ None → ⊥
-unanswered call meaning told fine =
-    let q = call.question in
-    let answers = answers_of meaning q in
-    let dep_info : dep_info_fault_of q answers.dep_info ≡ None = or_first (dep_info_fault_of q answers.dep_info) (or_else (answer_fault_of FileNames answers.file_names) (files_fault_of q answers.archives)) fine in
-    let answer : answer_fault_of DepInfo answers.dep_info ≡ None = or_first (answer_fault_of DepInfo answers.dep_info) (sources_fault_of q.scene.files q.scene.dir (text_in answers.dep_info.contents)) dep_info in
-    let status : preprocess_fault_of answers.dep_info ≡ None = or_first (preprocess_fault_of answers.dep_info) (utf8_fault_of DepInfo (text_in answers.dep_info.contents)) answer in
-    failed_status (subst (λ (m : Made). preprocess_fault_of m ≡ None) told status)
-  where
-    failed_status : preprocess_fault_of unmade ≡ None → ⊥
-    failed_status h = cc
-
--- Of rustc no answer is recorded, so that no outputs are answered.
-module _ (digest_of : Bytes → Bytes) (max_kept : Option ℕ) (text : Option RecordedText) (outputs : Option RecordedOutputs) (world : Meaning) (tree : Tree) (rust : Rustc) (request : Request) (old new : Shelves) (printed printed_new compiled compiled_new : ℕ) (on_file : Bytes → Type 0) (device_in : Step → Type 0) where
-  abbrev told_account : RustJudgement → Account
-  told_account d = rust_account_by (recorded text outputs) tree rust request d
-
-  abbrev world_account : RustJudgement → Account
-  world_account d = rust_account_by world tree rust request d
-
-  no_record : (asked : RustAsks) → HasRecord (rust_work_at (recorded text outputs) (rust_call_at rust request tree asked)) → ⊥
-  no_record asked h = unanswered (rust_call_at rust request tree asked) (recorded text outputs) refl h
-
-  abbrev RustTold : RustJudgement → Result Answer Fault → Type 0
-  RustTold d result = AskedTurn digest_of max_kept (told_account d) old new printed printed_new compiled compiled_new result × SaysBy GoesOn (told_account d) on_file device_in result
-
-  pub rust_answers : (d : RustJudgement) (result : Result Answer Fault) → RustTold d result → Answers (world_account d) result
-  rust_answers (rust_verdicts.passes why) result told = tt
-  rust_answers (rust_verdicts.asks asked) (Ok (Pass reason)) told = tt
-  rust_answers (rust_verdicts.asks asked) (Ok (Outputs map how dep_info)) told = absurd (no_record asked told.1.1)
-  rust_answers (rust_verdicts.asks asked) (Err fault) told = tt
-
-  pub rust_grows : (d : RustJudgement) (result : Result Answer Fault) → RustTold d result → (earlier : List Account) → Invariant digest_of earlier old.objects.held → Invariant digest_of (earlier ++ world_account d ∷ []) new.objects.held
-  rust_grows d result told earlier inv key pairs h = was (by d result told)
-    where
-      was : old.objects.held key ≡ Some pairs → (w : Work) × Contains (earlier ++ world_account d ∷ []) (worked w) × IsOf digest_of w key pairs
-      was held = let w = inv key pairs held in (w.0, Contains-append_left earlier (world_account d ∷ []) (worked w.0) w.1, w.2)
-
-      by : (e : RustJudgement) (r : Result Answer Fault) → RustTold e r → old.objects.held key ≡ Some pairs
-      by (rust_verdicts.passes why) r t = elim (t.0.objects.gains key pairs h) [
-        | inl held ↦ held
-        | inr own ↦ absurd own
-      ]
-      by (rust_verdicts.asks asked) (Ok (Pass reason)) t = absurd t.1
-      by (rust_verdicts.asks asked) (Ok (Outputs map how dep_info)) t = absurd (no_record asked t.1.1)
-      by (rust_verdicts.asks asked) (Err fault) t = t.0.objects.faulted key pairs h
+  grows_by (asks p) told are_true earlier inv key pairs h = work_grows digest_of max_kept tells text outputs rustc world (call_at found request tree settings p) gives old new printed printed_new compiled compiled_new are_true earlier inv result told.0 on_file device_in told.1 key pairs h
 
 -- of whichever compiler
-module _ (digest_of : Bytes → Bytes) (max_kept : Option ℕ) (tells : Tells digest_of) (text : Option RecordedText) (outputs : Option RecordedOutputs) (world : Meaning) (tree : Tree) (settings : Settings) (request : Request) (old new : Shelves) (printed printed_new compiled compiled_new : ℕ) (result : Result Answer Fault) (on_file : Bytes → Type 0) (device_in : Step → Type 0) where
+module _ (digest_of : Bytes → Bytes) (max_kept : Option ℕ) (tells : Tells digest_of) (text : Option RecordedText) (outputs : Option RecordedOutputs) (rustc : Option RecordedRustc) (world : Meaning) (tree : Tree) (settings : Settings) (request : Request) (old new : Shelves) (printed printed_new compiled compiled_new : ℕ) (result : Result Answer Fault) (on_file : Bytes → Type 0) (device_in : Step → Type 0) where
   abbrev NamedTold : NamedBy → Type 0
-  NamedTold n = AskedTurn digest_of max_kept (account_named (recorded text outputs) tree settings request n) old new printed printed_new compiled compiled_new result × SaysBy GoesOn (account_named (recorded text outputs) tree settings request n) on_file device_in result
+  NamedTold n = AskedTurn digest_of max_kept (account_named (recorded text outputs rustc) tree settings request n) old new printed printed_new compiled compiled_new result × SaysBy GoesOn (account_named (recorded text outputs rustc) tree settings request n) on_file device_in result
 
-  pub answers_named : (n : NamedBy) → GivesNamed n text outputs request tree world → NamedTold n → RecordsAreTrue digest_of (account_named world tree settings request n) old.entries.held → (earlier : List Account) → Invariant digest_of earlier old.objects.held → Premises digest_of (earlier ++ account_named world tree settings request n ∷ []) → Answers (account_named world tree settings request n) result
-  answers_named (by_c found) gives told are_true earlier inv premises = answers_by digest_of max_kept tells text outputs world tree settings found request gives old new printed printed_new compiled compiled_new result on_file device_in (verdict_of found.kind (words_at found request tree)) told are_true earlier inv premises
-  answers_named (by_rustc rust) gives told are_true earlier inv premises = rust_answers digest_of max_kept text outputs world tree rust request old new printed printed_new compiled compiled_new on_file device_in (rust_verdict_of request tree) result told
+  pub answers_named : (n : NamedBy) → GivesNamed n text outputs rustc request tree world → NamedTold n → RecordsAreTrue digest_of (account_named world tree settings request n) old.entries.held → (earlier : List Account) → Invariant digest_of earlier old.objects.held → Premises digest_of (earlier ++ account_named world tree settings request n ∷ []) → Answers (account_named world tree settings request n) result
+  answers_named (by_c found) gives told are_true earlier inv premises = answers_by digest_of max_kept tells text outputs rustc world tree settings found request gives old new printed printed_new compiled compiled_new result on_file device_in (verdict_of found.kind (words_at found request tree)) told are_true earlier inv premises
+  answers_named (by_rustc rust) gives told are_true earlier inv premises = rust_answers digest_of max_kept tells text outputs rustc world tree rust request gives old new printed printed_new compiled compiled_new on_file device_in (rust_verdict_of request tree) result told earlier inv premises
 
-  pub grows_named : (n : NamedBy) → GivesNamed n text outputs request tree world → NamedTold n → RecordsAreTrue digest_of (account_named world tree settings request n) old.entries.held → (earlier : List Account) → Invariant digest_of earlier old.objects.held → Invariant digest_of (earlier ++ account_named world tree settings request n ∷ []) new.objects.held
-  grows_named (by_c found) gives told are_true earlier inv = grows_by digest_of max_kept tells text outputs world tree settings found request gives old new printed printed_new compiled compiled_new result on_file device_in (verdict_of found.kind (words_at found request tree)) told are_true earlier inv
-  grows_named (by_rustc rust) gives told are_true earlier inv = rust_grows digest_of max_kept text outputs world tree rust request old new printed printed_new compiled compiled_new on_file device_in (rust_verdict_of request tree) result told earlier inv
+  pub grows_named : (n : NamedBy) → GivesNamed n text outputs rustc request tree world → NamedTold n → RecordsAreTrue digest_of (account_named world tree settings request n) old.entries.held → (earlier : List Account) → Invariant digest_of earlier old.objects.held → Invariant digest_of (earlier ++ account_named world tree settings request n ∷ []) new.objects.held
+  grows_named (by_c found) gives told are_true earlier inv = grows_by digest_of max_kept tells text outputs rustc world tree settings found request gives old new printed printed_new compiled compiled_new result on_file device_in (verdict_of found.kind (words_at found request tree)) told are_true earlier inv
+  grows_named (by_rustc rust) gives told are_true earlier inv = rust_grows digest_of max_kept tells text outputs rustc world tree rust request gives old new printed printed_new compiled compiled_new on_file device_in (rust_verdict_of request tree) result told earlier inv
+
+  pub tells_named : (n : NamedBy) → GivesNamed n text outputs rustc request tree world → NamedTold n → TellsOwnDependencies (account_named world tree settings request n) result
+  tells_named (by_c found) gives told = none_beside (verdict_of found.kind (words_at found request tree)) result told.1
+    where
+      none_beside : (d : Judgement) (r : Result Answer Fault) → SaysBy GoesOn (account_by (recorded text outputs rustc) tree settings found request d) on_file device_in r → TellsOwnDependencies (account_by world tree settings found request d) r
+      none_beside (passes why) r says = tt
+      none_beside (asks p) (Ok (Pass reason)) says = tt
+      none_beside (asks p) (Ok (Outputs map how dep_info)) says = says.0
+      none_beside (asks p) (Err fault) says = tt
+  tells_named (by_rustc rust) gives told = rust_tells digest_of max_kept tells text outputs rustc world tree rust request gives old new printed printed_new compiled compiled_new on_file device_in (rust_verdict_of request tree) result told

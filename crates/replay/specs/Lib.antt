@@ -4,3 +4,4 @@ pub mod Snapshots
 pub mod Worlds
 pub mod Known
 pub mod Kept
+pub mod Beside

@@ -6,7 +6,7 @@ use Rattle.cmdlines_base.specs.declared.argument.ArgDisposition.{ArgDisposition}
 use Rattle.cmdlines_base.specs.declared.argument.ArgDisposition.TheVariants.{Separated, CanBeConcatenated, CanBeSeparated, Concatenated}
 use Rattle.cmdlines_tables.specs.contracts.kind.ArgKind.{the_type}
 use Rattle.cmdlines_tables.specs.declared.kind.ArgKind.{ArgKind}
-use Rattle.ckeys_records.specs.Meaning.{Asked, options}
+use Rattle.ckeys_records.specs.Meaning.{Asked, options, words, archive}
 use Rattle.ckeys_records.specs.declared.output_name.OutputName.{OutputName}
 use denote.Enum.Bare.{sameb}
 
@@ -49,9 +49,11 @@ same_flag false false = true
 abbrev pub same_reading : Reading ArgKind → Reading ArgKind → Bool
 same_reading r s = same_list same_item r.items s.items && same_flag r.cut_short s.cut_short
 
--- two C compilers are asked the same: their words read alike
+-- two tools are asked the same: C compilers where their words read alike, rustc where they are the same words, and for a digest where it's of one path
 abbrev pub same_asked : Asked → Asked → Bool
 same_asked (options r) (options s) = same_reading r s
+same_asked (words r) (words s) = same_list bytes_eq r s
+same_asked (archive p) (archive q) = bytes_eq p q
 same_asked a b = false
 
 abbrev pub same_name : OutputName → OutputName → Bool

@@ -6,6 +6,7 @@ ghost use Rattle.ckeys_records.specs.Meaning.{Meaning};
 ghost use Rattle.ckeys_records.specs.Views.{ToolFails};
 ghost use Rattle.entry_keys.specs.declared.entry_key.EntryKey.{EntryKey};
 ghost use Rattle.include_records.specs.Records.{Record};
+ghost use Rattle.replay.specs.Beside.{TellsOwnDependencies};
 ghost use Rattle.replay.specs.Kept.{Holds, IsOfEarlier, RecordIsOfEarlier};
 ghost use Rattle.replay.specs.Recorded.{recorded};
 ghost use Rattle.replay.specs.Worlds.{GivesTo};
@@ -104,7 +105,7 @@ pub fn answered<H: HashState>(
     // that is of earlier calls there: outputs, and in direct mode the results of the include record.
     ensures outputs { (world : Meaning) → let tree = ⟦<SnapshotFiles as Files>⟧.tree files.old in
         let a = account_at world tree session.settings request.now in
-        GivesTo tool.old.text tool.old.outputs request.now tree world
+        GivesTo tool.old.text tool.old.outputs tool.old.rustc request.now tree world
         → (record_kept : Option (EntryKey × Record)) (entry : Option (StoreKey × Pairs))
         → Holds record_kept (shelf_of ⟦<EntryKey as PartialEq>⟧.eq session.entries.inner)
         → Holds entry (shelf_of ⟦<StoreKey as PartialEq>⟧.eq session.objects.inner)
@@ -114,9 +115,14 @@ pub fn answered<H: HashState>(
         → Premises H.digest_of (earlier ++ a ∷ [])
         → Answers a result.answer }
 
+    // Beside them stands what that world's rustc tells of dependencies, for this request's own targets, where it asks for it.
+    ensures dep_info { (world : Meaning) → let tree = ⟦<SnapshotFiles as Files>⟧.tree files.old in
+        GivesTo tool.old.text tool.old.outputs tool.old.rustc request.now tree world
+        → TellsOwnDependencies (account_at world tree session.settings request.now) result.answer }
+
     // Under which key it asks the session's own stores, and where outputs come from.
     ensures asked { let tools = ⟦<ReplayTool as Preprocessor>⟧ in
-        let a = account_at (recorded tool.old.text tool.old.outputs)
+        let a = account_at (recorded tool.old.text tool.old.outputs tool.old.rustc)
         (⟦<SnapshotFiles as Files>⟧.tree files.old) session.settings request.now in
         AskedTurn H.digest_of session.max_kept a
         (shelves_of (shelf_of ⟦<EntryKey as PartialEq>⟧.eq session.entries.inner)
@@ -127,14 +133,14 @@ pub fn answered<H: HashState>(
         (tools.compiled tool.new) result.answer }
 
     // It is passed through exactly where the verdict says, unless memory was refused first; a fault has its cause.
-    ensures says { let a = account_at (recorded tool.old.text tool.old.outputs)
+    ensures says { let a = account_at (recorded tool.old.text tool.old.outputs tool.old.rustc)
         (⟦<SnapshotFiles as Files>⟧.tree files.old) session.settings request.now in
         SaysBy GoesOn a (FilesFail ⟦<SnapshotFiles as Files>⟧ files.old files.new)
         (ToolFails ⟦<ReplayTool as Preprocessor>⟧ tool.old tool.new) result.answer }
 
     // What was recorded means what it did.
-    ensures meaning { recorded tool.new.text tool.new.outputs
-        ≡ recorded tool.old.text tool.old.outputs }
+    ensures meaning { recorded tool.new.text tool.new.outputs tool.new.rustc
+        ≡ recorded tool.old.text tool.old.outputs tool.old.rustc }
 {
     records_of_earlier_calls_are_true::<H>();
     let mut session = session;

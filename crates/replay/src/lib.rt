@@ -2,8 +2,10 @@
 #![tactic(auto)]
 
 pub mod asked_store;
+mod commands;
 pub mod kept_session;
 pub mod replay_tool;
 pub mod replayed;
+pub mod rustc_records;
 pub mod snapshot_files;
 pub mod watched_records;

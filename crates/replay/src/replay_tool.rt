@@ -1,14 +1,17 @@
 //! A tool that runs nothing: it gives recorded answers, and remembers the command of which it has none.
 
-ghost use Rattle.std.specs.Prelude.{◌≡◌, ◌⊎◌, true, [], ◌∷◌, Some, None, IfOk, IsErrOf};
+ghost use Rattle.std.specs.Prelude.{◌≡◌, ◌⊎◌, pos, true, [], ◌∷◌, Some, None, IfOk, IsErrOf};
+ghost use Rattle.std.specs.Option.{option_copied};
 ghost use Rattle.os_files.specs.Bytes.{ticked};
-ghost use Rattle.ckeys_records.specs.Meaning.{asked_of, made_of, names_of};
+ghost use Rattle.ckeys_records.specs.Meaning.{Scene, archive, asked_of, made_of, names_of, words};
 ghost use Rattle.wrap_base.specs.AskedBy.{asked_by};
-ghost use Rattle.replay.specs.Recorded.{Wants, made_for, paths_in, printed_for, recorded, same_outputs};
+ghost use Rattle.replay.specs.Recorded.{Wants, compiled_for, crate_of, digest_for, library_digest, on_dependencies, on_names, paths_in, printed_for, recorded, same_outputs, told_for};
 
+use crate::commands::{copies, have_names, is_of, made_again, one_word, paths_of, same_words};
+use crate::rustc_records::{RecordedAnswer, RecordedCrate, RecordedRustc};
 use ckeys_records::output_name::OutputName;
 use rustkeys::answers::RustcAnswers;
-use std::alloc::{AllocError, Global};
+use std::alloc::Global;
 use wrap::{
     ArtifactDescriptor, CCompilerKind, Compiled, Files, Listed, OsBytes, Preprocessor, Printed,
     SingleCompileCommand, Step, Ticks, Tool, ToolFail,
@@ -46,105 +49,13 @@ pub struct Wanted {
 pub struct ReplayTool {
     pub text: Option<RecordedText>,
     pub outputs: Option<RecordedOutputs>,
+    /// Where the compiler is rustc, what that answered.
+    pub rustc: Option<RecordedRustc>,
     pub wanted: Option<Wanted>,
     preprocessed: u64,
     archived: u64,
     compiled: u64,
     failed: u64,
-}
-
-/// Copies of words.
-fn copies(alloc: Global, words: &[OsBytes]) -> Result<Listed<OsBytes>, AllocError>
-    ensures { IfOk result (λ copy. copy ≡ words.now) }
-{
-    let mut copy = Vec::with_capacity(alloc, words.len())?;
-    for word in words {
-        copy.push(word.clone()?)?;
-    }
-    Ok(Listed::from_vec(copy))
-}
-
-/// A copy of the word, alone.
-fn one_word(alloc: Global, word: &OsBytes) -> Result<Vec<OsBytes>, AllocError>
-    ensures { IfOk result (λ words. words.items ≡ word.now ∷ []) }
-{
-    Ok(vec![in alloc; word.clone()?]?)
-}
-
-/// Copies of the paths of outputs.
-fn paths_of(
-    alloc: Global,
-    outputs: &[(OsBytes, ArtifactDescriptor)],
-) -> Result<Listed<OsBytes>, AllocError>
-    ensures { IfOk result (λ paths. paths ≡ paths_in outputs.now) }
-{
-    let mut paths = Vec::with_capacity(alloc, outputs.len())?;
-    for output in outputs {
-        paths.push(output.1.path.clone()?)?;
-    }
-    Ok(Listed::from_vec(paths))
-}
-
-/// A copy of contents, where there are some.
-fn contents_again(contents: &Option<OsBytes>) -> Result<Option<OsBytes>, AllocError>
-    ensures { IfOk result (λ copy. copy ≡ contents.now) }
-{
-    match contents {
-        Some(contents) => Ok(Some(contents.clone()?)),
-        None => Ok(None),
-    }
-}
-
-/// A copy of what was made.
-fn made_again(alloc: Global, made: &Compiled) -> Result<Compiled, AllocError>
-    ensures { IfOk result (λ copy. copy ≡ made.now) }
-{
-    let mut contents = Listed::new(alloc);
-    for made_one in made.contents.as_slice() {
-        contents.push(contents_again(made_one)?)?;
-    }
-    Ok(Compiled {
-        status: made.status,
-        contents,
-    })
-}
-
-/// Whether they are the same words.
-fn same_words(words: &Listed<OsBytes>, other: &Listed<OsBytes>) -> bool
-    ensures same { result ≡ true → words.now ≡ other.now }
-    ensures own { words.now ≡ other.now → result ≡ true }
-{
-    *words == *other
-}
-
-/// Whether it is the C compiler of that kind, and not rustc.
-fn is_of(kind: Option<CCompilerKind>, own: CCompilerKind) -> bool
-    ensures same { result ≡ true → kind ≡ Some own }
-    ensures own { kind ≡ Some own → result ≡ true }
-{
-    match kind {
-        Some(kind) => kind == own,
-        None => false,
-    }
-}
-
-/// Whether the outputs have these names, with their marks.
-fn have_names(outputs: &[(OsBytes, ArtifactDescriptor)], names: &[OutputName]) -> bool
-    ensures { result ≡ same_outputs outputs.now names.now }
-{
-    let mut outputs = outputs;
-    let mut names = names;
-    while let Some((output, outputs_behind)) = outputs.split_first() {
-        let Some((name, names_behind)) = names.split_first() else {
-            return false;
-        };
-        if output.0 != name.name || output.1.optional != name.optional {
-            return false;
-        }
-        outputs = outputs_behind;
-        names = names_behind;
-    }
-    names.is_empty()
 }
 
 impl RecordedText {
@@ -181,16 +92,58 @@ impl ReplayTool {
     pub fn new() -> ReplayTool
         ensures text { result.text ≡ None }
         ensures outputs { result.outputs ≡ None }
+        ensures rustc { result.rustc ≡ None }
         ensures wanted { result.wanted ≡ None }
     {
         ReplayTool {
             text: None,
             outputs: None,
+            rustc: None,
             wanted: None,
             preprocessed: 0,
             archived: 0,
             compiled: 0,
             failed: 0,
+        }
+    }
+
+    /// What rustc told of dependencies, where that is recorded.
+    fn on_dependencies(&self) -> Option<&RecordedAnswer>
+        ensures { option_copied result ≡ on_dependencies self.now.rustc }
+    {
+        match &self.rustc {
+            Some(rustc) => rustc.dep_info.as_ref(),
+            None => None,
+        }
+    }
+
+    /// What it told of the names of its outputs, where that is recorded.
+    fn on_names(&self) -> Option<&RecordedAnswer>
+        ensures { option_copied result ≡ on_names self.now.rustc }
+    {
+        match &self.rustc {
+            Some(rustc) => rustc.file_names.as_ref(),
+            None => None,
+        }
+    }
+
+    /// What it made, where that is recorded.
+    fn made_crate(&self) -> Option<&RecordedCrate>
+        ensures { option_copied result ≡ crate_of self.now.rustc }
+    {
+        match &self.rustc {
+            Some(rustc) => rustc.outputs.as_ref(),
+            None => None,
+        }
+    }
+
+    /// The digest of the static library of that path, where it is recorded.
+    fn library_digest(&self, path: &OsBytes) -> Option<&OsBytes>
+        ensures { option_copied result ≡ library_digest self.now.rustc path.now }
+    {
+        match &self.rustc {
+            Some(rustc) => rustc.digests.get(path),
+            None => None,
         }
     }
 
@@ -204,6 +157,7 @@ impl ReplayTool {
     ) -> ToolFail
         ensures text { self.new.text ≡ self.old.text }
         ensures outputs { self.new.outputs ≡ self.old.outputs }
+        ensures rustc { self.new.rustc ≡ self.old.rustc }
         ensures preprocessed { self.new.preprocessed ≡ self.old.preprocessed }
         ensures archived { self.new.archived ≡ self.old.archived }
         ensures compiled { self.new.compiled ≡ self.old.compiled }
@@ -225,7 +179,7 @@ impl ReplayTool {
 }
 
 impl Preprocessor for ReplayTool {
-    ghost meaning = { λ t. recorded t.text t.outputs };
+    ghost meaning = { λ t. recorded t.text t.outputs t.rustc };
 
     ghost preprocessed = { λ t. t.preprocessed };
 
@@ -247,8 +201,8 @@ impl Preprocessor for ReplayTool {
         ensures answer { IfOk result
             (λ p. made_of p.status (Some p.text ∷ [])
             ≡ printed_for self.old.text (asked_of kind command.now.arguments)) }
-        ensures meaning { recorded self.new.text self.new.outputs
-            ≡ recorded self.old.text self.old.outputs }
+        ensures meaning { recorded self.new.text self.new.outputs self.new.rustc
+            ≡ recorded self.old.text self.old.outputs self.old.rustc }
         ensures tree { F.tree files.new ≡ F.tree files.old }
         ensures device { IsErrOf result ToolFail.Device
             → (self.new.failed ≡ ticked self.old.failed) × Wants Step.Preprocess self.new.wanted }
@@ -262,7 +216,7 @@ impl Preprocessor for ReplayTool {
 
         // What was recorded stays, and is given for its compiler and its words.
         ensures recorded { (self.new.text ≡ self.old.text)
-            × (self.new.outputs ≡ self.old.outputs) }
+            × (self.new.outputs ≡ self.old.outputs) × (self.new.rustc ≡ self.old.rustc) }
         ensures given { (r : RecordedText) → self.old.text ≡ Some r → r.kind ≡ kind
             → r.words ≡ command.now.arguments → IsErrOf result ToolFail.Device → ⊥ }
         // What is lacking is this command.
@@ -288,7 +242,6 @@ impl Preprocessor for ReplayTool {
     }
 }
 
-/// None of rustc's answers is recorded.
 impl RustcAnswers for ReplayTool {
     ghost archived = { λ t. t.archived };
 
@@ -296,9 +249,43 @@ impl RustcAnswers for ReplayTool {
         &mut self,
         alloc: Global,
         command: &SingleCompileCommand,
-        _files: &mut F,
-    ) -> Result<Printed, ToolFail> {
+        files: &mut F,
+    ) -> Result<Printed, ToolFail>
+        ensures answer { IfOk result
+            (λ p. made_of p.status (Some p.text ∷ [])
+            ≡ told_for (on_dependencies self.old.rustc) (words command.now.arguments)
+            command.now.cwd) }
+        ensures meaning { recorded self.new.text self.new.outputs self.new.rustc
+            ≡ recorded self.old.text self.old.outputs self.old.rustc }
+        ensures tree { F.tree files.new ≡ F.tree files.old }
+        ensures device { IsErrOf result ToolFail.Device
+            → (self.new.failed ≡ ticked self.old.failed) × Wants Step.DepInfo self.new.wanted }
+        ensures files_device { IsErrOf result ToolFail.Device
+            → (F.failed files.new ≡ F.failed files.old)
+            ⊎ (F.failed files.new ≡ ticked (F.failed files.old)) }
+        ensures steady { (IsErrOf result ToolFail.Device → ⊥)
+            → (self.new.failed ≡ self.old.failed) × (F.failed files.new ≡ F.failed files.old) }
+        ensures runs { self.new.preprocessed ≡ ticked self.old.preprocessed }
+        ensures archives { self.new.archived ≡ self.old.archived }
+        ensures compiles { self.new.compiled ≡ self.old.compiled }
+
+        // What was recorded stays, and is given for its words and its folder.
+        ensures recorded { (self.new.text ≡ self.old.text)
+            × (self.new.outputs ≡ self.old.outputs) × (self.new.rustc ≡ self.old.rustc) }
+        ensures given { (r : RecordedAnswer) → on_dependencies self.old.rustc ≡ Some r
+            → r.words ≡ command.now.arguments → r.dir ≡ command.now.cwd
+            → IsErrOf result ToolFail.Device → ⊥ }
+        // What is lacking is this command.
+        ensures lacking { IsErrOf result ToolFail.Device → self.new.wanted
+            ≡ Some (record { step = Step.DepInfo; words = command.now.arguments; paths = [] }) }
+    {
+        let _ = files;
         self.preprocessed = self.preprocessed.wrapping_add(1);
+        if let Some(recorded) = self.on_dependencies() {
+            if recorded.answers(command) {
+                return Ok(recorded.printed.clone()?);
+            }
+        }
         Err(self.want(alloc, Step::DepInfo, command.arguments.as_slice(), &[]))
     }
 
@@ -306,9 +293,43 @@ impl RustcAnswers for ReplayTool {
         &mut self,
         alloc: Global,
         command: &SingleCompileCommand,
-        _files: &mut F,
-    ) -> Result<Printed, ToolFail> {
+        files: &mut F,
+    ) -> Result<Printed, ToolFail>
+        ensures answer { IfOk result
+            (λ p. made_of p.status (Some p.text ∷ [])
+            ≡ told_for (on_names self.old.rustc) (words command.now.arguments)
+            command.now.cwd) }
+        ensures meaning { recorded self.new.text self.new.outputs self.new.rustc
+            ≡ recorded self.old.text self.old.outputs self.old.rustc }
+        ensures tree { F.tree files.new ≡ F.tree files.old }
+        ensures device { IsErrOf result ToolFail.Device
+            → (self.new.failed ≡ ticked self.old.failed) × Wants Step.FileNames self.new.wanted }
+        ensures files_device { IsErrOf result ToolFail.Device
+            → (F.failed files.new ≡ F.failed files.old)
+            ⊎ (F.failed files.new ≡ ticked (F.failed files.old)) }
+        ensures steady { (IsErrOf result ToolFail.Device → ⊥)
+            → (self.new.failed ≡ self.old.failed) × (F.failed files.new ≡ F.failed files.old) }
+        ensures runs { self.new.preprocessed ≡ ticked self.old.preprocessed }
+        ensures archives { self.new.archived ≡ self.old.archived }
+        ensures compiles { self.new.compiled ≡ self.old.compiled }
+
+        // What was recorded stays, and is given for its words and its folder.
+        ensures recorded { (self.new.text ≡ self.old.text)
+            × (self.new.outputs ≡ self.old.outputs) × (self.new.rustc ≡ self.old.rustc) }
+        ensures given { (r : RecordedAnswer) → on_names self.old.rustc ≡ Some r
+            → r.words ≡ command.now.arguments → r.dir ≡ command.now.cwd
+            → IsErrOf result ToolFail.Device → ⊥ }
+        // What is lacking is this command.
+        ensures lacking { IsErrOf result ToolFail.Device → self.new.wanted
+            ≡ Some (record { step = Step.FileNames; words = command.now.arguments; paths = [] }) }
+    {
+        let _ = files;
         self.preprocessed = self.preprocessed.wrapping_add(1);
+        if let Some(recorded) = self.on_names() {
+            if recorded.answers(command) {
+                return Ok(recorded.printed.clone()?);
+            }
+        }
         Err(self.want(alloc, Step::FileNames, command.arguments.as_slice(), &[]))
     }
 
@@ -316,9 +337,39 @@ impl RustcAnswers for ReplayTool {
         &mut self,
         alloc: Global,
         path: &OsBytes,
-        _files: &mut F,
-    ) -> Result<OsBytes, ToolFail> {
+        files: &mut F,
+    ) -> Result<OsBytes, ToolFail>
+        ensures answer { IfOk result
+            (λ digest. made_of (pos 0) (Some digest ∷ [])
+            ≡ digest_for self.old.rustc (archive path.now)) }
+        ensures meaning { recorded self.new.text self.new.outputs self.new.rustc
+            ≡ recorded self.old.text self.old.outputs self.old.rustc }
+        ensures tree { F.tree files.new ≡ F.tree files.old }
+        ensures device { IsErrOf result ToolFail.Device
+            → (self.new.failed ≡ ticked self.old.failed) × Wants Step.ArchiveDigest self.new.wanted }
+        ensures files_device { IsErrOf result ToolFail.Device
+            → (F.failed files.new ≡ F.failed files.old)
+            ⊎ (F.failed files.new ≡ ticked (F.failed files.old)) }
+        ensures steady { (IsErrOf result ToolFail.Device → ⊥)
+            → (self.new.failed ≡ self.old.failed) × (F.failed files.new ≡ F.failed files.old) }
+        ensures runs { self.new.preprocessed ≡ self.old.preprocessed }
+        ensures archives { self.new.archived ≡ ticked self.old.archived }
+        ensures compiles { self.new.compiled ≡ self.old.compiled }
+
+        // What was recorded stays, and is given for its path.
+        ensures recorded { (self.new.text ≡ self.old.text)
+            × (self.new.outputs ≡ self.old.outputs) × (self.new.rustc ≡ self.old.rustc) }
+        ensures given { (library_digest self.old.rustc path.now ≡ None → ⊥)
+            → IsErrOf result ToolFail.Device → ⊥ }
+        // What is lacking is the digest of this static library.
+        ensures lacking { IsErrOf result ToolFail.Device → self.new.wanted
+            ≡ Some (record { step = Step.ArchiveDigest; words = path.now ∷ []; paths = [] }) }
+    {
+        let _ = files;
         self.archived = self.archived.wrapping_add(1);
+        if let Some(digest) = self.library_digest(path) {
+            return Ok(digest.clone()?);
+        }
         let words = one_word(alloc, path)?;
         Err(self.want(alloc, Step::ArchiveDigest, &words, &[]))
     }
@@ -336,10 +387,10 @@ impl Tool for ReplayTool {
     ) -> Result<Compiled, ToolFail>
         ensures answer { IfOk result
             (λ made. made_of made.status made.contents
-            ≡ made_for self.old.outputs (asked_by kind command.now.arguments)
-            (names_of outputs.now)) }
-        ensures meaning { recorded self.new.text self.new.outputs
-            ≡ recorded self.old.text self.old.outputs }
+            ≡ compiled_for self.old.outputs (crate_of self.old.rustc)
+            (asked_by kind command.now.arguments) (names_of outputs.now) command.now.cwd) }
+        ensures meaning { recorded self.new.text self.new.outputs self.new.rustc
+            ≡ recorded self.old.text self.old.outputs self.old.rustc }
         ensures tree { F.tree files.new ≡ F.tree files.old }
         ensures device { IsErrOf result ToolFail.Device
             → (self.new.failed ≡ ticked self.old.failed) × Wants Step.Compile self.new.wanted }
@@ -353,10 +404,14 @@ impl Tool for ReplayTool {
 
         // What was recorded stays, and is given for its compiler, its words and its outputs' names.
         ensures recorded { (self.new.text ≡ self.old.text)
-            × (self.new.outputs ≡ self.old.outputs) }
+            × (self.new.outputs ≡ self.old.outputs) × (self.new.rustc ≡ self.old.rustc) }
         ensures given { (r : RecordedOutputs) → self.old.outputs ≡ Some r → kind ≡ Some r.kind
             → r.words ≡ command.now.arguments → same_outputs outputs.now r.names ≡ true
             → IsErrOf result ToolFail.Device → ⊥ }
+        // Of rustc it is given in its folder.
+        ensures given_of_rustc { (r : RecordedCrate) → crate_of self.old.rustc ≡ Some r
+            → kind ≡ None → r.words ≡ command.now.arguments → r.dir ≡ command.now.cwd
+            → same_outputs outputs.now r.names ≡ true → IsErrOf result ToolFail.Device → ⊥ }
         // What is lacking is this command, with the paths where its outputs go.
         ensures lacking { IsErrOf result ToolFail.Device → self.new.wanted
             ≡ Some (record {
@@ -369,6 +424,11 @@ impl Tool for ReplayTool {
         self.compiled = self.compiled.wrapping_add(1);
         if let Some(recorded) = &self.outputs {
             if recorded.answers(kind, &command.arguments, outputs) {
+                return Ok(made_again(alloc, &recorded.made)?);
+            }
+        }
+        if let Some(recorded) = self.made_crate() {
+            if recorded.answers(kind, command, outputs) {
                 return Ok(made_again(alloc, &recorded.made)?);
             }
         }

@@ -8,6 +8,7 @@ ghost use Rattle.wrap.specs.Account.{Account, account_at};
 ghost use Rattle.wrap.specs.Answers.{Answers, GoesOn, SaysBy};
 ghost use Rattle.wrap.specs.Asking.{AskedTurn, RecordsAreTrue, shelves_of};
 ghost use Rattle.wrap.specs.StoreKeys.{Invariant, Premises};
+ghost use Rattle.replay.specs.Beside.{TellsOwnDependencies};
 ghost use Rattle.replay.specs.Recorded.{recorded};
 ghost use Rattle.replay.specs.Worlds.{GivesTo};
 
@@ -36,31 +37,36 @@ pub fn replayed<
     // Outputs are those that the world's compiler gives afresh, if what the store holds is of earlier calls in that world.
     ensures outputs { (world : Meaning) → let tree = F.tree files.old in
         let a = account_at world tree session.old.settings request.now in
-        GivesTo tool.old.text tool.old.outputs request.now tree world
+        GivesTo tool.old.text tool.old.outputs tool.old.rustc request.now tree world
         → RecordsAreTrue H.digest_of a (E.shelf session.old.entries).held
         → (earlier : List Account)
         → Invariant H.digest_of earlier (O.shelf session.old.objects).held
         → Premises H.digest_of (earlier ++ a ∷ []) → Answers a result }
 
+    // Beside them stands what that world's rustc tells of dependencies, for this request's own targets, where it asks for it.
+    ensures dep_info { (world : Meaning) → let tree = F.tree files.old in
+        GivesTo tool.old.text tool.old.outputs tool.old.rustc request.now tree world
+        → TellsOwnDependencies (account_at world tree session.old.settings request.now) result }
+
     // And what it holds then is of them and of this call.
     ensures invariant { (world : Meaning) → let tree = F.tree files.old in
         let a = account_at world tree session.old.settings request.now in
-        GivesTo tool.old.text tool.old.outputs request.now tree world
+        GivesTo tool.old.text tool.old.outputs tool.old.rustc request.now tree world
         → RecordsAreTrue H.digest_of a (E.shelf session.old.entries).held
         → (earlier : List Account)
         → Invariant H.digest_of earlier (O.shelf session.old.objects).held
         → Invariant H.digest_of (earlier ++ a ∷ []) (O.shelf session.new.objects).held }
 
     // It is passed through exactly where the verdict says, unless memory was refused first; a fault has its cause.
-    ensures says { let a = account_at (recorded tool.old.text tool.old.outputs) (F.tree files.old)
-        session.old.settings request.now in
+    ensures says { let a = account_at (recorded tool.old.text tool.old.outputs tool.old.rustc)
+        (F.tree files.old) session.old.settings request.now in
         SaysBy GoesOn a (FilesFail F.Files files.old files.new)
         (ToolFails ⟦<ReplayTool as Preprocessor>⟧ tool.old tool.new) result }
 
     // Under which key it asks the store of outputs, what it does to that, and where outputs come from.
     ensures asked { let tools = ⟦<ReplayTool as Preprocessor>⟧ in
-        let a = account_at (recorded tool.old.text tool.old.outputs) (F.tree files.old)
-        session.old.settings request.now in
+        let a = account_at (recorded tool.old.text tool.old.outputs tool.old.rustc)
+        (F.tree files.old) session.old.settings request.now in
         AskedTurn H.digest_of session.old.max_kept a
         (shelves_of (E.shelf session.old.entries) (O.shelf session.old.objects))
         (shelves_of (E.shelf session.new.entries) (O.shelf session.new.objects))
@@ -68,8 +74,8 @@ pub fn replayed<
         (tools.compiled tool.new) result }
 
     // What was recorded means what it did.
-    ensures meaning { recorded tool.new.text tool.new.outputs
-        ≡ recorded tool.old.text tool.old.outputs }
+    ensures meaning { recorded tool.new.text tool.new.outputs tool.new.rustc
+        ≡ recorded tool.old.text tool.old.outputs tool.old.rustc }
 
     ensures settings { (session.new.settings ≡ session.old.settings)
         × (session.new.max_kept ≡ session.old.max_kept) }

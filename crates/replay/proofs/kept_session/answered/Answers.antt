@@ -14,6 +14,9 @@ returns-clause-outputs g c = λ world gives record_kept entry records outputs ea
     (λ key pairs h. is key pairs (outputs.only key pairs h))
     premises
 
+pub returns-clause-dep_info : goal.returns-clause-dep_info
+returns-clause-dep_info g c = c.replayed-answer.ensures.dep_info
+
 pub returns-clause-asked : goal.returns-clause-asked
 returns-clause-asked g c = c.replayed-answer.ensures.asked
 

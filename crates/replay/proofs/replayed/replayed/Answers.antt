@@ -1,5 +1,5 @@
 use Rattle.wrap_base.specs.Commands.{named_by}
-use Rattle.replay.proofs.WorldSteps.{answers_named, grows_named}
+use Rattle.replay.proofs.WorldSteps.{answers_named, grows_named, tells_named}
 use Rattle.replay.proofs.replayed.replayed.Goals as goal
 
 pub returns-clause-outputs : goal.returns-clause-outputs
@@ -7,11 +7,18 @@ returns-clause-outputs g c = λ world gives.
     let tool = c.args.tool.now in
     let tree = g.F.Files.tree c.args.files.now in
     let request = c.args.request.now in
-    answers_named g.H.HashState.digest_of c.args.session.now.max_kept c.store_keys_tell_records.ensures tool.text tool.outputs world tree c.args.session.now.settings request _ _ _ _ _ _ _ _ _ (named_by request.compiler) gives (c.serve.ensures.asked, c.serve.ensures.says)
+    answers_named g.H.HashState.digest_of c.args.session.now.max_kept c.store_keys_tell_records.ensures tool.text tool.outputs tool.rustc world tree c.args.session.now.settings request _ _ _ _ _ _ _ _ _ (named_by request.compiler) gives (c.serve.ensures.asked, c.serve.ensures.says)
 
 pub returns-clause-invariant : goal.returns-clause-invariant
 returns-clause-invariant g c = λ world gives.
     let tool = c.args.tool.now in
     let tree = g.F.Files.tree c.args.files.now in
     let request = c.args.request.now in
-    grows_named g.H.HashState.digest_of c.args.session.now.max_kept c.store_keys_tell_records.ensures tool.text tool.outputs world tree c.args.session.now.settings request _ _ _ _ _ _ _ _ _ (named_by request.compiler) gives (c.serve.ensures.asked, c.serve.ensures.says)
+    grows_named g.H.HashState.digest_of c.args.session.now.max_kept c.store_keys_tell_records.ensures tool.text tool.outputs tool.rustc world tree c.args.session.now.settings request _ _ _ _ _ _ _ _ _ (named_by request.compiler) gives (c.serve.ensures.asked, c.serve.ensures.says)
+
+pub returns-clause-dep_info : goal.returns-clause-dep_info
+returns-clause-dep_info g c = λ world gives.
+    let tool = c.args.tool.now in
+    let tree = g.F.Files.tree c.args.files.now in
+    let request = c.args.request.now in
+    tells_named g.H.HashState.digest_of c.args.session.now.max_kept c.store_keys_tell_records.ensures tool.text tool.outputs tool.rustc world tree c.args.session.now.settings request _ _ _ _ _ _ _ _ _ (named_by request.compiler) gives (c.serve.ensures.asked, c.serve.ensures.says)

@@ -1,6 +1,6 @@
 use Rattle.std.proofs.Common.{◌≡◌, length}
 use Rattle.replay.specs.Recorded.{same_outputs}
-use Rattle.replay.proofs.replay_tool.have_names.Given as goal
+use Rattle.replay.proofs.commands.have_names.Given as goal
 
 -- what is left has the same answer
 abbrev pub invariant-loop-output : goal.invariant-loop-output

@@ -1,6 +1,6 @@
 use Rattle.std.proofs.Common.{sym, ◌∙◌}
 use Rattle.replay.proofs.AskedAlike.{words_alike, words_are}
-use Rattle.replay.proofs.replay_tool.same_words.Goals as goal
+use Rattle.replay.proofs.commands.same_words.Goals as goal
 
 pub returns-clause-same : goal.returns-clause-same
 returns-clause-same c same = words_are c.args.words.now c.args.other.now (sym c.eq.ensures ∙ same)

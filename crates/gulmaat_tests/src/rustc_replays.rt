@@ -1,0 +1,441 @@
+//! A session over recorded answers of rustc: what it tells that it lacks, and what it answers where it lacks nothing.
+//!
+//! The proof of a function grows with what it drops by itself, field by field, at each of its ends. So each function here holds few large
+//! values, and hands them over to `drop`, which is one call.
+
+use ckeys_records::fault::Fault;
+use ckeys_records::output_name::OutputName;
+use ckeys_records::preprocessor::Printed;
+use os_files::file_time::FileTime;
+use os_files::files::Metadata;
+use os_files::listed::Listed;
+use os_files::memory_files::MemoryFiles;
+use os_files::os_bytes::OsBytes;
+use replay::kept_session::{Entries, Objects, SessionAnswer, answered, session_over};
+use replay::replay_tool::{ReplayTool, Wanted};
+use replay::rustc_records::{RecordedAnswer, RecordedCrate, RecordedRustc};
+use replay::snapshot_files::{LoadedFile, SnapshotFiles};
+use rustc_compiler::rust::Rust;
+use sha2::Sha256;
+use std::alloc::{AllocError, Global};
+use std::collections::BTreeMap;
+use std::fmt::Write;
+use std::test::Fail;
+use test_kit::rows::words;
+use test_kit::texts::is_that;
+use time_macros::zone::Zone;
+use wrap::session::Session;
+use wrap_base::answer::{Answer, How, Output};
+use wrap_base::compiler::Compiler;
+use wrap_base::config::Config;
+use wrap_base::request::Request;
+use wrap_base::store_key::{Pairs, StoreKey};
+use wrap_base::tool::Compiled;
+
+/// A request for a library of a crate `foo`, with a static library and a text on dependencies.
+const FIRST: &str =
+    "--emit dep-info,link -C opt-level=1 foo.rs --out-dir out --crate-name foo --crate-type lib -L native=lib -l static=z";
+
+/// It in other words, into another folder.
+const SECOND: &str =
+    "--emit=dep-info,link -Copt-level=1 foo.rs --out-dir=out2 --crate-name=foo --crate-type=lib -L native=lib -l static=z";
+
+/// The words by which it is asked on dependencies.
+const ON_DEPENDENCIES: &str =
+    "-C opt-level=1 foo.rs --crate-name foo --crate-type rlib -L native=lib -l static=z --emit dep-info";
+
+/// Those by which the first and the second request are asked on names.
+const ON_NAMES: &str =
+    "--emit dep-info,link -C opt-level=1 foo.rs --out-dir out --crate-name foo --crate-type rlib -L native=lib -l static=z --print file-names";
+
+const SECOND_ON_NAMES: &str =
+    "--emit dep-info,link -C opt-level=1 foo.rs --out-dir out2 --crate-name foo --crate-type rlib -L native=lib -l static=z --print file-names";
+
+/// Those by which the first one is compiled.
+const COMPILE: &str =
+    "--emit dep-info,link -C opt-level=1 foo.rs --out-dir out --crate-name foo --crate-type rlib -L native=lib -l static=z --color always";
+
+/// What rustc tells of what the crate depends on.
+const DEPENDENCIES: &str = "deps.d: foo.rs\n\nfoo.rs:\n";
+
+/// The digest of nothing, the low half of each byte first.
+const OF_NOTHING: &str = "3e0b4c2489cfc141a9bf4f8c99f69b4272ea144e46b939c44a5999b187258b55";
+
+fn bytes_of(alloc: Global, text: &str) -> Result<OsBytes, AllocError> {
+    OsBytes::from_slice(alloc, text.as_bytes())
+}
+
+/// A rustc without libraries.
+fn rust(alloc: Global) -> Result<Rust, Fail> {
+    let executable = bytes_of(alloc, "rustc")?;
+    let version = bytes_of(alloc, "host: x")?;
+    let sysroot = bytes_of(alloc, "/s")?;
+    let libraries = Listed::new(alloc);
+    let mut files = MemoryFiles::new(alloc);
+    let found = Rust::new::<Sha256, MemoryFiles>(
+        alloc, executable, version, sysroot, libraries, None, &mut files,
+    );
+    drop(files);
+    Ok(found?)
+}
+
+/// The request of these words to it in `/w`.
+fn request(alloc: Global, line: &str) -> Result<Request, Fail> {
+    let compiler = Compiler::Rust(rust(alloc)?);
+    let words = Listed::from_vec(words(alloc, line)?);
+    let dir = bytes_of(alloc, "/w")?;
+    Ok(Request {
+        compiler,
+        words,
+        dir,
+        env: Listed::new(alloc),
+        moment: 0,
+    })
+}
+
+/// The source and the static library, as they are loaded.
+fn files(alloc: Global) -> Result<SnapshotFiles, Fail> {
+    let mut files = SnapshotFiles::new(alloc);
+    for (path, contents) in [("/w/foo.rs", "pub fn f() {}\n"), ("/w/lib/libz.a", "")] {
+        let name = bytes_of(alloc, path)?;
+        let file = LoadedFile {
+            contents: Some(bytes_of(alloc, contents)?),
+            canonical: bytes_of(alloc, path)?,
+            metadata: Metadata {
+                size: 0,
+                mtime: FileTime::from_seconds(0),
+                ctime: FileTime::from_seconds(0),
+            },
+        };
+        files.load(name, file)?;
+    }
+    Ok(files)
+}
+
+/// What it printed, asked by these words in `/w`.
+fn told(alloc: Global, line: &str, text: &str) -> Result<RecordedAnswer, AllocError> {
+    let words = Listed::from_vec(words(alloc, line)?);
+    let dir = bytes_of(alloc, "/w")?;
+    let text = bytes_of(alloc, text)?;
+    Ok(RecordedAnswer {
+        words,
+        dir,
+        printed: Printed { status: 0, text },
+    })
+}
+
+/// The library that the first request makes.
+fn made(alloc: Global) -> Result<RecordedCrate, AllocError> {
+    let mut names = Listed::new(alloc);
+    names.push(OutputName {
+        name: bytes_of(alloc, "libfoo.rlib")?,
+        optional: false,
+    })?;
+    let mut contents = Listed::new(alloc);
+    contents.push(Some(bytes_of(alloc, "library")?))?;
+    Ok(RecordedCrate {
+        words: Listed::from_vec(words(alloc, COMPILE)?),
+        dir: bytes_of(alloc, "/w")?,
+        names,
+        made: Compiled {
+            status: 0,
+            contents,
+        },
+    })
+}
+
+/// All that is recorded of the first request, with these words on names.
+fn whole(alloc: Global, on_names: &str) -> Result<RecordedRustc, AllocError> {
+    let mut rustc = RecordedRustc::new(alloc);
+    rustc.dep_info = Some(told(alloc, ON_DEPENDENCIES, DEPENDENCIES)?);
+    rustc.file_names = Some(told(alloc, on_names, "libfoo.rlib\n")?);
+    rustc.outputs = Some(made(alloc)?);
+    let path = bytes_of(alloc, "/w/lib/libz.a")?;
+    let digest = bytes_of(alloc, OF_NOTHING)?;
+    let before = rustc.digests.insert(path, digest)?;
+    drop(before);
+    Ok(rustc)
+}
+
+/// How what is recorded differs from all of it.
+#[derive(Clone, Copy)]
+enum Change {
+    NoDependencies,
+    NoNames,
+    NoDigest,
+    NoOutputs,
+    DependenciesElsewhere,
+    NamesElsewhere,
+    OutputsElsewhere,
+    DependenciesOfOtherWords,
+    NamesOfOtherWords,
+    OutputsOfOtherWords,
+    OutputsOfOtherNames,
+}
+
+/// Has an answer be of another folder, where there is one.
+fn move_answer(alloc: Global, told: &mut Option<RecordedAnswer>) -> Result<(), AllocError> {
+    if let Some(told) = told {
+        told.dir = bytes_of(alloc, "/v")?;
+    }
+    Ok(())
+}
+
+/// Has an answer be of one word more.
+fn add_word(alloc: Global, told: &mut Option<RecordedAnswer>) -> Result<(), AllocError> {
+    if let Some(told) = told {
+        told.words.push(bytes_of(alloc, "-v")?)?;
+    }
+    Ok(())
+}
+
+/// Changes what rustc told.
+fn change_told(alloc: Global, rustc: &mut RecordedRustc, change: Change) -> Result<(), AllocError> {
+    match change {
+        Change::NoDependencies => rustc.dep_info = None,
+        Change::NoNames => rustc.file_names = None,
+        Change::NoDigest => rustc.digests = BTreeMap::new(alloc),
+        Change::NoOutputs => rustc.outputs = None,
+        Change::DependenciesElsewhere => move_answer(alloc, &mut rustc.dep_info)?,
+        Change::NamesElsewhere => move_answer(alloc, &mut rustc.file_names)?,
+        Change::DependenciesOfOtherWords => add_word(alloc, &mut rustc.dep_info)?,
+        Change::NamesOfOtherWords => add_word(alloc, &mut rustc.file_names)?,
+        _ => {}
+    }
+    Ok(())
+}
+
+/// Changes what it made.
+fn change_made(alloc: Global, rustc: &mut RecordedRustc, change: Change) -> Result<(), AllocError> {
+    let Some(made) = &mut rustc.outputs else {
+        return Ok(());
+    };
+    match change {
+        Change::OutputsElsewhere => made.dir = bytes_of(alloc, "/v")?,
+        Change::OutputsOfOtherWords => made.words.push(bytes_of(alloc, "-v")?)?,
+        Change::OutputsOfOtherNames => made.names = Listed::new(alloc),
+        _ => {}
+    }
+    Ok(())
+}
+
+/// Adds what outputs are, each with its path and contents, and the text beside them.
+fn push_outputs(
+    text: &mut String,
+    how: How,
+    map: &[Output],
+    dep_info: &Option<OsBytes>,
+) -> Result<(), AllocError> {
+    write!(text, "{how:?}")?;
+    for output in map {
+        let (name, path, contents) = (&output.name, &output.path, &output.contents);
+        write!(text, " {name} {path} {contents}")?;
+    }
+    if let Some(dep_info) = dep_info {
+        write!(text, " {dep_info}")?;
+    }
+    Ok(())
+}
+
+/// Adds an answer: why it passes or fails, or what it gives.
+fn push_answer(text: &mut String, answer: &Result<Answer, Fault>) -> Result<(), AllocError> {
+    match answer {
+        Ok(Answer::Pass(reason)) => write!(text, "pass {reason}"),
+        Err(fault) => write!(text, "fault {fault}"),
+        Ok(Answer::Outputs { map, how, dep_info }) => {
+            push_outputs(text, *how, map.as_slice(), dep_info)
+        }
+    }
+}
+
+/// Adds what is lacking, if anything is: the words, and the paths of what they are to make.
+fn push_wanted(text: &mut String, wanted: &Option<Wanted>) -> Result<(), AllocError> {
+    let Some(wanted) = wanted else {
+        return Ok(());
+    };
+    text.push_str(":")?;
+    for word in wanted.words.as_slice() {
+        write!(text, " {word}")?;
+    }
+    for path in wanted.paths.as_slice() {
+        write!(text, " > {path}")?;
+    }
+    Ok(())
+}
+
+/// A session over what a disk keeps, and of nothing else.
+fn session(
+    alloc: Global,
+    kept: Option<(StoreKey, Pairs)>,
+) -> Result<Session<Sha256, Entries, Objects>, Fail> {
+    let config = Config::new(alloc, &[], Zone::utc(), false, None)?;
+    Ok(session_over::<Sha256>(alloc, config, None, kept))
+}
+
+/// What a session over what is kept answers the request by what is recorded.
+fn ask(
+    alloc: Global,
+    line: &str,
+    tool: &mut ReplayTool,
+    kept: Option<(StoreKey, Pairs)>,
+) -> Result<SessionAnswer<Sha256>, Fail> {
+    let session = session(alloc, kept)?;
+    let request = request(alloc, line)?;
+    let mut files = files(alloc)?;
+    let told = answered::<Sha256>(session, &request, &mut files, tool);
+    drop(request);
+    drop(files);
+    Ok(told)
+}
+
+/// What is told by an answer, and of what is lacking.
+fn text_of(
+    alloc: Global,
+    told: &SessionAnswer<Sha256>,
+    tool: &ReplayTool,
+) -> Result<String, AllocError> {
+    let mut text = String::new(alloc);
+    push_answer(&mut text, &told.answer)?;
+    push_wanted(&mut text, &tool.wanted)?;
+    Ok(text)
+}
+
+/// What the first request is told where what is recorded of it is changed so.
+fn told_with(alloc: Global, change: Change) -> Result<String, Fail> {
+    let mut rustc = whole(alloc, ON_NAMES)?;
+    change_told(alloc, &mut rustc, change)?;
+    change_made(alloc, &mut rustc, change)?;
+    let mut tool = ReplayTool::new();
+    tool.rustc = Some(rustc);
+    let told = ask(alloc, FIRST, &mut tool, None)?;
+    let text = text_of(alloc, &told, &tool);
+    drop(told);
+    drop(tool);
+    Ok(text?)
+}
+
+/// What is lacking in each case: the fault, the words, and the path of what they are to make.
+const LACKING: [(Change, &str, &str, &str); 11] = [
+    (Change::NoDependencies, "tool dep-info", ON_DEPENDENCIES, ""),
+    (
+        Change::DependenciesElsewhere,
+        "tool dep-info",
+        ON_DEPENDENCIES,
+        "",
+    ),
+    (
+        Change::DependenciesOfOtherWords,
+        "tool dep-info",
+        ON_DEPENDENCIES,
+        "",
+    ),
+    (Change::NoNames, "tool file-names", ON_NAMES, ""),
+    (Change::NamesElsewhere, "tool file-names", ON_NAMES, ""),
+    (Change::NamesOfOtherWords, "tool file-names", ON_NAMES, ""),
+    (Change::NoDigest, "tool archive-digest", "/w/lib/libz.a", ""),
+    (
+        Change::NoOutputs,
+        "tool compile",
+        COMPILE,
+        " > out/libfoo.rlib",
+    ),
+    (
+        Change::OutputsElsewhere,
+        "tool compile",
+        COMPILE,
+        " > out/libfoo.rlib",
+    ),
+    (
+        Change::OutputsOfOtherWords,
+        "tool compile",
+        COMPILE,
+        " > out/libfoo.rlib",
+    ),
+    (
+        Change::OutputsOfOtherNames,
+        "tool compile",
+        COMPILE,
+        " > out/libfoo.rlib",
+    ),
+];
+
+#[test]
+fn what_is_lacking_is_told(rt: HostRuntime) -> Result<(), Fail> {
+    for (change, fault, words, paths) in LACKING {
+        let want = format!(in rt.alloc(); "fault {fault}: {words}{paths}")?;
+        let told = told_with(rt.alloc(), change)?;
+        is_that(told.as_str(), want.as_str(), fault)?;
+    }
+    Ok(())
+}
+
+/// What the session's first request makes: its key, and its outputs by name.
+fn kept_of(
+    alloc: Global,
+    told: &SessionAnswer<Sha256>,
+) -> Result<Option<(StoreKey, Pairs)>, AllocError> {
+    let (Ok(Answer::Outputs { map, .. }), Some(key)) = (
+        &told.answer,
+        told.session.objects().asked(),
+    ) else {
+        return Ok(None);
+    };
+    let mut pairs = Listed::new(alloc);
+    for output in map.as_slice() {
+        pairs.push((output.name.clone()?, output.contents.clone()?))?;
+    }
+    Ok(Some((key.clone()?, pairs)))
+}
+
+/// A tool with all that is recorded of the first request, with these words on names.
+fn whole_tool(alloc: Global, on_names: &str) -> Result<ReplayTool, AllocError> {
+    let mut tool = ReplayTool::new();
+    tool.rustc = Some(whole(alloc, on_names)?);
+    Ok(tool)
+}
+
+/// What is kept of the first request, once it was compiled.
+fn kept(alloc: Global) -> Result<Option<(StoreKey, Pairs)>, Fail> {
+    let mut tool = whole_tool(alloc, ON_NAMES)?;
+    let told = ask(alloc, FIRST, &mut tool, None)?;
+    drop(tool);
+    let kept = kept_of(alloc, &told);
+    drop(told);
+    Ok(kept?)
+}
+
+/// What a request is told by all that is recorded, over what is kept.
+fn told_by(
+    alloc: Global,
+    line: &str,
+    on_names: &str,
+    kept: Option<(StoreKey, Pairs)>,
+) -> Result<String, Fail> {
+    let mut tool = whole_tool(alloc, on_names)?;
+    let told = ask(alloc, line, &mut tool, kept)?;
+    let text = text_of(alloc, &told, &tool);
+    drop(told);
+    drop(tool);
+    Ok(text?)
+}
+
+#[test]
+fn recorded_answers_are_served(rt: HostRuntime) -> Result<(), Fail> {
+    let told = told_by(rt.alloc(), FIRST, ON_NAMES, None)?;
+    is_that(
+        told.as_str(),
+        "Fresh libfoo.rlib out/libfoo.rlib library out/foo.d: foo.rs\n\nout/libfoo.rlib: foo.rs\n\nfoo.rs:\n",
+        "first",
+    )
+}
+
+#[test]
+fn kept_outputs_are_served_without_a_compile(rt: HostRuntime) -> Result<(), Fail> {
+    let kept = kept(rt.alloc())?;
+    let told = told_by(rt.alloc(), SECOND, SECOND_ON_NAMES, kept)?;
+    is_that(
+        told.as_str(),
+        "Stored libfoo.rlib out2/libfoo.rlib library out2/foo.d: foo.rs\n\nout2/libfoo.rlib: foo.rs\n\nfoo.rs:\n",
+        "second",
+    )
+}
