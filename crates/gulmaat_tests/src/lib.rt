@@ -1,6 +1,5 @@
 //! Tests of what gulmaat stands on, by example: what sources ask for, where compilers look, what is watched, states of files, lines as they were
-//! written, manifests, dependency files, variables, what is bound to keys, what is passed through, where outputs are put, and recorded answers
-//! of rustc.
+//! written, manifests, dependency files, variables, what is bound to keys, what is passed through, and where outputs are put.
 #![tactic(auto)]
 
 #[cfg(test)]
@@ -21,8 +20,6 @@ mod manifests;
 mod passing;
 #[cfg(test)]
 mod places;
-#[cfg(test)]
-mod rustc_replays;
 #[cfg(test)]
 mod searches;
 #[cfg(test)]
