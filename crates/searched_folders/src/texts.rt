@@ -87,6 +87,21 @@ fn add_all_said<'a>(
     Ok(true)
 }
 
+/// The names that words define the macros to be that stand for what a source takes in.
+fn said_for<'a>(
+    alloc: Global,
+    words: &'a [OsBytes],
+    found: &Directives<'_>,
+) -> Result<Vec<Asked<'a>>, Unwatched> {
+    let mut said = Vec::new(alloc);
+    for name in found.computed.iter() {
+        if !add_all_said(words, name, &mut said)? {
+            return Err(Unwatched::Computed);
+        }
+    }
+    Ok(said)
+}
+
 /// Adds what a macro may stand for by its definitions in these sources. False where that can't be told.
 fn add_all_defined<'a>(
     sources: &[Source<'a>],
@@ -101,18 +116,11 @@ fn add_all_defined<'a>(
     Ok(true)
 }
 
-/// Adds what a source takes in that these macros stand for: each name that sources or words define them to be. One that none defines isn't
-/// live, or nothing is made.
-fn add_computed<'a>(
-    sources: &[Source<'a>],
-    words: &'a [OsBytes],
-    found: &mut Directives<'a>,
-) -> Result<(), Unwatched> {
+/// Adds what a source takes in that these macros stand for: each name that sources define them to be. One that none defines isn't live, or
+/// nothing is made.
+fn add_computed<'a>(sources: &[Source<'a>], found: &mut Directives<'a>) -> Result<(), Unwatched> {
     for name in found.computed.iter() {
-        let is_told = !may_be_compilers(name)
-            && add_all_said(words, name, &mut found.asked)?
-            && add_all_defined(sources, name, &mut found.asked)?;
-        if !is_told {
+        if may_be_compilers(name) || !add_all_defined(sources, name, &mut found.asked)? {
             return Err(Unwatched::Computed);
         }
     }
@@ -149,12 +157,12 @@ fn search_all<R: Files + AllocGlobal>(
     rt: &R,
     source: &Source<'_>,
     list: &SearchList<'_>,
-    found: &Directives<'_>,
+    all_asked: &[Asked<'_>],
     is_input: bool,
-    watching: &mut Watching<'_>,
+    watching: &mut Watching<'_, '_>,
 ) -> Result<(), Unwatched> {
     let beside = folder_of(source.path.as_bytes());
-    for asked in found.asked.as_slice() {
+    for asked in all_asked {
         watching.search(rt, list, beside, *asked)?;
         if is_input {
             watching.look_for_precompiled(rt, list, beside, asked.name, b".gch")?;
@@ -180,7 +188,7 @@ fn search_words<R: Files + AllocGlobal>(
     rt: &R,
     list: &SearchList<'_>,
     words: &[OsBytes],
-    watching: &mut Watching<'_>,
+    watching: &mut Watching<'_, '_>,
 ) -> Result<(), Unwatched> {
     for placed in PlacedWords::of(words) {
         if let Some(name) = taken_in(placed) {
@@ -207,7 +215,7 @@ fn take_sources<'a>(
     alloc: Global,
     sources: &[Source<'a>],
     all: &[Directives<'_>],
-    watching: &mut Watching<'a>,
+    watching: &mut Watching<'_, 'a>,
 ) -> Result<(), Unwatched> {
     for (source, found) in sources.iter().zip(all.iter()) {
         watching.take_named(alloc, source.path, source.contents, found.is_once)?;
@@ -218,28 +226,30 @@ fn take_sources<'a>(
 /// Looks for all that these sources ask for, of which the first is the input.
 fn search_sources<'a, R: Files + AllocGlobal>(
     rt: &R,
-    words: &'a [OsBytes],
+    words: &[OsBytes],
     list: &SearchList<'_>,
     sources: &[Source<'a>],
     all: &mut [Directives<'a>],
-    watching: &mut Watching<'_>,
+    watching: &mut Watching<'_, '_>,
 ) -> Result<(), Unwatched> {
     let probes = probes_in(rt.alloc(), all)?;
     let mut is_input = true;
     for (source, found) in sources.iter().zip(all.iter_mut()) {
-        add_computed(sources, words, found)?;
+        add_computed(sources, found)?;
         add_all_probed(source, probes.as_slice(), found)?;
-        search_all(rt, source, list, found, is_input, watching)?;
+        let said = said_for(rt.alloc(), words, found)?;
+        search_all(rt, source, list, found.asked.as_slice(), is_input, watching)?;
+        search_all(rt, source, list, said.as_slice(), is_input, watching)?;
         is_input = false;
     }
     Ok(())
 }
 
 /// What to watch of a text that is made of these sources, of which the first is the input, by what its compiler said of where it looks.
-pub fn list_of<'a, R: Files + AllocGlobal>(
+pub fn list_of<R: Files + AllocGlobal>(
     rt: &R,
-    line: &'a CommandLine,
-    sources: &[Source<'a>],
+    line: &CommandLine,
+    sources: &[Source<'_>],
     said: &[u8],
     before: FileTime,
 ) -> Result<Vec<u8>, Unwatched> {

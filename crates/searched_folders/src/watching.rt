@@ -18,8 +18,8 @@ use std::rt::Files;
 
 /// What was looked at so far.
 #[derive(Drop)]
-pub struct Watching<'a> {
-    dir: &'a [u8],
+pub struct Watching<'d, 'a> {
+    dir: &'d [u8],
     /// Until when something must have been changed so that it's certain to have been the same since the call began.
     before: FileTime,
     /// The folders in which something was looked for; nothing where there is none.
@@ -52,9 +52,9 @@ fn above(path: &str) -> &str {
     }
 }
 
-impl<'a> Watching<'a> {
+impl<'d, 'a> Watching<'d, 'a> {
     /// Nothing was looked at for a call in that folder.
-    pub fn new(alloc: Global, dir: &'a [u8], before: FileTime) -> Watching<'a> {
+    pub fn new(alloc: Global, dir: &'d [u8], before: FileTime) -> Watching<'d, 'a> {
         Watching {
             dir,
             before,
