@@ -107,7 +107,7 @@ habits_statistics() {
         "$host" $option
         prints "$option: hits" 0 number direct_cache_hit
         is "$option: when" [ "$(number stats_zeroed_timestamp)" -gt $(($(date +%s) - 100)) ]
-        is "$option: what is kept stays" [ "$(entries_kept)" = 1 ]
+        is "$option: what is kept stays" [ "$(results_kept)" = 1 ]
     done
     counts "two letters" direct_cache_hit "$host" gcc -DCOUNT=1 -c it.c -o it.o
     is "-zs does both" grep -q "^Hits: *0 / 0\$" <("$host" -zs)
@@ -192,14 +192,14 @@ habits_keeping() {
         is "$option" [ "$(bytes_kept)" -le 200000 ]
         is "$option: what is old goes first" [ ! -e "$GULMAAT_DIR/results/00/old" ]
     done
-    before=$(entries_kept)
+    before=$(results_kept)
     find "$GULMAAT_DIR/results" -type f | head -n 1 | xargs touch -d '2 hours ago'
     for option in 3h 1d 200m 8000s; do
         "$host" --evict-older-than $option
-        is "--evict-older-than $option" [ "$(entries_kept)" = "$before" ]
+        is "--evict-older-than $option" [ "$(results_kept)" = "$before" ]
     done
     "$host" --evict-older-than 90m
-    is "--evict-older-than 90m" [ "$(entries_kept)" = $((before - 1)) ]
+    is "--evict-older-than 90m" [ "$(results_kept)" = $((before - 1)) ]
     for option in 5 d 5w -1d; do refused "--evict-older-than $option" "an age is a number" "$host" --evict-older-than $option; done
     # Another folder.
     for option in -d --dir; do
@@ -260,7 +260,7 @@ habits_settings() {
         env -u GULMAAT_DIR "$host" -k cache_dir >>found
     )
     prints "cache_dir in the user's file" "cache_dir = $PWD/third"$'\n'"$PWD/third" cat found
-    is "cache_dir in the user's file: that is where things are kept" [ -d third/entries ]
+    is "cache_dir in the user's file: that is where things are kept" [ -d third/results ]
     rm -r "$XDG_CONFIG_HOME"
 }
 
@@ -280,7 +280,7 @@ habits_umask() {
         )
         is "umask $mask: files" [ -z "$(find shared/kept -type f ! -perm "$files")" ]
         is "umask $mask: folders" [ -z "$(find shared/kept -type d ! -perm "$folders")" ]
-        is "umask $mask: something is kept" [ -n "$(find shared/kept/entries -type f)" ]
+        is "umask $mask: something is kept" [ -n "$(find shared/kept/results -type f)" ]
         is "umask $mask: the object" [ "$(stat -c %a masked.o)" = 644 ]
     done
     rm -rf shared
