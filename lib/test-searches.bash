@@ -18,8 +18,8 @@ search_call() {
     [ $status != 0 ] || is "$name: object" cmp -s plain.o it.o
     [ $status != 0 ] || is "$name: dependency file" cmp -s plain.d it.d
 }
-# Calls until one is answered by a record, then makes the change, and back: each call is as by the compiler alone. So it is where the first
-# call comes behind the change, too. In the end it is answered by a record again.
+# Calls until one is answered by a manifest, then makes the change, and back: each call is as by the compiler alone. So it is where the first
+# call comes behind the change, too. In the end it is answered by a manifest again.
 search_case() {
     local name=$1 change=$2 back=$3 turn
     shift 3
@@ -40,7 +40,7 @@ search_case() {
     search_call "$name, in the end" "$@"
     is "$name: a direct hit in the end" since 0 0 1
 }
-# There is no record for such a source, and what is made is right.
+# There is no manifest for such a source, and what is made is right.
 search_none() {
     local name=$1 turn
     shift
@@ -149,7 +149,7 @@ searches() {
     cd "$work" || return
 }
 
-# Names that aren't written, and times that are pasted: there is no record.
+# Names that aren't written, and times that are pasted: there is no manifest.
 search_names() {
     local cc=$1
     printf '#define NAME "value.h"\n#include NAME\nint value = VALUE;\n' >it.c

@@ -18,6 +18,7 @@ use host_protocol::host_error::HostError;
 use known_calls::audits::Audit;
 use known_calls::kept::{found, hint_at, hint_name, kept_under};
 use known_calls::known::{Given, Known};
+use known_options::dependencies::Dependencies;
 use os_files::listed::Listed;
 use os_files::os_bytes::OsBytes;
 use replay::kept_session::{SessionAnswer, answered, session_over};
@@ -457,34 +458,63 @@ fn ask_and_note<P: Print + Files<File = File> + AllocGlobal, I: Read>(
     end_audit(rt, line, known, end?)
 }
 
+/// What is known of a call of a compiler of that kind before anything was asked. In a box, so that no other function has to hold it.
+fn known_of(
+    alloc: Global,
+    line: &CommandLine,
+    kind: CCompilerKind,
+    takes_color: bool,
+    dependencies: Option<Dependencies>,
+) -> Result<Box<Known>, HostError> {
+    let basedirs = basedirs_of(alloc, line)?;
+    let zone = zone_of(line);
+    let known = Known::new(alloc, kind, takes_color, dependencies, zone, basedirs);
+    Ok(Box::new(alloc, known)?)
+}
+
+/// Asks the session about a request, with what is known of it.
+fn ask_with<P: Print + Files<File = File> + AllocGlobal, I: Read>(
+    rt: &P,
+    line: &CommandLine,
+    host: &mut Host<I>,
+    request: &Request,
+    known: &mut Known,
+) -> Result<End, HostError>
+    requires { host.old.compiled ≡ 0 }
+    ensures once { host.new.compiled ≤ 1 }
+{
+    let hint = hint_name(rt.alloc(), line)?;
+    ask_and_note(rt, line, host, request, hint.as_str(), known)
+}
+
 /// Asks the session about a call of a compiler of that kind, of which nothing is known yet.
 fn ask_about<P: Print + Files<File = File> + AllocGlobal, I: Read>(
     rt: &P,
     line: &CommandLine,
     host: &mut Host<I>,
     kind: CCompilerKind,
-    call: Call,
+    call: &mut Call,
 ) -> Result<End, HostError>
     requires { host.old.compiled ≡ 0 }
     ensures once { host.new.compiled ≤ 1 }
 {
-    let alloc = rt.alloc();
-    let Call {
-        request,
-        takes_color,
-        dependencies,
-    } = call;
-    let basedirs = basedirs_of(alloc, line)?;
-    let hint = hint_name(alloc, line)?;
-    let mut known = Known::new(
-        alloc,
-        kind,
-        takes_color,
-        dependencies,
-        zone_of(line),
-        basedirs,
-    );
-    ask_and_note(rt, line, host, &request, hint.as_str(), &mut known)
+    let dependencies = call.dependencies.take();
+    let mut known = known_of(rt.alloc(), line, kind, call.takes_color, dependencies)?;
+    ask_with(rt, line, host, &call.request, known.as_mut())
+}
+
+/// The call of a compiler of that kind that the command line is. In a box, so that no other function has to hold it.
+fn boxed_call<P: Print + Files<File = File> + AllocGlobal, I: Read>(
+    rt: &P,
+    line: &CommandLine,
+    host: &mut Host<I>,
+    kind: CCompilerKind,
+) -> Result<Box<Call>, HostError>
+    requires { host.old.compiled ≡ 0 }
+    ensures { host.new.compiled ≡ 0 }
+{
+    let call = call_of(rt, line, host, kind)?;
+    Ok(Box::new(rt.alloc(), call)?)
 }
 
 /// Asks the session about the command line of a compiler of that kind.
@@ -497,8 +527,8 @@ fn ask<P: Print + Files<File = File> + AllocGlobal, I: Read>(
     requires { host.old.compiled ≡ 0 }
     ensures once { host.new.compiled ≤ 1 }
 {
-    let call = call_of(rt, line, host, kind)?;
-    ask_about(rt, line, host, kind, call)
+    let mut call = boxed_call(rt, line, host, kind)?;
+    ask_about(rt, line, host, kind, call.as_mut())
 }
 
 /// Decides on the command line.
