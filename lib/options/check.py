@@ -42,7 +42,8 @@ class Known:
 
     def __init__(self):
         named = tables()
-        lists = dict(re.findall(r"const (\w+): \[&str; \d+\] = \[(.*?)\];", text_of(f"{SOURCES}/words.rt"), re.S))
+        sources = text_of(f"{SOURCES}/placed.rt") + text_of(f"{SOURCES}/words.rt")
+        lists = dict(re.findall(r"const (\w+): \[&str; \d+\] = \[(.*?)\];", sources, re.S))
         self.whole = words_of(named["WHOLE"])
         self.valued = {word.partition("=")[0] for word in words_of(named["VALUED"])}
         self.take = set(re.findall(r'"([^"]*)"', lists["TAKE_NEXT"] + lists["TAKE_KNOWN"]))
