@@ -130,10 +130,8 @@ fn named_files_are_as_they_were_or_not(rt: HostRuntime) -> Result<(), Fail> {
     for (row, are_unchanged) in DONE {
         make_fresh(&rt, folder)?;
         change(&rt, folder, "write a.h 1")?;
-        // Of a name that is too long no more can be told.
-        let long = "x".repeat(rt.alloc(), 300)?;
-        let text = format!(in rt.alloc(); "# 1 \"a.h\"\n# 1 \"none.h\"\n# 1 \"{long}\"\n")?;
-        let named = NamedFiles::of(&rt, folder.as_bytes(), text.as_bytes())?;
+        let text = b"# 1 \"a.h\"\n# 1 \"none.h\"\n";
+        let named = NamedFiles::of(&rt, folder.as_bytes(), text.as_slice())?;
         change(&rt, folder, row)?;
         holds(named.are_unchanged(&rt) == are_unchanged, row)?;
     }

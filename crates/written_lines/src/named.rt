@@ -100,8 +100,6 @@ impl NamedFile {
         match (&self.lying, lying_at(rt, &self.path)) {
             (Lying::File(before, _), Lying::File(now, _)) => State::of(before) == State::of(&now),
             (Lying::Nothing, Lying::Nothing) | (Lying::Other, Lying::Other) => true,
-            // A directive may name a file of another machine, in a folder that can't be looked into here.
-            (Lying::Unknown, Lying::Unknown) => true,
             (_, _) => false,
         }
     }
@@ -166,7 +164,7 @@ impl NamedFiles {
         }
     }
 
-    /// Whether the same lies under each path now, in the same state, or can be told as little.
+    /// Whether the same lies under each path now, in the same state. What couldn't be told doesn't.
     pub fn are_unchanged<R: Files>(&self, rt: &R) -> bool {
         self.files.iter().all(|file| file.is_unchanged(rt))
     }
