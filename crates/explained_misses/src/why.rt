@@ -13,7 +13,7 @@ use cmdlines_base::command::ArtifactDescriptor;
 use cmdlines_base::compiler_arguments::CompilerArguments;
 use cmdlines_requests::parsed::ParsedArguments;
 use compiler_id::compilers::kind_of;
-use differences::difference::Difference;
+use fingerprints::difference::Difference;
 use host_protocol::command_line::CommandLine;
 use host_protocol::host_error::HostError;
 use key_additions::additions::difference;

@@ -10,7 +10,7 @@ use Rattle.std.specs.declared.cmp.Ordering.TheVariants.{Less, Equal, Greater}
 use Rattle.std.proofs.lemmas.List.MinMax.{ranks_by}
 use Rattle.std.proofs.lemmas.List.Sorted.{sum_by-IsPermutation}
 use Rattle.std.proofs.lemmas.List.Sums.{sum_by-cons}
-use Rattle.rustc_requests.specs.Sorted.{placed_by, sorted_by}
+use Rattle.rustc_options.specs.Sorted.{placed_by, sorted_by}
 
 module _ {X : Type 0} (cmp : X → X → Ordering) where
   -- none of these is less than the item

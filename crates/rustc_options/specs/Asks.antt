@@ -5,7 +5,7 @@ use Rattle.cmdlines_base.specs.Pieces.{argument_words, flag_in}
 use Rattle.cmdlines_base.specs.declared.argument.Argument.{Argument}
 use Rattle.rustc_options.specs.Data.{word_of}
 use Rattle.rustc_options.specs.declared.data.ArgData.{ArgData}
-use Rattle.rustc_requests.specs.declared.parsed.ParsedArguments.{ParsedArguments}
+use Rattle.rustc_options.specs.declared.parsed.ParsedArguments.{ParsedArguments}
 
 -- an argument as it's printed: its flag, where it's an option, and its words
 pub record Said : Type 0 where

@@ -4,7 +4,7 @@ use Rattle.rustc_parts.specs.Formed.{AreFormed, digest_digits}
 use Rattle.rustc_parts.specs.Material.{material_of}
 use Rattle.rustc_parts.specs.Shapes.{shape_of}
 use Rattle.rustc_parts.specs.declared.parts.Parts.{Parts}
-use Rattle.rustkeys_uses.specs.declared.recorded_keys.RecordedKey.{RecordedKey}
+use Rattle.wrap_uses.specs.declared.recorded_keys.RecordedKey.{RecordedKey}
 
 -- these pieces, whose digests and variables are as a request's are, have the key's bytes and shape
 pub record IsKeyOf (key : RecordedKey) (parts : Parts) : Type 0 where

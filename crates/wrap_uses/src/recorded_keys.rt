@@ -1,7 +1,7 @@
 //! Keys of rustc's requests that were recorded, and the pieces that they are of.
 
 ghost use Rattle.std.specs.Prelude.{IfOk};
-ghost use Rattle.rustkeys_uses.specs.RecordedKeys.{IsReadAs};
+ghost use Rattle.wrap_uses.specs.RecordedKeys.{IsReadAs};
 
 use os_files::os_bytes::OsBytes;
 use rustc_parts::parts::{Parts, RShape};

@@ -3,11 +3,11 @@
 ghost use Rattle.std.specs.Prelude.{◌≡◌, slice_get};
 ghost use Rattle.std.specs.Option.{option_copied};
 
+use crate::c_parts::CParts;
+use crate::explain::explain;
+use crate::fingerprint::Fingerprint;
+use crate::part::Part;
 use ckeys_records::output_name::OutputName;
-use fingerprints::c_parts::CParts;
-use fingerprints::explain::explain;
-use fingerprints::fingerprint::Fingerprint;
-use fingerprints::part::Part;
 use os_files::lossy::Lossy;
 use os_files::os_bytes::OsBytes;
 use rustc_parts::parts::{EnvDep, Parts};
