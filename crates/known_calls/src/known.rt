@@ -312,7 +312,7 @@ impl Known {
             return Ok(OsBytes::empty(alloc));
         }
         self.named.read(rt);
-        digest_asked(alloc, asked, text, Sources::of(alloc, &self.named)?)
+        digest_asked(alloc, asked, text, Sources::of(alloc, &mut self.named)?)
     }
 
     /// The digest of all files that the text names; nothing where a line may be of another file than a marker says.
@@ -321,7 +321,7 @@ impl Known {
         rt: &R,
     ) -> Result<Option<OsBytes>, HostError> {
         self.named.read(rt);
-        let sources = Sources::of(rt.alloc(), &self.named)?;
+        let sources = Sources::of(rt.alloc(), &mut self.named)?;
         if sources.are_renumbered() {
             return Ok(None);
         }
