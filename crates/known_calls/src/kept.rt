@@ -10,6 +10,7 @@ use cache_files::results::{Kept, entry_of, kept_of};
 use cache_format::kept_result::KeptMessages;
 use cache_format::sealed::{read_result, result_bytes};
 use host_protocol::command_line::CommandLine;
+use host_protocol::digests::LETTERS;
 use host_protocol::fields::into_text;
 use host_protocol::host_error::HostError;
 use os_files::os_bytes::OsBytes;
@@ -17,9 +18,6 @@ use settings::key::Key;
 use std::alloc::Global;
 use std::rt::Files;
 use wrap::{Output, StoreKey};
-
-/// How many bytes the digest of a key has.
-const DIGEST: usize = 64;
 
 /// What a command line had last: the digest of its key, and the name of its manifest, where it had one.
 #[derive(Drop)]
@@ -72,10 +70,10 @@ pub fn hint_at<R: Files + AllocGlobal>(
     let Ok(bytes) = line.folder.read(rt, Kind::Hints, hint) else {
         return Ok(None);
     };
-    if bytes.len() < DIGEST {
+    if bytes.len() < LETTERS {
         return Ok(None);
     }
-    let (digest, name) = bytes.as_slice().split_at(DIGEST);
+    let (digest, name) = bytes.as_slice().split_at(LETTERS);
     let Ok(name) = str::from_utf8(name) else {
         return Ok(None);
     };
