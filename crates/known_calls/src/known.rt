@@ -81,6 +81,8 @@ pub struct Known {
     loaded: Option<OsBytes>,
     /// The files that the text names, once it was printed, or an input that is compiled as it stands.
     pub(crate) named: NamedFiles,
+    /// Whether these were found to be as they were, behind the compile where one ran.
+    pub(crate) are_unchanged: bool,
     /// The files of the text, as the compiler lists them for a dependency file; nothing where none is asked for.
     list: OsBytes,
     /// The dependency file that the compile wrote.
@@ -119,6 +121,7 @@ impl Known {
             audited: None,
             loaded: None,
             named: NamedFiles::new(alloc),
+            are_unchanged: false,
             list: OsBytes::empty(alloc),
             written: None,
             preprocessor: OsBytes::empty(alloc),
@@ -421,6 +424,7 @@ impl Known {
         let locks = lock_paths(rt, line, paths, self.dependency_file())?;
         let before = states_of(rt, paths)?;
         let ended = host.compile(rt, rt.alloc(), own.as_slice())?;
+        self.are_unchanged = false;
         self.printed = printed_at(rt, &ended, line.printed.as_str())?;
         self.errors = printed_at(rt, &ended, line.errors.as_str())?;
         let contents = made_since(rt, paths, before.as_slice())?;
@@ -460,7 +464,8 @@ impl Known {
 
     /// Refuses what was made where a file that the text names, or an input that is compiled as it stands, was changed meanwhile.
     pub(crate) fn check_sources<R: Files + AllocGlobal>(&self, rt: &R) -> Result<(), HostError> {
-        match self.named.are_unchanged(rt) && self.has_loaded_input(rt) {
+        let are_unchanged = self.are_unchanged || self.named.are_unchanged(rt);
+        match are_unchanged && self.has_loaded_input(rt) {
             true => Ok(()),
             false => Err(HostError::Changed),
         }

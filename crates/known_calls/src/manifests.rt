@@ -190,11 +190,11 @@ impl Known {
     }
 
     /// The regular files that the text names, of which the first is the input.
-    fn sources<R: Files + AllocGlobal>(&self, rt: &R) -> Result<Vec<Source<'_>>, Unwatched> {
+    fn sources(&self, alloc: Global) -> Result<Vec<Source<'_>>, Unwatched> {
         if !self.named.are_all {
             return Err(Unwatched::Computed);
         }
-        let mut sources = Vec::new(rt.alloc());
+        let mut sources = Vec::new(alloc);
         for file in self.named.files.iter() {
             let Ok(path) = str::from_utf8(file.path.as_bytes()) else {
                 return Err(Unwatched::Path);
@@ -204,10 +204,7 @@ impl Known {
                 sources.push(Source { path, contents })?;
             }
         }
-        match self.named.are_unchanged(rt) {
-            true => Ok(sources),
-            false => Err(Unwatched::Changed),
-        }
+        Ok(sources)
     }
 
     /// What to watch of the text that was printed. The compiler runs where it didn't say yet where it looks.
@@ -228,7 +225,11 @@ impl Known {
         };
         let before = settled_before(line.moment);
         self.named.read(rt);
-        let sources = self.sources(rt)?;
+        self.are_unchanged = self.named.are_unchanged(rt);
+        if !self.are_unchanged {
+            return Err(Unwatched::Changed);
+        }
+        let sources = self.sources(rt.alloc())?;
         let said = said_of(rt, line, host, language, before)?;
         list_of(rt, line, sources.as_slice(), said.as_slice(), before)
     }
