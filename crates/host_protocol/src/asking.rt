@@ -49,9 +49,10 @@ pub fn messages_of<P: Print + Files + AllocGlobal, I: Read>(
 ) -> Result<Said, HostError>
     ensures { host.new.compiled ≡ host.old.compiled }
 {
-    let status = host.preprocess(rt, rt.alloc(), words)?.status;
+    let ended = host.preprocess(rt, rt.alloc(), words)?;
     let messages = read_whole(rt, line.errors.as_str())?;
     // The host prints what it finds there.
     fs::write(rt, line.errors.as_str(), b"")?;
+    let status = ended.status;
     Ok(Said { status, messages })
 }

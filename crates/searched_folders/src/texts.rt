@@ -231,7 +231,7 @@ fn take_sources<'a>(
 /// Looks for all that these sources ask for, of which the first is the input.
 fn search_sources<'a, R: Files + AllocGlobal>(
     rt: &R,
-    words: &'a [OsBytes],
+    words: &[OsBytes],
     list: &SearchList<'_>,
     sources: &[Source<'a>],
     all: &mut [Directives<'a>],
@@ -239,6 +239,7 @@ fn search_sources<'a, R: Files + AllocGlobal>(
 ) -> Result<(), Unwatched> {
     let probes = probes_in(rt.alloc(), all)?;
     let mut bracketed = HashSet::new(rt.alloc());
+    let mut said_bracketed = HashSet::new(rt.alloc());
     let mut is_input = true;
     for (source, found) in sources.iter().zip(all.iter_mut()) {
         add_computed(sources, found)?;
@@ -247,17 +248,25 @@ fn search_sources<'a, R: Files + AllocGlobal>(
         let asked = found.asked.as_slice();
         search_all(rt, source, list, asked, is_input, &mut bracketed, watching)?;
         let asked = said.as_slice();
-        search_all(rt, source, list, asked, is_input, &mut bracketed, watching)?;
+        search_all(
+            rt,
+            source,
+            list,
+            asked,
+            is_input,
+            &mut said_bracketed,
+            watching,
+        )?;
         is_input = false;
     }
     Ok(())
 }
 
 /// What to watch of a text that is made of these sources, of which the first is the input, by what its compiler said of where it looks.
-pub fn list_of<'a, R: Files + AllocGlobal>(
+pub fn list_of<R: Files + AllocGlobal>(
     rt: &R,
-    line: &'a CommandLine,
-    sources: &[Source<'a>],
+    line: &CommandLine,
+    sources: &[Source<'_>],
     said: &[u8],
     before: FileTime,
 ) -> Result<Vec<u8>, Unwatched> {

@@ -46,12 +46,12 @@ impl<'a> Source<'a> {
     }
 
     /// The line of that number, of which the first is 1, without its end; an empty one where there is none.
-    pub fn line(&self, number: usize) -> &[u8] {
+    pub fn line(&self, number: usize) -> &'a [u8] {
         self.lines(number, number.saturating_add(1))
     }
 
     /// The lines from that number up to another one, without the last one's end.
-    pub fn lines(&self, from: usize, to: usize) -> &[u8] {
+    pub fn lines(&self, from: usize, to: usize) -> &'a [u8] {
         let (Some(first), Some(end)) = (self.begin(from), self.end_before(to)) else {
             return &[];
         };
