@@ -22,6 +22,8 @@ use known_options::dependencies::Dependencies;
 use os_files::listed::Listed;
 use os_files::os_bytes::OsBytes;
 use replay::kept_session::{SessionAnswer, answered, session_over};
+use rustc_calls::deciding::{RustcEnd, decide_on_rustc};
+use rustc_id::rustc::is_rustc;
 use searched_folders::unwatched::Unwatched;
 use settings::key::Key;
 use source_files::outputs::have_plain_places;
@@ -54,6 +56,18 @@ impl End {
     fn pass(reason: String) -> End {
         End {
             what: What::Pass(reason),
+            audit: Audit::None,
+        }
+    }
+
+    /// What a call of rustc came to.
+    fn of_rustc(end: RustcEnd) -> End {
+        let what = match end {
+            RustcEnd::Done(how) => What::Done(how, None),
+            RustcEnd::Pass(reason) => What::Pass(reason),
+        };
+        End {
+            what,
             audit: Audit::None,
         }
     }
@@ -543,6 +557,9 @@ pub fn decide<P: Print + Files<File = File> + AllocGlobal, I: Read>(
 {
     if line.settings.is_on(Key::Disable) {
         return pass(rt.alloc(), "pass: disabled");
+    }
+    if is_rustc(line) {
+        return Ok(End::of_rustc(decide_on_rustc(rt, line, host)?));
     }
     if let Some(reason) = reason_against(rt.alloc(), line)? {
         return Ok(End::pass(format!(in rt.alloc(); "pass: {reason}")?));
