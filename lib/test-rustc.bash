@@ -168,6 +168,34 @@ rustc_places() {
     rm -rf out && mkdir out
 }
 
+# Whether --why says this of a command to rustc.
+why_is() {
+    local name=$1 wanted=$2 said
+    shift 2
+    said=$("$host" --why "$rustc" "$@" 2>&1)
+    is "rustc, why, $name: $said" [ "$said" = "$wanted" ]
+}
+
+rustc_why() {
+    local json="--error-format=json --json=artifacts" it
+    it="$json --crate-name why why.rs --crate-type lib --out-dir out --emit=dep-info,link"
+    printf 'mod part;\npub const A: Option<&str> = option_env!("GREETING");\n' >why.rs
+    printf 'pub fn f() {}\n' >part.rs
+    why_is "before" "why: nothing is known" $it
+    "$host" "$rustc" $it 2>/dev/null
+    why_is "the first call" "why: the first call that was compiled" $it
+    printf 'pub fn g() {}\n' >part.rs
+    "$host" "$rustc" $it 2>/dev/null
+    why_is "a source" "why: file $PWD/part.rs" $it
+    CARGO_PKG_VERSION=2 "$host" "$rustc" $it 2>/dev/null
+    why_is "a variable" "why: CARGO_PKG_VERSION: 2, earlier none" $it
+    "$host" "$rustc" $it -C opt-level=1 2>/dev/null
+    "$host" "$rustc" $it -C opt-level=2 2>/dev/null
+    why_is "a word" "why: word 11: opt-level=2, earlier opt-level=1" $it -C opt-level=2
+    why_is "a program" "pass: crate-type: bin" --crate-name main --crate-type bin main.rs --emit=link --out-dir out
+    rm -f out/*why*
+}
+
 # By rustup's proxy, with a toolchain among the words, and by a link.
 rustc_proxies() {
     local proxy
@@ -212,6 +240,7 @@ END
     rustc_words
     rustc_changes
     rustc_places
+    rustc_why
     rustc_proxies
     cd "$work" || return
 }

@@ -23,7 +23,7 @@ use os_files::listed::Listed;
 use os_files::os_bytes::OsBytes;
 use replay::kept_session::{SessionAnswer, answered, session_over};
 use rustc_calls::deciding::{RustcEnd, decide_on_rustc};
-use rustc_id::rustc::is_rustc;
+use rustc_id::rustc::is_named_rustc;
 use searched_folders::unwatched::Unwatched;
 use settings::key::Key;
 use source_files::outputs::have_plain_places;
@@ -558,7 +558,7 @@ pub fn decide<P: Print + Files<File = File> + AllocGlobal, I: Read>(
     if line.settings.is_on(Key::Disable) {
         return pass(rt.alloc(), "pass: disabled");
     }
-    if is_rustc(line) {
+    if is_named_rustc(line.executable.as_str()) {
         return Ok(End::of_rustc(decide_on_rustc(rt, line, host)?));
     }
     if let Some(reason) = reason_against(rt.alloc(), line)? {

@@ -194,22 +194,27 @@ pub(crate) fn additions_of<R: Files + AllocGlobal>(
     Ok(additions)
 }
 
-/// The variables that the session is told: those that it hashes, and the one that stands for all additions.
-pub(crate) fn env_of(
+/// The variables of a call that the session is told: those that it hashes.
+pub(crate) fn variables_of(
     alloc: Global,
     line: &CommandLine,
-    additions: &Additions,
 ) -> Result<Listed<(OsBytes, OsBytes)>, HostError> {
     let mut env = Listed::new(alloc);
     for (name, value) in line.env.as_slice() {
-        let name_bytes = name.as_bytes();
-        if name_bytes.starts_with(b"CARGO_") && !name_bytes.starts_with(OWN.as_bytes()) {
+        let bytes = name.as_bytes();
+        if bytes.starts_with(b"CARGO_") && !bytes.starts_with(OWN.as_bytes()) {
             env.push((name.clone()?, value.clone()?))?;
         }
     }
-    // The session takes text alone, so it is told their digest.
+    Ok(env)
+}
+
+/// The variable that stands for all additions. The session takes text alone, so it is told their digest.
+pub(crate) fn variable_of(
+    alloc: Global,
+    additions: &Additions,
+) -> Result<(OsBytes, OsBytes), HostError> {
     let digest = digest_of(alloc, additions.variable(alloc)?.1.as_bytes())?;
     let name = OsBytes::from_slice(alloc, VARIABLE.as_bytes())?;
-    env.push((name, OsBytes::from_vec(digest.into_bytes())))?;
-    Ok(env)
+    Ok((name, OsBytes::from_vec(digest.into_bytes())))
 }

@@ -2,9 +2,10 @@
 
 ghost use Rattle.std.specs.Prelude.{◌≡◌, ◌≤◌};
 
-use crate::additions::{additions_of, env_of};
+use crate::additions::{additions_of, variable_of, variables_of};
 use crate::finishing::{give, keep_made};
 use crate::known::KnownCrate;
+use crate::parts::PartRows;
 use crate::passing::reason_against;
 use crate::results::{FoundCrate, found};
 use blake2::Blake2b256;
@@ -13,6 +14,7 @@ use host_protocol::command_line::CommandLine;
 use host_protocol::fields::into_text;
 use host_protocol::host::Host;
 use host_protocol::host_error::HostError;
+use key_additions::additions::Additions;
 use replay::kept_session::{SessionAnswer, answered, session_over};
 use response_files::fault::ParseFault;
 use rustc_id::asking::toolchain_word;
@@ -103,6 +105,30 @@ fn copies(alloc: Global, words: &[OsBytes]) -> Result<Listed<OsBytes>, HostError
     Ok(copies)
 }
 
+/// Notes of what the key of a request is made, but for its files.
+fn note_request(
+    alloc: Global,
+    rust: &Rust,
+    words: &[OsBytes],
+    env: &[(OsBytes, OsBytes)],
+    additions: &Additions,
+    parts: &mut PartRows,
+) -> Result<(), HostError> {
+    for digest in rust.toolchain_digests() {
+        parts.add(alloc, "toolchain", digest.as_bytes())?;
+    }
+    for (number, word) in words.iter().enumerate() {
+        let name = format!(in alloc; "word {}", number.saturating_add(1))?;
+        parts.add(alloc, name.as_str(), word.as_bytes())?;
+    }
+    parts.add_all(additions.again(alloc)?)?;
+    for (name, value) in env {
+        let name = format!(in alloc; "{name}")?;
+        parts.add(alloc, name.as_str(), value.as_bytes())?;
+    }
+    Ok(())
+}
+
 /// The request of a call to that rustc, whose crates are loaded. In a box, so that no other function has to hold it.
 fn request_of<R: Files + AllocGlobal>(
     rt: &R,
@@ -113,11 +139,21 @@ fn request_of<R: Files + AllocGlobal>(
     let alloc = rt.alloc();
     let words = words_of(line);
     let additions = additions_of(rt, line, words, &mut known.files)?;
+    let mut env = variables_of(alloc, line)?;
+    note_request(
+        alloc,
+        &rust,
+        words,
+        env.as_slice(),
+        &additions,
+        &mut known.parts,
+    )?;
+    env.push(variable_of(alloc, &additions)?)?;
     let request = Request {
         compiler: Compiler::Rust(rust),
         words: copies(alloc, words)?,
         dir: line.dir.clone()?,
-        env: env_of(alloc, line, &additions)?,
+        env,
         moment: line.second(),
     };
     Ok(Box::new(alloc, request)?)
@@ -196,7 +232,7 @@ fn act_on_outputs<P: Files<File = File> + AllocGlobal>(
     rt: &P,
     line: &CommandLine,
     answered: &SessionAnswer<Blake2b256>,
-    known: &KnownCrate,
+    known: &mut KnownCrate,
 ) -> Result<Option<RustcEnd>, HostError> {
     let Ok(Answer::Outputs { map, how, dep_info }) = &answered.answer else {
         return Ok(None);
@@ -206,6 +242,8 @@ fn act_on_outputs<P: Files<File = File> + AllocGlobal>(
     let dep_info = dep_info.as_ref();
     if *how == How::Fresh {
         keep_made(rt, line, key, outputs, dep_info, known)?;
+        // What was made is there, whatever becomes of this.
+        let _ = known.note_parts(rt, line);
     } else if !give(rt, line, key, outputs, dep_info, known)? {
         return Ok(Some(pass(rt.alloc(), "output is no plain file", None)?));
     }

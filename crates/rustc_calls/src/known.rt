@@ -1,5 +1,6 @@
 //! What is known of a call of rustc, more from attempt to attempt.
 
+use crate::parts::{PartRows, name_of_parts, note_parts};
 use crate::results::{FoundCrate, Wishes};
 use disk_files::found::State;
 use host_protocol::command_line::CommandLine;
@@ -15,7 +16,7 @@ use source_files::tokens::{Tokens, token_of};
 use std::alloc::Global;
 use std::fs;
 use std::rt::Files;
-use wrap::{FileTime, Metadata, OsBytes};
+use wrap::{FileTime, Files as CallFiles, Metadata, OsBytes};
 
 /// Files and answers that are known so far.
 #[derive(Drop)]
@@ -43,6 +44,9 @@ pub(crate) struct KnownCrate {
     folder: OsBytes,
     /// How wide the terminal is, as a word tells it.
     width: OsBytes,
+    /// Of what the key is made, and the name under which that lies of the call before this one.
+    pub(crate) parts: PartRows,
+    parts_name: String,
     /// Where the text on dependencies goes, where one is asked for.
     pub(crate) dep_info: Option<OsBytes>,
 }
@@ -94,6 +98,8 @@ impl KnownCrate {
             states: Vec::new(alloc),
             folder: OsBytes::empty(alloc),
             width: OsBytes::empty(alloc),
+            parts: PartRows::new(alloc),
+            parts_name: String::new(alloc),
             dep_info: None,
         }
     }
@@ -108,6 +114,7 @@ impl KnownCrate {
     ) -> Result<(), HostError> {
         self.folder = parsed.output_dir.clone()?;
         self.width = OsBytes::from_slice(alloc, width_in(words))?;
+        self.parts_name = name_of_parts(alloc, line.dir.as_bytes(), parsed)?;
         if let Some(name) = &parsed.dep_info {
             let folder = join(alloc, line.dir.as_bytes(), self.folder.as_bytes())?;
             self.dep_info = Some(join(alloc, folder.as_bytes(), name.as_bytes())?);
@@ -249,6 +256,22 @@ impl KnownCrate {
             self.load_crate(rt, line, path)?;
         }
         Ok(())
+    }
+
+    /// Notes of what the key was made, for whoever asks why the call was compiled.
+    pub(crate) fn note_parts<R: Files + AllocGlobal>(
+        &mut self,
+        rt: &R,
+        line: &CommandLine,
+    ) -> Result<(), HostError> {
+        let alloc = rt.alloc();
+        for (path, _) in self.states.iter() {
+            if let Ok(Some(token)) = self.files.read(alloc, path) {
+                let name = format!(in alloc; "file {path}")?;
+                self.parts.add(alloc, name.as_str(), token.as_bytes())?;
+            }
+        }
+        note_parts(rt, &line.folder, self.parts_name.as_str(), &self.parts)
     }
 
     /// Whether all files that were loaded are as they were.

@@ -8,6 +8,8 @@ mod finishing;
 mod known;
 mod manifests;
 mod messages;
+mod parts;
 mod passing;
 mod questions;
 mod results;
+pub mod why;

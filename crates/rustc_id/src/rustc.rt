@@ -19,9 +19,9 @@ use std::io::Read;
 use std::rt::Files;
 use wrap::{FileTime, Listed, Metadata, OsBytes, Rust, RustFault};
 
-/// Whether the executable is called as rustc is.
-pub fn is_rustc(line: &CommandLine) -> bool {
-    file_name(line.executable.as_bytes()) == Some(b"rustc".as_slice())
+/// Whether a file is called as rustc is.
+pub fn is_named_rustc(path: &str) -> bool {
+    file_name(path.as_bytes()) == Some(b"rustc".as_slice())
 }
 
 /// The text without the end of its line.

@@ -43,7 +43,7 @@ pub const GENERATION: [&str; 2] = ["-C", "--codegen"];
 
 /// What an option of code generation may be. `incremental` and `profile-use` are the session's: it passes such a call through, or reads the
 /// profile.
-pub const CODEGEN: [&str; 48] = [
+pub const CODEGEN: [&str; 47] = [
     "ar",
     "code-model",
     "codegen-units",
@@ -70,7 +70,6 @@ pub const CODEGEN: [&str; 48] = [
     "linker-plugin-lto",
     "lto",
     "metadata",
-    "no-prepopulate-passes",
     "no-redzone",
     "no-stack-check",
     "no-vectorize-loops",
