@@ -1,6 +1,6 @@
 //! Whole values, behind the version of their layout and with the digest of their bytes at the end.
 
-ghost use Rattle.std.specs.Prelude.{◌≡◌, IfOk, IfSome, OnOk, Some};
+ghost use Rattle.std.specs.Prelude.{◌≡◌, ℕ, IfOk, IfSome, OnOk, Some};
 ghost use Rattle.byte_formats.specs.Reading.{Gives};
 ghost use Rattle.cache_format.specs.Sealed.{fields_at, sealed_bytes, whole_at};
 
@@ -17,22 +17,32 @@ use std::alloc::{AllocError, Global};
 pub trait Sealed: Field {
     /// The version of its layout, which the file begins with.
     const VERSION: u8;
+
+    ghost VERSION: { ℕ };
 }
 
 impl Sealed for KeptResult {
     const VERSION: u8 = 4;
+
+    ghost VERSION = { 4 };
 }
 
 impl Sealed for KeptManifest {
     const VERSION: u8 = 3;
+
+    ghost VERSION = { 3 };
 }
 
 impl Sealed for KeptParts {
     const VERSION: u8 = 2;
+
+    ghost VERSION = { 2 };
 }
 
 impl Sealed for KeptCrate {
     const VERSION: u8 = 1;
+
+    ghost VERSION = { 1 };
 }
 
 /// The digest of these bytes.

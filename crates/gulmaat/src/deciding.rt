@@ -22,7 +22,7 @@ use known_options::dependencies::Dependencies;
 use os_files::listed::Listed;
 use os_files::os_bytes::OsBytes;
 use replay::kept_session::{SessionAnswer, answered, session_over};
-use rustc_calls::deciding::{RustcEnd, decide_on_rustc};
+use rustc_calls::deciding::{RustcEnd, RustcWhat, decide_on_rustc};
 use rustc_id::rustc::is_named_rustc;
 use searched_folders::unwatched::Unwatched;
 use settings::key::Key;
@@ -62,14 +62,12 @@ impl End {
 
     /// What a call of rustc came to.
     fn of_rustc(end: RustcEnd) -> End {
-        let what = match end {
-            RustcEnd::Done(how) => What::Done(how, None),
-            RustcEnd::Pass(reason) => What::Pass(reason),
+        let RustcEnd { what, audit } = end;
+        let what = match what {
+            RustcWhat::Done(how) => What::Done(how, None),
+            RustcWhat::Pass(reason) => What::Pass(reason),
         };
-        End {
-            what,
-            audit: Audit::None,
-        }
+        End { what, audit }
     }
 }
 

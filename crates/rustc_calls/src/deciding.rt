@@ -2,12 +2,8 @@
 
 ghost use Rattle.std.specs.Prelude.{◌≡◌, ◌≤◌};
 
-use crate::additions::{additions_of, variable_of, variables_of};
 use crate::finishing::{give, keep_made};
 use crate::known::KnownCrate;
-use crate::parts::PartRows;
-use crate::passing::reason_against;
-use crate::results::{FoundCrate, found};
 use blake2::Blake2b256;
 use cmdlines_base::compiler_arguments::CompilerArguments;
 use host_protocol::command_line::CommandLine;
@@ -15,10 +11,15 @@ use host_protocol::fields::into_text;
 use host_protocol::host::Host;
 use host_protocol::host_error::HostError;
 use key_additions::additions::Additions;
+use known_calls::audits::Audit;
 use replay::kept_session::{SessionAnswer, answered, session_over};
 use response_files::fault::ParseFault;
+use rustc_call_requests::additions::{additions_of, variable_of, variables_of};
+use rustc_call_requests::passing::reason_against;
 use rustc_id::asking::toolchain_word;
 use rustc_id::rustc::rustc_at;
+use rustc_kept::parts::PartRows;
+use rustc_kept::results::{FoundCrate, found};
 use rustc_options::parsed::ParsedArguments;
 use rustkeys_base::parse::parse_arguments;
 use std::alloc::Global;
@@ -26,15 +27,32 @@ use std::fs::File;
 use std::io::Read;
 use std::rt::Files;
 use wrap::{
-    Answer, Compiler, Config, ConfigError, Fault, How, Listed, OsBytes, Request, Rust, Step,
-    StoreKey, Zone,
+    Answer, Compiler, Config, ConfigError, Fault, How, Listed, OsBytes, Output, Request, Rust,
+    Step, StoreKey, Zone,
 };
 
 /// What a call came to: the outputs are there, or rustc is to run, or its status is the answer where it ran, and why.
 #[derive(Drop)]
-pub enum RustcEnd {
+pub enum RustcWhat {
     Done(How),
     Pass(String),
+}
+
+/// What a call came to, and what comparing showed where it was a hit that was compiled too.
+#[derive(Drop)]
+pub struct RustcEnd {
+    pub what: RustcWhat,
+    pub audit: Audit,
+}
+
+impl RustcEnd {
+    /// A pass for that reason.
+    fn pass(reason: String) -> RustcEnd {
+        RustcEnd {
+            what: RustcWhat::Pass(reason),
+            audit: Audit::None,
+        }
+    }
 }
 
 /// How often a session is asked, each time with more that is known.
@@ -75,7 +93,7 @@ fn pass(alloc: Global, reason: &str, more: Option<String>) -> Result<RustcEnd, H
         Some(more) => format!(in alloc; "pass: {reason}: {}", more.as_str())?,
         None => format!(in alloc; "pass: {reason}")?,
     };
-    Ok(RustcEnd::Pass(told))
+    Ok(RustcEnd::pass(told))
 }
 
 /// The target that a word names.
@@ -227,7 +245,52 @@ fn find_out<P: Print + Files<File = File> + AllocGlobal, I: Read>(
     }
 }
 
-/// Acts on outputs with which the session answered.
+/// Gives outputs that were kept. None where they are to be compiled too, and are a miss from now on.
+fn act_on_hit<P: Files<File = File> + AllocGlobal>(
+    rt: &P,
+    line: &CommandLine,
+    key: &StoreKey,
+    how: How,
+    outputs: &[Output],
+    dep_info: Option<&OsBytes>,
+    known: &mut KnownCrate,
+) -> Result<Option<RustcEnd>, HostError> {
+    if known.is_to_audit(rt.alloc(), line, key, how, outputs, dep_info)? {
+        return Ok(None);
+    }
+    if !give(rt, line, key, outputs, dep_info, known)? {
+        return Ok(Some(pass(rt.alloc(), "output is no plain file", None)?));
+    }
+    Ok(Some(RustcEnd {
+        what: RustcWhat::Done(how),
+        audit: Audit::None,
+    }))
+}
+
+/// Keeps outputs that were made, unless they were made in the place of a hit, with which they are compared.
+fn act_on_fresh<P: Files<File = File> + AllocGlobal>(
+    rt: &P,
+    line: &CommandLine,
+    key: &StoreKey,
+    outputs: &[Output],
+    dep_info: Option<&OsBytes>,
+    known: &mut KnownCrate,
+) -> Result<Option<RustcEnd>, HostError> {
+    let audit = known.compare(rt, line, outputs)?;
+    let how = match (&audit, &known.audited) {
+        (Audit::Alike, Some(audited)) => audited.how,
+        (_, _) => How::Fresh,
+    };
+    if known.audited.is_none() {
+        keep_made(rt, line, key, outputs, dep_info, known)?;
+        // What was made is there, whatever becomes of this.
+        let _ = known.note_parts(rt, line);
+    }
+    let what = RustcWhat::Done(how);
+    Ok(Some(RustcEnd { what, audit }))
+}
+
+/// Acts on outputs with which the session answered. None where they are compiled too.
 fn act_on_outputs<P: Files<File = File> + AllocGlobal>(
     rt: &P,
     line: &CommandLine,
@@ -237,17 +300,32 @@ fn act_on_outputs<P: Files<File = File> + AllocGlobal>(
     let Ok(Answer::Outputs { map, how, dep_info }) = &answered.answer else {
         return Ok(None);
     };
-    let key = answered.session.objects().asked();
+    let Some(key) = answered.session.objects().asked() else {
+        return Err(HostError::Unreadable);
+    };
     let outputs = map.as_slice();
     let dep_info = dep_info.as_ref();
-    if *how == How::Fresh {
-        keep_made(rt, line, key, outputs, dep_info, known)?;
-        // What was made is there, whatever becomes of this.
-        let _ = known.note_parts(rt, line);
-    } else if !give(rt, line, key, outputs, dep_info, known)? {
-        return Ok(Some(pass(rt.alloc(), "output is no plain file", None)?));
+    match how {
+        How::Fresh => act_on_fresh(rt, line, key, outputs, dep_info, known),
+        _ => act_on_hit(rt, line, key, *how, outputs, dep_info, known),
     }
-    Ok(Some(RustcEnd::Done(*how)))
+}
+
+/// Ends the comparison of a hit where the compile in its place failed.
+fn end_audit<R: Files<File = File> + AllocGlobal>(
+    rt: &R,
+    line: &CommandLine,
+    known: &KnownCrate,
+    end: RustcEnd,
+) -> Result<RustcEnd, HostError> {
+    let RustcEnd { what, audit } = end;
+    let audit = match &what {
+        RustcWhat::Pass(_) if known.audited.is_some() => {
+            known.differs(rt, line, String::from_str(rt.alloc(), "status")?)?
+        }
+        _ => audit,
+    };
+    Ok(RustcEnd { what, audit })
 }
 
 /// Acts on what the session answered. None where more is known then.
@@ -266,13 +344,13 @@ fn act_on<P: Print + Files<File = File> + AllocGlobal, I: Read>(
     match &answered.answer {
         Ok(Answer::Outputs { .. }) => act_on_outputs(rt, line, answered, known),
         Ok(Answer::Pass(reason)) => {
-            Ok(Some(RustcEnd::Pass(format!(in alloc; "pass: {reason}")?)))
+            Ok(Some(RustcEnd::pass(format!(in alloc; "pass: {reason}")?)))
         }
         Err(fault) => {
             if find_out(rt, line, host, request, fault, answered, known)? {
                 return Ok(None);
             }
-            Ok(Some(RustcEnd::Pass(format!(in alloc; "fault: {fault}")?)))
+            Ok(Some(RustcEnd::pass(format!(in alloc; "fault: {fault}")?)))
         }
     }
 }
@@ -297,7 +375,7 @@ fn ask_until<P: Print + Files<File = File> + AllocGlobal, I: Read>(
             return Ok(end);
         }
     }
-    Ok(RustcEnd::Pass(String::from_str(rt.alloc(), "fault: too many attempts")?))
+    Ok(RustcEnd::pass(String::from_str(rt.alloc(), "fault: too many attempts")?))
 }
 
 /// Asks the session about a call whose words come to that.
@@ -319,7 +397,8 @@ fn ask_about<P: Print + Files<File = File> + AllocGlobal, I: Read>(
     known.load_crates(rt, line, parsed)?;
     let mut request = request_of(rt, line, rust, known)?;
     known.learn_sources(rt, line, host, request.as_mut(), parsed)?;
-    ask_until(rt, line, host, request.as_ref(), known)
+    let end = ask_until(rt, line, host, request.as_ref(), known)?;
+    end_audit(rt, line, known, end)
 }
 
 /// Decides on a command line of rustc.

@@ -1,8 +1,6 @@
 //! The end of a call of rustc: what was made is kept, and what was kept is given, with what was printed beside it.
 
 use crate::known::KnownCrate;
-use crate::passing::has_json;
-use crate::results::keep;
 use cache_dir::folder::Kind;
 use cache_dir::making_room::make_room;
 use host_protocol::command_line::CommandLine;
@@ -10,6 +8,8 @@ use host_protocol::fields::text_in;
 use host_protocol::host_error::HostError;
 use known_calls::outputs::lock_paths;
 use os_files::path::join;
+use rustc_call_requests::passing::has_json;
+use rustc_kept::results::keep;
 use std::alloc::Global;
 use std::fs;
 use std::fs::File;
@@ -94,7 +94,7 @@ fn have_places<R: Files>(
 pub(crate) fn give<R: Files<File = File> + AllocGlobal>(
     rt: &R,
     line: &CommandLine,
-    key: Option<&StoreKey>,
+    key: &StoreKey,
     outputs: &[Output],
     dep_info: Option<&OsBytes>,
     known: &KnownCrate,
@@ -113,10 +113,8 @@ pub(crate) fn give<R: Files<File = File> + AllocGlobal>(
     if let Some(found) = &known.found_errors {
         fs::write(rt, line.errors.as_str(), found.as_bytes())?;
     }
-    if let Some(key) = key {
-        let name = text_in(&key.digest)?;
-        let _ = line.folder.renew(rt, Kind::Results, name, line.moment);
-    }
+    let name = text_in(&key.digest)?;
+    let _ = line.folder.renew(rt, Kind::Results, name, line.moment);
     Ok(true)
 }
 
@@ -143,14 +141,11 @@ fn may_keep<R: Files + AllocGlobal>(
 pub(crate) fn keep_made<R: Files<File = File> + AllocGlobal>(
     rt: &R,
     line: &CommandLine,
-    key: Option<&StoreKey>,
+    key: &StoreKey,
     outputs: &[Output],
     dep_info: Option<&OsBytes>,
     known: &KnownCrate,
 ) -> Result<(), HostError> {
-    let Some(key) = key else {
-        return Ok(());
-    };
     if !may_keep(rt, line, dep_info, known)? {
         return Err(HostError::Changed);
     }

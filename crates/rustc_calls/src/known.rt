@@ -1,7 +1,6 @@
 //! What is known of a call of rustc, more from attempt to attempt.
 
-use crate::parts::{PartRows, name_of_parts, note_parts};
-use crate::results::{FoundCrate, Wishes};
+use crate::audits::AuditedCrate;
 use disk_files::found::State;
 use host_protocol::command_line::CommandLine;
 use host_protocol::fields::text_in;
@@ -10,6 +9,8 @@ use os_files::path::join;
 use replay::replay_tool::ReplayTool;
 use replay::rustc_records::RecordedRustc;
 use replay::snapshot_files::{LoadedFile, SnapshotFiles};
+use rustc_kept::parts::{PartRows, name_of_parts, note_parts};
+use rustc_kept::results::{FoundCrate, Wishes};
 use rustc_options::parsed::ParsedArguments;
 use source_files::outputs::regular;
 use source_files::tokens::{Tokens, token_of};
@@ -32,6 +33,8 @@ pub(crate) struct KnownCrate {
     pub(crate) looked_up: Option<OsBytes>,
     /// What was printed beside the kept outputs that the session had.
     pub(crate) found_errors: Option<OsBytes>,
+    /// The hit in whose place rustc runs.
+    pub(crate) audited: Option<AuditedCrate>,
     /// What the compile printed on its standard error.
     pub(crate) errors: OsBytes,
     /// Whether the compile printed something that isn't kept.
@@ -92,6 +95,7 @@ impl KnownCrate {
             found: None,
             looked_up: None,
             found_errors: None,
+            audited: None,
             errors: OsBytes::empty(alloc),
             is_talking: false,
             loaded: None,
@@ -120,6 +124,11 @@ impl KnownCrate {
             self.dep_info = Some(join(alloc, folder.as_bytes(), name.as_bytes())?);
         }
         Ok(())
+    }
+
+    /// The name under which the parts of its key lie, the same for all calls with these outputs.
+    pub(crate) fn parts_name(&self) -> &str {
+        self.parts_name.as_str()
     }
 
     /// What the call wants of what is kept.

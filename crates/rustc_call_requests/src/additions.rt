@@ -173,7 +173,7 @@ fn add_crates(
 }
 
 /// What is bound to the key of a call with these words, whose crates are loaded.
-pub(crate) fn additions_of<R: Files + AllocGlobal>(
+pub fn additions_of<R: Files + AllocGlobal>(
     rt: &R,
     line: &CommandLine,
     words: &[OsBytes],
@@ -195,7 +195,7 @@ pub(crate) fn additions_of<R: Files + AllocGlobal>(
 }
 
 /// The variables of a call that the session is told: those that it hashes.
-pub(crate) fn variables_of(
+pub fn variables_of(
     alloc: Global,
     line: &CommandLine,
 ) -> Result<Listed<(OsBytes, OsBytes)>, HostError> {
@@ -210,10 +210,7 @@ pub(crate) fn variables_of(
 }
 
 /// The variable that stands for all additions. The session takes text alone, so it is told their digest.
-pub(crate) fn variable_of(
-    alloc: Global,
-    additions: &Additions,
-) -> Result<(OsBytes, OsBytes), HostError> {
+pub fn variable_of(alloc: Global, additions: &Additions) -> Result<(OsBytes, OsBytes), HostError> {
     let digest = digest_of(alloc, additions.variable(alloc)?.1.as_bytes())?;
     let name = OsBytes::from_slice(alloc, VARIABLE.as_bytes())?;
     Ok((name, OsBytes::from_vec(digest.into_bytes())))

@@ -25,7 +25,7 @@ const DIGESTS: [&[u8]; 4] = [b"crate's digest", b"file ", b"libraries", b"toolch
 
 /// Rows of what a key is made of, in the order in which they are compared.
 #[derive(Drop)]
-pub(crate) struct PartRows {
+pub struct PartRows {
     rows: Listed<Row>,
 }
 
@@ -38,21 +38,21 @@ struct KeptRows {
 
 impl PartRows {
     /// No rows.
-    pub(crate) fn new(alloc: Global) -> PartRows {
+    pub fn new(alloc: Global) -> PartRows {
         PartRows {
             rows: Listed::new(alloc),
         }
     }
 
     /// Adds a row.
-    pub(crate) fn add(&mut self, alloc: Global, name: &str, value: &[u8]) -> Result<(), HostError> {
+    pub fn add(&mut self, alloc: Global, name: &str, value: &[u8]) -> Result<(), HostError> {
         let name = OsBytes::from_slice(alloc, name.as_bytes())?;
         self.rows.push((name, OsBytes::from_slice(alloc, value)?))?;
         Ok(())
     }
 
     /// Adds all rows of a list.
-    pub(crate) fn add_all(&mut self, rows: Listed<Row>) -> Result<(), HostError> {
+    pub fn add_all(&mut self, rows: Listed<Row>) -> Result<(), HostError> {
         for row in rows.into_vec() {
             self.rows.push(row)?;
         }
@@ -72,7 +72,7 @@ impl PartRows {
 }
 
 /// The name under which the parts lie of the last call in this folder that asked for these outputs.
-pub(crate) fn name_of_parts(
+pub fn name_of_parts(
     alloc: Global,
     dir: &[u8],
     parsed: &ParsedArguments,
@@ -157,7 +157,7 @@ fn difference(alloc: Global, here: &[Row], there: &[Row]) -> Result<OsBytes, Hos
 }
 
 /// Keeps the parts of a call that was compiled, and what differs from those of the call before it with these outputs.
-pub(crate) fn note_parts<R: Files + AllocGlobal>(
+pub fn note_parts<R: Files + AllocGlobal>(
     rt: &R,
     folder: &CacheDir,
     name: &str,
@@ -181,7 +181,7 @@ pub(crate) fn note_parts<R: Files + AllocGlobal>(
 }
 
 /// What is known of the last call of that name that was compiled, in a line.
-pub(crate) fn told_of_parts<R: Files + AllocGlobal>(
+pub fn told_of_parts<R: Files + AllocGlobal>(
     rt: &R,
     folder: &CacheDir,
     name: &str,

@@ -19,16 +19,16 @@ use wrap::{Listed, OsBytes, Output, Pairs, RShape, Shape, StoreKey};
 
 /// What a disk keeps under a key: outputs, and messages as they are for this call.
 #[derive(Drop)]
-pub(crate) struct FoundCrate {
-    pub(crate) pair: (StoreKey, Pairs),
-    pub(crate) errors: Vec<u8>,
+pub struct FoundCrate {
+    pub pair: (StoreKey, Pairs),
+    pub errors: Vec<u8>,
 }
 
 /// What a call wants of what is kept: the folder of its outputs, and how wide its terminal is.
 #[derive(Clone, Copy)]
-pub(crate) struct Wishes<'a> {
-    pub(crate) folder: &'a [u8],
-    pub(crate) width: &'a [u8],
+pub struct Wishes<'a> {
+    pub folder: &'a [u8],
+    pub width: &'a [u8],
 }
 
 /// Adds the numbers that the bytes of a key don't tell.
@@ -82,7 +82,7 @@ fn pairs_of(alloc: Global, outputs: Listed<KeptOutput>) -> Result<Pairs, AllocEr
 }
 
 /// What is kept under a key, where its messages can be those of this call. Nothing where all is to be kept anew.
-pub(crate) fn found<R: Files + AllocGlobal>(
+pub fn found<R: Files + AllocGlobal>(
     rt: &R,
     line: &CommandLine,
     key: &StoreKey,
@@ -123,7 +123,7 @@ fn kept_outputs(alloc: Global, outputs: &[Output]) -> Result<Listed<KeptOutput>,
 }
 
 /// Keeps outputs under their key with what was printed beside them, where they aren't too large for the limit.
-pub(crate) fn keep<R: Files + AllocGlobal>(
+pub fn keep<R: Files + AllocGlobal>(
     rt: &R,
     line: &CommandLine,
     key: &StoreKey,

@@ -19,7 +19,7 @@ fn path_in(line: &[u8]) -> Option<(&[u8], &[u8])> {
 }
 
 /// Whether all lines are notices of outputs.
-pub(crate) fn are_notices(messages: &[u8]) -> bool {
+pub fn are_notices(messages: &[u8]) -> bool {
     messages
         .split(|byte| *byte == b'\n')
         .all(|line| line.is_empty() || path_in(line).is_some())
@@ -58,7 +58,7 @@ fn push_moved(
 }
 
 /// Messages of a call whose outputs went to the old folder, as they are where they go to the new one. Nothing where that can't be told.
-pub(crate) fn moved(
+pub fn moved(
     alloc: Global,
     messages: &[u8],
     old: &[u8],

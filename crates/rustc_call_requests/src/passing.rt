@@ -38,7 +38,7 @@ fn has_front(words: &[OsBytes], front: &str) -> bool {
 }
 
 /// Whether messages are written as JSON.
-pub(crate) fn has_json(line: &CommandLine) -> bool {
+pub fn has_json(line: &CommandLine) -> bool {
     has_front(line.words.as_slice(), AS_JSON)
 }
 
@@ -59,7 +59,7 @@ fn depend_on_terminal<R: Files + AllocGlobal>(rt: &R, line: &CommandLine) -> boo
 }
 
 /// The variable that speaks against keeping, or the word that isn't known, or that messages are written for a terminal.
-pub(crate) fn reason_against<R: Files + AllocGlobal>(
+pub fn reason_against<R: Files + AllocGlobal>(
     rt: &R,
     line: &CommandLine,
     words: &[OsBytes],
