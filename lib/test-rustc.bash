@@ -191,7 +191,7 @@ rustc_why() {
     why_is "a variable" "why: CARGO_PKG_VERSION: 2, earlier none" $it
     "$host" "$rustc" $it -C opt-level=1 2>/dev/null
     "$host" "$rustc" $it -C opt-level=2 2>/dev/null
-    why_is "a word" "why: word 11: opt-level=2, earlier opt-level=1" $it -C opt-level=2
+    why_is "a word" "why: word 12: opt-level=2, earlier opt-level=1" $it -C opt-level=2
     why_is "a program" "pass: crate-type: bin" --crate-name main --crate-type bin main.rs --emit=link --out-dir out
     rm -f out/*why*
 }

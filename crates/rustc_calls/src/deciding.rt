@@ -2,7 +2,7 @@
 
 ghost use Rattle.std.specs.Prelude.{◌≡◌, ◌≤◌};
 
-use crate::finishing::{give, keep_made};
+use crate::finishing::{can_give, give, keep_made};
 use crate::known::KnownCrate;
 use blake2::Blake2b256;
 use cmdlines_base::compiler_arguments::CompilerArguments;
@@ -255,12 +255,13 @@ fn act_on_hit<P: Files<File = File> + AllocGlobal>(
     dep_info: Option<&OsBytes>,
     known: &mut KnownCrate,
 ) -> Result<Option<RustcEnd>, HostError> {
+    if !can_give(rt, line, outputs, known)? {
+        return Ok(Some(pass(rt.alloc(), "output is no plain file", None)?));
+    }
     if known.is_to_audit(rt.alloc(), line, key, how, outputs, dep_info)? {
         return Ok(None);
     }
-    if !give(rt, line, key, outputs, dep_info, known)? {
-        return Ok(Some(pass(rt.alloc(), "output is no plain file", None)?));
-    }
+    give(rt, line, key, outputs, dep_info, known)?;
     Ok(Some(RustcEnd {
         what: RustcWhat::Done(how),
         audit: Audit::None,

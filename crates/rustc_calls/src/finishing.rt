@@ -89,8 +89,18 @@ fn have_places<R: Files>(
     Ok(true)
 }
 
-/// Gives kept outputs, the text on dependencies, and behind them the messages. False where something lies in their places that only rustc
-/// writes as it does.
+/// Whether kept outputs can be given: where something else than a plain file lies in their places rustc writes as it does.
+pub(crate) fn can_give<R: Files + AllocGlobal>(
+    rt: &R,
+    line: &CommandLine,
+    outputs: &[Output],
+    known: &KnownCrate,
+) -> Result<bool, HostError> {
+    let paths = paths_of(rt.alloc(), line, outputs)?;
+    have_places(rt, paths.as_slice(), known.dep_info.as_ref())
+}
+
+/// Gives kept outputs, the text on dependencies, and after them the messages.
 pub(crate) fn give<R: Files<File = File> + AllocGlobal>(
     rt: &R,
     line: &CommandLine,
@@ -98,12 +108,9 @@ pub(crate) fn give<R: Files<File = File> + AllocGlobal>(
     outputs: &[Output],
     dep_info: Option<&OsBytes>,
     known: &KnownCrate,
-) -> Result<bool, HostError> {
+) -> Result<(), HostError> {
     let paths = paths_of(rt.alloc(), line, outputs)?;
     let place = known.dep_info.as_ref();
-    if !have_places(rt, paths.as_slice(), place)? {
-        return Ok(false);
-    }
     let locks = lock_paths(rt, line, paths.as_slice(), place);
     if let (Some(place), Some(text)) = (place, dep_info) {
         replace(rt, line, place, text.as_bytes())?;
@@ -115,7 +122,7 @@ pub(crate) fn give<R: Files<File = File> + AllocGlobal>(
     }
     let name = text_in(&key.digest)?;
     let _ = line.folder.renew(rt, Kind::Results, name, line.moment);
-    Ok(true)
+    Ok(())
 }
 
 /// Whether what was made may be kept: its sources are as they were, messages are such as another call can have, and the text on dependencies
