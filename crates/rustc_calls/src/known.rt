@@ -12,12 +12,13 @@ use replay::snapshot_files::{LoadedFile, SnapshotFiles};
 use rustc_kept::parts::{PartRows, name_of_parts, note_parts};
 use rustc_kept::results::{FoundCrate, Wishes};
 use rustc_options::parsed::ParsedArguments;
+use rustc_texts::words::{dep_info_words, kept_words};
 use source_files::outputs::regular;
 use source_files::tokens::{Tokens, token_of};
 use std::alloc::Global;
 use std::fs;
 use std::rt::Files;
-use wrap::{FileTime, Files as CallFiles, Metadata, OsBytes};
+use wrap::{FileTime, Files as CallFiles, Listed, Metadata, OsBytes};
 
 /// Files and answers that are known so far.
 #[derive(Drop)]
@@ -50,6 +51,8 @@ pub(crate) struct KnownCrate {
     /// Of what the key is made, and the name under which that lies of the call before this one.
     pub(crate) parts: PartRows,
     parts_name: String,
+    /// The words by which rustc's answers are noted: those that say where crates lie and outputs go don't count.
+    pub(crate) naming: Listed<OsBytes>,
     /// Where the text on dependencies goes, where one is asked for.
     pub(crate) dep_info: Option<OsBytes>,
 }
@@ -104,6 +107,7 @@ impl KnownCrate {
             width: OsBytes::empty(alloc),
             parts: PartRows::new(alloc),
             parts_name: String::new(alloc),
+            naming: Listed::new(alloc),
             dep_info: None,
         }
     }
@@ -119,6 +123,11 @@ impl KnownCrate {
         self.folder = parsed.output_dir.clone()?;
         self.width = OsBytes::from_slice(alloc, width_in(words))?;
         self.parts_name = name_of_parts(alloc, line.dir.as_bytes(), parsed)?;
+        self.naming = match parsed.target_json {
+            // Which target that is stands in a file.
+            Some(_) => dep_info_words(alloc, parsed)?,
+            None => kept_words(alloc, parsed)?,
+        };
         if let Some(name) = &parsed.dep_info {
             let folder = join(alloc, line.dir.as_bytes(), self.folder.as_bytes())?;
             self.dep_info = Some(join(alloc, folder.as_bytes(), name.as_bytes())?);

@@ -79,12 +79,13 @@ fn names_for<P: Print + Files + AllocGlobal, I: Read>(
     line: &CommandLine,
     host: &mut Host<I>,
     request: &Request,
+    naming: &[OsBytes],
     words: &[OsBytes],
 ) -> Result<Printed, HostError>
     ensures { host.new.compiled ≡ host.old.compiled }
 {
     let alloc = rt.alloc();
-    let name = name_of_answer(alloc, request, &[], words)?;
+    let name = name_of_answer(alloc, request, &[], naming)?;
     if let Ok(text) = line.folder.read(rt, Kind::Searches, name.as_str()) {
         let text = OsBytes::from_vec(text);
         return Ok(Printed { status: 0, text });
@@ -147,7 +148,8 @@ impl KnownCrate {
     ) -> Result<Printed, HostError>
         ensures { host.new.compiled ≡ host.old.compiled }
     {
-        let name = name_of_answer(rt.alloc(), request, request.env.as_slice(), words)?;
+        let naming = self.naming.as_slice();
+        let name = name_of_answer(rt.alloc(), request, request.env.as_slice(), naming)?;
         if let Some(text) = self.noted_text(rt, line, name.as_str())? {
             return Ok(Printed { status: 0, text });
         }
@@ -203,7 +205,8 @@ impl KnownCrate {
         ) else {
             return Ok(false);
         };
-        let printed = names_for(rt, line, host, request, words.as_slice())?;
+        let naming = self.naming.as_slice();
+        let printed = names_for(rt, line, host, request, naming, words.as_slice())?;
         let dir = line.dir.clone()?;
         rustc.file_names = Some(RecordedAnswer {
             words,
