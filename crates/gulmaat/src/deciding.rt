@@ -22,6 +22,8 @@ use known_options::dependencies::Dependencies;
 use os_files::listed::Listed;
 use os_files::os_bytes::OsBytes;
 use replay::kept_session::{SessionAnswer, answered, session_over};
+use rustc_calls::deciding::{RustcEnd, RustcWhat, decide_on_rustc};
+use rustc_id::rustc::is_named_rustc;
 use searched_folders::unwatched::Unwatched;
 use settings::key::Key;
 use source_files::outputs::have_plain_places;
@@ -56,6 +58,16 @@ impl End {
             what: What::Pass(reason),
             audit: Audit::None,
         }
+    }
+
+    /// What a call of rustc came to.
+    fn of_rustc(end: RustcEnd) -> End {
+        let RustcEnd { what, audit } = end;
+        let what = match what {
+            RustcWhat::Done(how) => What::Done(how, None),
+            RustcWhat::Pass(reason) => What::Pass(reason),
+        };
+        End { what, audit }
     }
 }
 
@@ -543,6 +555,9 @@ pub fn decide<P: Print + Files<File = File> + AllocGlobal, I: Read>(
 {
     if line.settings.is_on(Key::Disable) {
         return pass(rt.alloc(), "pass: disabled");
+    }
+    if is_named_rustc(line.executable.as_str()) {
+        return Ok(End::of_rustc(decide_on_rustc(rt, line, host)?));
     }
     if let Some(reason) = reason_against(rt.alloc(), line)? {
         return Ok(End::pass(format!(in rt.alloc(); "pass: {reason}")?));

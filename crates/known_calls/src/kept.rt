@@ -7,8 +7,8 @@ use cache_dir::file_digests::digest_of;
 use cache_dir::folder::Kind;
 use cache_dir::limit::takes;
 use cache_files::results::{Kept, entry_of, kept_of};
-use cache_format::kept_result::KeptMessages;
-use cache_format::sealed::{read_result, result_bytes};
+use cache_format::kept_result::{KeptMessages, KeptResult};
+use cache_format::sealed::{seal, unseal};
 use host_protocol::command_line::CommandLine;
 use host_protocol::digests::LETTERS;
 use host_protocol::fields::into_text;
@@ -52,7 +52,7 @@ pub fn found<R: Files + AllocGlobal>(
     let Ok(bytes) = line.folder.read(rt, Kind::Results, name.as_str()) else {
         return Ok(None);
     };
-    let Some(entry) = read_result::<Blake2b256>(rt.alloc(), bytes.as_slice())? else {
+    let Some(entry) = unseal::<Blake2b256, KeptResult>(rt.alloc(), bytes.as_slice())? else {
         return Ok(None);
     };
     if entry.messages.preprocessor.as_bytes() != messages {
@@ -122,7 +122,7 @@ pub fn keep<R: Files + AllocGlobal>(
     messages: KeptMessages,
 ) -> Result<(), HostError> {
     let entry = entry_of(rt.alloc(), key, outputs, messages)?;
-    let bytes = result_bytes::<Blake2b256>(rt.alloc(), &entry)?;
+    let bytes = seal::<Blake2b256, KeptResult>(rt.alloc(), &entry)?;
     let name = into_text(key.digest.clone()?)?;
     let folder = &line.folder;
     if !takes(folder.limit, bytes.len() as u64) {
