@@ -43,7 +43,7 @@ static void add(const void *bytes, size_t size) {
 
 static void add_number(uint64_t number) {
     unsigned char bytes[8];
-    for (int i = 0; i < 8; i++) bytes[i] = number >> 8 * i;
+    put_number(bytes, number);
     add(bytes, 8);
 }
 
@@ -53,25 +53,8 @@ static void begin_message(void) {
     add_number(0);
 }
 
-static uint64_t number_at(const unsigned char *bytes) {
-    uint64_t number = 0;
-    for (int i = 8; i-- > 0;) number = number << 8 | bytes[i];
-    return number;
-}
-
 static void add_bytes(const char *bytes, size_t size) { add_number(size); add(bytes, size); }
 static void add_string(const char *string) { add_bytes(string, strlen(string)); }
-
-static int read_all(int file, void *bytes, size_t size) {
-    for (char *at = bytes; size;) {
-        ssize_t got = read(file, at, size);
-        if (got < 0 && errno == EINTR && !stopped) continue;
-        if (got <= 0) return -1;
-        at += got;
-        size -= got;
-    }
-    return 0;
-}
 
 static int is_empty(int file) {
     struct stat state;
@@ -163,40 +146,8 @@ static void tell_command_line(void) {
 }
 
 static int send_message(int to) {
-    for (int i = 0; i < 8; i++) message[i] = (uint64_t)(message_size - 8) >> 8 * i;
+    put_number(message, message_size - 8);
     return write_all(to, message, message_size);
-}
-
-static void free_words(char **line) {
-    for (char **word = line ? line + 1 : NULL; word && *word; word++) free(*word);
-    free(line);
-}
-
-/* The words that a question names behind its letter, behind the compiler's own name; none where it isn't well formed. */
-static char **words_of(const unsigned char *question, uint64_t size) {
-    if (size < 16) return NULL;
-    uint64_t count = number_at(question + 8), at = 16;
-    if (count > size / 8) return NULL;
-    char **line = calloc(count + 2, sizeof *line);
-    if (!line) return NULL;
-    line[0] = words[0];
-    for (uint64_t i = 0; i < count; i++) {
-        uint64_t length = size - at < 8 ? size : number_at(question + at);
-        line[i + 1] = size - at < 8 || length > size - at - 8 ? NULL : strndup((const char *)question + at + 8, length);
-        if (!line[i + 1]) { free_words(line); return NULL; }
-        at += 8 + length;
-    }
-    return line;
-}
-
-/* The next question of the program, and its size; NULL where none comes, or it is too long. */
-static unsigned char *next_question(int from, uint64_t *size) {
-    unsigned char head[8], *question;
-    if (read_all(from, head, 8)) return NULL;
-    *size = number_at(head);
-    question = *size < UINT64_C(1) << 28 ? malloc(*size + 1) : NULL;
-    if (question && read_all(from, question, *size)) { free(question); question = NULL; }
-    return question;
 }
 
 /* Tells the program how what it asked for ended, and whether nothing was printed beside a text, or by the compile. */
@@ -213,8 +164,10 @@ static int answer_questions(int from, int to) {
     uint64_t size;
     unsigned char *question;
     while (goes_on && !stopped && (question = next_question(from, &size))) {
-        char **line = words_of(question, size);
-        int is_compile = line && number_at(question) == 'C', ended = !line ? -1 : is_compile ? compile(line) : preprocess(line);
+        char **line = words_of(question, size, words[0]);
+        uint64_t letter = line ? number_at(question) : 0;
+        int is_compile = letter == 'C', is_for_server = letter == 'F' || letter == 'S';
+        int ended = !line ? -1 : is_compile ? compile(line) : is_for_server ? ask_server(question, size, line) : preprocess(line);
         if (is_compile && !isnt_shown) compiled = ended;
         goes_on = ended >= 0 && !isnt_shown && !isnt_kept && !stopped && !answer(to, ended, is_compile);
         free_words(line);
