@@ -215,7 +215,7 @@ shows() { prints "$1 = $2, from $3" "($3) $1 = $2" grep "^([^)]*) $1 =" <("$host
 
 habits_settings() {
     local option key value
-    for option in -p --show-config; do is "$option: thirteen keys" [ "$("$host" $option | wc -l)" = 13 ]; done
+    for option in -p --show-config; do is "$option: fifteen keys" [ "$("$host" $option | wc -l)" = 15 ]; done
     shows max_size 5G default
     shows cache_dir "$GULMAAT_DIR" GULMAAT_DIR
     for option in -o --set-config; do

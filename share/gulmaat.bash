@@ -1,7 +1,7 @@
 # Completion of gulmaat's options for bash.
 _gulmaat() {
     local word=${COMP_WORDS[COMP_CWORD]} before=${COMP_WORDS[COMP_CWORD - 1]}
-    local keys="allow_options audit base_dir cache_dir direct_mode disable log_file max_size read_only recache sloppiness stats umask"
+    local keys="allow_options audit base_dir cache_dir direct_mode disable log_file max_size read_only recache remote_key remote_storage sloppiness stats umask"
     case $before in
         -d | --dir | --links) mapfile -t COMPREPLY < <(compgen -d -- "$word") ;;
         -k | --get-config) mapfile -t COMPREPLY < <(compgen -W "$keys" -- "$word") ;;

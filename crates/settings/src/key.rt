@@ -1,5 +1,6 @@
 //! The keys that can be set.
 
+use crate::storage::is_storage;
 use crate::values::{mask_named, size_named, truth_named};
 
 /// A key, with ccache's name where it means the same.
@@ -25,6 +26,10 @@ pub enum Key {
     ReadOnly,
     /// Whether nothing that is kept is given, and all is kept anew.
     Recache,
+    /// The file of the key that is in the seal of what other machines store; none where it is empty.
+    RemoteKey,
+    /// Where results of other machines are; nowhere where it is empty.
+    RemoteStorage,
     /// What may differ though it counts, as ccache has it: `lines`.
     Sloppiness,
     /// Whether calls are counted.
@@ -53,11 +58,13 @@ pub enum Kind {
     Sloppiness,
     /// Words that begin with a dash, with spaces between them, or nothing.
     Options,
+    /// An address with attributes, or nothing.
+    Storage,
 }
 
 impl Key {
     /// All of them, in the order of their names.
-    pub const ALL: [Key; 13] = [
+    pub const ALL: [Key; 15] = [
         Key::AllowOptions,
         Key::Audit,
         Key::BaseDir,
@@ -68,6 +75,8 @@ impl Key {
         Key::MaxSize,
         Key::ReadOnly,
         Key::Recache,
+        Key::RemoteKey,
+        Key::RemoteStorage,
         Key::Sloppiness,
         Key::Stats,
         Key::Umask,
@@ -86,6 +95,8 @@ impl Key {
             Key::MaxSize => "max_size",
             Key::ReadOnly => "read_only",
             Key::Recache => "recache",
+            Key::RemoteKey => "remote_key",
+            Key::RemoteStorage => "remote_storage",
             Key::Sloppiness => "sloppiness",
             Key::Stats => "stats",
             Key::Umask => "umask",
@@ -105,6 +116,8 @@ impl Key {
             Key::MaxSize => "GULMAAT_MAXSIZE",
             Key::ReadOnly => "GULMAAT_READONLY",
             Key::Recache => "GULMAAT_RECACHE",
+            Key::RemoteKey => "GULMAAT_REMOTE_KEY",
+            Key::RemoteStorage => "GULMAAT_REMOTE",
             Key::Sloppiness => "GULMAAT_SLOPPINESS",
             Key::Stats => "GULMAAT_STATS",
             Key::Umask => "GULMAAT_UMASK",
@@ -118,6 +131,8 @@ impl Key {
             | Key::BaseDir
             | Key::CacheDir
             | Key::LogFile
+            | Key::RemoteKey
+            | Key::RemoteStorage
             | Key::Sloppiness
             | Key::Umask => "",
             Key::Audit => "0",
@@ -133,7 +148,8 @@ impl Key {
             Key::AllowOptions => Kind::Options,
             Key::Audit => Kind::Audit,
             Key::BaseDir => Kind::Paths,
-            Key::CacheDir | Key::LogFile => Kind::Path,
+            Key::CacheDir | Key::LogFile | Key::RemoteKey => Kind::Path,
+            Key::RemoteStorage => Kind::Storage,
             Key::MaxSize => Kind::Size,
             Key::Sloppiness => Kind::Sloppiness,
             Key::Umask => Kind::Mask,
@@ -171,6 +187,8 @@ impl Kind {
             Kind::Mask => "an octal number up to 777",
             Kind::Sloppiness => "lines",
             Kind::Options => "options with spaces between them, each of which begins with -",
+            Kind::Storage =>
+                "redis://, redis+unix:, http://, https:// or file: with an address, and attributes behind |; rediss: isn't there",
         }
     }
 
@@ -185,6 +203,7 @@ impl Kind {
             Kind::Mask => text.is_empty() || mask_named(text).is_some(),
             Kind::Sloppiness => matches!(text, "" | "lines"),
             Kind::Options => text.split(' ').all(is_option),
+            Kind::Storage => text.is_empty() || is_storage(text),
         }
     }
 }

@@ -28,6 +28,7 @@ gulmaat OPTION..
 Other names are --show for --show-stats, and --limit for --max-size. Each key of -p has a variable, which comes before the
 user's file; that is gulmaat.conf in the folder that GULMAAT_DIR names, or else in gulmaat in the user's folder of settings. With
 direct_mode no preprocessor runs where the files that it read last are as they were: docs/WRAPPER.md says what that can't see.
+remote_storage names a server, or a folder, from which results of other machines come, and to which those of this one go.
 ";
 
 /// Prints the help.
