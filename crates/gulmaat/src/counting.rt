@@ -2,13 +2,14 @@
 
 use crate::deciding::{End, What};
 use host_protocol::command_line::CommandLine;
+use host_protocol::host::Tally;
 use host_protocol::host_error::HostError;
 use known_calls::audits::Audit;
 use known_calls::logging::log;
 use settings::key::Key;
 use statistics::calls::counters_of;
 use statistics::file::count;
-use statistics::names::name_of;
+use statistics::names::{REMOTE, name_of};
 use std::alloc::Global;
 use std::fs::File;
 use std::rt::{Clock, Files};
@@ -62,11 +63,23 @@ fn counters_done(
     Ok(counters)
 }
 
+/// Adds what asking a server came to.
+fn add_remote(alloc: Global, tally: &Tally, counters: &mut Vec<String>) -> Result<(), HostError> {
+    let numbers = [tally.hits, tally.misses, tally.errors, tally.timeouts];
+    for (name, number) in REMOTE.iter().zip(numbers.iter()) {
+        if *number != 0 {
+            counters.push(String::from_str(alloc, name)?)?;
+        }
+    }
+    Ok(())
+}
+
 /// The counters of a call.
 fn counters(
     alloc: Global,
     line: &CommandLine,
     end: &Result<End, HostError>,
+    tally: &Tally,
     reason: &str,
 ) -> Result<Vec<String>, HostError> {
     let mut counters = match end {
@@ -81,6 +94,7 @@ fn counters(
     if differs(end) {
         counters.push(String::from_str(alloc, "error_audit")?)?;
     }
+    add_remote(alloc, tally, &mut counters)?;
     if line.folder.has_made_room.get() {
         counters.push(String::from_str(alloc, "cleanups_performed")?)?;
     }
@@ -116,6 +130,7 @@ pub fn note<R: Files<File = File> + Clock + AllocGlobal>(
     rt: &R,
     line: &CommandLine,
     end: &Result<End, HostError>,
+    tally: &Tally,
 ) -> Result<(), HostError> {
     let is_logged = !line.settings.value_of(Key::LogFile).is_empty();
     let is_counted = line.settings.is_on(Key::Stats);
@@ -124,7 +139,7 @@ pub fn note<R: Files<File = File> + Clock + AllocGlobal>(
     }
     let alloc = rt.alloc();
     let reason = reason_of(alloc, end)?;
-    let counters = counters(alloc, line, end, reason.as_str())?;
+    let counters = counters(alloc, line, end, tally, reason.as_str())?;
     if is_logged {
         if let Some(first) = counters.first() {
             let _ = log_call(rt, line, first.as_str(), reason.as_str());

@@ -21,6 +21,8 @@ use known_calls::known::{Given, Known};
 use known_options::dependencies::Dependencies;
 use os_files::listed::Listed;
 use os_files::os_bytes::OsBytes;
+use remote_storage::manifests::fetched_manifest;
+use remote_storage::results::fetched;
 use replay::kept_session::{SessionAnswer, answered, session_over};
 use rustc_calls::deciding::{RustcEnd, RustcWhat, decide_on_rustc};
 use rustc_id::rustc::is_named_rustc;
@@ -79,13 +81,16 @@ fn pass(alloc: Global, reason: &str) -> Result<End, HostError> {
     Ok(End::pass(String::from_str(alloc, reason)?))
 }
 
-/// Asks the disk for the key that the store was asked for, once. False where it has nothing.
-fn look_up<R: Files + AllocGlobal>(
-    rt: &R,
+/// Asks the disk for the key that the store was asked for, once, and where that has nothing other machines. False where they have nothing too.
+fn look_up<P: Print + Files + AllocGlobal, I: Read>(
+    rt: &P,
     line: &CommandLine,
+    host: &mut Host<I>,
     key: Option<&StoreKey>,
     known: &mut Known,
-) -> Result<bool, HostError> {
+) -> Result<bool, HostError>
+    ensures { host.new.compiled ≡ host.old.compiled }
+{
     let Some(key) = key else {
         return Ok(false);
     };
@@ -94,21 +99,37 @@ fn look_up<R: Files + AllocGlobal>(
     }
     known.looked_up = Some(key.digest.clone()?);
     known.entry = found(rt, line, key.digest.clone()?, known.preprocessor.as_bytes())?;
+    if known.entry.is_none() {
+        known.entry = fetched(rt, line, host, key, known.preprocessor.as_bytes())?;
+    }
     Ok(known.entry.is_some())
 }
 
-/// Asks the disk for the manifest that the session asked for, once. False where it has none, or none was asked for.
-fn look_up_manifest<R: Files + AllocGlobal>(
-    rt: &R,
+/// Asks the disk for the manifest that the session asked for, once, and where that has none other machines. False where they have none too, or
+/// none was asked for.
+fn look_up_manifest<P: Print + Files + AllocGlobal, I: Read>(
+    rt: &P,
     line: &CommandLine,
+    host: &mut Host<I>,
     asked: Option<&EntryKey>,
     known: &mut Known,
-) -> Result<bool, HostError> {
+) -> Result<bool, HostError>
+    ensures { host.new.compiled ≡ host.old.compiled }
+{
     let Some(key) = asked else {
         return Ok(false);
     };
     let name = name_of_manifest(rt.alloc(), line.zone.as_str(), key)?;
-    known.look_up_manifest(rt, line, name)
+    if known.look_up_manifest(rt, line, name)? {
+        return Ok(true);
+    }
+    if !known.lacks_manifest() {
+        return Ok(false);
+    }
+    match fetched_manifest(rt, line, host, key, known.name_to_note())? {
+        Some(manifest) => known.take_manifest(rt, line, manifest),
+        None => Ok(false),
+    }
 }
 
 /// Finds out what the text is: by a manifest, or by the preprocessor. False where it was printed already.
@@ -123,7 +144,7 @@ fn find_text<P: Print + Files<File = File> + AllocGlobal, I: Read>(
     requires { host.old.compiled ≤ 1 }
     ensures { host.new.compiled ≤ 1 }
 {
-    if look_up_manifest(rt, line, asked, known)? {
+    if look_up_manifest(rt, line, host, asked, known)? {
         return Ok(true);
     }
     if !known.record(rt, line, host, None)? {
@@ -147,7 +168,7 @@ fn find_outputs<P: Print + Files<File = File> + AllocGlobal, I: Read>(
     requires { host.old.compiled ≤ 1 }
     ensures { host.new.compiled ≤ 1 }
 {
-    if look_up(rt, line, key, known)? || known.drop_manifest() {
+    if look_up(rt, line, host, key, known)? || known.drop_manifest() {
         return Ok(true);
     }
     known.record(rt, line, host, key)

@@ -16,6 +16,7 @@ use known_calls::known::{Given, Known};
 use known_calls::outputs::lock_paths;
 use os_files::listed::Listed;
 use os_files::os_bytes::OsBytes;
+use remote_storage::sharing::{Shared, share};
 use replay::kept_session::SessionAnswer;
 use source_files::outputs::{print_again, write_dependencies, write_outputs};
 use std::alloc::Global;
@@ -110,6 +111,27 @@ fn note_call<R: Files + AllocGlobal>(
     Ok(make_room(&rt, &line.folder, names.as_slice())?)
 }
 
+/// Has the server store what a call made, and what it gave of what is kept here alone.
+fn share_call<P: Print + Files + AllocGlobal, I: Read>(
+    rt: &P,
+    line: &CommandLine,
+    host: &mut Host<I>,
+    key: &StoreKey,
+    is_kept: bool,
+    has_list: bool,
+    known: &Known,
+) -> Result<(), HostError>
+    ensures { host.new.compiled ≡ host.old.compiled }
+{
+    let again = match host.tally.hits {
+        0 => Shared::Again,
+        _ => Shared::Not,
+    };
+    let result = if is_kept { Shared::Anew } else { again };
+    let manifest = if has_list { Shared::Anew } else { again };
+    share(rt, line, host, key, result, known.name_to_note(), manifest)
+}
+
 /// What to watch of the text, where the session put a manifest. Where that can't be told there is none, and it is noted why.
 fn list_to_watch<P: Print + Files + AllocGlobal, I: Read>(
     rt: &P,
@@ -173,6 +195,7 @@ pub fn finish<P: Print + Files<File = File> + AllocGlobal, I: Read>(
     if !matches!(audit, Audit::Differs(_)) {
         let list = list.as_deref();
         let _ = note_call(rt, line, hint, answered, key, is_kept, list, known);
+        let _ = share_call(rt, line, host, key, is_kept, list.is_some(), known);
     }
     let how = match (&audit, &known.audited) {
         (Audit::Alike, Some(audited)) => audited.how,

@@ -155,7 +155,7 @@ where
         return ExitCode::from(PASS);
     }
     let end = decide(rt, &line, &mut host);
-    let _ = note(rt, &line, &end);
+    let _ = note(rt, &line, &end, &host.tally);
     let Ok(end) = end else {
         return ExitCode::from(PASS);
     };

@@ -18,6 +18,12 @@ const PREPROCESS: u8 = b'P';
 
 const COMPILE: u8 = b'C';
 
+/// Those of questions for a server: what it has under a name, which goes to the place of the list; and what lies there is to be stored under
+/// a name, once the call is answered.
+const FETCH: u8 = b'F';
+
+const SEND: u8 = b'S';
+
 /// What a command came to.
 #[derive(Drop)]
 pub struct Ended {
@@ -26,10 +32,21 @@ pub struct Ended {
     pub silent: bool,
 }
 
+/// What asking a server came to, and how often.
+#[derive(Clone, Copy, PartialEq, Eq)]
+pub struct Tally {
+    pub hits: u64,
+    pub misses: u64,
+    pub errors: u64,
+    pub timeouts: u64,
+}
+
 /// The host at the other end of a pipe.
 #[derive(Drop)]
 pub struct Host<I> {
     reader: I,
+    /// What asking a server came to in this call.
+    pub tally: Tally,
     /// How often it was asked to run the compiler for its outputs. `compile` alone moves it.
     compiled: u64,
 }
@@ -90,8 +107,15 @@ impl<I: Read> Host<I> {
     pub fn new(reader: I) -> Host<I>
         ensures { result.compiled ≡ 0 }
     {
+        let tally = Tally {
+            hits: 0,
+            misses: 0,
+            errors: 0,
+            timeouts: 0,
+        };
         Host {
             reader,
+            tally,
             compiled: 0,
         }
     }
@@ -120,6 +144,30 @@ impl<I: Read> Host<I> {
         ensures { self.new.compiled ≡ self.old.compiled }
     {
         run_words(rt, alloc, &mut self.reader, PREPROCESS, words)
+    }
+
+    /// Has it ask a server by these words for what other machines stored, and waits for the answer.
+    pub fn fetch<P: Print + Alloc>(
+        &mut self,
+        rt: &P,
+        alloc: Global,
+        words: &[OsBytes],
+    ) -> Result<Ended, HostError>
+        ensures { self.new.compiled ≡ self.old.compiled }
+    {
+        run_words(rt, alloc, &mut self.reader, FETCH, words)
+    }
+
+    /// Has it take what a server is to store by these words.
+    pub fn send<P: Print + Alloc>(
+        &mut self,
+        rt: &P,
+        alloc: Global,
+        words: &[OsBytes],
+    ) -> Result<Ended, HostError>
+        ensures { self.new.compiled ≡ self.old.compiled }
+    {
+        run_words(rt, alloc, &mut self.reader, SEND, words)
     }
 
     /// Has it run the compiler with these words, once, and waits for its end.

@@ -82,8 +82,13 @@ impl Known {
         }
     }
 
+    /// Whether no manifest is known of those calls.
+    pub fn lacks_manifest(&self) -> bool {
+        self.record.kept.is_none() && self.record.whole.is_none()
+    }
+
     /// Has the files loaded that a manifest names, which is taken then. False where one of them can't be told.
-    fn take_manifest<R: Files + AllocGlobal>(
+    pub fn take_manifest<R: Files + AllocGlobal>(
         &mut self,
         rt: &R,
         line: &CommandLine,
