@@ -467,7 +467,8 @@ END
 }
 remote_redis_faults() {
     local -x GULMAAT_REMOTE
-    local turn number
+    # Its faults stand between this machine and itself.
+    local remote_networks=() turn number
     stop_servers
     start_redis
     remote_faults redis:// "$redis_port"
@@ -551,6 +552,7 @@ wait_for_calls() {
 }
 remote_nginx_faults() {
     local -x GULMAAT_REMOTE
+    local remote_networks=()
     stop_servers
     start_nginx
     remote_faults http:// "$http_port"
