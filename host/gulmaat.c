@@ -150,29 +150,45 @@ static int send_message(int to) {
     return write_all(to, message, message_size);
 }
 
-/* Tells the program how what it asked for ended, and whether nothing was printed beside a text, or by the compile. */
-static int answer(int to, int ended, int is_compile) {
+/* Tells the program how what it asked for ended, whether nothing was printed beside a text, or by the compile, and how long it took. */
+static int answer(int to, int ended, int is_compile, uint64_t from) {
     begin_message();
     add_number(WIFEXITED(ended) ? WEXITSTATUS(ended) : 128 + WTERMSIG(ended));
     add_number(is_empty(messages) && (!is_compile || is_empty(printed)));
+    add_number(now() - from);
     return send_message(to);
 }
 
-/* Answers questions until the program ends or a signal comes, and gives how a compile ended that ran and was shown, or -1. */
+/* Has a question's words run, and gives how that ended; -1 where it couldn't be started. */
+static int run_asked(char **line, int is_compile) {
+    uint64_t from = now();
+    int ended = !line ? -1 : is_compile ? compile(line) : preprocess(line);
+    if (ended >= 0) note_run(is_compile ? 'C' : 'P', from);
+    return ended;
+}
+
+/* Answers questions until the program ends or a signal comes, and gives how a compile ended that ran and was shown, or -1. A line for a log is
+ * taken, and not answered. Closes the pipe to it. */
 static int answer_questions(int from, int to) {
     int compiled = -1, goes_on = 1;
     uint64_t size;
     unsigned char *question;
-    while (goes_on && !stopped && (question = next_question(from, &size))) {
+    while (!stopped && (question = next_question(from, &size))) {
         char **line = words_of(question, size, words[0]);
-        uint64_t letter = line ? number_at(question) : 0;
-        int is_compile = letter == 'C', is_for_server = letter == 'F' || letter == 'S';
-        int ended = !line ? -1 : is_compile ? compile(line) : is_for_server ? ask_server(question, size, line) : preprocess(line);
-        if (is_compile && !isnt_shown) compiled = ended;
-        goes_on = ended >= 0 && !isnt_shown && !isnt_kept && !stopped && !answer(to, ended, is_compile);
+        uint64_t letter = line ? number_at(question) : 0, then = now();
+        if (letter == 'L') take_line(line);
+        else if (goes_on) {
+            int is_compile = letter == 'C', is_for_server = letter == 'F' || letter == 'S';
+            int ended = is_for_server ? ask_server(question, size, line) : run_asked(line, is_compile);
+            if (is_compile && !isnt_shown) compiled = ended;
+            goes_on = ended >= 0 && !isnt_shown && !isnt_kept && !stopped && !answer(to, ended, is_compile, then);
+            /* Nothing is answered any more, which the program sees. What it has to say then is taken still. */
+            if (!goes_on) close(to);
+        }
         free_words(line);
         free(question);
     }
+    if (goes_on) close(to);
     return compiled;
 }
 
@@ -212,6 +228,7 @@ static int answer_options(int count, char **list) {
 
 int main(int count, char **list) {
     if (count < 1) return 127;
+    began = now();
     int is_poor = hold_closed();
     find_self();
     const char *name = strrchr(list[0], '/') ? strrchr(list[0], '/') + 1 : list[0];
@@ -241,12 +258,15 @@ int main(int count, char **list) {
     }
     /* While it is loaded. */
     tell_command_line();
-    int compiled = send_message(to) ? -1 : answer_questions(from, to);
-    close(to);
+    int compiled = -1;
+    if (send_message(to)) close(to);
+    else compiled = answer_questions(from, to);
     int status = end_of(child, from);
+    if (compiled >= 0) write_line(compiled);
     if (compiled >= 0 && WIFEXITED(compiled)) return WEXITSTATUS(compiled);
     if (compiled >= 0) end_by(WTERMSIG(compiled));
     if (stopped) end_by(stopped);
     if (isnt_shown || !WIFEXITED(status) || WEXITSTATUS(status) != DONE || show_kept()) pass_through();
+    write_line(0);
     return 0;
 }

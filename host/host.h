@@ -5,6 +5,7 @@
 #include "questions.h"
 #include <limits.h>
 #include <stddef.h>
+#include <stdint.h>
 #include <sys/types.h>
 
 /* ---- finding.c: which files run. */
@@ -36,6 +37,15 @@ int compile(char **line);
 /* ---- asking.c: the helper that asks a server. */
 
 int ask_server(const unsigned char *question, size_t size, char **line);
+/* ---- logging.c: the line of a call in a log. */
+
+extern uint64_t began;              /* when this call began, in microseconds since 1970 */
+
+uint64_t now(void);
+void note_run(char letter, uint64_t from);
+void take_line(char **line);
+int has_line(void);
+void write_line(int ended);
 
 /* ---- showing.c: what a compiler prints. */
 

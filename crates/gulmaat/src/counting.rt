@@ -1,8 +1,10 @@
 //! What a call came to is counted, and told in a line of the log where one is kept.
 
 use crate::deciding::{End, What};
+use call_log::front::front;
+use call_log::told::Told;
 use host_protocol::command_line::CommandLine;
-use host_protocol::host::Tally;
+use host_protocol::host::{Tally, tell_line};
 use host_protocol::host_error::HostError;
 use known_calls::audits::Audit;
 use known_calls::logging::log;
@@ -112,6 +114,29 @@ fn milliseconds<R: Clock>(rt: &R, line: &CommandLine) -> u128 {
     }
 }
 
+/// Hands the host the front of a line of the log: what a call came to, its command, and why.
+fn tell_call<R: Print + AllocGlobal>(
+    rt: &R,
+    line: &CommandLine,
+    counter: &str,
+    reason: &str,
+    end: &Result<End, HostError>,
+) -> Result<(), HostError> {
+    let alloc = rt.alloc();
+    let nothing = Told::nothing();
+    let told = match end {
+        Ok(end) => &end.told,
+        Err(_) => &nothing,
+    };
+    let front = front(alloc, line, counter, reason, told)?;
+    tell_line(
+        rt,
+        alloc,
+        line.settings.value_of(Key::LogFile),
+        front.as_str(),
+    )
+}
+
 /// Puts a line into the log: what a call came to, how long it took, the command, and why where it was passed through or has no manifest.
 fn log_call<R: Files<File = File> + Clock + AllocGlobal>(
     rt: &R,
@@ -126,7 +151,7 @@ fn log_call<R: Files<File = File> + Clock + AllocGlobal>(
 }
 
 /// Counts what a call came to, and logs it, as the settings have it.
-pub fn note<R: Files<File = File> + Clock + AllocGlobal>(
+pub fn note<R: Print + Files<File = File> + Clock + AllocGlobal>(
     rt: &R,
     line: &CommandLine,
     end: &Result<End, HostError>,
@@ -142,7 +167,10 @@ pub fn note<R: Files<File = File> + Clock + AllocGlobal>(
     let counters = counters(alloc, line, end, tally, reason.as_str())?;
     if is_logged {
         if let Some(first) = counters.first() {
-            let _ = log_call(rt, line, first.as_str(), reason.as_str());
+            let _ = match line.settings.value_of(Key::LogFormat) {
+                "json" => tell_call(rt, line, first.as_str(), reason.as_str(), end),
+                _ => log_call(rt, line, first.as_str(), reason.as_str()),
+            };
         }
     }
     if is_counted {

@@ -7,6 +7,7 @@ use blake2::Blake2b256;
 use cache_files::manifest_files::name_of_manifest;
 use cache_files::results::Kept;
 use cache_format::kept_result::KeptMessages;
+use call_log::told::Told;
 use call_requests::call::{Call, call_of};
 use call_requests::passing::reason_against;
 use compiler_id::compilers::kind_of;
@@ -51,6 +52,8 @@ pub enum What {
 pub struct End {
     pub what: What,
     pub audit: Audit,
+    /// What a log says of it beside that.
+    pub told: Told,
 }
 
 impl End {
@@ -59,6 +62,7 @@ impl End {
         End {
             what: What::Pass(reason),
             audit: Audit::None,
+            told: Told::nothing(),
         }
     }
 
@@ -437,26 +441,26 @@ fn end_audit<R: Files<File = File> + AllocGlobal>(
     known: &Known,
     end: End,
 ) -> Result<End, HostError> {
-    let End { what, audit } = end;
+    let End { what, audit, told } = end;
     let audit = match &what {
         What::Pass(_) if known.audited.is_some() => {
             known.differs(rt, line, String::from_str(rt.alloc(), "status")?)?
         }
         _ => audit,
     };
-    Ok(End { what, audit })
+    Ok(End { what, audit, told })
 }
 
-/// Keeps of what the key of a request was made, where it was compiled. What it takes is known, so that nothing runs.
+/// Keeps of what the key of a request was made, where it was compiled, and gives what differed. What it takes is known, so that nothing runs.
 fn note_made<R: Files + AllocGlobal>(
     rt: &R,
     line: &CommandLine,
     request: &Request,
     end: &Result<End, HostError>,
     known: &mut Known,
-) -> Result<(), HostError> {
+) -> Result<Option<String>, HostError> {
     if !was_compiled(end) {
-        return Ok(());
+        return Ok(None);
     }
     let alloc = rt.alloc();
     let config = config_of(alloc, known.basedirs.as_slice(), &known.zone)?;
@@ -468,8 +472,14 @@ fn note_made<R: Files + AllocGlobal>(
         files,
         &mut known.tool,
     ) {
-        Ok(Ok(fingerprint)) => note_fingerprint(rt, line, request, fingerprint, &mut known.files),
-        Ok(Err(_)) | Err(_) => Ok(()),
+        Ok(Ok(fingerprint)) => Ok(Some(note_fingerprint(
+            rt,
+            line,
+            request,
+            fingerprint,
+            &mut known.files,
+        )?)),
+        Ok(Err(_)) | Err(_) => Ok(None),
     }
 }
 
@@ -487,8 +497,10 @@ fn ask_and_note<P: Print + Files<File = File> + AllocGlobal, I: Read>(
 {
     let end = ask_until(rt, line, host, request, hint, known);
     // What was made is there, whatever becomes of this.
-    let _ = note_made(rt, line, request, &end, known);
-    end_audit(rt, line, known, end?)
+    let why = note_made(rt, line, request, &end, known).unwrap_or(None);
+    let mut end = end_audit(rt, line, known, end?)?;
+    end.told.why = why;
+    Ok(end)
 }
 
 /// What is known of a call of a compiler of that kind before anything was asked. In a box, so that no other function has to hold it.

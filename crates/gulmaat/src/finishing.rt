@@ -6,6 +6,7 @@ use crate::deciding::{End, What};
 use blake2::Blake2b256;
 use cache_dir::folder::Kind;
 use cache_dir::making_room::make_room;
+use call_log::told::Told;
 use host_protocol::command_line::CommandLine;
 use host_protocol::fields::into_text;
 use host_protocol::host::Host;
@@ -32,6 +33,19 @@ fn paths_of(alloc: Global, outputs: &[Output]) -> Result<Listed<OsBytes>, HostEr
         paths.push(output.path.clone()?)?;
     }
     Ok(paths)
+}
+
+/// What a log says of outputs, and of the time of a compile.
+fn told_of(outputs: &[Output], known: &Known) -> Told {
+    let mut bytes = 0u64;
+    for output in outputs {
+        bytes = bytes.saturating_add(output.contents.as_bytes().len() as u64);
+    }
+    Told {
+        why: None,
+        bytes,
+        compile_time: known.compile_time(),
+    }
 }
 
 /// Puts kept outputs and a dependency file where the request wants them, and has printed again what was printed beside them. A hit is given
@@ -106,7 +120,7 @@ fn note_call<R: Files + AllocGlobal>(
         }
     }
     if !known.has_hint(&key.digest, name) {
-        let _ = note_hint(rt, line, hint, &key.digest, name);
+        let _ = note_hint(rt, line, hint, &key.digest, name, known.compile_time());
     }
     Ok(make_room(&rt, &line.folder, names.as_slice())?)
 }
@@ -202,7 +216,8 @@ pub fn finish<P: Print + Files<File = File> + AllocGlobal, I: Read>(
         (_, _) => given.how,
     };
     let what = What::Done(how, known.unwatched);
-    Ok(End { what, audit })
+    let told = told_of(given.outputs, known);
+    Ok(End { what, audit, told })
 }
 
 /// Gives outputs of which it isn't known under which key they were kept.
@@ -218,5 +233,6 @@ fn finish_without_key<R: Files<File = File> + AllocGlobal>(
     Ok(End {
         what: What::Done(given.how, known.unwatched),
         audit: Audit::None,
+        told: told_of(given.outputs, known),
     })
 }

@@ -13,7 +13,7 @@ use std::io::{Read, Write};
 /// The longest message that is taken.
 const LONGEST: u64 = 1 << 28;
 
-/// The letters of what is asked for: a preprocessor, whose text goes to the place that the host named, or the compile.
+/// The letters of what is asked for: a preprocessor, whose text goes to the place that the host named, the compile, or a line in a log.
 const PREPROCESS: u8 = b'P';
 
 const COMPILE: u8 = b'C';
@@ -24,12 +24,16 @@ const FETCH: u8 = b'F';
 
 const SEND: u8 = b'S';
 
+const LOG: u8 = b'L';
+
 /// What a command came to.
 #[derive(Drop)]
 pub struct Ended {
     pub status: i32,
     /// Whether it printed nothing beside its output.
     pub silent: bool,
+    /// How many microseconds it took.
+    pub time: u64,
 }
 
 /// What asking a server came to, and how often.
@@ -78,6 +82,31 @@ fn message_of(alloc: Global, letter: u8, words: &[OsBytes]) -> Result<Vec<u8>, H
     Ok(message)
 }
 
+/// Sends a message to a host.
+fn send<P: Print + Alloc>(rt: &P, alloc: Global, message: &[u8]) -> Result<(), HostError> {
+    let mut whole = Vec::new(alloc);
+    put_framed(&mut whole, message)?;
+    let mut writer = io::writer(rt);
+    writer.write_all(whole.as_slice())?;
+    Ok(writer.flush()?)
+}
+
+/// Has a host put a line into the log at that place. This is its front, behind which the host writes when the call began and ended, what ran and
+/// with which status: it alone knows. It answers nothing.
+pub fn tell_line<P: Print + Alloc>(
+    rt: &P,
+    alloc: Global,
+    place: &str,
+    front: &str,
+) -> Result<(), HostError> {
+    let mut message = Vec::new(alloc);
+    put_number(&mut message, u64::from(LOG))?;
+    put_number(&mut message, 2)?;
+    put_framed(&mut message, place.as_bytes())?;
+    put_framed(&mut message, front.as_bytes())?;
+    send(rt, alloc, message.as_slice())
+}
+
 /// Has a host run the compiler with these words, and waits for its end.
 fn run_words<P: Print + Alloc, I: Read>(
     rt: &P,
@@ -87,17 +116,18 @@ fn run_words<P: Print + Alloc, I: Read>(
     words: &[OsBytes],
 ) -> Result<Ended, HostError> {
     let message = message_of(alloc, letter, words)?;
-    let mut whole = Vec::new(alloc);
-    put_framed(&mut whole, message.as_slice())?;
-    let mut writer = io::writer(rt);
-    writer.write_all(whole.as_slice())?;
-    writer.flush()?;
+    send(rt, alloc, message.as_slice())?;
     let answer = read_message(alloc, reader)?;
     let mut fields = Fields::of(answer.as_slice());
     let status = fields.number()?;
     let silent = fields.number()? == 1;
+    let time = fields.number()?;
     match i32::try_from(status) {
-        Ok(status) => Ok(Ended { status, silent }),
+        Ok(status) => Ok(Ended {
+            status,
+            silent,
+            time,
+        }),
         Err(_) => Err(HostError::Unreadable),
     }
 }

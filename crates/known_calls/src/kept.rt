@@ -19,11 +19,13 @@ use std::alloc::Global;
 use std::rt::Files;
 use wrap::{Output, StoreKey};
 
-/// What a command line had last: the digest of its key, and the name of its manifest, where it had one.
+/// What a command line had last: the digest of its key, and the name of its manifest, where it had one. And how many microseconds its last
+/// compile took; 0 where that isn't known.
 #[derive(Drop)]
 pub struct Hint {
     pub digest: OsBytes,
     pub manifest_name: String,
+    pub compile_time: u64,
 }
 
 /// The name under which the hint of this command line lies.
@@ -73,15 +75,17 @@ pub fn hint_at<R: Files + AllocGlobal>(
     if bytes.len() < LETTERS {
         return Ok(None);
     }
-    let (digest, name) = bytes.as_slice().split_at(LETTERS);
-    let Ok(name) = str::from_utf8(name) else {
+    let (digest, rest) = bytes.as_slice().split_at(LETTERS);
+    let Ok(rest) = str::from_utf8(rest) else {
         return Ok(None);
     };
+    let (name, time) = rest.split_once(' ').unwrap_or((rest, ""));
     let digest = OsBytes::from_slice(rt.alloc(), digest)?;
     let manifest_name = String::from_str(rt.alloc(), name)?;
     Ok(Some(Hint {
         digest,
         manifest_name,
+        compile_time: time.parse::<u64>().unwrap_or(0),
     }))
 }
 
@@ -99,17 +103,19 @@ pub fn kept_under<R: Files + AllocGlobal>(
     }
 }
 
-/// Notes which digest this command line had, and the name of its manifest; an empty one where it had none.
+/// Notes which digest this command line had, the name of its manifest, an empty one where it had none, and how long its last compile took.
 pub fn note_hint<R: Files + AllocGlobal>(
     rt: &R,
     line: &CommandLine,
     hint: &str,
     digest: &OsBytes,
     manifest_name: &str,
+    compile_time: u64,
 ) -> Result<(), HostError> {
     let mut bytes = Vec::new(rt.alloc());
     bytes.extend_from_slice(digest.as_bytes())?;
-    bytes.extend_from_slice(manifest_name.as_bytes())?;
+    let rest = format!(in rt.alloc(); "{manifest_name} {compile_time}")?;
+    bytes.extend_from_slice(rest.as_bytes())?;
     Ok(line.folder.put(rt, Kind::Hints, hint, bytes.as_slice())?)
 }
 

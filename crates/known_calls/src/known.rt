@@ -92,6 +92,8 @@ pub struct Known {
     /// What the compile printed on its standard output and its standard error; nothing where it didn't run.
     pub printed: OsBytes,
     pub errors: OsBytes,
+    /// How many microseconds the compile took; nothing where it didn't run.
+    compile_time: Option<u64>,
 }
 
 impl Known {
@@ -127,6 +129,16 @@ impl Known {
             preprocessor: OsBytes::empty(alloc),
             printed: OsBytes::empty(alloc),
             errors: OsBytes::empty(alloc),
+            compile_time: None,
+        }
+    }
+
+    /// How many microseconds the last compile of this command line took; 0 where that isn't known.
+    pub fn compile_time(&self) -> u64 {
+        match (self.compile_time, &self.hint) {
+            (Some(time), _) => time,
+            (None, Some(had)) => had.compile_time,
+            (None, None) => 0,
         }
     }
 
@@ -427,6 +439,7 @@ impl Known {
         self.are_unchanged = false;
         self.printed = printed_at(rt, &ended, line.printed.as_str())?;
         self.errors = printed_at(rt, &ended, line.errors.as_str())?;
+        self.compile_time = Some(ended.time);
         let contents = made_since(rt, paths, before.as_slice())?;
         let status = ended.status;
         if status == 0 {

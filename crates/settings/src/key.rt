@@ -20,6 +20,8 @@ pub enum Key {
     Disable,
     /// The file that gets a line for each call; none where it is empty.
     LogFile,
+    /// How a line of that file is written: `text` or `json`.
+    LogFormat,
     /// How much is kept.
     MaxSize,
     /// Whether nothing is kept that isn't yet.
@@ -60,11 +62,13 @@ pub enum Kind {
     Options,
     /// An address with attributes, or nothing.
     Storage,
+    /// `text` or `json`.
+    LogFormat,
 }
 
 impl Key {
     /// All of them, in the order of their names.
-    pub const ALL: [Key; 15] = [
+    pub const ALL: [Key; 16] = [
         Key::AllowOptions,
         Key::Audit,
         Key::BaseDir,
@@ -72,6 +76,7 @@ impl Key {
         Key::DirectMode,
         Key::Disable,
         Key::LogFile,
+        Key::LogFormat,
         Key::MaxSize,
         Key::ReadOnly,
         Key::Recache,
@@ -92,6 +97,7 @@ impl Key {
             Key::DirectMode => "direct_mode",
             Key::Disable => "disable",
             Key::LogFile => "log_file",
+            Key::LogFormat => "log_format",
             Key::MaxSize => "max_size",
             Key::ReadOnly => "read_only",
             Key::Recache => "recache",
@@ -113,6 +119,7 @@ impl Key {
             Key::DirectMode => "GULMAAT_DIRECT",
             Key::Disable => "GULMAAT_DISABLE",
             Key::LogFile => "GULMAAT_LOGFILE",
+            Key::LogFormat => "GULMAAT_LOG_FORMAT",
             Key::MaxSize => "GULMAAT_MAXSIZE",
             Key::ReadOnly => "GULMAAT_READONLY",
             Key::Recache => "GULMAAT_RECACHE",
@@ -137,6 +144,7 @@ impl Key {
             | Key::Umask => "",
             Key::Audit => "0",
             Key::Disable | Key::ReadOnly | Key::Recache => "false",
+            Key::LogFormat => "text",
             Key::MaxSize => "5G",
             Key::DirectMode | Key::Stats => "true",
         }
@@ -150,6 +158,7 @@ impl Key {
             Key::BaseDir => Kind::Paths,
             Key::CacheDir | Key::LogFile | Key::RemoteKey => Kind::Path,
             Key::RemoteStorage => Kind::Storage,
+            Key::LogFormat => Kind::LogFormat,
             Key::MaxSize => Kind::Size,
             Key::Sloppiness => Kind::Sloppiness,
             Key::Umask => Kind::Mask,
@@ -186,6 +195,7 @@ impl Kind {
             Kind::Audit => "a whole number, or tell",
             Kind::Mask => "an octal number up to 777",
             Kind::Sloppiness => "lines",
+            Kind::LogFormat => "text or json",
             Kind::Options => "options with spaces between them, each of which begins with -",
             Kind::Storage =>
                 "redis://, redis+unix:, http://, https:// or file: with an address, and attributes behind |; rediss: isn't there",
@@ -202,6 +212,7 @@ impl Kind {
             Kind::Audit => text == TELL || text.parse::<u64>().is_ok(),
             Kind::Mask => text.is_empty() || mask_named(text).is_some(),
             Kind::Sloppiness => matches!(text, "" | "lines"),
+            Kind::LogFormat => matches!(text, "text" | "json"),
             Kind::Options => text.split(' ').all(is_option),
             Kind::Storage => text.is_empty() || is_storage(text),
         }
