@@ -226,6 +226,30 @@ static int answer_options(int count, char **list) {
     return 127;
 }
 
+/* Whether options ask for what the program beside the program shows: a page, a trace or a comparison of logs. */
+static int asks_for_logs(int count, char **list) {
+    const char *const names[] = {"--page", "--trace", "--compare"};
+    for (size_t i = 0; i < sizeof names / sizeof *names; i++)
+        if (count > 1 && !strcmp(list[1], names[i])) return 1;
+    return 0;
+}
+
+/* Has gulmaat-page, which lies beside the program, show what logs tell. Its words stand behind the folder of both. */
+static int show_logs(int count, char **list) {
+    char folder[PATH_MAX], page[PATH_MAX + 16], **line = calloc(count + 3, sizeof *line);
+    const char *program = find_program();
+    if (!line || !program) return 127;
+    int size = strrchr(program, '/') ? (int)(strrchr(program, '/') - program) : 0;
+    snprintf(folder, sizeof folder, "%.*s", size ? size : 1, size ? program : ".");
+    snprintf(page, sizeof page, "%s/gulmaat-page", folder);
+    line[0] = page;
+    line[1] = folder;
+    for (int i = 1; i < count; i++) line[i + 1] = list[i];
+    execv(page, line);
+    perror(page);
+    return 127;
+}
+
 int main(int count, char **list) {
     if (count < 1) return 127;
     began = now();
@@ -238,7 +262,8 @@ int main(int count, char **list) {
         /* A hit is compiled too, and the program says what differs. */
         setenv("GULMAAT_AUDIT", "tell", 1);
         words++;
-    } else if (!is_link && (count < 2 || list[1][0] == '-')) return answer_options(count, list);
+    } else if (!is_link && asks_for_logs(count, list)) return show_logs(count, list);
+    else if (!is_link && (count < 2 || list[1][0] == '-')) return answer_options(count, list);
     const char *asked = is_link ? name : words[0];
     if (find_compiler(asked)) {
         int why = errno;
