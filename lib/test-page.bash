@@ -34,6 +34,7 @@ page_lines() {
     local begun
     printf '#include "it.h"\nint f(void) { return COUNT; }\n' >it.c
     echo '#define COUNT 1' >it.h
+    settle
     begun=$(date +%s)
     "$host" gcc -O2 -c it.c -o it.o
     is "log: a miss" [ "$(logged 'it["v"], it["what"], it["status"]')" = "1 cache_miss 0" ]
@@ -132,7 +133,7 @@ page_hostile() {
 
 # Builds side by side.
 page_compare() {
-    local common='"v":1,"dir":"/w","compiler":"gcc","words":["-c"],"pid":1,"ppid":1'
+    local sums common='"v":1,"dir":"/w","compiler":"gcc","words":["-c"],"pid":1,"ppid":1'
     printf '{%s,"what":"%s","output":"%s","start":%d,"end":%d%s}\n' \
         "$common" cache_miss a.o 1000000 3000000 '' "$common" cache_miss b.o 1000000 2000000 '' \
         "$common" direct_cache_hit c.o 2000000 2001000 ',"compile_time":501000' >one.log

@@ -87,8 +87,8 @@
   facts.id = 'facts';
   facts.setAttribute('aria-live', 'polite');
   keys.id = 'keys';
-  const wide = [['wheel, + and −', 'zoom'], ['0', 'all'], ['← →', 'the call before and behind'], ['↑ ↓', 'another lane'],
-    ['Enter', 'its row']];
+  const wide = [['wheel, + and −', 'zoom'], ['0', 'all'], ['← →', 'previous and next call'], ['↑ ↓', 'another lane'],
+    ['Enter', 'its row in the table']];
   keys.textContent = wide.map(([key, what]) => key + ': ' + what).join(' · ');
   axis.after(facts, keys);
   svg.setAttribute('tabindex', '0');
@@ -187,7 +187,7 @@
   search.type = 'search';
   search.id = 'search';
   label.append(search);
-  const before = element('button', 'Before'), behind = element('button', 'Behind');
+  const before = element('button', 'Previous'), behind = element('button', 'Next');
   before.type = behind.type = 'button';
   tools.append(label, before, behind);
   tools.hidden = false;

@@ -79,7 +79,7 @@ pub fn push_summary(html: &mut String, alloc: Global, build: &Build) -> Result<(
     let sums = &build.sums;
     let calls = sums.calls;
     html.push_str(
-        "<section aria-labelledby=\"sums\">\n<h2 id=\"sums\">In short</h2>\n<dl class=\"facts\">\n",
+        "<section aria-labelledby=\"sums\">\n<h2 id=\"sums\">Summary</h2>\n<dl class=\"facts\">\n",
     )?;
     let value = format!(in alloc; "<b data-count=\"{calls}\">{calls}</b>")?;
     push_fact(html, "Calls", value.as_str(), "")?;

@@ -61,8 +61,8 @@ pub fn push_misses(html: &mut String, alloc: Global, build: &Build) -> Result<()
     if groups.is_empty() {
         return html.push_str("<p>No call was a miss.</p>\n</section>\n");
     }
-    let heads = ["Misses", "Time", "Made", "The longest"];
-    push_table(html, "misses", "Misses by what made them", heads.as_slice())?;
+    let heads = ["Misses", "Time", "Cause", "Longest call"];
+    push_table(html, "misses", "Misses by cause", heads.as_slice())?;
     for group in groups.iter().take(GROUPS) {
         push_group(html, group)?;
         if let Some(call) = calls.get(group.longest) {
@@ -106,7 +106,7 @@ pub fn push_passed(html: &mut String, alloc: Global, build: &Build) -> Result<()
     if groups.is_empty() {
         return html.push_str("<p>Each call was cacheable.</p>\n</section>\n");
     }
-    let heads = ["Calls", "Time", "Reason", "What to do", "The longest"];
+    let heads = ["Calls", "Time", "Reason", "What to do", "Longest call"];
     push_table(
         html,
         "passed",
