@@ -73,7 +73,11 @@ impl End {
             RustcWhat::Done(how) => What::Done(how, None),
             RustcWhat::Pass(reason) => What::Pass(reason),
         };
-        End { what, audit }
+        End {
+            what,
+            audit,
+            told: Told::nothing(),
+        }
     }
 }
 
