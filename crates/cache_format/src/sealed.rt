@@ -28,9 +28,9 @@ impl Sealed for KeptResult {
 }
 
 impl Sealed for KeptManifest {
-    const VERSION: u8 = 3;
+    const VERSION: u8 = 4;
 
-    ghost VERSION = { 3 };
+    ghost VERSION = { 4 };
 }
 
 impl Sealed for KeptParts {
