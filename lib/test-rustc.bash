@@ -242,5 +242,6 @@ END
     rustc_places
     rustc_why
     rustc_proxies
+    is "rustc: hits are counted by language" [ "$("$host" --print-stats | awk '$1 == "rustc_cache_hit" { print $2 }')" = "$(counted | cut -d ' ' -f 1)" ]
     cd "$work" || return
 }

@@ -8,6 +8,7 @@ use host_protocol::host::{Tally, tell_line};
 use host_protocol::host_error::HostError;
 use known_calls::audits::Audit;
 use known_calls::logging::log;
+use rustc_id::rustc::is_named_rustc;
 use settings::key::Key;
 use statistics::calls::counters_of;
 use statistics::file::count;
@@ -25,6 +26,14 @@ fn counter_of(line: &CommandLine, how: How) -> &'static str {
         How::Stored => "preprocessed_cache_hit",
         How::Fresh if line.settings.is_on(Key::Recache) => "recache",
         How::Fresh => "cache_miss",
+    }
+}
+
+/// The counter of a call of rustc whose outputs are there, beside the one of all languages.
+fn counter_of_rustc(how: How) -> &'static str {
+    match how {
+        How::Fresh => "rustc_cache_miss",
+        How::Direct | How::Stored => "rustc_cache_hit",
     }
 }
 
@@ -59,6 +68,9 @@ fn counters_done(
 ) -> Result<Vec<String>, HostError> {
     let mut counters = Vec::new(alloc);
     counters.push(String::from_str(alloc, counter_of(line, how))?)?;
+    if is_named_rustc(line.executable.as_str()) {
+        counters.push(String::from_str(alloc, counter_of_rustc(how))?)?;
+    }
     if is_unwatched {
         counters.push(name_of(alloc, "", reason)?)?;
     }
