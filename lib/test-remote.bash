@@ -90,11 +90,19 @@ start_proxy() {
 }
 stop_proxy() { kill "$proxy_server"; wait "$proxy_server" 2>/dev/null; }
 
+# Whether a helper of a call of this part sends something yet.
+is_sending() {
+    local process
+    for process in $(pgrep -x gulmaat-remote); do
+        if tr '\0' '\n' 2>/dev/null <"/proc/$process/environ" | grep -q "^GULMAAT_DIR=$work/"; then return 0; fi
+    done 2>/dev/null
+    return 1
+}
 # Waits until all that was to be sent is.
 sent() {
     local turn
     for turn in $(seq 300); do
-        pgrep -x gulmaat-remote >/dev/null || return 0
+        is_sending || return 0
         sleep 0.05
     done
     echo "  something is sent yet after $turn turns"
@@ -486,7 +494,7 @@ remote_redis_faults() {
     GULMAAT_REMOTE="redis://127.0.0.1:$redis_port$patient"
     # Full: nothing more is taken, and what isn't there is a miss.
     redis flushall >/dev/null
-    redis config set maxmemory 1mb >/dev/null
+    redis config set maxmemory 1 >/dev/null
     redis config set maxmemory-policy noeviction >/dev/null
     faulty_build "Redis, full"
     is "Redis, full: nothing is stored" [ "$(redis dbsize)" = 0 ]
