@@ -587,8 +587,8 @@ remote_helpers() {
     on two "$host" gcc $remote_words -c it-1.c -o ours/it.o 2>err
     is "no helper: status" [ $? = 0 ]
     is "no helper: it is said" grep -q '^gulmaat: remote_storage is set, but .*/gulmaat-remote isn.t there' err
-    for script in 'sleep 100' 'printf b; sleep 100' 'printf bc; sleep 100' 'exit 0' 'printf x' 'printf bcx' 'printf bc0; sleep 100' 'cat >/dev/null; sleep 100' \
-        'kill -9 $$' 'head -c 1000000 /dev/urandom; sleep 100' 'trap "" TERM HUP; printf b; while :; do sleep 1; done'; do
+    for script in 'sleep 100' 'printf b; sleep 100' 'printf bc; sleep 100' 'exit 0' 'printf x' 'printf bcx' 'printf bc0; cat >/dev/null' 'cat >/dev/null; sleep 100' \
+        'kill -9 $$' 'head -c 1000000 /dev/urandom' 'trap "" TERM HUP; printf b; while :; do sleep 1; done'; do
         printf '#!/bin/sh\n%s\n' "$script" >"$own/gulmaat-remote.new"
         chmod +x "$own/gulmaat-remote.new"
         mv "$own/gulmaat-remote.new" "$own/gulmaat-remote"
