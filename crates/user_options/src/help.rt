@@ -23,8 +23,8 @@ gulmaat OPTION..
   -d, --dir DIR                  the options with it are of what is kept there
       --audit COMMAND ..         runs the command; a hit is compiled too, and what differs is said
       --why COMMAND ..           what differed, at the last call with the outputs of this command that was compiled, from the one before it
-      --page LOG                 prints a page of the last build in a log of GULMAAT_LOG_FORMAT=json; with --all of all builds, and with
-                                 --ninja FILE also with the other commands of that build, as links, by ninja's own log
+      --page LOG                 prints a page of the last build in a log of GULMAAT_LOG_FORMAT=json; with --all of all builds, and
+                                 with --ninja FILE also with the other commands of that build, as links, by ninja's own log
       --trace LOG                the same as a trace for Perfetto or chrome://tracing
       --compare LOG LOG          the last builds of two logs side by side
       --links DIR                puts links into this folder, by which gulmaat stands before the compilers that are on the path
