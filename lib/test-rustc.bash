@@ -221,6 +221,7 @@ rustc_calls() {
     rustc=$(real_rustc)
     mkdir -p "$dir/out" && cd "$dir" || return
     "$host" --clear
+    "$host" --zero-stats
     cat >it.rs <<'END'
 mod inner;
 pub const TEXT: &str = include_str!("text");
