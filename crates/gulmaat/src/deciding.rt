@@ -68,16 +68,14 @@ impl End {
 
     /// What a call of rustc came to.
     fn of_rustc(end: RustcEnd) -> End {
-        let RustcEnd { what, audit } = end;
+        let RustcEnd { what, audit, why } = end;
         let what = match what {
             RustcWhat::Done(how) => What::Done(how, None),
             RustcWhat::Pass(reason) => What::Pass(reason),
         };
-        End {
-            what,
-            audit,
-            told: Told::nothing(),
-        }
+        let mut told = Told::nothing();
+        told.why = why;
+        End { what, audit, told }
     }
 }
 

@@ -43,6 +43,8 @@ pub enum RustcWhat {
 pub struct RustcEnd {
     pub what: RustcWhat,
     pub audit: Audit,
+    /// What differed from the call before it, where it was compiled.
+    pub why: Option<String>,
 }
 
 impl RustcEnd {
@@ -51,6 +53,7 @@ impl RustcEnd {
         RustcEnd {
             what: RustcWhat::Pass(reason),
             audit: Audit::None,
+            why: None,
         }
     }
 }
@@ -265,6 +268,7 @@ fn act_on_hit<P: Files<File = File> + AllocGlobal>(
     Ok(Some(RustcEnd {
         what: RustcWhat::Done(how),
         audit: Audit::None,
+        why: None,
     }))
 }
 
@@ -282,13 +286,14 @@ fn act_on_fresh<P: Files<File = File> + AllocGlobal>(
         (Audit::Alike, Some(audited)) => audited.how,
         (_, _) => How::Fresh,
     };
+    let mut why = None;
     if known.audited.is_none() {
         keep_made(rt, line, key, outputs, dep_info, known)?;
         // What was made is there, whatever becomes of this.
-        let _ = known.note_parts(rt, line);
+        why = known.note_parts(rt, line).ok();
     }
     let what = RustcWhat::Done(how);
-    Ok(Some(RustcEnd { what, audit }))
+    Ok(Some(RustcEnd { what, audit, why }))
 }
 
 /// Acts on outputs with which the session answered. None where they are compiled too.
@@ -319,14 +324,14 @@ fn end_audit<R: Files<File = File> + AllocGlobal>(
     known: &KnownCrate,
     end: RustcEnd,
 ) -> Result<RustcEnd, HostError> {
-    let RustcEnd { what, audit } = end;
+    let RustcEnd { what, audit, why } = end;
     let audit = match &what {
         RustcWhat::Pass(_) if known.audited.is_some() => {
             known.differs(rt, line, String::from_str(rt.alloc(), "status")?)?
         }
         _ => audit,
     };
-    Ok(RustcEnd { what, audit })
+    Ok(RustcEnd { what, audit, why })
 }
 
 /// Acts on what the session answered. None where more is known then.

@@ -276,12 +276,12 @@ impl KnownCrate {
         Ok(())
     }
 
-    /// Notes of what the key was made, for whoever asks why the call was compiled.
+    /// Notes of what the key was made, for whoever asks why the call was compiled, and tells it.
     pub(crate) fn note_parts<R: Files + AllocGlobal>(
         &mut self,
         rt: &R,
         line: &CommandLine,
-    ) -> Result<(), HostError> {
+    ) -> Result<String, HostError> {
         let alloc = rt.alloc();
         for (path, _) in self.states.iter() {
             if let Ok(Some(token)) = self.files.read(alloc, path) {

@@ -156,18 +156,19 @@ fn difference(alloc: Global, here: &[Row], there: &[Row]) -> Result<OsBytes, Hos
     }
 }
 
-/// Keeps the parts of a call that was compiled, and what differs from those of the call before it with these outputs.
+/// Keeps the parts of a call that was compiled, and what differs from those of the call before it with these outputs, which is told.
 pub fn note_parts<R: Files + AllocGlobal>(
     rt: &R,
     folder: &CacheDir,
     name: &str,
     parts: &PartRows,
-) -> Result<(), HostError> {
+) -> Result<String, HostError> {
     let alloc = rt.alloc();
     let watched = match kept_under(rt, folder, name)? {
         Some(kept) => difference(alloc, parts.rows.as_slice(), kept.rows.as_slice())?,
         None => OsBytes::empty(alloc),
     };
+    let told = told_in(alloc, &watched)?;
     let kept = KeptManifest {
         zone: OsBytes::from_slice(alloc, OF_PARTS)?,
         identity: OsBytes::empty(alloc),
@@ -177,7 +178,16 @@ pub fn note_parts<R: Files + AllocGlobal>(
     };
     let bytes = seal::<Blake2b256, KeptManifest>(alloc, &kept)?;
     folder.put(rt, Kind::Fingerprints, name, bytes.as_slice())?;
-    Ok(make_room(&rt, folder, &[name])?)
+    make_room(&rt, folder, &[name])?;
+    Ok(told)
+}
+
+/// What a difference says; where it is empty, there was no call before.
+fn told_in(alloc: Global, difference: &OsBytes) -> Result<String, HostError> {
+    match difference.as_bytes().is_empty() {
+        true => Ok(String::from_str(alloc, "the first call that was compiled")?),
+        false => Ok(format!(in alloc; "{difference}")?),
+    }
 }
 
 /// What is known of the last call of that name that was compiled, in a line.
@@ -189,9 +199,6 @@ pub fn told_of_parts<R: Files + AllocGlobal>(
     let alloc = rt.alloc();
     match kept_under(rt, folder, name)? {
         None => Ok(String::from_str(alloc, "nothing is known")?),
-        Some(kept) if kept.difference.as_bytes().is_empty() => {
-            Ok(String::from_str(alloc, "the first call that was compiled")?)
-        }
-        Some(kept) => Ok(format!(in alloc; "{}", kept.difference)?),
+        Some(kept) => told_in(alloc, &kept.difference),
     }
 }
