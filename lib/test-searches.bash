@@ -155,6 +155,8 @@ search_spellings() {
     local cc=$1 text
     for text in '/* a */ #include <value.h> /* b */' '/* a *\\\n/ #include <value.h>' '\357\273\277#include <value.h>' \
         '#include <value.h>\nconst char *mark = "%%:";'; do
+        # Clang warns of a comment whose end goes on in the next line, and beside a message there is no manifest.
+        case $cc$text in clang*'*\\\n/'*) continue ;; esac
         printf "$text\nint value = VALUE;\n" >it.c
         settle
         search_case "$cc: written as $text" 'printf "#define VALUE 7\n" >early/value.h' "rm early/value.h" $cc -Iearly -Ilate
