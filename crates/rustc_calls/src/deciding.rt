@@ -170,10 +170,12 @@ fn request_of<R: Files + AllocGlobal>(
         &mut known.parts,
     )?;
     env.push(variable_of(alloc, &additions)?)?;
+    let words = copies(alloc, words)?;
+    let dir = line.dir.clone()?;
     let request = Request {
         compiler: Compiler::Rust(rust),
-        words: copies(alloc, words)?,
-        dir: line.dir.clone()?,
+        words,
+        dir,
         env,
         moment: line.second(),
     };
@@ -361,6 +363,21 @@ fn act_on<P: Print + Files<File = File> + AllocGlobal, I: Read>(
     }
 }
 
+/// One attempt. None where more is known after it.
+fn attempt<P: Print + Files<File = File> + AllocGlobal, I: Read>(
+    rt: &P,
+    line: &CommandLine,
+    host: &mut Host<I>,
+    request: &Request,
+    known: &mut KnownCrate,
+) -> Result<Option<RustcEnd>, HostError>
+    requires { host.old.compiled ≤ 1 }
+    ensures { host.new.compiled ≤ 1 }
+{
+    let answered = answer_by(rt.alloc(), request, known)?;
+    act_on(rt, line, host, request, &answered, known)
+}
+
 /// Asks the session about the request until it answers, each time with more that is known.
 fn ask_until<P: Print + Files<File = File> + AllocGlobal, I: Read>(
     rt: &P,
@@ -374,14 +391,45 @@ fn ask_until<P: Print + Files<File = File> + AllocGlobal, I: Read>(
     ensures once { host.new.compiled ≤ 1 }
 {
     for _ in 0..ATTEMPTS {
-        let answered = answer_by(rt.alloc(), request, known)?;
-        let end = act_on(rt, line, host, request, &answered, known)?;
-        drop(answered);
+        let end = attempt(rt, line, host, request, known)?;
         if let Some(end) = end {
             return Ok(end);
         }
     }
     Ok(RustcEnd::pass(String::from_str(rt.alloc(), "fault: too many attempts")?))
+}
+
+/// Asks the session about a request, of which it is learned first what the crate is made of.
+fn ask_with<P: Print + Files<File = File> + AllocGlobal, I: Read>(
+    rt: &P,
+    line: &CommandLine,
+    host: &mut Host<I>,
+    request: &mut Request,
+    parsed: &ParsedArguments,
+    known: &mut KnownCrate,
+) -> Result<RustcEnd, HostError>
+    requires { host.old.compiled ≡ 0 }
+    ensures once { host.new.compiled ≤ 1 }
+{
+    known.learn_sources(rt, line, host, request, parsed)?;
+    let end = ask_until(rt, line, host, request, known)?;
+    end_audit(rt, line, known, end)
+}
+
+/// Asks the session about a call to that rustc, whose crates are loaded.
+fn ask_of<P: Print + Files<File = File> + AllocGlobal, I: Read>(
+    rt: &P,
+    line: &CommandLine,
+    host: &mut Host<I>,
+    rust: Rust,
+    parsed: &ParsedArguments,
+    known: &mut KnownCrate,
+) -> Result<RustcEnd, HostError>
+    requires { host.old.compiled ≡ 0 }
+    ensures once { host.new.compiled ≤ 1 }
+{
+    let mut request = request_of(rt, line, rust, known)?;
+    ask_with(rt, line, host, request.as_mut(), parsed, known)
 }
 
 /// Asks the session about a call whose words come to that.
@@ -398,13 +446,27 @@ fn ask_about<P: Print + Files<File = File> + AllocGlobal, I: Read>(
     let alloc = rt.alloc();
     let words = words_of(line);
     known.take_words(alloc, line, words, parsed)?;
+    known.load_crates(rt, line, parsed)?;
     let target = target_in(alloc, words)?;
     let rust = rustc_at(rt, line, host, target.as_deref())?;
-    known.load_crates(rt, line, parsed)?;
-    let mut request = request_of(rt, line, rust, known)?;
-    known.learn_sources(rt, line, host, request.as_mut(), parsed)?;
-    let end = ask_until(rt, line, host, request.as_ref(), known)?;
-    end_audit(rt, line, known, end)
+    ask_of(rt, line, host, rust, parsed, known)
+}
+
+/// Parses the words of a call, and asks the session where they ask for what can be kept.
+fn ask_parsed<P: Print + Files<File = File> + AllocGlobal, I: Read>(
+    rt: &P,
+    line: &CommandLine,
+    host: &mut Host<I>,
+    known: &mut KnownCrate,
+) -> Result<RustcEnd, HostError>
+    requires { host.old.compiled ≡ 0 }
+    ensures once { host.new.compiled ≤ 1 }
+{
+    match parse(rt, line, words_of(line), known)? {
+        CompilerArguments::Ok(parsed) => ask_about(rt, line, host, &parsed, known),
+        CompilerArguments::NotCompilation => pass(rt.alloc(), "not a compilation", None),
+        CompilerArguments::CannotCache(reason, more) => pass(rt.alloc(), reason, more),
+    }
 }
 
 /// Decides on a command line of rustc.
@@ -418,14 +480,9 @@ pub fn decide_on_rustc<P: Print + Files<File = File> + AllocGlobal, I: Read>(
     ensures once { host.new.compiled ≤ 1 }
 {
     let alloc = rt.alloc();
-    let words = words_of(line);
-    if let Some(reason) = reason_against(rt, line, words)? {
+    if let Some(reason) = reason_against(rt, line, words_of(line))? {
         return pass(alloc, reason.as_str(), None);
     }
     let mut known = Box::new(alloc, KnownCrate::new(alloc))?;
-    match parse(rt, line, words, known.as_mut())? {
-        CompilerArguments::Ok(parsed) => ask_about(rt, line, host, &parsed, known.as_mut()),
-        CompilerArguments::NotCompilation => pass(alloc, "not a compilation", None),
-        CompilerArguments::CannotCache(reason, more) => pass(alloc, reason, more),
-    }
+    ask_parsed(rt, line, host, known.as_mut())
 }
