@@ -1,5 +1,7 @@
 //! What a page's script reads: all calls, with texts by number.
 
+ghost use Rattle.std.specs.Iterator.{IsFinite};
+
 use crate::reading::Build;
 use build_log::call::Call;
 use build_log::kind::Kind;
@@ -7,11 +9,13 @@ use json_texts::push_text;
 use std::alloc::{AllocError, Global};
 
 /// Writes a list of texts.
-fn push_texts<'a>(
+fn push_texts<'a, Texts: Iterator<Item = &'a str> + Drop>(
     json: &mut String,
     name: &str,
-    texts: impl Iterator<Item = &'a str> + Drop,
-) -> Result<(), AllocError> {
+    texts: Texts,
+) -> Result<(), AllocError>
+    requires { Texts.Iterator.can_next texts × IsFinite (Texts.Iterator.remaining texts) }
+{
     write!(json, "\"{name}\":[")?;
     let mut mark = "";
     for text in texts {
