@@ -4,4 +4,3 @@ pub mod Layout
 pub mod ResultFormats
 pub mod KeptManifests
 pub mod KeptParts
-pub mod KeptCrates

@@ -3,7 +3,6 @@
 #![tactic(auto)]
 
 pub mod codes;
-pub mod kept_crate;
 pub mod kept_manifest;
 pub mod kept_parts;
 pub mod kept_result;

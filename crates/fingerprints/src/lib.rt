@@ -2,7 +2,6 @@
 #![tactic(auto)]
 
 pub mod c_parts;
-pub mod difference;
 pub mod explain;
 pub mod fingerprint;
 pub mod laws;

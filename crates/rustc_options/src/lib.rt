@@ -4,7 +4,6 @@
 pub mod data;
 pub mod kind;
 pub mod laws;
-pub mod parsed;
 pub mod sets;
 pub mod splitting;
 pub mod table;

@@ -4,7 +4,6 @@
 pub mod asking;
 pub mod manifests;
 pub mod search_list;
-pub mod shared_lists;
 pub mod texts;
 pub mod unwatched;
 pub mod watch_list;

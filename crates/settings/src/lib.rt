@@ -7,5 +7,4 @@ pub mod lines;
 pub mod places;
 pub mod reading;
 pub mod settings;
-pub mod storage;
 pub mod values;

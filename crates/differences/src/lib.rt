@@ -1,0 +1,4 @@
+//! Where two fingerprints differ, told to people.
+#![tactic(auto)]
+
+pub mod difference;
