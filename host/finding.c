@@ -143,3 +143,14 @@ const char *find_program(void) {
         "bin/build\n", size, self, program);
     return NULL;
 }
+
+/* The helper that asks a server: it lies beside the program. Says where it isn't. */
+const char *find_helper(void) {
+    static char helper[PATH_MAX + 48];
+    const char *program = find_program(), *slash = program ? strrchr(program, '/') : NULL;
+    if (!program) return NULL;
+    snprintf(helper, sizeof helper, "%.*s/gulmaat-remote", slash ? (int)(slash - program) : 1, slash ? program : ".");
+    if (is_program(helper)) return helper;
+    fprintf(stderr, "gulmaat: remote_storage is set, but %s isn't there: bin/host makes it where its libraries are\n", helper);
+    return NULL;
+}

@@ -43,7 +43,7 @@ static void add(const void *bytes, size_t size) {
 
 static void add_number(uint64_t number) {
     unsigned char bytes[8];
-    for (int i = 0; i < 8; i++) bytes[i] = number >> 8 * i;
+    put_number(bytes, number);
     add(bytes, 8);
 }
 
@@ -53,25 +53,8 @@ static void begin_message(void) {
     add_number(0);
 }
 
-static uint64_t number_at(const unsigned char *bytes) {
-    uint64_t number = 0;
-    for (int i = 8; i-- > 0;) number = number << 8 | bytes[i];
-    return number;
-}
-
 static void add_bytes(const char *bytes, size_t size) { add_number(size); add(bytes, size); }
 static void add_string(const char *string) { add_bytes(string, strlen(string)); }
-
-static int read_all(int file, void *bytes, size_t size) {
-    for (char *at = bytes; size;) {
-        ssize_t got = read(file, at, size);
-        if (got < 0 && errno == EINTR && !stopped) continue;
-        if (got <= 0) return -1;
-        at += got;
-        size -= got;
-    }
-    return 0;
-}
 
 static int is_empty(int file) {
     struct stat state;
@@ -163,63 +146,49 @@ static void tell_command_line(void) {
 }
 
 static int send_message(int to) {
-    for (int i = 0; i < 8; i++) message[i] = (uint64_t)(message_size - 8) >> 8 * i;
+    put_number(message, message_size - 8);
     return write_all(to, message, message_size);
 }
 
-static void free_words(char **line) {
-    for (char **word = line ? line + 1 : NULL; word && *word; word++) free(*word);
-    free(line);
-}
-
-/* The words that a question names behind its letter, behind the compiler's own name; none where it isn't well formed. */
-static char **words_of(const unsigned char *question, uint64_t size) {
-    if (size < 16) return NULL;
-    uint64_t count = number_at(question + 8), at = 16;
-    if (count > size / 8) return NULL;
-    char **line = calloc(count + 2, sizeof *line);
-    if (!line) return NULL;
-    line[0] = words[0];
-    for (uint64_t i = 0; i < count; i++) {
-        uint64_t length = size - at < 8 ? size : number_at(question + at);
-        line[i + 1] = size - at < 8 || length > size - at - 8 ? NULL : strndup((const char *)question + at + 8, length);
-        if (!line[i + 1]) { free_words(line); return NULL; }
-        at += 8 + length;
-    }
-    return line;
-}
-
-/* The next question of the program, and its size; NULL where none comes, or it is too long. */
-static unsigned char *next_question(int from, uint64_t *size) {
-    unsigned char head[8], *question;
-    if (read_all(from, head, 8)) return NULL;
-    *size = number_at(head);
-    question = *size < UINT64_C(1) << 28 ? malloc(*size + 1) : NULL;
-    if (question && read_all(from, question, *size)) { free(question); question = NULL; }
-    return question;
-}
-
-/* Tells the program how what it asked for ended, and whether nothing was printed beside a text, or by the compile. */
-static int answer(int to, int ended, int is_compile) {
+/* Tells the program how what it asked for ended, whether nothing was printed beside a text, or by the compile, and how long it took. */
+static int answer(int to, int ended, int is_compile, uint64_t from) {
     begin_message();
     add_number(WIFEXITED(ended) ? WEXITSTATUS(ended) : 128 + WTERMSIG(ended));
     add_number(is_empty(messages) && (!is_compile || is_empty(printed)));
+    add_number(now() - from);
     return send_message(to);
 }
 
-/* Answers questions until the program ends or a signal comes, and gives how a compile ended that ran and was shown, or -1. */
+/* Has a question's words run, and gives how that ended; -1 where it couldn't be started. */
+static int run_asked(char **line, int is_compile) {
+    uint64_t from = now();
+    int ended = !line ? -1 : is_compile ? compile(line) : preprocess(line);
+    if (ended >= 0) note_run(is_compile ? 'C' : 'P', from);
+    return ended;
+}
+
+/* Answers questions until the program ends or a signal comes, and gives how a compile ended that ran and was shown, or -1. A line for a log is
+ * taken, and not answered. Closes the pipe to it. */
 static int answer_questions(int from, int to) {
     int compiled = -1, goes_on = 1;
     uint64_t size;
     unsigned char *question;
-    while (goes_on && !stopped && (question = next_question(from, &size))) {
-        char **line = words_of(question, size);
-        int is_compile = line && number_at(question) == 'C', ended = !line ? -1 : is_compile ? compile(line) : preprocess(line);
-        if (is_compile && !isnt_shown) compiled = ended;
-        goes_on = ended >= 0 && !isnt_shown && !isnt_kept && !stopped && !answer(to, ended, is_compile);
+    while (!stopped && (question = next_question(from, &size))) {
+        char **line = words_of(question, size, words[0]);
+        uint64_t letter = line ? number_at(question) : 0, then = now();
+        if (letter == 'L') take_line(line);
+        else if (goes_on) {
+            int is_compile = letter == 'C', is_for_server = letter == 'F' || letter == 'S';
+            int ended = is_for_server ? ask_server(question, size, line) : run_asked(line, is_compile);
+            if (is_compile && !isnt_shown) compiled = ended;
+            goes_on = ended >= 0 && !isnt_shown && !isnt_kept && !stopped && !answer(to, ended, is_compile, then);
+            /* Nothing is answered any more, which the program sees. What it has to say then is taken still. */
+            if (!goes_on) close(to);
+        }
         free_words(line);
         free(question);
     }
+    if (goes_on) close(to);
     return compiled;
 }
 
@@ -257,8 +226,33 @@ static int answer_options(int count, char **list) {
     return 127;
 }
 
+/* Whether options ask for what the program beside the program shows: a page, a trace or a comparison of logs. */
+static int asks_for_logs(int count, char **list) {
+    const char *const names[] = {"--page", "--trace", "--compare"};
+    for (size_t i = 0; i < sizeof names / sizeof *names; i++)
+        if (count > 1 && !strcmp(list[1], names[i])) return 1;
+    return 0;
+}
+
+/* Has gulmaat-page, which lies beside the program, show what logs tell. Its words stand behind the folder of both. */
+static int show_logs(int count, char **list) {
+    char folder[PATH_MAX], page[PATH_MAX + 16], **line = calloc(count + 3, sizeof *line);
+    const char *program = find_program();
+    if (!line || !program) return 127;
+    int size = strrchr(program, '/') ? (int)(strrchr(program, '/') - program) : 0;
+    snprintf(folder, sizeof folder, "%.*s", size ? size : 1, size ? program : ".");
+    snprintf(page, sizeof page, "%s/gulmaat-page", folder);
+    line[0] = page;
+    line[1] = folder;
+    for (int i = 1; i < count; i++) line[i + 1] = list[i];
+    execv(page, line);
+    perror(page);
+    return 127;
+}
+
 int main(int count, char **list) {
     if (count < 1) return 127;
+    began = now();
     int is_poor = hold_closed();
     find_self();
     const char *name = strrchr(list[0], '/') ? strrchr(list[0], '/') + 1 : list[0];
@@ -268,7 +262,8 @@ int main(int count, char **list) {
         /* A hit is compiled too, and the program says what differs. */
         setenv("GULMAAT_AUDIT", "tell", 1);
         words++;
-    } else if (!is_link && (count < 2 || list[1][0] == '-')) return answer_options(count, list);
+    } else if (!is_link && asks_for_logs(count, list)) return show_logs(count, list);
+    else if (!is_link && (count < 2 || list[1][0] == '-')) return answer_options(count, list);
     const char *asked = is_link ? name : words[0];
     if (find_compiler(asked)) {
         int why = errno;
@@ -288,12 +283,15 @@ int main(int count, char **list) {
     }
     /* While it is loaded. */
     tell_command_line();
-    int compiled = send_message(to) ? -1 : answer_questions(from, to);
-    close(to);
+    int compiled = -1;
+    if (send_message(to)) close(to);
+    else compiled = answer_questions(from, to);
     int status = end_of(child, from);
+    if (compiled >= 0) write_line(compiled);
     if (compiled >= 0 && WIFEXITED(compiled)) return WEXITSTATUS(compiled);
     if (compiled >= 0) end_by(WTERMSIG(compiled));
     if (stopped) end_by(stopped);
     if (isnt_shown || !WIFEXITED(status) || WEXITSTATUS(status) != DONE || show_kept()) pass_through();
+    write_line(0);
     return 0;
 }

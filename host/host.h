@@ -2,9 +2,10 @@
 #ifndef HOST_H
 #define HOST_H
 
+#include "questions.h"
 #include <limits.h>
-#include <signal.h>
 #include <stddef.h>
+#include <stdint.h>
 #include <sys/types.h>
 
 /* ---- finding.c: which files run. */
@@ -17,12 +18,12 @@ extern int is_inside;               /* whether a host runs this one, by whatever
 void find_self(void);
 int find_compiler(const char *name);
 const char *find_program(void);
+const char *find_helper(void);
 void tell_inside(void);
 
 /* ---- running.c: processes and signals. */
 
 extern int text, messages, printed, list;   /* files in memory, in which a command's output goes, and the files that a text is made of */
-extern volatile sig_atomic_t stopped;       /* the signal that came and stops this process */
 
 int hold_closed(void);
 int make_files(void);
@@ -32,6 +33,19 @@ _Noreturn void end_by(int number);
 pid_t start(const char *program, int *to, int *from);
 int preprocess(char **line);
 int compile(char **line);
+
+/* ---- asking.c: the helper that asks a server. */
+
+int ask_server(const unsigned char *question, size_t size, char **line);
+/* ---- logging.c: the line of a call in a log. */
+
+extern uint64_t began;              /* when this call began, in microseconds since 1970 */
+
+uint64_t now(void);
+void note_run(char letter, uint64_t from);
+void take_line(char **line);
+int has_line(void);
+void write_line(int ended);
 
 /* ---- showing.c: what a compiler prints. */
 

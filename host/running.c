@@ -112,8 +112,11 @@ void end_by(int number) {
     _exit(128 + number);
 }
 
+static void run_for_log(void);
+
 /* Runs the compiler as if nobody had asked, unless this process was to stop. */
 void pass_through(void) {
+    if (has_line() && !stopped) run_for_log();
     give_back_signals();
     if (stopped) end_by(stopped);
     if (watches) sigprocmask(SIG_SETMASK, &callers, NULL);
@@ -139,7 +142,8 @@ static pid_t launch(const char *file, char **line, const int files[3], int is_pr
         if (files[i] >= 0 && dup2(files[i], i) < 0) { fault = errno; _exit(127); }
     if (!is_program) {
         close_files(!has_list);
-        if (was_closed[0]) close(0);
+        for (int i = 0; i < 3; i++)
+            if (files[i] < 0 && was_closed[i]) close(i);
         give_back_signals();
         sigprocmask(SIG_SETMASK, &callers, NULL);
     }
@@ -258,4 +262,15 @@ int compile(char **line) {
     for (int i = 0; i < 2; i++)
         if (streams[i].from >= 0) close(streams[i].from);
     return -1;
+}
+
+/* Runs the compiler as if nobody had asked, and ends as it did, with a line in the log. Returns where it couldn't be started. */
+static void run_for_log(void) {
+    uint64_t from = now();
+    if (start_compiler(words, -1, -1, 0)) return;
+    int ended = wait_for(NULL, 0);
+    note_run('C', from);
+    write_line(ended);
+    if (WIFEXITED(ended)) _exit(WEXITSTATUS(ended));
+    end_by(WTERMSIG(ended));
 }

@@ -57,7 +57,7 @@ habits_help() {
     done
     # Each option of the help is in the manual page and the completions, and the other way round.
     grep -o '^ *-[A-Za-z], --[a-z-]*\|^ *--[a-z-]*' help | grep -o -- '--[a-z-]*' | sort >options
-    is "help: all options" [ "$(wc -l <options)" = 16 ]
+    is "help: all options" [ "$(wc -l <options)" = 19 ]
     sed 's/\\-/-/g; s/"//g' "$top/share/gulmaat.1" | grep '^\.BR\? -' | grep -o -- '--[a-z-]*' | sort >manual
     is "the manual page has all of them, and -v" diff <(sort options <(echo --verbose)) manual
     is "bash completes all of them, and -v" diff manual <(grep -o -- '--[a-z-]*[a-z]' "$top/share/gulmaat.bash" | sort -u |
@@ -215,7 +215,7 @@ shows() { prints "$1 = $2, from $3" "($3) $1 = $2" grep "^([^)]*) $1 =" <("$host
 
 habits_settings() {
     local option key value
-    for option in -p --show-config; do is "$option: thirteen keys" [ "$("$host" $option | wc -l)" = 13 ]; done
+    for option in -p --show-config; do is "$option: sixteen keys" [ "$("$host" $option | wc -l)" = 16 ]; done
     shows max_size 5G default
     shows cache_dir "$GULMAAT_DIR" GULMAAT_DIR
     for option in -o --set-config; do
@@ -225,8 +225,8 @@ habits_settings() {
         shows max_size 5G "$file"
     done
     for option in -k --get-config; do prints "$option" 5G "$host" $option max_size; done
-    prints "all keys are read" "" "$host" -o read_only=no -o recache=off -o stats=on -o disable=0 -o direct_mode=false -o log_file= -o base_dir= -o umask=002 -o sloppiness=lines -o audit=7 -o allow_options="-fone -ftwo"
-    for key in read_only recache stats disable direct_mode log_file base_dir max_size umask sloppiness audit allow_options; do
+    prints "all keys are read" "" "$host" -o read_only=no -o recache=off -o stats=on -o disable=0 -o direct_mode=false -o log_file= -o log_format=json -o base_dir= -o umask=002 -o sloppiness=lines -o audit=7 -o allow_options="-fone -ftwo"
+    for key in read_only recache stats disable direct_mode log_file log_format base_dir max_size umask sloppiness audit allow_options; do
         is "$key comes from the file" grep -q "^($file) $key = " <("$host" -p)
     done
     printf '# a comment\n\n  stats=yes\n' >"$file"
@@ -237,6 +237,7 @@ habits_settings() {
     refused "-o stats=maybe" "stats is maybe: set it to 1, yes, true or on, or 0, no, false or off" "$host" -o stats=maybe
     refused "-o audit=some" "audit is some: set it to a whole number, or tell" "$host" -o audit=some
     refused "-o cache_dir=here" "cache_dir is here: set it to an absolute path" "$host" -o cache_dir=here
+    refused "-o log_format=xml" "log_format is xml: set it to text or json" "$host" -o log_format=xml
     for value in 8 1777 -2 rw; do
         refused "-o umask=$value" "umask is $value: set it to an octal number up to 777" "$host" -o umask=$value
     done

@@ -82,6 +82,13 @@ lines() {
     line_call "lines of another file" "1 1" "$cc" -g
     sed -i 's#/\* c \*/$#/* c c */#' lines.c
     line_call "lines of another file, a comment" "1 1" "$cc" -g
+    # So it does where such a directive stands behind a comment.
+    printf '/* a */ #line 7\nint h(int a) { return a; }\n' >numbered.c
+    "$host" "$cc" -g -c numbered.c -o it.o
+    sed -i 's#return a#return /* b */ a#' numbered.c
+    "$host" "$cc" -g -c numbered.c -o it.o
+    "$cc" -g -c numbered.c -o plain.o
+    is "$cc: lines of other numbers behind a comment" cmp -s plain.o it.o
     # A user may say that lines don't count.
     sed -i 's#/\* one and two \*/#/* three */#' lines.c
     mark

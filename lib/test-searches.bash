@@ -144,9 +144,28 @@ searches() {
     printf '#pragma once\nstatic int other;\n' >two/once.h
     search_call "$cc: and a file of its own" $cc
     rm two/once.h
+    search_spellings "$cc"
     search_names "$cc"
     search_others "$cc"
     cd "$work" || return
+}
+
+# How a directive may be written, and marks in a string that are none.
+search_spellings() {
+    local cc=$1 text
+    for text in '/* a */ #include <value.h> /* b */' '/* a *\\\n/ #include <value.h>' '\357\273\277#include <value.h>' \
+        '#include <value.h>\nconst char *mark = "%%:";'; do
+        # Clang warns of a comment whose end goes on in the next line, and beside a message there is no manifest.
+        case $cc$text in clang*'*\\\n/'*) continue ;; esac
+        printf "$text\nint value = VALUE;\n" >it.c
+        settle
+        search_case "$cc: written as $text" 'printf "#define VALUE 7\n" >early/value.h' "rm early/value.h" $cc -Iearly -Ilate
+    done
+    for text in '%%:include <value.h>' '/* a */ %%:include <value.h>' '%%\\\n:include <value.h>'; do
+        printf "$text\nint value = VALUE;\n" >it.c
+        settle
+        search_none "$cc: written as $text" $cc -Ilate
+    done
 }
 
 # Names that aren't written, and times that are pasted: there is no manifest.

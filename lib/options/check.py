@@ -1,6 +1,6 @@
 #!/usr/bin/env python3
 """check.py: whether each option that the help texts of the machine's gcc and clang list is known to `known_options`, or stands among the
-exceptions with its reason. Prints what is in neither, and what is in both. Compilers of other versions than the tables are of aren't looked at:
+exceptions with its reason; and those of its rustc to `rustc_words`. Prints what is in neither, and what is in both. Compilers of other versions than the tables are of aren't looked at:
 what is new in them isn't known, and so it is passed through. Its last line is 'N passed, M failed'.
 """
 import fnmatch
@@ -20,6 +20,7 @@ HELPS = {
 
 # The versions that the tables are of.
 VERSIONS = {"gcc": "12", "clang": "14"}
+RUSTC = "rustc 1.95."
 
 
 def text_of(path):
@@ -80,11 +81,51 @@ def listed(command):
     return sorted(words)
 
 
+def said_by_rustc(*words):
+    """What the machine's rustc prints for these words; nothing where it isn't here."""
+    if not shutil.which("rustc"):
+        return ""
+    return subprocess.run(["rustc", *words], stdout=subprocess.PIPE, stderr=subprocess.DEVNULL, text=True, errors="replace", check=False).stdout
+
+
+def listed_by_rustc():
+    """The options that rustc's help lists, and those of code generation."""
+    words = set()
+    for line in said_by_rustc("--help", "-v").splitlines():
+        found = re.match(r" {4}(?:(-\w), )? *(--[\w-]+)?", line)
+        words.update(word for word in found.groups() if word) if found else None
+    found = re.findall(r"^ +-C +([\w-]+)", said_by_rustc("-C", "help"), re.M)
+    return sorted(words | {f"-C {name}" for name in found})
+
+
+def known_of_rustc():
+    """The options that `rustc_words` has. Of folders it has some kinds."""
+    lists = dict(re.findall(r"pub const (\w+): \[&str; \d+\] = \[(.*?)\];", text_of(f"{TOP}/crates/rustc_words/src/tables.rt"), re.S))
+    names = {name: set(re.findall(r'"([^"]*)"', row)) for name, row in lists.items()}
+    return names["FLAGS"] | names["VALUED"] | names["LETTERS"] | names["GENERATION"] | {f"-C {name}" for name in names["CODEGEN"]}
+
+
+def exceptions_in(name):
+    """The options of a list of exceptions."""
+    return [line.split("\t")[0] for line in text_of(f"{TOP}/lib/options/{name}").splitlines() if line and line[0] != "#"]
+
+
+def check_rustc():
+    """How many options of rustc are in one of both, and how many aren't."""
+    if not said_by_rustc("--version").startswith(RUSTC):
+        print(f"{RUSTC}* isn't here: its options weren't looked at")
+        return 0, 0
+    known, exceptions = known_of_rustc(), set(exceptions_in("exceptions-rustc"))
+    wrong = [word for word in listed_by_rustc() if (word in known) == (word in exceptions)]
+    for word in wrong:
+        print(f"rustc {word}: {'both known and an exception' if word in known else 'neither known nor an exception'}")
+    return len(listed_by_rustc()) - len(wrong), len(wrong)
+
+
 def main():
     known = Known()
-    rows = [line.split("\t") for line in text_of(f"{TOP}/lib/options/exceptions").splitlines() if line and line[0] != "#"]
-    exceptions = [pattern for pattern, _ in rows]
-    passed = failed = 0
+    exceptions = exceptions_in("exceptions")
+    passed, failed = check_rustc()
     for command in HELPS:
         if version_of(command) != VERSIONS[command]:
             print(f"{command} {VERSIONS[command]} isn't here: its options weren't looked at")

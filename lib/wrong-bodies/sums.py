@@ -20,14 +20,22 @@ TOP = os.path.dirname(os.path.dirname(os.path.dirname(os.path.realpath(__file__)
 
 
 def crates_below():
-    """The crates that each crate of crates.txt stands on."""
-    below = {}
+    """All crates that each crate of crates.txt stands on, also by others, in the order of that file."""
+    named = {}
     with open(f"{TOP}/crates.txt", encoding="utf-8") as lines:
         for line in lines:
             name, colon, others = line.partition(":")
             if colon and not line.startswith("#"):
-                below[name.split()[0]] = others.split()
-    return below
+                named[name.split()[0]] = others.split()
+
+    def reach(crate, found):
+        for other in named.get(crate, []):
+            if other not in found:
+                found.add(other)
+                reach(other, found)
+        return found
+
+    return {crate: [it for it in named if it in reach(crate, set())] for crate in named}
 
 
 def without_comments(text):

@@ -10,7 +10,8 @@ use byte_formats::fields::put_framed;
 use cache_dir::error::CacheDirError;
 use cache_dir::file_digests::digest_of;
 use cache_dir::folder::{CacheDir, Kind};
-use cache_format::sealed::{manifest_bytes, read_manifest};
+use cache_format::kept_manifest::KeptManifest;
+use cache_format::sealed::{seal, unseal};
 use ckeys_base::hash_state::HashState;
 use entry_keys::entry_key::EntryKey;
 use include_records::record::PreprocessorCacheEntry;
@@ -41,7 +42,7 @@ pub fn put_manifest<R: Files + AllocGlobal>(
     watched: OsBytes,
 ) -> Result<(), CacheDirError> {
     let kept = kept_of(rt.alloc(), zone, key, entry, watched)?;
-    let bytes = manifest_bytes::<Blake2b256>(rt.alloc(), &kept)?;
+    let bytes = seal::<Blake2b256, KeptManifest>(rt.alloc(), &kept)?;
     folder.put(rt, Kind::Manifests, name, bytes.as_slice())
 }
 
@@ -55,7 +56,7 @@ pub fn manifest_under<R: Files + AllocGlobal>(
     let Ok(bytes) = folder.read(rt, Kind::Manifests, name) else {
         return Ok(None);
     };
-    let Some(kept) = read_manifest::<Blake2b256>(rt.alloc(), bytes.as_slice())? else {
+    let Some(kept) = unseal::<Blake2b256, KeptManifest>(rt.alloc(), bytes.as_slice())? else {
         return Ok(None);
     };
     if kept.zone.as_bytes() != zone.as_bytes() {

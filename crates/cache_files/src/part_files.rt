@@ -6,7 +6,7 @@ use cache_dir::error::CacheDirError;
 use cache_dir::file_digests::digest_of;
 use cache_dir::folder::{CacheDir, Kind};
 use cache_format::kept_parts::KeptParts;
-use cache_format::sealed::{parts_bytes, read_parts};
+use cache_format::sealed::{seal, unseal};
 use cmdlines_base::command::ArtifactDescriptor;
 use os_files::os_bytes::OsBytes;
 use std::alloc::{AllocError, Global};
@@ -33,7 +33,7 @@ pub fn put_parts<R: Files + AllocGlobal>(
     name: &str,
     kept: &KeptParts,
 ) -> Result<(), CacheDirError> {
-    let bytes = parts_bytes::<Blake2b256>(rt.alloc(), kept)?;
+    let bytes = seal::<Blake2b256, KeptParts>(rt.alloc(), kept)?;
     folder.put(rt, Kind::Fingerprints, name, bytes.as_slice())
 }
 
@@ -46,5 +46,5 @@ pub fn parts_under<R: Files + AllocGlobal>(
     let Ok(bytes) = folder.read(rt, Kind::Fingerprints, name) else {
         return Ok(None);
     };
-    read_parts::<Blake2b256>(rt.alloc(), bytes.as_slice())
+    unseal::<Blake2b256, KeptParts>(rt.alloc(), bytes.as_slice())
 }

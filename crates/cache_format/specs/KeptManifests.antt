@@ -1,11 +1,10 @@
 -- The bytes of an manifest with what it is kept under.
-use Rattle.std.proofs.Common.{ℕ, refl}
+use Rattle.std.proofs.Common.{refl}
 use Rattle.os_files.specs.Bytes.{Bytes}
 use Rattle.byte_formats.specs.FieldFormats.{both_format, framed_format, made_format}
 use Rattle.byte_formats.specs.Formats.{IsFormat}
 use Rattle.byte_formats.specs.Reading.{Read, both_at, framed_at, made_at}
 use Rattle.byte_formats.specs.Spelling.{BothFit, FitsFrame, both, framed}
-use Rattle.cache_format.specs.Sealed.{sealed_bytes}
 use Rattle.cache_format.specs.declared.kept_manifest.KeptManifest.{KeptManifest}
 
 -- its fields, in order
@@ -33,11 +32,3 @@ kept_at = made_at kept_from (both_at framed_at (both_at framed_at (both_at frame
 pub kept_format : IsFormat kept_at kept_bytes KeptFits
 unfolding kept_at
 kept_format = made_format kept_from kept_fields _ _ _ (λ x. refl) (λ y. refl) (both_format _ _ _ _ _ _ framed_format (both_format _ _ _ _ _ _ framed_format (both_format _ _ _ _ _ _ framed_format (both_format _ _ _ _ _ _ framed_format framed_format))))
-
--- the version of this layout
-abbrev pub manifest_version : ℕ
-manifest_version = 3
-
--- the version and the fields, and the digest of these
-abbrev pub manifest_bytes : (Bytes → Bytes) → KeptManifest → Bytes
-manifest_bytes digest_of k = sealed_bytes digest_of manifest_version kept_bytes k

@@ -1,5 +1,5 @@
 -- The bytes of the parts of a call that was compiled, with what differed from the one before it.
-use Rattle.std.proofs.Common.{ℕ, Bool, List, Option, refl}
+use Rattle.std.proofs.Common.{Bool, List, Option, refl}
 use Rattle.os_files.specs.Bytes.{Bytes}
 use Rattle.byte_formats.specs.FieldFormats.{both_format, counted_format, framed_format, made_format, optional_format}
 use Rattle.byte_formats.specs.Formats.{IsFormat}
@@ -9,7 +9,6 @@ use Rattle.cmdlines_tables.specs.declared.language.Language.{Language}
 use Rattle.cache_format.specs.Codes.{coded, coded_at, flag_code, flag_of, language_code, language_of}
 use Rattle.cache_format.specs.ResultFormats.{flag_format, language_format, name_format}
 use Rattle.cache_format.specs.Layout.{AnyFits, NameFits, name_at, name_bytes}
-use Rattle.cache_format.specs.Sealed.{sealed_bytes}
 use Rattle.cache_format.specs.declared.kept_result.KeptName.{KeptName}
 use Rattle.cache_format.specs.declared.kept_parts.KeptParts.{KeptParts}
 use Rattle.cache_format.specs.declared.kept_parts.KeptVariable.{KeptVariable}
@@ -71,11 +70,3 @@ fields_format =
     let lists = both_format _ _ _ _ _ _ (counted_format _ _ _ framed_format) (both_format _ _ _ _ _ _ (counted_format _ _ _ variable_format) (both_format _ _ _ _ _ _ (counted_format _ _ _ framed_format) last)) in
     let fields = both_format _ _ _ _ _ _ framed_format (both_format _ _ _ _ _ _ flag_format (both_format _ _ _ _ _ _ language_format lists)) in
     made_format parts_from parts_fields _ _ _ (λ x. refl) (λ y. refl) fields
-
--- the version of this layout
-abbrev pub parts_version : ℕ
-parts_version = 2
-
--- the version and the fields, and the digest of these
-abbrev pub parts_bytes : (Bytes → Bytes) → KeptParts → Bytes
-parts_bytes digest_of p = sealed_bytes digest_of parts_version fields_bytes p

@@ -5,7 +5,6 @@ use Rattle.byte_formats.specs.Reading.{Read, both_at, counted_at, framed_at, mad
 use Rattle.byte_formats.specs.Spelling.{BothFit, CountFits, FitsFrame, FitsNumber, IfFits, both, counted, framed, number, optional}
 use Rattle.cmdlines_tables.specs.declared.language.Language.{Language}
 use Rattle.cache_format.specs.Codes.{coded, coded_at, flag_code, flag_of, language_code, language_of}
-use Rattle.cache_format.specs.Sealed.{sealed_bytes}
 use Rattle.cache_format.specs.declared.kept_result.KeptResult.{KeptResult}
 use Rattle.cache_format.specs.declared.kept_result.KeptMessages.{KeptMessages}
 use Rattle.cache_format.specs.declared.kept_result.KeptName.{KeptName}
@@ -102,11 +101,3 @@ messages_at = made_at messages_from (both_at framed_at (both_at framed_at (both_
 
 unfoldable pub contents_at : Bytes → Read KeptResult
 contents_at = made_at entry_from (both_at shape_at (both_at (counted_at name_at) (both_at framed_at (both_at (counted_at output_at) messages_at))))
-
--- the version of this layout
-abbrev pub layout_version : ℕ
-layout_version = 4
-
--- an entry's bytes: the version and its contents, and the digest of these
-abbrev pub result_bytes : (Bytes → Bytes) → KeptResult → Bytes
-result_bytes digest_of e = sealed_bytes digest_of layout_version contents_bytes e

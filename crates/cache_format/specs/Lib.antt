@@ -4,3 +4,4 @@ pub mod Layout
 pub mod ResultFormats
 pub mod KeptManifests
 pub mod KeptParts
+pub mod KeptCrates

@@ -3,6 +3,7 @@
 #![tactic(auto)]
 
 pub mod codes;
+pub mod kept_crate;
 pub mod kept_manifest;
 pub mod kept_parts;
 pub mod kept_result;

@@ -1,15 +1,10 @@
 //! Whole values, behind the version of their layout and with the digest of their bytes at the end.
 
-ghost use Rattle.std.specs.Prelude.{◌≡◌, IfOk, IfSome, OnOk, Some};
+ghost use Rattle.std.specs.Prelude.{◌≡◌, ℕ, IfOk, IfSome, OnOk, Some};
 ghost use Rattle.byte_formats.specs.Reading.{Gives};
-ghost use Rattle.cache_format.specs.KeptParts.{PartsFit, parts_bytes};
-ghost use Rattle.cache_format.specs.KeptManifests.{KeptFits, manifest_bytes};
-ghost use Rattle.cache_format.specs.Layout.{EntryFits, result_bytes};
 ghost use Rattle.cache_format.specs.Sealed.{fields_at, sealed_bytes, whole_at};
-ghost use Rattle.cache_format.specs.declared.kept_result.KeptResult.{KeptResult};
-ghost use Rattle.cache_format.specs.declared.kept_parts.KeptParts.{KeptParts};
-ghost use Rattle.cache_format.specs.declared.kept_manifest.KeptManifest.{KeptManifest};
 
+use crate::kept_crate::KeptCrate;
 use crate::kept_manifest::KeptManifest;
 use crate::kept_parts::KeptParts;
 use crate::kept_result::KeptResult;
@@ -18,14 +13,37 @@ use byte_formats::field::Field;
 use ckeys_base::hash_state::HashState;
 use std::alloc::{AllocError, Global};
 
-/// The version of the layout of entries, which each begins with.
-const RESULT_VERSION: u8 = 4;
+/// A value that lies in a file of its own.
+pub trait Sealed: Field {
+    /// The version of its layout, which the file begins with.
+    const VERSION: u8;
 
-/// That of manifests.
-const MANIFEST_VERSION: u8 = 3;
+    ghost VERSION: { ℕ };
+}
 
-/// That of the parts of calls.
-const PARTS_VERSION: u8 = 2;
+impl Sealed for KeptResult {
+    const VERSION: u8 = 4;
+
+    ghost VERSION = { 4 };
+}
+
+impl Sealed for KeptManifest {
+    const VERSION: u8 = 4;
+
+    ghost VERSION = { 4 };
+}
+
+impl Sealed for KeptParts {
+    const VERSION: u8 = 2;
+
+    ghost VERSION = { 2 };
+}
+
+impl Sealed for KeptCrate {
+    const VERSION: u8 = 1;
+
+    ghost VERSION = { 1 };
+}
 
 /// The digest of these bytes.
 fn digest_of<H: HashState>(alloc: Global, bytes: &[u8]) -> Result<Vec<u8>, AllocError>
@@ -107,78 +125,25 @@ fn read_sealed<H: HashState, T: Field>(
     }
 }
 
-/// The bytes of an entry: the version of their layout, its fields, and the digest of these.
-pub fn result_bytes<H: HashState>(alloc: Global, entry: &KeptResult) -> Result<Vec<u8>, AllocError>
-    ensures bytes { IfOk result (λ bytes. bytes.items ≡ result_bytes H.digest_of entry.now) }
-    ensures fits { OnOk result (EntryFits entry.now) }
+/// The bytes of a value: the version of its layout, its fields, and the digest of these.
+pub fn seal<H: HashState, T: Sealed>(alloc: Global, value: &T) -> Result<Vec<u8>, AllocError>
+    ensures bytes { IfOk result
+        (λ bytes. bytes.items ≡ sealed_bytes H.digest_of T.VERSION T.spells value.now) }
+    ensures fits { OnOk result (T.fits value.now) }
 {
-    sealed_bytes::<H, KeptResult>(alloc, RESULT_VERSION, entry)
+    sealed_bytes::<H, T>(alloc, T::VERSION, value)
 }
 
-/// The entry whose bytes these are. `None` where they are those of none, as where one was cut short, a byte of it was changed or
-/// its layout is of another version.
-pub fn read_result<H: HashState>(
-    alloc: Global,
-    bytes: &[u8],
-) -> Result<Option<KeptResult>, AllocError>
+/// The value whose bytes these are. `None` where they are those of none, as where some were cut off, a byte was changed or the layout is of
+/// another version.
+pub fn unseal<H: HashState, T: Sealed>(alloc: Global, bytes: &[u8]) -> Result<Option<T>, AllocError>
     // What is read is what was written.
-    ensures found { IfOk result (λ found. IfSome found (λ entry. EntryFits entry
-        × (bytes.now ≡ result_bytes H.digest_of entry))) }
+    ensures found { IfOk result (λ found. IfSome found (λ value. T.fits value
+        × (bytes.now ≡ sealed_bytes H.digest_of T.VERSION T.spells value))) }
     // What was written is read.
-    ensures only { (entry : KeptResult) → EntryFits entry →
-        bytes.now ≡ result_bytes H.digest_of entry →
-        IfOk result (λ found. found ≡ Some entry) }
+    ensures only { (value : T) → T.fits value →
+        bytes.now ≡ sealed_bytes H.digest_of T.VERSION T.spells value →
+        IfOk result (λ found. found ≡ Some value) }
 {
-    read_sealed::<H, KeptResult>(alloc, RESULT_VERSION, bytes)
-}
-
-/// The bytes of an manifest: the version of their layout, its fields, and the digest of these.
-pub fn manifest_bytes<H: HashState>(
-    alloc: Global,
-    kept: &KeptManifest,
-) -> Result<Vec<u8>, AllocError>
-    ensures bytes { IfOk result (λ bytes. bytes.items ≡ manifest_bytes H.digest_of kept.now) }
-    ensures fits { OnOk result (KeptFits kept.now) }
-{
-    sealed_bytes::<H, KeptManifest>(alloc, MANIFEST_VERSION, kept)
-}
-
-/// The manifest whose bytes these are. `None` where they are those of none, as with entries.
-pub fn read_manifest<H: HashState>(
-    alloc: Global,
-    bytes: &[u8],
-) -> Result<Option<KeptManifest>, AllocError>
-    // What is read is what was written.
-    ensures found { IfOk result (λ found. IfSome found (λ kept. KeptFits kept
-        × (bytes.now ≡ manifest_bytes H.digest_of kept))) }
-    // What was written is read.
-    ensures only { (kept : KeptManifest) → KeptFits kept →
-        bytes.now ≡ manifest_bytes H.digest_of kept →
-        IfOk result (λ found. found ≡ Some kept) }
-{
-    read_sealed::<H, KeptManifest>(alloc, MANIFEST_VERSION, bytes)
-}
-
-/// The bytes of a call's parts: the version of their layout, they, and the digest of these.
-pub fn parts_bytes<H: HashState>(alloc: Global, kept: &KeptParts) -> Result<Vec<u8>, AllocError>
-    ensures bytes { IfOk result (λ bytes. bytes.items ≡ parts_bytes H.digest_of kept.now) }
-    ensures fits { OnOk result (PartsFit kept.now) }
-{
-    sealed_bytes::<H, KeptParts>(alloc, PARTS_VERSION, kept)
-}
-
-/// The parts whose bytes these are. `None` where they are those of none, as with entries.
-pub fn read_parts<H: HashState>(
-    alloc: Global,
-    bytes: &[u8],
-) -> Result<Option<KeptParts>, AllocError>
-    // What is read is what was written.
-    ensures found { IfOk result (λ found. IfSome found (λ kept. PartsFit kept
-        × (bytes.now ≡ parts_bytes H.digest_of kept))) }
-    // What was written is read.
-    ensures only { (kept : KeptParts) → PartsFit kept →
-        bytes.now ≡ parts_bytes H.digest_of kept →
-        IfOk result (λ found. found ≡ Some kept) }
-{
-    read_sealed::<H, KeptParts>(alloc, PARTS_VERSION, bytes)
+    read_sealed::<H, T>(alloc, T::VERSION, bytes)
 }

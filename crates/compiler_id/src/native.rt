@@ -6,20 +6,18 @@ use byte_formats::fields::put_framed;
 use cache_dir::file_digests::{digest_of, state_of};
 use cache_dir::folder::Kind;
 use disk_files::whole::read_whole;
+use host_protocol::asking::{messages_of, push_words};
 use host_protocol::command_line::CommandLine;
+use host_protocol::digests::LETTERS;
 use host_protocol::host::Host;
 use host_protocol::host_error::HostError;
 use os_files::listed::Listed;
 use os_files::os_bytes::OsBytes;
-use std::fs;
 use std::io::Read;
 use std::rt::Files;
 
 /// What tells one start of a machine from another one: between two of them its processor may be another.
 const START: &str = "/proc/sys/kernel/random/boot_id";
-
-/// How many letters a digest has.
-const DIGEST: usize = 64;
 
 /// The words by which a driver asks the machine for its processor.
 fn native_words<R: AllocGlobal>(rt: &R, line: &CommandLine) -> Result<Listed<OsBytes>, HostError> {
@@ -52,7 +50,7 @@ fn name_of<R: Files + AllocGlobal>(
 /// The digest that was noted under that name, where it is one.
 fn known<R: Files + AllocGlobal>(rt: &R, line: &CommandLine, name: &str) -> Option<OsBytes> {
     let bytes = line.folder.read(rt, Kind::Parts, name).ok()?;
-    match bytes.len() == DIGEST {
+    match bytes.len() == LETTERS {
         true => Some(OsBytes::from_vec(bytes)),
         false => None,
     }
@@ -69,17 +67,13 @@ fn ask<P: Print + Files + AllocGlobal, I: Read>(
     ensures { host.new.compiled ≡ 0 }
 {
     let alloc = rt.alloc();
-    for word in ["-###", "-E", "-x", "c", "/dev/null"] {
-        words.push(OsBytes::from_slice(alloc, word.as_bytes())?)?;
-    }
-    let ended = host.preprocess(rt, alloc, words.as_slice())?;
-    if ended.status != 0 {
+    push_words(alloc, &mut words, &["-###", "-E", "-x", "c", "/dev/null"])?;
+    let said = messages_of(rt, line, host, words.as_slice())?;
+    if said.status != 0 {
         return Err(HostError::Parts);
     }
-    let said = read_whole(rt, line.errors.as_str())?;
-    // The host prints what it finds there.
-    fs::write(rt, line.errors.as_str(), b"")?;
-    Ok(OsBytes::from_slice(alloc, digest_of(alloc, said.as_slice())?.as_bytes())?)
+    let digest = digest_of(alloc, said.messages.as_slice())?;
+    Ok(OsBytes::from_slice(alloc, digest.as_bytes())?)
 }
 
 /// A digest of what the driver makes of `native` on this machine; nothing where no word has it.

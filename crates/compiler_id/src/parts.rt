@@ -8,6 +8,7 @@ use cache_dir::file_digests::state_of;
 use cache_dir::folder::Kind;
 use cmdlines_tables::compiler::CCompilerKind;
 use disk_files::whole::read_whole;
+use host_protocol::asking::{messages_of, words_of};
 use host_protocol::command_line::CommandLine;
 use host_protocol::fields::{Fields, into_text};
 use host_protocol::host::Host;
@@ -57,8 +58,7 @@ fn ask<P: Print + Files + AllocGlobal, I: Read>(
     ensures { host.new.compiled ≡ 0 }
 {
     let alloc = rt.alloc();
-    let mut words = Listed::new(alloc);
-    words.push(OsBytes::from_slice(alloc, word.as_bytes())?)?;
+    let words = words_of(alloc, &[word])?;
     let ended = host.preprocess(rt, alloc, words.as_slice())?;
     if ended.status != 0 || !ended.silent {
         return Err(HostError::Parts);
@@ -112,10 +112,7 @@ fn takes_word<P: Print + Files + AllocGlobal, I: Read>(
     ensures { host.new.compiled ≡ 0 }
 {
     let alloc = rt.alloc();
-    let mut words = Listed::new(alloc);
-    for word in [word, "-E", "-x", "c", "/dev/null"] {
-        words.push(OsBytes::from_slice(alloc, word.as_bytes())?)?;
-    }
+    let words = words_of(alloc, &[word, "-E", "-x", "c", "/dev/null"])?;
     let ended = host.preprocess(rt, alloc, words.as_slice())?;
     Ok(ended.status == 0 && ended.silent)
 }
@@ -182,14 +179,9 @@ fn refuse_configuration<P: Print + Files + AllocGlobal, I: Read>(
     requires { host.old.compiled ≡ 0 }
     ensures { host.new.compiled ≡ 0 }
 {
-    let alloc = rt.alloc();
-    let mut words = Listed::new(alloc);
-    words.push(OsBytes::from_slice(alloc, b"-v")?)?;
-    host.preprocess(rt, alloc, words.as_slice())?;
-    let said = read_whole(rt, line.errors.as_str())?;
-    // The host prints what it finds there.
-    fs::write(rt, line.errors.as_str(), b"")?;
-    match names_configuration(said.as_slice()) {
+    let words = words_of(rt.alloc(), &["-v"])?;
+    let said = messages_of(rt, line, host, words.as_slice())?;
+    match names_configuration(said.messages.as_slice()) {
         true => Err(HostError::Configuration),
         false => Ok(()),
     }

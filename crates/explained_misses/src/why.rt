@@ -13,7 +13,7 @@ use cmdlines_base::command::ArtifactDescriptor;
 use cmdlines_base::compiler_arguments::CompilerArguments;
 use cmdlines_requests::parsed::ParsedArguments;
 use compiler_id::compilers::kind_of;
-use differences::difference::Difference;
+use fingerprints::difference::Difference;
 use host_protocol::command_line::CommandLine;
 use host_protocol::host_error::HostError;
 use key_additions::additions::difference;
@@ -105,13 +105,14 @@ fn in_short(alloc: Global, fingerprint: Fingerprint) -> Result<Fingerprint, Host
     Ok(Fingerprint::C(parts))
 }
 
-/// Keeps the parts of a call that was compiled, whose text is in short, under that name, and what differs from those that lay there.
+/// Keeps the parts of a call that was compiled, whose text is in short, under that name, and what differs from those that lay there, which is
+/// told.
 fn note_parts<R: Files + AllocGlobal>(
     rt: &R,
     folder: &CacheDir,
     name: &str,
     one: &Fingerprint,
-) -> Result<(), HostError> {
+) -> Result<String, HostError> {
     let Fingerprint::C(parts) = one else {
         return Err(HostError::Unreadable);
     };
@@ -119,18 +120,19 @@ fn note_parts<R: Files + AllocGlobal>(
     let difference = difference_from(rt.alloc(), one, earlier)?;
     let kept = kept_parts(rt.alloc(), parts, difference)?;
     put_parts(rt, folder, name, &kept)?;
-    Ok(make_room(&rt, folder, &[name])?)
+    make_room(&rt, folder, &[name])?;
+    told_of(rt.alloc(), &Some(kept))
 }
 
 /// Keeps of what the key of a request was made that was compiled, by its fingerprint, and what differs from the call before it with these
-/// outputs.
+/// outputs, which is told.
 pub fn note_fingerprint<R: Files + AllocGlobal, F: CallFiles>(
     rt: &R,
     line: &CommandLine,
     request: &Request,
     fingerprint: Fingerprint,
     files: &mut F,
-) -> Result<(), HostError> {
+) -> Result<String, HostError> {
     let alloc = rt.alloc();
     let one = in_short(alloc, fingerprint)?;
     let name = name_of_request(alloc, request, files)?;

@@ -2,6 +2,7 @@
 #![tactic(auto)]
 
 pub mod c_parts;
+pub mod difference;
 pub mod explain;
 pub mod fingerprint;
 pub mod laws;

@@ -1,14 +1,18 @@
 //! What a call came to is counted, and told in a line of the log where one is kept.
 
 use crate::deciding::{End, What};
+use call_log::front::front;
+use call_log::told::Told;
 use host_protocol::command_line::CommandLine;
+use host_protocol::host::{Tally, tell_line};
 use host_protocol::host_error::HostError;
 use known_calls::audits::Audit;
 use known_calls::logging::log;
+use rustc_id::rustc::is_named_rustc;
 use settings::key::Key;
 use statistics::calls::counters_of;
 use statistics::file::count;
-use statistics::names::name_of;
+use statistics::names::{REMOTE, name_of};
 use std::alloc::Global;
 use std::fs::File;
 use std::rt::{Clock, Files};
@@ -22,6 +26,14 @@ fn counter_of(line: &CommandLine, how: How) -> &'static str {
         How::Stored => "preprocessed_cache_hit",
         How::Fresh if line.settings.is_on(Key::Recache) => "recache",
         How::Fresh => "cache_miss",
+    }
+}
+
+/// The counter of a call of rustc whose outputs are there, beside the one of all languages.
+fn counter_of_rustc(how: How) -> &'static str {
+    match how {
+        How::Fresh => "rustc_cache_miss",
+        How::Direct | How::Stored => "rustc_cache_hit",
     }
 }
 
@@ -56,10 +68,24 @@ fn counters_done(
 ) -> Result<Vec<String>, HostError> {
     let mut counters = Vec::new(alloc);
     counters.push(String::from_str(alloc, counter_of(line, how))?)?;
+    if is_named_rustc(line.executable.as_str()) {
+        counters.push(String::from_str(alloc, counter_of_rustc(how))?)?;
+    }
     if is_unwatched {
         counters.push(name_of(alloc, "", reason)?)?;
     }
     Ok(counters)
+}
+
+/// Adds what asking a server came to.
+fn add_remote(alloc: Global, tally: &Tally, counters: &mut Vec<String>) -> Result<(), HostError> {
+    let numbers = [tally.hits, tally.misses, tally.errors, tally.timeouts];
+    for (name, number) in REMOTE.iter().zip(numbers.iter()) {
+        if *number != 0 {
+            counters.push(String::from_str(alloc, name)?)?;
+        }
+    }
+    Ok(())
 }
 
 /// The counters of a call.
@@ -67,6 +93,7 @@ fn counters(
     alloc: Global,
     line: &CommandLine,
     end: &Result<End, HostError>,
+    tally: &Tally,
     reason: &str,
 ) -> Result<Vec<String>, HostError> {
     let mut counters = match end {
@@ -81,6 +108,7 @@ fn counters(
     if differs(end) {
         counters.push(String::from_str(alloc, "error_audit")?)?;
     }
+    add_remote(alloc, tally, &mut counters)?;
     if line.folder.has_made_room.get() {
         counters.push(String::from_str(alloc, "cleanups_performed")?)?;
     }
@@ -98,6 +126,29 @@ fn milliseconds<R: Clock>(rt: &R, line: &CommandLine) -> u128 {
     }
 }
 
+/// Hands the host the front of a line of the log: what a call came to, its command, and why.
+fn tell_call<R: Print + AllocGlobal>(
+    rt: &R,
+    line: &CommandLine,
+    counter: &str,
+    reason: &str,
+    end: &Result<End, HostError>,
+) -> Result<(), HostError> {
+    let alloc = rt.alloc();
+    let nothing = Told::nothing();
+    let told = match end {
+        Ok(end) => &end.told,
+        Err(_) => &nothing,
+    };
+    let front = front(alloc, line, counter, reason, told)?;
+    tell_line(
+        rt,
+        alloc,
+        line.settings.value_of(Key::LogFile),
+        front.as_str(),
+    )
+}
+
 /// Puts a line into the log: what a call came to, how long it took, the command, and why where it was passed through or has no manifest.
 fn log_call<R: Files<File = File> + Clock + AllocGlobal>(
     rt: &R,
@@ -112,10 +163,11 @@ fn log_call<R: Files<File = File> + Clock + AllocGlobal>(
 }
 
 /// Counts what a call came to, and logs it, as the settings have it.
-pub fn note<R: Files<File = File> + Clock + AllocGlobal>(
+pub fn note<R: Print + Files<File = File> + Clock + AllocGlobal>(
     rt: &R,
     line: &CommandLine,
     end: &Result<End, HostError>,
+    tally: &Tally,
 ) -> Result<(), HostError> {
     let is_logged = !line.settings.value_of(Key::LogFile).is_empty();
     let is_counted = line.settings.is_on(Key::Stats);
@@ -124,10 +176,13 @@ pub fn note<R: Files<File = File> + Clock + AllocGlobal>(
     }
     let alloc = rt.alloc();
     let reason = reason_of(alloc, end)?;
-    let counters = counters(alloc, line, end, reason.as_str())?;
+    let counters = counters(alloc, line, end, tally, reason.as_str())?;
     if is_logged {
         if let Some(first) = counters.first() {
-            let _ = log_call(rt, line, first.as_str(), reason.as_str());
+            let _ = match line.settings.value_of(Key::LogFormat) {
+                "json" => tell_call(rt, line, first.as_str(), reason.as_str(), end),
+                _ => log_call(rt, line, first.as_str(), reason.as_str()),
+            };
         }
     }
     if is_counted {

@@ -7,6 +7,7 @@ use blake2::Blake2b256;
 use cache_files::manifest_files::name_of_manifest;
 use cache_files::results::Kept;
 use cache_format::kept_result::KeptMessages;
+use call_log::told::Told;
 use call_requests::call::{Call, call_of};
 use call_requests::passing::reason_against;
 use compiler_id::compilers::kind_of;
@@ -21,7 +22,11 @@ use known_calls::known::{Given, Known};
 use known_options::dependencies::Dependencies;
 use os_files::listed::Listed;
 use os_files::os_bytes::OsBytes;
+use remote_storage::manifests::fetched_manifest;
+use remote_storage::results::fetched;
 use replay::kept_session::{SessionAnswer, answered, session_over};
+use rustc_calls::deciding::{RustcEnd, RustcWhat, decide_on_rustc};
+use rustc_id::rustc::is_named_rustc;
 use searched_folders::unwatched::Unwatched;
 use settings::key::Key;
 use source_files::outputs::have_plain_places;
@@ -47,6 +52,8 @@ pub enum What {
 pub struct End {
     pub what: What,
     pub audit: Audit,
+    /// What a log says of it beside that.
+    pub told: Told,
 }
 
 impl End {
@@ -55,7 +62,20 @@ impl End {
         End {
             what: What::Pass(reason),
             audit: Audit::None,
+            told: Told::nothing(),
         }
+    }
+
+    /// What a call of rustc came to.
+    fn of_rustc(end: RustcEnd) -> End {
+        let RustcEnd { what, audit, why } = end;
+        let what = match what {
+            RustcWhat::Done(how) => What::Done(how, None),
+            RustcWhat::Pass(reason) => What::Pass(reason),
+        };
+        let mut told = Told::nothing();
+        told.why = why;
+        End { what, audit, told }
     }
 }
 
@@ -67,13 +87,16 @@ fn pass(alloc: Global, reason: &str) -> Result<End, HostError> {
     Ok(End::pass(String::from_str(alloc, reason)?))
 }
 
-/// Asks the disk for the key that the store was asked for, once. False where it has nothing.
-fn look_up<R: Files + AllocGlobal>(
-    rt: &R,
+/// Asks the disk for the key that the store was asked for, once, and where that has nothing other machines. False where they have nothing too.
+fn look_up<P: Print + Files + AllocGlobal, I: Read>(
+    rt: &P,
     line: &CommandLine,
+    host: &mut Host<I>,
     key: Option<&StoreKey>,
     known: &mut Known,
-) -> Result<bool, HostError> {
+) -> Result<bool, HostError>
+    ensures { host.new.compiled ≡ host.old.compiled }
+{
     let Some(key) = key else {
         return Ok(false);
     };
@@ -82,21 +105,37 @@ fn look_up<R: Files + AllocGlobal>(
     }
     known.looked_up = Some(key.digest.clone()?);
     known.entry = found(rt, line, key.digest.clone()?, known.preprocessor.as_bytes())?;
+    if known.entry.is_none() {
+        known.entry = fetched(rt, line, host, key, known.preprocessor.as_bytes())?;
+    }
     Ok(known.entry.is_some())
 }
 
-/// Asks the disk for the manifest that the session asked for, once. False where it has none, or none was asked for.
-fn look_up_manifest<R: Files + AllocGlobal>(
-    rt: &R,
+/// Asks the disk for the manifest that the session asked for, once, and where that has none other machines. False where they have none too, or
+/// none was asked for.
+fn look_up_manifest<P: Print + Files + AllocGlobal, I: Read>(
+    rt: &P,
     line: &CommandLine,
+    host: &mut Host<I>,
     asked: Option<&EntryKey>,
     known: &mut Known,
-) -> Result<bool, HostError> {
+) -> Result<bool, HostError>
+    ensures { host.new.compiled ≡ host.old.compiled }
+{
     let Some(key) = asked else {
         return Ok(false);
     };
     let name = name_of_manifest(rt.alloc(), line.zone.as_str(), key)?;
-    known.look_up_manifest(rt, line, name)
+    if known.look_up_manifest(rt, line, name)? {
+        return Ok(true);
+    }
+    if !known.lacks_manifest() {
+        return Ok(false);
+    }
+    match fetched_manifest(rt, line, host, key, known.name_to_note())? {
+        Some(manifest) => known.take_manifest(rt, line, manifest),
+        None => Ok(false),
+    }
 }
 
 /// Finds out what the text is: by a manifest, or by the preprocessor. False where it was printed already.
@@ -111,7 +150,7 @@ fn find_text<P: Print + Files<File = File> + AllocGlobal, I: Read>(
     requires { host.old.compiled ≤ 1 }
     ensures { host.new.compiled ≤ 1 }
 {
-    if look_up_manifest(rt, line, asked, known)? {
+    if look_up_manifest(rt, line, host, asked, known)? {
         return Ok(true);
     }
     if !known.record(rt, line, host, None)? {
@@ -135,7 +174,7 @@ fn find_outputs<P: Print + Files<File = File> + AllocGlobal, I: Read>(
     requires { host.old.compiled ≤ 1 }
     ensures { host.new.compiled ≤ 1 }
 {
-    if look_up(rt, line, key, known)? || known.drop_manifest() {
+    if look_up(rt, line, host, key, known)? || known.drop_manifest() {
         return Ok(true);
     }
     known.record(rt, line, host, key)
@@ -404,26 +443,26 @@ fn end_audit<R: Files<File = File> + AllocGlobal>(
     known: &Known,
     end: End,
 ) -> Result<End, HostError> {
-    let End { what, audit } = end;
+    let End { what, audit, told } = end;
     let audit = match &what {
         What::Pass(_) if known.audited.is_some() => {
             known.differs(rt, line, String::from_str(rt.alloc(), "status")?)?
         }
         _ => audit,
     };
-    Ok(End { what, audit })
+    Ok(End { what, audit, told })
 }
 
-/// Keeps of what the key of a request was made, where it was compiled. What it takes is known, so that nothing runs.
+/// Keeps of what the key of a request was made, where it was compiled, and gives what differed. What it takes is known, so that nothing runs.
 fn note_made<R: Files + AllocGlobal>(
     rt: &R,
     line: &CommandLine,
     request: &Request,
     end: &Result<End, HostError>,
     known: &mut Known,
-) -> Result<(), HostError> {
+) -> Result<Option<String>, HostError> {
     if !was_compiled(end) {
-        return Ok(());
+        return Ok(None);
     }
     let alloc = rt.alloc();
     let config = config_of(alloc, known.basedirs.as_slice(), &known.zone)?;
@@ -435,8 +474,14 @@ fn note_made<R: Files + AllocGlobal>(
         files,
         &mut known.tool,
     ) {
-        Ok(Ok(fingerprint)) => note_fingerprint(rt, line, request, fingerprint, &mut known.files),
-        Ok(Err(_)) | Err(_) => Ok(()),
+        Ok(Ok(fingerprint)) => Ok(Some(note_fingerprint(
+            rt,
+            line,
+            request,
+            fingerprint,
+            &mut known.files,
+        )?)),
+        Ok(Err(_)) | Err(_) => Ok(None),
     }
 }
 
@@ -454,8 +499,10 @@ fn ask_and_note<P: Print + Files<File = File> + AllocGlobal, I: Read>(
 {
     let end = ask_until(rt, line, host, request, hint, known);
     // What was made is there, whatever becomes of this.
-    let _ = note_made(rt, line, request, &end, known);
-    end_audit(rt, line, known, end?)
+    let why = note_made(rt, line, request, &end, known).unwrap_or(None);
+    let mut end = end_audit(rt, line, known, end?)?;
+    end.told.why = why;
+    Ok(end)
 }
 
 /// What is known of a call of a compiler of that kind before anything was asked. In a box, so that no other function has to hold it.
@@ -543,6 +590,9 @@ pub fn decide<P: Print + Files<File = File> + AllocGlobal, I: Read>(
 {
     if line.settings.is_on(Key::Disable) {
         return pass(rt.alloc(), "pass: disabled");
+    }
+    if is_named_rustc(line.executable.as_str()) {
+        return Ok(End::of_rustc(decide_on_rustc(rt, line, host)?));
     }
     if let Some(reason) = reason_against(rt.alloc(), line)? {
         return Ok(End::pass(format!(in rt.alloc(); "pass: {reason}")?));

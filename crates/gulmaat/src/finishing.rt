@@ -6,6 +6,7 @@ use crate::deciding::{End, What};
 use blake2::Blake2b256;
 use cache_dir::folder::Kind;
 use cache_dir::making_room::make_room;
+use call_log::told::Told;
 use host_protocol::command_line::CommandLine;
 use host_protocol::fields::into_text;
 use host_protocol::host::Host;
@@ -16,6 +17,7 @@ use known_calls::known::{Given, Known};
 use known_calls::outputs::lock_paths;
 use os_files::listed::Listed;
 use os_files::os_bytes::OsBytes;
+use remote_storage::sharing::{Shared, share};
 use replay::kept_session::SessionAnswer;
 use source_files::outputs::{print_again, write_dependencies, write_outputs};
 use std::alloc::Global;
@@ -31,6 +33,19 @@ fn paths_of(alloc: Global, outputs: &[Output]) -> Result<Listed<OsBytes>, HostEr
         paths.push(output.path.clone()?)?;
     }
     Ok(paths)
+}
+
+/// What a log says of outputs, and of the time of a compile.
+fn told_of(outputs: &[Output], known: &Known) -> Told {
+    let mut bytes = 0u64;
+    for output in outputs {
+        bytes = bytes.saturating_add(output.contents.as_bytes().len() as u64);
+    }
+    Told {
+        why: None,
+        bytes,
+        compile_time: known.compile_time(),
+    }
 }
 
 /// Puts kept outputs and a dependency file where the request wants them, and has printed again what was printed beside them. A hit is given
@@ -105,9 +120,30 @@ fn note_call<R: Files + AllocGlobal>(
         }
     }
     if !known.has_hint(&key.digest, name) {
-        let _ = note_hint(rt, line, hint, &key.digest, name);
+        let _ = note_hint(rt, line, hint, &key.digest, name, known.compile_time());
     }
     Ok(make_room(&rt, &line.folder, names.as_slice())?)
+}
+
+/// Has the server store what a call made, and what it gave of what is kept here alone.
+fn share_call<P: Print + Files + AllocGlobal, I: Read>(
+    rt: &P,
+    line: &CommandLine,
+    host: &mut Host<I>,
+    key: &StoreKey,
+    is_kept: bool,
+    has_list: bool,
+    known: &Known,
+) -> Result<(), HostError>
+    ensures { host.new.compiled ≡ host.old.compiled }
+{
+    let again = match host.tally.hits {
+        0 => Shared::Again,
+        _ => Shared::Not,
+    };
+    let result = if is_kept { Shared::Anew } else { again };
+    let manifest = if has_list { Shared::Anew } else { again };
+    share(rt, line, host, key, result, known.name_to_note(), manifest)
 }
 
 /// What to watch of the text, where the session put a manifest. Where that can't be told there is none, and it is noted why.
@@ -173,13 +209,15 @@ pub fn finish<P: Print + Files<File = File> + AllocGlobal, I: Read>(
     if !matches!(audit, Audit::Differs(_)) {
         let list = list.as_deref();
         let _ = note_call(rt, line, hint, answered, key, is_kept, list, known);
+        let _ = share_call(rt, line, host, key, is_kept, list.is_some(), known);
     }
     let how = match (&audit, &known.audited) {
         (Audit::Alike, Some(audited)) => audited.how,
         (_, _) => given.how,
     };
     let what = What::Done(how, known.unwatched);
-    Ok(End { what, audit })
+    let told = told_of(given.outputs, known);
+    Ok(End { what, audit, told })
 }
 
 /// Gives outputs of which it isn't known under which key they were kept.
@@ -195,5 +233,6 @@ fn finish_without_key<R: Files<File = File> + AllocGlobal>(
     Ok(End {
         what: What::Done(given.how, known.unwatched),
         audit: Audit::None,
+        told: told_of(given.outputs, known),
     })
 }

@@ -18,6 +18,8 @@ use host_protocol::command_line::CommandLine;
 use host_protocol::host::Host;
 use host_protocol::host_error::HostError;
 use known_calls::audits::Audit;
+use rustc_id::rustc::is_named_rustc;
+use rustc_kept::why::why_of_rustc;
 use settings::reading::read_settings;
 use std::env;
 use std::fmt::Display;
@@ -83,6 +85,7 @@ fn told<R: Print + Files + AllocGlobal>(
 ) -> Result<(), HostError> {
     match compiler.is_empty() {
         true => Err(HostError::Command),
+        false if is_named_rustc(compiler) => { why_of_rustc(rt, caller.kept, caller.dir, command) }
         false => why(rt, caller.kept, compiler, caller.dir, command),
     }
 }
@@ -152,7 +155,7 @@ where
         return ExitCode::from(PASS);
     }
     let end = decide(rt, &line, &mut host);
-    let _ = note(rt, &line, &end);
+    let _ = note(rt, &line, &end, &host.tally);
     let Ok(end) = end else {
         return ExitCode::from(PASS);
     };

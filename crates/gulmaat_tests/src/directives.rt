@@ -10,7 +10,7 @@ use test_kit::rows::words;
 use test_kit::texts::{holds, is_that};
 
 /// Sources, and what they ask for; `none` where that can't be told.
-const SOURCES: [(&str, &str); 49] = [
+const SOURCES: [(&str, &str); 62] = [
     ("", ""),
     ("int x;\n", ""),
     ("#include \"a.h\"\n", " \"a.h\""),
@@ -43,8 +43,21 @@ const SOURCES: [(&str, &str); 49] = [
     ("#include \\\n<a.h>\n", "none"),
     ("#include \"<a.h>\"\n", "none"),
     ("#include <a.h\n", ""),
+    ("/* a */ #include <a.h> /* b */\n", " <a.h>"),
+    ("/* a *\\\n/ #include <a.h>\n", " <a.h>"),
+    ("\u{feff}#include <a.h>\n", " <a.h>"),
+    ("\0#include <a.h>\n", " <a.h>"),
     ("%:include <a.h>\n", "none"),
+    ("\\\n %:include <a.h>\n", "none"),
+    ("%\\\n:include <a.h>\n", "none"),
+    ("/* a */ %:include <a.h>\n", "none"),
+    ("/* a\n b */ %:include <a.h>\n", "none"),
+    ("/* a *\\\n/ %:include <a.h>\n", "none"),
+    ("x = \"%:\";\n#include <a.h>\n", " <a.h>"),
     ("??=include <a.h>\n", "none"),
+    ("/* a */ ??=include <a.h>\n", "none"),
+    ("x = \"??=\";\n", ""),
+    ("#inc??/\nlude <a.h>\n", "none"),
     ("#embed <a.bin>\n", "none"),
     ("#pragma GCC dependency \"a.h\"\n", "none"),
     ("#pragma GCC diagnostic push\n", ""),
@@ -156,8 +169,10 @@ fn macros_stand_for_files(rt: HostRuntime) -> Result<(), Fail> {
 }
 
 /// Sources that may paste a macro of the time.
-const PASTED: [&str; 6] = [
+const PASTED: [&str; 8] = [
     "PASTE(__TI, ME__)",
+    "a = __TIME %:%: S;",
+    "__DA??=??=TE__",
     "PASTE( __DATE_ , _)",
     "a = __TIME ## S;",
     "#define FIRST __TIMEST\n",

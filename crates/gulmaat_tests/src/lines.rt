@@ -12,7 +12,7 @@ use written_lines::named::{NamedFile, NamedFiles};
 use written_lines::sources::Sources;
 
 /// A source before and after a change, the text of both, and whether their lines are the same.
-const CHANGES: [(&str, &str, &str, bool); 7] = [
+const CHANGES: [(&str, &str, &str, bool); 12] = [
     ("int x;\n", "int x;\n", "# 1 \"a.c\"\nint x;\n", true),
     (
         "int  x;\n",
@@ -45,6 +45,36 @@ const CHANGES: [(&str, &str, &str, bool); 7] = [
         "# 7 \"a.c\"\nint x;\n",
         false,
     ),
+    (
+        "/* a */ #line 7\nint x;\n",
+        "/* a */ #line 8\nint x;\n",
+        "# 7 \"a.c\"\nint x;\n",
+        false,
+    ),
+    (
+        " %:line 7\nint x;\n",
+        " %:line 8\nint x;\n",
+        "# 7 \"a.c\"\nint x;\n",
+        false,
+    ),
+    (
+        "??=line 7\nint x;\n",
+        "??=line 8\nint x;\n",
+        "# 7 \"a.c\"\nint x;\n",
+        false,
+    ),
+    (
+        "char *x = \"%:\";\n// one\n",
+        "char *x = \"%:\";\n// two\n",
+        "# 1 \"a.c\"\nchar *x = \"%:\";\n",
+        true,
+    ),
+    (
+        "int x = F(1,\n2);",
+        "int x = F(1,\n 2);",
+        "# 1 \"a.c\"\nint x = 3;\n\nint y;",
+        false,
+    ),
 ];
 
 /// The digest of what is asked of a source with these contents and that text.
@@ -58,7 +88,7 @@ fn digest_of<R: Files + AllocGlobal>(
     fs::write(rt, "gulmaat_tests_lines/a.c", source.as_bytes())?;
     let mut named = NamedFiles::of(rt, line.dir.as_bytes(), text.as_bytes())?;
     named.read(rt);
-    let Ok(sources) = Sources::of(rt.alloc(), &named) else {
+    let Ok(sources) = Sources::of(rt.alloc(), &mut named) else {
         return Err("no sources".into());
     };
     match digest_asked(rt.alloc(), asked, text.as_bytes(), sources) {

@@ -13,10 +13,18 @@ use std::io::{Read, Write};
 /// The longest message that is taken.
 const LONGEST: u64 = 1 << 28;
 
-/// The letters of what is asked for: a preprocessor, whose text goes to the place that the host named, or the compile.
+/// The letters of what is asked for: a preprocessor, whose text goes to the place that the host named, the compile, or a line in a log.
 const PREPROCESS: u8 = b'P';
 
 const COMPILE: u8 = b'C';
+
+/// Those of questions for a server: what it has under a name, which goes to the place of the list; and what lies there is to be stored under
+/// a name, once the call is answered.
+const FETCH: u8 = b'F';
+
+const SEND: u8 = b'S';
+
+const LOG: u8 = b'L';
 
 /// What a command came to.
 #[derive(Drop)]
@@ -24,12 +32,25 @@ pub struct Ended {
     pub status: i32,
     /// Whether it printed nothing beside its output.
     pub silent: bool,
+    /// How many microseconds it took.
+    pub time: u64,
+}
+
+/// What asking a server came to, and how often.
+#[derive(Clone, Copy, PartialEq, Eq)]
+pub struct Tally {
+    pub hits: u64,
+    pub misses: u64,
+    pub errors: u64,
+    pub timeouts: u64,
 }
 
 /// The host at the other end of a pipe.
 #[derive(Drop)]
 pub struct Host<I> {
     reader: I,
+    /// What asking a server came to in this call.
+    pub tally: Tally,
     /// How often it was asked to run the compiler for its outputs. `compile` alone moves it.
     compiled: u64,
 }
@@ -61,6 +82,31 @@ fn message_of(alloc: Global, letter: u8, words: &[OsBytes]) -> Result<Vec<u8>, H
     Ok(message)
 }
 
+/// Sends a message to a host.
+fn send<P: Print + Alloc>(rt: &P, alloc: Global, message: &[u8]) -> Result<(), HostError> {
+    let mut whole = Vec::new(alloc);
+    put_framed(&mut whole, message)?;
+    let mut writer = io::writer(rt);
+    writer.write_all(whole.as_slice())?;
+    Ok(writer.flush()?)
+}
+
+/// Has a host put a line into the log at that place. This is its front, behind which the host writes when the call began and ended, what ran and
+/// with which status: it alone knows. It answers nothing.
+pub fn tell_line<P: Print + Alloc>(
+    rt: &P,
+    alloc: Global,
+    place: &str,
+    front: &str,
+) -> Result<(), HostError> {
+    let mut message = Vec::new(alloc);
+    put_number(&mut message, u64::from(LOG))?;
+    put_number(&mut message, 2)?;
+    put_framed(&mut message, place.as_bytes())?;
+    put_framed(&mut message, front.as_bytes())?;
+    send(rt, alloc, message.as_slice())
+}
+
 /// Has a host run the compiler with these words, and waits for its end.
 fn run_words<P: Print + Alloc, I: Read>(
     rt: &P,
@@ -70,17 +116,18 @@ fn run_words<P: Print + Alloc, I: Read>(
     words: &[OsBytes],
 ) -> Result<Ended, HostError> {
     let message = message_of(alloc, letter, words)?;
-    let mut whole = Vec::new(alloc);
-    put_framed(&mut whole, message.as_slice())?;
-    let mut writer = io::writer(rt);
-    writer.write_all(whole.as_slice())?;
-    writer.flush()?;
+    send(rt, alloc, message.as_slice())?;
     let answer = read_message(alloc, reader)?;
     let mut fields = Fields::of(answer.as_slice());
     let status = fields.number()?;
     let silent = fields.number()? == 1;
+    let time = fields.number()?;
     match i32::try_from(status) {
-        Ok(status) => Ok(Ended { status, silent }),
+        Ok(status) => Ok(Ended {
+            status,
+            silent,
+            time,
+        }),
         Err(_) => Err(HostError::Unreadable),
     }
 }
@@ -90,8 +137,15 @@ impl<I: Read> Host<I> {
     pub fn new(reader: I) -> Host<I>
         ensures { result.compiled ≡ 0 }
     {
+        let tally = Tally {
+            hits: 0,
+            misses: 0,
+            errors: 0,
+            timeouts: 0,
+        };
         Host {
             reader,
+            tally,
             compiled: 0,
         }
     }
@@ -120,6 +174,30 @@ impl<I: Read> Host<I> {
         ensures { self.new.compiled ≡ self.old.compiled }
     {
         run_words(rt, alloc, &mut self.reader, PREPROCESS, words)
+    }
+
+    /// Has it ask a server by these words for what other machines stored, and waits for the answer.
+    pub fn fetch<P: Print + Alloc>(
+        &mut self,
+        rt: &P,
+        alloc: Global,
+        words: &[OsBytes],
+    ) -> Result<Ended, HostError>
+        ensures { self.new.compiled ≡ self.old.compiled }
+    {
+        run_words(rt, alloc, &mut self.reader, FETCH, words)
+    }
+
+    /// Has it take what a server is to store by these words.
+    pub fn send<P: Print + Alloc>(
+        &mut self,
+        rt: &P,
+        alloc: Global,
+        words: &[OsBytes],
+    ) -> Result<Ended, HostError>
+        ensures { self.new.compiled ≡ self.old.compiled }
+    {
+        run_words(rt, alloc, &mut self.reader, SEND, words)
     }
 
     /// Has it run the compiler with these words, once, and waits for its end.

@@ -2,7 +2,9 @@
 //! to run, and why no decision is made.
 #![tactic(auto)]
 
+pub mod asking;
 pub mod command_line;
+pub mod digests;
 pub mod fields;
 pub mod host;
 pub mod host_error;

@@ -43,6 +43,15 @@ impl Additions {
         self.add(alloc, name, value)
     }
 
+    /// The rows once more.
+    pub fn again(&self, alloc: Global) -> Result<Listed<Row>, HostError> {
+        let mut again = Listed::new(alloc);
+        for (name, value) in self.rows.as_slice() {
+            again.push((name.clone()?, value.clone()?))?;
+        }
+        Ok(again)
+    }
+
     /// The variable, with the rows as its value: their count, and of each the name and the value behind their lengths.
     pub fn variable(&self, alloc: Global) -> Result<Row, HostError> {
         let mut value = Vec::new(alloc);

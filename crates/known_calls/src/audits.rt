@@ -38,7 +38,7 @@ pub struct Audited {
 }
 
 /// Whether the hits of a command line of that digest are compared: one of so many command lines.
-fn is_one_of(digest: &str, audit: u64) -> bool {
+pub fn is_one_of(digest: &str, audit: u64) -> bool {
     let front = digest.get(..LETTERS).unwrap_or("");
     match u64::from_str_radix(front, 16) {
         Ok(number) => audit != 0 && number % audit == 0,
@@ -59,7 +59,7 @@ fn difference(one: &[u8], other: &[u8]) -> Option<usize> {
 }
 
 /// Copies of outputs.
-fn copies_of(alloc: Global, outputs: &[Output]) -> Result<Vec<Output>, AllocError> {
+pub fn copies_of(alloc: Global, outputs: &[Output]) -> Result<Vec<Output>, AllocError> {
     let mut copies = Vec::with_capacity(alloc, outputs.len())?;
     for output in outputs {
         copies.push(output.clone()?)?;
@@ -68,7 +68,7 @@ fn copies_of(alloc: Global, outputs: &[Output]) -> Result<Vec<Output>, AllocErro
 }
 
 /// Where those that are kept of the outputs differ from those that the compiler made.
-fn difference_of_outputs(
+pub fn difference_of_outputs(
     alloc: Global,
     kept: &[Output],
     made: &[Output],
@@ -88,7 +88,7 @@ fn difference_of_outputs(
 }
 
 /// Where texts differ that are of this name.
-fn difference_of_texts(
+pub fn difference_of_texts(
     alloc: Global,
     name: &str,
     kept: &[u8],
@@ -109,7 +109,7 @@ fn bytes_of(contents: &Option<OsBytes>) -> &[u8] {
 }
 
 /// Puts a line into the log of what differed: under which digest, what, and the command.
-fn log_difference<R: Files<File = File> + AllocGlobal>(
+pub fn log_difference<R: Files<File = File> + AllocGlobal>(
     rt: &R,
     line: &CommandLine,
     digest: &OsBytes,

@@ -7,9 +7,10 @@ use cache_dir::file_digests::digest_of;
 use cache_dir::folder::Kind;
 use cache_dir::limit::takes;
 use cache_files::results::{Kept, entry_of, kept_of};
-use cache_format::kept_result::KeptMessages;
-use cache_format::sealed::{read_result, result_bytes};
+use cache_format::kept_result::{KeptMessages, KeptResult};
+use cache_format::sealed::{seal, unseal};
 use host_protocol::command_line::CommandLine;
+use host_protocol::digests::LETTERS;
 use host_protocol::fields::into_text;
 use host_protocol::host_error::HostError;
 use os_files::os_bytes::OsBytes;
@@ -18,14 +19,13 @@ use std::alloc::Global;
 use std::rt::Files;
 use wrap::{Output, StoreKey};
 
-/// How many bytes the digest of a key has.
-const DIGEST: usize = 64;
-
-/// What a command line had last: the digest of its key, and the name of its manifest, where it had one.
+/// What a command line had last: the digest of its key, and the name of its manifest, where it had one. And how many microseconds its last
+/// compile took; 0 where that isn't known.
 #[derive(Drop)]
 pub struct Hint {
     pub digest: OsBytes,
     pub manifest_name: String,
+    pub compile_time: u64,
 }
 
 /// The name under which the hint of this command line lies.
@@ -54,7 +54,7 @@ pub fn found<R: Files + AllocGlobal>(
     let Ok(bytes) = line.folder.read(rt, Kind::Results, name.as_str()) else {
         return Ok(None);
     };
-    let Some(entry) = read_result::<Blake2b256>(rt.alloc(), bytes.as_slice())? else {
+    let Some(entry) = unseal::<Blake2b256, KeptResult>(rt.alloc(), bytes.as_slice())? else {
         return Ok(None);
     };
     if entry.messages.preprocessor.as_bytes() != messages {
@@ -72,18 +72,20 @@ pub fn hint_at<R: Files + AllocGlobal>(
     let Ok(bytes) = line.folder.read(rt, Kind::Hints, hint) else {
         return Ok(None);
     };
-    if bytes.len() < DIGEST {
+    if bytes.len() < LETTERS {
         return Ok(None);
     }
-    let (digest, name) = bytes.as_slice().split_at(DIGEST);
-    let Ok(name) = str::from_utf8(name) else {
+    let (digest, rest) = bytes.as_slice().split_at(LETTERS);
+    let Ok(rest) = str::from_utf8(rest) else {
         return Ok(None);
     };
+    let (name, time) = rest.split_once(' ').unwrap_or((rest, ""));
     let digest = OsBytes::from_slice(rt.alloc(), digest)?;
     let manifest_name = String::from_str(rt.alloc(), name)?;
     Ok(Some(Hint {
         digest,
         manifest_name,
+        compile_time: time.parse::<u64>().unwrap_or(0),
     }))
 }
 
@@ -101,17 +103,19 @@ pub fn kept_under<R: Files + AllocGlobal>(
     }
 }
 
-/// Notes which digest this command line had, and the name of its manifest; an empty one where it had none.
+/// Notes which digest this command line had, the name of its manifest, an empty one where it had none, and how long its last compile took.
 pub fn note_hint<R: Files + AllocGlobal>(
     rt: &R,
     line: &CommandLine,
     hint: &str,
     digest: &OsBytes,
     manifest_name: &str,
+    compile_time: u64,
 ) -> Result<(), HostError> {
     let mut bytes = Vec::new(rt.alloc());
     bytes.extend_from_slice(digest.as_bytes())?;
-    bytes.extend_from_slice(manifest_name.as_bytes())?;
+    let rest = format!(in rt.alloc(); "{manifest_name} {compile_time}")?;
+    bytes.extend_from_slice(rest.as_bytes())?;
     Ok(line.folder.put(rt, Kind::Hints, hint, bytes.as_slice())?)
 }
 
@@ -124,7 +128,7 @@ pub fn keep<R: Files + AllocGlobal>(
     messages: KeptMessages,
 ) -> Result<(), HostError> {
     let entry = entry_of(rt.alloc(), key, outputs, messages)?;
-    let bytes = result_bytes::<Blake2b256>(rt.alloc(), &entry)?;
+    let bytes = seal::<Blake2b256, KeptResult>(rt.alloc(), &entry)?;
     let name = into_text(key.digest.clone()?)?;
     let folder = &line.folder;
     if !takes(folder.limit, bytes.len() as u64) {

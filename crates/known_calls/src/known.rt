@@ -81,6 +81,8 @@ pub struct Known {
     loaded: Option<OsBytes>,
     /// The files that the text names, once it was printed, or an input that is compiled as it stands.
     pub(crate) named: NamedFiles,
+    /// Whether these were found to be as they were, behind the compile where one ran.
+    pub(crate) are_unchanged: bool,
     /// The files of the text, as the compiler lists them for a dependency file; nothing where none is asked for.
     list: OsBytes,
     /// The dependency file that the compile wrote.
@@ -90,6 +92,8 @@ pub struct Known {
     /// What the compile printed on its standard output and its standard error; nothing where it didn't run.
     pub printed: OsBytes,
     pub errors: OsBytes,
+    /// How many microseconds the compile took; nothing where it didn't run.
+    compile_time: Option<u64>,
 }
 
 impl Known {
@@ -119,11 +123,22 @@ impl Known {
             audited: None,
             loaded: None,
             named: NamedFiles::new(alloc),
+            are_unchanged: false,
             list: OsBytes::empty(alloc),
             written: None,
             preprocessor: OsBytes::empty(alloc),
             printed: OsBytes::empty(alloc),
             errors: OsBytes::empty(alloc),
+            compile_time: None,
+        }
+    }
+
+    /// How many microseconds the last compile of this command line took; 0 where that isn't known.
+    pub fn compile_time(&self) -> u64 {
+        match (self.compile_time, &self.hint) {
+            (Some(time), _) => time,
+            (None, Some(had)) => had.compile_time,
+            (None, None) => 0,
         }
     }
 
@@ -312,7 +327,7 @@ impl Known {
             return Ok(OsBytes::empty(alloc));
         }
         self.named.read(rt);
-        digest_asked(alloc, asked, text, Sources::of(alloc, &self.named)?)
+        digest_asked(alloc, asked, text, Sources::of(alloc, &mut self.named)?)
     }
 
     /// The digest of all files that the text names; nothing where a line may be of another file than a marker says.
@@ -321,7 +336,7 @@ impl Known {
         rt: &R,
     ) -> Result<Option<OsBytes>, HostError> {
         self.named.read(rt);
-        let sources = Sources::of(rt.alloc(), &self.named)?;
+        let sources = Sources::of(rt.alloc(), &mut self.named)?;
         if sources.are_renumbered() {
             return Ok(None);
         }
@@ -421,8 +436,10 @@ impl Known {
         let locks = lock_paths(rt, line, paths, self.dependency_file())?;
         let before = states_of(rt, paths)?;
         let ended = host.compile(rt, rt.alloc(), own.as_slice())?;
+        self.are_unchanged = false;
         self.printed = printed_at(rt, &ended, line.printed.as_str())?;
         self.errors = printed_at(rt, &ended, line.errors.as_str())?;
+        self.compile_time = Some(ended.time);
         let contents = made_since(rt, paths, before.as_slice())?;
         let status = ended.status;
         if status == 0 {
@@ -460,7 +477,8 @@ impl Known {
 
     /// Refuses what was made where a file that the text names, or an input that is compiled as it stands, was changed meanwhile.
     pub(crate) fn check_sources<R: Files + AllocGlobal>(&self, rt: &R) -> Result<(), HostError> {
-        match self.named.are_unchanged(rt) && self.has_loaded_input(rt) {
+        let are_unchanged = self.are_unchanged || self.named.are_unchanged(rt);
+        match are_unchanged && self.has_loaded_input(rt) {
             true => Ok(()),
             false => Err(HostError::Changed),
         }

@@ -82,8 +82,13 @@ impl Known {
         }
     }
 
+    /// Whether no manifest is known of those calls.
+    pub fn lacks_manifest(&self) -> bool {
+        self.record.kept.is_none() && self.record.whole.is_none()
+    }
+
     /// Has the files loaded that a manifest names, which is taken then. False where one of them can't be told.
-    fn take_manifest<R: Files + AllocGlobal>(
+    pub fn take_manifest<R: Files + AllocGlobal>(
         &mut self,
         rt: &R,
         line: &CommandLine,
@@ -190,11 +195,11 @@ impl Known {
     }
 
     /// The regular files that the text names, of which the first is the input.
-    fn sources<R: Files + AllocGlobal>(&self, rt: &R) -> Result<Vec<Source<'_>>, Unwatched> {
+    fn sources(&self, alloc: Global) -> Result<Vec<Source<'_>>, Unwatched> {
         if !self.named.are_all {
             return Err(Unwatched::Computed);
         }
-        let mut sources = Vec::new(rt.alloc());
+        let mut sources = Vec::new(alloc);
         for file in self.named.files.iter() {
             let Ok(path) = str::from_utf8(file.path.as_bytes()) else {
                 return Err(Unwatched::Path);
@@ -204,10 +209,7 @@ impl Known {
                 sources.push(Source { path, contents })?;
             }
         }
-        match self.named.are_unchanged(rt) {
-            true => Ok(sources),
-            false => Err(Unwatched::Changed),
-        }
+        Ok(sources)
     }
 
     /// What to watch of the text that was printed. The compiler runs where it didn't say yet where it looks.
@@ -228,7 +230,11 @@ impl Known {
         };
         let before = settled_before(line.moment);
         self.named.read(rt);
-        let sources = self.sources(rt)?;
+        self.are_unchanged = self.named.are_unchanged(rt);
+        if !self.are_unchanged {
+            return Err(Unwatched::Changed);
+        }
+        let sources = self.sources(rt.alloc())?;
         let said = said_of(rt, line, host, language, before)?;
         list_of(rt, line, sources.as_slice(), said.as_slice(), before)
     }

@@ -11,7 +11,7 @@ use Rattle.cmdlines.specs.Parsing.{Decision, asks, not_compilation, cannot_cache
 use Rattle.cmdlines_base.specs.Reading.{begins_with_at}
 use Rattle.cmdlines_requests.specs.declared.parsed.ParsedArguments.{ParsedArguments}
 use Rattle.cmdlines_tables.specs.declared.compiler.CCompilerKind.{CCompilerKind}
-use Rattle.rustc_requests.specs.Asks.{RustAsks}
+use Rattle.rustc_options.specs.Asks.{RustAsks}
 use Rattle.rustc_texts.specs.Words as rustc
 use Rattle.rustkeys_base.specs.Asks.{asks_of}
 use Rattle.rustkeys_base.specs.Expansion.{expanded_by_rustc}

@@ -19,7 +19,7 @@ use cmdlines_tables::compiler::CCompilerKind;
 use os_files::files::Files;
 use os_files::os_bytes::OsBytes;
 use response_files::fault::ParseFault;
-use rustc_requests::parsed as rust;
+use rustc_options::parsed as rust;
 use rustkeys_base::parse;
 use std::alloc::{AllocError, Global};
 

@@ -17,7 +17,7 @@ use Rattle.ckeys_records.specs.declared.step.Step.TheVariants.{Compile, DepInfo,
 use Rattle.cmdlines_base.specs.Artifacts.{Artifacts}
 use Rattle.rustc_compiler.specs.Compiler.{Rustc}
 use Rattle.rustc_parts.specs.Formed.{digest_digits, is_digest}
-use Rattle.rustc_requests.specs.Asks.{RustAsks}
+use Rattle.rustc_options.specs.Asks.{RustAsks}
 use Rattle.rustc_texts.specs.Outputs.{output_names, outputs_of}
 use Rattle.rustc_texts.specs.Words.{compile_words, dep_info_words, file_names_words}
 use Rattle.rustkeys.specs.Calls.{RustCall, answer_fault_of, dep_info_fault_of, digest_fault_of, files_fault_of, key_fault_of, key_fault_with, optional_files_fault_of, record_with, sources_fault_of, utf8_fault_of}

@@ -11,7 +11,7 @@ use os_files::listed::Listed;
 use os_files::os_bytes::OsBytes;
 use recorded_builds::deciding::{Compilers, Decided};
 use rustc_options::data::ArgData;
-use rustc_requests::parsed as rust;
+use rustc_options::parsed as rust;
 use std::alloc::{AllocError, Global};
 use std::fmt::Write;
 

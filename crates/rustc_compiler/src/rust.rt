@@ -25,7 +25,7 @@ use os_files::files::Files;
 use os_files::listed::Listed;
 use os_files::os_bytes::OsBytes;
 use response_files::fault::ParseFault;
-use rustc_requests::parsed::ParsedArguments;
+use rustc_options::parsed::ParsedArguments;
 use rustkeys_base::parse::parse_arguments;
 use std::alloc::Global;
 use std::marker::Model;

@@ -2,7 +2,7 @@
 
 ghost use Rattle.std.specs.Prelude.{◌≡◌, IfOk};
 ghost use Rattle.os_files.specs.Path.{path_cmp};
-ghost use Rattle.rustc_requests.specs.Sorted.{sorted_by};
+ghost use Rattle.rustc_options.specs.Sorted.{sorted_by};
 ghost use Rattle.rustc_compiler.specs.Compiler.{has_host, tells_host, toolchain_files};
 
 use os_files::listed::Listed;

@@ -4,6 +4,7 @@
 pub mod data;
 pub mod kind;
 pub mod laws;
+pub mod parsed;
 pub mod sets;
 pub mod splitting;
 pub mod table;

@@ -12,9 +12,9 @@ use Rattle.std.proofs.lemmas.List.Sorted.{IsPermutation-map}
 use Rattle.std.proofs.lemmas.Map.Lookups.{exact_bytes}
 use Rattle.os_files.specs.Bytes.{Bytes}
 use Rattle.cmdlines_base.specs.Reading.{begins_with_at}
-use Rattle.rustc_requests.specs.Asks.{RustAsks, Said}
-use Rattle.rustc_requests.specs.Sorted.{sorted_by}
-use Rattle.rustc_requests.specs.SortedLaws.{sorted_alike}
+use Rattle.rustc_options.specs.Asks.{RustAsks, Said}
+use Rattle.rustc_options.specs.Sorted.{sorted_by}
+use Rattle.rustc_options.specs.SortedLaws.{sorted_alike}
 use Rattle.rustc_texts.specs.Words.{all_words, cfgs_of, color_words, compile_words, counts_beside, dep_info_words, file_names_words, is_on_outputs, kept_of, rest_of, words_cmp, words_in}
 
 pub words-total : IsTotalOrder words_cmp

@@ -7,8 +7,8 @@ use Rattle.std.specs.Ordering.{nat_cmp}
 use Rattle.std.specs.Str.{bytes_eq}
 use Rattle.std.specs.declared.cmp.Ordering.{Ordering}
 use Rattle.os_files.specs.Bytes.{Bytes}
-use Rattle.rustc_requests.specs.Asks.{RustAsks, Said}
-use Rattle.rustc_requests.specs.Sorted.{sorted_by}
+use Rattle.rustc_options.specs.Asks.{RustAsks, Said}
+use Rattle.rustc_options.specs.Sorted.{sorted_by}
 
 abbrev pub words_in : Said → List Bytes
 words_in said = said.words

@@ -5,7 +5,7 @@ ghost use Rattle.std.specs.List.{AllByRecursion, IsDistinct, list_any};
 ghost use Rattle.std.specs.Str.{bytes_eq};
 ghost use Rattle.os_files.specs.Bytes.{Bytes};
 ghost use Rattle.cmdlines_base.specs.Reading.{begins_with_at};
-ghost use Rattle.rustc_requests.specs.Asks.{RustAsks, Said};
+ghost use Rattle.rustc_options.specs.Asks.{RustAsks, Said};
 ghost use Rattle.rustc_texts.specs.Outputs.{EndsInOne, has_name, library, metadata, with_metadata};
 ghost use Rattle.rustc_texts.specs.Words.{all_words, cfgs_of, compile_words, dep_info_words, file_names_words, kept_of, rest_of};
 

@@ -3,14 +3,14 @@
 ghost use Rattle.std.specs.Prelude.{◌≡◌, ◌++◌, IfOk, map};
 ghost use Rattle.std.specs.Option.{option_copied, option_to_list};
 ghost use Rattle.os_files.specs.Path.{join};
-ghost use Rattle.rustc_requests.specs.Asks.{asks_in};
+ghost use Rattle.rustc_options.specs.Asks.{asks_in};
 ghost use Rattle.rustc_texts.specs.Outputs.{demanded, is_there, optional, optional_if, outputs_with, targets_with, with_optional};
 
 use cmdlines_base::command::ArtifactDescriptor;
 use os_files::listed::Listed;
 use os_files::os_bytes::OsBytes;
 use os_files::path::join;
-use rustc_requests::parsed::ParsedArguments;
+use rustc_options::parsed::ParsedArguments;
 use std::alloc::{AllocError, Global};
 
 /// An output: its name, and where it goes.

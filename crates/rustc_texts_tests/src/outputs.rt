@@ -2,7 +2,7 @@
 
 use crate::requests::{barred, parsed};
 use os_files::os_bytes::OsBytes;
-use rustc_requests::parsed::ParsedArguments;
+use rustc_options::parsed::ParsedArguments;
 use rustc_texts::output_names::output_names;
 use rustc_texts::outputs::{Output, outputs, targets};
 use std::alloc::{AllocError, Global};

@@ -3,7 +3,7 @@
 use cmdlines_base::compiler_arguments::CompilerArguments;
 use os_files::memory_files::MemoryFiles;
 use os_files::os_bytes::OsBytes;
-use rustc_requests::parsed::ParsedArguments;
+use rustc_options::parsed::ParsedArguments;
 use rustkeys_base::parse::parse_arguments;
 use std::alloc::{AllocError, Global};
 use std::fmt::Write;

@@ -1,7 +1,7 @@
 //! The words of requests.
 
 use crate::requests::{barred, parsed};
-use rustc_requests::parsed::ParsedArguments;
+use rustc_options::parsed::ParsedArguments;
 use rustc_texts::laws::{cfg_places_do_not_count, commands_open_nothing};
 use rustc_texts::words::{compile_words, dep_info_words, file_names_words, kept_words};
 use std::alloc::{AllocError, Global};

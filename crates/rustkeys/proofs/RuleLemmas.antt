@@ -17,7 +17,7 @@ use Rattle.rustc_options.specs.Sets.{in_order}
 use Rattle.rustc_texts.specs.DepInfo.{behind_colon, first_of, rule_of}
 use Rattle.rustc_texts.specs.Outputs.{has_name, targets_with}
 use Rattle.rustc_texts.specs.Rewriting.{is_line_end, rewritten_of}
-use Rattle.rustc_requests.specs.Asks.{RustAsks}
+use Rattle.rustc_options.specs.Asks.{RustAsks}
 use Rattle.rustkeys_base.specs.Facts.{facts_of}
 use Rattle.rustkeys_base.specs.Requests.{dep_info, emits, named_by_crate}
 use Rattle.rustkeys_base.specs.Saying.{token_of}

@@ -3,7 +3,7 @@ use Rattle.std.proofs.Common.{◌≡◌, ℕ, ℤ, List, [], ◌∷◌, None, in
 use Rattle.os_files.specs.Bytes.{Bytes, ticked}
 use Rattle.os_files.specs.Tree.{Tree}
 use Rattle.ckeys_records.specs.Meaning.{AtMostOnce, Meaning, Variables, scene_with}
-use Rattle.rustc_requests.specs.Asks.{asks_in}
+use Rattle.rustc_options.specs.Asks.{asks_in}
 use Rattle.rustkeys.specs.Calls.{dep_info_fault_of}
 use Rattle.rustkeys.specs.Hashers.{call_at, call_of, known_in, known_of}
 use Rattle.rustkeys.specs.Questions.{Question, dep_info_of, question_of}

@@ -5,8 +5,8 @@ use Rattle.std.specs.Cmp.{IsTotalOrder}
 use Rattle.std.specs.List.Sorted.{IsSorted}
 use Rattle.std.specs.declared.cmp.Ordering.{Ordering}
 use Rattle.std.specs.declared.cmp.Ordering.TheVariants.{Equal}
-use Rattle.rustc_requests.specs.Sorted.{sorted_by}
-use Rattle.rustc_requests.specs.SortedLaws.{sorted_is}
+use Rattle.rustc_options.specs.Sorted.{sorted_by}
+use Rattle.rustc_options.specs.SortedLaws.{sorted_is}
 
 module _ {X : Type 0} (cmp : X → X → Ordering) (total : IsTotalOrder cmp) (exact : (x y : X) → cmp x y ≡ Equal → x ≡ y) where
   -- a result that has the items and is sorted is the sorted list

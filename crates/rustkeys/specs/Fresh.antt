@@ -13,7 +13,7 @@ use Rattle.rustc_texts.specs.Outputs.{has_name, output_names, outputs_of, target
 use Rattle.rustc_texts.specs.Rewriting.{rewritten_of}
 use Rattle.rustc_texts.specs.Words.{compile_words}
 use Rattle.rustkeys_base.specs.Asks.{asks_of}
-use Rattle.rustc_requests.specs.Asks.{RustAsks}
+use Rattle.rustc_options.specs.Asks.{RustAsks}
 use Rattle.rustkeys.specs.Questions.{compile_env_of, dep_info_of, file_names_of}
 use Rattle.rustkeys.specs.Calls.{RustCall}
 

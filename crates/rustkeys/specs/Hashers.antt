@@ -5,7 +5,7 @@ use Rattle.os_files.specs.Bytes.{Bytes}
 use Rattle.os_files.specs.Tree.{Tree}
 use Rattle.ckeys_records.specs.Meaning.{Variables, scene_with}
 use Rattle.rustc_compiler.specs.Compiler.{Rustc}
-use Rattle.rustc_requests.specs.Asks.{asks_in}
+use Rattle.rustc_options.specs.Asks.{asks_in}
 use Rattle.rustkeys.specs.Calls.{RustCall, RustKnown}
 use Rattle.rustkeys.specs.Questions.{question_of}
 use Rattle.rustkeys.specs.declared.hasher.RustHasher.{RustHasher}

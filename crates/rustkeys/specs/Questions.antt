@@ -13,8 +13,8 @@ use Rattle.rustc_texts.specs.DepInfo.{sources_of}
 use Rattle.rustc_texts.specs.EnvDeps.{env_deps_of}
 use Rattle.rustc_texts.specs.Variables.{compiles_with, counts}
 use Rattle.rustc_texts.specs.Words.{dep_info_words, file_names_words}
-use Rattle.rustc_requests.specs.Asks.{RustAsks, asks_in}
-use Rattle.rustc_requests.specs.Sorted.{sorted_by}
+use Rattle.rustc_options.specs.Asks.{RustAsks, asks_in}
+use Rattle.rustc_options.specs.Sorted.{sorted_by}
 use Rattle.rustkeys.specs.declared.place.RustPlace.{RustPlace}
 
 -- what a request asks for, and where and when its commands run

@@ -4,7 +4,7 @@ ghost use Rattle.std.specs.Prelude.{◌≡◌, IfOk};
 ghost use Rattle.cmdlines_requests.specs.Small.{command_at};
 ghost use Rattle.rustc_texts.specs.Outputs.{outputs_with};
 ghost use Rattle.rustc_texts.specs.Words.{compile_words};
-ghost use Rattle.rustc_requests.specs.Asks.{asks_in};
+ghost use Rattle.rustc_options.specs.Asks.{asks_in};
 ghost use Rattle.rustkeys.specs.Questions.{compile_env_of};
 
 use crate::place::RustPlace;

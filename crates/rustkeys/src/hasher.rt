@@ -12,7 +12,7 @@ ghost use Rattle.ckeys_records.specs.Views.{AreSteady, ToolFails};
 ghost use Rattle.cmdlines_requests.specs.Small.{command_at};
 ghost use Rattle.rustc_parts.specs.Formed.{IsDigest, digest_digits};
 ghost use Rattle.rustc_texts.specs.Words.{compile_words};
-ghost use Rattle.rustc_requests.specs.Asks.{asks_in};
+ghost use Rattle.rustc_options.specs.Asks.{asks_in};
 ghost use Rattle.rustkeys.specs.Calls.{dep_info_fault_of, key_fault_of, record_of};
 ghost use Rattle.rustkeys.specs.Fresh.{ComesOfWords, call_outputs, dep_info_text_of, emits_dep_info};
 ghost use Rattle.rustkeys.specs.Hashers.{call_of, known_in, known_of};
@@ -33,8 +33,8 @@ use os_files::lossy::Lossy;
 use os_files::os_bytes::OsBytes;
 use rustc_compiler::rust::Rust;
 use rustc_options::laws::words_in_order_are_a_set;
+use rustc_options::parsed::ParsedArguments;
 use rustc_parts::parts::RShape;
-use rustc_requests::parsed::ParsedArguments;
 use std::alloc::{AllocError, Global};
 
 /// What a request asks for, and of which rustc.

@@ -20,13 +20,13 @@ pub use hasher::RustHasher;
 pub use rustc_compiler::fault::RustFault;
 pub use rustc_compiler::rust::Rust;
 pub use rustc_options::data::ArgData;
+pub use rustc_options::parsed::{CrateTypes, ParsedArguments};
 pub use rustc_options::types::{
     ArgCodegen, ArgCrateTypes, ArgExtern, ArgLinkLibrary, ArgLinkPath, ArgTarget, ArgUnstable,
 };
 pub use rustc_parts::parts::{EnvDep, Parts, RShape};
 pub use rustc_parts::reading::read_key_bytes;
 pub use rustc_parts::writing::key_bytes;
-pub use rustc_requests::parsed::{CrateTypes, ParsedArguments};
 pub use rustc_texts::dep_info::parse_dep_info;
 pub use rustc_texts::env_deps::parse_env_dep_info;
 pub use rustc_texts::fault::TextFault;

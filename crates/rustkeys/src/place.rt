@@ -1,7 +1,7 @@
 //! Where a request to rustc is asked, and of which rustc.
 
 use os_files::os_bytes::OsBytes;
-use rustc_requests::parsed::ParsedArguments;
+use rustc_options::parsed::ParsedArguments;
 
 /// The executable, what the words ask of it, the directory and the variables.
 #[derive(Clone, Copy)]

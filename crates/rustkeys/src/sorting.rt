@@ -3,7 +3,7 @@
 ghost use Rattle.std.specs.Prelude.{◌≡◌, None, true, IfOk, IfErr, IsErrOf, OnOk, filter, is_none};
 ghost use Rattle.rustc_parts.specs.Orders.{env_dep_cmp};
 ghost use Rattle.rustc_texts.specs.DepInfo.{rule_of};
-ghost use Rattle.rustc_requests.specs.Sorted.{sorted_by};
+ghost use Rattle.rustc_options.specs.Sorted.{sorted_by};
 ghost use Rattle.ckeys_records.specs.Faults.{KeyCause};
 ghost use Rattle.ckeys_records.specs.Causes.{no_file, no_step};
 ghost use Rattle.rustkeys.specs.Questions.{compile_env_of, counted_in, env_deps_in, sources_in};

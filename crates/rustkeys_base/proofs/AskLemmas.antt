@@ -17,9 +17,9 @@ use Rattle.rustc_options.specs.Data.{data_of, word_of}
 use Rattle.rustc_options.specs.declared.data.ArgData.{ArgData}
 use Rattle.rustc_options.specs.declared.kind.ArgKind.{ArgKind}
 use Rattle.rustkeys_base.specs.Asks.{AsksFor, asks_of, said_of}
-use Rattle.rustc_requests.specs.Asks.{Said, asks_in, said_in}
+use Rattle.rustc_options.specs.Asks.{Said, asks_in, said_in}
 use Rattle.rustkeys_base.specs.Requests.{IsArgument, IsAsked, wanted}
-use Rattle.rustc_requests.specs.declared.parsed.ParsedArguments.{ParsedArguments}
+use Rattle.rustc_options.specs.declared.parsed.ParsedArguments.{ParsedArguments}
 
 -- an option prints its flag and its value's word as it stood
 printed-parts : (f : Bytes) (value : ArgData) (d : ArgDisposition) → map (part_word word_of) (parts_as f value d) ≡ printed_as f (word_of value) d

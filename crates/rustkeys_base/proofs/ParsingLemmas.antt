@@ -22,7 +22,7 @@ use Rattle.rustkeys_base.specs.Requests.{IsArgument, IsAsked, IsAskedBy, IsParse
 use Rattle.rustkeys_base.specs.Saying.{token_of}
 use Rattle.rustkeys_base.specs.Parsing.{AsksNothing, Decision, closing, decides, is_misread, not_parsed, unless_decided}
 use Rattle.rustkeys_base.specs.declared.facts.Facts.{Facts}
-use Rattle.rustc_requests.specs.declared.parsed.ParsedArguments.{ParsedArguments}
+use Rattle.rustc_options.specs.declared.parsed.ParsedArguments.{ParsedArguments}
 
 -- The decision as a parse comes to it, item by item, from what is known.
 abbrev pub decision_from : Bytes → Tree → Facts → List (Item ArgKind) → Bool → Decision

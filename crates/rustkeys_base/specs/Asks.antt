@@ -10,14 +10,14 @@ use Rattle.cmdlines_base.specs.declared.compiler_arguments.CompilerArguments.The
 use Rattle.rustc_options.specs.Data.{data_of, word_of}
 use Rattle.rustc_options.specs.Sets.{in_order}
 use Rattle.rustc_options.specs.declared.kind.ArgKind.{ArgKind}
-use Rattle.rustc_requests.specs.Asks.{RustAsks, Said, asks_in}
+use Rattle.rustc_options.specs.Asks.{RustAsks, Said, asks_in}
 use Rattle.rustkeys_base.specs.Facts.{facts_of}
 use Rattle.rustkeys_base.specs.Requests.{dep_info, gcno, profile, static_libraries, wanted}
 use Rattle.rustkeys_base.specs.Saying.{token_of}
-use Rattle.rustc_requests.specs.Sorted.{sorted_by}
+use Rattle.rustc_options.specs.Sorted.{sorted_by}
 use Rattle.rustkeys_base.specs.Parsing.{emitted}
 use Rattle.rustkeys_base.specs.declared.facts.Facts.{Facts}
-use Rattle.rustc_requests.specs.declared.parsed.ParsedArguments.{ParsedArguments}
+use Rattle.rustc_options.specs.declared.parsed.ParsedArguments.{ParsedArguments}
 
 -- of what was read of the words
 abbrev pub said_of : Item ArgKind → Said

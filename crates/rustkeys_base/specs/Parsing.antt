@@ -25,7 +25,7 @@ use Rattle.rustkeys_base.specs.Saying.{Token, loose, says, unread, token_of}
 use Rattle.rustkeys_base.specs.declared.deciding.Refusal.{Refusal}
 use Rattle.rustkeys_base.specs.declared.deciding.Refusal.TheVariants as refusals
 use Rattle.rustkeys_base.specs.declared.facts.Facts.{Facts}
-use Rattle.rustc_requests.specs.declared.parsed.ParsedArguments.{ParsedArguments}
+use Rattle.rustc_options.specs.declared.parsed.ParsedArguments.{ParsedArguments}
 
 -- the words ask for what can be cached, or don't compile, or can't be cached for a reason, with more text or none
 pub data Decision : Type 0 where

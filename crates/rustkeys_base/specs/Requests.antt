@@ -24,12 +24,12 @@ use Rattle.rustc_options.specs.declared.data.ArgData.TheVariants as values
 use Rattle.rustc_options.specs.declared.kind.ArgKind.{ArgKind}
 use Rattle.rustkeys_base.specs.Facts.{facts_of}
 use Rattle.rustkeys_base.specs.Saying.{Token, if_data, token_in, token_of}
-use Rattle.rustc_requests.specs.Sorted.{sorted_by}
+use Rattle.rustc_options.specs.Sorted.{sorted_by}
 use Rattle.rustkeys_base.specs.Parsing.{closing, emitted, has_kind, decision_of_refusal, decision_on}
 use Rattle.rustkeys_base.specs.declared.closing.Made.{Made}
 use Rattle.rustkeys_base.specs.declared.deciding.Refusal.{Refusal}
 use Rattle.rustkeys_base.specs.declared.facts.Facts.{Facts}
-use Rattle.rustc_requests.specs.declared.parsed.ParsedArguments.{ParsedArguments}
+use Rattle.rustc_options.specs.declared.parsed.ParsedArguments.{ParsedArguments}
 
 -- whether an option on colours
 abbrev pub is_color_value : ArgData → Bool

@@ -9,7 +9,7 @@ ghost use Rattle.rustc_options.specs.Sets.{in_order};
 ghost use Rattle.response_files.specs.Causes.{CauseOf};
 ghost use Rattle.rustkeys_base.specs.Asking.{library_places};
 ghost use Rattle.rustkeys_base.specs.Requests.{IsAskedBy, IsMadeOf, color_mode, named_by_crate, emits, dep_info, gcno, profile, static_libraries};
-ghost use Rattle.rustc_requests.specs.Sorted.{sorted_by};
+ghost use Rattle.rustc_options.specs.Sorted.{sorted_by};
 ghost use Rattle.rustkeys_base.specs.Parsing.{asks, closing, emitted, has_kind, is_supported, is_unsupported, decision_of, decision_of_refusal};
 
 use crate::deciding::{Refusal, refused};
@@ -24,8 +24,8 @@ use os_files::os_bytes::OsBytes;
 use os_files::path::{compare_paths, paths_have_one_order};
 use response_files::fault::ParseFault;
 use rustc_options::data::ArgData;
+use rustc_options::parsed::{CrateTypes, ParsedArguments};
 use rustc_options::sets::{between_commas, in_order};
-use rustc_requests::parsed::{CrateTypes, ParsedArguments};
 use std::alloc::{AllocError, Global};
 
 /// Whether one of the kinds is of that name.

@@ -16,9 +16,9 @@ use os_files::os_bytes::OsBytes;
 use os_files::path::join;
 use response_files::fault::ParseFault;
 use rustc_options::data::ArgData;
+use rustc_options::parsed::ParsedArguments;
 use rustc_options::sets::joined_by_commas;
 use rustc_options::types::{ArgOption, ArgTarget};
-use rustc_requests::parsed::ParsedArguments;
 use std::alloc::{AllocError, Global};
 use std::fmt::Write;
 

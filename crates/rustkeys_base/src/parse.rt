@@ -27,8 +27,8 @@ use os_files::listed::Listed;
 use os_files::os_bytes::OsBytes;
 use response_files::fault::ParseFault;
 use rustc_options::data::ArgData;
+use rustc_options::parsed::ParsedArguments;
 use rustc_options::table::rustc_table;
-use rustc_requests::parsed::ParsedArguments;
 use std::alloc::{AllocError, Global};
 
 /// The words of the request: a first word `rustc`, which a wrapper leaves there, is none of them.

@@ -8,7 +8,7 @@ use os_files::memory_files::MemoryFiles;
 use os_files::os_bytes::OsBytes;
 use response_files::fault::ParseFault;
 use rustc_options::data::ArgData;
-use rustc_requests::parsed::ParsedArguments;
+use rustc_options::parsed::ParsedArguments;
 use rustkeys_base::parse::parse_arguments;
 use std::alloc::Global;
 use std::test::Fail;

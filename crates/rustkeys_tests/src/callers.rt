@@ -7,10 +7,10 @@ use rustc_parts::parts::{Parts, RShape};
 use rustkeys::ParsedArguments;
 use rustkeys::compilation::RustCompilation;
 use rustkeys::hasher::RustHasher;
-use rustkeys_uses::recorded_keys::{RecordedKey, pieces_of_key};
 use std::alloc::{AllocError, Global};
 use std::test::Fail;
 use test_kit::texts::is_that;
+use wrap_uses::recorded_keys::{RecordedKey, pieces_of_key};
 
 /// A request with two static libraries.
 const WITH_LIBRARIES: &str =

@@ -1,7 +1,7 @@
 //! What is to be said of a request that was compiled: in which part, and where, it differs from the latest earlier one with the same
 //! outputs.
 
-use differences::difference::Difference;
+use fingerprints::difference::Difference;
 use os_files::listed::Listed;
 use os_files::os_bytes::OsBytes;
 use std::alloc::{AllocError, Global};

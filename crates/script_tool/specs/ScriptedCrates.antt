@@ -8,7 +8,7 @@ use Rattle.std.specs.Str.{is_utf8}
 use Rattle.os_files.specs.Bytes.{Bytes}
 use Rattle.os_files.specs.Path.{path_cmp}
 use Rattle.os_files.specs.Tree.{Tree, contents_at}
-use Rattle.rustc_requests.specs.Sorted.{sorted_by}
+use Rattle.rustc_options.specs.Sorted.{sorted_by}
 use Rattle.rustc_texts.specs.DepInfo.{sources_of}
 use Rattle.ckeys_records.specs.Meaning.{Scene, Made, made_of}
 use Rattle.ckeys_records.specs.declared.output_name.OutputName.{OutputName}

@@ -7,8 +7,8 @@ use Rattle.std.specs.Str.{is_utf8}
 use Rattle.os_files.specs.Bytes.{Bytes}
 use Rattle.os_files.specs.Path.{join, path_cmp}
 use Rattle.os_files.specs.Tree.{Tree, contents_at}
-use Rattle.rustc_requests.specs.Asks.{RustAsks}
-use Rattle.rustc_requests.specs.Sorted.{sorted_by}
+use Rattle.rustc_options.specs.Asks.{RustAsks}
+use Rattle.rustc_options.specs.Sorted.{sorted_by}
 use Rattle.rustc_compiler.specs.Compiler.{Rustc}
 use Rattle.rustc_texts.specs.DepInfo.{names_in, rule_of, sources_of}
 use Rattle.include_records.specs.Surroundings.{contents_in}

@@ -9,8 +9,9 @@ use crate::watching::Watching;
 use byte_formats::fields::{put_framed, read_framed};
 use cache_dir::file_digests::{digest_of, state_of};
 use cache_dir::folder::Kind;
-use disk_files::whole::read_whole;
+use host_protocol::asking::{Said, messages_of, push_words};
 use host_protocol::command_line::CommandLine;
+use host_protocol::digests::LETTERS;
 use host_protocol::host::Host;
 use known_options::placed::PlacedWords;
 use known_options::variables::is_read;
@@ -18,7 +19,6 @@ use os_files::file_time::FileTime;
 use os_files::listed::Listed;
 use os_files::os_bytes::OsBytes;
 use std::alloc::Global;
-use std::fs;
 use std::io::Read;
 use std::rt::Files;
 
@@ -27,9 +27,6 @@ const FRONTS: [&[u8]; 6] = [b"-D", b"-U", b"-o", b"-M", b"-include", b"-imacros"
 
 /// Words that stand alone and say what is to be made.
 const STEPS: [&[u8]; 4] = [b"-c", b"-S", b"-E", b"-v"];
-
-/// How many letters a digest has.
-const DIGEST: usize = 64;
 
 /// Whether a word that is no value says where files are looked for.
 fn says_where(word: &[u8]) -> bool {
@@ -51,9 +48,11 @@ fn asking_words(
             asking.push(placed.word.clone()?)?;
         }
     }
-    for word in ["-E", "-v", "-x", language, "/dev/null"] {
-        asking.push(OsBytes::from_slice(alloc, word.as_bytes())?)?;
-    }
+    push_words(
+        alloc,
+        &mut asking,
+        &["-E", "-v", "-x", language, "/dev/null"],
+    )?;
     Ok(asking)
 }
 
@@ -83,7 +82,7 @@ fn name_of<R: Files + AllocGlobal>(
 
 /// What a kept file says that has its digest at its end.
 fn unsealed(alloc: Global, bytes: &[u8]) -> Result<Option<(&[u8], &[u8])>, Unwatched> {
-    let Some((front, end)) = bytes.split_at_checked(bytes.len().saturating_sub(DIGEST)) else {
+    let Some((front, end)) = bytes.split_at_checked(bytes.len().saturating_sub(LETTERS)) else {
         return Ok(None);
     };
     if digest_of(alloc, front)?.as_bytes() != end {
@@ -160,15 +159,15 @@ pub fn said_of<P: Print + Files + AllocGlobal, I: Read>(
     if let Some(said) = said_before(rt, line, name.as_str())? {
         return Ok(said);
     }
-    let Ok(ended) = host.preprocess(rt, alloc, words.as_slice()) else {
+    let Ok(
+        Said {
+            status: 0,
+            messages,
+        },
+    ) = messages_of(rt, line, host, words.as_slice())
+    else {
         return Err(Unwatched::List);
     };
-    if ended.status != 0 {
-        return Err(Unwatched::List);
-    }
-    let said = read_whole(rt, line.errors.as_str())?;
-    // The host prints what it finds there.
-    fs::write(rt, line.errors.as_str(), b"")?;
-    keep(rt, line, name.as_str(), said.as_slice(), before)?;
-    Ok(said)
+    keep(rt, line, name.as_str(), messages.as_slice(), before)?;
+    Ok(messages)
 }

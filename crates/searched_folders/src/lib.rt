@@ -4,6 +4,7 @@
 pub mod asking;
 pub mod manifests;
 pub mod search_list;
+pub mod shared_lists;
 pub mod texts;
 pub mod unwatched;
 pub mod watch_list;

@@ -14,9 +14,9 @@ const MOST: usize = 4;
 
 /// A result's key and a list.
 #[derive(Clone, Copy)]
-struct Row<'a> {
-    key: &'a [u8],
-    list: &'a [u8],
+pub(crate) struct Row<'a> {
+    pub(crate) key: &'a [u8],
+    pub(crate) list: &'a [u8],
 }
 
 /// The row ahead in these bytes, and what stands behind it.
@@ -27,7 +27,7 @@ fn row_ahead(bytes: &[u8]) -> Option<(Row<'_>, &[u8])> {
 }
 
 /// The rows of these bytes, up to the first that is none.
-fn rows_of(alloc: Global, watched: &[u8]) -> Result<Vec<Row<'_>>, AllocError> {
+pub(crate) fn rows_of(alloc: Global, watched: &[u8]) -> Result<Vec<Row<'_>>, AllocError> {
     let mut rows = Vec::new(alloc);
     let mut rest = watched;
     // Each turn takes a byte at least.

@@ -14,6 +14,7 @@ use source_directives::directives::{
 };
 use source_directives::times::{pastes_time, tells_time};
 use std::alloc::Global;
+use std::collections::HashSet;
 use std::rt::Files;
 
 /// What words begin with by which a compiler finds files in a way of its own.
@@ -152,18 +153,22 @@ fn add_all_probed<'a>(
     Ok(())
 }
 
-/// Looks for all that a source asks for, and for the input has it watched that no precompiled header lies beside that.
-fn search_all<R: Files + AllocGlobal>(
+/// Looks for all that a source asks for, but for names in brackets that were looked for: which source asks for these tells nothing. For the
+/// input has it watched that no precompiled header lies beside that.
+fn search_all<'a, R: Files + AllocGlobal>(
     rt: &R,
     source: &Source<'_>,
     list: &SearchList<'_>,
-    all_asked: &[Asked<'_>],
+    all_asked: &[Asked<'a>],
     is_input: bool,
+    bracketed: &mut HashSet<&'a [u8]>,
     watching: &mut Watching<'_, '_>,
 ) -> Result<(), Unwatched> {
     let beside = folder_of(source.path.as_bytes());
     for asked in all_asked {
-        watching.search(rt, list, beside, *asked)?;
+        if asked.search != Search::Bracketed || bracketed.insert(asked.name)? {
+            watching.search(rt, list, beside, *asked)?;
+        }
         if is_input {
             watching.look_for_precompiled(rt, list, beside, asked.name, b".gch")?;
         }
@@ -233,13 +238,25 @@ fn search_sources<'a, R: Files + AllocGlobal>(
     watching: &mut Watching<'_, '_>,
 ) -> Result<(), Unwatched> {
     let probes = probes_in(rt.alloc(), all)?;
+    let mut bracketed = HashSet::new(rt.alloc());
+    let mut said_bracketed = HashSet::new(rt.alloc());
     let mut is_input = true;
     for (source, found) in sources.iter().zip(all.iter_mut()) {
         add_computed(sources, found)?;
         add_all_probed(source, probes.as_slice(), found)?;
         let said = said_for(rt.alloc(), words, found)?;
-        search_all(rt, source, list, found.asked.as_slice(), is_input, watching)?;
-        search_all(rt, source, list, said.as_slice(), is_input, watching)?;
+        let asked = found.asked.as_slice();
+        search_all(rt, source, list, asked, is_input, &mut bracketed, watching)?;
+        let asked = said.as_slice();
+        search_all(
+            rt,
+            source,
+            list,
+            asked,
+            is_input,
+            &mut said_bracketed,
+            watching,
+        )?;
         is_input = false;
     }
     Ok(())

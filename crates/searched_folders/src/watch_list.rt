@@ -28,7 +28,7 @@ pub(crate) enum Hold {
 
 impl Hold {
     /// Its number in a layout.
-    fn code(self) -> u64 {
+    pub(crate) fn code(self) -> u64 {
         match self {
             Hold::Names => 0,
             Hold::Settled => 1,
@@ -74,7 +74,7 @@ impl Folder {
 }
 
 /// A path as text.
-fn text_of(path: &[u8]) -> Result<&str, Unwatched> {
+pub(crate) fn text_of(path: &[u8]) -> Result<&str, Unwatched> {
     match str::from_utf8(path) {
         Ok(path) => Ok(path),
         Err(_) => Err(Unwatched::Path),

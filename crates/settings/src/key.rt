@@ -1,5 +1,6 @@
 //! The keys that can be set.
 
+use crate::storage::is_storage;
 use crate::values::{mask_named, size_named, truth_named};
 
 /// A key, with ccache's name where it means the same.
@@ -19,12 +20,18 @@ pub enum Key {
     Disable,
     /// The file that gets a line for each call; none where it is empty.
     LogFile,
+    /// How a line of that file is written: `text` or `json`.
+    LogFormat,
     /// How much is kept.
     MaxSize,
     /// Whether nothing is kept that isn't yet.
     ReadOnly,
     /// Whether nothing that is kept is given, and all is kept anew.
     Recache,
+    /// The file of the key that is in the seal of what other machines store; none where it is empty.
+    RemoteKey,
+    /// Where results of other machines are; nowhere where it is empty.
+    RemoteStorage,
     /// What may differ though it counts, as ccache has it: `lines`.
     Sloppiness,
     /// Whether calls are counted.
@@ -53,11 +60,15 @@ pub enum Kind {
     Sloppiness,
     /// Words that begin with a dash, with spaces between them, or nothing.
     Options,
+    /// An address with attributes, or nothing.
+    Storage,
+    /// `text` or `json`.
+    LogFormat,
 }
 
 impl Key {
     /// All of them, in the order of their names.
-    pub const ALL: [Key; 13] = [
+    pub const ALL: [Key; 16] = [
         Key::AllowOptions,
         Key::Audit,
         Key::BaseDir,
@@ -65,9 +76,12 @@ impl Key {
         Key::DirectMode,
         Key::Disable,
         Key::LogFile,
+        Key::LogFormat,
         Key::MaxSize,
         Key::ReadOnly,
         Key::Recache,
+        Key::RemoteKey,
+        Key::RemoteStorage,
         Key::Sloppiness,
         Key::Stats,
         Key::Umask,
@@ -83,9 +97,12 @@ impl Key {
             Key::DirectMode => "direct_mode",
             Key::Disable => "disable",
             Key::LogFile => "log_file",
+            Key::LogFormat => "log_format",
             Key::MaxSize => "max_size",
             Key::ReadOnly => "read_only",
             Key::Recache => "recache",
+            Key::RemoteKey => "remote_key",
+            Key::RemoteStorage => "remote_storage",
             Key::Sloppiness => "sloppiness",
             Key::Stats => "stats",
             Key::Umask => "umask",
@@ -102,9 +119,12 @@ impl Key {
             Key::DirectMode => "GULMAAT_DIRECT",
             Key::Disable => "GULMAAT_DISABLE",
             Key::LogFile => "GULMAAT_LOGFILE",
+            Key::LogFormat => "GULMAAT_LOG_FORMAT",
             Key::MaxSize => "GULMAAT_MAXSIZE",
             Key::ReadOnly => "GULMAAT_READONLY",
             Key::Recache => "GULMAAT_RECACHE",
+            Key::RemoteKey => "GULMAAT_REMOTE_KEY",
+            Key::RemoteStorage => "GULMAAT_REMOTE",
             Key::Sloppiness => "GULMAAT_SLOPPINESS",
             Key::Stats => "GULMAAT_STATS",
             Key::Umask => "GULMAAT_UMASK",
@@ -118,10 +138,13 @@ impl Key {
             | Key::BaseDir
             | Key::CacheDir
             | Key::LogFile
+            | Key::RemoteKey
+            | Key::RemoteStorage
             | Key::Sloppiness
             | Key::Umask => "",
             Key::Audit => "0",
             Key::Disable | Key::ReadOnly | Key::Recache => "false",
+            Key::LogFormat => "text",
             Key::MaxSize => "5G",
             Key::DirectMode | Key::Stats => "true",
         }
@@ -133,7 +156,9 @@ impl Key {
             Key::AllowOptions => Kind::Options,
             Key::Audit => Kind::Audit,
             Key::BaseDir => Kind::Paths,
-            Key::CacheDir | Key::LogFile => Kind::Path,
+            Key::CacheDir | Key::LogFile | Key::RemoteKey => Kind::Path,
+            Key::RemoteStorage => Kind::Storage,
+            Key::LogFormat => Kind::LogFormat,
             Key::MaxSize => Kind::Size,
             Key::Sloppiness => Kind::Sloppiness,
             Key::Umask => Kind::Mask,
@@ -170,7 +195,10 @@ impl Kind {
             Kind::Audit => "a whole number, or tell",
             Kind::Mask => "an octal number up to 777",
             Kind::Sloppiness => "lines",
+            Kind::LogFormat => "text or json",
             Kind::Options => "options with spaces between them, each of which begins with -",
+            Kind::Storage =>
+                "redis://, redis+unix:, http://, https:// or file: with an address, and attributes behind |; rediss: isn't there",
         }
     }
 
@@ -184,7 +212,9 @@ impl Kind {
             Kind::Audit => text == TELL || text.parse::<u64>().is_ok(),
             Kind::Mask => text.is_empty() || mask_named(text).is_some(),
             Kind::Sloppiness => matches!(text, "" | "lines"),
+            Kind::LogFormat => matches!(text, "text" | "json"),
             Kind::Options => text.split(' ').all(is_option),
+            Kind::Storage => text.is_empty() || is_storage(text),
         }
     }
 }

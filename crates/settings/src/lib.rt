@@ -7,4 +7,5 @@ pub mod lines;
 pub mod places;
 pub mod reading;
 pub mod settings;
+pub mod storage;
 pub mod values;

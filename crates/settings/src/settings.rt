@@ -2,8 +2,10 @@
 
 use crate::error::SettingsError;
 use crate::key::{Key, TELL};
+use crate::storage;
 use crate::values::{mask_named, size_named, truth_named};
 use std::alloc::{AllocError, Global};
+use std::fmt;
 
 /// A value that was set, and where: a variable or a file.
 #[derive(Drop)]
@@ -11,6 +13,14 @@ pub struct Setting {
     pub key: Key,
     pub value: String,
     pub origin: String,
+}
+
+/// A value of a key as it may be shown.
+pub fn shown(alloc: Global, key: Key, value: &str) -> Result<String, fmt::Error> {
+    match key {
+        Key::RemoteStorage => storage::shown(alloc, value),
+        _ => Ok(String::from_str(alloc, value)?),
+    }
 }
 
 /// What is set. A key that isn't has its usual value.
@@ -88,6 +98,7 @@ impl Settings {
         if !key.kind().allows(value) {
             let wanted = key.kind().wanted();
             let name = key.name();
+            let value = shown(alloc, key, value)?;
             return Err(SettingsError::Wrong(format!(in alloc;
                 "{origin}: {name} is {value}: set it to {wanted}"
             )?));

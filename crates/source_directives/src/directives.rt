@@ -3,7 +3,7 @@
 //! Which of them are live hangs on macros, so all of them count: those in comments too. Where it can't be told what is asked for, as where a
 //! macro stands for the name, there is no answer.
 
-use memchr::{memchr, memmem};
+use memchr::{memchr, memchr_iter, memmem, memrchr};
 use std::alloc::{AllocError, Global};
 
 /// How a compiler looks for a name.
@@ -39,12 +39,18 @@ pub struct Directives<'a> {
 /// By what a source asks whether a file is there.
 pub const PROBE: &[u8] = b"__has_include";
 
-/// Other spellings of `#` and of the end of a line that goes on, and a probe for what may be embedded.
-const SPELLINGS: [&[u8]; 4] = [b"%:", b"??=", b"??/", b"__has_embed"];
+/// The bytes that the spellings of `#` begin with.
+pub(crate) const MARKS: [u8; 3] = [b'#', b'%', b'?'];
+
+/// A probe for what may be embedded.
+const EMBED_PROBE: &[u8] = b"__has_embed";
+
+/// What a source in UTF-8 may begin with.
+const BYTE_ORDER_MARK: &[u8] = b"\xef\xbb\xbf";
 
 /// Whether it is a space within a line.
 fn is_space(byte: u8) -> bool {
-    matches!(byte, b' ' | b'\t' | b'\r' | 11 | 12)
+    matches!(byte, b' ' | b'\t' | b'\r' | 0 | 11 | 12)
 }
 
 /// Whether it may stand in a name of a macro.
@@ -67,15 +73,40 @@ pub(crate) fn word_ahead(text: &[u8]) -> (&[u8], &[u8]) {
     }
 }
 
-/// The line without comments that end on it ahead of a directive.
-fn behind_comments(line: &[u8]) -> &[u8] {
-    if behind_spaces(line).starts_with(b"#") {
-        return line;
+/// The text without the spaces that it ends with.
+fn before_spaces(text: &[u8]) -> &[u8] {
+    let spaces = text.iter().rev().take_while(|byte| is_space(**byte));
+    text.get(..text.len().saturating_sub(spaces.count()))
+        .unwrap_or(&[])
+}
+
+/// Whether a directive may begin behind these bytes of a source: in its line nothing stands before it but spaces and the end of a comment, which
+/// a line that goes on may cut in two.
+pub(crate) fn may_begin_directive(front: &[u8]) -> bool {
+    let front = before_spaces(front);
+    match front.last() {
+        None | Some(b'\n') => true,
+        Some(b'/') => front.ends_with(b"*/") || front.ends_with(b"\n/"),
+        Some(_) => front == BYTE_ORDER_MARK,
     }
-    match memmem::rfind(line, b"*/") {
-        Some(at) => line.get(at.saturating_add(2)..).unwrap_or(&[]),
-        None => line,
+}
+
+/// The rest of the line that a text begins in.
+fn line_ahead(text: &[u8]) -> &[u8] {
+    match memchr(b'\n', text) {
+        Some(end) => text.get(..end).unwrap_or(&[]),
+        None => text,
     }
+}
+
+/// The line of a source in which that place is.
+fn line_at(source: &[u8], at: usize) -> &[u8] {
+    let front = source.get(..at).unwrap_or(&[]);
+    let begin = match memrchr(b'\n', front) {
+        Some(end) => end.saturating_add(1),
+        None => 0,
+    };
+    line_ahead(source.get(begin..).unwrap_or(&[]))
 }
 
 /// The name between these marks at the front of a text.
@@ -122,6 +153,14 @@ fn defined_by(line: &[u8]) -> Option<(&[u8], bool)> {
     }
     let (name, rest) = word_ahead(behind_spaces(rest));
     Some((name, rest.starts_with(b"(")))
+}
+
+/// Whether a line defines the macro of that name.
+fn defines(line: &[u8], macro_name: &[u8]) -> bool {
+    match defined_by(line) {
+        Some((name, _)) => name == macro_name,
+        None => false,
+    }
 }
 
 /// Whether a word stands there that isn't a part of a longer one.
@@ -228,48 +267,72 @@ impl<'a> Directives<'a> {
         }
     }
 
-    /// Takes the probes of that name in a line. False where it can't be told what one asks for.
-    fn take_probes(&mut self, line: &'a [u8], probe: &[u8]) -> Result<bool, AllocError> {
-        for at in memmem::find_iter(line, probe) {
-            let behind = line.get(at.saturating_add(probe.len())..).unwrap_or(&[]);
-            if stands_alone(line, at) && !self.take_probe(line, behind)? {
+    /// Takes the probes of that name in a source, but in the line that defines it. False where it can't be told what one asks for.
+    fn take_probes(&mut self, source: &'a [u8], probe: &[u8]) -> Result<bool, AllocError> {
+        for at in memmem::find_iter(source, probe) {
+            if !stands_alone(source, at) {
+                continue;
+            }
+            let line = line_at(source, at);
+            let behind = source.get(at.saturating_add(probe.len())..).unwrap_or(&[]);
+            if !defines(line, probe) && !self.take_probe(line, line_ahead(behind))? {
                 return Ok(false);
             }
         }
         Ok(true)
     }
 
-    /// Takes a line. False where it can't be told what it asks for.
-    fn take_line(&mut self, line: &'a [u8]) -> Result<bool, AllocError> {
-        match behind_spaces(behind_comments(line)) {
-            [b'#', behind @ ..] => {
-                Ok(self.take_directive(behind)? && self.take_probes(line, PROBE)?)
+    /// Takes a directive, where one begins at that place of a source, at which a mark stands. False where it can't be told what it asks for:
+    /// that is so of other spellings of `#`, and of those of the end of a line that goes on.
+    fn take_at(&mut self, source: &'a [u8], at: usize) -> Result<bool, AllocError> {
+        let Some((front, found)) = source.split_at_checked(at) else {
+            return Ok(true);
+        };
+        match found {
+            [b'#', behind @ ..] if may_begin_directive(front) => {
+                self.take_directive(line_ahead(behind))
             }
-            _ => self.take_probes(line, PROBE),
+            [b'%', b':' | b'\\', ..] | [b'?', b'?', b'=', ..] => Ok(!may_begin_directive(front)),
+            [b'?', b'?', b'/', ..] => Ok(false),
+            _ => Ok(true),
         }
+    }
+
+    /// Takes the directives of a source that begin with that mark. False where it can't be told what one asks for.
+    fn take_marked(&mut self, source: &'a [u8], mark: u8) -> Result<bool, AllocError> {
+        for at in memchr_iter(mark, source) {
+            if !self.take_at(source, at)? {
+                return Ok(false);
+            }
+        }
+        Ok(true)
+    }
+
+    /// Takes the directives of a source. False where it can't be told what one asks for.
+    fn take_directives(&mut self, source: &'a [u8]) -> Result<bool, AllocError> {
+        for mark in MARKS {
+            if !self.take_marked(source, mark)? {
+                return Ok(false);
+            }
+        }
+        Ok(true)
     }
 }
 
 /// What a source asks for. None where that can't be told.
 pub fn directives_of(alloc: Global, source: &[u8]) -> Result<Option<Directives<'_>>, AllocError> {
     let mut found = Directives::new(alloc);
-    if SPELLINGS
-        .iter()
-        .any(|it| memmem::find(source, it).is_some())
+    if memmem::find(source, EMBED_PROBE).is_some()
+        || !found.take_directives(source)?
+        || !found.take_probes(source, PROBE)?
     {
         return Ok(None);
-    }
-    for line in source.split(|byte| *byte == b'\n') {
-        let may_ask = memchr(b'#', line).is_some() || memmem::find(line, PROBE).is_some();
-        if may_ask && !found.take_line(line)? {
-            return Ok(None);
-        }
     }
     Ok(Some(found))
 }
 
 /// What stands before spaces and ends of lines that go on.
-fn before_spaces(front: &[u8]) -> &[u8] {
+fn before_gap(front: &[u8]) -> &[u8] {
     let is_gap = |byte: &u8| is_space(*byte) || *byte == b'\\' || *byte == b'\n';
     let gap = front.iter().rev().take_while(|byte| is_gap(*byte)).count();
     front.get(..front.len().saturating_sub(gap)).unwrap_or(&[])
@@ -277,7 +340,7 @@ fn before_spaces(front: &[u8]) -> &[u8] {
 
 /// Whether a name may be defined that these bytes stand before: `define` does, or a comment that may stand behind that.
 fn may_be_defined(front: &[u8]) -> bool {
-    let before = before_spaces(front);
+    let before = before_gap(front);
     before.ends_with(b"define") || before.ends_with(b"*/")
 }
 
@@ -338,14 +401,5 @@ pub fn add_probed<'a>(
     probe: &[u8],
     found: &mut Directives<'a>,
 ) -> Result<bool, AllocError> {
-    for line in source.split(|byte| *byte == b'\n') {
-        let is_its_own = match defined_by(line) {
-            Some((name, _)) => name == probe,
-            None => false,
-        };
-        if !is_its_own && !found.take_probes(line, probe)? {
-            return Ok(false);
-        }
-    }
-    Ok(true)
+    found.take_probes(source, probe)
 }

@@ -20,7 +20,11 @@ fn is_piece(name: &[u8]) -> bool {
 /// Whether a name may be pasted that these bytes stand behind: it is pasted there, is an argument, or is all that a macro stands for.
 fn may_be_pasted(behind: &[u8]) -> bool {
     match behind_spaces(behind) {
-        [byte, ..] => matches!(*byte, b'#' | b',' | b')' | b'\n' | b'\\' | b'/'),
+        // By `##`, which other spellings have for `#`.
+        [byte, ..] => matches!(
+            *byte,
+            b'#' | b'%' | b'?' | b',' | b')' | b'\n' | b'\\' | b'/'
+        ),
         [] => true,
     }
 }

@@ -7,6 +7,7 @@ use known_options::placed::{Placed, PlacedWords};
 use os_files::os_bytes::OsBytes;
 use os_files::path::join;
 use std::alloc::Global;
+use std::collections::BTreeSet;
 use std::fs;
 use std::rt::Files;
 use written_lines::named::NamedFiles;
@@ -44,18 +45,18 @@ fn folder_in(placed: Placed<'_>) -> Option<&[u8]> {
     }
 }
 
-/// The folders that are searched for what a call takes in: its own, its input's, and those that words and variables name.
+/// The folders that are searched for what a call takes in, each once: its own, its input's, and those that words and variables name.
 fn folders_of<'a>(
     alloc: Global,
     line: &'a CommandLine,
     input: &'a [u8],
-) -> Result<Vec<&'a [u8]>, HostError> {
-    let mut folders: Vec<&[u8]> = Vec::new(alloc);
-    folders.push(b"")?;
-    folders.push(folder_of(input))?;
+) -> Result<BTreeSet<&'a [u8]>, HostError> {
+    let mut folders: BTreeSet<&[u8]> = BTreeSet::new(alloc);
+    folders.insert(line.dir.as_bytes())?;
+    folders.insert(folder_of(input))?;
     for placed in PlacedWords::of(line.words.as_slice()) {
         if let Some(folder) = folder_in(placed) {
-            folders.push(folder)?;
+            folders.insert(folder)?;
         }
     }
     for variable in VARIABLES {
@@ -64,7 +65,7 @@ fn folders_of<'a>(
             .split(|byte| *byte == b':')
             .filter(|folder| !folder.is_empty())
         {
-            folders.push(folder)?;
+            folders.insert(folder)?;
         }
     }
     Ok(folders)
@@ -94,6 +95,14 @@ fn is_precompiled<R: Files + AllocGlobal>(rt: &R, path: &[u8]) -> Result<bool, H
     Ok(false)
 }
 
+/// Whether the folder is there in which a path is. Where it isn't no file need be asked for in it.
+fn has_folder<R: Files>(rt: &R, path: &[u8]) -> bool {
+    match str::from_utf8(folder_of(path)) {
+        Ok(folder) => fs::metadata(rt, folder).is_ok(),
+        Err(_) => false,
+    }
+}
+
 /// Whether a precompiled header lies in a folder under one of these names.
 fn has_in<R: Files + AllocGlobal>(
     rt: &R,
@@ -104,6 +113,10 @@ fn has_in<R: Files + AllocGlobal>(
     let folder = join(rt.alloc(), line.dir.as_bytes(), folder)?;
     for name in names {
         let path = join(rt.alloc(), folder.as_bytes(), name)?;
+        let is_deeper = name.contains(&b'/');
+        if is_deeper && !has_folder(rt, path.as_bytes()) {
+            continue;
+        }
         if is_precompiled(rt, path.as_bytes())? {
             return Ok(true);
         }

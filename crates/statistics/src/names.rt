@@ -28,6 +28,14 @@ pub const PASSED: [&str; 13] = [
     "unsupported_source_language",
 ];
 
+/// What asking a server for results of other machines came to.
+pub const REMOTE: [&str; 4] = [
+    "remote_storage_hit",
+    "remote_storage_miss",
+    "remote_storage_error",
+    "remote_storage_timeout",
+];
+
 /// What the names of other calls that are passed through begin with.
 pub const UNCACHEABLE: &str = "uncacheable_";
 

@@ -23,11 +23,16 @@ gulmaat OPTION..
   -d, --dir DIR                  the options with it are of what is kept there
       --audit COMMAND ..         runs the command; a hit is compiled too, and what differs is said
       --why COMMAND ..           what differed, at the last call with the outputs of this command that was compiled, from the one before it
+      --page LOG                 prints a page of the last build in a log of GULMAAT_LOG_FORMAT=json; with --all of all builds, and
+                                 with --ninja FILE also with the other commands of that build, as links, by ninja's own log
+      --trace LOG                the same as a trace for Perfetto or chrome://tracing
+      --compare LOG LOG          the last builds of two logs side by side
       --links DIR                puts links into this folder, by which gulmaat stands before the compilers that are on the path
 
 Other names are --show for --show-stats, and --limit for --max-size. Each key of -p has a variable, which comes before the
 user's file; that is gulmaat.conf in the folder that GULMAAT_DIR names, or else in gulmaat in the user's folder of settings. With
 direct_mode no preprocessor runs where the files that it read last are as they were: docs/WRAPPER.md says what that can't see.
+remote_storage names a server, or a folder, from which results of other machines come, and to which those of this one go.
 ";
 
 /// Prints the help.

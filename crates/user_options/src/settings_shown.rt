@@ -4,23 +4,28 @@ use crate::error::OptionError;
 use settings::key::Key;
 use settings::places::Variables;
 use settings::reading::set_in_file;
-use settings::settings::Settings;
+use settings::settings::{Settings, shown};
 use std::alloc::Global;
 use std::rt::Files;
 
 /// Prints each key with its value and where that comes from. The folder of what is kept is the one that the host found, where none is set.
-pub fn show_config<R: Print>(rt: &R, settings: &Settings, kept: &str) -> Result<(), OptionError> {
+/// What may be shown to nobody is left out.
+pub fn show_config<R: Print + AllocGlobal>(
+    rt: &R,
+    settings: &Settings,
+    kept: &str,
+) -> Result<(), OptionError> {
     for key in Key::ALL {
         let origin = settings.origin_of(key);
         let name = key.name();
-        let value = shown(settings, key, kept);
+        let value = shown(rt.alloc(), key, value_of(settings, key, kept))?;
         println!(rt; "({origin}) {name} = {value}")?;
     }
     Ok(())
 }
 
 /// The value of a key as it holds.
-fn shown<'a>(settings: &'a Settings, key: Key, kept: &'a str) -> &'a str {
+fn value_of<'a>(settings: &'a Settings, key: Key, kept: &'a str) -> &'a str {
     match key {
         Key::CacheDir => kept,
         _ => settings.value_of(key),
@@ -45,7 +50,7 @@ pub fn get<R: Print + AllocGlobal>(
     name: &str,
 ) -> Result<(), OptionError> {
     let key = key_named(rt.alloc(), name)?;
-    let value = shown(settings, key, kept);
+    let value = value_of(settings, key, kept);
     println!(rt; "{value}")?;
     Ok(())
 }

@@ -7,7 +7,7 @@ use crate::help::line_of;
 use cache_dir::making_room::kept_in;
 use statistics::counts::Counts;
 use statistics::file::{counts_at, updated_at};
-use statistics::names::{HITS, MISSES, PASSED, ZEROED, is_error, is_passed};
+use statistics::names::{HITS, MISSES, PASSED, REMOTE, ZEROED, is_error, is_passed};
 use std::alloc::Global;
 use std::rt::Files;
 
@@ -128,6 +128,15 @@ pub fn show<R: Print + AllocGlobal>(
         cacheable,
     )?;
     print_share(rt, "Misses:", cacheable.saturating_sub(hits), cacheable)?;
+    let asked = statistics.sum_of(&REMOTE);
+    if asked != 0 {
+        print_share(
+            rt,
+            "Remote hits:",
+            statistics.sum_of(&["remote_storage_hit"]),
+            asked,
+        )?;
+    }
     let passed = statistics.rows(alloc, false)?;
     let number = total_of(passed.as_slice());
     println!(rt; "Uncacheable:            {number:>8}")?;
@@ -157,7 +166,9 @@ fn show_details<R: Print + AllocGlobal>(
 ) -> Result<(), OptionError> {
     println!(rt; "Of these by option or variable, and other counters:")?;
     for name in statistics.counts.names(rt.alloc())? {
-        let is_shown = HITS.contains(&name) || MISSES.contains(&name);
+        let is_shown = HITS.contains(&name)
+            || MISSES.contains(&name)
+            || name == "remote_storage_hit";
         if !is_shown && !is_passed(name) && !is_error(name) {
             let number = statistics.counts.number_of(name);
             println!(rt; "  {name:<40}{number:>8}")?;
@@ -169,7 +180,8 @@ fn show_details<R: Print + AllocGlobal>(
 /// Prints names and numbers with a tab between them: ccache's names that we count, also where they are 0, and all others.
 pub fn print<R: Print + AllocGlobal>(rt: &R, statistics: &Statistics) -> Result<(), OptionError> {
     let counts = &statistics.counts;
-    for name in HITS.iter().chain(MISSES.iter()).chain(PASSED.iter()) {
+    let cacheable = HITS.iter().chain(MISSES.iter());
+    for name in cacheable.chain(PASSED.iter()).chain(REMOTE.iter()) {
         let number = counts.number_of(name);
         println!(rt; "{name}\t{number}")?;
     }
@@ -177,6 +189,7 @@ pub fn print<R: Print + AllocGlobal>(rt: &R, statistics: &Statistics) -> Result<
         if !HITS.contains(&name)
             && !MISSES.contains(&name)
             && !PASSED.contains(&name)
+            && !REMOTE.contains(&name)
             && name != ZEROED
             && name != "cleanups_performed"
         {

@@ -14,7 +14,7 @@ use Rattle.ckeys_records.specs.declared.step.Step.TheVariants.{Compile}
 use Rattle.entry_keys.specs.declared.entry_key.EntryKey.{EntryKey}
 use Rattle.include_records.specs.Records.{Record}
 use Rattle.rustc_compiler.specs.Compiler.{Rustc}
-use Rattle.rustc_requests.specs.Asks.{RustAsks}
+use Rattle.rustc_options.specs.Asks.{RustAsks}
 use Rattle.rustkeys.specs.Runs.{AtMostTwice}
 use Rattle.wrap_keys.specs.Account.{Account, Pairs, Work, rust_account_by, rust_call_at, rust_work_at, worked}
 use Rattle.wrap_keys.specs.Answers.{GoesOn, Says, SaysBy}

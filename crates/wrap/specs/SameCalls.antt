@@ -7,7 +7,7 @@ use Rattle.include_records.specs.Surroundings.{contents_in}
 use Rattle.ckeys.specs.Calls.{KeyCall, extra_paths, text_of}
 use Rattle.ckeys_records.specs.Meaning.{Meaning, names_of}
 use Rattle.ckeys_records.specs.Params.{is_cached, stripped_words}
-use Rattle.rustc_requests.specs.Asks.{RustAsks}
+use Rattle.rustc_options.specs.Asks.{RustAsks}
 use Rattle.rustc_texts.specs.Words.{cfgs_of, rest_of}
 use Rattle.rustkeys.specs.Calls.{RustCall}
 use Rattle.rustkeys.specs.Questions.{answers_of}

@@ -7,11 +7,11 @@ use Rattle.cmdlines_base.specs.Reading.{begins_with_at}
 use Rattle.cmdlines_base.specs.declared.compiler_arguments.CompilerArguments.{CompilerArguments}
 use Rattle.cmdlines_base.specs.declared.compiler_arguments.CompilerArguments.TheVariants as answers
 use Rattle.rustkeys_base.specs.Asks.{AsksFor, asks_of}
-use Rattle.rustc_requests.specs.Asks.{RustAsks, asks_in}
+use Rattle.rustc_options.specs.Asks.{RustAsks, asks_in}
 use Rattle.rustkeys_base.specs.Expansion.{expanded_by_rustc}
 use Rattle.rustkeys_base.specs.Parsing as parsing
 use Rattle.rustkeys_base.specs.Parsing.{request_reading, decision_of, decision_on}
-use Rattle.rustc_requests.specs.declared.parsed.ParsedArguments.{ParsedArguments}
+use Rattle.rustc_options.specs.declared.parsed.ParsedArguments.{ParsedArguments}
 use Rattle.rustc_texts.specs.Words.{all_words, color_words, compile_words, dep_info_words, file_names_words}
 use Rattle.wrap_keys.specs.RustPlans.{OpensNothing}
 use Rattle.wrap_keys.specs.RustVerdicts.{RustJudgement, decided, decided_on, is_text, not_text, rust_verdict_of, with_hazards}

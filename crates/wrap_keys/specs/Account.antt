@@ -16,7 +16,7 @@ use Rattle.ckeys_records.specs.declared.fault.Fault.TheVariants.{CompileFailed, 
 use Rattle.ckeys_records.specs.declared.output_name.OutputName.{OutputName}
 use Rattle.ckeys_records.specs.declared.step.Step.TheVariants.{Compile}
 use Rattle.rustc_compiler.specs.Compiler.{Rustc}
-use Rattle.rustc_requests.specs.Asks.{RustAsks}
+use Rattle.rustc_options.specs.Asks.{RustAsks}
 use Rattle.rustkeys.specs.Calls as keys
 use Rattle.rustkeys.specs.Calls.{RustCall}
 use Rattle.rustkeys.specs.Fresh.{call_outputs, dep_info_text_of, fresh_of}

@@ -2,8 +2,8 @@
 use Rattle.std.specs.Prelude.{◌≡◌, false}
 use Rattle.std.specs.List.{list_any}
 use Rattle.cmdlines_base.specs.Reading.{begins_with_at}
-use Rattle.rustc_requests.specs.Asks.{asks_in}
-use Rattle.rustc_requests.specs.declared.parsed.ParsedArguments.{ParsedArguments}
+use Rattle.rustc_options.specs.Asks.{asks_in}
+use Rattle.rustc_options.specs.declared.parsed.ParsedArguments.{ParsedArguments}
 use Rattle.rustc_texts.specs.Words.{compile_words, dep_info_words, file_names_words}
 use Rattle.wrap_keys.specs.RustVerdicts.{RustJudgement, asks, passes}
 use Rattle.wrap_keys.specs.Verdicts.{why_of}

@@ -6,7 +6,7 @@ use Rattle.os_files.specs.Bytes.{Bytes}
 use Rattle.os_files.specs.Tree.{Tree}
 use Rattle.cmdlines_base.specs.Reading.{begins_with_at}
 use Rattle.rustkeys_base.specs.Asks.{asks_of}
-use Rattle.rustc_requests.specs.Asks.{RustAsks}
+use Rattle.rustc_options.specs.Asks.{RustAsks}
 use Rattle.rustkeys_base.specs.Expansion.{expanded_by_rustc}
 use Rattle.rustkeys_base.specs.Parsing as parsing
 use Rattle.rustkeys_base.specs.Parsing.{request_reading, decision_on}

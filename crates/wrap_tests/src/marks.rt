@@ -3,8 +3,8 @@
 
 use ckeys_records::output_name::OutputName;
 use cmdlines_tables::language::Language;
-use differences::difference::Difference;
 use fingerprints::c_parts::CParts;
+use fingerprints::difference::Difference;
 use fingerprints::fingerprint::Fingerprint;
 use os_files::listed::Listed;
 use os_files::os_bytes::OsBytes;

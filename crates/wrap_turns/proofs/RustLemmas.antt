@@ -6,7 +6,7 @@ use Rattle.ckeys_records.specs.Meaning.{Meaning, names_of, scene_of}
 use Rattle.ckeys_records.specs.declared.fault.Fault.{Fault}
 use Rattle.ckeys_records.specs.declared.step.Step.TheVariants.{Compile}
 use Rattle.rustc_compiler.specs.Compiler.{Rustc}
-use Rattle.rustc_requests.specs.Asks.{RustAsks}
+use Rattle.rustc_options.specs.Asks.{RustAsks}
 use Rattle.rustkeys.specs.Runs.{AtMostTwice}
 use Rattle.wrap_keys.specs.Account.{rust_call_at, rust_work_at}
 use Rattle.wrap_keys.specs.Asking.{IsAskedTwice}

@@ -5,7 +5,7 @@ use Rattle.cmdlines_requests.specs.Small.{command_at}
 use Rattle.cmdlines_base.specs.declared.command.SingleCompileCommand.{SingleCompileCommand}
 use Rattle.rustc_compiler.specs.Compiler.{Rustc}
 use Rattle.rustc_texts.specs.Words.{compile_words}
-use Rattle.rustc_requests.specs.Asks.{RustAsks}
+use Rattle.rustc_options.specs.Asks.{RustAsks}
 use Rattle.rustkeys.specs.Questions.{compile_env_of}
 use Rattle.wrap_keys.specs.CallRecords.{IsTold}
 use Rattle.wrap_keys.specs.Account.{Work}

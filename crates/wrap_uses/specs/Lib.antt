@@ -3,3 +3,4 @@ pub mod Builds
 pub mod Caps
 pub mod Steps
 pub mod Misses
+pub mod RecordedKeys

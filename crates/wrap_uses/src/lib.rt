@@ -6,5 +6,6 @@ pub mod build;
 pub mod capped_tool;
 pub mod door;
 pub mod misses;
+pub mod recorded_keys;
 pub mod step;
 pub mod within;

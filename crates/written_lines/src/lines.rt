@@ -8,7 +8,7 @@ use ckeys_base::digest::Digest;
 use host_protocol::host_error::HostError;
 use marker_walk::line::Mark;
 use marker_walk::markers::Markers;
-use memchr::memchr;
+use memchr::memchr_iter;
 use os_files::os_bytes::OsBytes;
 use std::alloc::{AllocError, Global};
 
@@ -30,12 +30,23 @@ fn marker_in(line: &[u8]) -> Option<(&[u8], usize)> {
     Some((name, digits.parse::<usize>().ok()?))
 }
 
-/// The first line of a text, and what stands behind its end.
-fn cut_line(text: &[u8]) -> (&[u8], &[u8]) {
-    match memchr(b'\n', text) {
-        Some(end) => text.split_at(end),
-        None => (text, &[]),
+/// Collects of one line of a text what it doesn't say of that.
+fn take_line<'s>(
+    line: &'s [u8],
+    sources: &'s Sources<'_>,
+    place: &mut Place<'s>,
+    written: &mut Written,
+) -> Result<(), AllocError> {
+    let marker = match line {
+        [b'#', ..] => marker_in(line),
+        _ => None,
+    };
+    match marker {
+        Some((name, number)) => place.take_marker(sources, name, number, written)?,
+        None => place.take_line(line, written)?,
     }
+    written.taken = written.taken.wrapping_add(1);
+    Ok(())
 }
 
 /// Collects of all lines of a text what it doesn't say of them.
@@ -45,21 +56,16 @@ fn take_lines<'s>(
     written: &mut Written,
 ) -> Result<(), AllocError> {
     let mut place = Place::none();
-    let mut rest = text;
-    // Each turn takes a byte at least.
-    for _ in 0..text.len() {
-        let (line, behind) = cut_line(rest);
-        match marker_in(line) {
-            Some((name, number)) => place.take_marker(sources, name, number, written)?,
-            None => place.take_line(line, written)?,
-        }
-        written.taken = written.taken.wrapping_add(1);
-        rest = behind.strip_prefix(b"\n").unwrap_or(behind);
-        if rest.is_empty() {
-            break;
-        }
+    let mut begin: usize = 0;
+    for end in memchr_iter(b'\n', text) {
+        let line = text.get(begin..end).unwrap_or(&[]);
+        take_line(line, sources, &mut place, written)?;
+        begin = end.saturating_add(1);
     }
-    Ok(())
+    match text.get(begin..) {
+        Some(rest) if !rest.is_empty() => take_line(rest, sources, &mut place, written),
+        _ => Ok(()),
+    }
 }
 
 /// A digest of the lines of which the text shows tokens, where the text doesn't say how they were written: those that aren't as the text

@@ -7,6 +7,7 @@ use marker_walk::markers::Markers;
 use marker_walk::names::unescaped;
 use os_files::os_bytes::OsBytes;
 use os_files::path::join;
+use source_directives::numbers::renumbers;
 use std::alloc::{AllocError, Global};
 use std::collections::HashSet;
 use std::fs;
@@ -33,6 +34,8 @@ pub struct NamedFile {
     pub name: OsBytes,
     pub path: OsBytes,
     pub lying: Lying,
+    /// Whether it has a directive by which lines have other numbers, once that was noted.
+    pub(crate) renumbers: bool,
 }
 
 /// The files that the markers of a text name.
@@ -43,6 +46,7 @@ pub struct NamedFiles {
     /// Whether each line could be told from a marker.
     pub are_all: bool,
     are_read: bool,
+    are_noted: bool,
 }
 
 /// Whether a marker's name is that of a file: those in brackets are none, and one with two slashes behind it is a folder.
@@ -64,6 +68,16 @@ fn lying_at<R: Files>(rt: &R, path: &OsBytes) -> Lying {
 }
 
 impl NamedFile {
+    /// What lies under the path, of which nothing is noted yet.
+    fn new(name: OsBytes, path: OsBytes, lying: Lying) -> NamedFile {
+        NamedFile {
+            name,
+            path,
+            lying,
+            renumbers: false,
+        }
+    }
+
     /// The file of that name in a folder.
     fn of<R: Files + AllocGlobal>(
         rt: &R,
@@ -73,7 +87,7 @@ impl NamedFile {
         let written = unescaped(rt.alloc(), name.as_bytes())?.into_owned(rt.alloc())?;
         let path = join(rt.alloc(), dir, written.as_slice())?;
         let lying = lying_at(rt, &path);
-        Ok(NamedFile { name, path, lying })
+        Ok(NamedFile::new(name, path, lying))
     }
 
     /// Its contents, where it is a regular file that was read.
@@ -112,6 +126,7 @@ impl NamedFiles {
             files: Vec::new(alloc),
             are_all: true,
             are_read: false,
+            are_noted: false,
         }
     }
 
@@ -148,7 +163,7 @@ impl NamedFiles {
             other => other,
         };
         let name = path.clone()?;
-        named.files.push(NamedFile { name, path, lying })?;
+        named.files.push(NamedFile::new(name, path, lying))?;
         named.are_read = true;
         Ok(named)
     }
@@ -161,6 +176,20 @@ impl NamedFiles {
         self.are_read = true;
         for file in self.files.iter_mut() {
             file.read(rt);
+        }
+    }
+
+    /// Notes of all that were read whether a directive in them gives lines other numbers, once.
+    pub(crate) fn note_numbers(&mut self) {
+        if self.are_noted {
+            return;
+        }
+        self.are_noted = true;
+        for file in self.files.iter_mut() {
+            file.renumbers = match file.contents() {
+                Some(contents) => renumbers(contents.as_bytes()),
+                None => false,
+            };
         }
     }
 

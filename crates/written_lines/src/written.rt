@@ -2,22 +2,27 @@
 
 use crate::sources::{Source, Sources};
 use byte_formats::fields::put_number;
-use memchr::{memchr, memmem};
+use memchr::{memchr, memchr_iter, memmem};
 use std::alloc::{AllocError, Global};
+
+/// How many spaces a text begins with.
+fn spaces_ahead(text: &[u8]) -> usize {
+    for at in 0..text.len() {
+        if text[at] > b' ' {
+            return at;
+        }
+    }
+    text.len()
+}
 
 /// The text without the spaces that it begins with.
 fn behind_spaces(text: &[u8]) -> &[u8] {
-    match text.iter().position(|byte| *byte > b' ') {
-        Some(at) => behind(text, at),
-        None => &[],
-    }
+    behind(text, spaces_ahead(text))
 }
 
 /// Whether a line opens more brackets than it closes, those in strings and characters too.
 fn opens(line: &[u8]) -> bool {
-    let open = line.iter().filter(|byte| **byte == b'(').count();
-    let close = line.iter().filter(|byte| **byte == b')').count();
-    open > close
+    memchr_iter(b'(', line).count() > memchr_iter(b')', line).count()
 }
 
 /// Whether a line opens more brackets than it closes outside of strings.
@@ -47,7 +52,8 @@ fn goes_on(line: &[u8]) -> bool {
     if line.trim_ascii_end().ends_with(b"\\") {
         return true;
     }
-    memchr(b'(', line).is_some() && (opens(line) || opens_outside(line))
+    memchr(b'(', line).is_some()
+        && (opens(line) || memchr(b'"', line).is_some() && opens_outside(line))
 }
 
 /// Whether lines may have a comment in them that says that a case falls through.
@@ -58,8 +64,10 @@ fn falls_through(lines: &[u8]) -> bool {
 
 /// Whether a case or a label may begin in a line of a text, before which such a comment counts.
 fn may_be_label(line: &[u8]) -> bool {
-    let line = behind_spaces(line);
-    line.starts_with(b"case") || line.starts_with(b"default") || memchr(b':', line).is_some()
+    match behind_spaces(line) {
+        [b'c', b'a', b's', b'e', ..] | [b'd', b'e', b'f', b'a', b'u', b'l', b't', ..] => true,
+        line => memchr(b':', line).is_some(),
+    }
 }
 
 /// The bytes behind so many of them.
@@ -211,7 +219,9 @@ impl<'s> Place<'s> {
         };
         let lines = file.lines(left, to);
         let is_more = match self.shown {
-            Some(shown) => goes_on(file.line(shown)) || behind_spaces(lines).starts_with(b"("),
+            Some(shown) => {
+                goes_on(file.line(shown)) || matches!(behind_spaces(lines), [b'(', ..])
+            }
             None => false,
         };
         if is_more {
@@ -260,7 +270,7 @@ impl<'s> Place<'s> {
         let Some(file) = self.file else {
             return Ok(());
         };
-        if behind_spaces(line).is_empty() {
+        if spaces_ahead(line) == line.len() {
             return Ok(());
         }
         if self.left < number {

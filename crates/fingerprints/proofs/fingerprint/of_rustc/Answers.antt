@@ -4,7 +4,7 @@ use Rattle.os_files.specs.Fails.{FailsOn}
 use Rattle.os_files.specs.Tree.{Tree}
 use Rattle.ckeys_records.specs.Faults.{KeyCause}
 use Rattle.ckeys_records.specs.Meaning.{FailsIn}
-use Rattle.rustc_requests.specs.Asks.{asks_in}
+use Rattle.rustc_options.specs.Asks.{asks_in}
 use Rattle.wrap_keys.specs.Account.{Account, Work, rust_account_by, rust_call_at, rust_work_at}
 use Rattle.wrap_keys.specs.Asking.{RunsOf, StopsEarly}
 use Rattle.wrap_keys.specs.RustVerdicts.{RustJudgement, asks, rust_verdict_of}

@@ -3,7 +3,7 @@ use Rattle.os_files.specs.Fails.{FailsOn}
 use Rattle.ckeys_records.specs.Faults.{KeyCause}
 use Rattle.ckeys_records.specs.Meaning.{AtMostOnce, FailsIn, Variables, names_of, scene_with}
 use Rattle.ckeys_records.specs.declared.fault.Fault.TheVariants.{Memory}
-use Rattle.rustc_requests.specs.Asks.{asks_in}
+use Rattle.rustc_options.specs.Asks.{asks_in}
 use Rattle.rustkeys.specs.Calls.{RustCall, dep_info_fault_of, key_fault_of, record_of}
 use Rattle.rustkeys.specs.Fresh.{call_outputs}
 use Rattle.rustkeys.specs.Hashers.{known_of}

@@ -4,7 +4,7 @@ use Rattle.std.proofs.lemmas.List.MinMax.{ranks_by}
 use Rattle.std.proofs.lemmas.List.Sorted.{answers_always}
 use Rattle.os_files.specs.Bytes.{Bytes}
 use Rattle.os_files.specs.Path.{path_cmp}
-use Rattle.rustc_requests.specs.SortedLaws.{sorted_is}
+use Rattle.rustc_options.specs.SortedLaws.{sorted_is}
 use Rattle.rustc_compiler.proofs.toolchain.sorted.Goals as goal
 
 pub returns : goal.returns

@@ -1,5 +1,5 @@
 use Rattle.std.proofs.Common.{◌≡◌, map, take}
-use Rattle.rustc_requests.specs.Asks.{said_in}
+use Rattle.rustc_options.specs.Asks.{said_in}
 use Rattle.rustc_texts.specs.Words.{all_words}
 use Rattle.rustc_texts.proofs.words.all_words.Given as goal
 

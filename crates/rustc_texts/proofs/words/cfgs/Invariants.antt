@@ -1,5 +1,5 @@
 use Rattle.std.proofs.Common.{◌≡◌, map, take}
-use Rattle.rustc_requests.specs.Asks.{said_in}
+use Rattle.rustc_options.specs.Asks.{said_in}
 use Rattle.rustc_texts.specs.Words.{cfgs_of, words_in}
 use Rattle.rustc_texts.proofs.words.cfgs.Given as goal
 

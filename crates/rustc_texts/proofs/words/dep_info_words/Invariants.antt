@@ -1,6 +1,6 @@
 use Rattle.std.proofs.Common.{◌≡◌, filter, map, take}
 use Rattle.std.specs.Prelude.{not}
-use Rattle.rustc_requests.specs.Asks.{said_in}
+use Rattle.rustc_options.specs.Asks.{said_in}
 use Rattle.rustc_texts.specs.Words.{all_words, is_on_outputs}
 use Rattle.rustc_texts.proofs.words.dep_info_words.Given as goal
 

@@ -1,5 +1,5 @@
 use Rattle.std.proofs.Common.{◌≡◌, filter, map, take}
-use Rattle.rustc_requests.specs.Asks.{said_in}
+use Rattle.rustc_options.specs.Asks.{said_in}
 use Rattle.rustc_texts.specs.Words.{all_words, counts_beside, rest_of}
 use Rattle.rustc_texts.proofs.words.other_words.Given as goal
 

@@ -1,4 +1,4 @@
-use Rattle.rustc_requests.specs.SortedLaws.{sorted_is}
+use Rattle.rustc_options.specs.SortedLaws.{sorted_is}
 use Rattle.rustc_texts.specs.Words.{words_cmp}
 use Rattle.rustc_texts.proofs.WordLaws.{words-exact, words-total}
 use Rattle.rustc_texts.proofs.words.sorted.Goals as goal

@@ -1,7 +1,7 @@
 use Rattle.std.proofs.Common.{◌≡◌, ◌∙◌, string_bytes}
 use Rattle.std.specs.Option.{option_copied}
 use Rattle.rustc_texts.specs.Outputs.{output_names}
-use Rattle.rustc_requests.specs.Asks.{asks_in}
+use Rattle.rustc_options.specs.Asks.{asks_in}
 use Rattle.rustkeys.specs.Fresh.{dep_info_by}
 use Rattle.rustkeys.proofs.finishing.finish.Goals as goal
 

@@ -5,7 +5,7 @@ use Rattle.std.proofs.lemmas.List.MinMax.{ranks_by}
 use Rattle.std.proofs.lemmas.List.Sorted.{answers_always}
 use Rattle.rustc_parts.specs.Orders.{env_dep_cmp}
 use Rattle.rustc_parts.specs.declared.parts.EnvDep.{EnvDep}
-use Rattle.rustc_requests.specs.SortedLaws.{sorted_is}
+use Rattle.rustc_options.specs.SortedLaws.{sorted_is}
 use Rattle.rustkeys.proofs.sorting.in_order.Goals as goal
 
 pub returns : goal.returns

@@ -8,8 +8,8 @@ use Rattle.std.specs.declared.cmp.Ordering.TheVariants.{Equal}
 use Rattle.std.proofs.lemmas.Str.{IsUtf8-from_is_utf8, is_utf8-from_IsUtf8}
 use Rattle.os_files.specs.Bytes.{Bytes}
 use Rattle.os_files.specs.Path.{path_cmp}
-use Rattle.rustc_requests.specs.Sorted.{sorted_by}
-use Rattle.rustc_requests.specs.SortedLaws.{sorted_is}
+use Rattle.rustc_options.specs.Sorted.{sorted_by}
+use Rattle.rustc_options.specs.SortedLaws.{sorted_is}
 use Rattle.rustc_texts.specs.DepInfo.{sources_of}
 use Rattle.script_tool.specs.ScriptedCrates.{told_sources}
 use Rattle.script_tool.proofs.crates.told_sources.Goals as goal

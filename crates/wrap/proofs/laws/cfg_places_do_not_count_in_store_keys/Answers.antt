@@ -6,7 +6,7 @@ use Rattle.os_files.specs.Bytes.{Bytes}
 use Rattle.os_files.specs.Path.{join}
 use Rattle.include_records.specs.Surroundings.{contents_in}
 use Rattle.ckeys_records.specs.Meaning.{Meaning, names_of, text_in}
-use Rattle.rustc_requests.specs.Asks.{Said}
+use Rattle.rustc_options.specs.Asks.{Said}
 use Rattle.rustc_texts.specs.Outputs.{outputs_of}
 use Rattle.rustc_texts.specs.Words.{cfgs_of, kept_of, kept_words, rest_of}
 use Rattle.rustkeys.specs.Calls.{RustCall, record_of}

@@ -6,7 +6,7 @@ use Rattle.cmdlines_requests.specs.Small.{command_at}
 use Rattle.ckeys_records.specs.Faults.{KeyCause}
 use Rattle.ckeys_records.specs.Meaning.{AtMostOnce, FailsIn, Variables, names_of, scene_with}
 use Rattle.rustc_texts.specs.Words.{compile_words}
-use Rattle.rustc_requests.specs.Asks.{asks_in}
+use Rattle.rustc_options.specs.Asks.{asks_in}
 use Rattle.rustkeys.specs.Calls.{RustCall, dep_info_fault_of, key_fault_of, record_of}
 use Rattle.rustkeys.specs.Fresh.{call_outputs, dep_info_text_of}
 use Rattle.rustkeys.specs.Hashers.{known_of}

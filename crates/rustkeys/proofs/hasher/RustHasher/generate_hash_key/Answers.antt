@@ -6,7 +6,7 @@ use Rattle.rustc_parts.specs.Material.{material_of}
 use Rattle.rustc_parts.specs.Shapes.{shape_of}
 use Rattle.rustc_parts.specs.declared.parts.Parts.{Parts}
 use Rattle.rustc_texts.specs.Outputs.{output_names}
-use Rattle.rustc_requests.specs.Asks.{asks_in}
+use Rattle.rustc_options.specs.Asks.{asks_in}
 use Rattle.rustkeys.specs.Calls.{record_of, rule_fault_of}
 use Rattle.rustkeys.specs.Fresh.{dep_info_by, dep_info_text_of}
 use Rattle.rustkeys.specs.Hashers.{known_in}

@@ -1,4 +1,0 @@
-//! Where two fingerprints differ, told to people.
-#![tactic(auto)]
-
-pub mod difference;

@@ -1,0 +1,56 @@
+//! Commands of calls, as a shell reads them.
+
+use build_log::call::Call;
+use build_log::texts::Texts;
+use std::alloc::{AllocError, Global};
+
+/// Whether a shell reads this letter as itself.
+fn is_plain(letter: char) -> bool {
+    letter.is_ascii_alphanumeric() || "_@%+=:,./-^".contains(letter)
+}
+
+/// Writes a word, in quotes where it needs some.
+fn push_word(text: &mut String, word: &str) -> Result<(), AllocError> {
+    if !word.is_empty() && word.chars().all(is_plain) {
+        return text.push_str(word);
+    }
+    text.push('\'')?;
+    for letter in word.chars() {
+        match letter {
+            '\'' => text.push_str("'\\''")?,
+            _ => text.push(letter)?,
+        }
+    }
+    text.push('\'')
+}
+
+/// The command of a call.
+pub fn command_of(alloc: Global, texts: &Texts, call: &Call) -> Result<String, AllocError> {
+    let mut text = String::new(alloc);
+    push_word(&mut text, texts.text(call.compiler))?;
+    for word in call.words.as_slice() {
+        text.push(' ')?;
+        push_word(&mut text, texts.text(*word))?;
+    }
+    Ok(text)
+}
+
+/// The name by which a call is shown: its input, its output or its compiler.
+pub fn name_of<'a>(texts: &'a Texts, call: &Call) -> &'a str {
+    let input = texts.text(call.input);
+    let output = texts.text(call.output);
+    let names = [input, output, texts.text(call.compiler)];
+    match names.iter().find(|name| !name.is_empty()) {
+        Some(name) => name,
+        None => "(no name)",
+    }
+}
+
+/// Why a call came to what it did: what differed, or why it was passed through or has no manifest.
+pub fn explanation_of<'a>(texts: &'a Texts, call: &Call) -> &'a str {
+    let why = texts.text(call.why);
+    match why.is_empty() {
+        true => texts.text(call.reason),
+        false => why,
+    }
+}

@@ -1,0 +1,91 @@
+//! Two builds side by side, in twenty lines.
+
+use crate::changes::changes_between;
+use crate::reading::Build;
+use crate::times::Time;
+use build_log::kind::Kind;
+use std::alloc::{AllocError, Global};
+
+/// How many changes are told.
+const SHOWN: usize = 7;
+
+/// The counts that are told, beside that of all calls.
+const KINDS: [(&str, Kind); 5] = [
+    ("Direct hits", Kind::Direct),
+    ("Hits by text", Kind::ByText),
+    ("Misses", Kind::Miss),
+    ("Uncacheable", Kind::Uncacheable),
+    ("Failures of gulmaat", Kind::Failure),
+];
+
+/// Writes a count of both.
+fn push_counts(text: &mut String, name: &str, one: u64, other: u64) -> Result<(), AllocError> {
+    write!(text, "{name:<22}{one:>14}{other:>14}\n")
+}
+
+/// Writes a time of both.
+fn push_times(
+    text: &mut String,
+    alloc: Global,
+    name: &str,
+    one: u64,
+    other: u64,
+) -> Result<(), AllocError> {
+    let (one, other) = (Time(one), Time(other));
+    let one = format!(in alloc; "{one}")?;
+    let other = format!(in alloc; "{other}")?;
+    write!(text, "{name:<22}{one:>14}{other:>14}\n")
+}
+
+/// Writes the sums of both.
+fn push_sums(
+    text: &mut String,
+    alloc: Global,
+    one: &Build,
+    other: &Build,
+) -> Result<(), AllocError> {
+    let (sums, others) = (&one.sums, &other.sums);
+    push_counts(text, "Calls", sums.calls, others.calls)?;
+    for (name, kind) in KINDS {
+        push_counts(text, name, sums.share(kind).count, others.share(kind).count)?;
+    }
+    push_times(
+        text,
+        alloc,
+        "Wall time",
+        sums.wall_time(),
+        others.wall_time(),
+    )?;
+    push_times(text, alloc, "Compilers", sums.compilers, others.compilers)?;
+    push_times(
+        text,
+        alloc,
+        "Preprocessors",
+        sums.preprocessors,
+        others.preprocessors,
+    )?;
+    push_times(text, alloc, "Time saved", sums.saved, others.saved)
+}
+
+/// Two builds side by side: their sums, and what came to another thing.
+pub fn compare(alloc: Global, one: &Build, other: &Build) -> Result<String, AllocError> {
+    let mut text = String::new(alloc);
+    let (first, second) = ("first", "second");
+    write!(text, "{first:>36}{second:>14}\n")?;
+    push_sums(&mut text, alloc, one, other)?;
+    let changes = changes_between(alloc, one, other)?;
+    let (changed, common) = (changes.changed, changes.common);
+    write!(
+        text,
+        "Of {common} calls of both, {changed} came to another thing:\n"
+    )?;
+    for change in changes.changes.iter().take(SHOWN) {
+        let (count, time, told) = (change.count, Time(change.time), change.told.as_str());
+        write!(text, "  {count} in {time}: {told}\n")?;
+    }
+    let more = changes.changes.len().saturating_sub(SHOWN);
+    if more > 0 {
+        write!(text, "  and {more} more, of less time each\n")?;
+    }
+    Ok(text)
+}

@@ -1,0 +1,93 @@
+//! A build as it is read from files.
+
+use crate::asked::AskedLog;
+use crate::error::PageError;
+use build_log::builds::{beginnings, chosen};
+use build_log::call::Call;
+use build_log::lanes::pack;
+use build_log::log::read_log;
+use build_log::ninja::other_commands;
+use build_log::sums::Sums;
+use build_log::texts::Texts;
+use std::alloc::{AllocError, Global};
+use std::fs;
+use std::rt::Files;
+
+/// A build, or all builds of a log.
+#[derive(Drop)]
+pub struct Build {
+    pub texts: Texts,
+    /// In the order in which they began.
+    pub calls: Vec<Call>,
+    pub lanes: u32,
+    pub sums: Sums,
+    /// How many builds the log has, and how many lines that are none.
+    pub builds: usize,
+    pub broken: u64,
+    /// Whether ninja's log was named, and has none of these calls.
+    pub is_ninja_apart: bool,
+}
+
+/// The bytes of a file.
+fn read_bytes<R: Files + AllocGlobal>(rt: &R, path: &str) -> Result<Vec<u8>, PageError> {
+    match fs::read(rt, path) {
+        Ok(bytes) => Ok(bytes),
+        Err(error) => Err(PageError::Said(format!(in rt.alloc(); "{path}: {error}")?)),
+    }
+}
+
+/// The text of a file. Bytes that are no text make it an empty one.
+pub fn read_text<R: Files + AllocGlobal>(rt: &R, path: &str) -> Result<String, PageError> {
+    let bytes = read_bytes(rt, path)?;
+    match String::from_utf8(bytes) {
+        Ok(text) => Ok(text),
+        Err(_) => Ok(String::new(rt.alloc())),
+    }
+}
+
+/// Adds the commands of ninja's log that aren't among the calls. False where it has none of these.
+fn add_others(
+    alloc: Global,
+    texts: &mut Texts,
+    calls: &mut Vec<Call>,
+    log: &str,
+) -> Result<bool, AllocError> {
+    let Some(others) = other_commands(alloc, texts, calls.as_slice(), log)? else {
+        return Ok(false);
+    };
+    for other in others {
+        calls.push(other)?;
+    }
+    calls.sort_by_key(|call| call.start)?;
+    Ok(true)
+}
+
+/// The build of a log that is asked for.
+pub fn read_build<R: Files + AllocGlobal>(
+    rt: &R,
+    asked: &AskedLog<'_>,
+) -> Result<Build, PageError> {
+    let alloc = rt.alloc();
+    let bytes = read_bytes(rt, asked.path)?;
+    let log = read_log(alloc, bytes.as_slice())?;
+    drop(bytes);
+    let builds = beginnings(alloc, log.calls.as_slice())?.len();
+    let mut texts = log.texts;
+    let mut calls = chosen(alloc, log.calls, asked.has_all)?;
+    let mut is_ninja_apart = false;
+    if !asked.ninja.is_empty() {
+        let ninja = read_text(rt, asked.ninja)?;
+        is_ninja_apart = !add_others(alloc, &mut texts, &mut calls, ninja.as_str())?;
+    }
+    let lanes = pack(alloc, calls.as_mut_slice())?;
+    let sums = Sums::of(calls.as_slice());
+    Ok(Build {
+        texts,
+        calls,
+        lanes,
+        sums,
+        builds,
+        broken: log.broken,
+        is_ninja_apart,
+    })
+}

@@ -1,0 +1,9 @@
+//! Results and manifests of other machines, from a server that the host asks, and those of this machine for others. The server may forget, refuse
+//! and answer what it likes: what isn't sealed is as if nothing came.
+#![tactic(auto)]
+
+pub mod asking;
+mod failures;
+pub mod manifests;
+pub mod results;
+pub mod sharing;

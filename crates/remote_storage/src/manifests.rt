@@ -1,0 +1,121 @@
+//! Manifests of other machines.
+
+ghost use Rattle.std.specs.Prelude.{◌≡◌};
+
+use crate::asking::{Fetched, fetch, name_of, note_failure, note_sealed};
+use crate::results::keep_here;
+use blake2::Blake2b256;
+use byte_formats::fields::{put_framed, read_framed};
+use cache_dir::folder::Kind;
+use cache_files::manifests::{FoundManifest, found_in};
+use cache_format::kept_manifest::KeptManifest;
+use cache_format::sealed::{Sealed, seal, unseal};
+use host_protocol::command_line::CommandLine;
+use host_protocol::host::Host;
+use host_protocol::host_error::HostError;
+use os_files::os_bytes::OsBytes;
+use searched_folders::shared_lists::{lists_taken, lists_to_send};
+use settings::key::Key;
+use source_files::loading::settled_before;
+use std::alloc::Global;
+use std::io::Read;
+use std::rt::Files;
+use wrap::EntryKey;
+
+/// The name under which the manifest of that name lies.
+pub(crate) fn name_of_manifest(alloc: Global, own: &str) -> Result<String, HostError> {
+    name_of(alloc, "m", KeptManifest::VERSION, "c", own)
+}
+
+/// The lists in what a manifest has beside its results, behind what is noted of headers.
+fn lists_in(watched: &[u8]) -> &[u8] {
+    let Ok((empty, rest)) = read_framed(watched) else {
+        return watched;
+    };
+    match read_framed(rest) {
+        Ok((_, lists)) if empty.is_empty() => lists,
+        _ => watched,
+    }
+}
+
+/// What a manifest has beside its results, with these lists and nothing noted of headers.
+fn watched_with(alloc: Global, lists: &[u8]) -> Result<OsBytes, HostError> {
+    let mut watched = Vec::new(alloc);
+    put_framed(&mut watched, b"")?;
+    put_framed(&mut watched, b"")?;
+    watched.extend_from_slice(lists)?;
+    Ok(OsBytes::from_vec(watched))
+}
+
+/// The bytes of a manifest as others may have them: without what is noted of headers, and without states. None where nothing of it is of use then.
+pub(crate) fn manifest_to_send(alloc: Global, bytes: &[u8]) -> Result<Option<Vec<u8>>, HostError> {
+    let Some(mut kept) = unseal::<Blake2b256, KeptManifest>(alloc, bytes)? else {
+        return Ok(None);
+    };
+    let Some(lists) = lists_to_send(alloc, lists_in(kept.watched.as_bytes()))? else {
+        return Ok(None);
+    };
+    kept.watched = watched_with(alloc, lists.as_slice())?;
+    Ok(Some(seal::<Blake2b256, KeptManifest>(alloc, &kept)?))
+}
+
+/// The manifest of another machine of that name, under that key. It is kept here too. Nothing where all is to be kept anew.
+pub fn fetched_manifest<P: Print + Files + AllocGlobal, I: Read>(
+    rt: &P,
+    line: &CommandLine,
+    host: &mut Host<I>,
+    key: &EntryKey,
+    own: &str,
+) -> Result<Option<FoundManifest>, HostError>
+    ensures { host.new.compiled ≡ host.old.compiled }
+{
+    if line.settings.value_of(Key::RemoteStorage).is_empty() || line.settings.is_on(Key::Recache) {
+        return Ok(None);
+    }
+    let name = name_of_manifest(rt.alloc(), own)?;
+    match fetch(rt, line, host, name.as_str())? {
+        Fetched::Came(bytes) => take_manifest(rt, line, host, key, own, bytes.as_slice()),
+        Fetched::Nothing | Fetched::Unknown => Ok(None),
+    }
+}
+
+/// Whether a manifest is of calls in this zone, under that key.
+fn is_of(line: &CommandLine, kept: &KeptManifest, key: &EntryKey) -> bool {
+    kept.zone.as_bytes() == line.zone.as_bytes()
+        && kept.identity == key.identity
+        && kept.key == key.key
+}
+
+/// Takes a manifest that came, and keeps it with the states of this machine. What isn't sealed, or is of another key, is as if the server had
+/// failed.
+fn take_manifest<R: Files + AllocGlobal, I>(
+    rt: &R,
+    line: &CommandLine,
+    host: &mut Host<I>,
+    key: &EntryKey,
+    own: &str,
+    bytes: &[u8],
+) -> Result<Option<FoundManifest>, HostError>
+    ensures { host.new.compiled ≡ host.old.compiled }
+{
+    let alloc = rt.alloc();
+    let mut kept = match unseal::<Blake2b256, KeptManifest>(alloc, bytes)? {
+        Some(kept) if is_of(line, &kept, key) => kept,
+        _ => {
+            note_failure(rt, line, host)?;
+            return Ok(None);
+        }
+    };
+    note_sealed(rt, line)?;
+    let before = settled_before(line.moment);
+    let lists = lists_taken(
+        rt,
+        line.dir.as_bytes(),
+        lists_in(kept.watched.as_bytes()),
+        before,
+    )?;
+    kept.watched = watched_with(alloc, lists.as_slice())?;
+    let ours = seal::<Blake2b256, KeptManifest>(alloc, &kept)?;
+    keep_here(rt, line, Kind::Manifests, own, ours.as_slice());
+    Ok(found_in(alloc, kept)?)
+}

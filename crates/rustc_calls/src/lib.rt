@@ -1,0 +1,10 @@
+//! One call of rustc, and what it comes to. The session is asked again and again, each time with more that is known of what rustc and the disk
+//! say.
+#![tactic(auto)]
+
+mod audits;
+pub mod deciding;
+mod finishing;
+mod known;
+mod manifests;
+mod questions;

@@ -1,0 +1,177 @@
+//! Manifests of rustc: of what a crate was made at an earlier call, so that rustc needn't be asked again. A manifest lies under the digest of
+//! the question, and holds the text on dependencies with the states of the files that it names. A broken or missing one is as none.
+
+use crate::known::KnownCrate;
+use blake2::Blake2b256;
+use cache_dir::folder::Kind;
+use cache_format::kept_manifest::KeptManifest;
+use cache_format::sealed::{seal, unseal};
+use host_protocol::command_line::CommandLine;
+use host_protocol::fields::text_in;
+use host_protocol::host_error::HostError;
+use rustc_texts::dep_info::parse_dep_info;
+use rustc_texts::env_deps::parse_env_dep_info;
+use settings::key::Key;
+use source_files::loading::settled_before;
+use std::alloc::Global;
+use std::collections::BTreeSet;
+use std::fs;
+use std::rt::Files;
+use wrap::{EnvDep, Listed, OsBytes};
+
+/// What stands in the place of a zone in manifests of rustc.
+const OF_RUSTC: &[u8] = b"rustc";
+
+/// Whether variables that sources name have the values that a text tells.
+fn are_set_so(line: &CommandLine, told: &[EnvDep]) -> bool {
+    told.iter().all(|dep| {
+        let pair = line.env.as_slice().iter().find(|pair| pair.0 == dep.name);
+        match (pair, &dep.value) {
+            (Some(pair), Some(value)) => pair.1 == *value,
+            (None, None) => true,
+            (_, _) => false,
+        }
+    })
+}
+
+/// The other place at which rustc looks for the module of a file: `a/mod.rs` of `a.rs`, and the other way round.
+fn other_place(alloc: Global, path: &str) -> Result<Option<String>, HostError> {
+    if let Some(front) = path.strip_suffix("/mod.rs") {
+        return Ok(Some(format!(in alloc; "{front}.rs")?));
+    }
+    match path.strip_suffix(".rs") {
+        Some(front) => Ok(Some(format!(in alloc; "{front}/mod.rs")?)),
+        None => Ok(None),
+    }
+}
+
+/// Whether no file lies where rustc would find another module, or two for one.
+fn have_no_others<R: Files + AllocGlobal>(rt: &R, sources: &[OsBytes]) -> Result<bool, HostError> {
+    let mut known = BTreeSet::new(rt.alloc());
+    for source in sources {
+        known.insert(text_in(source)?)?;
+    }
+    for source in sources {
+        let Some(other) = other_place(rt.alloc(), text_in(source)?)? else {
+            continue;
+        };
+        if !known.contains(other.as_str()) && fs::symlink_metadata(rt, other.as_str()).is_ok() {
+            return Ok(false);
+        }
+    }
+    Ok(true)
+}
+
+/// The sources that a text tells, where variables and modules are as they were.
+fn sources_in<R: Files + AllocGlobal>(
+    rt: &R,
+    line: &CommandLine,
+    text: &[u8],
+) -> Result<Option<Listed<OsBytes>>, HostError> {
+    let alloc = rt.alloc();
+    let Ok(text) = str::from_utf8(text) else {
+        return Ok(None);
+    };
+    let Ok(sources) = parse_dep_info(alloc, text, line.dir.as_bytes()) else {
+        return Ok(None);
+    };
+    let told = parse_env_dep_info(alloc, text)?;
+    if !are_set_so(line, told.as_slice()) || !have_no_others(rt, sources.as_slice())? {
+        return Ok(None);
+    }
+    Ok(Some(sources))
+}
+
+impl KnownCrate {
+    /// Loads the sources of a manifest, each by what is noted of it. False where one isn't as it was.
+    fn load_noted<R: Files + AllocGlobal>(
+        &mut self,
+        rt: &R,
+        sources: Listed<OsBytes>,
+    ) -> Result<bool, HostError> {
+        for path in sources.into_vec() {
+            if !self.load_by_state(rt, path)? {
+                return Ok(false);
+            }
+        }
+        Ok(true)
+    }
+
+    /// The text on dependencies of a manifest of that name, where all that it tells is as it was.
+    pub(crate) fn noted_text<R: Files + AllocGlobal>(
+        &mut self,
+        rt: &R,
+        line: &CommandLine,
+        name: &str,
+    ) -> Result<Option<OsBytes>, HostError> {
+        let Ok(bytes) = line.folder.read(rt, Kind::Manifests, name) else {
+            return Ok(None);
+        };
+        let Some(kept) = unseal::<Blake2b256, KeptManifest>(rt.alloc(), bytes.as_slice())? else {
+            return Ok(None);
+        };
+        let is_of_rustc = kept.zone.as_bytes() == OF_RUSTC
+            && kept.key.as_bytes() == name.as_bytes();
+        if !is_of_rustc || !line.settings.is_on(Key::DirectMode) {
+            return Ok(None);
+        }
+        self.tokens.take_rows(rt.alloc(), kept.watched.as_bytes())?;
+        let Some(sources) = sources_in(rt, line, kept.results.as_bytes())? else {
+            return Ok(None);
+        };
+        if !self.load_noted(rt, sources)? {
+            return Ok(None);
+        }
+        let _ = line.folder.renew(rt, Kind::Manifests, name, line.moment);
+        Ok(Some(kept.results))
+    }
+
+    /// Loads the sources that a text tells, and keeps a manifest of it, where these can be known again by their states.
+    pub(crate) fn take_text<R: Files + AllocGlobal>(
+        &mut self,
+        rt: &R,
+        line: &CommandLine,
+        name: &str,
+        text: &OsBytes,
+    ) -> Result<(), HostError> {
+        let alloc = rt.alloc();
+        let Ok(told) = str::from_utf8(text.as_bytes()) else {
+            return Ok(());
+        };
+        let Ok(sources) = parse_dep_info(alloc, told, line.dir.as_bytes()) else {
+            return Ok(());
+        };
+        let before = settled_before(line.moment);
+        let mut are_noted = true;
+        for path in sources.into_vec() {
+            are_noted = self.load_and_note(rt, path, before)? && are_noted;
+        }
+        if are_noted && line.settings.is_on(Key::DirectMode) {
+            let _ = self.keep_manifest(rt, line, name, text);
+        }
+        Ok(())
+    }
+
+    /// Keeps a manifest of a text.
+    fn keep_manifest<R: Files + AllocGlobal>(
+        &self,
+        rt: &R,
+        line: &CommandLine,
+        name: &str,
+        text: &OsBytes,
+    ) -> Result<(), HostError> {
+        let alloc = rt.alloc();
+        let kept = KeptManifest {
+            zone: OsBytes::from_slice(alloc, OF_RUSTC)?,
+            identity: OsBytes::empty(alloc),
+            key: OsBytes::from_slice(alloc, name.as_bytes())?,
+            results: text.clone()?,
+            watched: OsBytes::from_vec(self.tokens.rows(alloc)?),
+        };
+        let bytes = seal::<Blake2b256, KeptManifest>(alloc, &kept)?;
+        Ok(
+            line.folder
+                .put(rt, Kind::Manifests, name, bytes.as_slice())?,
+        )
+    }
+}

@@ -1,0 +1,152 @@
+//! What is kept of rustc's calls: results by the digest of their key. A broken or missing file is a miss.
+
+use crate::messages::{are_notices, moved};
+use blake2::Blake2b256;
+use byte_formats::fields::{put_framed, put_number};
+use cache_dir::file_digests::digest_of;
+use cache_dir::folder::Kind;
+use cache_dir::limit::takes;
+use cache_format::kept_crate::KeptCrate;
+use cache_format::kept_result::KeptOutput;
+use cache_format::sealed::{seal, unseal};
+use host_protocol::command_line::CommandLine;
+use host_protocol::fields::text_in;
+use host_protocol::host_error::HostError;
+use settings::key::Key;
+use std::alloc::{AllocError, Global};
+use std::rt::Files;
+use wrap::{Listed, OsBytes, Output, Pairs, RShape, Shape, StoreKey};
+
+/// What a disk keeps under a key: outputs, and messages as they are for this call.
+#[derive(Drop)]
+pub struct FoundCrate {
+    pub pair: (StoreKey, Pairs),
+    pub errors: Vec<u8>,
+}
+
+/// What a call wants of what is kept: the folder of its outputs, and how wide its terminal is.
+#[derive(Clone, Copy)]
+pub struct Wishes<'a> {
+    pub folder: &'a [u8],
+    pub width: &'a [u8],
+}
+
+/// Adds the numbers that the bytes of a key don't tell.
+fn put_shape(row: &mut Vec<u8>, shape: &RShape) -> Result<(), AllocError> {
+    put_number(row, shape.toolchain as u64)?;
+    put_number(row, shape.words.len() as u64)?;
+    for length in shape.words.as_slice() {
+        put_number(row, *length as u64)?;
+    }
+    put_number(row, shape.sources as u64)?;
+    put_number(row, shape.externs as u64)?;
+    put_number(row, shape.archives as u64)?;
+    put_number(row, u64::from(shape.has_target))?;
+    put_number(row, u64::from(shape.has_profile))?;
+    put_flags(row, shape.env_deps.as_slice())?;
+    put_number(row, shape.variables as u64)
+}
+
+/// Adds whether each variable is set that the sources name.
+fn put_flags(row: &mut Vec<u8>, flags: &[bool]) -> Result<(), AllocError> {
+    put_number(row, flags.len() as u64)?;
+    for flag in flags {
+        put_number(row, u64::from(*flag))?;
+    }
+    Ok(())
+}
+
+/// The digest of all fields of a key.
+fn digest_of_key(alloc: Global, key: &StoreKey) -> Result<String, HostError> {
+    let mut row = Vec::new(alloc);
+    if let Shape::Rustc(shape) = &key.shape {
+        put_shape(&mut row, shape)?;
+    }
+    put_number(&mut row, key.names.len() as u64)?;
+    for name in key.names.as_slice() {
+        put_framed(&mut row, name.name.as_bytes())?;
+        put_number(&mut row, u64::from(name.optional))?;
+    }
+    put_framed(&mut row, key.digest.as_bytes())?;
+    Ok(digest_of(alloc, row.as_slice())?)
+}
+
+/// The outputs that were kept, as a session has them.
+fn pairs_of(alloc: Global, outputs: Listed<KeptOutput>) -> Result<Pairs, AllocError> {
+    let mut pairs = Listed::new(alloc);
+    for output in outputs.into_vec() {
+        let KeptOutput { name, contents } = output;
+        pairs.push((name, contents))?;
+    }
+    Ok(pairs)
+}
+
+/// What is kept under a key, where its messages can be those of this call. Nothing where all is to be kept anew.
+pub fn found<R: Files + AllocGlobal>(
+    rt: &R,
+    line: &CommandLine,
+    key: &StoreKey,
+    wishes: Wishes<'_>,
+) -> Result<Option<FoundCrate>, HostError> {
+    if line.settings.is_on(Key::Recache) {
+        return Ok(None);
+    }
+    let alloc = rt.alloc();
+    let Ok(bytes) = line.folder.read(rt, Kind::Results, text_in(&key.digest)?) else {
+        return Ok(None);
+    };
+    let Some(kept) = unseal::<Blake2b256, KeptCrate>(alloc, bytes.as_slice())? else {
+        return Ok(None);
+    };
+    let is_alike = kept.width.as_bytes().is_empty() || kept.width.as_bytes() == wishes.width;
+    if !is_alike || kept.key.as_bytes() != digest_of_key(alloc, key)?.as_bytes() {
+        return Ok(None);
+    }
+    let folder = kept.folder.as_bytes();
+    let Some(errors) = moved(alloc, kept.errors.as_bytes(), folder, wishes.folder)? else {
+        return Ok(None);
+    };
+    let pairs = pairs_of(alloc, kept.outputs)?;
+    let pair = (key.clone()?, pairs);
+    Ok(Some(FoundCrate { pair, errors }))
+}
+
+/// Outputs as they are kept.
+fn kept_outputs(alloc: Global, outputs: &[Output]) -> Result<Listed<KeptOutput>, AllocError> {
+    let mut kept = Listed::new(alloc);
+    for output in outputs {
+        let name = output.name.clone()?;
+        let contents = output.contents.clone()?;
+        kept.push(KeptOutput { name, contents })?;
+    }
+    Ok(kept)
+}
+
+/// Keeps outputs under their key with what was printed beside them, where they aren't too large for the limit.
+pub fn keep<R: Files + AllocGlobal>(
+    rt: &R,
+    line: &CommandLine,
+    key: &StoreKey,
+    outputs: &[Output],
+    errors: &OsBytes,
+    wishes: Wishes<'_>,
+) -> Result<(), HostError> {
+    let alloc = rt.alloc();
+    let width = match are_notices(errors.as_bytes()) {
+        true => &[],
+        false => wishes.width,
+    };
+    let kept = KeptCrate {
+        key: OsBytes::from_vec(digest_of_key(alloc, key)?.into_bytes()),
+        folder: OsBytes::from_slice(alloc, wishes.folder)?,
+        width: OsBytes::from_slice(alloc, width)?,
+        errors: errors.clone()?,
+        outputs: kept_outputs(alloc, outputs)?,
+    };
+    let bytes = seal::<Blake2b256, KeptCrate>(alloc, &kept)?;
+    let folder = &line.folder;
+    if !takes(folder.limit, bytes.len() as u64) {
+        return Ok(());
+    }
+    Ok(folder.put(rt, Kind::Results, text_in(&key.digest)?, bytes.as_slice())?)
+}

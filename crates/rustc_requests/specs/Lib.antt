@@ -1,3 +1,0 @@
-pub mod Sorted
-pub mod SortedLaws
-pub mod Asks

@@ -1,0 +1,218 @@
+//! Lists that several machines share. A state of a file or a folder is one machine's own, so lists go without them: each name is looked at, and
+//! each file is read. Who takes a list from another machine puts its own states there, once all is as the list says.
+
+use crate::manifests::rows_of;
+use crate::unwatched::Unwatched;
+use crate::watch_list::{Hold, holds, text_of};
+use byte_formats::fields::{put_framed, put_number, read_framed, read_number};
+use disk_files::found::State;
+use os_files::file_time::FileTime;
+use std::alloc::{AllocError, Global};
+use std::rt::Files;
+
+/// A state that no file and no folder has.
+const NO_STATE: [u8; 56] = [0; 56];
+
+/// Adds the folder ahead in these bytes without its state, and gives what stands behind it. None where it must be the same folder as it was.
+fn put_folder<'a>(bytes: &'a [u8], out: &mut Vec<u8>) -> Result<Option<&'a [u8]>, Unwatched> {
+    let (path, rest) = read_framed(bytes)?;
+    let (_, rest) = State::read(rest)?;
+    let (hold, rest) = read_number(rest)?;
+    let (names, rest) = read_framed(rest)?;
+    if hold == Hold::Same.code() {
+        return Ok(None);
+    }
+    put_framed(out, path)?;
+    out.extend_from_slice(&NO_STATE)?;
+    put_number(out, Hold::Names.code())?;
+    put_framed(out, names)?;
+    Ok(Some(rest))
+}
+
+/// Adds the file ahead in these bytes without its state, and gives what stands behind it. None where it is a folder, which must be in the state in
+/// which it was.
+fn put_file<'a>(bytes: &'a [u8], out: &mut Vec<u8>) -> Result<Option<&'a [u8]>, Unwatched> {
+    let (path, rest) = read_framed(bytes)?;
+    let (_, rest) = State::read(rest)?;
+    let (digest, rest) = read_framed(rest)?;
+    if digest.is_empty() {
+        return Ok(None);
+    }
+    put_framed(out, path)?;
+    out.extend_from_slice(&NO_STATE)?;
+    put_framed(out, digest)?;
+    Ok(Some(rest))
+}
+
+/// Adds the folders ahead in these bytes without their states, and gives what stands behind them. None where one can't go so.
+fn put_folders<'a>(bytes: &'a [u8], out: &mut Vec<u8>) -> Result<Option<&'a [u8]>, Unwatched> {
+    let (count, mut rest) = read_number(bytes)?;
+    put_number(out, count)?;
+    for _ in 0..count {
+        let Some(behind) = put_folder(rest, out)? else {
+            return Ok(None);
+        };
+        rest = behind;
+    }
+    Ok(Some(rest))
+}
+
+/// Adds the files ahead in these bytes without their states. False where one can't go so.
+fn put_files(bytes: &[u8], out: &mut Vec<u8>) -> Result<bool, Unwatched> {
+    let (count, mut rest) = read_number(bytes)?;
+    put_number(out, count)?;
+    for _ in 0..count {
+        let Some(behind) = put_file(rest, out)? else {
+            return Ok(false);
+        };
+        rest = behind;
+    }
+    Ok(rest.is_empty())
+}
+
+/// The list without states. None where it can't do without one.
+fn without_states(alloc: Global, list: &[u8]) -> Result<Option<Vec<u8>>, Unwatched> {
+    let mut out = Vec::new(alloc);
+    let (dir, rest) = read_framed(list)?;
+    put_framed(&mut out, dir)?;
+    let Some(rest) = put_folders(rest, &mut out)? else {
+        return Ok(None);
+    };
+    match put_files(rest, &mut out)? {
+        true => Ok(Some(out)),
+        false => Ok(None),
+    }
+}
+
+/// What a list is for others: none where it isn't well formed, or can't do without a state.
+fn list_to_send(alloc: Global, list: &[u8]) -> Result<Option<Vec<u8>>, AllocError> {
+    match without_states(alloc, list) {
+        Ok(list) => Ok(list),
+        Err(Unwatched::Memory) => Err(AllocError),
+        Err(_) => Ok(None),
+    }
+}
+
+/// The lists as others may have them: without states, and without those lists that can't do without one. None where none is left.
+pub fn lists_to_send(alloc: Global, lists: &[u8]) -> Result<Option<Vec<u8>>, AllocError> {
+    let mut out = Vec::new(alloc);
+    for row in rows_of(alloc, lists)? {
+        if let Some(list) = list_to_send(alloc, row.list)? {
+            put_framed(&mut out, row.key)?;
+            put_framed(&mut out, list.as_slice())?;
+        }
+    }
+    match out.is_empty() {
+        true => Ok(None),
+        false => Ok(Some(out)),
+    }
+}
+
+/// Adds the folder ahead in these bytes with the state that it has now, and gives what stands behind it. Where it was changed only just now its
+/// names are looked at all the same.
+fn fill_folder<'a, R: Files>(
+    rt: &R,
+    bytes: &'a [u8],
+    before: FileTime,
+    out: &mut Vec<u8>,
+) -> Result<&'a [u8], Unwatched> {
+    let (path, rest) = read_framed(bytes)?;
+    let (_, rest) = State::read(rest)?;
+    let (_, rest) = read_number(rest)?;
+    let (names, rest) = read_framed(rest)?;
+    let now = State::at(rt, text_of(path)?)?;
+    let hold = match now.is_before(before) {
+        true => Hold::Settled,
+        false => Hold::Names,
+    };
+    put_framed(out, path)?;
+    now.put(out)?;
+    put_number(out, hold.code())?;
+    put_framed(out, names)?;
+    Ok(rest)
+}
+
+/// Adds the file ahead in these bytes with the state that it has now, unless it was changed only just now, and gives what stands behind it.
+fn fill_file<'a, R: Files>(
+    rt: &R,
+    bytes: &'a [u8],
+    before: FileTime,
+    out: &mut Vec<u8>,
+) -> Result<&'a [u8], Unwatched> {
+    let (path, rest) = read_framed(bytes)?;
+    let (_, rest) = State::read(rest)?;
+    let (digest, rest) = read_framed(rest)?;
+    let now = State::at(rt, text_of(path)?)?;
+    put_framed(out, path)?;
+    match now.is_before(before) {
+        true => now.put(out)?,
+        false => out.extend_from_slice(&NO_STATE)?,
+    }
+    put_framed(out, digest)?;
+    Ok(rest)
+}
+
+/// Adds the folders ahead in these bytes with their states, and gives what stands behind them.
+fn fill_folders<'a, R: Files>(
+    rt: &R,
+    bytes: &'a [u8],
+    before: FileTime,
+    out: &mut Vec<u8>,
+) -> Result<&'a [u8], Unwatched> {
+    let (count, mut rest) = read_number(bytes)?;
+    put_number(out, count)?;
+    for _ in 0..count {
+        rest = fill_folder(rt, rest, before, out)?;
+    }
+    Ok(rest)
+}
+
+/// Adds the files ahead in these bytes with their states.
+fn fill_files<R: Files>(
+    rt: &R,
+    bytes: &[u8],
+    before: FileTime,
+    out: &mut Vec<u8>,
+) -> Result<(), Unwatched> {
+    let (count, mut rest) = read_number(bytes)?;
+    put_number(out, count)?;
+    for _ in 0..count {
+        rest = fill_file(rt, rest, before, out)?;
+    }
+    Ok(())
+}
+
+/// The list with the states of this machine, which were changed last before that moment.
+fn with_states<R: Files + AllocGlobal>(
+    rt: &R,
+    list: &[u8],
+    before: FileTime,
+) -> Result<Vec<u8>, Unwatched> {
+    let mut out = Vec::new(rt.alloc());
+    let (dir, rest) = read_framed(list)?;
+    put_framed(&mut out, dir)?;
+    let rest = fill_folders(rt, rest, before, &mut out)?;
+    fill_files(rt, rest, before, &mut out)?;
+    Ok(out)
+}
+
+/// The lists of another machine, with the states of this one where a call in that folder finds all as they say. States are read before that is looked
+/// at, so that what changes meanwhile is seen the next time.
+pub fn lists_taken<R: Files + AllocGlobal>(
+    rt: &R,
+    dir: &[u8],
+    lists: &[u8],
+    before: FileTime,
+) -> Result<Vec<u8>, AllocError> {
+    let mut out = Vec::new(rt.alloc());
+    for row in rows_of(rt.alloc(), lists)? {
+        let filled = with_states(rt, row.list, before);
+        let fits = holds(rt, dir, row.list)?;
+        put_framed(&mut out, row.key)?;
+        match &filled {
+            Ok(list) if fits => put_framed(&mut out, list.as_slice())?,
+            _ => put_framed(&mut out, row.list)?,
+        }
+    }
+    Ok(out)
+}

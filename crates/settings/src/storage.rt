@@ -1,0 +1,109 @@
+//! Where results of other machines are: the address of a server or a folder, and attributes behind it, each behind a `|`.
+
+use crate::values::truth_named;
+use std::alloc::Global;
+use std::fmt;
+
+/// What addresses begin with.
+const FRONTS: [&str; 5] = ["redis://", "redis+unix:/", "http://", "https://", "file:/"];
+
+/// What stands where something isn't shown.
+const HIDDEN: &str = "***";
+
+/// Whether an address is one.
+fn is_address(text: &str) -> bool {
+    FRONTS.iter().any(|front| text.starts_with(*front))
+}
+
+/// The name and the value of an attribute; an empty value where it has none.
+fn parts_of(attribute: &str) -> (&str, &str) {
+    match attribute.split_once('=') {
+        Some(parts) => parts,
+        None => (attribute, ""),
+    }
+}
+
+/// Whether an attribute is one.
+fn is_attribute(attribute: &str) -> bool {
+    let (name, value) = parts_of(attribute);
+    match name {
+        "read-only" | "reshare" => value.is_empty() || truth_named(value).is_some(),
+        "connect-timeout" | "operation-timeout" | "lifetime" => value.parse::<u32>().is_ok(),
+        "layout" => matches!(value, "subdirs" | "flat" | "bazel"),
+        "bearer-token" => !value.is_empty(),
+        _ => false,
+    }
+}
+
+/// Whether a text is such an address with its attributes.
+pub fn is_storage(text: &str) -> bool {
+    match text.split_once('|') {
+        Some((address, rest)) => is_address(address) && rest.split('|').all(is_attribute),
+        None => is_address(text),
+    }
+}
+
+/// The value of an attribute, an empty one where it has none; nothing where it isn't set.
+fn value_in<'a>(storage: &'a str, name: &str) -> Option<&'a str> {
+    let (_, rest) = storage.split_once('|')?;
+    for attribute in rest.split('|') {
+        let (front, value) = parts_of(attribute);
+        if front == name {
+            return Some(value);
+        }
+    }
+    None
+}
+
+/// Whether an attribute is on: it stands there alone, or with a truth value.
+pub fn has_attribute(storage: &str, name: &str) -> bool {
+    match value_in(storage, name) {
+        Some(value) => value.is_empty() || truth_named(value) == Some(true),
+        None => false,
+    }
+}
+
+/// The number that an attribute says, or the usual one.
+pub fn number_in(storage: &str, name: &str, usual: u32) -> u32 {
+    match value_in(storage, name) {
+        Some(value) => value.parse::<u32>().unwrap_or(usual),
+        None => usual,
+    }
+}
+
+/// Adds an address without who may ask there.
+fn put_address(shown: &mut String, address: &str) -> Result<(), fmt::Error> {
+    let (Some((front, rest)), Some((_, server))) = (
+        address.split_once("//"),
+        address.rsplit_once('@'),
+    ) else {
+        return Ok(shown.push_str(address)?);
+    };
+    match rest.contains('@') {
+        true => Ok(write!(shown, "{front}//{HIDDEN}@{server}")?),
+        false => Ok(shown.push_str(address)?),
+    }
+}
+
+/// Adds an attribute without what may be shown to nobody.
+fn put_attribute(shown: &mut String, attribute: &str) -> Result<(), fmt::Error> {
+    let (name, _) = parts_of(attribute);
+    match name == "bearer-token" {
+        true => Ok(write!(shown, "|{name}={HIDDEN}")?),
+        false => Ok(write!(shown, "|{attribute}")?),
+    }
+}
+
+/// The text as it may be shown: without passwords and tokens.
+pub fn shown(alloc: Global, storage: &str) -> Result<String, fmt::Error> {
+    let mut shown = String::new(alloc);
+    let Some((address, rest)) = storage.split_once('|') else {
+        put_address(&mut shown, storage)?;
+        return Ok(shown);
+    };
+    put_address(&mut shown, address)?;
+    for attribute in rest.split('|') {
+        put_attribute(&mut shown, attribute)?;
+    }
+    Ok(shown)
+}
