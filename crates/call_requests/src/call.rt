@@ -3,6 +3,7 @@
 
 ghost use Rattle.std.specs.Prelude.{◌≡◌};
 
+use cmdlines_tables::compiler::CCompilerKind;
 use compiler_id::compilers::{KnownCompiler, add_surroundings, compiler_at};
 use compiler_id::native::native_of;
 use host_protocol::command_line::CommandLine;
@@ -18,7 +19,7 @@ use std::alloc::Global;
 use std::collections::BTreeMap;
 use std::io::Read;
 use std::rt::Files;
-use wrap::{CCompilerKind, Request};
+use wrap_base::request::Request;
 
 /// What inputs are called that are compiled as they stand, or of which an assembler notes where they lie.
 const WITHOUT_FOLDER: [&str; 5] = [".i", ".ii", ".s", ".S", ".sx"];

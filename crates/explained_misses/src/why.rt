@@ -12,18 +12,25 @@ use cmdlines::gcc::Gcc;
 use cmdlines_base::command::ArtifactDescriptor;
 use cmdlines_base::compiler_arguments::CompilerArguments;
 use cmdlines_requests::parsed::ParsedArguments;
+use cmdlines_tables::compiler::CCompilerKind;
 use compiler_id::compilers::kind_of;
 use fingerprints::difference::Difference;
+use fingerprints::explain::explain;
+use fingerprints::fingerprint::Fingerprint;
+use fingerprints::part::Part;
 use host_protocol::command_line::CommandLine;
 use host_protocol::host_error::HostError;
 use key_additions::additions::difference;
 use known_options::dependencies::dependencies_of;
+use os_files::files::Files as CallFiles;
 use os_files::listed::Listed;
 use os_files::os_bytes::OsBytes;
-use replay::snapshot_files::SnapshotFiles;
+use snapshot_files::SnapshotFiles;
 use std::alloc::Global;
 use std::rt::Files;
-use wrap::{CCompilerKind, Files as CallFiles, Fingerprint, Named, Part, Reason, Request, explain};
+use wrap_base::compiler::Named;
+use wrap_base::reason::Reason;
+use wrap_base::request::Request;
 
 /// What words ask a compiler for.
 type Asked = CompilerArguments<ParsedArguments>;

@@ -17,7 +17,7 @@ use std::alloc::Global;
 use std::fs::File;
 use std::rt::{Clock, Files};
 use std::time::SystemTime;
-use wrap::How;
+use wrap_base::answer::How;
 
 /// The counter of a call whose outputs are there.
 fn counter_of(line: &CommandLine, how: How) -> &'static str {

@@ -10,7 +10,12 @@ use cache_format::kept_result::KeptMessages;
 use call_log::told::Told;
 use call_requests::call::{Call, call_of};
 use call_requests::passing::reason_against;
+use ckeys_records::config::ConfigError;
+use ckeys_records::fault::Fault;
+use ckeys_records::step::Step;
+use cmdlines_tables::compiler::CCompilerKind;
 use compiler_id::compilers::kind_of;
+use entry_keys::entry_key::EntryKey;
 use explained_misses::why::note_fingerprint;
 use fingerprints::fingerprint::request_fingerprint;
 use host_protocol::command_line::CommandLine;
@@ -34,9 +39,11 @@ use std::alloc::Global;
 use std::fs::File;
 use std::io::Read;
 use std::rt::Files;
-use wrap::{
-    Answer, CCompilerKind, Config, ConfigError, EntryKey, Fault, How, Request, Step, StoreKey, Zone,
-};
+use time_macros::zone::Zone;
+use wrap_base::answer::{Answer, How};
+use wrap_base::config::Config;
+use wrap_base::request::Request;
+use wrap_base::store_key::StoreKey;
 
 /// What a call came to.
 #[derive(Drop)]

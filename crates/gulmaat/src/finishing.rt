@@ -7,10 +7,12 @@ use blake2::Blake2b256;
 use cache_dir::folder::Kind;
 use cache_dir::making_room::make_room;
 use call_log::told::Told;
+use entry_keys::entry_key::EntryKey;
 use host_protocol::command_line::CommandLine;
 use host_protocol::fields::into_text;
 use host_protocol::host::Host;
 use host_protocol::host_error::HostError;
+use include_records::record::PreprocessorCacheEntry;
 use known_calls::audits::Audit;
 use known_calls::kept::{keep, note_hint, renew};
 use known_calls::known::{Given, Known};
@@ -24,7 +26,8 @@ use std::alloc::Global;
 use std::fs::File;
 use std::io::Read;
 use std::rt::Files;
-use wrap::{EntryKey, How, Output, PreprocessorCacheEntry, StoreKey};
+use wrap_base::answer::{How, Output};
+use wrap_base::store_key::StoreKey;
 
 /// The paths of outputs.
 fn paths_of(alloc: Global, outputs: &[Output]) -> Result<Listed<OsBytes>, HostError> {

@@ -1,7 +1,5 @@
 //! What a page's script reads: all calls, with texts by number.
 
-ghost use Rattle.std.specs.Iterator.{IsFinite};
-
 use crate::reading::Build;
 use build_log::call::Call;
 use build_log::kind::Kind;
@@ -9,16 +7,10 @@ use json_texts::push_text;
 use std::alloc::{AllocError, Global};
 
 /// Writes a list of texts.
-fn push_texts<'a, Texts: Iterator<Item = &'a str> + Drop>(
-    json: &mut String,
-    name: &str,
-    texts: Texts,
-) -> Result<(), AllocError>
-    requires { Texts.Iterator.can_next texts × IsFinite (Texts.Iterator.remaining texts) }
-{
+fn push_texts(json: &mut String, name: &str, texts: &[&str]) -> Result<(), AllocError> {
     write!(json, "\"{name}\":[")?;
     let mut mark = "";
-    for text in texts {
+    for text in texts.iter() {
         json.push_str(mark)?;
         push_text(json, text)?;
         mark = ",\n";
@@ -67,13 +59,15 @@ pub fn push_data(html: &mut String, alloc: Global, build: &Build) -> Result<(), 
     write!(html, "{{\"wall\":{wall},\"lanes\":{lanes},\n")?;
     let names: Vec<&str> = Kind::ALL.iter().map(|kind| kind.name()).collect(alloc)?;
     let classes: Vec<&str> = Kind::ALL.iter().map(|kind| kind.class()).collect(alloc)?;
-    push_texts(html, "kinds", names.iter().copied())?;
-    push_texts(html, "classes", classes.iter().copied())?;
-    push_texts(
-        html,
-        "texts",
-        build.texts.all().iter().map(|text| text.as_str()),
-    )?;
+    let texts: Vec<&str> = build
+        .texts
+        .all()
+        .iter()
+        .map(|text| text.as_str())
+        .collect(alloc)?;
+    push_texts(html, "kinds", names.as_slice())?;
+    push_texts(html, "classes", classes.as_slice())?;
+    push_texts(html, "texts", texts.as_slice())?;
     push_calls(html, build)?;
     html.push_str("</script>\n")
 }

@@ -8,7 +8,7 @@ use std::fs;
 use std::rt::Files;
 use std::test::Fail;
 use test_kit::texts::holds;
-use wrap::Output;
+use wrap_base::answer::Output;
 
 /// Rows of what lies in the folder.
 type Rows = &'static [&'static str];

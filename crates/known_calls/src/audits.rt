@@ -10,7 +10,8 @@ use os_files::os_bytes::OsBytes;
 use std::alloc::{AllocError, Global};
 use std::fs::File;
 use std::rt::Files;
-use wrap::{How, Output, StoreKey};
+use wrap_base::answer::{How, Output};
+use wrap_base::store_key::StoreKey;
 
 /// How many letters of a call's digest say whether it is compared.
 const LETTERS: usize = 8;

@@ -17,7 +17,8 @@ use os_files::os_bytes::OsBytes;
 use settings::key::Key;
 use std::alloc::Global;
 use std::rt::Files;
-use wrap::{Output, StoreKey};
+use wrap_base::answer::Output;
+use wrap_base::store_key::StoreKey;
 
 /// What a command line had last: the digest of its key, and the name of its manifest, where it had one. And how many microseconds its last
 /// compile took; 0 where that isn't known.

@@ -7,10 +7,13 @@ use byte_formats::fields::{put_framed, read_framed};
 use cache_dir::error::CacheDirError;
 use cache_files::manifest_files::{manifest_under, put_manifest};
 use cache_files::manifests::FoundManifest;
+use cmdlines_tables::compiler::CCompilerKind;
 use cmdlines_tables::language::{language_to_clang_arg, language_to_gcc_arg};
+use entry_keys::entry_key::EntryKey;
 use host_protocol::command_line::CommandLine;
 use host_protocol::host::Host;
 use host_protocol::host_error::HostError;
+use include_records::record::PreprocessorCacheEntry;
 use os_files::os_bytes::OsBytes;
 use replay::watched_records::pair_again;
 use searched_folders::asking::said_of;
@@ -21,7 +24,7 @@ use source_files::loading::{load_all, settled_before};
 use std::alloc::Global;
 use std::io::Read;
 use std::rt::Files;
-use wrap::{CCompilerKind, EntryKey, PreprocessorCacheEntry, Shape, StoreKey};
+use wrap_base::store_key::{Shape, StoreKey};
 
 /// The word by which a compiler of that kind takes a source of the language of what is compiled under this key.
 fn language_of(kind: CCompilerKind, key: &StoreKey) -> Option<&'static str> {

@@ -10,6 +10,7 @@ use cache_dir::folder::Kind;
 use cache_files::manifests::{FoundManifest, found_in};
 use cache_format::kept_manifest::KeptManifest;
 use cache_format::sealed::{Sealed, seal, unseal};
+use entry_keys::entry_key::EntryKey;
 use host_protocol::command_line::CommandLine;
 use host_protocol::host::Host;
 use host_protocol::host_error::HostError;
@@ -20,7 +21,6 @@ use source_files::loading::settled_before;
 use std::alloc::Global;
 use std::io::Read;
 use std::rt::Files;
-use wrap::EntryKey;
 
 /// The name under which the manifest of that name lies.
 pub(crate) fn name_of_manifest(alloc: Global, own: &str) -> Result<String, HostError> {

@@ -17,7 +17,7 @@ use settings::key::Key;
 use std::alloc::Global;
 use std::io::Read;
 use std::rt::Files;
-use wrap::{Family, StoreKey};
+use wrap_base::store_key::{Family, StoreKey};
 
 /// The name under which the result of that key lies.
 pub(crate) fn name_of_result(alloc: Global, key: &StoreKey) -> Result<String, HostError> {

@@ -13,7 +13,7 @@ use host_protocol::host_error::HostError;
 use settings::key::Key;
 use std::io::Read;
 use std::rt::Files;
-use wrap::StoreKey;
+use wrap_base::store_key::StoreKey;
 
 /// What came of something in a call.
 #[derive(Clone, Copy, PartialEq, Eq)]

@@ -1,6 +1,5 @@
 mod Answering
 mod AskedAlike
-mod SnapshotLookups
 mod WorldSteps
 mod OneEntry
 mod HeldOutcomes

@@ -20,9 +20,9 @@ ghost use Rattle.wrap_base.specs.declared.store_key.StoreKey.{StoreKey};
 use crate::asked_store::AskedStore;
 use crate::replay_tool::ReplayTool;
 use crate::replayed::replayed;
-use crate::snapshot_files::SnapshotFiles;
 use crate::watched_records::WatchedRecords;
 use entry_keys::entry_key::entry_keys_are_their_fields;
+use snapshot_files::SnapshotFiles;
 use std::alloc::Global;
 use wrap::laws::records_of_earlier_calls_are_true;
 use wrap::{

@@ -7,5 +7,4 @@ pub mod kept_session;
 pub mod replay_tool;
 pub mod replayed;
 pub mod rustc_records;
-pub mod snapshot_files;
 pub mod watched_records;

@@ -7,12 +7,14 @@ use host_protocol::fields::into_text;
 use host_protocol::host_error::HostError;
 use key_additions::additions::Additions;
 use memchr::memmem;
+use os_files::files::Files as CallFiles;
+use os_files::listed::Listed;
+use os_files::os_bytes::OsBytes;
 use os_files::path::join;
-use replay::snapshot_files::SnapshotFiles;
 use rustc_id::parts::{archives_in, has_loaded};
+use snapshot_files::SnapshotFiles;
 use std::alloc::Global;
 use std::rt::Files;
-use wrap::{Files as CallFiles, Listed, OsBytes};
 
 /// What the names of variables begin with under which the session is told of what is bound to a key: it hashes those of cargo.
 const OWN: &str = "CARGO_GULMAAT_";

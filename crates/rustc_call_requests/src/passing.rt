@@ -3,11 +3,11 @@
 
 use host_protocol::command_line::CommandLine;
 use host_protocol::host_error::HostError;
+use os_files::os_bytes::OsBytes;
 use rustc_words::words::unknown_word;
 use settings::key::Key;
 use std::fs;
 use std::rt::Files;
-use wrap::OsBytes;
 
 /// Variables under which rustc, or what loads it, reads, writes or prints something else.
 const VARIABLES: [&str; 5] = [

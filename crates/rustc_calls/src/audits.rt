@@ -8,10 +8,12 @@ use host_protocol::host_error::HostError;
 use known_calls::audits::{
     Audit, copies_of, difference_of_outputs, difference_of_texts, is_one_of, log_difference,
 };
+use os_files::os_bytes::OsBytes;
 use std::alloc::Global;
 use std::fs::File;
 use std::rt::Files;
-use wrap::{How, OsBytes, Output, StoreKey};
+use wrap_base::answer::{How, Output};
+use wrap_base::store_key::StoreKey;
 
 /// A hit in whose place rustc runs.
 #[derive(Drop)]

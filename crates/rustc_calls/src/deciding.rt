@@ -5,6 +5,9 @@ ghost use Rattle.std.specs.Prelude.{◌≡◌, ◌≤◌};
 use crate::finishing::{can_give, give, keep_made};
 use crate::known::KnownCrate;
 use blake2::Blake2b256;
+use ckeys_records::config::ConfigError;
+use ckeys_records::fault::Fault;
+use ckeys_records::step::Step;
 use cmdlines_base::compiler_arguments::CompilerArguments;
 use host_protocol::command_line::CommandLine;
 use host_protocol::fields::into_text;
@@ -12,10 +15,13 @@ use host_protocol::host::Host;
 use host_protocol::host_error::HostError;
 use key_additions::additions::Additions;
 use known_calls::audits::Audit;
+use os_files::listed::Listed;
+use os_files::os_bytes::OsBytes;
 use replay::kept_session::{SessionAnswer, answered, session_over};
 use response_files::fault::ParseFault;
 use rustc_call_requests::additions::{additions_of, variable_of, variables_of};
 use rustc_call_requests::passing::reason_against;
+use rustc_compiler::rust::Rust;
 use rustc_id::asking::toolchain_word;
 use rustc_id::rustc::rustc_at;
 use rustc_kept::parts::PartRows;
@@ -26,10 +32,12 @@ use std::alloc::Global;
 use std::fs::File;
 use std::io::Read;
 use std::rt::Files;
-use wrap::{
-    Answer, Compiler, Config, ConfigError, Fault, How, Listed, OsBytes, Output, Request, Rust,
-    Step, StoreKey, Zone,
-};
+use time_macros::zone::Zone;
+use wrap_base::answer::{Answer, How, Output};
+use wrap_base::compiler::Compiler;
+use wrap_base::config::Config;
+use wrap_base::request::Request;
+use wrap_base::store_key::StoreKey;
 
 /// What a call came to: the outputs are there, or rustc is to run, or its status is the answer where it ran, and why.
 #[derive(Drop)]

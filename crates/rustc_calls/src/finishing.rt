@@ -7,6 +7,8 @@ use host_protocol::command_line::CommandLine;
 use host_protocol::fields::text_in;
 use host_protocol::host_error::HostError;
 use known_calls::outputs::lock_paths;
+use os_files::listed::Listed;
+use os_files::os_bytes::OsBytes;
 use os_files::path::join;
 use rustc_call_requests::passing::has_json;
 use rustc_kept::results::keep;
@@ -16,7 +18,8 @@ use std::fs::File;
 use std::io::ErrorKind;
 use std::os::unix::fs::MetadataExt;
 use std::rt::Files;
-use wrap::{Listed, OsBytes, Output, StoreKey};
+use wrap_base::answer::Output;
+use wrap_base::store_key::StoreKey;
 
 /// The rights to write.
 const WRITE: u32 = 0o222;

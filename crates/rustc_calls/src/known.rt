@@ -5,20 +5,23 @@ use disk_files::found::State;
 use host_protocol::command_line::CommandLine;
 use host_protocol::fields::text_in;
 use host_protocol::host_error::HostError;
+use os_files::file_time::FileTime;
+use os_files::files::{Files as CallFiles, Metadata};
+use os_files::listed::Listed;
+use os_files::os_bytes::OsBytes;
 use os_files::path::join;
 use replay::replay_tool::ReplayTool;
 use replay::rustc_records::RecordedRustc;
-use replay::snapshot_files::{LoadedFile, SnapshotFiles};
 use rustc_kept::parts::{PartRows, name_of_parts, note_parts};
 use rustc_kept::results::{FoundCrate, Wishes};
 use rustc_options::parsed::ParsedArguments;
 use rustc_texts::words::{dep_info_words, kept_words};
+use snapshot_files::{LoadedFile, SnapshotFiles};
 use source_files::outputs::regular;
 use source_files::tokens::{Tokens, token_of};
 use std::alloc::Global;
 use std::fs;
 use std::rt::Files;
-use wrap::{FileTime, Files as CallFiles, Listed, Metadata, OsBytes};
 
 /// Files and answers that are known so far.
 #[derive(Drop)]

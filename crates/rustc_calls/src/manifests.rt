@@ -9,6 +9,9 @@ use cache_format::sealed::{seal, unseal};
 use host_protocol::command_line::CommandLine;
 use host_protocol::fields::text_in;
 use host_protocol::host_error::HostError;
+use os_files::listed::Listed;
+use os_files::os_bytes::OsBytes;
+use rustc_parts::parts::EnvDep;
 use rustc_texts::dep_info::parse_dep_info;
 use rustc_texts::env_deps::parse_env_dep_info;
 use settings::key::Key;
@@ -17,7 +20,6 @@ use std::alloc::Global;
 use std::collections::BTreeSet;
 use std::fs;
 use std::rt::Files;
-use wrap::{EnvDep, Listed, OsBytes};
 
 /// What stands in the place of a zone in manifests of rustc.
 const OF_RUSTC: &[u8] = b"rustc";

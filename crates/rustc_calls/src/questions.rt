@@ -7,6 +7,7 @@ use crate::known::KnownCrate;
 use byte_formats::fields::put_framed;
 use cache_dir::file_digests::digest_of;
 use cache_dir::folder::Kind;
+use ckeys_records::preprocessor::Printed;
 use disk_files::whole::read_whole;
 use host_protocol::command_line::CommandLine;
 use host_protocol::fields::{into_text, text_in};
@@ -14,6 +15,8 @@ use host_protocol::host::Host;
 use host_protocol::host_error::HostError;
 use known_calls::outputs::{Locks, lock_paths, made_since, states_of};
 use memchr::memmem;
+use os_files::listed::Listed;
+use os_files::os_bytes::OsBytes;
 use os_files::path::join;
 use replay::replay_tool::Wanted;
 use replay::rustc_records::{RecordedAnswer, RecordedCrate};
@@ -24,7 +27,10 @@ use std::alloc::Global;
 use std::fs::File;
 use std::io::Read;
 use std::rt::Files;
-use wrap::{Compiled, Compiler, Listed, OsBytes, Printed, Request, StoreKey};
+use wrap_base::compiler::Compiler;
+use wrap_base::request::Request;
+use wrap_base::store_key::StoreKey;
+use wrap_base::tool::Compiled;
 
 /// The variable under which the session is told what a crate is made of.
 const SOURCES: &str = "CARGO_GULMAAT_SOURCES";

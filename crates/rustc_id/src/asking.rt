@@ -2,14 +2,16 @@
 
 ghost use Rattle.std.specs.Prelude.{◌≡◌};
 
+use ckeys_records::preprocessor::Printed;
 use disk_files::whole::read_whole;
 use host_protocol::command_line::CommandLine;
 use host_protocol::host::Host;
 use host_protocol::host_error::HostError;
+use os_files::listed::Listed;
+use os_files::os_bytes::OsBytes;
 use std::io::Read;
 use std::rt::Files;
 use std::{fs, io};
-use wrap::{Listed, OsBytes, Printed};
 
 /// What rustc prints on standard output for these words. What it prints on standard error is dropped.
 pub fn printed_for<P: Print + Files + AllocGlobal, I: Read>(

@@ -11,13 +11,18 @@ use host_protocol::command_line::CommandLine;
 use host_protocol::fields::into_text;
 use host_protocol::host::Host;
 use host_protocol::host_error::HostError;
+use os_files::file_time::FileTime;
+use os_files::files::Metadata;
+use os_files::listed::Listed;
+use os_files::os_bytes::OsBytes;
 use os_files::path::file_name;
-use replay::snapshot_files::{LoadedFile, SnapshotFiles};
+use rustc_compiler::fault::RustFault;
+use rustc_compiler::rust::Rust;
+use snapshot_files::{LoadedFile, SnapshotFiles};
 use std::alloc::Global;
 use std::fs;
 use std::io::Read;
 use std::rt::Files;
-use wrap::{FileTime, Listed, Metadata, OsBytes, Rust, RustFault};
 
 /// Whether a file is called as rustc is.
 pub fn is_named_rustc(path: &str) -> bool {

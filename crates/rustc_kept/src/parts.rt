@@ -9,10 +9,11 @@ use cache_format::kept_manifest::KeptManifest;
 use cache_format::sealed::{seal, unseal};
 use host_protocol::fields::Fields;
 use host_protocol::host_error::HostError;
+use os_files::listed::Listed;
+use os_files::os_bytes::OsBytes;
 use rustc_options::parsed::ParsedArguments;
 use std::alloc::Global;
 use std::rt::Files;
-use wrap::{Listed, OsBytes};
 
 /// A name and a value.
 type Row = (OsBytes, OsBytes);

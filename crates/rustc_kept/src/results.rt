@@ -12,10 +12,14 @@ use cache_format::sealed::{seal, unseal};
 use host_protocol::command_line::CommandLine;
 use host_protocol::fields::text_in;
 use host_protocol::host_error::HostError;
+use os_files::listed::Listed;
+use os_files::os_bytes::OsBytes;
+use rustc_parts::parts::RShape;
 use settings::key::Key;
 use std::alloc::{AllocError, Global};
 use std::rt::Files;
-use wrap::{Listed, OsBytes, Output, Pairs, RShape, Shape, StoreKey};
+use wrap_base::answer::Output;
+use wrap_base::store_key::{Pairs, Shape, StoreKey};
 
 /// What a disk keeps under a key: outputs, and messages as they are for this call.
 #[derive(Drop)]

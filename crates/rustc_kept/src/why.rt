@@ -4,12 +4,14 @@ use crate::parts::{name_of_parts, told_of_parts};
 use cache_dir::folder::CacheDir;
 use cmdlines_base::compiler_arguments::CompilerArguments;
 use host_protocol::host_error::HostError;
-use replay::snapshot_files::SnapshotFiles;
+use os_files::listed::Listed;
+use os_files::os_bytes::OsBytes;
 use rustc_options::parsed::ParsedArguments;
 use rustkeys_base::parse::parse_arguments;
+use snapshot_files::SnapshotFiles;
 use std::alloc::Global;
 use std::rt::Files;
-use wrap::{Listed, OsBytes, Reason};
+use wrap_base::reason::Reason;
 
 /// How many names words may ask about as they are parsed.
 const NAMES: u32 = 64;

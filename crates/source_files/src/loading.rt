@@ -11,7 +11,7 @@ use os_files::file_time::FileTime;
 use os_files::files::Metadata;
 use os_files::os_bytes::OsBytes;
 use os_files::path::join;
-use replay::snapshot_files::{LoadedFile, SnapshotFiles};
+use snapshot_files::{LoadedFile, SnapshotFiles};
 use std::fs;
 use std::io::ErrorKind;
 use std::os::unix::fs::MetadataExt;

@@ -1,4 +1,4 @@
-use Rattle.replay.specs.contracts.snapshot_files.SnapshotFilesFiles.TheImpl as snapshot
+use Rattle.snapshot_files.specs.contracts.files.SnapshotFilesFiles.TheImpl as snapshot
 use Rattle.entry_keys.specs.contracts.entry_key.EntryKeyPartialEq.TheImpl as entry_eq
 use Rattle.wrap_base.specs.MapStores.{shelf_of}
 use Rattle.replay.proofs.kept_session.answered.Goals as goal

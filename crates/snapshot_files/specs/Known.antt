@@ -4,7 +4,7 @@ use Rattle.std.specs.Cmp.Lexicographic.{slice_cmp}
 use Rattle.std.specs.Ordering.{nat_cmp}
 use Rattle.std.specs.Prelude.{◌≡◌, Bool, ◌||◌, is_some}
 use Rattle.os_files.specs.Bytes.{Bytes}
-use Rattle.replay.specs.declared.snapshot_files.SnapshotFiles.{SnapshotFiles}
+use Rattle.snapshot_files.specs.declared.files.SnapshotFiles.{SnapshotFiles}
 
 -- what was found under a name was loaded, or that nothing was
 abbrev pub is_known : SnapshotFiles → Bytes → Bool

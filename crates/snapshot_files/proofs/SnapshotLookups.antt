@@ -10,8 +10,8 @@ use Rattle.std.specs.Str.{bytes_eq}
 use Rattle.std.proofs.lemmas.Map.Text.{is_eq-slice_cmp}
 use Rattle.os_files.specs.Bytes.{Bytes}
 use Rattle.os_files.specs.Tree.{node_at}
-use Rattle.replay.specs.Snapshots.{node_of, tree_of}
-use Rattle.replay.specs.declared.snapshot_files.LoadedFile.{LoadedFile}
+use Rattle.snapshot_files.specs.Snapshots.{node_of, tree_of}
+use Rattle.snapshot_files.specs.declared.files.LoadedFile.{LoadedFile}
 
 abbrev Entries : Type 0
 Entries = List (Bytes × LoadedFile)

@@ -2,7 +2,7 @@
 use Rattle.std.specs.Prelude.{List, map}
 use Rattle.os_files.specs.Bytes.{Bytes}
 use Rattle.os_files.specs.Tree.{Node, Tree}
-use Rattle.replay.specs.declared.snapshot_files.LoadedFile.{LoadedFile}
+use Rattle.snapshot_files.specs.declared.files.LoadedFile.{LoadedFile}
 
 -- what was found, as it lies in a tree
 abbrev pub node_of : LoadedFile → Node

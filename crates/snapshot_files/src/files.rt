@@ -5,12 +5,13 @@ ghost use Rattle.std.specs.Option.{option_copied, option_map};
 ghost use Rattle.std.specs.Str.{bytes_eq};
 ghost use Rattle.os_files.specs.Bytes.{Bytes, ticked};
 ghost use Rattle.os_files.specs.Tree.{node_at};
-ghost use Rattle.replay.specs.Known.{KnowsAlike, is_known};
-ghost use Rattle.replay.specs.Snapshots.{node_of, tree_of};
+ghost use Rattle.snapshot_files.specs.Known.{KnowsAlike, is_known};
+ghost use Rattle.snapshot_files.specs.Snapshots.{node_of, tree_of};
 
+use os_files::files::{FileFail, Files, Metadata};
+use os_files::os_bytes::OsBytes;
 use std::alloc::{AllocError, Global};
 use std::collections::BTreeMap;
-use wrap::{FileFail, Files, Metadata, OsBytes};
 
 /// What was found under a name: a regular file with its contents, or a folder.
 #[derive(Drop)]

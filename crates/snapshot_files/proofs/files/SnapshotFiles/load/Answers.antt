@@ -1,5 +1,5 @@
-use Rattle.replay.proofs.SnapshotLookups.{known_loaded, node_put}
-use Rattle.replay.proofs.snapshot_files.SnapshotFiles.load.Goals as goal
+use Rattle.snapshot_files.proofs.SnapshotLookups.{known_loaded, node_put}
+use Rattle.snapshot_files.proofs.files.SnapshotFiles.load.Goals as goal
 
 pub returns-clause-found : goal.returns-clause-found
 returns-clause-found c = λ name. node_put c.args.path name c.args.file c.args.self.now.loaded.entries _ (c.in_ok-insert.ensures.updates.0 name)
