@@ -80,7 +80,7 @@ made_by_cargo() {
 }
 
 # What cargo printed, without times and the order of what goes on at once.
-printed_by_cargo() { grep -v 'Finished\|Blocking waiting' "$1" | sed 's/target(s) in .*//' | sort; }
+printed_by_cargo() { grep -v 'Finished\|Blocking waiting' "$1" | sed 's/target(s) in .*//; s/; finished in .*//' | sort; }
 
 # Builds by cargo without a cache and with one, from the same state: status, what is printed and what is made are alike.
 like_cargo() {
