@@ -115,6 +115,16 @@ pub(crate) fn trees(alloc: Global, kind: CCompilerKind, repeats: u32) -> Result<
 /// Parses the words for Gcc so often, by the tree of one compiler, and tallies the options of its preprocessor.
 pub(crate) fn parses(alloc: Global, words: &[OsBytes], repeats: u32) -> Result<Tally, ParseFault> {
     let gcc = Gcc::new(alloc, false, None, None)?;
+    parses_by(alloc, &gcc, words, repeats)
+}
+
+/// Parses the words by this compiler so often.
+fn parses_by(
+    alloc: Global,
+    gcc: &Gcc,
+    words: &[OsBytes],
+    repeats: u32,
+) -> Result<Tally, ParseFault> {
     let dir = OsBytes::from_slice(alloc, b"/w")?;
     let mut files = MemoryFiles::new(alloc);
     let mut last = Tally::none();

@@ -93,9 +93,20 @@ pub(crate) fn key_readings(alloc: Global, sources: u32, repeats: u32) -> Result<
     let parts = parts(alloc, sources)?;
     let shape = parts.shape(alloc)?;
     let bytes = key_bytes(alloc, &parts)?;
+    drop(parts);
+    readings(alloc, bytes.as_slice(), &shape, repeats)
+}
+
+/// Reads the bytes of a key of this shape so often.
+fn readings(
+    alloc: Global,
+    bytes: &[u8],
+    shape: &RShape,
+    repeats: u32,
+) -> Result<Tally, AllocError> {
     let mut last = Tally::none();
     for _ in 0..repeats {
-        last = read(alloc, bytes.as_slice(), &shape)?;
+        last = read(alloc, bytes, shape)?;
     }
     Ok(last)
 }
@@ -103,9 +114,14 @@ pub(crate) fn key_readings(alloc: Global, sources: u32, repeats: u32) -> Result<
 /// Copies the bytes of a key of that many sources so often.
 pub(crate) fn key_copies(alloc: Global, sources: u32, repeats: u32) -> Result<Tally, AllocError> {
     let bytes = key_bytes(alloc, &parts(alloc, sources)?)?;
+    copies(alloc, bytes.as_slice(), repeats)
+}
+
+/// Copies bytes so often.
+fn copies(alloc: Global, bytes: &[u8], repeats: u32) -> Result<Tally, AllocError> {
     let mut last = Tally::none();
     for _ in 0..repeats {
-        let copy = Vec::from_slice(alloc, bytes.as_slice())?;
+        let copy = Vec::from_slice(alloc, bytes)?;
         last = whole(copy.as_slice());
     }
     Ok(last)

@@ -89,18 +89,28 @@ fn difference_of(
     }
 }
 
-/// What differs from the request whose parts were kept; nothing where there was none.
+/// What differs from the request whose parts were kept.
 fn difference_from(
     alloc: Global,
     one: &Fingerprint,
-    kept: Option<KeptParts>,
+    kept: &KeptParts,
 ) -> Result<OsBytes, HostError> {
-    let Some(kept) = kept else {
-        return Ok(OsBytes::empty(alloc));
-    };
-    let earlier = Fingerprint::C(parts_of(alloc, &kept)?);
-    let difference = difference_of(alloc, one, &earlier)?;
-    Ok(OsBytes::from_vec(difference.into_bytes()))
+    let earlier = Fingerprint::C(parts_of(alloc, kept)?);
+    let told = difference_of(alloc, one, &earlier)?;
+    Ok(OsBytes::from_vec(told.into_bytes()))
+}
+
+/// What differs from the request whose parts lie under that name; nothing where there was none.
+fn difference_there<R: Files + AllocGlobal>(
+    rt: &R,
+    folder: &CacheDir,
+    name: &str,
+    one: &Fingerprint,
+) -> Result<OsBytes, HostError> {
+    match parts_under(rt, folder, name)? {
+        Some(kept) => difference_from(rt.alloc(), one, &kept),
+        None => Ok(OsBytes::empty(rt.alloc())),
+    }
 }
 
 /// The fingerprint with its text in short.
@@ -123,8 +133,7 @@ fn note_parts<R: Files + AllocGlobal>(
     let Fingerprint::C(parts) = one else {
         return Err(HostError::Unreadable);
     };
-    let earlier = parts_under(rt, folder, name)?;
-    let difference = difference_from(rt.alloc(), one, earlier)?;
+    let difference = difference_there(rt, folder, name, one)?;
     let kept = kept_parts(rt.alloc(), parts, difference)?;
     put_parts(rt, folder, name, &kept)?;
     make_room(&rt, folder, &[name])?;

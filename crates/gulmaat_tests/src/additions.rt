@@ -77,7 +77,7 @@ const DIFFERENCES: [(Rows, Rows, &str); 6] = [
 
 #[test]
 fn rows_differ(rt: HostRuntime) -> Result<(), Fail> {
-    for (rows, earlier, want) in DIFFERENCES {
+    for (rows, earlier, want) in DIFFERENCES.iter() {
         match difference_of(rt.alloc(), rows, earlier) {
             Ok(text) => is_that(text.as_str(), want, want)?,
             Err(_) => return Err("rows that can't be compared".into()),

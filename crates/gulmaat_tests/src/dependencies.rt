@@ -70,7 +70,7 @@ fn text_of(alloc: Global, line: &str) -> Result<String, AllocError> {
 
 #[test]
 fn words_say_what_is_written(rt: HostRuntime) -> Result<(), Fail> {
-    for (line, want) in LINES {
+    for (line, want) in LINES.iter() {
         let text = text_of(rt.alloc(), line)?;
         is_that(text.as_str(), want, line)?;
     }
@@ -104,7 +104,7 @@ const TEXTS: [(&str, &str, &str); 4] = [
 #[test]
 fn texts_are_printed_by_words(rt: HostRuntime) -> Result<(), Fail> {
     let alloc = rt.alloc();
-    for (line, plain, listed) in TEXTS {
+    for (line, plain, listed) in TEXTS.iter() {
         let list = words(alloc, line)?;
         let mut text = String::new(alloc);
         write_words(

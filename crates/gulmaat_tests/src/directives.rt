@@ -117,7 +117,7 @@ fn text_of(alloc: Global, source: &str) -> Result<String, AllocError> {
 
 #[test]
 fn sources_ask_for_files(rt: HostRuntime) -> Result<(), Fail> {
-    for (source, want) in SOURCES {
+    for (source, want) in SOURCES.iter() {
         let text = text_of(rt.alloc(), source)?;
         is_that(text.as_str(), want, source)?;
     }
@@ -161,7 +161,7 @@ fn text_of_defined(alloc: Global, source: &str) -> Result<String, AllocError> {
 
 #[test]
 fn macros_stand_for_files(rt: HostRuntime) -> Result<(), Fail> {
-    for (source, want) in DEFINED {
+    for (source, want) in DEFINED.iter() {
         let text = text_of_defined(rt.alloc(), source)?;
         is_that(text.as_str(), want, source)?;
     }
@@ -192,7 +192,7 @@ const WHOLE: [&str; 6] = [
 
 #[test]
 fn times_are_pasted(_rt: HostRuntime) -> Result<(), Fail> {
-    for source in PASTED {
+    for source in PASTED.iter() {
         holds(pastes_time(source.as_bytes()), source)?;
     }
     Ok(())
@@ -200,7 +200,7 @@ fn times_are_pasted(_rt: HostRuntime) -> Result<(), Fail> {
 
 #[test]
 fn others_are_whole(_rt: HostRuntime) -> Result<(), Fail> {
-    for source in WHOLE {
+    for source in WHOLE.iter() {
         holds(!pastes_time(source.as_bytes()), source)?;
     }
     Ok(())
@@ -217,9 +217,9 @@ const WORDS: [(&str, bool); 5] = [
 
 #[test]
 fn words_tell_times(rt: HostRuntime) -> Result<(), Fail> {
-    for (line, want) in WORDS {
+    for (line, want) in WORDS.iter() {
         let list = words(rt.alloc(), line)?;
-        holds(tells_time(list.as_slice()) == want, line)?;
+        holds(tells_time(list.as_slice()) == *want, line)?;
     }
     Ok(())
 }

@@ -100,10 +100,10 @@ fn digest_of<R: Files + AllocGlobal>(
 #[test]
 fn lines_are_as_written(rt: HostRuntime) -> Result<(), Fail> {
     make_fresh(&rt, "gulmaat_tests_lines")?;
-    for (before, after, text, are_same) in CHANGES {
+    for (before, after, text, are_same) in CHANGES.iter() {
         let one = digest_of(&rt, Asked::Lines, before, text)?;
         let other = digest_of(&rt, Asked::Lines, after, text)?;
-        holds((one == other) == are_same, after)?;
+        holds((one == other) == *are_same, after)?;
         let whole = digest_of(&rt, Asked::Contents, before, text)?;
         let changed = digest_of(&rt, Asked::Contents, after, text)?;
         holds((whole == changed) == (before == after), before)?;
@@ -138,7 +138,7 @@ fn are_paths(files: &[NamedFile], wanted: &[&str]) -> bool {
 
 #[test]
 fn texts_name_files(rt: HostRuntime) -> Result<(), Fail> {
-    for (text, wanted) in NAMED {
+    for (text, wanted) in NAMED.iter() {
         let named = NamedFiles::of(&rt, b"/d", text.as_bytes())?;
         let files = named.files.as_slice();
         holds(named.are_all && are_paths(files, wanted), text)?;
@@ -157,13 +157,13 @@ const DONE: [(&str, bool); 4] = [
 #[test]
 fn named_files_are_as_they_were_or_not(rt: HostRuntime) -> Result<(), Fail> {
     let folder = "gulmaat_tests_named";
-    for (row, are_unchanged) in DONE {
+    for (row, are_unchanged) in DONE.iter() {
         make_fresh(&rt, folder)?;
         change(&rt, folder, "write a.h 1")?;
         let text = b"# 1 \"a.h\"\n# 1 \"none.h\"\n";
         let named = NamedFiles::of(&rt, folder.as_bytes(), text.as_slice())?;
         change(&rt, folder, row)?;
-        holds(named.are_unchanged(&rt) == are_unchanged, row)?;
+        holds(named.are_unchanged(&rt) == *are_unchanged, row)?;
     }
     Ok(())
 }

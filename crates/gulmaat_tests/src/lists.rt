@@ -19,9 +19,9 @@ const FILES: [(&str, &str, bool); 9] = [
 
 #[test]
 fn lists_have_files(rt: HostRuntime) -> Result<(), Fail> {
-    for (written, list, want) in FILES {
+    for (written, list, want) in FILES.iter() {
         let has = names_files_of(rt.alloc(), written.as_bytes(), list.as_bytes())?;
-        holds(has == want, written)?;
+        holds(has == *want, written)?;
     }
     Ok(())
 }

@@ -85,7 +85,7 @@ const LISTS: [(&str, &str, &[&str], &str, &str); 8] = [
 #[test]
 fn results_have_lists(rt: HostRuntime) -> Result<(), Fail> {
     let mut lists = Vec::new(rt.alloc());
-    for (letter, folder, letters, in_one, in_two) in LISTS {
+    for (letter, folder, letters, in_one, in_two) in LISTS.iter() {
         lists = more_lists(rt.alloc(), lists.as_slice(), letters, letter, folder)?;
         is_that(
             holding(&rt, lists.as_slice(), "one")?.as_str(),
@@ -111,7 +111,7 @@ const LEFT: [(&[&str], &str, &str); 4] = [
 
 #[test]
 fn results_are_left_out(rt: HostRuntime) -> Result<(), Fail> {
-    for (letters, letter, want) in LEFT {
+    for (letters, letter, want) in LEFT.iter() {
         let record = record_of(rt.alloc(), letters)?;
         let key = key_of(rt.alloc(), letter)?;
         let rest = without(rt.alloc(), &record, key.as_str().as_bytes())?;
@@ -130,7 +130,7 @@ const JOINED: [(&[&str], &[&str], &str); 4] = [
 
 #[test]
 fn results_come_back(rt: HostRuntime) -> Result<(), Fail> {
-    for (letters, others, want) in JOINED {
+    for (letters, others, want) in JOINED.iter() {
         let record = record_of(rt.alloc(), letters)?;
         let other = record_of(rt.alloc(), others)?;
         let whole = joined(rt.alloc(), &record, &other)?;

@@ -25,7 +25,7 @@ const REASONS: [(&str, &str); 14] = [
 
 #[test]
 fn words_speak_against_keeping(rt: HostRuntime) -> Result<(), Fail> {
-    for (words, wanted) in REASONS {
+    for (words, wanted) in REASONS.iter() {
         let line = line_of(rt.alloc(), "/d", words)?;
         let Ok(reason) = reason_against(rt.alloc(), &line) else {
             return Err("no memory".into());

@@ -56,9 +56,9 @@ fn is_put<R: Files + AllocGlobal>(rt: &R, rows: &[&str]) -> Result<bool, Fail> {
 
 #[test]
 fn outputs_are_put_in_plain_places(rt: HostRuntime) -> Result<(), Fail> {
-    for (rows, wanted) in PLACES {
+    for (rows, wanted) in PLACES.iter() {
         let first = rows.first().copied().unwrap_or("nothing");
-        holds(is_put(&rt, rows)? == wanted, first)?;
+        holds(is_put(&rt, rows)? == *wanted, first)?;
     }
     Ok(())
 }

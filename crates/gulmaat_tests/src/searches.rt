@@ -68,7 +68,7 @@ fn text_of(alloc: Global, said: &str) -> Result<String, AllocError> {
 
 #[test]
 fn compilers_tell_where_they_look(rt: HostRuntime) -> Result<(), Fail> {
-    for (said, want) in SAID {
+    for (said, want) in SAID.iter() {
         let text = text_of(rt.alloc(), said)?;
         is_that(text.as_str(), want, said)?;
     }

@@ -4,6 +4,7 @@ use crate::disks::{change, line_of, make_fresh};
 use byte_formats::fields::put_framed;
 use cache_dir::file_digests::digest_of;
 use disk_files::found::State;
+use host_protocol::command_line::CommandLine;
 use known_calls::outputs::{lock_paths, made_since, states_of};
 use os_files::os_bytes::OsBytes;
 use source_files::mounts::devices_in;
@@ -93,7 +94,7 @@ fn made_while<R: Files + AllocGlobal>(
 fn outputs_are_made(rt: HostRuntime) -> Result<(), Fail> {
     let folder = "gulmaat_tests_made";
     make_fresh(&rt, folder)?;
-    for (row, want) in MADE {
+    for (row, want) in MADE.iter() {
         let made = made_while(&rt, folder, row)?;
         let made = made.as_ref().map(|made| made.as_bytes());
         holds(made == want.map(|want| want.as_bytes()), row)?;
@@ -118,6 +119,25 @@ fn lock_of<R: Files<File = File> + AllocGlobal>(
     Ok(options.open(rt, place.as_str()).ok())
 }
 
+/// Whether these outputs have the lock of this object, as long as it is held.
+fn lock_object<R: Files<File = File> + AllocGlobal>(
+    rt: &R,
+    folder: &str,
+    line: &CommandLine,
+    paths: &[OsBytes],
+    object: &str,
+) -> Result<bool, Fail> {
+    let Ok(locks) = lock_paths(rt, line, paths, None) else {
+        return Err("no lock".into());
+    };
+    let Some(file) = lock_of(rt, folder, object)? else {
+        return Ok(false);
+    };
+    let is_held = file.try_lock().is_err();
+    drop(locks);
+    Ok(is_held && file.try_lock().is_ok())
+}
+
 /// Whether an output of this name has the lock of the file `real/a.o`, as long as it is held.
 fn locks_object<R: Files<File = File> + AllocGlobal>(
     rt: &R,
@@ -129,15 +149,7 @@ fn locks_object<R: Files<File = File> + AllocGlobal>(
     let paths = alone(alloc, name)?;
     let real = fs::canonicalize(rt, folder)?;
     let object = format!(in alloc; "{}/real/a.o", real.as_str())?;
-    let Ok(locks) = lock_paths(rt, &line, paths.as_slice(), None) else {
-        return Err("no lock".into());
-    };
-    let Some(file) = lock_of(rt, folder, object.as_str())? else {
-        return Ok(false);
-    };
-    let is_held = file.try_lock().is_err();
-    drop(locks);
-    Ok(is_held && file.try_lock().is_ok())
+    lock_object(rt, folder, &line, paths.as_slice(), object.as_str())
 }
 
 #[test]
@@ -175,10 +187,10 @@ const MOUNTS: [(&str, Option<u64>); 6] = [
 
 #[test]
 fn devices_are_trusted(rt: HostRuntime) -> Result<(), Fail> {
-    for (line, want) in MOUNTS {
+    for (line, want) in MOUNTS.iter() {
         let devices = devices_in(rt.alloc(), line.as_bytes())?;
         let first = devices.iter().next().copied();
-        holds(first == want, line)?;
+        holds(first == *want, line)?;
     }
     Ok(())
 }

@@ -48,7 +48,7 @@ const OTHERS: [&str; 10] = [
 
 #[test]
 fn compilers_read_variables(_rt: HostRuntime) -> Result<(), Fail> {
-    for name in READ {
+    for name in READ.iter() {
         holds(is_read(name.as_bytes()), name)?;
     }
     Ok(())
@@ -56,7 +56,7 @@ fn compilers_read_variables(_rt: HostRuntime) -> Result<(), Fail> {
 
 #[test]
 fn compilers_read_no_others(_rt: HostRuntime) -> Result<(), Fail> {
-    for name in OTHERS {
+    for name in OTHERS.iter() {
         holds(!is_read(name.as_bytes()), name)?;
     }
     Ok(())

@@ -186,7 +186,7 @@ fn sources_have_lists(rt: HostRuntime) -> Result<(), Fail> {
     let folder = "gulmaat_tests_lists";
     make_fresh(&rt, folder)?;
     change_all(&rt, folder, &TREE)?;
-    for (words, source, want) in SOURCES {
+    for (words, source, want) in SOURCES.iter() {
         let why = why_none(&rt, folder, words, source)?;
         is_that(why.as_str(), want, source)?;
     }

@@ -194,15 +194,20 @@ fn bounded_run(alloc: Global, line: &[u8], capacity: NonZeroUsize) -> Result<Run
     run_over(alloc, line, NONE_FAILS, MapStore::new(alloc), objects)
 }
 
+/// Adds what came of a run, and where it disagrees with the plain one.
+fn push_agreed(run: &Run, plain: &[Turn], text: &mut String) -> Result<(), Stop> {
+    push_unless_agreed(run.turns.as_slice(), plain, text)?;
+    Ok(push_run(run, run.end.outputs, text)?)
+}
+
 /// Adds what came of a run over a store of outputs that holds no more than the scenario's capacity, where it has one.
 fn push_bounded(alloc: Global, line: &[u8], plain: &[Turn], text: &mut String) -> Result<(), Stop> {
     let Some(capacity) = read_scenario(alloc, line)?.capacity else {
         return Ok(());
     };
-    let run = bounded_run(alloc, line, capacity)?;
     write!(text, "capacity {capacity}:")?;
-    push_unless_agreed(run.turns.as_slice(), plain, text)?;
-    Ok(push_run(&run, run.end.outputs, text)?)
+    let run = bounded_run(alloc, line, capacity)?;
+    push_agreed(&run, plain, text)
 }
 
 /// Adds what came of the runs of the scenario of this line in which a store forgets or refuses.

@@ -124,16 +124,19 @@ fn push_parts(
     }
 }
 
+/// Adds what is read of a key's bytes under this shape.
+fn push_read(alloc: Global, bytes: &[u8], shape: &RShape, text: &mut String) -> Result<(), Stop> {
+    match read_key_bytes(alloc, bytes, shape)? {
+        Some(parts) => Ok(push_parts(alloc, &parts, bytes, text)?),
+        None => Ok(text.push_str("no parts\n")?),
+    }
+}
+
 /// Adds what is read of the bytes behind three lines as what is hashed of a request to rustc, under the shape that the lines tell.
 pub(crate) fn push_key(alloc: Global, bytes: &[u8], text: &mut String) -> Result<(), Stop> {
     let (counts, rest) = first_line(bytes);
     let (words, rest) = first_line(rest);
     let (env_deps, rest) = first_line(rest);
     let shape = shape_of(alloc, counts, words, env_deps)?;
-    let read = read_key_bytes(alloc, rest, &shape)?;
-    match &read {
-        Some(parts) => push_parts(alloc, parts, rest, text)?,
-        None => text.push_str("no parts\n")?,
-    }
-    Ok(())
+    push_read(alloc, rest, &shape, text)
 }

@@ -69,6 +69,32 @@ impl Noted {
         }
     }
 
+    /// Notes the reason, the blocker and the options to beware of at this number.
+    fn note_texts(
+        &mut self,
+        alloc: Global,
+        number: u64,
+        reason: Option<String>,
+        blocker: Option<String>,
+        beware: &[&'static str],
+    ) -> Result<(), AllocError>
+        requires once { AreOnce beware.now }
+        ensures kept { self.new.kept ≡ self.old.kept }
+        ensures reasons { OnOk result ((name : _) → numbers_in self.new.reasons name
+            ≡ numbers_in self.old.reasons name
+            ++ (if is_named name (option_map string_bytes reason) then number ∷ [] else [])) }
+        ensures blockers { OnOk result ((name : _) → numbers_in self.new.blockers name
+            ≡ numbers_in self.old.blockers name
+            ++ (if is_named name (option_map string_bytes blocker) then number ∷ [] else [])) }
+        ensures beware { OnOk result ((name : _) → numbers_in self.new.beware name
+            ≡ numbers_in self.old.beware name
+            ++ (if is_among name beware.now then number ∷ [] else [])) }
+    {
+        self.beware.note_each(alloc, beware, number)?;
+        self.reasons.note_some(reason, number)?;
+        self.blockers.note_some(blocker, number)
+    }
+
     /// Notes what is told of the entry of this number.
     pub(crate) fn note(&mut self, alloc: Global, number: u64, told: Told) -> Result<(), AllocError>
         requires room { self.old.kept + 1 < 2 ^ 64 }
@@ -86,10 +112,13 @@ impl Noted {
             ++ (if is_among name told.beware.items then number ∷ [] else [])) }
     {
         self.kept = kept_with(self.kept, &told.decided);
-        self.beware
-            .note_each(alloc, told.beware.as_slice(), number)?;
-        self.reasons.note_some(told.reason, number)?;
-        self.blockers.note_some(told.blocker, number)
+        self.note_texts(
+            alloc,
+            number,
+            told.reason,
+            told.blocker,
+            told.beware.as_slice(),
+        )
     }
 
     /// The summary of what was noted of so many entries.

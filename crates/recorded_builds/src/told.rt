@@ -5,7 +5,7 @@ ghost use Rattle.std.specs.List.{list_any};
 ghost use Rattle.std.specs.Option.{option_map};
 ghost use Rattle.recorded_builds.specs.Beware.{AreOnce, is_among, is_option};
 ghost use Rattle.recorded_builds.specs.Outcomes.{outcome_in};
-ghost use Rattle.recorded_builds.specs.Reasons.{Tells, blocker_in, holds_option};
+ghost use Rattle.recorded_builds.specs.Reasons.{Tells, blocker_in, holds_option, reason_for};
 
 use crate::beware::options_in;
 use crate::deciding::Decided;
@@ -62,19 +62,42 @@ fn options_to_beware_of(alloc: Global, decided: &Decided) -> Result<Vec<&'static
     }
 }
 
+/// What is told of an entry besides what it comes to.
+#[derive(Drop)]
+struct Remarks {
+    reason: Option<String>,
+    blocker: Option<String>,
+    beware: Vec<&'static str>,
+}
+
+/// What is told of the words of that executable besides what they come to.
+fn remarks_on(alloc: Global, decided: &Decided, executable: &OsBytes) -> Result<Remarks, AllocError>
+    ensures reason { IfOk result (λ remarks. option_map string_bytes remarks.reason
+        ≡ reason_for executable.now (outcome_in decided.now)) }
+    ensures blocker { IfOk result
+        (λ remarks. option_map string_bytes remarks.blocker ≡ blocker_in (outcome_in decided.now)) }
+    ensures held { IfOk result (λ remarks. (option : _) →
+        is_among option remarks.beware.items ≡ holds_option option (outcome_in decided.now)) }
+    ensures once { IfOk result (λ remarks. AreOnce remarks.beware.items) }
+{
+    Ok(Remarks {
+        reason: reason_of(alloc, decided, executable)?,
+        blocker: blocker_of(alloc, decided)?,
+        beware: options_to_beware_of(alloc, decided)?,
+    })
+}
+
 impl Told {
     /// What is told of the words of that executable, which come to this.
     pub fn new(alloc: Global, decided: Decided, executable: &OsBytes) -> Result<Told, AllocError>
         ensures { IfOk result (Tells executable.now (outcome_in decided)) }
     {
-        let reason = reason_of(alloc, &decided, executable)?;
-        let blocker = blocker_of(alloc, &decided)?;
-        let beware = options_to_beware_of(alloc, &decided)?;
+        let remarks = remarks_on(alloc, &decided, executable)?;
         Ok(Told {
             decided,
-            reason,
-            blocker,
-            beware,
+            reason: remarks.reason,
+            blocker: remarks.blocker,
+            beware: remarks.beware,
         })
     }
 }

@@ -86,6 +86,43 @@ fn is_of(line: &CommandLine, kept: &KeptManifest, key: &EntryKey) -> bool {
         && kept.key == key.key
 }
 
+/// What came, where it is sealed and of this key.
+fn manifest_in(
+    alloc: Global,
+    line: &CommandLine,
+    key: &EntryKey,
+    bytes: &[u8],
+) -> Result<Option<KeptManifest>, HostError> {
+    match unseal::<Blake2b256, KeptManifest>(alloc, bytes)? {
+        Some(kept) if is_of(line, &kept, key) => Ok(Some(kept)),
+        _ => Ok(None),
+    }
+}
+
+/// What a manifest has beside its results, with the states that folders and names have here.
+fn watched_here<R: Files + AllocGlobal>(
+    rt: &R,
+    line: &CommandLine,
+    watched: &OsBytes,
+) -> Result<OsBytes, HostError> {
+    let before = settled_before(line.moment);
+    let lists = lists_in(watched.as_bytes());
+    let taken = lists_taken(rt, line.dir.as_bytes(), lists, before)?;
+    watched_with(rt.alloc(), taken.as_slice())
+}
+
+/// Keeps a manifest here under this name, as far as it can.
+fn keep_manifest<R: Files + AllocGlobal>(
+    rt: &R,
+    line: &CommandLine,
+    own: &str,
+    kept: &KeptManifest,
+) -> Result<(), HostError> {
+    let ours = seal::<Blake2b256, KeptManifest>(rt.alloc(), kept)?;
+    keep_here(rt, line, Kind::Manifests, own, ours.as_slice());
+    Ok(())
+}
+
 /// Takes a manifest that came, and keeps it with the states of this machine. What isn't sealed, or is of another key, is as if the server had
 /// failed.
 fn take_manifest<R: Files + AllocGlobal, I>(
@@ -98,24 +135,12 @@ fn take_manifest<R: Files + AllocGlobal, I>(
 ) -> Result<Option<FoundManifest>, HostError>
     ensures { host.new.compiled ≡ host.old.compiled }
 {
-    let alloc = rt.alloc();
-    let mut kept = match unseal::<Blake2b256, KeptManifest>(alloc, bytes)? {
-        Some(kept) if is_of(line, &kept, key) => kept,
-        _ => {
-            note_failure(rt, line, host)?;
-            return Ok(None);
-        }
+    let Some(mut kept) = manifest_in(rt.alloc(), line, key, bytes)? else {
+        note_failure(rt, line, host)?;
+        return Ok(None);
     };
     note_sealed(rt, line)?;
-    let before = settled_before(line.moment);
-    let lists = lists_taken(
-        rt,
-        line.dir.as_bytes(),
-        lists_in(kept.watched.as_bytes()),
-        before,
-    )?;
-    kept.watched = watched_with(alloc, lists.as_slice())?;
-    let ours = seal::<Blake2b256, KeptManifest>(alloc, &kept)?;
-    keep_here(rt, line, Kind::Manifests, own, ours.as_slice());
-    Ok(found_in(alloc, kept)?)
+    kept.watched = watched_here(rt, line, &kept.watched)?;
+    keep_manifest(rt, line, own, &kept)?;
+    Ok(found_in(rt.alloc(), kept)?)
 }

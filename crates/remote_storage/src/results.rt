@@ -73,6 +73,42 @@ pub fn fetched<P: Print + Files + AllocGlobal, I: Read>(
     }
 }
 
+/// What came, where it is sealed and of this key.
+fn result_in(alloc: Global, key: &StoreKey, bytes: &[u8]) -> Result<Option<KeptResult>, HostError> {
+    match unseal::<Blake2b256, KeptResult>(alloc, bytes)? {
+        Some(entry) if entry.digest == key.digest => Ok(Some(entry)),
+        _ => Ok(None),
+    }
+}
+
+/// Notes that what came is sealed, and keeps it here.
+fn keep_result<R: Files + AllocGlobal>(
+    rt: &R,
+    line: &CommandLine,
+    key: &StoreKey,
+    bytes: &[u8],
+) -> Result<(), HostError> {
+    note_sealed(rt, line)?;
+    keep_here(rt, line, Kind::Results, text_in(&key.digest)?, bytes);
+    Ok(())
+}
+
+/// Counts a result as a hit where the preprocessor printed these messages then.
+fn take_kept<I>(
+    alloc: Global,
+    host: &mut Host<I>,
+    entry: KeptResult,
+    messages: &[u8],
+) -> Result<Option<Kept>, HostError>
+    ensures { host.new.compiled ≡ host.old.compiled }
+{
+    if entry.messages.preprocessor.as_bytes() != messages {
+        return Ok(None);
+    }
+    host.tally.hits = host.tally.hits.saturating_add(1);
+    Ok(Some(kept_of(alloc, entry)?))
+}
+
 /// Takes what came under a key. What isn't sealed, or is of another key, is as if the server had failed.
 fn take_result<R: Files + AllocGlobal, I>(
     rt: &R,
@@ -84,18 +120,10 @@ fn take_result<R: Files + AllocGlobal, I>(
 ) -> Result<Option<Kept>, HostError>
     ensures { host.new.compiled ≡ host.old.compiled }
 {
-    let entry = match unseal::<Blake2b256, KeptResult>(rt.alloc(), bytes)? {
-        Some(entry) if entry.digest == key.digest => entry,
-        _ => {
-            note_failure(rt, line, host)?;
-            return Ok(None);
-        }
-    };
-    note_sealed(rt, line)?;
-    keep_here(rt, line, Kind::Results, text_in(&key.digest)?, bytes);
-    if entry.messages.preprocessor.as_bytes() != messages {
+    let Some(entry) = result_in(rt.alloc(), key, bytes)? else {
+        note_failure(rt, line, host)?;
         return Ok(None);
-    }
-    host.tally.hits = host.tally.hits.saturating_add(1);
-    Ok(Some(kept_of(rt.alloc(), entry)?))
+    };
+    keep_result(rt, line, key, bytes)?;
+    take_kept(rt.alloc(), host, entry, messages)
 }

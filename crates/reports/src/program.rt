@@ -48,11 +48,22 @@ fn text_of_report<D: Files>(
     database: &[u8],
 ) -> Result<String, ReportFault> {
     let compilers = Compilers::new(alloc)?;
-    if let Some(text) = report_without_files(alloc, &compilers, shape, database)? {
+    text_by(alloc, disk, &compilers, shape, database)
+}
+
+/// The report by these compilers.
+fn text_by<D: Files>(
+    alloc: Global,
+    disk: &D,
+    compilers: &Compilers,
+    shape: Shape,
+    database: &[u8],
+) -> Result<String, ReportFault> {
+    if let Some(text) = report_without_files(alloc, compilers, shape, database)? {
         return Ok(text);
     }
-    let files = snapshot_for(alloc, disk, &compilers, database)?;
-    report_with_files(alloc, &compilers, shape, database, files)
+    let files = snapshot_for(alloc, disk, compilers, database)?;
+    report_with_files(alloc, compilers, shape, database, files)
 }
 
 /// What the reader gives to its end.

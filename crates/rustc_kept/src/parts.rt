@@ -157,6 +157,47 @@ fn difference(alloc: Global, here: &[Row], there: &[Row]) -> Result<OsBytes, Hos
     }
 }
 
+/// What differs from the call of that name before this one; an empty text where there was none.
+fn difference_from<R: Files + AllocGlobal>(
+    rt: &R,
+    folder: &CacheDir,
+    name: &str,
+    parts: &PartRows,
+) -> Result<OsBytes, HostError> {
+    match kept_under(rt, folder, name)? {
+        Some(kept) => difference(rt.alloc(), parts.rows.as_slice(), kept.rows.as_slice()),
+        None => Ok(OsBytes::empty(rt.alloc())),
+    }
+}
+
+/// The parts of a call with what differs in them, as they are kept.
+fn kept_rows(
+    alloc: Global,
+    name: &str,
+    parts: &PartRows,
+    difference: &OsBytes,
+) -> Result<KeptManifest, HostError> {
+    Ok(KeptManifest {
+        zone: OsBytes::from_slice(alloc, OF_PARTS)?,
+        identity: OsBytes::empty(alloc),
+        key: OsBytes::from_slice(alloc, name.as_bytes())?,
+        results: parts.bytes(alloc)?,
+        watched: difference.clone()?,
+    })
+}
+
+/// Keeps them under that name.
+fn put_rows<R: Files + AllocGlobal>(
+    rt: &R,
+    folder: &CacheDir,
+    name: &str,
+    kept: &KeptManifest,
+) -> Result<(), HostError> {
+    let bytes = seal::<Blake2b256, KeptManifest>(rt.alloc(), kept)?;
+    folder.put(rt, Kind::Fingerprints, name, bytes.as_slice())?;
+    Ok(make_room(&rt, folder, &[name])?)
+}
+
 /// Keeps the parts of a call that was compiled, and what differs from those of the call before it with these outputs, which is told.
 pub fn note_parts<R: Files + AllocGlobal>(
     rt: &R,
@@ -164,23 +205,10 @@ pub fn note_parts<R: Files + AllocGlobal>(
     name: &str,
     parts: &PartRows,
 ) -> Result<String, HostError> {
-    let alloc = rt.alloc();
-    let watched = match kept_under(rt, folder, name)? {
-        Some(kept) => difference(alloc, parts.rows.as_slice(), kept.rows.as_slice())?,
-        None => OsBytes::empty(alloc),
-    };
-    let told = told_in(alloc, &watched)?;
-    let kept = KeptManifest {
-        zone: OsBytes::from_slice(alloc, OF_PARTS)?,
-        identity: OsBytes::empty(alloc),
-        key: OsBytes::from_slice(alloc, name.as_bytes())?,
-        results: parts.bytes(alloc)?,
-        watched,
-    };
-    let bytes = seal::<Blake2b256, KeptManifest>(alloc, &kept)?;
-    folder.put(rt, Kind::Fingerprints, name, bytes.as_slice())?;
-    make_room(&rt, folder, &[name])?;
-    Ok(told)
+    let difference = difference_from(rt, folder, name, parts)?;
+    let kept = kept_rows(rt.alloc(), name, parts, &difference)?;
+    put_rows(rt, folder, name, &kept)?;
+    told_in(rt.alloc(), &difference)
 }
 
 /// What a difference says; where it is empty, there was no call before.
@@ -191,14 +219,15 @@ fn told_in(alloc: Global, difference: &OsBytes) -> Result<String, HostError> {
     }
 }
 
-/// What is known of the last call of that name that was compiled, in a line.
+/// What is known in a cache directory of the last call of that name that was compiled, in a line.
 pub fn told_of_parts<R: Files + AllocGlobal>(
     rt: &R,
-    folder: &CacheDir,
+    dir: &str,
     name: &str,
 ) -> Result<String, HostError> {
     let alloc = rt.alloc();
-    match kept_under(rt, folder, name)? {
+    let folder = CacheDir::new(String::from_str(alloc, dir)?, String::new(alloc));
+    match kept_under(rt, &folder, name)? {
         None => Ok(String::from_str(alloc, "nothing is known")?),
         Some(kept) => told_in(alloc, &kept.difference),
     }

@@ -85,6 +85,44 @@ fn pairs_of(alloc: Global, outputs: Listed<KeptOutput>) -> Result<Pairs, AllocEr
     Ok(pairs)
 }
 
+/// What lies under a key.
+fn kept_under<R: Files + AllocGlobal>(
+    rt: &R,
+    line: &CommandLine,
+    key: &StoreKey,
+) -> Result<Option<KeptCrate>, HostError> {
+    match line.folder.read(rt, Kind::Results, text_in(&key.digest)?) {
+        Ok(bytes) => Ok(unseal::<Blake2b256, KeptCrate>(rt.alloc(), bytes.as_slice())?),
+        Err(_) => Ok(None),
+    }
+}
+
+/// Its messages as they are for this call. Nothing where they are of another key, or of a terminal of another width.
+fn errors_of(
+    alloc: Global,
+    kept: &KeptCrate,
+    key: &StoreKey,
+    wishes: Wishes<'_>,
+) -> Result<Option<Vec<u8>>, HostError> {
+    let width = kept.width.as_bytes();
+    let is_alike = width.is_empty() || width == wishes.width;
+    if !is_alike || kept.key.as_bytes() != digest_of_key(alloc, key)?.as_bytes() {
+        return Ok(None);
+    }
+    let folder = kept.folder.as_bytes();
+    Ok(moved(alloc, kept.errors.as_bytes(), folder, wishes.folder)?)
+}
+
+/// The outputs under their key.
+fn pair_of(
+    alloc: Global,
+    key: &StoreKey,
+    outputs: Listed<KeptOutput>,
+) -> Result<(StoreKey, Pairs), AllocError> {
+    let pairs = pairs_of(alloc, outputs)?;
+    Ok((key.clone()?, pairs))
+}
+
 /// What is kept under a key, where its messages can be those of this call. Nothing where all is to be kept anew.
 pub fn found<R: Files + AllocGlobal>(
     rt: &R,
@@ -95,23 +133,13 @@ pub fn found<R: Files + AllocGlobal>(
     if line.settings.is_on(Key::Recache) {
         return Ok(None);
     }
-    let alloc = rt.alloc();
-    let Ok(bytes) = line.folder.read(rt, Kind::Results, text_in(&key.digest)?) else {
+    let Some(kept) = kept_under(rt, line, key)? else {
         return Ok(None);
     };
-    let Some(kept) = unseal::<Blake2b256, KeptCrate>(alloc, bytes.as_slice())? else {
+    let Some(errors) = errors_of(rt.alloc(), &kept, key, wishes)? else {
         return Ok(None);
     };
-    let is_alike = kept.width.as_bytes().is_empty() || kept.width.as_bytes() == wishes.width;
-    if !is_alike || kept.key.as_bytes() != digest_of_key(alloc, key)?.as_bytes() {
-        return Ok(None);
-    }
-    let folder = kept.folder.as_bytes();
-    let Some(errors) = moved(alloc, kept.errors.as_bytes(), folder, wishes.folder)? else {
-        return Ok(None);
-    };
-    let pairs = pairs_of(alloc, kept.outputs)?;
-    let pair = (key.clone()?, pairs);
+    let pair = pair_of(rt.alloc(), key, kept.outputs)?;
     Ok(Some(FoundCrate { pair, errors }))
 }
 
@@ -126,6 +154,27 @@ fn kept_outputs(alloc: Global, outputs: &[Output]) -> Result<Listed<KeptOutput>,
     Ok(kept)
 }
 
+/// Outputs and what was printed beside them, as they are kept under their key.
+fn kept_crate(
+    alloc: Global,
+    key: &StoreKey,
+    outputs: &[Output],
+    errors: &OsBytes,
+    wishes: Wishes<'_>,
+) -> Result<KeptCrate, HostError> {
+    let width = match are_notices(errors.as_bytes()) {
+        true => &[],
+        false => wishes.width,
+    };
+    Ok(KeptCrate {
+        key: OsBytes::from_vec(digest_of_key(alloc, key)?.into_bytes()),
+        folder: OsBytes::from_slice(alloc, wishes.folder)?,
+        width: OsBytes::from_slice(alloc, width)?,
+        errors: errors.clone()?,
+        outputs: kept_outputs(alloc, outputs)?,
+    })
+}
+
 /// Keeps outputs under their key with what was printed beside them, where they aren't too large for the limit.
 pub fn keep<R: Files + AllocGlobal>(
     rt: &R,
@@ -135,19 +184,8 @@ pub fn keep<R: Files + AllocGlobal>(
     errors: &OsBytes,
     wishes: Wishes<'_>,
 ) -> Result<(), HostError> {
-    let alloc = rt.alloc();
-    let width = match are_notices(errors.as_bytes()) {
-        true => &[],
-        false => wishes.width,
-    };
-    let kept = KeptCrate {
-        key: OsBytes::from_vec(digest_of_key(alloc, key)?.into_bytes()),
-        folder: OsBytes::from_slice(alloc, wishes.folder)?,
-        width: OsBytes::from_slice(alloc, width)?,
-        errors: errors.clone()?,
-        outputs: kept_outputs(alloc, outputs)?,
-    };
-    let bytes = seal::<Blake2b256, KeptCrate>(alloc, &kept)?;
+    let kept = kept_crate(rt.alloc(), key, outputs, errors, wishes)?;
+    let bytes = seal::<Blake2b256, KeptCrate>(rt.alloc(), &kept)?;
     let folder = &line.folder;
     if !takes(folder.limit, bytes.len() as u64) {
         return Ok(());
