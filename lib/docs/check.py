@@ -1,0 +1,310 @@
+#!/usr/bin/env python3
+"""check.py: whether the documents name what is there, and name all that they have to. Prints each place where they don't. The last line is
+'N passed, M failed'."""
+
+import fnmatch
+import glob
+import os
+import re
+import sys
+
+sys.dont_write_bytecode = True
+
+from documents import Document, names_in  # noqa: E402
+from sources import Sources, read  # noqa: E402
+
+TOP = os.path.dirname(os.path.dirname(os.path.dirname(os.path.realpath(__file__))))
+MANUAL = "share/gulmaat.1"
+COMPLETIONS = ("share/gulmaat.bash", "share/gulmaat.fish", "share/_gulmaat")
+# What may be a path, as a word in backticks, and what is one anywhere in a text.
+PATH = re.compile(r"[\w.~@+*/-]*(?:/[\w.~@+*/-]*|\.(?:md|rt|antt|edit|py|bash|c|h|js|css|json|out|txt|fish|png))")
+TOP_PATH = re.compile(r"(?<![\w./~@*-])(?:\.\./gulmaat/)?((?:bench|bin|crates|docs|examples|host|lib|share)/[\w./*-]*|[A-Z]+\.md|crates\.txt)")
+COMMAND = re.compile(r"(?:^|[\s(;|])(?:\.\./gulmaat/)?(bin/[a-z-]+|gulmaat|\"\$launcher\")(?= |$)([^\n]*)")
+OPTION = r"(?<![\w-])--?[a-zA-Z][\w-]*"
+# Names of several words: those with a line below, and those with a capital within.
+NAME = re.compile(r"\b(?:[A-Za-z]+\w*_\w*[A-Za-z0-9]|[A-Z][a-z]\w*[A-Z]\w*)\b")
+
+
+class Exceptions:
+    """What is no name of ours: of each kind patterns of the shell, in lib/docs/exceptions."""
+
+    def __init__(self):
+        rows = [line.split("\t") for line in read(f"{TOP}/lib/docs/exceptions").splitlines() if line and line[0] != "#"]
+        self.patterns = [(kind, pattern) for kind, pattern, _ in rows]
+        self.used = set()
+
+    def has(self, kind, name):
+        """Whether a name is one."""
+        found = [row for row in self.patterns if row[0] == kind and fnmatch.fnmatchcase(name, row[1])]
+        self.used.update(found)
+        return bool(found)
+
+
+class Check:
+    """Counts what is right, and prints what isn't."""
+
+    def __init__(self):
+        self.passed = self.failed = 0
+        self.exceptions, self.sources = Exceptions(), Sources(TOP)
+        paths = [*sorted(glob.glob("*.md", root_dir=TOP)), *sorted(glob.glob("docs/*.md", root_dir=TOP))]
+        paths += ["bench/README.md", "examples/README.md"]
+        self.documents = {path: Document(path, read(f"{TOP}/{path}")) for path in paths}
+        self.settings = self.sources.settings()
+        # Without what formats it.
+        self.manual = Document(MANUAL, re.sub(r"\\f[A-Z]|\\&", "", read(f"{TOP}/{MANUAL}").replace("\\-", "-")))
+
+    def is_so(self, is_right, place, what):
+        """Notes whether something is right."""
+        if is_right:
+            self.passed += 1
+        else:
+            self.failed += 1
+            print(f"{place}: {what}")
+
+    def is_known(self, is_right, kind, name, place):
+        """Notes whether a name is known, or an exception."""
+        self.is_so(self.exceptions.has(kind, name) or is_right, place, f"no such {kind}: {name}")
+
+    # ---- Files and folders.
+
+    def paths(self):
+        """Each path in backticks is there, and each one below a folder of the repository, wherever it stands."""
+        for path, document in self.documents.items():
+            words = [(line, word.strip("\"'()[],:;").removesuffix("..")) for line, span in document.spans() for word in span.split()]
+            found = {(line, word.rstrip(".")) for line, word in words if PATH.fullmatch(word) and re.search(r"\w.*\W|/\w", word)}
+            found |= {(line, it[1].rstrip(".")) for line, it in document.found(TOP_PATH)}
+            for line, name in sorted(found):
+                self.is_known(self.sources.has_path(name, document.folder), "path", name, f"{path}:{line}")
+
+    def links(self):
+        """Each link leads to a file that is there, and to a heading of it; so does each reference to a heading in quotes."""
+        for path, document in self.documents.items():
+            for line, link in document.links():
+                if re.match(r"\w+:", link):
+                    continue
+                name, _, anchor = link.partition("#")
+                place = os.path.normpath(os.path.join(document.folder, name)) if name else path
+                is_there = os.path.exists(f"{TOP}/{place}")
+                if is_there and anchor:
+                    is_there = place.endswith(".md") and anchor in Document(place, read(f"{TOP}/{place}")).anchors()
+                self.is_so(is_there, f"{path}:{line}", f"no such link: {link}")
+            for line, it in document.found(r"\b((?:docs/)?[A-Z-]+\.md)(?:,\s+|\s+\()\"([^\"]+)\""):
+                other = self.documents.get(it[1]) or self.documents.get(f"docs/{it[1]}")
+                title = " ".join(it[2].split())
+                self.is_so(other and other.has_heading(title), f"{path}:{line}", f"no such heading in {it[1]}: {title}")
+
+    # ---- Commands.
+
+    def commands(self):
+        """Each command of bin/ and each call of gulmaat has the options and words that are shown."""
+        for path, document in self.documents.items():
+            for line, code in [*document.code(), *document.spans()]:
+                for it in COMMAND.finditer(code):
+                    words = re.split(r" {2,}|[#|<>;`)&]", it[2].strip())[0].replace("[", "").replace("]", "").split()
+                    self.command(it[1], words, f"{path}:{line}")
+
+    def command(self, name, words, place):
+        """The words of one command."""
+        if name.startswith("bin/"):
+            self.is_known(os.path.exists(f"{TOP}/{name}"), "path", name, place)
+        if name in ("bin/gulmaat", "gulmaat", '"$launcher"'):
+            self.call(words, place)
+            return
+        text = self.sources.script_texts(name)
+        for word in words:
+            option = word.partition("=")[0]
+            if re.fullmatch(r"--?[a-z][\w-]*", option):
+                self.is_so(re.search(rf"(?<![\w-]){option}(?![\w-])", text), place, f"no such option of {name}: {option}")
+            elif re.fullmatch(r"[a-z][\w-]*", word) and not name.startswith("bin/sccache-"):
+                is_there = word in self.sources.crates or re.search(rf"(?<![\w-]){word}(?![\w-])", text)
+                self.is_known(is_there, "word of a command", word, place)
+
+    def call(self, words, place):
+        """The options of a call of gulmaat, which stand ahead of a compiler's name."""
+        words = list(words)
+        while words and words[0].startswith("-"):
+            option, _, value = words.pop(0).partition("=")
+            self.is_so(option in self.sources.taken_options(), place, f"no such option of gulmaat: {option}")
+            if option in ("-o", "--set-config") and (value or words):
+                key = (value or words.pop(0)).strip("'\"").partition("=")[0]
+                self.is_known(key in self.settings, "key", key, place)
+            elif option in ("--page", "--trace", "--compare", "-d", "--dir", "-k", "--get-config", "-M", "--max-size") and words:
+                words.pop(0)
+            elif option in ("--audit", "--why"):
+                return
+
+    # ---- Names.
+
+    def names(self):
+        """Each name of several words in backticks stands in the sources, and each long option. Columns about other caches are left out."""
+        for path, document in self.documents.items():
+            for line, span in document.own_spans():
+                for name in NAME.findall(" ".join(word for word in span.split() if not PATH.fullmatch(word))):
+                    self.is_known(name in self.sources.words, "name", name, f"{path}:{line}")
+                for option in re.findall(r"(?<![\w-])--[a-z][\w-]*", span):
+                    self.is_known(option in self.sources.options, "option", option, f"{path}:{line}")
+
+    # ---- Settings and variables.
+
+    def variables(self):
+        """Each variable and key in the documents is one of the program's, and the other way round."""
+        ours = {variable for variable, _ in self.settings.values()} | self.sources.host_variables()
+        known = ours | self.sources.script_variables()
+        for path, document in [*self.documents.items(), (MANUAL, self.manual)]:
+            for line, it in document.found(r"(?<![A-Z_])GULMAAT_[A-Z_]*[A-Z]"):
+                self.is_so(it[0] in known, f"{path}:{line}", f"no such variable: {it[0]}")
+        for variable in sorted(ours):
+            for path, text in (("docs/WRAPPER.md", self.documents["docs/WRAPPER.md"].text), (MANUAL, self.manual.text)):
+                self.is_so(re.search(rf"{variable}(?![A-Z_])", text), path, f"lacks the variable {variable}")
+
+    def keys(self):
+        """Each key in the documents is one, and each is told with its variable and its usual value."""
+        for path, document in self.documents.items():
+            rows = [(line, names_in(cells[0]), cells) for line, head, cells in document.rows() if head[0] == "key"]
+            keys = {(line, name) for line, names, _ in rows for name in names}
+            keys |= {(line, it[1]) for line, span in document.spans() if (it := re.match(r"([a-z_]+) ?= ?\S+$", span)) and "_" in it[1]}
+            for line, key in sorted(keys):
+                self.is_known(key in self.settings, "key", key, f"{path}:{line}")
+            for line, names, cells in rows:
+                for key in names:
+                    if key in self.settings:
+                        self.is_so(f"`{self.settings[key][0]}`" in cells[1], f"{path}:{line}", f"{key} has another variable")
+        told = self.keys_in("docs/WRAPPER.md")
+        compared = self.keys_in("docs/FROM-CCACHE.md")
+        manual = dict(re.findall(r'^\.BR (\w+) " \(" (\w+) \)', self.manual.text, re.M))
+        for key, (variable, usual) in self.settings.items():
+            cell = told.get(key, ["", "", ""])[2]
+            is_told = key in told and (cell == f"`{usual}`" if usual else "`" not in cell)
+            self.is_so(is_told, "docs/WRAPPER.md", f"{key} isn't told, or with another value where it isn't set than {usual or 'none'}")
+            self.is_so(key in compared, "docs/FROM-CCACHE.md", f"lacks the key {key}")
+            self.is_so(manual.get(key) == variable, MANUAL, f"lacks the key {key} with {variable}")
+            for path in COMPLETIONS:
+                self.is_so(re.search(rf"\b{key}\b", self.sources.text_of(path)), path, f"lacks the key {key}")
+        self.is_so(set(manual) <= set(self.settings), MANUAL, f"no such key: {' '.join(set(manual) - set(self.settings))}")
+
+    def keys_in(self, path):
+        """The rows of a document's tables of keys, by the key."""
+        return {names_in(cells[0])[0]: cells for _, head, cells in self.documents[path].rows() if head[0] == "key" and names_in(cells[0])}
+
+    # ---- Options of gulmaat.
+
+    def completed(self, path):
+        """The options that a file of completions offers."""
+        text = re.sub(r"^#.*", "", self.sources.text_of(path), flags=re.M)
+        if path.endswith(".bash"):
+            return set(re.findall(OPTION, " ".join(re.findall(r"-W \"(-[^\"]*)\"", text))))
+        if path.endswith(".fish"):
+            return {f"-{it}" for it in re.findall(r" -s (\w)", text)} | {f"--{it}" for it in re.findall(r" -l ([\w-]+)", text)}
+        return set(re.findall(OPTION, " ".join(re.findall(r"^ +(\S*'[^'\[]*(?:'\{[^}]*\}'?)?)", text, re.M))))
+
+    def options(self):
+        """Each option of the help stands in the manual page and in the completions, and each of these in the help; and the program takes it."""
+        helped = set(re.findall(OPTION, self.sources.text_of("crates/gulmaat/stdout")))
+        places = [("manual", MANUAL, set(re.findall(OPTION, self.manual.text)))]
+        places += [("completions", path, self.completed(path)) for path in COMPLETIONS]
+        places.append(("program", "crates/user_options/src/asked.rt", self.sources.taken_options()))
+        for kind, path, options in places:
+            for option in sorted(helped - options):
+                self.is_so(self.exceptions.has("option of the help", f"{kind} {option}"), path, f"lacks the option {option} of the help")
+            for option in sorted(options - helped):
+                self.is_so(self.exceptions.has("other option", f"{kind} {option}"), path, f"has the option {option}, which the help lacks")
+            self.passed += len(helped & options)
+
+    # ---- Crates and what they promise.
+
+    def crates(self):
+        """crates.txt has all crates, each has a row in docs/LAYERS.md, and what it stands on there is what crates.txt says."""
+        layers = self.documents["docs/LAYERS.md"]
+        crates = self.sources.crates
+        folders = {it.split("/")[1] for it in glob.glob("crates/*/src", root_dir=TOP)}
+        for crate in sorted(set(crates) ^ folders):
+            self.is_so(False, "crates.txt", f"is at variance with crates/: {crate}")
+        for _, span in layers.spans():
+            if span.endswith("_tests") and span != "NAME_tests":
+                self.is_so(span in crates, layers.path, f"no such crate: {span}")
+        told = {name for _, head, cells in layers.rows() if head[:2] == ["crate", "stands on"] for name in names_in(cells[0])}
+        for crate in crates:
+            is_tests = crate.endswith("_tests") and crate.removesuffix("_tests") in crates
+            self.is_so(crate in told or is_tests, layers.path, f"lacks the crate {crate}")
+        for line, head, cells in layers.rows():
+            if head[:2] == ["crate", "stands on"] and cells[0] != "`NAME_tests`":
+                for crate in names_in(cells[0]):
+                    self.stands_on(crate, cells[1], f"{layers.path}:{line}")
+            elif head[:2] == ["crate", "laws"]:
+                for law in names_in(cells[1]):
+                    self.is_so(self.sources.defines(names_in(cells[0])[0], law), f"{layers.path}:{line}", f"no such law: {law}")
+            elif head[1:3] == ["station", "crate"]:
+                for part in re.findall(r"\w+", cells[1]):
+                    is_there = any(self.sources.defines(crate, part) for crate in names_in(cells[2]))
+                    self.is_so(is_there, f"{layers.path}:{line}", f"no such station in {cells[2]}: {part}")
+
+    def stands_on(self, crate, cell, place):
+        """What a crate stands on, as a cell of docs/LAYERS.md has it: crates, perhaps with what these stand on but for one."""
+        if crate not in self.sources.crates:
+            self.is_so(False, place, f"no such crate: {crate}")
+            return
+        said = set(names_in(re.sub(r" but `\w+`", "", cell))) - self.sources.libraries
+        for other in sorted(said):
+            self.is_so(other in self.sources.below(crate), place, f"{crate} doesn't stand on {other}")
+        reached = said.union(*(self.sources.below(other) for other in said)) if "what" in cell else said
+        lacking = self.sources.crates[crate] - reached
+        self.is_so(not lacking, place, f"{crate} stands on {' '.join(sorted(lacking))} too")
+        if "what" not in cell:
+            more = said - self.sources.crates[crate]
+            self.is_so(not more, place, f"{crate} uses no name of {' '.join(sorted(more))}")
+
+    def promises(self):
+        """In docs/PROVED.md each crate at the head of a table is one, and has what the table's first column names."""
+        proved = self.documents["docs/PROVED.md"]
+        crates = []
+        rows = {line: cells for line, head, cells in proved.rows() if head[0] == "function"}
+        for number, text in enumerate(proved.lines, 1):
+            head = re.match(r"\*\*(.*?)\*\*", text)
+            if head:
+                crates = names_in(head[1])
+                for crate in crates:
+                    self.is_so(crate in self.sources.crates, f"{proved.path}:{number}", f"no such crate: {crate}")
+            if number in rows:
+                self.promise(rows[number][0], crates, f"{proved.path}:{number}")
+
+    def promises_elsewhere(self):
+        """Names in backticks with a crate in brackets behind them are defined in that crate."""
+        for path, document in self.documents.items():
+            for line, it in document.found(r"((?:`[\w:]+`(?:, | and |,\n| and\n))*`[\w:]+`)\s+\(`crates/(\w+)`\)"):
+                self.promise(it[1], [it[2]], f"{path}:{line}")
+
+    def promise(self, cell, crates, place):
+        """The names of a cell are defined in these crates, or in the one that is named behind them."""
+        cell, _, other = cell.partition(" (of `")
+        if other:
+            crates = [other.partition("`")[0]]
+        for name in re.findall(r"[A-Za-z]\w*", " ".join(re.findall(r"`([^`]*)`", cell))):
+            is_there = any(self.sources.defines(crate, name) for crate in crates)
+            self.is_known(is_there, "promise", f"{' '.join(crates)}::{name}", place)
+
+    def trusted(self):
+        """Each library that crates use stands among what is trusted, wherever that is listed, and each document names one kit."""
+        kits = {}
+        for path, document in self.documents.items():
+            for _, it in document.found(r"kit `([^`]*logic [^`]*)`"):
+                kits[path] = it[1]
+        self.is_so(len(set(kits.values())) == 1, ", ".join(kits), f"several kits: {', '.join(sorted(set(kits.values())))}")
+        for path in ("README.md", "docs/PROVED.md"):
+            listed = [it[0] for _, it in self.documents[path].found(r"(?:\*\*)?Trusted(?:\*\*)?: (?:[^\n]|\n(?!\n|- ))*")]
+            self.is_so(len(listed) == 1, path, "lists what is trusted not once")
+            for library in sorted(self.sources.libraries):
+                self.is_so(f"`{library}`" in " ".join(listed), path, f"doesn't list {library} as trusted")
+
+    def run(self):
+        """All checks. Gives whether any failed."""
+        for check in (self.paths, self.links, self.commands, self.names, self.variables, self.keys, self.options, self.crates, self.promises,
+                      self.promises_elsewhere, self.trusted):
+            check()
+        for row in self.exceptions.patterns:
+            self.is_so(row in self.exceptions.used, "lib/docs/exceptions", f"nothing needs: {' '.join(row)}")
+        print(f"{self.passed} passed, {self.failed} failed")
+        return self.failed != 0
+
+
+if __name__ == "__main__":
+    sys.exit(Check().run())
