@@ -48,7 +48,7 @@ const MEMBERS: [&str; 12] = [
 
 #[test]
 fn directives_take_in_files(_rt: HostRuntime) -> Result<(), Fail> {
-    for text in DIRECTIVES.iter() {
+    for text in DIRECTIVES {
         if !takes_files(text.as_bytes()) {
             return Err(text.into());
         }
@@ -58,7 +58,7 @@ fn directives_take_in_files(_rt: HostRuntime) -> Result<(), Fail> {
 
 #[test]
 fn members_and_paths_take_in_none(_rt: HostRuntime) -> Result<(), Fail> {
-    for text in MEMBERS.iter() {
+    for text in MEMBERS {
         if takes_files(text.as_bytes()) {
             return Err(text.into());
         }
@@ -94,8 +94,8 @@ const SAME: [(&str, i64, &str); 6] = [
 
 #[test]
 fn a_time_of_the_call_is_told(_rt: HostRuntime) -> Result<(), Fail> {
-    for (text, moment, zone) in TOLD.iter() {
-        if !tells_time(text.as_bytes(), *moment, zone) {
+    for (text, moment, zone) in TOLD {
+        if !tells_time(text.as_bytes(), moment, zone) {
             return Err(text.into());
         }
     }
@@ -104,8 +104,8 @@ fn a_time_of_the_call_is_told(_rt: HostRuntime) -> Result<(), Fail> {
 
 #[test]
 fn other_times_are_the_texts_own(_rt: HostRuntime) -> Result<(), Fail> {
-    for (text, moment, zone) in SAME.iter() {
-        if tells_time(text.as_bytes(), *moment, zone) {
+    for (text, moment, zone) in SAME {
+        if tells_time(text.as_bytes(), moment, zone) {
             return Err(text.into());
         }
     }
