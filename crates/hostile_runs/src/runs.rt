@@ -231,15 +231,6 @@ fn turns_of<
     Ok(Run { turns, end })
 }
 
-/// A scripted tool of this configuration.
-fn tool_of(alloc: Global, config: KeyConfig) -> Result<ScriptTool, AllocError> {
-    let trees = Trees::new(alloc)?;
-    let print: StatusOf = Box::new(alloc, |text: &[u8]| print_status(text))?;
-    let compile: StatusOf = Box::new(alloc, |text: &[u8]| error_status(text))?;
-    let statuses = Statuses::new(print, compile);
-    Ok(ScriptTool::new(config, CrateTexts::empty(alloc), trees, statuses))
-}
-
 /// Serves the calls by a scripted tool of this configuration. One call of each device fails.
 fn run_calls<E: Watched<EntryKey, PreprocessorCacheEntry>, O: Watched<StoreKey, Pairs>>(
     alloc: Global,
@@ -248,7 +239,12 @@ fn run_calls<E: Watched<EntryKey, PreprocessorCacheEntry>, O: Watched<StoreKey, 
     limits: Limits,
     session: &mut Session<Sha256, E, O>,
 ) -> Result<Run, AllocError> {
-    let mut tool = FailTool::new(tool_of(alloc, config)?, limits.tool);
+    let trees = Trees::new(alloc)?;
+    let print: StatusOf = Box::new(alloc, |text: &[u8]| print_status(text))?;
+    let compile: StatusOf = Box::new(alloc, |text: &[u8]| error_status(text))?;
+    let statuses = Statuses::new(print, compile);
+    let tool = ScriptTool::new(config, CrateTexts::empty(alloc), trees, statuses);
+    let mut tool = FailTool::new(tool, limits.tool);
     turns_of(alloc, calls, limits.files, session, &mut tool)
 }
 
