@@ -81,11 +81,11 @@ fn rust(alloc: Global) -> Result<Rust, Fail> {
 
 /// The request of these words to it in `/w`.
 fn request(alloc: Global, line: &str) -> Result<Request, Fail> {
-    let compiler = Compiler::Rust(rust(alloc)?);
     let words = Listed::from_vec(words(alloc, line)?);
     let dir = bytes_of(alloc, "/w")?;
+    let rust = rust(alloc)?;
     Ok(Request {
-        compiler,
+        compiler: Compiler::Rust(rust),
         words,
         dir,
         env: Listed::new(alloc),
@@ -144,16 +144,21 @@ fn made(alloc: Global) -> Result<RecordedCrate, AllocError> {
     })
 }
 
-/// All that is recorded of the first request, with these words on names.
-fn whole(alloc: Global, on_names: &str) -> Result<RecordedRustc, AllocError> {
-    let mut rustc = RecordedRustc::new(alloc);
+/// Records all of the first request, with these words on names.
+fn record(alloc: Global, on_names: &str, rustc: &mut RecordedRustc) -> Result<(), AllocError> {
     rustc.dep_info = Some(told(alloc, ON_DEPENDENCIES, DEPENDENCIES)?);
     rustc.file_names = Some(told(alloc, on_names, "libfoo.rlib\n")?);
     rustc.outputs = Some(made(alloc)?);
     let path = bytes_of(alloc, "/w/lib/libz.a")?;
     let digest = bytes_of(alloc, OF_NOTHING)?;
-    let before = rustc.digests.insert(path, digest)?;
-    drop(before);
+    rustc.digests.insert(path, digest)?;
+    Ok(())
+}
+
+/// All that is recorded of the first request, with these words on names.
+fn whole(alloc: Global, on_names: &str) -> Result<RecordedRustc, AllocError> {
+    let mut rustc = RecordedRustc::new(alloc);
+    record(alloc, on_names, &mut rustc)?;
     Ok(rustc)
 }
 
@@ -272,20 +277,27 @@ fn session(
     Ok(session_over::<Sha256>(alloc, config, None, kept))
 }
 
-/// What a session over what is kept answers the request by what is recorded.
+/// What a session over what is kept answers this request by what is recorded.
+fn answer(
+    alloc: Global,
+    request: &Request,
+    tool: &mut ReplayTool,
+    kept: Option<(StoreKey, Pairs)>,
+) -> Result<SessionAnswer<Sha256>, Fail> {
+    let session = session(alloc, kept)?;
+    let mut files = files(alloc)?;
+    Ok(answered::<Sha256>(session, request, &mut files, tool))
+}
+
+/// What it answers the request of these words.
 fn ask(
     alloc: Global,
     line: &str,
     tool: &mut ReplayTool,
     kept: Option<(StoreKey, Pairs)>,
 ) -> Result<SessionAnswer<Sha256>, Fail> {
-    let session = session(alloc, kept)?;
     let request = request(alloc, line)?;
-    let mut files = files(alloc)?;
-    let told = answered::<Sha256>(session, &request, &mut files, tool);
-    drop(request);
-    drop(files);
-    Ok(told)
+    answer(alloc, &request, tool, kept)
 }
 
 /// What is told by an answer, and of what is lacking.
@@ -300,18 +312,26 @@ fn text_of(
     Ok(text)
 }
 
-/// What the first request is told where what is recorded of it is changed so.
-fn told_with(alloc: Global, change: Change) -> Result<String, Fail> {
+/// What the first request is told by what this tool recorded.
+fn told_by_tool(alloc: Global, tool: &mut ReplayTool) -> Result<String, Fail> {
+    let told = ask(alloc, FIRST, tool, None)?;
+    Ok(text_of(alloc, &told, tool)?)
+}
+
+/// What is recorded of the first request, changed so.
+fn changed(alloc: Global, change: Change) -> Result<RecordedRustc, AllocError> {
     let mut rustc = whole(alloc, ON_NAMES)?;
     change_told(alloc, &mut rustc, change)?;
     change_made(alloc, &mut rustc, change)?;
+    Ok(rustc)
+}
+
+/// What the first request is told where what is recorded of it is changed so.
+fn told_with(alloc: Global, change: Change) -> Result<String, Fail> {
+    let rustc = changed(alloc, change)?;
     let mut tool = ReplayTool::new();
     tool.rustc = Some(rustc);
-    let told = ask(alloc, FIRST, &mut tool, None)?;
-    let text = text_of(alloc, &told, &tool);
-    drop(told);
-    drop(tool);
-    Ok(text?)
+    told_by_tool(alloc, &mut tool)
 }
 
 /// What is lacking in each case: the fault, the words, and the path of what they are to make.
