@@ -2,7 +2,7 @@
 
 ghost use Rattle.std.specs.Prelude.{◌≡◌, ◌≤◌};
 
-use crate::finishing::{can_give, give, keep_made};
+use crate::finishing::{give, have_places, keep_made, paths_of};
 use crate::known::KnownCrate;
 use blake2::Blake2b256;
 use ckeys_records::config::ConfigError;
@@ -268,13 +268,14 @@ fn act_on_hit<P: Files<File = File> + AllocGlobal>(
     dep_info: Option<&OsBytes>,
     known: &mut KnownCrate,
 ) -> Result<Option<RustcEnd>, HostError> {
-    if !can_give(rt, line, outputs, known)? {
+    let paths = paths_of(rt.alloc(), line, outputs)?;
+    if !have_places(rt, paths.as_slice(), known.dep_info.as_ref())? {
         return Ok(Some(pass(rt.alloc(), "output is no plain file", None)?));
     }
     if known.is_to_audit(rt.alloc(), line, key, how, outputs, dep_info)? {
         return Ok(None);
     }
-    give(rt, line, key, outputs, dep_info, known)?;
+    give(rt, line, key, outputs, paths.as_slice(), dep_info, known)?;
     Ok(Some(RustcEnd {
         what: RustcWhat::Done(how),
         audit: Audit::None,

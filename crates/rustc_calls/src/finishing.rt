@@ -33,7 +33,7 @@ fn is_replaced<R: Files>(rt: &R, path: &str) -> bool {
 }
 
 /// The paths of outputs, from the folder of the call.
-fn paths_of(
+pub(crate) fn paths_of(
     alloc: Global,
     line: &CommandLine,
     outputs: &[Output],
@@ -78,8 +78,9 @@ fn put_outputs<R: Files + AllocGlobal>(
     Ok(())
 }
 
-/// Whether kept outputs and a text on dependencies can be put where the call wants them as rustc would.
-fn have_places<R: Files>(
+/// Whether kept outputs and a text on dependencies can be put where the call wants them: where something else than a plain file lies in their
+/// places rustc writes as it does.
+pub(crate) fn have_places<R: Files>(
     rt: &R,
     paths: &[OsBytes],
     dep_info: Option<&OsBytes>,
@@ -92,33 +93,22 @@ fn have_places<R: Files>(
     Ok(true)
 }
 
-/// Whether kept outputs can be given: where something else than a plain file lies in their places rustc writes as it does.
-pub(crate) fn can_give<R: Files + AllocGlobal>(
-    rt: &R,
-    line: &CommandLine,
-    outputs: &[Output],
-    known: &KnownCrate,
-) -> Result<bool, HostError> {
-    let paths = paths_of(rt.alloc(), line, outputs)?;
-    have_places(rt, paths.as_slice(), known.dep_info.as_ref())
-}
-
-/// Gives kept outputs, the text on dependencies, and after them the messages.
+/// Gives kept outputs at these paths, the text on dependencies, and after them the messages.
 pub(crate) fn give<R: Files<File = File> + AllocGlobal>(
     rt: &R,
     line: &CommandLine,
     key: &StoreKey,
     outputs: &[Output],
+    paths: &[OsBytes],
     dep_info: Option<&OsBytes>,
     known: &KnownCrate,
 ) -> Result<(), HostError> {
-    let paths = paths_of(rt.alloc(), line, outputs)?;
     let place = known.dep_info.as_ref();
-    let locks = lock_paths(rt, line, paths.as_slice(), place);
+    let locks = lock_paths(rt, line, paths, place);
     if let (Some(place), Some(text)) = (place, dep_info) {
         replace(rt, line, place, text.as_bytes())?;
     }
-    put_outputs(rt, line, outputs, paths.as_slice())?;
+    put_outputs(rt, line, outputs, paths)?;
     drop(locks);
     if let Some(found) = &known.found_errors {
         fs::write(rt, line.errors.as_str(), found.as_bytes())?;

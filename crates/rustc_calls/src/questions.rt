@@ -134,7 +134,7 @@ fn joined(
     Ok(whole)
 }
 
-/// The contents of what a compile left in an output, where it left any.
+/// Whether a compile printed anything there. What can't be read may be something.
 fn has_output<P: Files + AllocGlobal>(rt: &P, place: &str) -> Result<bool, HostError> {
     match read_whole(rt, place) {
         Ok(bytes) => Ok(!bytes.is_empty()),
