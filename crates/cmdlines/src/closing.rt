@@ -1,6 +1,6 @@
 //! What a request comes to once all its words are read: it compiles one input, in a known language, into an output.
 
-ghost use Rattle.std.specs.Prelude.{◌≡◌, ◌∷◌, [], IfOk, MatchResult};
+ghost use Rattle.std.specs.Prelude.{◌≡◌, ◌∷◌, [], false, length, None, Some, IfErr, IfOk, OnOk, MatchOption, MatchResult};
 ghost use Rattle.std.specs.Option.{option_copied};
 ghost use Rattle.cmdlines.specs.Parsing.{decision_of, refused, closing, with_inputs, with_language, with_output, language_by_extension, language_for, known_language, object_extension, output_named_by, output_for, outputs_at, artifact_at, differ};
 
@@ -148,23 +148,109 @@ fn differ(values: &[OsBytes]) -> bool
     false
 }
 
-/// The one input among words, or why there is none.
-fn only(inputs: Listed<Input>) -> Result<Input, &'static str>
-    ensures { MatchResult result (λ input. inputs ≡ input ∷ [])
-        (λ reason. (kind : CCompilerKind) (f : Facts) (l : Lists)
-        → with_inputs kind f l inputs ≡ refused reason.now) }
+/// The outputs of a compile of that input, where there are any: the object goes where `output_for` says.
+fn outputs_for(
+    alloc: Global,
+    kind: CCompilerKind,
+    output: Option<OsBytes>,
+    diagnostics: Option<OsBytes>,
+    input: &[u8],
+) -> Result<Option<Listed<(OsBytes, ArtifactDescriptor)>>, AllocError>
+    ensures { IfOk result (λ outputs. MatchOption outputs (output_for kind output input.now ≡ None)
+        (λ outputs. (path : _) × (output_for kind output input.now ≡ Some path)
+        × (outputs ≡ outputs_at diagnostics path))) }
 {
-    let mut inputs = inputs.into_vec();
-    match inputs.pop() {
+    match output_for(alloc, kind, output, input)? {
+        None => Ok(None),
+        Some(path) => Ok(Some(outputs_at(alloc, diagnostics, path)?)),
+    }
+}
+
+/// The one input among words, or why there is none.
+fn only(inputs: &[Input]) -> Result<&Input, &'static str>
+    ensures { MatchResult result (λ input. inputs.now ≡ input.now ∷ [])
+        (λ reason. (kind : CCompilerKind) (f : Facts) (l : Lists)
+        → with_inputs kind f l inputs.now ≡ refused reason.now) }
+{
+    match inputs.split_first() {
         None => Err("no input file"),
-        Some(input) => {
-            if inputs.is_empty() {
+        Some((input, others)) => {
+            if others.is_empty() {
                 Ok(input)
             } else {
                 Err("multiple input files")
             }
         }
     }
+}
+
+/// The one input.
+fn the_input(inputs: Listed<Input>) -> Input
+    requires { length inputs ≡ 1 }
+    ensures { inputs ≡ result ∷ [] }
+{
+    match inputs.into_vec().pop() {
+        Some(input) => input,
+        None => unreachable!(),
+    }
+}
+
+/// The language of the one input, of one architecture at most, or why the words are refused.
+fn language_of(kind: CCompilerKind, facts: &Facts, lists: &Lists) -> Result<Language, &'static str>
+    ensures one { OnOk result (length lists.now.inputs ≡ 1) }
+    ensures language { IfOk result (λ language. (input : Input) → lists.now.inputs ≡ input ∷ []
+        → known_language kind facts.now.language input.word ≡ Some language) }
+    ensures architecture { OnOk result (differ lists.now.architectures ≡ false) }
+    ensures reason { IfErr result
+        (λ reason. with_inputs kind facts.now lists.now lists.now.inputs ≡ refused reason.now) }
+{
+    let input = only(lists.inputs.as_slice())?;
+    let Some(language) = known_language(kind, facts.language.as_ref(), input.word.as_bytes()) else {
+        return Err("unknown source language");
+    };
+    if differ(lists.architectures.as_slice()) {
+        return Err("multiple different -arch");
+    }
+    Ok(language)
+}
+
+/// What words come to that have one input, in this language, and one architecture at most: it has an output.
+fn with_language(
+    alloc: Global,
+    kind: CCompilerKind,
+    language: Language,
+    facts: Facts,
+    lists: Lists,
+) -> Result<CompilerArguments<ParsedArguments>, AllocError>
+    requires one { length lists.inputs ≡ 1 }
+    requires language { (input : Input) → lists.inputs ≡ input ∷ []
+        → known_language kind facts.language input.word ≡ Some language }
+    requires architecture { differ lists.architectures ≡ false }
+    ensures { IfOk result
+        (λ answer. decision_of answer ≡ with_inputs kind facts lists lists.inputs) }
+{
+    let input = the_input(lists.inputs);
+    let word = input.word.as_bytes();
+    let Some(outputs) = outputs_for(alloc, kind, facts.output, facts.diagnostics, word)? else {
+        return Ok(refused("no output file"));
+    };
+    Ok(CompilerArguments::Ok(ParsedArguments {
+        input: input.word,
+        double_dash_input: input.behind_dashes,
+        language,
+        outputs,
+        preprocessor_args: lists.preprocessor,
+        dependency_args: lists.dependency,
+        unhashed_args: lists.unhashed,
+        common_args: lists.common,
+        arch_args: lists.arch,
+        extra_hash_files: lists.extra_files,
+        color_mode: facts.color.unwrap_or(ColorMode::Auto),
+        too_hard_for_preprocessor_cache_mode: facts.blocker,
+        empty_value: facts.empty_value,
+        has_color_option: facts.color.is_some(),
+        dependencies: facts.dependencies,
+    }))
 }
 
 /// What all words come to: a request that doesn't compile isn't a compilation; it has one input, of a known language,
@@ -180,34 +266,8 @@ pub(crate) fn close(
     if !facts.compiles {
         return Ok(CompilerArguments::NotCompilation);
     }
-    let input = match only(lists.inputs) {
-        Ok(input) => input,
-        Err(reason) => return Ok(refused(reason)),
-    };
-    let Some(language) = known_language(kind, facts.language.as_ref(), input.word.as_bytes()) else {
-        return Ok(refused("unknown source language"));
-    };
-    if differ(lists.architectures.as_slice()) {
-        return Ok(refused("multiple different -arch"));
+    match language_of(kind, &facts, &lists) {
+        Ok(language) => with_language(alloc, kind, language, facts, lists),
+        Err(reason) => Ok(refused(reason)),
     }
-    let Some(path) = output_for(alloc, kind, facts.output, input.word.as_bytes())? else {
-        return Ok(refused("no output file"));
-    };
-    Ok(CompilerArguments::Ok(ParsedArguments {
-        input: input.word,
-        double_dash_input: input.behind_dashes,
-        language,
-        outputs: outputs_at(alloc, facts.diagnostics, path)?,
-        preprocessor_args: lists.preprocessor,
-        dependency_args: lists.dependency,
-        unhashed_args: lists.unhashed,
-        common_args: lists.common,
-        arch_args: lists.arch,
-        extra_hash_files: lists.extra_files,
-        color_mode: facts.color.unwrap_or(ColorMode::Auto),
-        too_hard_for_preprocessor_cache_mode: facts.blocker,
-        empty_value: facts.empty_value,
-        has_color_option: facts.color.is_some(),
-        dependencies: facts.dependencies,
-    }))
 }

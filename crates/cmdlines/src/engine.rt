@@ -3,7 +3,8 @@
 ghost use Rattle.std.specs.Prelude.{◌≡◌, ◌↔◌, ◌&&◌, Bool, false, true, alloc_error, codes, IfOk, IsErrOf, MatchOption};
 ghost use Rattle.cmdlines_base.specs.Table.{all_entries};
 ghost use Rattle.cmdlines_tables.specs.Values.{placed};
-ghost use Rattle.cmdlines.specs.Parsing.{decision_of, decision_by, refused};
+ghost use Rattle.cmdlines.specs.Collecting.{no_facts, no_lists};
+ghost use Rattle.cmdlines.specs.Parsing.{closing, decision_of, decision_by, refused};
 ghost use Rattle.cmdlines.specs.Wanted.{is_hard, is_hard_word, may_name_folder, names_folder, flag_of};
 
 use crate::closing::{close, refused};
@@ -60,17 +61,52 @@ fn too_hard_flag(kind: CCompilerKind, argument: &Argument<ArgData>) -> Option<&'
     if is_hard { Some(flag) } else { None }
 }
 
-/// What words come to that can't be cut.
-fn not_cut(error: ArgParseError) -> Result<CompilerArguments<ParsedArguments>, AllocError>
-    ensures answer { IfOk result (λ answer. decision_of answer ≡ refused (codes "argument parse")) }
+/// Why words are refused that can't be cut.
+fn not_cut(error: ArgParseError) -> Result<&'static str, AllocError>
+    ensures reason { IfOk result (λ reason. reason.now ≡ codes "argument parse") }
     ensures error { IsErrOf result alloc_error ↔ (error ≡ ArgParseError.Memory) }
 {
     match error {
         ArgParseError::Memory => Err(AllocError),
         ArgParseError::UnexpectedEndOfArgs
         | ArgParseError::InvalidUnicode(_)
-        | ArgParseError::Other(_) => Ok(refused("argument parse")),
+        | ArgParseError::Other(_) => Ok("argument parse"),
     }
+}
+
+/// Gathers what words say, cut by a table as that compiler cuts, or tells why they are refused.
+fn gather<S: SearchableArgInfo<ArgData>>(
+    alloc: Global,
+    kind: CCompilerKind,
+    table: &S,
+    words: &[OsBytes],
+    facts: &mut Facts,
+    lists: &mut Lists,
+) -> Result<Option<&'static str>, AllocError>
+    requires facts { facts.old ≡ no_facts }
+    requires lists { lists.old ≡ no_lists }
+    ensures { IfOk result (λ refusal. MatchOption refusal
+        (decision_by kind (all_entries (S.tables table.now)) words.now
+        ≡ closing kind facts.new lists.new)
+        (λ reason. decision_by kind (all_entries (S.tables table.now)) words.now
+        ≡ refused reason.now)) }
+{
+    // A law, which costs nothing: what follows from it is said above.
+    arguments_are_their_items();
+    let mut arguments = arguments_of(alloc, kind, table, words);
+    while let Some(next) = arguments.next() {
+        match next {
+            Err(error) => return Ok(Some(not_cut(error)?)),
+            Ok(argument) => {
+                if let Some(flag) = too_hard_flag(kind, &argument) {
+                    return Ok(Some(flag));
+                }
+                facts.note(alloc, table, &argument)?;
+                lists.take(alloc, argument, arguments.seen_double_dashes())?;
+            }
+        }
+    }
+    Ok(None)
 }
 
 /// What words come to by a table, cut as that compiler cuts.
@@ -84,22 +120,10 @@ pub(crate) fn parse<S: SearchableArgInfo<ArgData>>(
         (λ answer. decision_of answer
         ≡ decision_by kind (all_entries (S.tables table.now)) words.now) }
 {
-    // A law, which costs nothing: what follows from it is said above.
-    arguments_are_their_items();
     let mut facts = Facts::new();
     let mut lists = Lists::new(alloc);
-    let mut arguments = arguments_of(alloc, kind, table, words);
-    while let Some(next) = arguments.next() {
-        match next {
-            Err(error) => return not_cut(error),
-            Ok(argument) => {
-                if let Some(flag) = too_hard_flag(kind, &argument) {
-                    return Ok(refused(flag));
-                }
-                facts.note(alloc, table, &argument)?;
-                lists.take(alloc, argument, arguments.seen_double_dashes())?;
-            }
-        }
+    match gather(alloc, kind, table, words, &mut facts, &mut lists)? {
+        Some(reason) => Ok(refused(reason)),
+        None => close(alloc, kind, facts, lists),
     }
-    close(alloc, kind, facts, lists)
 }

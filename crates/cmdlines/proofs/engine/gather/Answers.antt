@@ -1,5 +1,4 @@
 use Rattle.std.proofs.Common.{◌≡◌, ◌∙◌, ap, sym, [], ◌∷◌}
-use Rattle.std.proofs.lemmas.Result.{IfOk-weaker}
 use Rattle.cmdlines_base.specs.Cutting.{place_of, is_seen, reading_at}
 use Rattle.cmdlines_base.specs.Reading.{before, reading}
 use Rattle.cmdlines_base.specs.Table.{all_entries}
@@ -8,7 +7,7 @@ use Rattle.cmdlines_tables.specs.Values.{placed}
 use Rattle.cmdlines.specs.Collecting.{no_facts, no_lists, facts_with, lists_with, decide}
 use Rattle.cmdlines.specs.Parsing.{refused}
 use Rattle.cmdlines.proofs.CollectLemmas.{decide-start, decide-more, decide-hard, decide-end}
-use Rattle.cmdlines.proofs.engine.parse.Goals as goal
+use Rattle.cmdlines.proofs.engine.gather.Goals as goal
 
 pub loop-next-init : goal.loop-next-init
 loop-next-init g c =
@@ -16,7 +15,7 @@ loop-next-init g c =
     let arguments = c.arguments_of-arguments in
     record {
       same = arguments.ensures.table;
-      told = rw (c.new-facts.ensures, c.new-lists.ensures) (ap (decide c.args.kind entries no_facts no_lists) (arguments.ensures.reading entries) ∙ decide-start c.args.kind entries (reading (ends_options c.args.kind) entries c.args.words.now));
+      told = rw (c.requires.facts, c.requires.lists) (ap (decide c.args.kind entries no_facts no_lists) (arguments.ensures.reading entries) ∙ decide-start c.args.kind entries (reading (ends_options c.args.kind) entries c.args.words.now));
     }
 
 pub returns-in-Some-too_hard_flag : goal.returns-in-Some-too_hard_flag
@@ -30,8 +29,8 @@ returns-in-Some-too_hard_flag g c =
     let item : argument ≡ step.item = c.arguments_are_their_items.ensures step.item c.in-Ok.argument seen step.is step.behind in
     let before_is = step.reads ∙ ap (λ i. before i rest) (sym item) in
     let flag = c.in-Some-too_hard_flag.ensures seen in
-    c.refused.ensures ∙ ap refused flag.1 ∙ sym (decide-hard c.args.kind entries c.loop-next.facts c.loop-next.lists argument rest flag.0)
-    ∙ ap (decide c.args.kind entries c.loop-next.facts c.loop-next.lists) (sym before_is) ∙ c.loop-next.invariant.told
+    sym (ap refused flag.1 ∙ sym (decide-hard c.args.kind entries c.loop-next.facts c.loop-next.lists argument rest flag.0)
+    ∙ ap (decide c.args.kind entries c.loop-next.facts c.loop-next.lists) (sym before_is) ∙ c.loop-next.invariant.told)
 
 pub loop-next-preserved : goal.loop-next-preserved
 loop-next-preserved g c =
@@ -56,5 +55,4 @@ returns g c =
     let kind = c.args.kind in
     let entries = all_entries (g.S.SearchableArgInfo.tables c.args.table.now) in
     let steps = rw c.loop-next.invariant.same at c.in_default.ensures.steps in
-    IfOk-weaker c.close.result _ _
-    (λ answer is. is ∙ sym (decide-end kind entries c.loop-next.facts c.loop-next.lists) ∙ ap (decide kind entries c.loop-next.facts c.loop-next.lists) (sym steps.0.0) ∙ c.loop-next.invariant.told) c.close.ensures
+    sym (sym (decide-end kind entries c.loop-next.facts c.loop-next.lists) ∙ ap (decide kind entries c.loop-next.facts c.loop-next.lists) (sym steps.0.0) ∙ c.loop-next.invariant.told)

@@ -3,7 +3,7 @@ use Rattle.cmdlines_base.specs.Cutting.{place_of, reading_at, table_in}
 use Rattle.cmdlines_base.specs.Table.{all_entries}
 use Rattle.cmdlines.specs.Collecting.{decide}
 use Rattle.cmdlines.specs.Parsing.{decision_by}
-use Rattle.cmdlines.proofs.engine.parse.Given as goal
+use Rattle.cmdlines.proofs.engine.gather.Given as goal
 
 -- what was gathered and the words that are left decide as all words do
 abbrev pub invariant-loop-next : goal.invariant-loop-next
