@@ -102,14 +102,50 @@ pub fn add_row<R: Files + AllocGlobal + Clone + Drop>(
     Ok(())
 }
 
+/// The number that a folder's name of two hexadecimal digits is.
+fn row_named(name: &str) -> Option<u8> {
+    let is_row = name.len() == 2
+        && name
+            .bytes()
+            .all(|byte| matches!(byte, b'0'..=b'9' | b'a'..=b'f'));
+    if is_row {
+        u8::from_str_radix(name, 16).ok()
+    } else {
+        None
+    }
+}
+
+/// Adds the files of that kind. Only folders that are there are looked into: a new cache directory has few of them.
+fn files_of_kind<R: Files + AllocGlobal + Clone + Drop>(
+    rt: &R,
+    path: &str,
+    kind: Kind,
+    files: &mut Vec<KeptFile>,
+) -> Result<(), CacheDirError> {
+    let name = kind.name();
+    let folder = format!(in rt.alloc(); "{path}/{name}")?;
+    let Ok(entries) = fs::read_dir(rt, folder.as_str()) else {
+        return Ok(());
+    };
+    for entry in entries {
+        let Ok(entry) = entry else {
+            continue;
+        };
+        if let Some(row) = row_named(entry.file_name()) {
+            files_in_row(rt, path, kind, row, files)?;
+        }
+    }
+    Ok(())
+}
+
 /// All files that are kept.
 pub fn all_files<R: Files + AllocGlobal + Clone + Drop>(
     rt: &R,
     path: &str,
 ) -> Result<Vec<KeptFile>, CacheDirError> {
     let mut files = Vec::new(rt.alloc());
-    for row in 0..=u8::MAX {
-        add_row(rt, path, row, &mut files)?;
+    for kind in Kind::ALL {
+        files_of_kind(rt, path, kind, &mut files)?;
     }
     Ok(files)
 }

@@ -8,9 +8,6 @@ use memchr::memchr2_iter;
 /// The directives, behind their dot.
 const DIRECTIVES: [&[u8]; 2] = [b"incbin", b"include"];
 
-/// So many strings and lines of markers are looked behind, where strings stand side by side.
-const JOINS: usize = 16;
-
 /// What stands before a string.
 const PREFIXES: [&[u8]; 4] = [b"u8", b"u", b"U", b"L"];
 
@@ -41,7 +38,7 @@ fn behind_line(text: &[u8]) -> &[u8] {
 /// The text behind spaces and markers of lines.
 fn behind_markers(text: &[u8]) -> &[u8] {
     let mut rest = behind_blanks(text);
-    for _ in 0..JOINS {
+    for _ in text {
         if rest.first() != Some(&b'#') {
             return rest;
         }
@@ -65,7 +62,7 @@ fn other_string(text: &[u8]) -> Option<&[u8]> {
 /// The text, behind quotes between two strings side by side.
 fn joined(text: &[u8]) -> &[u8] {
     let mut rest = text;
-    for _ in 0..JOINS {
+    for _ in text {
         let Some(behind) = rest.strip_prefix(b"\"") else {
             return rest;
         };

@@ -5,7 +5,7 @@ use crate::times::tells_time;
 use std::test::Fail;
 
 /// Texts that take in files.
-const DIRECTIVES: [&str; 22] = [
+const DIRECTIVES: [&str; 24] = [
     ".incbin \"a.bin\"",
     "\t.include \"a.s\"\n",
     "start: .INCBIN \"a.bin\"",
@@ -27,6 +27,8 @@ const DIRECTIVES: [&str; 22] = [
     ".incbin <a.bin>",
     "asm(\".include\\t\\\"a.s\\\"\");",
     "asm(R\"(\n.incbin \"a.bin\"\n)\");",
+    "asm(\".inc\" \"\" \"\" \"\" \"\" \"\" \"\" \"\" \"\" \"\" \"\" \"\" \"\" \"\" \"\" \"\" \"\" \"\" \"\" \"\" \"\" \"bin \\\"a.bin\\\"\");",
+    "asm(\".inc\"\n# 4 \"x.c\"\n# 4 \"x.c\"\n# 4 \"x.c\"\n# 4 \"x.c\"\n# 4 \"x.c\"\n# 4 \"x.c\"\n# 4 \"x.c\"\n# 4 \"x.c\"\n# 4 \"x.c\"\n# 4 \"x.c\"\n# 4 \"x.c\"\n# 4 \"x.c\"\n# 4 \"x.c\"\n# 4 \"x.c\"\n# 4 \"x.c\"\n# 4 \"x.c\"\n# 4 \"x.c\"\n# 4 \"x.c\"\n# 4 \"x.c\"\n# 4 \"x.c\"\n\"bin \\\"a.bin\\\"\");",
     ".incbin",
 ];
 
