@@ -24,7 +24,7 @@ state_after_next m n =
     let more : n + 1 ≡ suc n = add-one n in
     ap (λ (k : ℕ). state_after 32 m k) more
 
--- bytes that wait behind those that do
+-- bytes that wait after those that do
 pub kept : (s t : Blake2b256) (m d : List ℕ) (n : ℕ) → Absorbed s m n → t.h ≡ s.h → t.count ≡ s.count → t.waiting ≡ s.waiting + length d
     → take t.waiting t.buffer ≡ take s.waiting s.buffer ++ d → Absorbed t (m ++ d) n
 kept s t m d n a eh ec ew eb =
@@ -35,13 +35,13 @@ kept s t m d n a eh ec ew eb =
       rest = eb ∙ ap (λ (x : List ℕ). x ++ d) a.rest ∙ sym (drop-append-le (n * 128) m d fits);
     }
 
--- the buffer after a write behind the bytes that wait
+-- the buffer after a write that follows the bytes that wait
 pub written : (s : Blake2b256) (d ys : List ℕ) (k e : ℕ) → length s.buffer ≡ 128 → s.waiting ≤ 128 → e ≡ s.waiting + length d → ys ≡ d
     → take e (put_mid s.waiting k s.buffer ys) ≡ take s.waiting s.buffer ++ d
 written s d ys k e len fits ee ey =
     take-put_mid s.waiting k s.buffer ys e (omega (arith, ap length ey)) (omega arith) ∙ ap (λ (x : List ℕ). take s.waiting s.buffer ++ x) ey
 
--- a whole block of the message is taken in, behind which nothing waits
+-- a whole block of the message is taken in, after which nothing waits
 next_block : (s t : Blake2b256) (m b : List ℕ) (n : ℕ) → s.h ≡ state_after 32 m n → s.count ≡ n * 128 % 2 ^ 128 → length m ≡ n * 128 + 128
     → drop (n * 128) m ≡ b → t.waiting ≡ 0 → t.count ≡ (s.count + 128) % 2 ^ 128 → t.h ≡ compress s.h b t.count false → Absorbed t m (n + 1)
 next_block s t m b n eh ec len eb ew et state =
@@ -103,7 +103,7 @@ none_of s m d n a =
 pub held : (s : Blake2b256) (m : List ℕ) (n : ℕ) → Absorbed s m n → n ≡ blocks_before_last (length m) → Holds s m
 held s m n a e = rw (← e) a
 
--- after the bytes behind the last block that was taken in
+-- after the bytes that follow the last block that was taken in
 pub held_behind : (s : Blake2b256) (m d y : List ℕ) (n i : ℕ) → length m ≡ n * 128 → 0 < length d → i ≡ (length d - 1) / 128
     → y ≡ drop (128 * i) d → Absorbed s ((m ++ take (128 * i) d) ++ y) (n + i) → Holds s (m ++ d)
 held_behind s m d y n i len more ei ey a =
@@ -111,7 +111,7 @@ held_behind s m d y n i len more ei ey a =
     append_assoc m (take (128 * i) d) y ∙ ap (λ (x : List ℕ). m ++ (take (128 * i) d ++ x)) ey ∙ ap (λ (x : List ℕ). m ++ x) (take-append-drop (128 * i) d) in
     held s (m ++ d) (n + i) (rw message at a) (omega (arith, length-append m d))
 
--- zeros behind the bytes that wait
+-- zeros after the bytes that wait
 pub zeros_behind : (s : Blake2b256) (m ys : List ℕ) (n k j : ℕ) → Absorbed s m n → length s.buffer ≡ 128 → s.waiting ≤ 128 → k ≡ 128 - s.waiting
     → j ≡ 128 - s.waiting → ys ≡ replicate j 0 → put_mid s.waiting k s.buffer ys ≡ padded (drop (n * 128) m)
 zeros_behind s m ys n k j a len fits ek ej ey =

@@ -102,12 +102,12 @@ unfoldable pub state_after : ℕ → List ℕ → ℕ → List ℕ
 state_after size m zero = initial size
 state_after size m (suc n) = compress (state_after size m n) (take 128 (drop (n * 128) m)) ((n + 1) * 128) false
 
--- how many blocks stand before the last one, of a message of so many bytes: the last one is whole where these are a
+-- how many blocks come before the last one, of a message of so many bytes: the last one is whole where these are a
 -- multiple of 128, and it is empty where the message is
 abbrev pub blocks_before_last : ℕ → ℕ
 blocks_before_last bytes = (bytes - 1) / 128
 
--- a block with zeros behind it
+-- a block with zeros after it
 abbrev pub padded : List ℕ → List ℕ
 padded block = block ++ replicate (128 - length block) 0
 

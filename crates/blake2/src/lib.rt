@@ -92,7 +92,7 @@ impl Blake2b256 {
         first_bytes(&h)
     }
 
-    // Has bytes wait behind those that do.
+    // Appends bytes to those that wait.
     fn keep(&mut self, bytes: &[u8])
         requires { self.old.waiting + length bytes.now ≤ 128 }
         ensures waiting { self.new.waiting ≡ self.old.waiting + length bytes.now }

@@ -1,4 +1,4 @@
--- What stands in front of what is added stays there.
+-- What comes before the added bytes stays there.
 use Rattle.std.proofs.Common.{◌≡◌, ◌≤◌, ◌++◌, List, ℕ, Bool, true, false, cond, length, take, sym, ap, subst, ◌∙◌, arith, refl}
 use Rattle.std.specs.Io.{StartsWith}
 use Rattle.std.proofs.lemmas.List.{take_at, take-take, length-take}

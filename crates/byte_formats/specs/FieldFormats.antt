@@ -48,7 +48,7 @@ Takes-then a x b y c p q = record { parts = p.parts ∙ ap (λ (t : List ℕ). x
 
 -- ---- numbers
 
--- eight bytes that stand for a number, whatever they are: as variables, so that they don't compute to cells
+-- eight bytes that encode a number, whatever they are: as variables, so that they don't compute to cells
 pub record IsEncoding (enc : ℕ → List ℕ) (dec : List ℕ → ℕ) : Type 0 where
   pub len : (n : ℕ) → length (enc n) ≡ 8
   pub back : (bytes : List ℕ) → length bytes ≡ 8 → IsBytes bytes → enc (dec bytes) ≡ bytes
@@ -120,7 +120,7 @@ signed_again z rest fits = rw (number_again (cast_unsigned w64 z) rest (unsigned
 pub signed_format : IsFormat signed_at signed FitsWord
 signed_format = record { takes = signed_takes; again = signed_again }
 
--- ---- bytes behind their length
+-- ---- length-prefixed bytes
 
 framed_takes : (bytes : List ℕ) (x : List ℕ × List ℕ) → IsBytes bytes → framed_at bytes ≡ Some x → Takes bytes (framed x.0) x.1 × FitsFrame x.0
 unfolding framed_at taken_at
@@ -182,7 +182,7 @@ module _ {X Y : Type 0} (one : List ℕ → Read X) (other : List ℕ → Read Y
   pub both_format : IsFormat (both_at one other) (both f g) (BothFit P Q)
   both_format = record { takes = both_takes; again = both_again }
 
--- what is made of a field and tells it
+-- what is made of a field and determines it
 module _ {X Y : Type 0} (make : X → Y) (view : Y → X) (one : List ℕ → Read X) (f : X → List ℕ) (P : X → Type 0) (back : (x : X) → view (make x) ≡ x) (whole : (y : Y) → make (view y) ≡ y) (first : IsFormat one f P) where
   made_takes : (bytes : List ℕ) (y : Y × List ℕ) → IsBytes bytes → made_at make one bytes ≡ Some y → Takes bytes (f (view y.0)) y.1 × P (view y.0)
   unfolding made_at

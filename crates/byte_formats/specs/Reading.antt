@@ -6,7 +6,7 @@ use Rattle.os_files.specs.Bytes.{Bytes}
 use Rattle.byte_formats.specs.declared.fault.ReadFault.{ReadFault}
 use Rattle.byte_formats.specs.declared.fault.ReadFault.TheVariants as faults
 
--- a value, and the bytes behind it
+-- a value, and the bytes after it
 abbrev pub Read : Type 0 → Type 0
 Read A = Option (A × Bytes)
 
@@ -32,7 +32,7 @@ framed_at bytes = do
   n ← number_at bytes
   taken_at n.0 n.1
 
--- bytes behind their length that are UTF-8
+-- length-prefixed bytes that are UTF-8
 unfoldable pub text_at : Bytes → Read Bytes
 text_at bytes = do
   text ← framed_at bytes
@@ -51,7 +51,7 @@ made_at make one bytes = do
   x ← one bytes
   Some (make x.0, x.1)
 
--- the byte 0, or the byte 1 and the field behind it
+-- the byte 0, or the byte 1 and the field after it
 unfoldable pub optional_at : {X : Type 0} → (Bytes → Read X) → Bytes → Read (Option X)
 optional_at one [] = None
 optional_at one (zero ∷ rest) = Some (None, rest)

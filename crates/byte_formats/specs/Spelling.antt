@@ -13,11 +13,11 @@ number n = to_le_bytes w64 n
 abbrev pub signed : ℤ → Bytes
 signed z = number (cast_unsigned w64 z)
 
--- bytes behind their length
+-- bytes after their length
 abbrev pub framed : Bytes → Bytes
 framed bytes = number (length bytes) ++ bytes
 
--- parts in a row, each behind its length
+-- parts in a row, each after its length
 abbrev pub framed_all : List Bytes → Bytes
 framed_all parts = flat_map framed parts
 
@@ -30,7 +30,7 @@ abbrev pub optional : {X : Type 0} → (X → Bytes) → Option X → Bytes
 optional one None = 0 ∷ []
 optional one (Some x) = 1 ∷ one x
 
--- fields in a row behind their count
+-- fields in a row after their count
 abbrev pub counted : {X : Type 0} → (X → Bytes) → List X → Bytes
 counted one xs = number (length xs) ++ flat_map one xs
 

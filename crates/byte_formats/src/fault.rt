@@ -6,7 +6,7 @@ use thiserror::Error;
 /// Why bytes give no value.
 #[derive(Clone, Copy, Debug, PartialEq, Eq, Error)]
 pub enum ReadFault {
-    /// A growth was refused.
+    /// Out of memory.
     #[error("no memory was left")]
     Memory,
     /// The bytes spell no value of this field.

@@ -1,4 +1,4 @@
-//! What can stand as a field of a layout.
+//! What can be a field of a layout.
 
 ghost use Rattle.std.specs.Prelude.{◌≡◌, ◌++◌, OnOk, None};
 ghost use Rattle.std.specs.Io.{StartsWith};
@@ -17,7 +17,7 @@ use std::alloc::{AllocError, Global};
 
 /// A value that bytes spell: how it is read from the left, how it is spelled, and which values fit.
 pub trait Field: Drop {
-    /// What is read from the left, and what stands behind it.
+    /// What is read from the left, and the bytes after it.
     ghost reads: { Bytes → Read Self };
 
     /// The bytes of a value.
@@ -29,11 +29,11 @@ pub trait Field: Drop {
     /// What is read is what was written, and nothing else is read.
     ghost is_format: { IsFormat reads spells fits };
 
-    /// The value at the front of the bytes, and what stands behind it. `Unfit` where there is none.
+    /// The value at the front of the bytes, and the bytes after it. `Unfit` where there is none.
     fn read(alloc: Global, bytes: &[u8]) -> Result<(Self, &[u8]), ReadFault>
         ensures { Gives (λ x. (x.0, x.1.now)) result (reads bytes.now) };
 
-    /// Adds the bytes of this value. Where no memory was left, a part of them may have been added behind what stood there.
+    /// Appends the bytes of this value. When out of memory, a part of them may have been appended to what was there.
     fn put(&self, out: &mut Vec<u8>) -> Result<(), AllocError>
         ensures added { OnOk result (out.new.items ≡ out.old.items ++ spells self.now) }
         ensures fits { OnOk result (fits self.now) }
@@ -78,7 +78,7 @@ impl Field for i64 {
     }
 }
 
-/// Bytes behind their length.
+/// Bytes after their length.
 impl Field for OsBytes {
     ghost reads = { framed_at };
 
@@ -132,7 +132,7 @@ impl<T: Field> Field for Option<T> {
     }
 }
 
-/// So many values in a row, and what stands behind them.
+/// So many values in a row, and the bytes after them.
 fn read_times<T: Field>(
     alloc: Global,
     count: u64,
@@ -150,7 +150,7 @@ fn read_times<T: Field>(
     Ok((all, rest))
 }
 
-/// Adds the bytes of each value. Where no memory was left, a part of them may have been added behind what stood there.
+/// Appends the bytes of each value. When out of memory, a part of them may have been appended to what was there.
 pub fn put_all<T: Field>(out: &mut Vec<u8>, values: &[T]) -> Result<(), AllocError>
     ensures added { OnOk result (out.new.items ≡ out.old.items ++ flat_map T.spells values.now) }
     ensures fits { OnOk result (AllByRecursion T.fits values.now) }
@@ -162,7 +162,7 @@ pub fn put_all<T: Field>(out: &mut Vec<u8>, values: &[T]) -> Result<(), AllocErr
     Ok(())
 }
 
-/// The values in a row behind their count.
+/// The values in a row after their count.
 impl<T: Field> Field for Listed<T> {
     ghost reads = { counted_at T.reads };
 

@@ -8,7 +8,7 @@ ghost use Rattle.byte_formats.specs.Spelling.{FitsFrame, framed, number, signed}
 use crate::fault::ReadFault;
 use std::alloc::{AllocError, Global};
 
-/// A number of eight bytes, low byte first, and what stands behind it. It takes no memory.
+/// A number of eight bytes, low byte first, and the bytes after it. It takes no memory.
 #[tactic(auto, unfolding(crate::specs::Reading::number_at))]
 pub fn read_number(bytes: &[u8]) -> Result<(u64, &[u8]), ReadFault>
     ensures value { Gives (λ x. (x.0, x.1.now)) result (number_at bytes.now) }
@@ -24,7 +24,7 @@ pub fn read_number(bytes: &[u8]) -> Result<(u64, &[u8]), ReadFault>
     Ok((number, rest))
 }
 
-/// A signed number by its eight bytes, low byte first, and what stands behind it. It takes no memory.
+/// A signed number by its eight bytes, low byte first, and the bytes after it. It takes no memory.
 #[tactic(auto, unfolding(crate::specs::Reading::signed_at))]
 pub fn read_signed(bytes: &[u8]) -> Result<(i64, &[u8]), ReadFault>
     ensures value { Gives (λ x. (x.0, x.1.now)) result (signed_at bytes.now) }
@@ -34,7 +34,7 @@ pub fn read_signed(bytes: &[u8]) -> Result<(i64, &[u8]), ReadFault>
     Ok((number.cast_signed(), rest))
 }
 
-/// The first `len` bytes, and what stands behind them. It takes no memory.
+/// The first `len` bytes, and the bytes after them. It takes no memory.
 #[tactic(auto, unfolding(crate::specs::Reading::taken_at))]
 pub fn read_taken(len: u64, bytes: &[u8]) -> Result<(&[u8], &[u8]), ReadFault>
     ensures value { Gives (λ x. (x.0.now, x.1.now)) result (taken_at len bytes.now) }
@@ -46,7 +46,7 @@ pub fn read_taken(len: u64, bytes: &[u8]) -> Result<(&[u8], &[u8]), ReadFault>
     Ok(bytes.split_at(len as usize))
 }
 
-/// Bytes behind their length, and what stands behind them. It takes no memory.
+/// Length-prefixed bytes, and the bytes after them. It takes no memory.
 #[tactic(auto, unfolding(crate::specs::Reading::framed_at))]
 pub fn read_framed(bytes: &[u8]) -> Result<(&[u8], &[u8]), ReadFault>
     ensures value { Gives (λ x. (x.0.now, x.1.now)) result (framed_at bytes.now) }
@@ -56,7 +56,7 @@ pub fn read_framed(bytes: &[u8]) -> Result<(&[u8], &[u8]), ReadFault>
     read_taken(len, rest)
 }
 
-/// UTF-8 behind its length, and what stands behind it.
+/// Length-prefixed UTF-8, and the bytes after it.
 pub fn read_text(alloc: Global, bytes: &[u8]) -> Result<(String, &[u8]), ReadFault>
     ensures { Gives (λ x. (string_bytes x.0, x.1.now)) result (text_at bytes.now) }
 {
@@ -68,7 +68,7 @@ pub fn read_text(alloc: Global, bytes: &[u8]) -> Result<(String, &[u8]), ReadFau
 }
 
 /// Adds a number of eight bytes, low byte first. Where no memory was left, a part of it may have been added
-/// behind what stood there.
+/// to what was there.
 pub fn put_number(out: &mut Vec<u8>, value: u64) -> Result<(), AllocError>
     ensures added { OnOk result (out.new.items ≡ out.old.items ++ number value) }
     ensures front { StartsWith out.new.items out.old.items }
@@ -77,7 +77,7 @@ pub fn put_number(out: &mut Vec<u8>, value: u64) -> Result<(), AllocError>
 }
 
 /// Adds a signed number by its eight bytes, low byte first. Where no memory was left, a part of it may have been added
-/// behind what stood there.
+/// to what was there.
 pub fn put_signed(out: &mut Vec<u8>, value: i64) -> Result<(), AllocError>
     ensures added { OnOk result (out.new.items ≡ out.old.items ++ signed value) }
     ensures front { StartsWith out.new.items out.old.items }
@@ -85,7 +85,7 @@ pub fn put_signed(out: &mut Vec<u8>, value: i64) -> Result<(), AllocError>
     put_number(out, value.cast_unsigned())
 }
 
-/// Adds bytes behind their length. Where no memory was left, a part of them may have been added behind what stood
+/// Adds bytes after their length. Where no memory was left, a part of them may have been added to what was
 /// there.
 pub fn put_framed(out: &mut Vec<u8>, bytes: &[u8]) -> Result<(), AllocError>
     ensures added { OnOk result (out.new.items ≡ out.old.items ++ framed bytes.now) }

@@ -5,7 +5,7 @@ ghost use Rattle.std.specs.List.{AllByRecursion};
 ghost use Rattle.os_files.specs.Bytes.{Bytes};
 ghost use Rattle.byte_formats.specs.Spelling.{FitsFrame, framed_all};
 
-/// Lists of parts whose lengths fit are told by their framed bytes.
+/// Lists of parts whose lengths fit are determined by their framed bytes.
 pub fn framed_parts_are_told()
     ensures { (parts other : List Bytes) → AllByRecursion FitsFrame parts →
         AllByRecursion FitsFrame other → framed_all parts ≡ framed_all other → parts ≡ other }

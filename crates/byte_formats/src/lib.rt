@@ -1,4 +1,4 @@
-//! Fields of byte layouts, each written and read by one description: numbers of eight bytes, bytes behind their length, lists behind
+//! Fields of byte layouts, each written and read by one description: numbers of eight bytes, bytes after their length, lists after
 //! their count, and choices by a byte.
 #![tactic(auto)]
 

@@ -38,7 +38,7 @@ asking_more : (calls : List PrintedCall) (p : PrintedCall) → asking_among (cal
 asking_more [] p = append-nil (asking p)
 asking_more (q ∷ calls) p = ap (λ l. asking q ++ l) (asking_more calls p) ∙ sym (append_assoc (asking q) (asking_among calls) (asking p))
 
--- the calls so far that have entry keys, behind earlier ones
+-- the calls so far that have entry keys, after earlier ones
 pub asked_more : (earlier calls : List PrintedCall) (p : PrintedCall) → earlier ++ asking_among (calls ++ p ∷ []) ≡ (earlier ++ asking_among calls) ++ asking p
 asked_more earlier calls p = ap (λ l. earlier ++ l) (asking_more calls p) ∙ sym (append_assoc earlier (asking_among calls) (asking p))
 
@@ -78,7 +78,7 @@ module _ {C B : Type 0} (first now : List C) (rs : List B) (i : ℕ) (rest : dro
       let there = rw add-zero at (get_or-drop i first 0 d) in
       sym here ∙ ap (λ l. get_or l 0 d) rest ∙ there
 
-  -- what is left behind it
+  -- what is left after it
   pub rest_more : (c : C) → drop (i + 1) (set now i c) ≡ drop (i + 1) first
   rest_more c = drop-set-lt (i + 1) now i c (omega arith) ∙ sym (drop-drop 1 i now) ∙ ap (drop 1) rest ∙ drop-drop 1 i first
 

@@ -179,7 +179,7 @@ text_is made text h = by (int_eq made.status (pos 0)) refl h
 text_by_is : (p : PrintedCall) (text : Bytes) → has_entry_key p.call ≡ true → good_text p.printed ≡ Some text → text_by p ≡ text
 text_by_is p text key good = let n = is_preprocessed p.call key in ap (λ b. if b then text_in p.printed.contents else contents_in p.call.scene.files (input_path p.call)) n ∙ (text_is p.printed text good).0
 
--- what a digest's text tells
+-- what a digest's text determines
 abbrev pub TextsTell : (Bytes → Bytes) → Type 0
 TextsTell digest_of = (one other : Bytes) → hex_of (digest_of one) ≡ hex_of (digest_of other) → digest_of one ≡ digest_of other
 
@@ -216,7 +216,7 @@ module _ (digest_of : Bytes → Bytes) (texts : TextsTell digest_of) (identities
     same_sights : sights_by digest_of b.call ≡ sights_by digest_of p.call
     same_sights = sights _ _ _ _ told same_key
 
-    -- what the sights tell of inputs and extra files
+    -- what the sights determine of inputs and extra files
     sights_input : hex_of (digest_of (contents_in b.call.scene.files (input_path b.call))) ≡ hex_of (digest_of (contents_in p.call.scene.files (input_path p.call)))
     unfolding sights_by
     sights_input = ap (λ (s : Sights). s.input) same_sights
@@ -329,7 +329,7 @@ only_one p q c = elim (cons_cases p [] q c) [
   | inr none ↦ let within = none.1 in absurd (omega arith)
 ]
 
--- one call meets what is assumed, under a digest that tells all strings
+-- one call meets what is assumed, under a digest that distinguishes all strings
 pub one_call_meets : (p : PrintedCall) → EntryPremises (λ bytes. bytes) (p ∷ [])
 one_call_meets p = record {
   distinct = λ x y hx hy e. e;

@@ -92,7 +92,7 @@ text_fault_by p = if needs_preprocessing p.call.parsed.language then preprocess_
 abbrev pub text_fault_of : Meaning → KeyCall → Option Fault
 text_fault_of meaning c = text_fault_by (printed_call meaning c)
 
--- whether include records are asked for: they are kept, the language is preprocessed, and no option stands against it
+-- whether include records are asked for: they are kept, the language is preprocessed, and no option prevents it
 abbrev pub asks_records : KeyCall → Bool
 asks_records c = c.settings.direct && (needs_preprocessing c.parsed.language && is_none c.parsed.too_hard_for_preprocessor_cache_mode)
 
@@ -104,7 +104,7 @@ missing_input c = if asks_records c then first_missing c.scene.files (input_path
 abbrev pub early_fault_of : KeyCall → Option Fault
 early_fault_of c = or_else (read_fault_of c.scene.files (extra_paths c)) (option_map Read (missing_input c))
 
--- The first fault in the order of the steps, where no growth is refused and no device fails: an extra file that isn't there, then the input where an include record is asked for, and then the text's.
+-- The first fault in the order of the steps, without out of memory and I/O errors: an extra file that isn't there, then the input where an include record is asked for, and then the text's.
 abbrev pub key_fault_by : PrintedCall → Option Fault
 key_fault_by p = or_else (read_fault_of p.call.scene.files (extra_paths p.call)) (or_else (option_map Read (missing_input p.call)) (text_fault_by p))
 

@@ -56,7 +56,7 @@ input_with c contents = record {
 abbrev pub extra_digests : (Bytes → Bytes) → KeyCall → List Bytes
 extra_digests digest_of c = map (λ contents. hex_of (digest_of contents)) (map (contents_in c.scene.files) (extra_paths c))
 
--- what the preprocessor would be told
+-- what the preprocessor would be given
 unfoldable pub sights_by : (Bytes → Bytes) → KeyCall → Sights
 sights_by digest_of c = sights_of digest_of (identity_by c) (extra_digests digest_of c) (input_with c (contents_in c.scene.files (input_path c)))
 

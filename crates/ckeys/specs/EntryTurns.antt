@@ -49,7 +49,7 @@ abbrev pub KeyRuns : Bool → ℕ → ℕ → Type 0
 KeyRuns true before after = after ≡ before
 KeyRuns false before after = after ≡ ticked before
 
--- How often it ran before a fault of that step, or of none: want of memory and a file that can't be had come before it or behind it. No C compiler is asked in a step of rustc's.
+-- How often it ran before a fault of that step, or of none: out of memory and a file that can't be had come before or after it. No C compiler is asked in a step of rustc's.
 abbrev pub RunsUntilStep : Option Step → Type 0 → ℕ → ℕ → Type 0
 RunsUntilStep None in_compile before after = AtMostOnce before after
 RunsUntilStep (Some Preprocess) in_compile before after = after ≡ ticked before
@@ -106,11 +106,11 @@ pub record PutsNone (old new : Shelf EntryKey Record) : Type 0 where
   pub within : Within old.held new.held
   pub put : new.puts ≡ old.puts
 
--- what a look-up told of a key: what lay under it; or nothing, though something did, which is counted
+-- what a look-up reported of a key: what lay under it; or nothing, though something did, which is counted
 abbrev pub IsToldOf : Shelf EntryKey Record → Shelf EntryKey Record → EntryKey → Option Record → Type 0
 IsToldOf old new key told = (told ≡ old.held key) ⊎ ((told ≡ None) × (new.forgets ≡ ticked old.forgets))
 
--- a put was refused: no pair is gained, and it's told
+-- a put was refused: no pair is gained, and this is reported
 pub record Refuses {K V : Type 0} (old new : Shelf K V) : Type 0 where
   pub within : Within old.held new.held
   pub told : new.kept ≡ false
@@ -119,7 +119,7 @@ pub record Refuses {K V : Type 0} (old new : Shelf K V) : Type 0 where
 abbrev pub IsPut : {K V : Type 0} → Shelf K V → Shelf K V → K → V → Type 0
 IsPut old new key value = (new.held key ≡ Some value) ⊎ Refuses old new
 
--- a record was put under this key: what the look-up told of it with this result joined, whatever was dropped or refused
+-- a record was put under this key: what the look-up reported of it with this result joined, whatever was dropped or refused
 pub record PutsJoined (old new : Shelf EntryKey Record) (key : EntryKey) (own : CachedResult) : Type 0 where
   pub told : Option Record
   pub looked_up : IsToldOf old new key told
@@ -127,7 +127,7 @@ pub record PutsJoined (old new : Shelf EntryKey Record) (key : EntryKey) (own : 
   pub exact : entry.results ≡ with_result (results_of told) own
   pub is_put : IsPut old new key entry
 
--- one pair is put: a result of the call's own text is recorded beside what the look-up told of the entry key, and where nothing was dropped or refused it has joined what lay there
+-- one pair is put: a result of the call's own text is recorded beside what the look-up gave for the key, and where nothing was dropped or refused it joined what lay there
 pub record PutsOwn (digest_of : Bytes → Bytes) (p : PrintedCall) (old new : Shelf EntryKey Record) : Type 0 where
   pub own : CachedResult
   pub is_own : IsOwnResult digest_of p own
@@ -149,7 +149,7 @@ pub record EntryTurn (digest_of : Bytes → Bytes) (p : PrintedCall) (old new : 
   -- a call without an entry key doesn't touch it
   pub idle : has_entry_key p.call ≡ false → new ≡ old
 
--- what a look-up told of what lies under the key
+-- what a look-up reported of what lies under the key
 abbrev pub IsKnown : (Bytes → Bytes) → Place → Option Record → Known → Type 0
 IsKnown digest_of place held (Found text_key) = LooksUp digest_of place (results_of held) (Some text_key)
 IsKnown digest_of place held (Missed entry) = (entry.results ≡ results_of held) × LooksUp digest_of place (results_of held) None
@@ -164,7 +164,7 @@ abbrev pub Keeps : (EntryKey → EntryKey → Bool) → EntryKey → List Cached
 Keeps eq key results text_key None old new = new ≡ old
 Keeps eq key results text_key (Some includes) old new = (entry : Record) × (put : Result (Unit {0}) (EntryKey × Record)) × Gains results (result_with text_key includes) entry.results × Puts eq old new key entry put
 
--- the first fault behind the extra files and the input
+-- the first fault after the extra files and the input
 abbrev pub TextFine : PrintedCall → Bool → Type 0
 TextFine p true = Unit {0}
 TextFine p false = text_fault_by p ≡ None

@@ -53,8 +53,8 @@ impl<'a, I, F, T> HashCall<'a, I, F, T> {
 }
 
 /// The keys of these calls under one configuration, each asked in order by `generate_hash_key` on its own files and by its own
-/// tool: what a call leaves among the records can give the keys of those behind it. A fault is that of its own call, and the
-/// calls behind it are asked too.
+/// tool: what a call leaves among the records can give the keys of those after it. A fault is that of its own call, and the
+/// calls after it are asked too.
 ///
 /// Room for the answers is taken first, and where that is refused no call is asked.
 pub fn hash_keys<

@@ -18,7 +18,7 @@ use os_files::files::{FileFail, Files};
 use os_files::os_bytes::OsBytes;
 use std::alloc::{AllocError, Global};
 
-/// A C compiler, its executable and the digest that stands for it in keys.
+/// A C compiler, its executable and the digest that represents it in keys.
 #[derive(Debug, Drop)]
 pub struct CCompiler<I> {
     pub compiler: I,
@@ -58,9 +58,9 @@ impl<I> CCompiler<I> {
 
 impl<I: CCompilerImpl + Drop> CCompiler<I> {
     /// The compiler with the digest of its executable, or, where its version is known, of that digest's text and the
-    /// version behind it.
+    /// version after it.
     ///
-    /// `Read` names the executable, where it isn't there or the device fails at it.
+    /// `Read` names the executable, where it isn't there or an I/O error occurred on it.
     pub fn new<H: HashState, F: Files>(
         alloc: Global,
         compiler: I,
@@ -91,7 +91,7 @@ impl<I: CCompilerImpl + Drop> CCompiler<I> {
     }
 }
 
-/// The digest of this text and the version behind it; the text alone, where no version is known.
+/// The digest of this text followed by the version; the text alone, where no version is known.
 fn with_version<H: HashState>(
     alloc: Global,
     text: String,

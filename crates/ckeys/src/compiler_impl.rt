@@ -51,8 +51,8 @@ pub trait CCompilerImpl {
     fn assembler_digest(&self) -> Option<&str>
         ensures { option_map text_in result ≡ (traits self.now).assembler_digest };
 
-    /// What these words come to, with the files of words that they name opened from that directory. `Read` names one on which the
-    /// device failed.
+    /// What these words come to, with the response files that they name opened from that directory. `Read` names one on which an
+    /// I/O error occurred.
     fn parse_arguments<F: Files>(
         &self,
         alloc: Global,

@@ -63,7 +63,7 @@ impl<'a, I: CCompilerImpl + Drop> CCompilerHasher<'a, I> {
         ensures text { let call = call_by I.kind_of I.traits self.now place.now (F.tree files.old)
             in
             IfOk result (λ made. made.text ≡ (record_of (T.meaning tool.old) call).text) }
-        // The lengths of the variables that count can be told, which the law on keys and records asks for.
+        // The lengths of the variables that count fit, which the law on keys and records asks for.
         ensures fit { OnOk result (AllByRecursion FitsLength (filter is_cached place.now.env.now)) }
         ensures fine { let call = call_by I.kind_of I.traits self.now place.now (F.tree files.old)
             in

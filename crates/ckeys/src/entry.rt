@@ -101,7 +101,7 @@ impl<'a, I: CCompilerImpl + Drop> CCompilerHasher<'a, I> {
         }
     }
 
-    /// Whether include records are asked for: they are kept, the language is preprocessed, and no option stands against it.
+    /// Whether include records are asked for: they are kept, the language is preprocessed, and no option prevents it.
     fn asks_records(&self, place: &CallPlace) -> bool
         ensures { (files : Tree) →
             result ≡ asks_records (call_by I.kind_of I.traits self.now place.now files) }
@@ -113,7 +113,7 @@ impl<'a, I: CCompilerImpl + Drop> CCompilerHasher<'a, I> {
 
     /// The entry key of this request with these digests of extra files, if it has one.
     ///
-    /// `Read` names the input where that isn't there or the device failed on it.
+    /// `Read` names the input where that isn't there or an I/O error occurred on it.
     pub(crate) fn entry_key<H: HashState, F: Files>(
         &self,
         alloc: Global,

@@ -47,7 +47,7 @@ use std::alloc::{AllocError, Global};
 pub struct CCompilerHasher<'a, I> {
     pub compiler: &'a I,
     pub executable: &'a OsBytes,
-    /// The digest that stands for the compiler.
+    /// The digest that represents the compiler.
     pub executable_digest: &'a str,
     pub parsed: &'a ParsedArguments,
 }
@@ -327,8 +327,8 @@ impl<'a, I: CCompilerImpl + Drop> CCompilerHasher<'a, I> {
     /// its record's material, as text, and its shape; and whether the key came of an include record of an earlier call, which is
     /// asked for where the configuration keeps them.
     ///
-    /// Refused with `Read` where an extra file or an input that is read isn't there or the device fails at it, with
-    /// `PreprocessFailed` where the preprocessor's status isn't 0, and with `Tool` where its device fails.
+    /// Refused with `Read` where an extra file or an input that is read isn't there or an I/O error occurs on it, with
+    /// `PreprocessFailed` where the preprocessor's status isn't 0, and with `Tool` where it has an I/O error.
     pub fn generate_hash_key<
         H: HashState,
         E: Store<EntryKey, PreprocessorCacheEntry>,
@@ -351,7 +351,7 @@ impl<'a, I: CCompilerImpl + Drop> CCompilerHasher<'a, I> {
             in
             IfOk result
             (λ made. made.1 ≡ record_shape H.digest_of (record_of (T.meaning tool.old) call)) }
-        // The lengths of the variables that count can be told, which the law on keys and records asks for.
+        // The lengths of the variables that count fit, which the law on keys and records asks for.
         ensures fit { OnOk result (AllByRecursion FitsLength (filter is_cached place.now.env.now)) }
         ensures fine { let p = printed_call (T.meaning tool.old)
             (call_by I.kind_of I.traits self.now place.now (F.tree files.old)) in
@@ -486,7 +486,7 @@ impl<'a, I: CCompilerImpl + Drop> CCompilerHasher<'a, I> {
     }
 }
 
-/// What lies under the entry key tells: the key of a result whose files are as they were, or nothing, and then what is there.
+/// What lies under the entry key gives: the key of a result whose files are as they were, or nothing, and then what is there.
 fn look_up<H: HashState, E: Store<EntryKey, PreprocessorCacheEntry>, F: Files>(
     alloc: Global,
     place: &CallPlace,

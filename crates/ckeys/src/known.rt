@@ -1,4 +1,4 @@
-//! What an include record tells of a call.
+//! What an include record says of a call.
 
 use include_records::key_text::KeyText;
 use include_records::record::PreprocessorCacheEntry;

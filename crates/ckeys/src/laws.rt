@@ -31,7 +31,7 @@ pub fn records_are_true<H: HashState>()
     entry_keys_tell_calls::<H>();
 }
 
-/// What is assumed of calls that have entry keys can be met: any one call meets it, under a digest that tells all strings.
+/// What is assumed of calls that have entry keys can be met: any one call meets it, under a digest that distinguishes all strings.
 pub fn entry_premises_can_be_met()
     ensures { (p : PrintedCall) → EntryPremises (λ bytes. bytes) (p ∷ []) }
 {}

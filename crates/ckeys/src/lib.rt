@@ -1,4 +1,4 @@
-//! Keys of C requests: what is hashed of a request, in which order, and what its bytes alone don't tell; and with it the names of the
+//! Keys of C requests: what is hashed of a request, in which order, and what its bytes alone don't determine; and the names of the
 //! layers below that a caller of a key uses. Words, compilers and files are handed on by `cmdlines`.
 #![tactic(auto)]
 

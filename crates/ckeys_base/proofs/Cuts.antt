@@ -166,7 +166,7 @@ pub left-whole : (width : ℕ → ℕ) (text : List ℕ) → cuts width 0 0 (len
 unfolding parts
 left-whole width text is = rw is (sym (append-nil text))
 
--- what stands before the first that goes, and then the later parts
+-- what comes before the first that goes, and then the later parts
 pub stripped-first : (width : ℕ → ℕ) (text : List ℕ) (first : ℕ) → first ≤ length text → ((k : ℕ) → k < first → width k ≡ 0) → (first < length text → 0 < width first)
     → take first text ++ flat_map (λ part. part) (parts_from width text (start_after width (length text) first)) ≡ stripped width text
 stripped-first width text first le none found =

@@ -24,7 +24,7 @@ pair_of x b y rest e = let p : ◌≡◌ {A = ℕ × Bytes} (x, y) (b, rest) = c
 none_some : {A : Type 0} (x : A) → None ≡ Some x → ⊥
 none_some x e = cc
 
--- a piece that spells a byte is read so, whatever stands behind it
+-- a piece that spells a byte is read so, whatever comes after it
 pub spelled : (piece : Bytes) (b : ℕ) (rest : Bytes) → Spells piece b → first_spelled (piece ++ rest) ≡ Some (b, rest)
 spelled piece b rest (itself other is) =
     let no : eqb b 92 ≡ false = ne_eqb b 92 other in

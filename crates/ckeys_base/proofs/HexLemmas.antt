@@ -1,4 +1,4 @@
--- The hexadecimal text of some bytes, and the bytes that it tells.
+-- The hexadecimal text of some bytes, and the bytes that it determines.
 use Rattle.std.proofs.Common.{◌≡◌, ℕ, suc, ◌*◌, ◌<◌, ◌%◌, ◌/◌, List, [], ◌∷◌, length, Result, Ok, Err, IfOk, refl, ap, ◌∙◌, arith}
 use Rattle.std.proofs.lemmas.Bool.Decides.{nat_tests}
 use Rattle.ckeys_base.specs.Hex.{AreBytes, digit_of, hex_of}

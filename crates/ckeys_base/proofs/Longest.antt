@@ -8,7 +8,7 @@ use Rattle.std.proofs.lemmas.Bool.Decides.{Decides-eqb}
 use Rattle.os_files.specs.Bytes.{Bytes}
 use Rattle.ckeys_base.specs.FolderPlaces.{Places, counts, counted_len, longest}
 
--- a folder that counts stands within the text
+-- a folder that counts lies within the text
 pub counts-fits : (places : Places) (text : Bytes) (i : ℕ) (f : Bytes) → i ≤ length text → counts places text i f ≡ true → i + length f ≤ length text
 unfolding counts
 counts-fits places text i f le h =
@@ -25,7 +25,7 @@ pub counted_len-fits : (places : Places) (text : Bytes) (i : ℕ) (f : Bytes) �
 unfolding counted_len
 counted_len-fits places text i f le = fits_by (counts places text i f) i (length f) (length text) le (counts-fits places text i f le)
 
--- the longest stands within the text
+-- the longest lies within the text
 pub longest-fits : (places : Places) (fs : List Bytes) (text : Bytes) (i : ℕ) → i ≤ length text → i + longest places fs text i ≤ length text
 unfolding longest
 longest-fits places [] text i le = omega arith

@@ -4,7 +4,7 @@ use Rattle.std.specs.List.{flat_map, join_with_byte}
 use Rattle.std.proofs.lemmas.List.{append-nil}
 use Rattle.os_files.specs.Bytes.{Bytes}
 
--- each name behind a slash
+-- each name after a slash
 abbrev pub behind_slashes : List Bytes → Bytes
 behind_slashes names = flat_map (λ name. 47 ∷ name) names
 

@@ -2,7 +2,7 @@
 use Rattle.std.proofs.Common.{◌≡◌, true, Option, Some, None, IsSome, refl, sym}
 use Rattle.ckeys_base.specs.Shelf.{Shelf, Asks}
 
--- an answer that tells nothing new, and tells something where the old one did, is the old one
+-- an answer that says nothing new, and says something where the old one did, is the old one
 same_answer : {V : Type 0} (old new : Option V) → ((v : V) → new ≡ Some v → old ≡ Some v) → (IsSome old → IsSome new) → new ≡ old
 same_answer old (Some v) within keeps = sym (within v refl)
 same_answer None None within keeps = refl

@@ -10,7 +10,7 @@ use Rattle.memchr.specs.Find.{Passes, is_byte, Nowhere}
 use Rattle.ckeys_base.specs.FolderPlaces.{Places, counts, counted_len, longest}
 use Rattle.ckeys_base.specs.FromTheLeft.{all_begin_with_slash}
 
--- the text goes on with a slash where such a folder stands
+-- the text goes on with a slash where such a folder is
 slash_at : (text : Bytes) (i : ℕ) (folder : Bytes) → starts_with nat_eq folder (codes "/") ≡ true → starts_with nat_eq (drop i text) folder ≡ true → get_or text i 0 ≡ 47
 slash_at text i folder slash stands =
     let begins : folder ≡ 47 ∷ drop 1 folder = (starts_is Decides-eqb folder (47 ∷ []) (starts_with nat_eq folder (47 ∷ [])) refl).0 slash in

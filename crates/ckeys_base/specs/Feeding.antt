@@ -10,7 +10,7 @@ use Rattle.ckeys_base.specs.Hex.{hex_of}
 abbrev pub delimiter_of : Bytes → Bytes
 delimiter_of name = (0 ∷ codes "SCCACHE") ++ (0 ∷ []) ++ name ++ (0 ∷ [])
 
--- the pieces, one behind another
+-- the pieces, one after another
 abbrev pub joined : List Bytes → Bytes
 joined pieces = flat_map (λ piece. piece) pieces
 
@@ -22,7 +22,7 @@ AreFilled pieces = All (λ piece. 0 < length piece) pieces
 abbrev pub IsCalledAtEach : {F : Type 0} → Mut F (Bor Bytes × Unit {0}) (Unit {0}) → F → List Bytes → F → Type 0
 IsCalledAtEach calls first pieces last = FoldsTo (λ before piece after. CalledAt calls before piece tt after) first pieces last
 
--- a reader that tells its bytes had these and no others
+-- a reader that reports its bytes had these and no others
 abbrev pub WasAll : Option Bytes → Bytes → Type 0
 WasAll known bytes = IfSome known (λ all. all ≡ bytes)
 

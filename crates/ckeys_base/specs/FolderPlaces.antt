@@ -5,7 +5,7 @@ use Rattle.std.specs.Char.{is_ascii_whitespace}
 use Rattle.std.specs.Str.{byte}
 use Rattle.os_files.specs.Bytes.{Bytes}
 
--- a folder of a text may stand behind this byte
+-- a folder of a text may come after this byte
 abbrev pub opens : ℕ → Bool
 opens b = is_ascii_whitespace b || b == byte "\"" || b == byte "'" || b == byte "<"
 
@@ -25,7 +25,7 @@ text_places = record {
   may_end = λ text i. i == length text || closes (slice_index text i);
 }
 
--- byte 2 of a word that begins with a hyphen and another byte than a hyphen: there the value of a short option may stand
+-- byte 2 of a word that begins with a hyphen and another byte than a hyphen: there the value of a short option may begin
 abbrev pub is_behind_letter : Bytes → ℕ → Bool
 is_behind_letter word i = i == 2 && slice_index word 0 == byte "-" && not (slice_index word 1 == byte "-")
 
@@ -36,7 +36,7 @@ argument_places = record {
   may_end = λ word i. i == length word || slice_index word i == byte "/" || slice_index word i == byte "=";
 }
 
--- the folder stands at this place, and counts there
+-- the folder is at this place, and counts there
 unfoldable pub counts : Places → Bytes → ℕ → Bytes → Bool
 counts places text i folder = places.may_begin text i && starts_with nat_eq (drop i text) folder && places.may_end text (i + length folder)
 

@@ -8,7 +8,7 @@ use Rattle.os_files.specs.Bytes.{Bytes}
 abbrev pub three_digits : ℕ → Bytes
 three_digits n = (byte "0" + n / 100) ∷ (byte "0" + n / 10 % 10) ∷ (byte "0" + n % 10) ∷ []
 
--- this many nanoseconds as seconds with three digits behind the point
+-- this many nanoseconds as seconds with three digits after the point
 abbrev pub in_seconds : ℕ → Bytes
 in_seconds nanoseconds =
     decimal (nanoseconds / 1_000_000_000) ++ (codes "." ++ (three_digits (nanoseconds % 1_000_000_000 / 1_000_000) ++ codes " s"))

@@ -13,7 +13,7 @@ abbrev pub IsInside : (ℕ → ℕ) → List ℕ → ℕ → Type 0
 IsInside width [] i = ⊥
 IsInside width (s ∷ ss) i = ((s ≤ i) × (i < s + width s)) ⊎ IsInside width ss i
 
--- these intervals, by their starts, are what goes from place `from` on: they stand where something counts, they are apart, and each place where something counts lies in one of them
+-- these intervals, by their starts, are what goes from place `from` on: they are where something counts, they are apart, and each place where something counts lies in one of them
 pub record IsStripping (width : ℕ → ℕ) (from n : ℕ) (starts : List ℕ) : Type 0 where
   pub counting : AllByRecursion (λ s. (0 < width s) × (s + width s ≤ n)) starts
   pub apart : AreApart width from starts

@@ -1,4 +1,4 @@
--- Which compiler a name stands for, where that name may lead to the wrapper itself.
+-- Which compiler a name refers to, where that name may lead to the wrapper itself.
 use Rattle.std.specs.Prelude.{Bool, false, not, ◌&&◌, ◌==◌, if◌then◌else◌, List, [], map, Option, codes}
 use Rattle.std.specs.List.{slice_split, find}
 use Rattle.std.specs.Map.{lookup}

@@ -49,7 +49,7 @@ impl<H: HashState> Digest<H> {
         Digest { state: H::new() }
     }
 
-    /// Takes more bytes, behind those that it holds. It takes no memory.
+    /// Takes more bytes, after those that it holds. It takes no memory.
     pub fn update(&mut self, bytes: &[u8])
         ensures { (held : Bytes) → H.holds self.old held → H.holds self.new (held ++ bytes.now) }
     {
@@ -152,7 +152,7 @@ impl<H: HashState> Digest<H> {
 impl<H: HashState> Digest<H> {
     /// The digest of the contents of a regular file, as text, and `None` where no regular file has that name.
     ///
-    /// `Device` where the device fails at the name.
+    /// `Device` on an I/O error at the name.
     pub fn file<F: Files>(
         alloc: Global,
         path: &OsBytes,
@@ -176,7 +176,7 @@ impl<H: HashState> Digest<H> {
     /// The digests of the contents of regular files, as text, in the order of their names, and `None` where one
     /// of the names is of no regular file.
     ///
-    /// `Device` where the device fails at one of the names.
+    /// `Device` on an I/O error at one of the names.
     pub fn hash_all<F: Files>(
         alloc: Global,
         paths: &[OsBytes],
@@ -202,7 +202,7 @@ impl<H: HashState> Digest<H> {
     }
 }
 
-/// The text of a digest has two digits for each of its bytes, and tells the digest.
+/// The text of a digest has two digits for each of its bytes, and determines the digest.
 pub fn texts_tell_digests<H: HashState>()
     ensures length { (bytes : Bytes) → length (hex_of (H.digest_of bytes)) ≡ 2 * H.LEN }
     ensures tells { (one other : Bytes) → hex_of (H.digest_of one) ≡ hex_of (H.digest_of other)

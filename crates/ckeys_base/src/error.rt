@@ -12,13 +12,13 @@ pub enum Error {
     /// The reader or the writer failed, or 2 ^ 64 reads didn't come to the end of the reader.
     #[error("the bytes cannot be read or written")]
     Io,
-    /// Behind the first byte stands what isn't written for any record.
+    /// The bytes after the first one aren't written for any record.
     #[error("the bytes are no record")]
     Deserialization,
-    /// Another byte stands first than that of the layout of records.
+    /// The first byte isn't that of the layout of records.
     #[error("the record has the unknown format {0}")]
     UnknownFormat(u8),
-    /// A growth was refused.
+    /// Out of memory.
     #[error("no memory was left")]
     Memory,
 }

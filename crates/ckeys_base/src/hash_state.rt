@@ -28,7 +28,7 @@ pub trait HashState: Drop {
     fn new() -> Self
         ensures { holds result [] };
 
-    /// Takes more bytes, behind those that it holds. It takes no memory.
+    /// Takes more bytes, after those that it holds. It takes no memory.
     fn feed(&mut self, bytes: &[u8])
         ensures { (held : Bytes) → holds self.old held → holds self.new (held ++ bytes.now) };
 

@@ -30,7 +30,7 @@ pub fn hex(alloc: Global, bytes: &[u8]) -> Result<String, AllocError>
     Ok(text)
 }
 
-/// The text has two digits for each byte, and tells the bytes: two byte strings of one text are equal.
+/// The text has two digits for each byte, and determines the bytes: two byte strings of one text are equal.
 pub fn hex_tells_its_bytes()
     ensures length { (bytes : Bytes) → length (hex_of bytes) ≡ 2 * length bytes }
     ensures tells { (one other : Bytes) → AreBytes one → AreBytes other → hex_of one ≡ hex_of other

@@ -1,4 +1,4 @@
-//! What keys stand on: digests, folders stripped from texts and arguments, stores that may forget, and the small calls
+//! What keys are built on: digests, folders stripped from texts and arguments, stores that may forget, and the small calls
 //! beside them.
 #![tactic(auto)]
 

@@ -14,7 +14,7 @@ pub trait OsStrExt {
     fn starts_with(&self, prefix: &str) -> bool
         ensures { IsTrue result ↔ (rest : Bytes) × (bytes self.now ≡ prefix.now ++ rest) };
 
-    /// What stands behind this text, where it begins with it.
+    /// What comes after the prefix, where this text begins with it.
     fn split_prefix(&self, prefix: &str) -> Option<&[u8]>
         ensures { MatchOption result
             ((rest : Bytes) → ¬ (bytes self.now ≡ prefix.now ++ rest))

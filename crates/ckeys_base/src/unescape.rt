@@ -15,7 +15,7 @@ use thiserror::Error;
 /// Why bytes with escapes can't be read.
 #[derive(Debug, Drop, Error)]
 pub enum UnescapeError {
-    /// A backslash stands alone, or before what is no escape.
+    /// A backslash is alone, or before what is no escape.
     #[error("bad escape")]
     BadEscape,
     /// No memory was left.
@@ -73,7 +73,7 @@ fn read_escapes(alloc: Global, text: &[u8]) -> Result<Option<Vec<u8>>, AllocErro
     Ok(Some(plain))
 }
 
-/// The byte that the text spells first, and what stands behind that.
+/// The byte that the text spells first, and the text after that.
 fn next_byte(text: &[u8]) -> Option<(u8, &[u8])>
     ensures value { option_map (λ next. (next.0, next.1.now)) result ≡ first_spelled text.now }
     ensures shorter { IfSome result (λ next. length next.1.now < length text.now) }
@@ -89,7 +89,7 @@ fn next_byte(text: &[u8]) -> Option<(u8, &[u8])>
     Some((letter_meaning(*letter)?, behind))
 }
 
-/// The byte of the two hexadecimal digits that the text begins with, and what stands behind them.
+/// The byte of the two hexadecimal digits that the text begins with, and the text after them.
 fn next_digits(text: &[u8]) -> Option<(u8, &[u8])>
     ensures value { option_map (λ next. (next.0, next.1.now)) result ≡ two_digits text.now }
     ensures shorter { IfSome result (λ next. length next.1.now < length text.now) }

@@ -1,4 +1,4 @@
-//! Which compiler a name stands for, where that name may lead to the wrapper itself.
+//! Which compiler a name refers to, where that name may lead to the wrapper itself.
 
 ghost use Rattle.std.specs.Prelude.{◌≡◌, IfOk, IsErrOf, map};
 ghost use Rattle.std.specs.Option.{option_copied};
@@ -14,8 +14,8 @@ use std::alloc::{AllocError, Global};
 
 /// The executable, unless the file name of its canonical name is `sccache`. Then the first file of
 /// its own file name in a folder of `PATH`, cut at `:`, whose canonical name has another file name,
-/// and the executable where there is none. A growth that is refused is `Memory`, and a device that
-/// failed on a name is `Device`.
+/// and the executable where there is none. `Memory` when out of memory, and `Device` on an
+/// I/O error on a name.
 pub fn resolve_compiler_avoiding_wrapper<F: Files>(
     alloc: Global,
     files: &mut F,

@@ -41,7 +41,7 @@ file_early missing on_file NoRule h = h
 file_early missing on_file (AnswerNotUtf8 step) h = h
 file_early missing on_file (BadDigest path) h = h
 
--- only want of memory comes at any time
+-- only out of memory comes at any time
 pub memory_is : (fault : Fault) → stage_of fault ≡ any_time → fault ≡ Memory
 memory_is Memory e = refl
 memory_is (Read name) e = cc
@@ -57,7 +57,7 @@ memory_is NoRule e = cc
 memory_is (AnswerNotUtf8 step) e = cc
 memory_is (BadDigest path) e = cc
 
--- a fault that is neither want of memory nor a device's is the first one
+-- a fault that is neither out of memory nor an I/O error is the first one
 pub first_alone : (first : Option Fault) (on_file : Bytes → Type 0) (in_step : Step → Type 0) (fault : Fault) → (fault ≡ Memory → ⊥) → ((name : Bytes) → on_file name → ⊥) → ((step : Step) → in_step step → ⊥) → IsCaused first on_file in_step fault → first ≡ Some fault
 first_alone first on_file in_step Memory not_memory not_file not_tool h = absurd (not_memory refl)
 first_alone first on_file in_step (Read name) not_memory not_file not_tool (inl h) = absurd (not_file name h)

@@ -7,11 +7,11 @@ use Rattle.ckeys_records.specs.Meaning.{FailsIn, Meaning}
 use Rattle.ckeys_records.specs.declared.fault.Fault.{Fault}
 use Rattle.ckeys_records.specs.declared.step.Step.{Step}
 
--- a files' device that failed later failed in the call
+-- an I/O error of the files in a later part of a call is one in the call
 pub since : {F : Type 0} (tree : F → Tree) (failed : F → ℕ) (fails_on : F → Bytes → F → Type 0) (old mid new : F) → tree mid ≡ tree old → failed mid ≡ failed old → (name : Bytes) → FailsOn tree failed fails_on mid new name → FailsOn tree failed fails_on old new name
 since tree failed fails_on old mid new same steady name f = record { from = f.from; same = f.same ∙ same; steady = f.steady ∙ steady; ticks = f.ticks; leads = f.leads }
 
--- a tool's device that failed later failed in the call
+-- an I/O error of the tool in a later part of a call is one in the call
 pub tool_since : {T : Type 0} (meaning : T → Meaning) (failed : T → ℕ) (fails_in : T → Step → T → Type 0) (old mid new : T) → meaning mid ≡ meaning old → failed mid ≡ failed old → (step : Step) → FailsIn meaning failed fails_in mid new step → FailsIn meaning failed fails_in old new step
 tool_since meaning failed fails_in old mid new same steady step f = record { from = f.from; same = f.same ∙ same; steady = f.steady ∙ steady; ticks = f.ticks; leads = f.leads }
 

@@ -1,4 +1,4 @@
--- Keys tell records where digests are distinct.
+-- Keys determine records where digests are distinct.
 use Rattle.std.proofs.Common.{◌≡◌, inl, inr, suc, List, [], ◌∷◌, map, refl, ap, arith}
 use Rattle.std.specs.List.{Contains}
 use Rattle.os_files.specs.Bytes.{Bytes}

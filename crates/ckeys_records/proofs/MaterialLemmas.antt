@@ -1,4 +1,4 @@
--- The hashed bytes and the shape tell the record.
+-- The hashed bytes and the shape determine the record.
 use Rattle.std.proofs.Common.{◌≡◌, ◌<◌, ◌^◌, List, [], ◌∷◌, ◌++◌, Option, None, Some, Bool, true, false, ◌==◌, ◌||◌, length, map, refl, ap, sym, ◌∙◌, arith, append_assoc}
 use Rattle.std.specs.Prelude.{unwrap_or}
 use Rattle.std.specs.Int.{w64, to_le_bytes, from_le_bytes}

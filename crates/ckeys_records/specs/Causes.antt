@@ -49,7 +49,7 @@ ByStage any_time P Q R = P
 ByStage before_compile P Q R = Q
 ByStage in_compile P Q R = R
 
--- What causes a fault: want of memory; the device at that file; the device in that step; and else exactly the first fault in the order of the steps.
+-- What causes a fault: out of memory; an I/O error on that file or in that step; and else exactly the first fault in the order of the steps.
 abbrev pub IsCaused : Option Fault → (Bytes → Type 0) → (Step → Type 0) → Fault → Type 0
 IsCaused first on_file in_step Memory = Unit {0}
 IsCaused first on_file in_step (Read name) = on_file name ⊎ (first ≡ Some (Read name))
@@ -63,7 +63,7 @@ no_file name = ⊥
 abbrev pub no_step : Step → Type 0
 no_step step = ⊥
 
--- there is a fault, and by it no device's failure is told
+-- there is a fault, and it reports no I/O error
 abbrev pub HasOwnFault : {A : Type 0} → Result A Fault → Type 0
 HasOwnFault (Ok answer) = ⊥
 HasOwnFault (Err (Read name)) = ⊥

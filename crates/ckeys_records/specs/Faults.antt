@@ -34,7 +34,7 @@ abbrev pub fault_by : ParseFault → Fault
 fault_by files_faults.Memory = Memory
 fault_by (files_faults.Read path) = Read path
 
--- Why a file that is needed can't be had: memory; or its device failed; or it is the first one that isn't there.
+-- Why a file that is needed can't be had: out of memory; or an I/O error on it; or it is the first one that isn't there.
 abbrev pub FileCause : Option Bytes → (Bytes → Type 0) → Fault → Type 0
 FileCause missing on_file fault = IsCaused (option_map Read missing) on_file no_step fault
 

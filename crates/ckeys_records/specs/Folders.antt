@@ -16,7 +16,7 @@ without_slashes (b ∷ folder) = if list_all is_slash (b ∷ folder) then [] els
 abbrev pub is_bad : Bytes → Bool
 is_bad folder = not (is_absolute folder) || list_all is_slash folder
 
--- what a configuration fixes: the folders that don't count, the zone in which days are told, and whether include records are kept
+-- what a configuration fixes: the folders that don't count, the zone in which days are given, and whether include records are kept
 pub record Settings : Type 0 where
   pub basedirs : List Bytes
   pub zone : ZoneRule

@@ -1,4 +1,4 @@
--- The bytes that are hashed of a record, and what these don't tell.
+-- The bytes that are hashed of a record, and what these don't determine.
 use Rattle.std.specs.Prelude.{Bool, true, false, ℕ, List, [], ◌∷◌, ◌++◌, length, map, unwrap_or, codes}
 use Rattle.std.specs.Int.{w64, to_le_bytes}
 use Rattle.std.specs.List.{flat_map}
@@ -36,7 +36,7 @@ abbrev pub plusplus_byte : Bool → ℕ
 plusplus_byte true = 1
 plusplus_byte false = 0
 
--- The compiler's digest, a byte for C++, the version, the language's name, each word with the byte 255 behind it, the digests of extra files, that of the assembler, each variable with its lengths, and the text.
+-- The compiler's digest, a byte for C++, the version, the language's name, each word with the byte 255 after it, the digests of extra files, that of the assembler, each variable with its lengths, and the text.
 abbrev pub material_of : HashedParts → Bytes
 material_of r =
     r.compiler_digest

@@ -57,7 +57,7 @@ names_of outputs = map (λ output. record { name = output.0; optional = output.1
 abbrev pub made_of : ℤ → List (Option Bytes) → Made
 made_of status contents = record { status = status; contents = contents }
 
--- Why a device failed in a step: a call of that step, from a state of the same meaning with no failure yet, left the tool as it is now, and moved its failure tick.
+-- Why a step had an I/O error: a call of that step, from a state of the same meaning with none yet, left the tool as it is now and moved its failure tick.
 pub record FailsIn {T : Type 0} (meaning : T → Meaning) (failed : T → ℕ) (fails_in : T → Step → T → Type 0) (old : T) (new : T) (step : Step) : Type 0 where
   pub from : T
   pub same : meaning from ≡ meaning old

@@ -71,6 +71,6 @@ parts_handed h = record {
   text = stripped_of text_places h.basedirs h.preprocessor_output;
 }
 
--- A state that was fed these bytes: whatever it held, they stand behind it.
+-- A state that was fed these bytes: whatever it held, they come after it.
 abbrev pub IsFed : {H : Type 0} → (H → Bytes → Type 0) → H → Bytes → H → Type 0
 IsFed holds old bytes new = (held : Bytes) → holds old held → holds new (held ++ bytes)

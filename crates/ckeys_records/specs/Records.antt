@@ -1,4 +1,4 @@
--- What a key of a C request stands for, and the parts that are hashed for it.
+-- What a key of a C request represents, and the parts that are hashed for it.
 use Rattle.std.specs.Prelude.{◌≡◌, ◌<◌, ◌^◌, Bool, false, ◌==◌, List, map, length, Option}
 use Rattle.std.specs.List.{AllByRecursion, list_any}
 use Rattle.os_files.specs.Bytes.{Bytes}
@@ -55,11 +55,11 @@ hold_end words = list_any holds_end words
 abbrev pub LacksEnd : Bytes → Type 0
 LacksEnd word = holds_end word ≡ false
 
--- lengths that are told fit 64 bits
+-- lengths that are hashed fit 64 bits
 abbrev pub FitsLength : Variable → Type 0
 FitsLength v = (length v.0 < 2 ^ 64) × (length v.1 < 2 ^ 64)
 
--- words lack that byte, and variables have lengths that can be told
+-- words lack that byte, and variables have lengths that can be written
 pub record AreTold (ws : List Bytes) (vs : List Variable) : Type 0 where
   pub words : AllByRecursion LacksEnd ws
   pub variables : AllByRecursion FitsLength vs

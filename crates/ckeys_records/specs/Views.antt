@@ -1,4 +1,4 @@
--- What clauses see of a tool, as one value: its meaning, its ticks, and by which call its device failed.
+-- What clauses see of a tool, as one value: its meaning, its ticks, and by which call it had an I/O error.
 use Rattle.std.specs.Prelude.{◌≡◌}
 use Rattle.os_files.specs.Views.{FilesView}
 use Rattle.ckeys_records.specs.Meaning.{FailsIn}
@@ -8,7 +8,7 @@ use Rattle.ckeys_records.specs.declared.step.Step.{Step}
 abbrev pub ToolView : Type 0 → Type 1
 ToolView T = Ghosts T
 
--- the device failed in that step, from the one state of the tool to the other
+-- an I/O error occurred in that step, from the one state of the tool to the other
 abbrev pub ToolFails : {T : Type 0} → ToolView T → T → T → Step → Type 0
 ToolFails tool old new step = FailsIn tool.meaning tool.failed tool.fails_in old new step
 

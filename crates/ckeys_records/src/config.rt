@@ -13,7 +13,7 @@ use time_macros::zone::Zone;
 /// Why there is no configuration.
 #[derive(Clone, Debug, Drop, Error, PartialEq, Eq)]
 pub enum ConfigError {
-    /// A growth was refused.
+    /// Out of memory.
     #[error("no memory was left")]
     Memory,
     /// This folder isn't absolute, or is only slashes.
@@ -31,7 +31,7 @@ impl From<AllocError> for ConfigError {
     }
 }
 
-/// The folders that don't count, the zone in which days are told, and whether include records are kept. Contracts see the
+/// The folders that don't count, the zone in which days are given, and whether include records are kept. Contracts see the
 /// folders without the slashes at their ends.
 #[derive(Clone, Debug, Drop, PartialEq, Eq)]
 pub struct KeyConfig {
@@ -51,7 +51,7 @@ impl Model for KeyConfig {
 }
 
 impl KeyConfig {
-    /// These folders, each without the slashes at its end; days are told in that zone; include records are kept where
+    /// These folders, each without the slashes at its end; days are given in that zone; include records are kept where
     /// `direct` says so.
     ///
     /// `BadFolder` names the first folder that isn't absolute or is only slashes.
@@ -86,7 +86,7 @@ impl KeyConfig {
         self.direct
     }
 
-    /// The zone in which days are told.
+    /// The zone in which days are given.
     pub fn zone(&self) -> &Zone
         ensures { result.now ≡ self.now.zone }
     {
@@ -114,7 +114,7 @@ fn folder_without_slashes(alloc: Global, folder: &OsBytes) -> Result<OsBytes, Co
     Ok(OsBytes::from_slice(alloc, kept)?)
 }
 
-/// What stands before the slashes at the end.
+/// What comes before the slashes at the end.
 fn before_slashes(folder: &[u8]) -> &[u8]
     ensures { result.now ≡ without_slashes folder.now }
 {

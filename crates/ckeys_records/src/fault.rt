@@ -11,13 +11,13 @@ use thiserror::Error;
 /// What went wrong.
 #[derive(Clone, Debug, Drop, Error, PartialEq, Eq)]
 pub enum Fault {
-    /// A growth was refused.
+    /// Out of memory.
     #[error("memory")]
     Memory,
-    /// The device of the files failed on this path, or a file that is needed isn't there.
+    /// An I/O error occurred on this path, or a file that is needed isn't there.
     #[error("read {0}")]
     Read(OsBytes),
-    /// The tool's device failed in that step.
+    /// The tool had an I/O error in that step.
     #[error("tool {0}")]
     Tool(Step),
     /// The preprocessor ended with that status, which isn't 0; or rustc did, asked for its dependencies or the names of its outputs.

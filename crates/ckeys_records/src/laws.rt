@@ -12,7 +12,7 @@ ghost use Rattle.ckeys_records.specs.Params.{Handed, parts_handed};
 use ckeys_base::digest::texts_tell_digests;
 use ckeys_base::hash_state::HashState;
 
-/// The hashed bytes tell the parts, together with the shape: equal bytes and shapes are of equal parts, whose words
+/// The hashed bytes determine the parts, together with the shape: equal bytes and shapes are of equal parts, whose words
 /// lack the byte 255 and whose variables have lengths below 2^64.
 pub fn materials_tell_parts()
     ensures { (one other : HashedParts) → AreTold one.words one.variables

@@ -1,5 +1,5 @@
 //! What a call to a C compiler comes to: the configuration, what a preprocessor answers, the record whose bytes are hashed, its
-//! key with the shape that the bytes alone don't tell, and what can go wrong on the way, in which step.
+//! key with the shape that the bytes alone don't determine, and what can go wrong on the way, in which step.
 #![tactic(auto)]
 
 pub mod config;

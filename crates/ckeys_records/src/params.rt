@@ -65,7 +65,7 @@ impl<'a> HashKeyParams<'a> {
         }
     }
 
-    /// With words that name architectures, which are hashed behind the others.
+    /// With words that name architectures, which are hashed after the others.
     pub fn with_arch_args(self, arch_args: &'a [OsBytes]) -> HashKeyParams<'a>
         ensures { handed_of result ≡ record (handed_of self.entry) { arch_args = arch_args.now } }
     {
@@ -116,13 +116,13 @@ impl<'a> HashKeyParams<'a> {
         }
     }
 
-    /// The key, which is the digest of what is hashed, as text; and what the hashed bytes don't tell.
+    /// The key, which is the digest of what is hashed, as text; and what the hashed bytes don't determine.
     pub fn compute<H: HashState>(&self, alloc: Global) -> Result<(String, CShape), AllocError>
         ensures key { IfOk result
             (λ made. string_bytes made.0
             ≡ hex_of (H.digest_of (material_of (parts_handed (handed_of self.now))))) }
         ensures shape { IfOk result (λ made. made.1 ≡ shape_of (parts_handed (handed_of self.now))) }
-        // The lengths of variables are told in 8 bytes each, and so are known again.
+        // The lengths of variables are written in 8 bytes each, and so can be read back.
         ensures fit { OnOk result
             (AllByRecursion FitsLength (parts_handed (handed_of self.now)).variables) }
     {
@@ -153,7 +153,7 @@ impl<'a> HashKeyParams<'a> {
         hash_arguments(alloc, digest, self.arch_args, self.basedirs)
     }
 
-    /// What the hashed bytes don't tell.
+    /// What the hashed bytes don't determine.
     pub fn shape(&self, alloc: Global) -> Result<CShape, AllocError>
         ensures { IfOk result (λ shape. shape ≡ shape_of (parts_handed (handed_of self.now))) }
     {
@@ -179,7 +179,7 @@ fn lengths(alloc: Global, texts: &[String]) -> Result<Listed<usize>, AllocError>
     Ok(lengths)
 }
 
-/// Feeds words to a digest, each without the folders and with the byte 255 behind it.
+/// Feeds words to a digest, each without the folders and with the byte 255 after it.
 pub fn hash_arguments<H: HashState>(
     alloc: Global,
     digest: &mut Digest<H>,
@@ -229,7 +229,7 @@ pub fn is_cached(name: &[u8]) -> bool
         || name == b"IPHONEOS_DEPLOYMENT_TARGET".as_slice()
 }
 
-/// Feeds bytes to a digest, behind their length.
+/// Feeds bytes to a digest, after their length.
 fn hash_framed<H: HashState>(digest: &mut Digest<H>, bytes: &[u8])
     ensures fed { IsFed H.holds digest.old (framed bytes.now) digest.new }
     ensures fits { length bytes.now < 2 ^ 64 }

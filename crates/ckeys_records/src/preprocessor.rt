@@ -23,10 +23,10 @@ pub struct Printed {
 /// Why a tool gave no answer.
 #[derive(Clone, Copy, Debug, Error, PartialEq, Eq)]
 pub enum ToolFail {
-    /// A growth was refused.
+    /// Out of memory.
     #[error("memory")]
     Memory,
-    /// The tool's device failed, or that of the files that it read.
+    /// An I/O error of the tool, or of the files that it read.
     #[error("the tool's device failed")]
     Device,
 }
@@ -41,7 +41,7 @@ impl From<AllocError> for ToolFail {
     }
 }
 
-/// How often a tool's steps ran and its device failed, each modulo 2^64.
+/// How often a tool's steps ran and how often it had an I/O error, each modulo 2^64.
 #[derive(Clone, Copy, Debug, PartialEq, Eq)]
 pub struct Ticks {
     pub preprocess: u64,

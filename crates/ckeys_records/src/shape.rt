@@ -1,4 +1,4 @@
-//! What the hashed bytes of a request don't tell.
+//! What the hashed bytes of a request don't determine.
 
 use cmdlines_tables::language::Language;
 use os_files::listed::Listed;

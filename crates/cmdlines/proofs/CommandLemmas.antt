@@ -48,7 +48,7 @@ module _ (has : HasReading) (only : OneReading) (d : Bool) (t : List (Entry ArgK
   abbrev ReadsOn : List Bytes → List (Item ArgKind) → Type 0
   ReadsOn words items = (rest : List Bytes) → On words items rest
 
-  -- The words are read as these items, and nothing is behind them.
+  -- The words are read as these items, and nothing comes after them.
   record Ends (words : List Bytes) (items : List (Item ArgKind)) : Type 0 where
     found : List (Item ArgKind)
     reads : reading d t words ≡ record { items = found; cut_short = false }
@@ -93,7 +93,7 @@ module _ (has : HasReading) (only : OneReading) (d : Bool) (t : List (Entry ArgK
         alike = map-append normal first.found second.found ∙ ap (λ xs. xs ++ map normal second.found) first.alike ∙ ap (λ xs. map normal items ++ xs) second.alike ∙ sym (map-append normal items others);
       }
 
-  -- a wanted option isn't behind double dashes, so it reads again where no value is empty
+  -- a wanted option isn't after double dashes, so it reads again where no value is empty
   wanted_again : (list : OptionList) → is_same_list lists.Nowhere list ≡ false → (items : List (Item ArgKind)) → AllReadAgainUnlessEmpty d t items → list_any (is_empty_j t) items ≡ false → AllReadAgain d t (wanted list items)
   wanted_again list some [] h none = tt
   wanted_again list some (a ∷ items) h none =
@@ -169,7 +169,7 @@ module _ (has : HasReading) (only : OneReading) (again : ItemsAgain) (together :
       (when_on (lacks_path kind o) (codes "-MF") DepArgumentPath (beside path) (λ h. own.dependency_path (writes (writes_dependencies kind) o.asked (not o.path) h) (beside path)))
       (when_on (lacks_target kind o) (codes "-MT") DepTarget path (λ h. own.dependency_target (writes (writes_dependencies kind) o.asked (not o.target) h) path))
 
-  -- the input among the options, and behind them
+  -- the input among the options, and after them
   front_on : (behind : Bool) (input : Bytes) → IsSafeBy d t behind input → Reads-on (front_words behind input) (front_items behind input)
   front_on true input safe = none_on has only d t
   front_on false input (inl h) = absurd (clash h.0)

@@ -1,4 +1,4 @@
--- The input of words that ask for something can stand where it's written.
+-- The input of words that ask for something can be placed where it's written.
 use Rattle.std.proofs.Common.{◌≡◌, ◌⊎◌, Bool, true, false, cond, ◌&&◌, ◌||◌, ◌==◌, List, [], ◌∷◌, ◌++◌, length, Option, Some, None, map, refl, ap, subst, ◌∙◌, inl, inr}
 use Rattle.std.specs.Prelude.{codes, find, unwrap_or, is_some, nat_lt}
 use Rattle.std.specs.List.{AllByRecursion, flat_map, list_any}
@@ -119,7 +119,7 @@ module _ (test : ArgKind → Bool) where
       by among false (Some y) at q = there among y at (some_same q)
 
 module _ (d : Bool) (t : List (Entry ArgKind)) where
-  -- a loose word is one that the table makes nothing else of, none stands behind double dashes unless these end the options, and an option that gives an input is of the table
+  -- a loose word is one that the table makes nothing else of, none comes after double dashes unless these end the options, and an option that gives an input is of the table
   abbrev Gives : ArgKind → Type 0
   Gives k = gives_input k ≡ true → Has gives_input t
 
@@ -226,7 +226,7 @@ module _ (d : Bool) (t : List (Entry ArgKind)) where
   table_gives (valued f k v e ∷ items) all h = either_given k items (gives_input k) refl all.0 (table_gives items all.1) h
   table_gives (behind_dashes w ∷ items) all h = table_gives items all.1 h
 
-  -- and where none did, each input can stand where it's written
+  -- and where none did, each input can be placed where it's written
   abbrev IsSafeInput : Input → Type 0
   IsSafeInput i = IsSafeBy d t i.behind_dashes i.word
 

@@ -30,7 +30,7 @@ output_path p = unwrap_or (object_path p) []
 abbrev pub HasObjectIn : Decision → Type 0
 HasObjectIn decision = (p : ParsedArguments) → decision ≡ asks p → is_some (object_path p) ≡ true
 
--- The input: among the options, or behind double dashes at the end.
+-- The input: among the options, or after double dashes at the end.
 abbrev pub front_words : Bool → Bytes → List Bytes
 front_words false input = input ∷ []
 front_words true input = []
@@ -56,7 +56,7 @@ abbrev pub color_items : CCompilerKind → Bool → List (Item ArgKind)
 color_items kind true = []
 color_items kind false = option_to_list (color_item kind)
 
--- Where a dependency file is asked for, but not where it goes, it goes beside the object; and its target is the object, where none is named. Only a compiler that has such options is told.
+-- Where a dependency file is asked for, but not where it goes, it goes beside the object; its target is the object, where none is named. Only a compiler that has such options gets them.
 abbrev pub lacks_path : CCompilerKind → DependencyOptions → Bool
 lacks_path kind d = writes_dependencies kind && d.asked && not d.path
 
@@ -134,7 +134,7 @@ preprocess_items kind p items =
     ++ wanted lists.Arch items
     ++ behind_items p.double_dash_input p.input
 
--- A command's words are read as these items, and nothing is cut short. Where a value may stand either way it may stand otherwise.
+-- A command's words are read as these items, and nothing is cut short. Where a value may be joined or separate, it may be either.
 pub record ReadsAs (kind : CCompilerKind) (command : List Bytes) (expected : List (Item ArgKind)) : Type 0 where
   pub items : map normal (reading_of kind command).items ≡ map normal expected
   pub whole : (reading_of kind command).cut_short ≡ false

@@ -11,11 +11,11 @@ abbrev pub begins_with_dash_at : Bytes → Bool
 begins_with_dash_at [] = false
 begins_with_dash_at (b ∷ bs) = (b == 45) && begins_with_at bs
 
--- to that compiler the word names a file of words
+-- to that compiler the word names a response file
 abbrev pub names_file : CCompilerKind → Bytes → Bool
 names_file Diab word = begins_with_at word || begins_with_dash_at word
 names_file kind word = begins_with_at word
 
--- one of the words of a command to that compiler would make it open a file of words
+-- one of the words of a command to that compiler would make it open a response file
 abbrev pub opens_file : CCompilerKind → List Bytes → Bool
 opens_file kind words = list_any (names_file kind) words

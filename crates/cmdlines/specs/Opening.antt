@@ -1,4 +1,4 @@
--- The words of a request, in whose place those of the files stand that its compiler opens.
+-- The words of a request, with those that name files which its compiler opens replaced by the words of these files.
 use Rattle.std.specs.Prelude.{List, Option, None, Some}
 use Rattle.os_files.specs.Bytes.{Bytes}
 use Rattle.os_files.specs.Tree.{Tree}

@@ -142,17 +142,17 @@ decision_by kind table words = decision_on kind table (reading (ends_options kin
 abbrev pub parse_of : CCompilerKind → List Bytes → Decision
 parse_of kind words = decision_by kind (entries_of kind) words
 
--- An input can stand where it's written: behind double dashes that end the options, or as a word that is loose.
+-- An input can be placed where it's written: after double dashes that end the options, or as a word that is loose.
 abbrev pub IsSafeBy : Bool → List (Entry ArgKind) → Bool → Bytes → Type 0
 IsSafeBy dashes table behind input = ((behind ≡ true) × (dashes ≡ true)) ⊎ ((behind ≡ false) × (first_word dashes table input ≡ whole (raw input)))
 
 abbrev pub HasSafeInput : CCompilerKind → ParsedArguments → Type 0
 HasSafeInput kind p = IsSafeBy (ends_options kind) (entries_of kind) p.double_dash_input p.input
 
--- An option of Msvc can give an input that its tables read otherwise where it stands alone.
+-- An option of Msvc can give an input that its tables read otherwise where it is a word by itself.
 abbrev pub IsGivenByOption : CCompilerKind → List Bytes → Type 0
 IsGivenByOption kind words = (kind ≡ Msvc) × (list_any (has_kind gives_input) (reading_of kind words).items ≡ true)
 
--- whatever these words ask for, its input can stand where it's written, or an option of Msvc gave it
+-- whatever these words ask for, its input can be placed where it's written, or an option of Msvc gave it
 abbrev pub HasSafeInputIn : CCompilerKind → List Bytes → Decision → Type 0
 HasSafeInputIn kind words decision = (p : ParsedArguments) → decision ≡ asks p → HasSafeInput kind p ⊎ IsGivenByOption kind words

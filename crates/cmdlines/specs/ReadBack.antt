@@ -9,7 +9,7 @@ use Rattle.cmdlines.specs.Commands.{ReadsAs, output_path, compile_items, preproc
 use Rattle.cmdlines.specs.Parsing.{parse_of, asks, HasSafeInput}
 use Rattle.cmdlines_requests.specs.declared.parsed.ParsedArguments.{ParsedArguments}
 
--- For whatever words asked for this: where no option had an empty value and the input can stand where it's written, the command is read as these items, with the wanted options of those words.
+-- For whatever words asked for this: where no option had an empty value and the input can be where it's written, the command is read as these items, with the wanted options of those words.
 abbrev pub ReadsAsWanted : CCompilerKind → ParsedArguments → List Bytes → (List (Item ArgKind) → List (Item ArgKind)) → Type 0
 ReadsAsWanted kind p command expected = (words : List Bytes) → parse_of kind words ≡ asks p → p.empty_value ≡ false → HasSafeInput kind p → ReadsAs kind command (expected (reading_of kind words).items)
 

@@ -28,7 +28,7 @@ has_kind test (flag f k) = test k
 has_kind test (valued f k v d) = test k
 has_kind test _ = false
 
--- the word of an option, which is empty for a flag that stands alone
+-- the word of an option, which is empty for a flag without a value
 abbrev pub word_of : Item ArgKind → Bytes
 word_of (valued f k v d) = v
 word_of _ = []
@@ -57,7 +57,7 @@ wanted list items = filter (is_wanted list) items
 abbrev pub wanted_words : OptionList → List (Item ArgKind) → List Bytes
 wanted_words list items = words_of (wanted list items)
 
--- An input, and whether it stands behind double dashes that end the options.
+-- An input, and whether it comes after double dashes that end the options.
 abbrev pub input_at : Bytes → Bool → Input
 input_at word seen = record { word = word; behind_dashes = seen }
 
@@ -121,7 +121,7 @@ language_in _ = None
 abbrev pub blocker_in : Item ArgKind → Option Bytes
 blocker_in item = when (has_kind blocks_preprocessor_cache item) (flag_of item)
 
--- Options that are too hard: those of that kind, and what Clang's front end is told of modules and precompiled headers.
+-- Options that are too hard: those of that kind, and what is passed to Clang's front end about modules and precompiled headers.
 abbrev pub is_hard_word : Bytes → Bool
 is_hard_word word = bytes_eq word (codes "-load") || bytes_eq word (codes "-include-pch") || bytes_eq word (codes "-emit-pch") || is_some (behind (codes "-fmodule") word)
 

@@ -29,7 +29,7 @@ pub enum CommandError {
     /// There is no output `obj`.
     #[error("no object is among the outputs")]
     NoObjOutput,
-    /// A growth was refused.
+    /// Out of memory.
     #[error("no memory was left")]
     Memory,
 }
@@ -115,7 +115,7 @@ fn push_output(
     }
 }
 
-/// Adds the input, where it stands among the options.
+/// Adds the input, where it is among the options.
 fn push_front(words: &mut Listed<OsBytes>, parsed: &ParsedArguments) -> Result<(), AllocError>
     ensures { OnOk result
         (words.new ≡ words.old ++ front_words parsed.now.double_dash_input parsed.now.input) }
@@ -126,7 +126,7 @@ fn push_front(words: &mut Listed<OsBytes>, parsed: &ParsedArguments) -> Result<(
     Ok(())
 }
 
-/// Adds the input behind double dashes, where it stood behind them.
+/// Adds the input after double dashes, where it was after them.
 fn push_behind(
     alloc: Global,
     words: &mut Listed<OsBytes>,

@@ -35,7 +35,7 @@ pub struct Facts {
     /// The flag of the first option under which the preprocessor cache can't be asked.
     pub blocker: Option<OsBytes>,
     pub dependencies: DependencyOptions,
-    /// An option whose value may stand either way was read with an empty value.
+    /// An option whose value may be joined or separate was read with an empty value.
     pub empty_value: bool,
 }
 
@@ -59,7 +59,7 @@ impl Facts {
             empty_value: false,
         }
     }
-    /// Notes what an argument says. Where it stands doesn't matter.
+    /// Notes what an argument says. Its place doesn't matter.
     pub(crate) fn note<S: SearchableArgInfo<ArgData>>(
         &mut self,
         alloc: Global,
@@ -165,7 +165,7 @@ fn color_named(word: &[u8]) -> ColorMode
     }
 }
 
-/// Whether an option whose value may stand either way was read with an empty value.
+/// Whether an option whose value may be joined or separate was read with an empty value.
 fn is_empty_value<S: SearchableArgInfo<ArgData>>(table: &S, argument: &Argument<ArgData>) -> bool
     ensures { (behind : Bool)
         → result ≡ is_empty_j (all_entries (S.tables table.now)) (placed behind argument.now) }

@@ -127,8 +127,8 @@ impl<K: HasKind> FoundCompiler<K> {
         self.assembler_digest.as_deref()
     }
 
-    /// What these words come to, with the files of words that they name opened from that directory; words that name none aren't
-    /// copied. `Read` names one on which the device failed.
+    /// What these words come to, with the response files that they name opened from that directory; words that name none aren't
+    /// copied. `Read` names one on which there was an I/O error.
     pub fn parse_arguments<F: Files>(
         &self,
         alloc: Global,

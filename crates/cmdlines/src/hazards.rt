@@ -8,14 +8,14 @@ use cmdlines_requests::parsed::ParsedArguments;
 use cmdlines_tables::compiler::CCompilerKind;
 use os_files::os_bytes::OsBytes;
 
-/// Whether an option whose value may stand either way was read with an empty value. It takes no memory.
+/// Whether an option whose value may be joined or separate was read with an empty value. It takes no memory.
 pub fn empty_value(parsed: &ParsedArguments) -> bool
     ensures { result ≡ parsed.now.empty_value }
 {
     parsed.empty_value
 }
 
-/// Whether to that compiler the word names a file of words.
+/// Whether to that compiler the word names a response file.
 fn names_file(kind: CCompilerKind, word: &[u8]) -> bool
     ensures { result ≡ names_file kind word.now }
 {
@@ -28,7 +28,7 @@ fn names_file(kind: CCompilerKind, word: &[u8]) -> bool
     }
 }
 
-/// Whether one of the words of a command to that compiler would make it open a file of words. It takes no memory.
+/// Whether one of the words of a command to that compiler would make it open a response file. It takes no memory.
 pub fn opens_file(words: &[OsBytes], kind: CCompilerKind) -> bool
     ensures { result ≡ opens_file kind words.now }
 {

@@ -14,7 +14,7 @@ use cmdlines_base::reading_back::{items_read_again, items_read_together};
 use cmdlines_tables::laws::{only_msvc_gives_inputs_by_options, own_words_are_read};
 use cmdlines_tables::value::ArgData;
 
-/// Whatever words ask for, its input can stand where it's written: it is loose, or stands behind double dashes that end the
+/// Whatever words ask for, its input can be placed where it's written: it is loose, or comes after double dashes that end the
 /// options. Only an input that an option of Msvc gave need not.
 pub fn inputs_are_safe()
     ensures { (kind : CCompilerKind) (words : List Bytes)

@@ -18,7 +18,7 @@ use std::alloc::{AllocError, Global};
 #[derive(Drop)]
 pub struct Input {
     pub word: OsBytes,
-    /// It stands behind `--`.
+    /// It comes after `--`.
     pub behind_dashes: bool,
 }
 

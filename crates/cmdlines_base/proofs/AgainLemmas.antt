@@ -37,7 +37,7 @@ front_same (x ∷ a) (y ∷ b) r s h l =
     let long : length a ≡ length b = omega arith in
     let e = front_same a b r s tails long in cc
 
--- what stands behind the flag may stand there
+-- what comes after the flag may come there
 abbrev first_allowed : Option ℕ → List ℕ → Bool
 first_allowed d [] = true
 first_allowed d (b ∷ bs) = delimiter_allows d b
@@ -61,7 +61,7 @@ module _ {K : Type 0} (table : List (Entry K)) (clear : IsClear table) (dashes :
   flag_again e among = longest_unique e.flag e among ([], sym (append-nil e.flag), refl)
       (λ y in' fit. omega (arith, ap length fit.1, length-append y.flag fit.0))
 
-  -- so has a flag of two bytes with a value behind it
+  -- so has a flag of two bytes with a value after it
   pub joined_again : (e : Entry K) (rest : List ℕ) → Contains table e → is_j e ≡ true → length e.flag ≡ 2 → may_follow e rest ≡ true → longest_fit table (e.flag ++ rest) ≡ Some e
   joined_again e rest among j two may = longest_unique (e.flag ++ rest) e among (rest, refl, may)
       (λ y in' fit. by y in' fit (cases_le (length y.flag) (length e.flag)))
@@ -78,7 +78,7 @@ module _ {K : Type 0} (table : List (Entry K)) (clear : IsClear table) (dashes :
           let same : y.flag ≡ e.flag = on.1 ∙ ap (λ m. e.flag ++ m) none ∙ append-nil e.flag in
           omega (arith, ap length same)
 
-  -- what a first word makes reads again, unless it is an empty value that may stand either way
+  -- what a first word makes reads again, unless it is an empty value that may be joined or separate
   abbrev ReadsStart : Start K → Type 0
   ReadsStart (whole a) = ((is_behind a && dashes) || is_empty_j table a) ≡ false → ReadsAgain dashes table a
   ReadsStart ends = dashes ≡ true
@@ -107,7 +107,7 @@ module _ {K : Type 0} (table : List (Entry K)) (clear : IsClear table) (dashes :
       let there = rw same at here in
       record { item = valued f k (c ∷ cs) (Concatenated (Some x)); reads = reading-alone dashes table (f ++ x ∷ c ∷ cs) _ there; alike = refl }
 
-  -- a value that may stand either way, and isn't empty, behind its flag
+  -- a value that may be joined or separate, and isn't empty, after its flag
   joined_item : (f : List ℕ) (k : K) (d : Option ℕ)
       → ((x : ℕ) (xs : List ℕ) → length f ≡ 2 → delimiter_allows d x ≡ true → first_word dashes table (f ++ x ∷ xs) ≡ whole (valued f k (value_in d (x ∷ xs)) (CanBeSeparated d)))
       → (c : ℕ) (cs : List ℕ) → length f ≡ 2 → (rest : List (List ℕ)) → reading dashes table (joined f d (c ∷ cs) ∷ rest) ≡ before (valued f k (c ∷ cs) (CanBeSeparated d)) (reading dashes table rest)
@@ -213,7 +213,7 @@ module _ {K : Type 0} (table : List (Entry K)) (clear : IsClear table) (dashes :
   abbrev Again : Item K → Type 0
   Again a = ((is_behind a && dashes) || is_empty_j table a) ≡ false → ReadsAgain dashes table a
 
-  -- what stands behind double dashes needn't
+  -- what comes after double dashes needn't
   none_again : dashes ≡ true → (words : List (List ℕ)) → AllByRecursion Again (map behind_dashes words)
   none_again ended [] = tt
   none_again ended (w ∷ ws) = ((λ full. let bad : true ≡ false = sym (ap (λ d. d || false) ended) ∙ full in absurd (cc)), none_again ended ws)

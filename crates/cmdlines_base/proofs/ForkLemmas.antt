@@ -1,4 +1,4 @@
--- Where the entries with each byte stand, as they are noted one by one.
+-- Where the entries with each byte are, as they are noted one by one.
 use Rattle.std.proofs.Common.{◌≡◌, ◌≢◌, ◌+◌, ◌-◌, ◌&&◌, ℕ, ◌≤◌, ◌<◌, List, length, take, drop, get_or, Bool, true, false, eqb, nat_lt, cond, refl, ap, sym, subst, ◌∙◌, arith}
 use Rattle.std.proofs.lemmas.List.{get_or-drop, length-drop, length-map, take-map, drop-map}
 use Rattle.std.specs.List.Sorted.{IsNonDecreasingBy}
@@ -10,7 +10,7 @@ use Rattle.cmdlines_base.specs.Forks.{StandAt}
 use Rattle.cmdlines_base.proofs.NodeLemmas.{stretches, taken, left}
 use borrow.Author.Tests.{ltb-true, ltb-false}
 
--- what is noted of the first entries: of their bytes B has the first places and E those behind the last ones
+-- what is noted of the first entries: of their bytes B has the first places and E those after the last ones
 pub record Noted {X : Type 0} (At : X → ℕ) (xs : List X) (i : ℕ) (B E : ℕ → ℕ) : Type 0 where
   pub ordered : (b : ℕ) → B b ≤ E b
   pub some : (b : ℕ) → 0 < E b → B b < E b
@@ -80,11 +80,11 @@ module _ {X : Type 0} (At : X → ℕ) (xs : List X) (i a : ℕ) (B E B' E' : �
   pub one_noted : Noted At xs (i + 1) B' E'
   one_noted = record { ordered = new_ordered; some = new_some; within = new_within; found = new_found; only = new_only }
 
--- the byte behind the first one
+-- the byte after the first one
 abbrev pub second : {T K : Type 0} → ArgInfo T K → ℕ
 second x = byte_at 1 (entry_of x)
 
--- once all are noted, those with each byte stand where it is noted
+-- once all are noted, those with each byte are where it is noted
 pub noted_stand : {T K : Type 0} (xs : List (ArgInfo T K)) (B E : ℕ → ℕ) → Noted second xs (length xs) B E → (b : ℕ) → StandAt (entries_of xs) b (B b) (E b)
 noted_stand xs B E h b =
     let le : B b ≤ E b = h.ordered b in

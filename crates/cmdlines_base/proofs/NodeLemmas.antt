@@ -1,4 +1,4 @@
--- Nodes of a table: entries whose flags begin alike, and those of them with one byte behind that.
+-- Nodes of a table: entries whose flags begin alike, and those of them with one byte after that.
 use Rattle.std.proofs.Common.{◌≡◌, ◌≢◌, ◌+◌, ◌-◌, ◌⊎◌, inl, inr, ⊎_elim, Ordering, ◌&&◌, suc, zero, ℕ, ◌≤◌, ◌<◌, List, [], ◌∷◌, ◌++◌, length, take, drop, Option, None, Some, Bool, true, false, nat_lt, nat_le, cond, refl, ap, sym, subst, ◌∙◌, arith, All, get_or, MatchOption}
 use Rattle.std.proofs.lemmas.List.{append-nil, take-append-drop, take-take, get_or-take, get_or-drop, length-take, length-drop, length-map, map-append, get_or-map}
 use Rattle.std.proofs.lemmas.List.Elements.{All-cons, All-nil, All-head, All-tail, All-weaker, All-map, All-from_all_within, All-get_or}
@@ -70,7 +70,7 @@ pub nothing_picked : {T K : Type 0} (d byte : ℕ) (xs : List (ArgInfo T K)) →
 nothing_picked d byte [] h = none_picked d byte [] (All-nil (LacksByte d byte))
 nothing_picked d byte (x ∷ xs) h = cc
 
--- where bytes rise, the first one and the last one tell of all
+-- where bytes rise, the first one and the last one determine all
 pub ends_tell : {T K : Type 0} (d byte : ℕ) (xs : List (ArgInfo T K)) (a b : ArgInfo T K) → IsNonDecreasingBy (λ y. byte_at d (entry_of y)) xs
     → slice_get xs 0 ≡ Some a → slice_get xs (length xs - 1) ≡ Some b
     → byte_at d (entry_of a) ≡ byte → byte_at d (entry_of b) ≡ byte → All (HasByte d byte) (entries_of xs)
@@ -103,7 +103,7 @@ whole_picked d byte es have = record { front = []; back = []; whole = sym (appen
 pub drop_whole : {X : Type 0} (i : ℕ) (xs : List X) → take (length xs - i) (drop i xs) ≡ drop i xs
 drop_whole i xs = ap (λ n. take n (drop i xs)) (sym (length-drop i xs)) ∙ take-length (drop i xs)
 
--- a flag that begins the word: what stands behind it is what is left of the word
+-- a flag that begins the word: what comes after it is what is left of the word
 begins_by : (flag word : List ℕ) → take (length flag) word ≡ flag → behind flag word ≡ Some (drop (length flag) word)
 begins_by flag word same = ap (λ w. behind flag w) (sym (take-append-drop (length flag) word) ∙ ap (λ l. l ++ drop (length flag) word) same) ∙ behind-append flag (drop (length flag) word)
 
@@ -146,7 +146,7 @@ lesser x y o h = by (nat_cmp x y) refl h
     by Equal q t = inr (ranked x y Equal (sym q), t)
     by Greater q t = cc
 
--- flags that rise and are alike so far: the later one goes on behind that
+-- flags that rise and are alike so far: the later one goes on after that
 cmp-goes_on : (d : ℕ) (a b : List ℕ) → d ≤ length b → take d a ≡ take d b → is_lt (slice_cmp nat_cmp a b) ≡ true → d < length b
 cmp-goes_on zero [] [] le same h = cc
 cmp-goes_on zero (x ∷ a) [] le same h = cc
@@ -188,7 +188,7 @@ table_behind e es h = and_right (has_ascii e && rises_to e es) (is_table es) h
 table_rises : {K : Type 0} (e n : Entry K) (ns : List (Entry K)) → is_table (e ∷ n ∷ ns) ≡ true → is_lt (slice_cmp nat_cmp e.flag n.flag) ≡ true
 table_rises e n ns h = and_right (has_ascii e) (rises_to e (n ∷ ns)) (and_left (has_ascii e && rises_to e (n ∷ ns)) (is_table (n ∷ ns)) h)
 
--- what stands behind the first of a table's entries goes on
+-- what comes after the first of a table's entries goes on
 pub ends_once : {K : Type 0} (d : ℕ) (word : List ℕ) (e : Entry K) (es : List (Entry K)) → is_table (e ∷ es) ≡ true → All (Begins d word) (e ∷ es) → All (GoesOn d) es
 ends_once d word e [] rise begin = All-nil (GoesOn d)
 ends_once d word e (n ∷ ns) rise begin =
@@ -197,7 +197,7 @@ ends_once d word e (n ∷ ns) rise begin =
     let next = All-head (Begins d word) n ns others in
     All-cons (GoesOn d) n ns (cmp-goes_on d e.flag n.flag next.long (first.alike ∙ sym next.alike) (table_rises e n ns rise)) (ends_once d word n ns (table_behind e (n ∷ ns) rise) others)
 
--- bytes behind so many rise
+-- bytes after so many rise
 lowest : {K : Type 0} (d : ℕ) (word : List ℕ) (e : Entry K) (es : List (Entry K)) → is_table (e ∷ es) ≡ true → All (Begins d word) (e ∷ es) → All (GoesOn d) (e ∷ es) → All (λ f. byte_at d e ≤ byte_at d f) es
 lowest d word e [] rise begin on = All-nil (λ f. byte_at d e ≤ byte_at d f)
 lowest d word e (n ∷ ns) rise begin on =
@@ -245,14 +245,14 @@ unfit : {K : Type 0} (word : List ℕ) (es : List (Entry K)) → All (λ e. fits
 unfit word [] h = refl
 unfit word (e ∷ es) h = rw (All-head (λ e. fits e word ≡ false) e es h, unfit word es (All-tail (λ e. fits e word ≡ false) e es h)) refl
 
--- an entry that goes on with another byte than the word doesn't fit, nor one that goes on behind the word
+-- an entry that goes on with another byte than the word doesn't fit, nor one that goes on past the end of the word
 unfit-other : {K : Type 0} (d : ℕ) (word : List ℕ) (e : Entry K) → d < length word → Begins d word e → GoesOn d e → LacksByte d (get_or word d 0) e → fits e word ≡ false
 unfit-other d word e lt b on lacks = ap (λ r. option_map_or (may_follow e) r false) (behind-other d e.flag word on lt b.alike lacks)
 
 unfit-longer : {K : Type 0} (d : ℕ) (word : List ℕ) (e : Entry K) → length word ≤ d → GoesOn d e → fits e word ≡ false
 unfit-longer d word e le on = ap (λ r. option_map_or (may_follow e) r false) (behind-longer e.flag word (omega (arith, le, on)))
 
--- behind the word's end nothing fits
+-- past the word's end nothing fits
 pub ended : {K : Type 0} (d : ℕ) (word : List ℕ) (es : List (Entry K)) → length word ≤ d → All (GoesOn d) es → longest_fit es word ≡ None
 ended d word es le on = unfit word es (All-weaker (GoesOn d) (λ e. fits e word ≡ false) (λ e h. unfit-longer d word e le h) es on)
 
@@ -288,7 +288,7 @@ node_behind d word e es h = record { begin = All-tail (Begins d word) e es h.beg
 pub all_on : {K : Type 0} (d : ℕ) (word : List ℕ) (e : Entry K) (es : List (Entry K)) → IsNode d word (e ∷ es) → d < length e.flag → All (GoesOn d) (e ∷ es)
 all_on d word e es h on = All-cons (GoesOn d) e es on (ends_once d word e es h.rise h.begin)
 
--- what stands behind an entry that ends is a node, and all of it goes on
+-- what comes after an entry that ends is a node, and all of it goes on
 pub going_on_node : {K : Type 0} (d : ℕ) (word : List ℕ) (es : List (Entry K)) → IsNode d word es → IsNode d word (going_on d es) × All (GoesOn d) (going_on d es)
 going_on_node d word [] h = (h, All-nil (GoesOn d))
 going_on_node d word (e ∷ es) h = by (nat_le (length e.flag) d) refl

@@ -65,7 +65,7 @@ module _ {K : Type 0} (d : ℕ) (word : List ℕ) where
       stops : (fs : List (Entry K)) → All (λ e. Begins d word e × GoesOn d e) fs → All (LacksByte d (get_or word d 0)) fs → All Stops fs
       stops fs h lacks = All-weaker (λ e. (Begins d word e × GoesOn d e) × LacksByte d (get_or word d 0) e) Stops (λ e f. shared-at d e.flag word f.0.0.long f.0.0.alike (λ a b. f.1)) fs (all_both (λ e. Begins d word e × GoesOn d e) (LacksByte d (get_or word d 0)) fs h lacks)
 
--- two lists one behind the other
+-- two lists one after the other
 pub reach-both : {K : Type 0} (word : List ℕ) (es fs : List (Entry K)) → reach (es ++ fs) word ≡ max (reach es word) (reach fs word)
 reach-both word es fs = reach-append 0 word es fs
 
@@ -91,7 +91,7 @@ reach-first word (x ∷ xs) r node is =
     let far : 0 < r = omega (arith, is, reach-least 1 word (entry_of x) (entries_of xs) node) in
     grind (arith, far)
 
--- none reaches behind the word
+-- none reaches past the end of the word
 shared-within : (flag word : List ℕ) → shared flag word ≤ length word
 shared-within [] word = omega arith
 shared-within (b ∷ flag) [] = omega arith
@@ -101,7 +101,7 @@ pub reach-within : {K : Type 0} (es : List (Entry K)) (word : List ℕ) → reac
 reach-within [] word = omega arith
 reach-within (e ∷ es) word = omega (arith, shared-within e.flag word, reach-within es word)
 
--- what two tables' nodes behind two bytes tell of how far their tables are walked
+-- what two tables' nodes after two bytes say of how far their tables are walked
 module _ {K : Type 0} (word : List ℕ) (t u e f : List (Entry K)) (one : max 1 (reach e word) ≡ max 1 (reach t word)) (two : max 1 (reach f word) ≡ max 1 (reach u word)) where
   pub steps-on : (further : ℕ) → 2 + further ≡ max (reach e word) (reach f word) → 1 + 2 + further ≡ suc (reach (t ++ u) word)
   steps-on further is = omega (arith, one, two, is, reach-both word t u)

@@ -18,7 +18,7 @@ use Rattle.cmdlines_base.specs.declared.cutting.DoubleDashes.TheVariants.{Ordina
 use Rattle.cmdlines_base.proofs.TableLemmas.{IsLongestOf, IsLongestOf-longest_fit, behind-append}
 use Rattle.cmdlines_base.proofs.ReadingLemmas.{reading-alone, reading-with_value, reading-options_end}
 
--- What is consumed for an item: words that stand for it, before those that are left.
+-- What is consumed for an item: words that spell it, before those that are left.
 pub record Consumes {K : Type 0} (words : List Bytes) (item : Item K) (left : List Bytes) : Type 0 where
   pub consumed : List Bytes
   pub apart : words ≡ consumed ++ left
@@ -105,7 +105,7 @@ module _ {K : Type 0} (table : List (Entry K)) (word : Bytes) where
           let h' : taken (start_as e.flag e.kind e.takes r) rest ≡ Some (item, left) = ap (λ o. taken (start_as e.flag e.kind e.takes (unwrap_or o [])) rest) (sym stands) ∙ h in
           subst (λ (w : Bytes). Consumes (w ∷ rest) item left) (sym d.fits.1) (start-consumes e.flag e.kind e.takes r d.fits.2 rest item left h')
 
-  -- what a word by its entry makes doesn't stand behind double dashes
+  -- what a word by its entry makes doesn't come after double dashes
   word-before : (rest : List Bytes) (item : Item K) (left : List Bytes) → taken start rest ≡ Some (item, left) → is_behind item ≡ false
   word-before rest item left = by (longest_fit table word)
     where
@@ -193,7 +193,7 @@ module _ {K : Type 0} (table : List (Entry K)) (word : Bytes) where
     lacking-reads (awaits f k (Concatenated d)) q on [] h = ap from_last q
     lacking-reads ends q on rest h = absurd (on refl)
 
-  -- the same where a cutting stands before the word, and it doesn't end the options there
+  -- the same where a cutting is before the word, and it doesn't end the options there
   module _ (d : DoubleDashes) (unseen : is_seen d ≡ false) (unstopped : d ≡ Awaited → is_double_dash word ≡ false) where
     take-reads : (rest : List Bytes) (item : Item K) (left : List Bytes) → taken start rest ≡ Some (item, left) → reading_by table d (word ∷ rest) ≡ before item (reading_by table d left)
     take-reads rest item left h = by d unseen unstopped
@@ -222,7 +222,7 @@ reading-past table Awaited (word ∷ words) = by (is_double_dash word) refl
     by true q = reading-options_end true table word (ap (λ b. cond b ends (first_by (longest_fit table word) word)) q) words
     by false q = refl
 
--- and what comes behind that is no more such double dashes
+-- and what comes after that is no more such double dashes
 past-unstopped : (d : DoubleDashes) (words : List Bytes) (word : Bytes) (rest : List Bytes) → (past d words).words ≡ word ∷ rest → (past d words).dashes ≡ Awaited → is_double_dash word ≡ false
 past-unstopped Ordinary words word rest h k = cc
 past-unstopped Seen words word rest h k = cc
@@ -240,7 +240,7 @@ module _ {T K : Type 0} (values : Values T K) (table : List (Entry K)) (old : Pl
   reading-at : reading_at table old ≡ reading_by table (past_dashes old).dashes (word ∷ rest)
   reading-at = reading-past table old.dashes old.words ∙ ap (reading_by table (past_dashes old).dashes) stand
 
-  -- a loose word behind them
+  -- a loose word after them
   pub cut-raw : is_seen (past_dashes old).dashes ≡ true → (copy : Bytes) → copy ≡ word → (new : Place) → new.words ≡ rest → new.dashes ≡ (past_dashes old).dashes → Cuts values table old (Raw copy) new
   cut-raw seen copy same new left dashes = record {
     item = behind_dashes word;
@@ -263,7 +263,7 @@ module _ {T K : Type 0} (values : Values T K) (table : List (Entry K)) (old : Pl
     is-start : first_by entry word ≡ start table word
     is-start = ap (λ e. first_by e word) found
 
-    -- an argument of a word and those behind it
+    -- an argument of a word and those after it
     pub cut-taken : (argument : Argument T) (left : List Bytes) → Takes values (first_by entry word) rest argument left → (new : Place) → new.words ≡ left → new.dashes ≡ (past_dashes old).dashes → Cuts values table old argument new
     cut-taken argument left t new stays dashes =
         let takes : taken (start table word) rest ≡ Some (t.item, left) = ap (λ s. taken s rest) (sym is-start) ∙ t.takes in

@@ -7,12 +7,12 @@ use Rattle.std.proofs.lemmas.List.Elements.{All-append, All-cons, All-nil, All-w
 use denote.Ref.{Bor}
 use borrow.Author.Tests.{ltb-true, ltb-false}
 
--- a flag and a rest: the rest stands behind the flag
+-- a flag and a rest: the rest comes after the flag
 pub behind-append : (flag rest : List ℕ) → behind flag (flag ++ rest) ≡ Some rest
 behind-append [] rest = refl
 behind-append (b ∷ flag) rest = grind (arith, behind-append flag rest)
 
--- what stands behind the flag is what makes the word of it
+-- what comes after the flag, appended to the flag, makes the word
 pub append-behind : (flag word rest : List ℕ) → behind flag word ≡ Some rest → word ≡ flag ++ rest
 append-behind [] word rest h = cc
 append-behind (b ∷ flag) [] rest h = cc
@@ -36,7 +36,7 @@ pub longest_fit-append : {K : Type 0} (es fs : List (Entry K)) (word : List ℕ)
 longest_fit-append [] fs word = sym (longer-none (longest_fit fs word))
 longest_fit-append (e ∷ es) fs word = rw (longest_fit-append es fs word) (sym (longer_assoc (cond (fits e word) (Some e) None) (longest_fit es word) (longest_fit fs word)))
 
--- what `strip_prefix` gives is what stands behind the flag
+-- what `strip_prefix` gives is what comes after the flag
 pub behind_is : (flag word : List ℕ) (r : Option (Bor (List ℕ))) → MatchOption r ((rest : List ℕ) → word ≢ flag ++ rest) (λ x. word ≡ flag ++ x.now) → option_copied r ≡ behind flag word
 behind_is flag word None h = by (behind flag word) refl
   where

@@ -1,4 +1,4 @@
--- What a first word and the words behind it make.
+-- What a first word and the words after it make.
 use Rattle.std.proofs.Common.{◌≡◌, length, List, [], ◌∷◌, None, Some, Result, Ok, Err, IfErr, IsErrAnd, refl, ap, sym, subst, ◌∙◌, arith}
 use Rattle.std.specs.Borrow.{Bor}
 use Rattle.os_files.specs.Bytes.{Bytes}

@@ -6,7 +6,7 @@ use Rattle.cmdlines_base.specs.Table.{Entry, behind, longest_fit}
 use Rattle.cmdlines_base.specs.Printing.{is_j, is_empty_j, printed, normal, words_of}
 use Rattle.cmdlines_base.specs.Reading.{Item, is_behind, reading, before, all_before}
 
--- Flags are of one entry each, and no flag goes on behind one of two bytes whose value may stand either way.
+-- Flags are of one entry each, and no flag extends one of two bytes whose value may be joined or separate.
 pub record IsClear {K : Type 0} (table : List (Entry K)) : Type 0 where
   pub one : (d e : Entry K) → Contains table d → Contains table e → d.flag ≡ e.flag → d ≡ e
   pub alone : (d e : Entry K) (more : Bytes) → Contains table d → Contains table e → is_j e ≡ true → length e.flag ≡ 2 → d.flag ≡ e.flag ++ more → more ≡ []
@@ -27,11 +27,11 @@ pub record ReadsTogether {K : Type 0} (dashes : Bool) (table : List (Entry K)) (
 abbrev pub AllReadAgain : {K : Type 0} → Bool → List (Entry K) → List (Item K) → Type 0
 AllReadAgain dashes table items = AllByRecursion (ReadsAgain dashes table) items
 
--- each does that stands before double dashes which end the options, and isn't an empty value which may stand either way
+-- each does that comes before double dashes which end the options, and isn't an empty value which may be joined or separate
 abbrev pub AllReadAgainUnlessEmpty : {K : Type 0} → Bool → List (Entry K) → List (Item K) → Type 0
 AllReadAgainUnlessEmpty dashes table items = AllByRecursion (λ a. ((is_behind a && dashes) || is_empty_j table a) ≡ false → ReadsAgain dashes table a) items
 
--- no entry has the other's flag, and none goes on behind one of two bytes whose value may stand either way
+-- no entry has the other's flag, and none extends one of two bytes whose value may be joined or separate
 abbrev pub free_by : Bool → Option (Bytes) → Bool
 free_by j None = true
 free_by j (Some []) = false

@@ -1,4 +1,4 @@
--- Where a cutting of words stands, and what it does from there.
+-- Where a cutting of words is, and what it does from there.
 use Rattle.std.specs.Prelude.{◌≡◌, Bool, true, false, List, [], ◌∷◌, ◌++◌, Option, None, Some, if◌then◌else◌, ◌⊎◌}
 use Rattle.os_files.specs.Bytes.{Bytes}
 use Rattle.cmdlines_base.specs.Table.{Entry}
@@ -36,7 +36,7 @@ reading_by table Seen words = all_behind words
 abbrev pub reading_at : {K : Type 0} → List (Entry K) → Place → Reading K
 reading_at table place = reading_by table place.dashes place.words
 
--- the double dashes that end the options are consumed, where they stand there
+-- the double dashes that end the options are consumed, where they come next
 abbrev pub past : DoubleDashes → List Bytes → Place
 past Ordinary words = record { words = words; dashes = Ordinary }
 past Seen words = record { words = words; dashes = Seen }
@@ -46,17 +46,17 @@ past Awaited (word ∷ words) = if is_double_dash word then record { words = wor
 abbrev pub past_dashes : Place → Place
 past_dashes place = past place.dashes place.words
 
--- the words of an option whose delimiter has nothing behind it
+-- the words of an option whose delimiter has nothing after it
 abbrev pub bare_words : {K : Type 0} → Item K → Option (List Bytes)
 bare_words (valued f k [] (CanBeSeparated (Some d))) = Some ((f ++ d ∷ []) ∷ [])
 bare_words (valued f k [] (Concatenated (Some d))) = Some ((f ++ d ∷ []) ∷ [])
 bare_words _ = None
 
--- The words are those that print the item, but for a delimiter with nothing behind it, which isn't printed.
+-- The words are those that print the item, but for a delimiter with nothing after it, which isn't printed.
 abbrev pub IsWrittenAs : {K : Type 0} → Item K → List Bytes → Type 0
 IsWrittenAs item words = (words ≡ printed item) ⊎ (Some words ≡ bare_words item)
 
--- the item that a start and the words behind its word make, and the words that are left: None where a value is lacking
+-- the item that a start and the words after its word make, and the words that are left: None where a value is missing
 abbrev pub taken : {K : Type 0} → Start K → List Bytes → Option (Item K × List Bytes)
 taken (whole a) rest = Some (a, rest)
 taken (awaits f k d) (value ∷ rest) = Some (valued f k value d, rest)

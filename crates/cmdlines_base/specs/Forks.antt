@@ -1,4 +1,4 @@
--- Where the flags of a table part: by their first byte, and behind it by the second one.
+-- Where the flags of a table part: by their first byte, and after it by the second one.
 use Rattle.std.specs.Prelude.{ℕ, ◌≤◌, ◌<◌, List, [], ◌∷◌, length, take, All, nat_le, if◌then◌else◌, slice_index_or, slice_range}
 use Rattle.cmdlines_base.specs.Nodes.{GoesOn, IsPicked}
 use Rattle.cmdlines_base.specs.Table.{Entry}
@@ -10,7 +10,7 @@ abbrev pub going_on : {K : Type 0} → ℕ → List (Entry K) → List (Entry K)
 going_on depth [] = []
 going_on depth (e ∷ es) = if nat_le (length e.flag) depth then es else e ∷ es
 
--- Of these entries, those with that byte behind the first one stand from one place up to another.
+-- Of these entries, those with that byte after the first one lie from one place up to another.
 pub record StandAt {K : Type 0} (entries : List (Entry K)) (byte begin end : ℕ) : Type 0 where
   pub ordered : begin ≤ end
   pub within : end ≤ length entries

@@ -1,4 +1,4 @@
--- The nodes of a table, read byte by byte: entries whose flags begin alike stand together, since flags rise.
+-- The nodes of a table, read byte by byte: entries whose flags begin alike are adjacent, since flags rise.
 use Rattle.std.specs.Prelude.{◌≡◌, ℕ, ◌≤◌, ◌<◌, List, ◌++◌, length, take, IsTrue, All, slice_index_or}
 use Rattle.os_files.specs.Bytes.{Bytes}
 use Rattle.cmdlines_base.specs.Table.{Entry, is_table}
@@ -13,11 +13,11 @@ pub record IsNode {K : Type 0} (depth : ℕ) (word : Bytes) (entries : List (Ent
   pub begin : All (Begins depth word) entries
   pub rise : IsTrue (is_table entries)
 
--- the flag goes on behind that many bytes
+-- the flag goes on after that many bytes
 abbrev pub GoesOn : {K : Type 0} → ℕ → Entry K → Type 0
 GoesOn depth e = depth < length e.flag
 
--- the byte of a flag behind that many bytes
+-- the byte of a flag after that many bytes
 abbrev pub byte_at : {K : Type 0} → ℕ → Entry K → ℕ
 byte_at depth e = slice_index_or e.flag depth 0
 
@@ -27,7 +27,7 @@ HasByte depth byte e = byte_at depth e ≡ byte
 abbrev pub LacksByte : {K : Type 0} → ℕ → ℕ → Entry K → Type 0
 LacksByte depth byte e = ¬ HasByte depth byte e
 
--- Of these entries, those with that byte: they stand together, and no other has it.
+-- Of these entries, those with that byte: they are adjacent, and no other has it.
 pub record IsPicked {K : Type 0} (depth byte : ℕ) (entries picked : List (Entry K)) : Type 0 where
   pub front : List (Entry K)
   pub back : List (Entry K)

@@ -12,14 +12,14 @@ use Rattle.cmdlines_base.specs.declared.argument.Argument.{Argument}
 use Rattle.cmdlines_base.specs.declared.argument.Argument.TheVariants.{Raw, UnknownFlag, Flag, WithValue}
 use Rattle.cmdlines_base.specs.declared.argument.NormalizedDisposition.{NormalizedDisposition}
 
--- a value that may stand either way stands as is wanted; all else stays
+-- a value that may be joined or separate becomes the one that is wanted; all else stays
 abbrev pub normalized : {T : Type 0} → NormalizedDisposition → Argument T → Argument T
 normalized wanted (Raw w) = Raw w
 normalized wanted (UnknownFlag w) = UnknownFlag w
 normalized wanted (Flag f v) = Flag f v
 normalized wanted (WithValue f v d) = WithValue f v (normalized_disposition wanted d)
 
--- whether it's a flag whose value may stand either way
+-- whether it's a flag whose value may be joined or separate
 abbrev pub stands_either_way : {T : Type 0} → Argument T → Bool
 stands_either_way (WithValue f v d) = either_way d
 stands_either_way _ = false
@@ -43,7 +43,7 @@ data_in (UnknownFlag w) = None
 data_in (Flag f v) = Some v
 data_in (WithValue f v d) = Some v
 
--- A part of an argument that is printed as one word: bytes as they are, a value, or a flag with its value behind it.
+-- A part of an argument that is printed as one word: bytes as they are, a value, or a flag with its value after it.
 pub data Part (T : Type 0) : Type 0 where
   bare : Bytes → Part T
   apart : T → Part T

@@ -10,7 +10,7 @@ use Rattle.os_files.specs.Bytes.{Bytes}
 use Rattle.cmdlines_base.specs.Table.{Entry, longest_fit}
 use Rattle.cmdlines_base.specs.Reading.{Item, raw, unknown, flag, valued, behind_dashes}
 
--- a value behind its flag in one word; an empty one drops the delimiter
+-- a value after its flag in one word; an empty one drops the delimiter
 abbrev pub joined : Bytes → Option ℕ → Bytes → Bytes
 joined name d [] = name
 joined name None (b ∷ bs) = name ++ b ∷ bs
@@ -29,7 +29,7 @@ printed (flag f k) = f ∷ []
 printed (valued f k v d) = printed_as f v d
 printed (behind_dashes w) = w ∷ []
 
--- A value that may stand either way stands as is wanted; any other stays.
+-- A value that may be joined or separate becomes the one that is wanted; any other stays.
 abbrev pub normalized_disposition : NormalizedDisposition → ArgDisposition → ArgDisposition
 normalized_disposition wanted Separated = Separated
 normalized_disposition wanted (Concatenated d) = Concatenated d
@@ -56,7 +56,7 @@ normal (behind_dashes w) = behind_dashes w
 abbrev pub words_of : {K : Type 0} → List (Item K) → List Bytes
 words_of items = flat_map (λ a. printed (normal a)) items
 
--- whether a value may stand either way
+-- whether a value may be joined or separate
 abbrev pub either_way : ArgDisposition → Bool
 either_way Separated = false
 either_way (CanBeConcatenated d) = true
@@ -66,7 +66,7 @@ either_way (Concatenated d) = false
 abbrev pub is_j : {K : Type 0} → Entry K → Bool
 is_j e = option_map_or either_way e.takes false
 
--- an option whose value may stand either way was read with an empty value
+-- an option whose value may be joined or separate was read with an empty value
 abbrev pub is_empty_j : {K : Type 0} → List (Entry K) → Item K → Bool
 is_empty_j table (raw w) = false
 is_empty_j table (unknown w) = false

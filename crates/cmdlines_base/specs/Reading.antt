@@ -6,7 +6,7 @@ use Rattle.cmdlines_base.specs.declared.argument.ArgDisposition.{ArgDisposition}
 use Rattle.cmdlines_base.specs.declared.argument.ArgDisposition.TheVariants.{Separated, CanBeConcatenated, CanBeSeparated, Concatenated}
 use Rattle.cmdlines_base.specs.Table.{Entry, behind, longest_fit}
 
--- an argument as it stands in the words: a loose word, a word that looks like a flag and is in no table, a flag, a flag with its value, or a word behind the double dashes that end the options
+-- an argument as it is in the words: a loose word, a word that looks like a flag and is in no table, a flag, a flag with its value, or a word after the double dashes that end the options
 pub data Item (K : Type 0) : Type 0 where
   raw : Bytes → Item K
   unknown : Bytes → Item K
@@ -25,18 +25,18 @@ abbrev pub loose : {K : Type 0} → Bytes → Item K
 loose [] = raw []
 loose (b ∷ bs) = if b == 45 then unknown (b ∷ bs) else raw (b ∷ bs)
 
--- the value in what stands behind the flag
+-- the value in what comes after the flag
 abbrev pub value_in : Option ℕ → Bytes → Bytes
 value_in None rest = rest
 value_in (Some d) [] = []
 value_in (Some d) (b ∷ rest) = rest
 
--- a flag whose value may stand either way: apart where nothing stands behind the flag
+-- a flag whose value may be joined or separate: separate where nothing comes after the flag
 abbrev pub start_either : {K : Type 0} → Bytes → K → Option ℕ → Bytes → Start K
 start_either f k d [] = awaits f k (CanBeConcatenated d)
 start_either f k d (b ∷ bs) = whole (valued f k (value_in d (b ∷ bs)) (CanBeSeparated d))
 
--- what a word makes by its entry and by what stands behind the flag
+-- what a word makes by its entry and by what comes after the flag
 abbrev pub start_as : {K : Type 0} → Bytes → K → Option ArgDisposition → Bytes → Start K
 start_as f k None rest = whole (flag f k)
 start_as f k (Some Separated) rest = awaits f k Separated
@@ -71,7 +71,7 @@ nothing = record { items = []; cut_short = false }
 abbrev pub before : {K : Type 0} → Item K → Reading K → Reading K
 before a r = record { items = a ∷ r.items; cut_short = r.cut_short }
 
--- A flag that awaits a value gets none: where it may stand joined without a delimiter its value is empty.
+-- A flag that awaits a value gets none: where the value may be joined without a delimiter it is empty.
 abbrev pub unfinished : {K : Type 0} → Bytes → K → ArgDisposition → Reading K
 unfinished f k (CanBeConcatenated None) = before (valued f k [] (Concatenated None)) nothing
 unfinished f k (CanBeConcatenated (Some d)) = record { items = []; cut_short = true }
@@ -79,7 +79,7 @@ unfinished f k Separated = record { items = []; cut_short = true }
 unfinished f k (CanBeSeparated d) = record { items = []; cut_short = true }
 unfinished f k (Concatenated d) = record { items = []; cut_short = true }
 
--- words that all stand behind double dashes
+-- words that all come after double dashes
 abbrev pub all_behind : {K : Type 0} → List Bytes → Reading K
 all_behind words = record { items = map behind_dashes words; cut_short = false }
 
@@ -90,7 +90,7 @@ is_behind (flag f k) = false
 is_behind (valued f k w d) = false
 is_behind (behind_dashes w) = true
 
--- The reading of words, rule by rule: each word is an item by itself, or a flag that takes the next word for its value, or a flag at the end that lacks one, or the double dashes that end the options, and all words behind them.
+-- The reading of words, rule by rule: each word is an item by itself, or a flag that takes the next word for its value, or a flag at the end that lacks one, or the double dashes that end the options, and all words after them.
 pub data Reads {K : Type 0} (dashes : Bool) (table : List (Entry K)) : List Bytes → Reading K → Type 0 where
   at_end : Reads dashes table [] nothing
   alone : {word : Bytes} {words : List Bytes} {item : Item K} {r : Reading K} → first_word dashes table word ≡ whole item → Reads dashes table words r → Reads dashes table (word ∷ words) (before item r)
@@ -98,7 +98,7 @@ pub data Reads {K : Type 0} (dashes : Bool) (table : List (Entry K)) : List Byte
   lacking : {word : Bytes} {f : Bytes} {k : K} {d : ArgDisposition} → first_word dashes table word ≡ awaits f k d → Reads dashes table (word ∷ []) (unfinished f k d)
   options_end : {word : Bytes} {words : List Bytes} → first_word dashes table word ≡ ends → Reads dashes table (word ∷ words) (all_behind words)
 
--- The same as a function: the reading from a first word on, given those from the word behind it and from the one after that.
+-- The same as a function: the reading from a first word on, given those from the word after it and from the one after that.
 abbrev pub from_last : {K : Type 0} → Start K → Reading K
 from_last (whole a) = before a nothing
 from_last (awaits f k d) = unfinished f k d

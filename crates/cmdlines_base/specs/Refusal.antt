@@ -14,7 +14,7 @@ pub data Refusal : Type 0 where
 abbrev pub unless_text : Bytes → Option Refusal
 unless_text word = if is_utf8 word then None else Some no_text
 
--- The error of a word that is refused so, or isn't refused: it holds the word or tells the reason. Want of memory is an error of any word.
+-- The error of a word that is refused so, or isn't refused: it holds the word or gives the reason. Out of memory is an error of any word.
 abbrev pub IsErrorOf : Option Refusal → Bytes → ArgParseError → Type 0
 IsErrorOf refusal word UnexpectedEndOfArgs = ⊥
 IsErrorOf refusal word (InvalidUnicode held) = (refusal ≡ Some no_text) × (held ≡ word)

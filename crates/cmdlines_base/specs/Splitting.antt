@@ -6,7 +6,7 @@ use Rattle.cmdlines_base.specs.Texts.{Text}
 use Rattle.cmdlines_base.specs.declared.argument_error.ArgParseError.{ArgParseError}
 use Rattle.cmdlines_base.specs.declared.argument_error.ArgParseError.TheVariants.{UnexpectedEndOfArgs, InvalidUnicode, Other, Memory}
 
--- What stands before the first separator and what stands behind it; where there is none, the word alone.
+-- What comes before the first separator and what comes after it; where there is none, the word alone.
 abbrev pub IsSplit : Bytes → Bytes → Text → Option Text → Type 0
 IsSplit separator word before None = (string_bytes before ≡ word) × ((front back : Bytes) → word ≢ front ++ (separator ++ back))
 IsSplit separator word before (Some behind) = (word ≡ string_bytes before ++ (separator ++ string_bytes behind)) × ((front back : Bytes) → word ≡ front ++ (separator ++ back) → length (string_bytes before) ≤ length front)

@@ -10,7 +10,7 @@ use Rattle.cmdlines_base.specs.declared.argument.ArgDisposition.TheVariants.{Sep
 use Rattle.cmdlines_base.specs.declared.table.ArgInfo.{ArgInfo}
 use Rattle.cmdlines_base.specs.declared.table.ArgInfo.TheVariants.{Flag, TakeArg}
 
--- an entry, without where its flag lies in memory: what it takes is None for a flag that stands alone
+-- an entry, without where its flag lies in memory: what it takes is None for a flag without a value
 pub record Entry (K : Type 0) : Type 0 where
   pub flag : Bytes
   pub kind : K
@@ -27,13 +27,13 @@ entry_at r = option_map (λ e. entry_of e.now) r
 abbrev pub entries_of : {T K : Type 0} → List (ArgInfo T K) → List (Entry K)
 entries_of entries = map entry_of entries
 
--- what stands behind the flag, where the word begins with it
+-- what comes after the flag, where the word begins with it
 abbrev pub behind : Bytes → Bytes → Option (Bytes)
 behind [] word = Some word
 behind (b ∷ flag) [] = None
 behind (b ∷ flag) (c ∷ word) = if b == c then behind flag word else None
 
--- whether a byte may come right behind the flag
+-- whether a byte may come right after the flag
 abbrev pub delimiter_allows : Option ℕ → ℕ → Bool
 delimiter_allows None b = true
 delimiter_allows (Some d) b = b == d
@@ -48,7 +48,7 @@ joined_by (Concatenated d) = Some d
 abbrev pub joins_by : {K : Type 0} → Entry K → Option (Option ℕ)
 joins_by e = option_and_then joined_by e.takes
 
--- whether this may stand behind the entry's flag in the same word
+-- whether this may come after the entry's flag in the same word
 abbrev pub may_follow : {K : Type 0} → Entry K → Bytes → Bool
 may_follow e [] = true
 may_follow e (b ∷ bs) = option_map_or (λ d. delimiter_allows d b) (joins_by e) false
@@ -85,7 +85,7 @@ NoLonger word e other = Fits other word → length other.flag ≤ length e.flag
 abbrev pub Shorter : {K : Type 0} → Bytes → Entry K → Entry K → Type 0
 Shorter word e other = Fits other word → length other.flag < length e.flag
 
--- It stands in one of the tables and fits, no fitting entry has a longer flag, and none of a later table has one as long.
+-- It is in one of the tables and fits, no fitting entry has a longer flag, and none of a later table has one as long.
 pub record IsLongestFit {K : Type 0} (tables : List (List (Entry K))) (word : Bytes) (e : Entry K) : Type 0 where
   pub before : List (List (Entry K))
   pub table : List (Entry K)

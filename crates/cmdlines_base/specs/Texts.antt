@@ -21,7 +21,7 @@ WordText word (Err (FailedPathTransform path)) = ⊥
 WordText word (Err Memory) = Unit {0}
 
 module _ {F : Type 0} (g : Mut F (Bor Bytes × Unit {0}) (Option Text)) where
-  -- a path behind what stands before it, as text: the transformer was called once at the path, and gave a text for it or none; where memory is wanted it may not have been called
+  -- a path after what comes before it, as text: the transformer was called once at the path, and gave a text for it or none; when out of memory it may not have been called
   abbrev pub PathText : Bytes → Bytes → F → Result Text ArgToStringError → F → Type 0
   PathText front path f (Ok text) f' = (given : Text) × CalledAt g f path (Some given) f' × (string_bytes text ≡ front ++ string_bytes given)
   PathText front path f (Err (FailedPathTransform failed)) f' = (failed ≡ path) × CalledAt g f path None f'
@@ -37,7 +37,7 @@ module _ {F T : Type 0} (g : Mut F (Bor Bytes × Unit {0}) (Option Text)) (word 
   abbrev TextOf : T → F → Result Text ArgToStringError → F → Type 0
   TextOf value f r f' = ValueText g (path value) (word value) f r f'
 
-  -- a flag with its value as text behind it; the delimiter is dropped where the text is empty
+  -- a flag with its value as text after it; the delimiter is dropped where the text is empty
   abbrev pub JoinedText : Bytes → Option ℕ → T → F → Result Text ArgToStringError → F → Type 0
   JoinedText flag d value f (Ok text) f' = (behind : Text) × TextOf value f (Ok behind) f' × (string_bytes text ≡ joined flag d (string_bytes behind))
   JoinedText flag d value f (Err (FailedPathTransform path)) f' = TextOf value f (Err (FailedPathTransform path)) f'

@@ -26,7 +26,7 @@ abbrev pub is_given_back : {K : Type 0} → (K → Bool) → Item K → Bool
 is_given_back gives_back (valued f k w d) = gives_back k
 is_given_back gives_back _ = true
 
--- the word in which the item's value stands
+-- the word that contains the item's value
 abbrev pub value_word : {K : Type 0} → Item K → Bytes
 value_word (valued f k w d) = w
 value_word _ = []
@@ -65,7 +65,7 @@ module _ {T K : Type 0} (values : Values T K) where
   IsRefused (awaits f k d) error = IsErrorOf None [] error
   IsRefused ends error = IsErrorOf None [] error
 
-  -- What a start and the words behind its word make: an argument with its value, and the words that are left.
+  -- What a start and the words after its word make: an argument with its value, and the words that are left.
   pub record Takes (start : Start K) (rest : List Bytes) (argument : Argument T) (left : List Bytes) : Type 0 where
     pub item : Item K
     pub takes : taken start rest ≡ Some (item, left)
@@ -112,7 +112,7 @@ module _ {T K : Type 0} (values : Values T K) where
   FailsToCut table old (InvalidUnicode word) = CutsRefused table old (InvalidUnicode word)
   FailsToCut table old (Other reason) = CutsRefused table old (Other reason)
 
-  -- no words are left behind double dashes that stood there
+  -- no words are left after double dashes that were there
   abbrev pub IsAtEnd : Place → Place → Type 0
   IsAtEnd old new = (new.words ≡ []) × (new.dashes ≡ (past_dashes old).dashes)
 

@@ -12,20 +12,20 @@ use std::alloc::{AllocError, Global};
 /// The byte between a flag and its value, where one is wanted.
 pub type Delimiter = Option<u8>;
 
-/// How the value of a flag stands in the words.
+/// How the value of a flag is placed in the words.
 #[derive(Clone, Copy, Debug, PartialEq, Eq)]
 pub enum ArgDisposition {
     /// In the next word.
     Separated,
-    /// In the next word or joined; in a parsed argument: it stood in the next word.
+    /// In the next word or joined; in a parsed argument: it was in the next word.
     CanBeConcatenated(Delimiter),
-    /// Joined or in the next word; in a parsed argument: it stood joined.
+    /// Joined or in the next word; in a parsed argument: it was joined.
     CanBeSeparated(Delimiter),
-    /// In the flag's own word, behind the delimiter.
+    /// In the flag's own word, after the delimiter.
     Concatenated(Delimiter),
 }
 
-/// How a value that may stand either way is to stand.
+/// How a value that may be joined or separate is to be placed.
 #[derive(Clone, Copy, Debug, PartialEq, Eq)]
 pub enum NormalizedDisposition {
     Separated,
@@ -39,9 +39,9 @@ pub enum Argument<T> {
     Raw(OsBytes),
     /// A word that nothing fits and that begins with `-`.
     UnknownFlag(OsBytes),
-    /// A flag that stands alone.
+    /// A flag without a value.
     Flag(&'static str, T),
-    /// A flag with its value, and how the two stood in the words.
+    /// A flag with its value, and how the two were placed in the words.
     WithValue(&'static str, T, ArgDisposition),
 }
 

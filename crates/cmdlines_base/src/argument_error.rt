@@ -18,7 +18,7 @@ pub enum ArgParseError {
     /// A value that its option doesn't take, and why.
     #[error("{0}")]
     Other(&'static str),
-    /// A growth was refused.
+    /// Out of memory.
     #[error("no memory was left")]
     Memory,
 }
@@ -55,7 +55,7 @@ pub enum ArgToStringError {
     /// A word isn't UTF-8.
     #[error("an argument is not UTF-8: {0:?}")]
     InvalidUnicode(OsBytes),
-    /// A growth was refused.
+    /// Out of memory.
     #[error("no memory was left")]
     Memory,
 }

@@ -10,11 +10,11 @@ use crate::table::{ArgInfo, SearchableArgInfo, Table, longer};
 use crate::value::ArgumentValue;
 use std::marker::Model;
 
-/// A tree of the flags of one table, or of two, of which the second one's entry stands on equal flags.
+/// A tree of the flags of one table, or of two, where the second one's entry wins on equal flags.
 ///
-/// Flags rise, so in each table the entries whose flags begin alike stand together. Such a stretch of each table is a node, at
+/// Flags rise, so in each table the entries whose flags begin alike are adjacent. Such a stretch of each table is a node, at
 /// which both stay, and its children are the stretches of those that go on with one byte, in the order of their bytes. So the
-/// tree is as large as its tables. What is made with it are the nodes behind two bytes, where most ways part: for each second
+/// tree is as large as its tables. What is made with it are the nodes after two bytes, where most ways part: for each second
 /// byte the places of those that have it. That takes one look at each entry, and no memory.
 #[derive(Drop)]
 pub struct ByteTree<T: ArgumentValue> {

@@ -37,7 +37,7 @@ fn loose<T: ArgumentValue>(alloc: Global, word: &[u8]) -> Result<Argument<T>, Al
     }
 }
 
-/// The value in what stands behind the flag.
+/// The value in what comes after the flag.
 fn value_in(delimiter: Delimiter, rest: &[u8]) -> &[u8]
     ensures { result.now ≡ value_in delimiter rest.now }
 {
@@ -110,7 +110,7 @@ fn first_by<T: ArgumentValue>(
     }
 }
 
-/// The first argument of a word and the words behind it, and the words that are left.
+/// The first argument of a word and the words after it, and the words that are left.
 fn first_argument<'a, T: ArgumentValue>(
     alloc: Global,
     entry: Option<&ArgInfo<T>>,
@@ -143,7 +143,7 @@ fn first_argument<'a, T: ArgumentValue>(
     }
 }
 
-/// What double dashes are where a cutting stands.
+/// What double dashes are at the current place of a cutting.
 #[derive(Clone, Copy, Debug, PartialEq, Eq)]
 pub enum DoubleDashes {
     /// A word as any other.
@@ -180,7 +180,7 @@ impl<'a, T: ArgumentValue, S: SearchableArgInfo<T>> ArgsIter<'a, T, S> {
         }
     }
 
-    /// The same, but the first `--` that isn't an option's value is consumed, and all behind it is raw.
+    /// The same, but the first `--` that isn't an option's value is consumed, and all after it is raw.
     pub fn with_double_dashes(self) -> ArgsIter<'a, T, S>
         ensures words { (place_of result).words ≡ (place_of self.entry).words }
         ensures dashes { (place_of result).dashes ≡ DoubleDashes.Awaited }
@@ -192,7 +192,7 @@ impl<'a, T: ArgumentValue, S: SearchableArgInfo<T>> ArgsIter<'a, T, S> {
         }
     }
 
-    /// Whether `--` was consumed: what comes from then on stood behind it.
+    /// Whether `--` was consumed: what comes from then on was after it.
     pub fn seen_double_dashes(&self) -> bool
         ensures { result ≡ is_seen (place_of self.now).dashes }
     {

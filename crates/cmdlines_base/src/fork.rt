@@ -9,12 +9,12 @@ ghost use Rattle.cmdlines_base.specs.Table.{entries_of, entry_of};
 use crate::table::ArgInfo;
 use crate::value::ArgumentValue;
 
-/// Where, of entries whose flags begin with one byte and go on, those with each byte behind it stand.
+/// Of entries whose flags begin with one byte and go on: where those with each byte after it are.
 #[derive(Drop)]
 pub(crate) struct Fork {
     /// For each byte the place of the first one.
     begins: [u8; 256],
-    /// For each byte the place behind the last one, and 0 where there is none.
+    /// For each byte the place after the last one, and 0 where there is none.
     ends: [u8; 256],
 }
 
@@ -30,7 +30,7 @@ impl Fork {
         }
     }
 
-    /// Notes that the entry at this place, which is behind all others, has that byte.
+    /// Notes that the entry at this place, which is after all others, has that byte.
     fn note(&mut self, byte: u8, place: u8)
         requires { place + 1 < 2 ^ 8 }
         ensures begins { (b : ℕ) → slice_index_or self.new.begins b 0

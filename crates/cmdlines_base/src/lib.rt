@@ -1,4 +1,4 @@
-//! What every command line stands on: arguments, tables of options, how a table cuts words, and how arguments are written as words again.
+//! The base of every command line: arguments, tables of options, how a table cuts words, and how arguments are written as words again.
 #![tactic(auto)]
 
 pub mod argument;

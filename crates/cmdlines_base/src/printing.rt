@@ -15,7 +15,7 @@ use crate::value::{ArgumentValue, IntoArg, into_text, word_to_string};
 use os_files::os_bytes::OsBytes;
 use std::alloc::{AllocError, Global};
 
-/// A flag with a value behind it; where the value is empty the delimiter is dropped.
+/// A flag with a value after it; where the value is empty the delimiter is dropped.
 fn joined(
     alloc: Global,
     flag: &[u8],
@@ -195,7 +195,7 @@ impl<'a, T: IntoArg, F: FnMut(&[u8]) -> Option<String>> Iterator for IterStrings
 }
 
 impl<T: IntoArg> Argument<T> {
-    /// The words that print it: the flag and the value where these stand apart, else one word, in which an empty value
+    /// The words that print it: the flag and the value where these are separate, else one word, in which an empty value
     /// drops the delimiter.
     pub fn iter_os_strings(&self, alloc: Global) -> Iter<'_, T>
         ensures { words_left T.word result ≡ argument_words T.word self.now }
@@ -223,7 +223,7 @@ impl<T: IntoArg> Argument<T> {
     }
 }
 
-/// An argument prints two words where its value stands apart, and else one.
+/// An argument prints two words where its value is separate, and else one.
 pub fn arguments_print_one_or_two_words<T: IntoArg>()
     ensures { (argument : Argument T)
         → length (argument_words T.word argument) ≡ (if stands_apart argument then 2 else 1) }

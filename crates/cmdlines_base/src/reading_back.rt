@@ -9,7 +9,7 @@ ghost use Rattle.cmdlines_base.specs.Again.{is_clear, lets_dashes, AllReadAgain,
 use crate::value::ArgumentValue;
 
 /// In a clear table each item of a reading, written normally, is read again as an item that is normally written
-/// alike, unless it stands behind double dashes or is an empty value of an option whose value may stand either way.
+/// alike, unless it comes after double dashes or is an empty value of an option whose value may be joined or separate.
 /// Where double dashes end the options, no entry of the table may fit them.
 pub fn items_read_again<T: ArgumentValue>()
     ensures { (dashes : Bool) (table : List (Entry T.Kind)) → is_clear table ≡ true

@@ -8,7 +8,7 @@ use crate::argument_error::{ArgParseError, ArgParseResult};
 use os_files::os_bytes::OsBytes;
 use std::alloc::Global;
 
-/// What stands before the first separator and what stands behind it, and `None` for the second where there is no
+/// What comes before the first separator and what comes after it, and `None` for the second where there is no
 /// separator. A word that isn't UTF-8 is handed back as `InvalidUnicode`.
 pub fn split_os_string_arg(
     alloc: Global,

@@ -14,14 +14,14 @@ use crate::argument::{ArgDisposition, Delimiter};
 use crate::value::ArgumentValue;
 use std::marker::Model;
 
-/// An entry of a table: a flag that stands alone, or one that takes a value.
+/// An entry of a table: a flag without a value, or one that takes a value.
 #[derive(Drop)]
 pub enum ArgInfo<T: ArgumentValue> {
     Flag(&'static str, T::Kind),
     TakeArg(&'static str, T::Kind, ArgDisposition),
 }
 
-/// What stands behind the flag, where the word begins with it.
+/// What comes after the flag, where the word begins with it.
 pub fn behind<'a>(flag: &[u8], word: &'a [u8]) -> Option<&'a [u8]>
     ensures { option_copied result ≡ behind flag.now word.now }
 {
@@ -38,7 +38,7 @@ impl<T: ArgumentValue> ArgInfo<T> {
         }
     }
 
-    /// The byte of the flag behind that many, or 0 where it has ended.
+    /// The byte of the flag after that many, or 0 where it has ended.
     pub(crate) fn byte_at(&self, depth: usize) -> u8
         ensures { result ≡ byte_at depth (entry_of self.now) }
     {
@@ -60,7 +60,7 @@ impl<T: ArgumentValue> ArgInfo<T> {
         }
     }
 
-    /// Whether this may stand behind the flag in the same word.
+    /// Whether this may come after the flag in the same word.
     fn may_follow(&self, rest: &[u8]) -> bool
         ensures { result ≡ may_follow (entry_of self.now) rest.now }
     {
@@ -74,7 +74,7 @@ impl<T: ArgumentValue> ArgInfo<T> {
         }
     }
 
-    /// Whether the word is the flag, or the flag with its value behind it.
+    /// Whether the word is the flag, or the flag with its value after it.
     pub fn fits(&self, word: &[u8]) -> bool
         ensures { result ≡ fits (entry_of self.now) word.now }
     {
@@ -168,7 +168,7 @@ pub(crate) fn past_ended<'a, T: ArgumentValue>(
     }
 }
 
-/// Of entries whose bytes behind that many rise, those with that byte, where the first and the last one tell.
+/// Of entries whose bytes after that many rise, those with that byte, where the first and the last one determine them.
 fn picked_at_ends<'a, T: ArgumentValue>(
     entries: &'a [ArgInfo<T>],
     depth: usize,
@@ -193,7 +193,7 @@ fn picked_at_ends<'a, T: ArgumentValue>(
     None
 }
 
-/// Of entries whose bytes behind that many rise, those with that byte.
+/// Of entries whose bytes after that many rise, those with that byte.
 pub(crate) fn picked<'a, T: ArgumentValue>(
     entries: &'a [ArgInfo<T>],
     depth: usize,
@@ -327,7 +327,7 @@ impl<T: ArgumentValue, A: SearchableArgInfo<T>, B: SearchableArgInfo<T>> Searcha
     }
 }
 
-/// The entry of a word in the words of the subject: it stands in one of the tables and fits, no fitting entry has a
+/// The entry of a word in the terms of the subject: it is in one of the tables and fits, no fitting entry has a
 /// longer flag, and none of a later table has the same; and there is none only where nothing fits.
 pub fn entry_has_the_longest_flag<T: ArgumentValue>()
     ensures { (tables : List (List (Entry T.Kind))) (word : Bytes)

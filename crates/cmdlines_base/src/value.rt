@@ -30,7 +30,7 @@ pub trait IntoArg: Drop {
     /// The word that prints it.
     ghost word: { Self → Bytes };
 
-    /// Where its word ends in a path, what stands before that path, and the path, whose text a transformer gives.
+    /// Where its word ends in a path, what comes before that path, and the path, whose text a transformer gives.
     ghost path: { Self → Option (Bytes × Bytes) };
 
     /// The word that prints the value.
@@ -44,7 +44,7 @@ pub trait IntoArg: Drop {
         None
     }
 
-    /// The value as text: a path's is what the transformer answers for its bytes, and it is asked once, behind what stands before
+    /// The value as text: a path's is what the transformer returns for its bytes, called once, after what comes before
     /// the path; any other value's is its word, and the transformer isn't asked.
     fn into_arg_string<F: FnMut(&[u8]) -> Option<String>>(
         &self,
@@ -73,7 +73,7 @@ pub trait ArgumentValue: IntoArg {
     /// Whether an option of that kind prints the word that was read.
     ghost gives_back: { Self.Kind → Bool };
 
-    /// The value of a flag that stands alone. It takes no memory.
+    /// The value of a flag that takes none. It takes no memory.
     fn of_flag(alloc: Global, kind: Self::Kind) -> Self
         ensures { flag_value kind result };
 
@@ -109,7 +109,7 @@ pub fn word_to_string(alloc: Global, word: &[u8]) -> ArgToStringResult
     }
 }
 
-/// A path as text, behind what stands before it: what the transformer answers.
+/// A path as text, after what comes before it: what the transformer returns.
 pub fn path_to_string<F: FnMut(&[u8]) -> Option<String>>(
     alloc: Global,
     front: &[u8],

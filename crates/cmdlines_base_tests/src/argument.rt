@@ -12,7 +12,7 @@ fn with_value(alloc: Global, disposition: ArgDisposition) -> Result<Argument<OsB
     Ok(Argument::WithValue("-I", value, disposition))
 }
 
-/// The option with that value as it stands where it is wanted so.
+/// The option with its value joined or separate, as wanted.
 fn normalized(
     alloc: Global,
     read: ArgDisposition,

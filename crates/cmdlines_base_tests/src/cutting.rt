@@ -63,7 +63,7 @@ fn cut(alloc: Global, line: &[u8]) -> Result<String, Fail> {
     Ok(written(alloc, ArgsIter::new(alloc, list.as_slice(), &table))?)
 }
 
-/// What stands before and behind the arrow of a row.
+/// What comes before and after the arrow of a row.
 fn parts(row: &str) -> Result<(&str, &str), Fail> {
     Ok(row.split_once(" => ").ok_or("no arrow")?)
 }

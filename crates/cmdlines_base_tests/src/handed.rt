@@ -1,7 +1,7 @@
 //! What is asked of values that are handed over.
 //!
 //! A test that drops a value by itself is proved field by field at each of its ends. It hands the value over to one of these, which are
-//! proved once, or to `drop`; and what may be want of memory too, so that no value is held where a test ends early.
+//! proved once, or to `drop`; and what may be out of memory too, so that no value is held where a test ends early.
 
 use std::alloc::{AllocError, Global};
 use std::fmt::{Debug, Display};

@@ -11,7 +11,7 @@ use std::fmt::Write;
 use std::test::Fail;
 use test_kit::texts::is_that;
 
-/// The words that an argument prints, each behind a space.
+/// The words that an argument prints, each after a space.
 fn printed(alloc: Global, argument: &Argument<Value>) -> Result<String, AllocError> {
     let mut text = String::new(alloc);
     for word in argument.iter_os_strings(alloc) {
@@ -32,7 +32,7 @@ fn push_printed(
     }
 }
 
-/// The words of a line, cut and printed again, each behind a space.
+/// The words of a line, cut and printed again, each after a space.
 fn printed_by(alloc: Global, list: &[OsBytes], table: &Table<Value>) -> Result<String, Fail> {
     let mut text = String::new(alloc);
     for item in ArgsIter::new(alloc, list, table) {
@@ -112,7 +112,7 @@ fn emptied(alloc: Global, argument: &Argument<Value>) -> Result<String, AllocErr
     texts_of(alloc, argument, |_path: &[u8]| Some(String::new(alloc)))
 }
 
-/// Both of the option `--sysroot` that stands so.
+/// Both of the option `--sysroot` whose value is written like this.
 fn moved_and_emptied(alloc: Global, read: ArgDisposition) -> Result<String, AllocError> {
     let argument = path(alloc, "--sysroot", read)?;
     let moved = moved(alloc, &argument);
@@ -193,7 +193,7 @@ fn a_word_that_is_no_text_is_refused(rt: HostRuntime) -> Result<(), Fail> {
     )
 }
 
-/// The texts of a path behind a delimiter that is no text.
+/// The texts of a path after a delimiter that is no text.
 fn joined(alloc: Global) -> Result<String, AllocError> {
     let argument = path(alloc, "-I", ArgDisposition::Concatenated(Some(200)))?;
     let text = texts_of(

@@ -7,7 +7,7 @@ use std::alloc::{AllocError, Global};
 use std::test::Fail;
 use test_kit::texts::is_that;
 
-/// What stands before and behind the separator, as text.
+/// What comes before and after the separator, as text.
 fn told(alloc: Global, parts: &(String, Option<String>)) -> Result<String, AllocError> {
     let before = parts.0.as_str();
     match &parts.1 {

@@ -1,4 +1,4 @@
--- Laws of words that stand where they appear first.
+-- Laws of words that are kept where they appear first.
 use Rattle.std.proofs.Common.{◌≡◌, ℕ, Bool, true, false, ◌||◌, ◌&&◌, cond, suc, arith, List, [], ◌∷◌, ◌++◌, length, nat_lt, None, Some, refl, ap, sym, ◌∙◌, append_assoc}
 use Rattle.std.proofs.lemmas.List.Folds.{list_any-append}
 use Rattle.std.proofs.lemmas.Slice.Eq.{bytes_eq-Decides}

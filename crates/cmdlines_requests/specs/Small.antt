@@ -21,7 +21,7 @@ output_named name outputs = option_map (λ o. o.1) (find (λ o. bytes_eq o.0 nam
 abbrev pub object_file_name : Artifacts → Option Bytes
 object_file_name outputs = option_and_then (λ o. file_name o.path) (output_named object_name outputs)
 
--- that name as text, where U+FFFD stands for what is no UTF-8
+-- that name as text, where U+FFFD replaces what isn't UTF-8
 abbrev pub pretty_name : Artifacts → Bytes
 pretty_name outputs = option_map_or utf8_lossy (object_file_name outputs) (codes "Unknown filename")
 
@@ -38,7 +38,7 @@ abbrev pub first_appearances : List Bytes → List Bytes
 first_appearances [] = []
 first_appearances (word ∷ words) = word ∷ without word (first_appearances words)
 
--- the flag that stands before each architecture
+-- the flag that comes before each architecture
 abbrev pub arch_flag : Bytes
 arch_flag = codes "-arch"
 

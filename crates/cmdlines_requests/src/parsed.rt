@@ -15,7 +15,7 @@ use os_files::path::file_name;
 use std::alloc::{AllocError, Global};
 use std::collections::BTreeSet;
 
-/// Which options tell of dependency files.
+/// Which options about dependency files are given.
 #[derive(Clone, Copy, Debug, PartialEq, Eq)]
 pub struct DependencyOptions {
     /// One asks for a dependency file.
@@ -29,9 +29,9 @@ pub struct DependencyOptions {
 /// The options of a request that can be cached.
 #[derive(Clone, Debug, Drop, PartialEq, Eq)]
 pub struct ParsedArguments {
-    /// The one input, as its word stands.
+    /// The one input, as its word is.
     pub input: OsBytes,
-    /// Whether it stands behind `--`.
+    /// Whether it comes after `--`.
     pub double_dash_input: bool,
     pub language: Language,
     /// Each output with its name, in the order of the names: `dia` where messages for tools are asked for, and `obj`.
@@ -52,11 +52,11 @@ pub struct ParsedArguments {
     pub color_mode: ColorMode,
     /// The flag of the first option under which the preprocessor cache can't be asked.
     pub too_hard_for_preprocessor_cache_mode: Option<OsBytes>,
-    /// Whether an option whose value may stand either way was read with an empty value.
+    /// Whether an option whose value may be joined or separate was read with an empty value.
     pub empty_value: bool,
     /// Whether there is an option on colours.
     pub has_color_option: bool,
-    /// Which options tell of dependency files.
+    /// Which options about dependency files are given.
     pub dependencies: DependencyOptions,
 }
 
@@ -80,7 +80,7 @@ impl ParsedArguments {
         Some(&named.1)
     }
 
-    /// The file name of the object as text, where U+FFFD stands for what is no UTF-8: `Unknown filename` where there
+    /// The file name of the object as text, where U+FFFD replaces what isn't UTF-8: `Unknown filename` where there
     /// is no such output, or where its path has no file name.
     pub fn output_pretty(&self, alloc: Global) -> Result<String, AllocError>
         ensures { IfOk result (λ text. string_bytes text ≡ pretty_name self.now.outputs) }

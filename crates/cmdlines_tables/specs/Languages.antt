@@ -30,7 +30,7 @@ extensions =
 abbrev pub language_of_extension : Bytes → Option Language
 language_of_extension extension = meant_by extensions extension
 
--- the name of a language, as it stands in keys
+-- the name of a language, as it is in keys
 abbrev pub name_of : Language → Bytes
 name_of C = codes "c"
 name_of Cxx = codes "c++"

@@ -1,11 +1,11 @@
--- The two tables of Msvc: each option once behind a dash and once behind a slash.
+-- The two tables of Msvc: each option once after a dash and once after a slash.
 use Rattle.std.specs.Prelude.{List, [], ◌∷◌, None, Some, codes}
 use Rattle.cmdlines_base.specs.declared.argument.ArgDisposition.TheVariants.{CanBeSeparated, Concatenated}
 use Rattle.cmdlines_base.specs.Table.{Entry}
 use Rattle.cmdlines_tables.specs.declared.kind.ArgKind.{ArgKind}
 use Rattle.cmdlines_tables.specs.declared.kind.ArgKind.TheVariants.{DoCompilation, InputC, InputCxx, LanguageC, LanguageCxx, Output, PassThrough, PreprocessorArgument, TooHard}
 
--- the options behind a dash
+-- the options after a dash
 unfoldable pub msvc_dash_entries : List (Entry ArgKind)
 msvc_dash_entries =
     record { flag = codes "-D"; kind = PreprocessorArgument; takes = Some (CanBeSeparated None) }
@@ -65,7 +65,7 @@ msvc_dash_entries =
     ∷ record { flag = codes "-we"; kind = PassThrough; takes = Some (Concatenated None) }
     ∷ []
 
--- the same behind a slash
+-- the same after a slash
 unfoldable pub msvc_slash_entries : List (Entry ArgKind)
 msvc_slash_entries =
     record { flag = codes "/D"; kind = PreprocessorArgument; takes = Some (CanBeSeparated None) }

@@ -27,7 +27,7 @@ IsValue kind word value = value ≡ values.Value kind word
 abbrev pub never : ArgKind → Bytes → Option Refusal
 never kind word = None
 
--- an argument, without where its flag lies in memory, and where it stands: behind double dashes that end the options, or not
+-- an argument, without where its flag lies in memory, and where it is: after double dashes that end the options, or not
 abbrev pub placed : Bool → Argument ArgData → Item ArgKind
 placed true (arguments.Raw w) = behind_dashes w
 placed false (arguments.Raw w) = raw w

@@ -19,7 +19,7 @@ pub enum CCompilerKind {
 }
 
 impl CCompilerKind {
-    /// Whether `--` ends the options, so that all words behind it are inputs.
+    /// Whether `--` ends the options, so that all words after it are inputs.
     pub fn ends_options(self) -> bool
         ensures { result ≡ ends_options self }
     {

@@ -1,4 +1,4 @@
-//! What an option is for, and in which list of a request it stands.
+//! What an option is for, and in which list of a request it goes.
 
 ghost use Rattle.std.specs.Prelude.{◌≡◌};
 ghost use Rattle.cmdlines_tables.specs.Kinds.{list_of, blocks_preprocessor_cache};
@@ -55,7 +55,7 @@ pub enum ArgKind {
 /// The lists of a request's options.
 #[derive(Clone, Copy, Debug, PartialEq, Eq)]
 pub enum OptionList {
-    /// What the preprocessor is told.
+    /// What is passed to the preprocessor.
     Preprocessor,
     /// What dependency files are to hold, and where they go.
     Dependency,
@@ -65,12 +65,12 @@ pub enum OptionList {
     Common,
     /// The architectures, which are hashed too.
     Arch,
-    /// None of them: what an option of these kinds says stands elsewhere.
+    /// None of them: what an option of these kinds says goes elsewhere.
     Nowhere,
 }
 
 impl ArgKind {
-    /// The list in which options of this kind stand.
+    /// The list in which options of this kind go.
     pub fn list(self) -> OptionList
         ensures { result ≡ list_of self }
     {

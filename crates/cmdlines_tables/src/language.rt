@@ -69,7 +69,7 @@ impl Language {
         }
     }
 
-    /// The name, as it stands in keys.
+    /// The name, as it is in keys.
     pub fn as_str(self) -> &'static str
         ensures { result.now ≡ name_of self }
     {

@@ -22,7 +22,7 @@ pub fn own_words_are_read()
     ensures { (kind : CCompilerKind) → OwnWords kind }
 {}
 
-/// No flag stands in both tables of Clang, nor in both of Msvc.
+/// No flag is in both tables of Clang, nor in both of Msvc.
 pub fn tables_share_no_flag()
     ensures clang { (d e : Entry ArgKind) → Contains gnu_entries d → Contains clang_entries e
         → d.flag ≡ e.flag → ⊥ }

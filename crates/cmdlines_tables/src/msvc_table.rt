@@ -9,7 +9,7 @@ use cmdlines_base::argument::ArgDisposition;
 use cmdlines_base::table::{ArgInfo, Table};
 use std::alloc::{AllocError, Global};
 
-/// The options of Msvc behind a dash.
+/// The options of Msvc after a dash.
 #[tactic(auto, unfolding(crate::specs::MsvcTable::msvc_dash_entries))]
 pub fn msvc_dash_table(alloc: Global) -> Result<Table<ArgData>, AllocError>
     ensures { IfOk result (λ table. table ≡ msvc_dash_entries) }
@@ -76,7 +76,7 @@ pub fn msvc_dash_table(alloc: Global) -> Result<Table<ArgData>, AllocError>
     Ok(Table::new(entries).unwrap())
 }
 
-/// The options of Msvc behind a slash.
+/// The options of Msvc after a slash.
 #[tactic(auto, unfolding(crate::specs::MsvcTable::msvc_slash_entries))]
 pub fn msvc_slash_table(alloc: Global) -> Result<Table<ArgData>, AllocError>
     ensures { IfOk result (λ table. table ≡ msvc_slash_entries) }

@@ -18,7 +18,7 @@ use std::fmt::Display;
 use std::test::Fail;
 use test_kit::texts::{holds, prints};
 
-/// Whether a compiler tells that it compiles C++ by itself, this version and the digest of this assembler.
+/// Whether a compiler reports that it compiles C++ by itself, this version and the digest of this assembler.
 fn tells<K: HasKind>(
     compiler: &FoundCompiler<K>,
     plusplus: bool,
@@ -30,7 +30,7 @@ fn tells<K: HasKind>(
         && compiler.assembler_digest() == assembler
 }
 
-/// Whether a compiler of this kind tells what it was made with.
+/// Whether a compiler of this kind reports what it was made with.
 fn tells_its_traits<K: HasKind>(alloc: Global) -> Result<bool, AllocError> {
     let version = String::from_str(alloc, "13.2.0")?;
     let digest = String::from_str(alloc, "0a1b")?;

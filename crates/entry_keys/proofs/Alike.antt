@@ -17,7 +17,7 @@ use Rattle.entry_keys.specs.Framing.{FitFrames, Pairs, flag, pair_parts}
 use Rattle.entry_keys.specs.Identity.{Identity, IdentityFits, identity_material, identity_parts, kind_name}
 use Rattle.entry_keys.specs.Sights.{Sights, SightsFit, day_part, second_part, sight_material, sight_parts}
 
--- framed parts are told by their bytes
+-- framed parts are determined by their bytes
 abbrev pub Told : Type 0
 Told = (parts other : List Bytes) → FitFrames parts → FitFrames other → framed_all parts ≡ framed_all other → parts ≡ other
 

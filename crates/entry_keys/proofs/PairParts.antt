@@ -1,4 +1,4 @@
--- Names and what stands for them, one pair more.
+-- Names and what each is paired with, one pair more.
 use Rattle.std.proofs.Common.{◌≡◌, ℕ, ◌+◌, ◌<◌, List, [], ◌∷◌, ◌++◌, length, get_or, take, refl, sym, ap, ◌∙◌, subst}
 use Rattle.std.proofs.lemmas.List.{flat_map_more, map_more, take_more}
 use Rattle.os_files.specs.Bytes.{Bytes}
@@ -17,7 +17,7 @@ fits-push (first ∷ parts) part h p = (h.0, fits-push parts part h.1 p)
 framed_all-push : (parts : List Bytes) (part : Bytes) → framed_all parts ++ framed part ≡ framed_all (parts ++ part ∷ [])
 framed_all-push parts part = flat_map_more framed [] parts part
 
--- the bytes behind one pair more, and that its lengths fit
+-- the bytes after one pair more, and that its lengths fit
 framed-pair : (pairs : Pairs) (pair : Bytes × Bytes) → (framed_all (pair_parts pairs) ++ framed pair.0) ++ framed pair.1 ≡ framed_all (pair_parts (pairs ++ pair ∷ []))
 framed-pair pairs pair =
     ap (λ (bytes : Bytes). bytes ++ framed pair.1) (framed_all-push (pair_parts pairs) pair.0)
@@ -28,7 +28,7 @@ fits-pair : (pairs : Pairs) (pair : Bytes × Bytes) → FitFrames (pair_parts pa
 fits-pair pairs pair h name value =
     subst FitFrames (sym (pair_parts-push pairs pair)) (fits-push (pair_parts pairs ++ pair.0 ∷ []) pair.1 (fits-push (pair_parts pairs) pair.0 h name) value)
 
--- at the pair of a list that stands at an index
+-- at the pair of a list that is at an index
 module _ (pairs : Pairs) (i : ℕ) (pair : Bytes × Bytes) (within : i < length pairs) (is : pair ≡ get_or pairs i pair) where
   one_more : take i pairs ++ pair ∷ [] ≡ take (i + 1) pairs
   one_more = ap (λ (last : Bytes × Bytes). take i pairs ++ last ∷ []) is ∙ sym (take_more pairs i pair within)

@@ -1,15 +1,15 @@
--- Lists of parts, each part behind its length in eight bytes.
+-- Lists of parts, each part after its length in eight bytes.
 use Rattle.std.specs.Prelude.{Bool, true, false, List, [], ◌∷◌, map}
 use Rattle.std.specs.List.{AllByRecursion}
 use Rattle.os_files.specs.Bytes.{Bytes}
 use Rattle.cmdlines_base.specs.declared.command.ArtifactDescriptor.{ArtifactDescriptor}
 use Rattle.byte_formats.specs.Spelling.{FitsFrame}
 
--- names with what stands for each: variables with their values, outputs with their paths
+-- names with what each is paired with: variables with their values, outputs with their paths
 abbrev pub Pairs : Type 0
 Pairs = List (Bytes × Bytes)
 
--- each name, and then what stands for it
+-- each name, and then what it is paired with
 abbrev pub pair_parts : Pairs → List Bytes
 pair_parts [] = []
 pair_parts (pair ∷ pairs) = pair.0 ∷ pair.1 ∷ pair_parts pairs

@@ -86,7 +86,7 @@ identity_parts i =
 abbrev pub identity_material : Identity → Bytes
 identity_material i = framed_all (identity_parts i)
 
--- each length that is told fits eight bytes
+-- each length that is written fits eight bytes
 pub record IdentityFits (i : Identity) : Type 0 where
   pub parts : FitFrames (identity_parts i)
   pub version : FitFrames (option_to_list i.version)

@@ -1,4 +1,4 @@
--- What the preprocessor would be told, and the input that it would read first.
+-- What the preprocessor would be given, and the input that it would read first.
 use Rattle.std.specs.Prelude.{ℤ, Bool, not, ◌||◌, if◌then◌else◌, List, [], ◌∷◌, ◌++◌, Option, None, Some, IfSome, codes}
 use Rattle.std.specs.Fmt.{signed_decimal}
 use Rattle.std.specs.Option.{option_to_list}
@@ -34,7 +34,7 @@ second_of seen = stamped seen.contents seen.second
 abbrev pub can_be_told : Seen → Bool
 can_be_told seen = not (holds_time seen.contents || lacks_day seen.contents seen.day)
 
--- what the preprocessor would be told, as plain values
+-- what the preprocessor would be given, as plain values
 pub record Sights : Type 0 where
   pub compiler_digest : Bytes
   pub plusplus : Bool
@@ -93,7 +93,7 @@ sight_parts s =
 abbrev pub sight_material : Sights → Bytes
 sight_material s = framed_all (sight_parts s)
 
--- each length that is told fits eight bytes, and so do day and second, with a sign
+-- each length that is written fits eight bytes, and so do day and second, with a sign
 pub record SightsFit (s : Sights) : Type 0 where
   pub parts : FitFrames (sight_parts s)
   pub words : FitFrames s.words

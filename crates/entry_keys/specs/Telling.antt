@@ -1,4 +1,4 @@
--- What an entry key tells, where digests are distinct.
+-- What an entry key determines, where digests are distinct.
 use Rattle.std.specs.Prelude.{◌≡◌, if◌then◌else◌, List, Option, None, Some}
 use Rattle.os_files.specs.Bytes.{Bytes}
 use Rattle.ckeys_base.specs.Hex.{hex_of}
@@ -10,7 +10,7 @@ use Rattle.entry_keys.specs.declared.entry_key.EntryKey.{EntryKey}
 abbrev pub AreApart : (Bytes → Bytes) → Bytes → Bytes → Type 0
 AreApart digest_of one other = digest_of one ≡ digest_of other → one ≡ other
 
--- the key of who asks and what the preprocessor would be told
+-- the key of who asks and what the preprocessor would be given
 abbrev pub entry_key_with : (Bytes → Bytes) → Identity → Sights → EntryKey
 entry_key_with digest_of i s = record {
   identity = hex_of (digest_of (identity_material i));
@@ -22,7 +22,7 @@ abbrev pub entry_key_over : (Bytes → Bytes) → Identity → List Bytes → Se
 entry_key_over digest_of i extra seen =
     if can_be_told seen then Some (entry_key_with digest_of i (sights_of digest_of i extra seen)) else None
 
--- who asks and what would be told, of two calls: their lengths fit, and what is hashed for them has no digest in common
+-- who asks and what would be given, of two calls: their lengths fit, and what is hashed for them has no digest in common
 -- unless it is equal
 pub record AreTold (digest_of : Bytes → Bytes) (i j : Identity) (s t : Sights) : Type 0 where
   pub identities : IdentityFits i × IdentityFits j

@@ -20,7 +20,7 @@ pub struct Asker<'a> {
     pub executable: &'a OsBytes,
     pub plusplus: bool,
     pub version: Option<&'a str>,
-    /// The digest that stands for the compiler.
+    /// The digest that represents the compiler.
     pub compiler_digest: &'a str,
     pub assembler_digest: Option<&'a str>,
     pub dir: &'a OsBytes,

@@ -16,7 +16,7 @@ use std::alloc::{AllocError, Global};
 use std::hash::Hash;
 
 /// What a call's include record is kept under: the digest of who asks, and that of what the preprocessor would be
-/// told, both as text of two hexadecimal digits a byte.
+/// given, both as text of two hexadecimal digits a byte.
 #[derive(Clone, Debug, Drop, PartialEq, Eq, PartialOrd, Ord, Hash)]
 pub struct EntryKey {
     pub identity: OsBytes,
@@ -29,7 +29,7 @@ pub fn entry_keys_are_their_fields()
         (⟦<EntryKey as PartialEq>⟧.eq one other ≡ true) ↔ (one ≡ other) }
 {}
 
-/// Keys are told apart by their order exactly if their fields are. They are ordered by the identity, then the key, and what is hashed of
+/// Keys are distinguished by their order exactly if their fields are. They are ordered by the identity, then the key, and what is hashed of
 /// one is what is hashed of these, in this order.
 pub fn entry_keys_are_ordered_by_their_fields()
     ensures tied { (one other : EntryKey) →
@@ -44,7 +44,7 @@ pub fn entry_keys_are_ordered_by_their_fields()
     ties_are_equal::<EntryKey>();
 }
 
-/// What an order doesn't tell apart is equal.
+/// What an order doesn't distinguish is equal.
 fn ties_are_equal<K: Ord>()
     ensures { (one other : K) → (K.cmp one other ≡ Equal) ↔ (K.eq one other ≡ true) }
 {}

@@ -1,4 +1,4 @@
-//! The digest of a list of parts, each part behind its length.
+//! The digest of a list of parts, each part after its length.
 
 ghost use Rattle.std.specs.Prelude.{◌≡◌, List, [], ◌∷◌, ◌++◌, IfOk, string_bytes};
 ghost use Rattle.os_files.specs.Bytes.{Bytes};
@@ -10,7 +10,7 @@ use ckeys_base::hash_state::HashState;
 use std::alloc::{AllocError, Global};
 use std::marker::Model;
 
-/// A digest in the making, of parts that are each fed behind their length. Contracts see the state of its hash
+/// A digest in the making, of parts that are each fed after their length. Contracts see the state of its hash
 /// function.
 #[derive(Drop)]
 pub(crate) struct FramedDigest<H: HashState> {
@@ -33,7 +33,7 @@ impl<H: HashState> FramedDigest<H> {
         }
     }
 
-    /// Takes one more part, behind those that it holds.
+    /// Takes one more part, after those that it holds.
     pub(crate) fn put(&mut self, part: &[u8])
         ensures held { (parts : List Bytes) → H.holds self.old (framed_all parts)
             → H.holds self.new (framed_all (parts ++ part.now ∷ [])) }

@@ -1,4 +1,4 @@
-//! Lists of parts, each part behind its length in eight bytes, low byte first.
+//! Lists of parts, each part after its length in eight bytes, low byte first.
 
 ghost use Rattle.std.specs.Prelude.{◌≡◌, [], ◌++◌, map, string_bytes, IfOk, OnOk};
 ghost use Rattle.std.specs.Option.{option_map, option_to_list};
@@ -10,7 +10,7 @@ use cmdlines_base::command::ArtifactDescriptor;
 use os_files::os_bytes::OsBytes;
 use std::alloc::{AllocError, Global};
 
-/// Adds words, each behind its length.
+/// Adds words, each after its length.
 fn put_words(out: &mut Vec<u8>, words: &[OsBytes]) -> Result<(), AllocError>
     ensures added { OnOk result (out.new.items ≡ out.old.items ++ framed_all words.now) }
     ensures fits { OnOk result (FitFrames words.now) }
@@ -21,7 +21,7 @@ fn put_words(out: &mut Vec<u8>, words: &[OsBytes]) -> Result<(), AllocError>
     Ok(())
 }
 
-/// The words of this list, each behind its length.
+/// The words of this list, each after its length.
 pub(crate) fn framed_words(alloc: Global, words: &[OsBytes]) -> Result<Vec<u8>, AllocError>
     ensures bytes { IfOk result (λ bytes. bytes.items ≡ framed_all words.now) }
     ensures fits { OnOk result (FitFrames words.now) }
@@ -31,7 +31,7 @@ pub(crate) fn framed_words(alloc: Global, words: &[OsBytes]) -> Result<Vec<u8>, 
     Ok(out)
 }
 
-/// The words of three lists, one behind the other.
+/// The words of three lists, one after the other.
 pub(crate) fn framed_lists(
     alloc: Global,
     first: &[OsBytes],
@@ -49,7 +49,7 @@ pub(crate) fn framed_lists(
     Ok(out)
 }
 
-/// Texts, each behind its length.
+/// Texts, each after its length.
 pub(crate) fn framed_texts(alloc: Global, texts: &[String]) -> Result<Vec<u8>, AllocError>
     ensures bytes { IfOk result (λ bytes. bytes.items ≡ framed_all (map string_bytes texts.now)) }
     ensures fits { OnOk result (FitFrames (map string_bytes texts.now)) }
@@ -61,7 +61,7 @@ pub(crate) fn framed_texts(alloc: Global, texts: &[String]) -> Result<Vec<u8>, A
     Ok(out)
 }
 
-/// A text behind its length, or nothing.
+/// A text after its length, or nothing.
 pub(crate) fn framed_option(alloc: Global, text: Option<&str>) -> Result<Vec<u8>, AllocError>
     ensures bytes { let texts = option_to_list (option_map (λ t. t.now) text.entry) in
         IfOk result (λ bytes. bytes.items ≡ framed_all texts) }
@@ -74,7 +74,7 @@ pub(crate) fn framed_option(alloc: Global, text: Option<&str>) -> Result<Vec<u8>
     Ok(out)
 }
 
-/// Names and values in turn, each behind its length.
+/// Names and values in turn, each after its length.
 pub(crate) fn framed_pairs(
     alloc: Global,
     pairs: &[(OsBytes, OsBytes)],
@@ -90,7 +90,7 @@ pub(crate) fn framed_pairs(
     Ok(out)
 }
 
-/// Names and paths of outputs in turn, each behind its length.
+/// Names and paths of outputs in turn, each after its length.
 pub(crate) fn framed_outputs(
     alloc: Global,
     outputs: &[(OsBytes, ArtifactDescriptor)],

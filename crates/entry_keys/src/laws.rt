@@ -9,7 +9,7 @@ use byte_formats::laws::framed_parts_are_told;
 use ckeys_base::digest::texts_tell_digests;
 use ckeys_base::hash_state::HashState;
 
-/// What is hashed tells who asks, and what the preprocessor would be told.
+/// What is hashed determines who asks, and what the preprocessor would be given.
 pub fn materials_tell_calls()
     ensures identity { (one other : Identity) → IdentityFits one → IdentityFits other
         → identity_material one ≡ identity_material other → one ≡ other }

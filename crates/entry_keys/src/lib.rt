@@ -1,4 +1,4 @@
-//! What include records are kept under: the digest of who asks, and that of what the preprocessor would be told.
+//! What include records are kept under: the digest of who asks, and that of what the preprocessor would be given.
 #![tactic(auto)]
 
 pub mod asker;

@@ -1,4 +1,4 @@
-//! What the preprocessor would be told, and the digest of that.
+//! What the preprocessor would be given, and the digest of that.
 
 ghost use Rattle.std.specs.Prelude.{◌≡◌, IfOk, OnOk, IfSome, map, string_bytes};
 ghost use Rattle.std.specs.Option.{option_map};
@@ -26,7 +26,7 @@ pub struct SeenInput<'a> {
     pub second: i64,
 }
 
-/// The day of a call behind the letter `D`, or nothing.
+/// The day of a call after the letter `D`, or nothing.
 fn day_part(alloc: Global, day: Option<i64>) -> Result<String, AllocError>
     ensures { IfOk result (λ text. string_bytes text ≡ day_part day) }
 {
@@ -36,7 +36,7 @@ fn day_part(alloc: Global, day: Option<i64>) -> Result<String, AllocError>
     }
 }
 
-/// The second of a change behind the letter `T`, or nothing.
+/// The second of a change after the letter `T`, or nothing.
 fn second_part(alloc: Global, second: Option<i64>) -> Result<String, AllocError>
     ensures { IfOk result (λ text. string_bytes text ≡ second_part second) }
 {
@@ -70,7 +70,7 @@ fn asked_of(input: &SeenInput, finder: &TimeMacroFinder) -> (Option<i64>, Option
     (day, second)
 }
 
-/// The preprocessor key of a call: the digest, as text, of what the preprocessor would be told, which are the
+/// The preprocessor key of a call: the digest, as text, of what the preprocessor would be given, which are the
 /// compiler, its words and variables, and the digests of extra files and of the input. `None` exactly where the
 /// input asks for the time, or for a day that the calendar doesn't have.
 pub fn preprocessor_cache_entry_hash_key<H: HashState>(
@@ -95,7 +95,7 @@ pub fn preprocessor_cache_entry_hash_key<H: HashState>(
     Ok(Some(told_key::<H>(alloc, asker, extra, input, &finder)?))
 }
 
-/// The digest of what the preprocessor would be told, where its input was looked at.
+/// The digest of what the preprocessor would be given, where its input was looked at.
 fn told_key<H: HashState>(
     alloc: Global,
     asker: &Asker,

@@ -1,4 +1,4 @@
--- Fingerprints tell records where digests are distinct.
+-- Fingerprints determine records where digests are distinct.
 use Rattle.std.proofs.Common.{◌≡◌, ◌↔◌, inl, inr, List, ap}
 use Rattle.os_files.specs.Bytes.{Bytes}
 use Rattle.ckeys_base.specs.Hex.{hex_of}

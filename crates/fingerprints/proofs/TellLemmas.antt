@@ -1,4 +1,4 @@
--- What is told before there is a verdict, and of files as they were before.
+-- What is reported before there is a verdict, and of files as they were before.
 use Rattle.std.proofs.Common.{◌≡◌, ℕ, false, true, None, Err, IsErrAnd}
 use Rattle.std.proofs.lemmas.Result.{err_from_is_err_and}
 use Rattle.os_files.specs.Bytes.{Bytes}

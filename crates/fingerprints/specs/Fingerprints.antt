@@ -36,7 +36,7 @@ fingerprint_by digest_of (of_rustc r) names = Rustc (rustc.parts_of digest_of r)
 abbrev pub fingerprint_of : (Bytes → Bytes) → Work → Fingerprint
 fingerprint_of digest_of w = fingerprint_by digest_of w.rec (names_of w.outputs)
 
--- A fingerprint is the call's, which has no fault before the store is asked; and its record is told by its key.
+-- A fingerprint is the call's, which has no fault before the store is asked; and its record is determined by its key.
 pub record IsFingerprintOf (digest_of : Bytes → Bytes) (w : Work) (made : Fingerprint) : Type 0 where
   pub is : made ≡ fingerprint_of digest_of w
   pub fine : HasRecord w

@@ -1,4 +1,4 @@
--- What is told of a call of which a fingerprint is asked.
+-- What is reported of a call of which a fingerprint is asked.
 use Rattle.std.specs.Prelude.{◌≡◌, Result, Ok, Err}
 use Rattle.os_files.specs.Bytes.{Bytes}
 use Rattle.ckeys_records.specs.Faults.{KeyCause}
@@ -11,7 +11,7 @@ use Rattle.wrap_keys.specs.Verdicts.{Why, why_of}
 use Rattle.fingerprints.specs.Fingerprints.{IsFingerprintOf}
 use Rattle.fingerprints.specs.declared.fingerprint.Fingerprint.{Fingerprint}
 
--- what is told: the fingerprint, or why the request is passed through, or a fault
+-- what is reported: the fingerprint, or why the request is passed through, or a fault
 abbrev pub Told : Type 0
 Told = Result (Result Fingerprint Reason) Fault
 

@@ -12,7 +12,7 @@ use os_files::os_bytes::OsBytes;
 /// The parts of a request to a C compiler, in the order in which two requests are compared. Digests are texts.
 #[derive(Clone, Debug, Drop, PartialEq, Eq)]
 pub struct CParts {
-    /// The digest that stands for the compiler.
+    /// The digest that represents the compiler.
     pub compiler: OsBytes,
     /// Whether the compiler compiles C++ by itself.
     pub plusplus: bool,

@@ -1,4 +1,4 @@
-//! A difference of two fingerprints, told to people.
+//! A difference of two fingerprints, written for people.
 
 ghost use Rattle.std.specs.Prelude.{◌≡◌, slice_get};
 ghost use Rattle.std.specs.Option.{option_copied};
@@ -14,7 +14,7 @@ use rustc_parts::parts::{EnvDep, Parts};
 use std::fmt;
 
 /// Where a request differs from an earlier one: printed, it names the first part in which they differ, where in it that begins (the
-/// word, the variable, the line of the text, the file), and what stands there in each: `word 2: -DA=2, earlier -DA=1`. Bytes that are
+/// word, the variable, the line of the text, the file), and what is there in each: `word 2: -DA=2, earlier -DA=1`. Bytes that are
 /// no UTF-8 are shown as U+FFFD.
 #[derive(Drop)]
 pub struct Difference<'a> {
@@ -69,7 +69,7 @@ impl<'a> fmt::Display for Variable<'a> {
     }
 }
 
-/// What stands in two rows behind as many items: how many those are, and the next item of each side, where it has one.
+/// What comes in two rows after as many items: how many those are, and the next item of each side, where it has one.
 #[derive(Drop)]
 struct Sides<T> {
     ahead: usize,
@@ -96,7 +96,7 @@ fn both_sides<'a, T: PartialEq>(one: &'a [T], earlier: &'a [T]) -> Sides<&'a T>
     }
 }
 
-/// What stands in the first line in which two texts differ.
+/// What the first line holds in which two texts differ.
 fn write_line<W: fmt::Write>(
     f: &mut fmt::Formatter<W>,
     one: &OsBytes,
@@ -111,7 +111,7 @@ fn write_line<W: fmt::Write>(
     write!(f, "line {number}: {here}, earlier {there}")
 }
 
-/// The line behind so many others, where there is one.
+/// The line after so many others, where there is one.
 fn line_at(text: &OsBytes, ahead: usize) -> Option<Lossy<'_>> {
     let mut lines = text.as_bytes().split(|byte| *byte == b'\n');
     let bytes = lines.nth(ahead)?;
@@ -177,7 +177,7 @@ fn write_optional<W: fmt::Write>(
     write!(f, "{part}: {here}, earlier {there}")
 }
 
-/// What stands in this part of two requests to a C compiler.
+/// What this part holds in two requests to a C compiler.
 fn write_c<W: fmt::Write>(
     f: &mut fmt::Formatter<W>,
     part: Part,
@@ -219,7 +219,7 @@ fn row_of(parts: &Parts, part: Part) -> Option<(&'static str, &[OsBytes])> {
     }
 }
 
-/// What stands in this part of two requests to rustc.
+/// What this part holds in two requests to rustc.
 fn write_rustc<W: fmt::Write>(
     f: &mut fmt::Formatter<W>,
     part: Part,

@@ -48,7 +48,7 @@ use wrap_keys::verdict::{Verdict, judge};
 #[derive(Clone, Debug, Drop, PartialEq, Eq)]
 pub enum Fingerprint {
     C(CParts),
-    /// Beside the pieces that are hashed stand the names of the outputs, with their marks.
+    /// The pieces that are hashed, and the names of the outputs with their marks.
     Rustc(Parts, Listed<OutputName>),
 }
 
@@ -266,7 +266,7 @@ pub fn request_fingerprint<H: HashState, F: Files, T: Tool>(
     ensures compiles { T.compiled tool.new ≡ T.compiled tool.old }
     ensures tree { F.tree files.new ≡ F.tree files.old }
     ensures meaning { T.meaning tool.new ≡ T.meaning tool.old }
-    // No device failed where there is an answer, nor where a fault tells of none.
+    // No I/O error occurred where there is an answer, nor where a fault reports none.
     ensures steady { OnOk result
         (AreSteady T.Preprocessor F.Files tool.old files.old tool.new files.new) }
     ensures still { HasOwnFault result →

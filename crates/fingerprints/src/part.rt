@@ -2,13 +2,13 @@
 
 use std::fmt;
 
-/// A part of what a request's outputs are kept under. Those of a request to a C compiler stand first, in their order, then those of one
+/// A part of what a request's outputs are kept under. Those of a request to a C compiler come first, in their order, then those of one
 /// to rustc; both begin with the family and end with the names.
 #[derive(Clone, Copy, Debug, PartialEq, Eq, Drop)]
 pub enum Part {
     /// Whose request it is.
     Family,
-    /// The digest that stands for a C compiler.
+    /// The digest that represents a C compiler.
     Compiler,
     /// Whether it compiles C++ by itself.
     Plusplus,

@@ -12,7 +12,7 @@ use os_files::os_bytes::OsBytes;
 use std::alloc::{AllocError, Global};
 use wrap_base::compiler::AnyC;
 
-/// Words without the folders that don't count, behind others.
+/// Words without the folders that don't count, after others.
 fn with_stripped(
     alloc: Global,
     kept: Vec<OsBytes>,
@@ -29,7 +29,7 @@ fn with_stripped(
     Ok(all)
 }
 
-/// Two lists of words, one behind the other, without the folders that don't count.
+/// Two lists of words, one after the other, without the folders that don't count.
 pub(crate) fn stripped(
     alloc: Global,
     words: &[OsBytes],

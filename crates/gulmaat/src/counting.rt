@@ -1,4 +1,4 @@
-//! What a call came to is counted, and told in a line of the log where one is kept.
+//! What a call came to is counted, and reported in a line of the log where one is kept.
 
 use crate::deciding::{End, What};
 use call_log::front::front;

@@ -214,7 +214,7 @@ fn find_out<P: Print + Files<File = File> + AllocGlobal, I: Read>(
     }
 }
 
-/// What is fixed for a session: which folders don't count, and in direct mode the zone in which days are told. Outputs of any size are
+/// What is fixed for a session: which folders don't count, and in direct mode the zone in which days are given. Outputs of any size are
 /// kept: `cache_dir` has a rule of its own on what is larger than most of its limit.
 fn config_of(
     alloc: Global,
@@ -416,7 +416,7 @@ fn ask_until<P: Print + Files<File = File> + AllocGlobal, I: Read>(
     pass(rt.alloc(), "fault: too many attempts")
 }
 
-/// The zone in which days are told, where direct mode is asked for.
+/// The zone in which days are given, where direct mode is asked for.
 fn zone_of(line: &CommandLine) -> Option<Zone> {
     if !line.settings.is_on(Key::DirectMode) {
         return None;

@@ -71,7 +71,7 @@ fn give<R: Files<File = File> + AllocGlobal>(
     print_again(rt, line, messages)
 }
 
-/// Keeps the manifest that was put with what to watch of the text, where that can be told, or notes that the one of that name was used, with what
+/// Keeps the manifest that was put with what to watch of the text, where that is known, or notes that the one of that name was used, with what
 /// is new of its headers. False where none was kept.
 fn finish_manifest<R: Files + AllocGlobal>(
     rt: &R,
@@ -149,7 +149,7 @@ fn share_call<P: Print + Files + AllocGlobal, I: Read>(
     share(rt, line, host, key, result, known.name_to_note(), manifest)
 }
 
-/// What to watch of the text, where the session put a manifest. Where that can't be told there is none, and it is noted why.
+/// What to watch of the text, where the session put a manifest. Where that isn't known there is none, and it is noted why.
 fn list_to_watch<P: Print + Files + AllocGlobal, I: Read>(
     rt: &P,
     line: &CommandLine,

@@ -1,8 +1,8 @@
 //! The program `gulmaat`: decides on one command line of a compiler, whose steps its host runs for it.
 //!
-//! With no arguments it talks with its host over standard input and output. With them it does what a user's options ask for: they stand
-//! behind the host's own file, the program's, the folder of what is kept, the folder in which it is asked and, for `--why`, the compiler's
-//! file. `--help` stands alone too.
+//! With no arguments it talks with its host over standard input and output. With them it does what a user's options ask for: they come
+//! after the host's own file, the program's, the folder of what is kept, the folder in which it is asked and, for `--why`, the compiler's
+//! file. `--help` may also be the only argument.
 #![tactic(auto)]
 
 ghost use Rattle.std.specs.Prelude.{◌≡◌};
@@ -101,7 +101,7 @@ fn ended<R: Eprint, E: Display + Drop>(rt: &R, done: &Result<(), E>) -> ExitCode
     }
 }
 
-/// The arguments behind the program's own name.
+/// The arguments after the program's own name.
 fn arguments<R: Env + AllocGlobal>(rt: &R) -> Result<Vec<String>, HostError> {
     let words = env::args(rt)?;
     Ok(words.skip(1).collect(rt.alloc())?)

@@ -21,7 +21,7 @@ pub enum Asked<'a> {
     Compare(AskedLog<'a>, AskedLog<'a>),
 }
 
-/// What words behind the logs say of them.
+/// What the arguments after the logs say of them.
 fn take_rest<'a>(
     alloc: Global,
     words: &'a [String],

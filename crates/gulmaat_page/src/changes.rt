@@ -42,7 +42,7 @@ fn calls_by_output(
     Ok(calls)
 }
 
-/// What is told of a call that came to another kind.
+/// What is reported of a call that came to another kind.
 fn told_of(alloc: Global, build: &Build, from: Kind, call: &Call) -> Result<String, AllocError> {
     let (earlier, now) = (from.name(), call.kind.name());
     let explained = explanation_of(&build.texts, call);

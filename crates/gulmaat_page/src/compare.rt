@@ -6,10 +6,10 @@ use crate::times::Time;
 use build_log::kind::Kind;
 use std::alloc::{AllocError, Global};
 
-/// How many changes are told.
+/// How many changes are reported.
 const SHOWN: usize = 7;
 
-/// The counts that are told, beside that of all calls.
+/// The counts that are reported, beside that of all calls.
 const KINDS: [(&str, Kind); 5] = [
     ("Direct hits", Kind::Direct),
     ("Hits by text", Kind::ByText),

@@ -6,7 +6,7 @@ use std::{fmt, io};
 /// Why nothing is shown.
 #[derive(Drop)]
 pub enum PageError {
-    /// A growth was refused.
+    /// Out of memory.
     Memory,
     /// The arguments are no text, or what is shown can't be written.
     Device,

@@ -1,4 +1,4 @@
-//! What stands round a page's contents. The page may fetch nothing, and run nothing but its own script.
+//! What is around a page's contents. The page may fetch nothing, and run nothing but its own script.
 
 use base64::engine::general_purpose::STANDARD;
 use sha2::{Digest, Sha256};

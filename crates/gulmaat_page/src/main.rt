@@ -1,6 +1,6 @@
-//! The program `gulmaat-page`: shows what a log of builds tells, as a page, as a trace or beside another log.
+//! The program `gulmaat-page`: shows what a log of builds reports, as a page, as a trace or beside another log.
 //!
-//! Its first argument is the folder in which the page's script and style lie, behind which stand the words of a user.
+//! Its first argument is the folder in which the page's script and style lie; the user's arguments come after it.
 #![tactic(auto)]
 
 mod advice;

@@ -55,7 +55,7 @@ fn push_bars(html: &mut String, build: &Build, kind: Kind) -> Result<(), AllocEr
     html.push_str("\"/>\n")
 }
 
-/// What is drawn over the colour of a kind, so that it is told without that.
+/// What is drawn over the colour of a kind, so that it can be recognized without that.
 fn hatch_of(kind: Kind) -> &'static str {
     match kind {
         Kind::Direct => "",

@@ -16,7 +16,7 @@ fn push_term(html: &mut String, name: &str, text: &str) -> Result<(), AllocError
     push_element(html, "dd", text)
 }
 
-/// Writes the call itself: its name, and what is known of it behind that.
+/// Writes the call itself: its name, and after it what is known of it.
 fn push_call(
     html: &mut String,
     alloc: Global,

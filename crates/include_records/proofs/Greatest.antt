@@ -21,7 +21,7 @@ use Rattle.include_records.specs.declared.entry.CachedResult.{CachedResult}
 use Rattle.include_records.proofs.KeyOrder.{rises-first, rises-rest}
 use Rattle.include_records.proofs.Looking.{find_none, find_some, first_or_later}
 
--- a key before another isn't behind it, and none is before itself
+-- a key before another isn't after it, and none is before itself
 not_behind : (x y : Bytes) → is_before x y ≡ true → is_before y x ≡ false
 not_behind x y h = by (slice_cmp nat_cmp x y) refl
   where

@@ -11,7 +11,7 @@ use Rattle.include_records.specs.declared.entry.CachedResult.{CachedResult}
 use Rattle.include_records.proofs.KeyOrder.{put_in-before, put_in-same, put_in-behind, rises-put_in}
 use Rattle.include_records.proofs.SmallRecords.{is_small-many}
 
--- in its place stands the key, and so it's replaced
+-- its place holds the key, and so it's replaced
 pub put_in-set : (r : CachedResult) (results : List CachedResult) (d : CachedResult) → place_for results r.key < length results → bytes_eq (get_or results (place_for results r.key) d).key r.key ≡ true
     → put_in r results ≡ set results (place_for results r.key) r
 put_in-set r [] d lt same = absurd (omega arith)
@@ -28,7 +28,7 @@ put_in-set r (q ∷ results) d lt same = by (λ less here. put_in-set r results 
         let here : bytes_eq q.key r.key ≡ true = rw at at same in
         put_in-same r q results e here ∙ ap (λ (n : ℕ). set (q ∷ results) n r) (sym at)
 
--- in its place stands no such key, and so it goes before what stands there
+-- its place doesn't hold that key, and so it goes before what is there
 pub put_in-insert : (r : CachedResult) (results : List CachedResult) → ((d : CachedResult) → place_for results r.key < length results → bytes_eq (get_or results (place_for results r.key) d).key r.key ≡ false)
     → put_in r results ≡ insert results (place_for results r.key) r
 unfolding put_in
@@ -99,7 +99,7 @@ followed r old results was = record {
   among = here r results;
 }
 
--- what stands before both stays
+-- what comes before both stays
 behind : (p r : CachedResult) (old new : List CachedResult) → HasMore old r new → HasMore (p ∷ old) r (p ∷ new)
 behind p r old new more = record {
   others = λ q c. elim (first_or_later p q new c) [
@@ -168,7 +168,7 @@ get_or_any [] at d e lt = absurd (omega arith)
 get_or_any (q ∷ results) zero d e lt = refl
 get_or_any (q ∷ results) (suc at) d e lt = get_or_any results at d e (omega arith)
 
--- another key stands there
+-- another key is there
 abbrev pub StandsElse : CachedResult → List CachedResult → ℕ → Type 0
 StandsElse r results at = (d : CachedResult) × (d ≡ get_or results at d) × (bytes_eq d.key r.key ≡ false)
 

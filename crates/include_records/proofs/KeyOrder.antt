@@ -32,7 +32,7 @@ unfolding rises
 rises-rest r [] h = refl
 rises-rest r (q ∷ results) h = (and_parts _ _ h).1
 
--- a result of the same key may stand in the place of the first
+-- a result of the same key may take the place of the first
 pub rises-same : (r q : CachedResult) (results : List CachedResult) → q.key ≡ r.key → rises (q ∷ results) ≡ true → rises (r ∷ results) ≡ true
 unfolding rises
 rises-same r q [] same h = refl
@@ -50,7 +50,7 @@ pub put_in-behind : (r q : CachedResult) (results : List CachedResult) → is_be
 unfolding put_in
 put_in-behind r q results before same = rw (before, same) refl
 
--- the first result of a list whose first key is behind q's may be followed by another
+-- the first result of a list whose first key is after q's may be followed by another
 rises-two : (q r : CachedResult) (results : List CachedResult) → is_before q.key r.key ≡ true → rises (r ∷ results) ≡ true → rises (q ∷ r ∷ results) ≡ true
 unfolding rises
 rises-two q r results before h = rw (before, h) refl

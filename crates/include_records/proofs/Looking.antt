@@ -17,7 +17,7 @@ use Rattle.include_records.specs.declared.entry.CachedResult.{CachedResult}
 use Rattle.include_records.specs.declared.entry.IncludeEntry.{IncludeEntry}
 
 module _ (digest_of : Bytes → Bytes) (place : Place) where
-  -- what is seen of a file tells whether it's there
+  -- what is seen of a file determines whether it's there
   pub seen-is_there : (i : IncludeEntry) → fits_seen place.day i (seen_at digest_of place i.path) ≡ is_there place digest_of i
   seen-is_there i = by (contents_at place.files (path_at place i.path))
     where

@@ -69,7 +69,7 @@ pub found_behind : (bytes rest : Bytes) (r : Result Record Error) → bytes ≡ 
 found_behind bytes rest (Ok entry) is fits gave = let t = results_take rest entry.results fits gave in (t.0, inl (is ∙ ap (λ (x : Bytes). 1 ∷ x) t.1))
 found_behind bytes rest (Err e) is fits gave = tt
 
--- what a record is spelled as behind the first byte
+-- what a record is spelled as after the first byte
 behind_one : (bytes rest : Bytes) (results : List CachedResult) → bytes ≡ 1 ∷ rest → bytes ≡ record_bytes results → rest ≡ counted result_bytes results
 behind_one bytes rest results is spelled = let same : 1 ∷ rest ≡ 1 ∷ counted result_bytes results = sym is ∙ spelled in cc
 

@@ -34,7 +34,7 @@ include_bytes i = both framed (both number (both framed (both (optional signed) 
 abbrev pub result_bytes : CachedResult → Bytes
 result_bytes r = both framed (counted include_bytes) (result_fields r)
 
--- the byte 1, and the results behind their count
+-- the byte 1, and the results after their count
 abbrev pub record_bytes : List CachedResult → Bytes
 record_bytes results = 1 ∷ counted result_bytes results
 
@@ -57,7 +57,7 @@ include_at = made_at include_from (both_at framed_at (both_at number_at (both_at
 unfoldable pub result_at : Bytes → Read CachedResult
 result_at = made_at result_from (both_at text_at (counted_at include_at))
 
--- what stands behind the first byte
+-- what comes after the first byte
 unfoldable pub results_at : Bytes → Option (List CachedResult)
 results_at bytes = do
   results ← counted_at result_at bytes

@@ -21,17 +21,17 @@ result_with text_key includes = record { key = text_key; includes = includes }
 abbrev pub includes_in : List CachedResult → ℕ
 includes_in results = sum_by (λ r. length r.includes) results
 
--- one key stands before another, by its bytes
+-- one key comes before another, by its bytes
 abbrev pub is_before : Bytes → Bytes → Bool
 is_before one other = is_lt (slice_cmp nat_cmp one other)
 
--- each key stands before the next one
+-- each key comes before the next one
 unfoldable pub rises : List CachedResult → Bool
 rises [] = true
 rises (r ∷ []) = true
 rises (r ∷ q ∷ results) = is_before r.key q.key && rises (q ∷ results)
 
--- at most 101 results, and at most 10000 includes unless one result stands alone
+-- at most 101 results, and at most 10000 includes unless there is only one result
 abbrev pub is_small : List CachedResult → Bool
 is_small results = nat_le (length results) 101 && (nat_le (length results) 1 || nat_le (includes_in results) 10000)
 

@@ -7,7 +7,7 @@ use Rattle.include_records.specs.Records.{includes_in, is_before}
 use Rattle.include_records.specs.declared.entry.CachedResult.{CachedResult}
 use Rattle.include_records.specs.declared.entry.IncludeEntry.{IncludeEntry}
 
--- more than 100 results stand, or all includes with the new ones pass 10000
+-- there are more than 100 results, or all includes with the new ones exceed 10000
 abbrev pub starts_over : List CachedResult → List IncludeEntry → Bool
 starts_over results includes = nat_lt 100 (length results) || nat_lt 10000 (includes_in results + length includes)
 

@@ -5,7 +5,7 @@ use os_files::listed::Listed;
 use os_files::os_bytes::OsBytes;
 
 /// A file that a text named: its name, its size, the text of its digest; the day, as a count of days since 1970-01-01, where
-/// `__DATE__` stands in it; and the second of its last change since the start of 1970 in UTC, where `__TIMESTAMP__` does.
+/// `__DATE__` occurs in it; and the second of its last change since the start of 1970 in UTC, where `__TIMESTAMP__` does.
 #[derive(Clone, Debug, Drop, PartialEq, Eq)]
 pub struct IncludeEntry {
     pub path: OsBytes,

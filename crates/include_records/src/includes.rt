@@ -21,7 +21,7 @@ use std::alloc::Global;
 use time_macros::holds::holds;
 use time_macros::zone::Zone;
 
-/// Whether `__DATE__` stands in the contents.
+/// Whether `__DATE__` occurs in the contents.
 #[tactic(auto, unfolding(time_macros::specs::Macros::holds_date))]
 fn holds_date(contents: &[u8]) -> bool
     ensures { result ≡ macros.holds_date contents.now }
@@ -29,7 +29,7 @@ fn holds_date(contents: &[u8]) -> bool
     holds(contents, b"__DATE__")
 }
 
-/// Whether `__TIMESTAMP__` stands in the contents.
+/// Whether `__TIMESTAMP__` occurs in the contents.
 #[tactic(auto, unfolding(time_macros::specs::Macros::holds_timestamp))]
 fn holds_timestamp(contents: &[u8]) -> bool
     ensures { result ≡ macros.holds_timestamp contents.now }
@@ -106,7 +106,7 @@ fn includes_on<H: HashState, F: Files>(
 /// What is recorded of the files of these names, on these files from that directory, at a moment in seconds since the start of 1970
 /// in UTC, in a zone; `None` where one of them isn't there, or needs a day and the calendar has none.
 ///
-/// `Read` names a file on which the device failed.
+/// `Read` names a file on which an I/O error occurred.
 pub fn includes_of<H: HashState, F: Files>(
     alloc: Global,
     dir: &OsBytes,

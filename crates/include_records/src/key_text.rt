@@ -119,7 +119,7 @@ impl fmt::Display for KeyText {
     }
 }
 
-/// The bytes behind their length.
+/// The bytes after their length.
 impl Field for KeyText {
     ghost reads = { text_at };
 

@@ -61,7 +61,7 @@ impl Field for IncludeEntry {
     }
 }
 
-/// The key, and the includes behind their count.
+/// The key, and the includes after their count.
 impl Field for CachedResult {
     ghost reads = { result_at };
 
@@ -84,7 +84,7 @@ impl Field for CachedResult {
     }
 }
 
-/// The results that stand behind the first byte of a record.
+/// The results that come after the first byte of a record.
 fn read_results(alloc: Global, bytes: &[u8]) -> Result<PreprocessorCacheEntry, ReadFault>
     ensures { Gives (λ entry. entry.results) result (results_at bytes.now) }
 {
@@ -98,7 +98,7 @@ fn read_results(alloc: Global, bytes: &[u8]) -> Result<PreprocessorCacheEntry, R
     }
 }
 
-// What stands behind the first byte, with the errors of records.
+// What comes after the first byte, with the errors of records.
 fn read_behind_format(alloc: Global, bytes: &[u8]) -> Result<PreprocessorCacheEntry, Error>
     ensures { MatchResult result (λ entry. results_at bytes.now ≡ Some entry.results)
         (λ e. IsUnread bytes.now e) }
@@ -113,7 +113,7 @@ fn read_behind_format(alloc: Global, bytes: &[u8]) -> Result<PreprocessorCacheEn
 impl PreprocessorCacheEntry {
     /// The record that was written as these bytes, and the empty one where there are none.
     ///
-    /// `UnknownFormat` where another byte stands first, and `Deserialization` where behind it stands what is written for no record.
+    /// `UnknownFormat` where another byte comes first, and `Deserialization` where after it comes what is written for no record.
     pub fn read(alloc: Global, bytes: &[u8]) -> Result<PreprocessorCacheEntry, Error>
         ensures found { IfOk result
             (λ entry. IsRecord entry.results
@@ -145,7 +145,7 @@ impl PreprocessorCacheEntry {
         Ok(out)
     }
 
-    /// Writes the bytes of this record. Where the writer fails it isn't told what it took.
+    /// Writes the bytes of this record. Where the writer fails it isn't known what it took.
     pub fn serialize_to<W: Write>(&self, writer: &mut W) -> Result<(), Error>
         ensures written { OnOk result
             (Appends (W.contents writer.old) (W.contents writer.new) (record_bytes self.now.results)) }

@@ -1,4 +1,4 @@
-//! Which text a call prints, told from what is recorded.
+//! Which text a call prints, found from what is recorded.
 
 ghost use Rattle.std.specs.Prelude.{◌≡◌, true, IfOk, IfErr, IfSome, OnOk, IsErrOf};
 ghost use Rattle.os_files.specs.Views.{FilesFail};
@@ -23,7 +23,7 @@ impl PreprocessorCacheEntry {
     /// The greatest key of those results whose files are as they were recorded, on these files from that directory, at a moment in
     /// seconds since the start of 1970 in UTC, in a zone; `None` where no result's are. Each file is looked at once.
     ///
-    /// `Read` names a file on which the device failed.
+    /// `Read` names a file on which an I/O error occurred.
     pub fn lookup_result_digest<H: HashState, F: Files>(
         &self,
         alloc: Global,

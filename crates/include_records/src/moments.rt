@@ -22,7 +22,7 @@ pub fn day_of(moment: i64, zone: &Zone) -> Option<i64>
 
 /// The second in which what is at a path was last changed, since the start of 1970 in UTC; 0 where nothing is.
 ///
-/// `Read` names the path where the device failed on it.
+/// `Read` names the path where an I/O error occurred on it.
 pub fn second_at<F: Files>(alloc: Global, path: OsBytes, files: &mut F) -> Result<i64, ParseFault>
     ensures second { IfOk result (λ second. second ≡ spec.second_at (F.tree files.old) path) }
     ensures cause { IfErr result (CauseOf (FilesFail F.Files files.old files.new)) }

@@ -74,7 +74,7 @@ impl PreprocessorCacheEntry {
         self.results.as_slice()
     }
 
-    /// Puts the files of a text under its key, over those that were there. Where more than 100 results stand, or all includes
+    /// Puts the files of a text under its key, over those that were there. Where there are more than 100 results, or all includes
     /// with the new ones pass 10000, the record starts over with this result alone.
     pub fn add_result(
         &mut self,
@@ -163,7 +163,7 @@ fn small_count(results: &[CachedResult]) -> Option<usize>
     Some(count)
 }
 
-/// Whether each key stands before the next one.
+/// Whether each key comes before the next one.
 #[tactic(auto, unfolding(crate::specs::Records::rises))]
 fn rises(results: &[CachedResult]) -> bool
     ensures { result ≡ rises results.now }

@@ -68,7 +68,7 @@ any_passes test (y ∷ ys) name h is = elim (here_or_later y name ys h) [
 ]
 
 module _ (one other : Bytes) where
-  -- the one name comes, and the other one behind it
+  -- the one name comes, and the other one after it
   abbrev pub Earlier : List Bytes → Type 0
   Earlier [] = ⊥
   Earlier (y ∷ ys) = ((y ≡ one) × Contains ys other) ⊎ Earlier ys
@@ -119,7 +119,7 @@ module _ (one other : Bytes) where
       let stands : Contains (filter test (once ys)) other = other_stands (filter test (once ys)) h in
       inr (isnt y (chosen test (once ys) other stands).1, first_of ys (earlier_of test (once ys) h))
 
-  -- A line that is a marker of the one name, behind lines that are no marker of the other.
+  -- A line that is a marker of the one name, after lines that are not markers of the other.
   record Appears (ls : List Bytes) : Type 0 where
     front : List Bytes
     line : Bytes

@@ -46,7 +46,7 @@ behind_on b rest is =
 behind_end : (b : ℕ) (rest : List ℕ) → (b == 10) ≡ true → behind_line (b ∷ rest) ≡ rest
 behind_end b rest is = ap (λ (t : Bool). drop (cond (not t) (1 + position_or_len is_line_end rest) 0 + 1) (b ∷ rest)) is
 
--- a line end and `#` stand at this place
+-- a line end and `#` are at this place
 abbrev Ends : List ℕ → ℕ → Type 0
 Ends text k = OccursAt text (10 ∷ 35 ∷ []) k
 
@@ -89,7 +89,7 @@ some_behind (b ∷ rest) zero none h = ap sights (behind_end b rest ((Decides-eq
 some_behind (b ∷ rest) (suc k) none h =
     some_by b rest k (b == 10) refl (none 0 (omega arith)) (some_behind rest k (λ i lt w. none (suc i) (omega (arith, lt)) (later b rest i w)) (earlier b rest k h))
 
--- behind the first line end that `#` follows, a text says what it says
+-- after the first line end that `#` follows, a text says what it says
 pub sights-found : (text : List ℕ) (k : ℕ) → begins_with_hash text ≡ false → FindsNeedle text (10 ∷ 35 ∷ []) 0 (Some k) → sights (drop (k + 1) text) ≡ sights text
 sights-found text k h found = sym (sights-plain text h ∙ some_behind text k (λ i lt. found.0.before i (omega arith) lt) found.1)
 

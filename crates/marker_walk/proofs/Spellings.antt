@@ -9,12 +9,12 @@ use Rattle.marker_walk.specs.Markers.{Start, bare, worded, is_digit, is_space}
 use Rattle.marker_walk.specs.Scanning.{Name, closed, unclosed, misspelled, Sight, named, refused, behind_digits, behind_hash, behind_spaces, led_by, name_from, past, quoted_at, sight_by, sight_in, sights}
 use Rattle.marker_walk.specs.Spelling.{is_special, meant, meant_from, spelled}
 
--- a name as it stands between quotes is the spelling of what it means
+-- a name as written between quotes is the spelling of what it means
 abbrev pub IsSpelledWell : Sight → Type 0
 IsSpelledWell (named raw) = spelled (meant raw) ≡ raw
 IsSpelledWell refused = Unit {0}
 
--- the same behind an opening quote, or behind a backslash, which then stands before it
+-- the same after an opening quote, or after a backslash, which is then put before it
 abbrev pub IsWellBehind : Bool → Name → Type 0
 IsWellBehind true (closed raw) = spelled (meant_from true raw) ≡ 92 ∷ raw
 IsWellBehind false (closed raw) = spelled (meant raw) ≡ raw

@@ -48,7 +48,7 @@ says_once line None h = nothing_said line (sight_in line) refl h
 says_once line (Some (named raw)) h = sym (marker_reads line (meant raw) h.0 ∙ ap (λ (r : Bytes). Some (named r)) h.1)
 says_once line (Some refused) h = sym (refusing_reads reads_marker line h)
 
--- lines tell what a scanner finds in them
+-- lines determine what a scanner finds in them
 pub tell_found : (ls : List Bytes) → Tell ls (filter_map sight_in ls)
 tell_found [] = refl
 tell_found (l ∷ ls) = (sight_in l, filter_map sight_in ls, says_found l, tell_found ls, refl)

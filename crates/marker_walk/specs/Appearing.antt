@@ -8,7 +8,7 @@ use Rattle.marker_walk.specs.Markers.{IsMarker}
 use Rattle.marker_walk.specs.Named.{is_named, tells_time}
 use Rattle.marker_walk.specs.Told.{HasMarker, IsRefused}
 
--- The one name stands in the list, and the other one behind it.
+-- The one name is in the list, and the other one is after it.
 pub record StandsBefore (names : List Bytes) (one other : Bytes) : Type 0 where
   pub front : List Bytes
   pub behind : List Bytes

@@ -1,4 +1,4 @@
--- The grammar of markers: which lines name a file, and which can't be told from such a line.
+-- The grammar of markers: which lines name a file, and which can't be distinguished from such a line.
 use Rattle.std.specs.Prelude.{◌≡◌, ◌<◌, ℕ, Bool, true, false, nat_le, ◌&&◌, [], ◌∷◌, ◌++◌, length, codes}
 use Rattle.std.specs.List.{AllByRecursion}
 use Rattle.os_files.specs.Bytes.{Bytes}
@@ -36,7 +36,7 @@ pub record IsNumbered (start : Start) (line rest : Bytes) : Type 0 where
   pub are_digits : IsRunOf is_digit digits
   pub whole : line ≡ start_text start ++ (spaces ++ (digits ++ rest))
 
--- The line is a marker of that name: behind the number stand spaces, the name in quotes, which are 34, and then anything.
+-- The line is a marker of that name: after the number come spaces, the name in quotes, which are 34, and then anything.
 pub record IsMarker (line name : Bytes) : Type 0 where
   pub start : Start
   pub gap : Bytes
@@ -53,7 +53,7 @@ pub data IsRefusing (line : Bytes) : Type 0 where
   -- it begins with `#`, spaces and a digit, and is no marker
   unreadable : (rest : Bytes) → IsNumbered bare line rest
       → ((name : Bytes) → ¬ IsMarker line name) → IsRefusing line
-  -- in its name a backslash, which is 92, stands before another byte than a quote or a backslash, or before the line's end
+  -- in its name a backslash, which is 92, comes before another byte than a quote or a backslash, or before the line's end
   misspelled : (start : Start) (gap front behind : Bytes) → IsRunOf is_space gap
       → begins_special behind ≡ false
       → IsNumbered start line (gap ++ 34 ∷ (spelled front ++ 92 ∷ behind)) → IsRefusing line

@@ -8,7 +8,7 @@ use Rattle.marker_walk.specs.Lines.{lines}
 use Rattle.marker_walk.specs.Markers.{is_space, is_digit, Start, bare, worded}
 use Rattle.marker_walk.specs.Spelling.{is_special}
 
--- what stands behind the bytes that pass
+-- what comes after the bytes that pass
 abbrev pub behind_run : (ℕ → Bool) → Bytes → Bytes
 behind_run test [] = []
 behind_run test (b ∷ rest) = if test b then behind_run test rest else b ∷ rest
@@ -18,7 +18,7 @@ abbrev pub past : (ℕ → Bool) → Bytes → Option Bytes
 past test [] = None
 past test (b ∷ rest) = if test b then Some (behind_run test rest) else None
 
--- what stands behind an opening quote: a name and the quote that closes it, or no such quote, or a backslash before another byte
+-- what comes after an opening quote: a name and the quote that closes it, or no such quote, or a backslash before another byte
 pub data Name : Type 0 where
   closed : Bytes → Name
   unclosed : Name
@@ -29,7 +29,7 @@ led_by b (closed raw) = closed (b ∷ raw)
 led_by b unclosed = unclosed
 led_by b misspelled = misspelled
 
--- the same, behind a backslash or not
+-- the same, after a backslash or not
 abbrev pub name_from : Bool → Bytes → Name
 name_from true [] = misspelled
 name_from false [] = unclosed
@@ -38,13 +38,13 @@ name_from true (b ∷ rest) =
 name_from false (b ∷ rest) =
     if b == 34 then closed [] else led_by b (name_from (b == 92) rest)
 
--- what stands behind the spaces behind the digits
+-- what comes after the spaces that follow the digits
 abbrev pub quoted_at : Option Bytes → Name
 quoted_at None = unclosed
 quoted_at (Some []) = unclosed
 quoted_at (Some (b ∷ rest)) = if b == 34 then name_from false rest else unclosed
 
--- what a line says that isn't plain: the name of a marker, as it stands between the quotes, or that it refuses the text
+-- what a line says that isn't plain: the name of a marker, as written between the quotes, or that it refuses the text
 pub data Sight : Type 0 where
   named : Bytes → Sight
   refused : Sight
@@ -63,7 +63,7 @@ abbrev pub behind_spaces : Start → Option Bytes → Option Sight
 behind_spaces start None = None
 behind_spaces start (Some rest) = behind_digits start (past is_digit rest)
 
--- what a line says that goes on so behind its start
+-- what a line says that continues like this after its start
 abbrev pub sight_with : Start → Bytes → Option Sight
 sight_with start rest = behind_spaces start (past is_space rest)
 

@@ -18,7 +18,7 @@ standing_on dir files input name =
     if is_named dir files input name then (if tells_time dir files name then Refuses else Counts)
     else Skipped
 
--- the names that follow, behind a name that came for the first time
+-- the names that follow, after a name that came for the first time
 abbrev pub by_standing : Standing → Bytes → Option (List Bytes) → Option (List Bytes)
 by_standing Counts name rest = option_map (λ names. name ∷ names) rest
 by_standing Skipped name rest = rest
@@ -28,7 +28,7 @@ by_standing Refuses name rest = None
 abbrev pub or_this : Bytes → (Bytes → Bool) → Bytes → Bool
 or_this raw came other = bytes_eq raw other || came other
 
--- the names that follow, where these came before, as they stand between quotes
+-- the names that follow, where these came before, as written between quotes
 abbrev pub names_behind :
     Bytes → Tree → Bytes → (Bytes → Bool) → List Sight → Option (List Bytes)
 names_behind dir files input came [] = Some []

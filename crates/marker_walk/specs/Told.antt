@@ -13,7 +13,7 @@ pub record IsPlain (line : Bytes) : Type 0 where
   pub no_marker : (name : Bytes) → ¬ IsMarker line name
   pub no_refusal : ¬ IsRefusing line
 
--- The line is the marker of the name that stands so between its quotes, or it refuses its text, or it is plain.
+-- The line is the marker of the name that is written like this between its quotes, or it refuses its text, or it is plain.
 abbrev pub Says : Bytes → Option Sight → Type 0
 Says line (Some (named raw)) = IsMarker line (meant raw) × (spelled (meant raw) ≡ raw)
 Says line (Some refused) = IsRefusing line

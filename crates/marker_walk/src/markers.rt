@@ -10,11 +10,11 @@ use crate::line::{Mark, mark_in};
 use memchr::{memchr, memmem};
 
 /// What the lines of a preprocessed text say, from the first to the last: each item is a marker's name, which is a part of the text,
-/// or says that a line refuses the text. Plain lines say nothing. It goes on behind a line that refuses, and ends with the text. It
+/// or says that a line refuses the text. Plain lines say nothing. It goes on after a line that refuses, and ends with the text. It
 /// takes no memory.
 #[derive(Drop)]
 pub struct Markers<'a> {
-    /// The text behind the lines that were looked at.
+    /// The text after the lines that were looked at.
     pub(crate) rest: &'a [u8],
 }
 
@@ -28,7 +28,7 @@ impl<'a> Markers<'a> {
     }
 }
 
-/// The first line of a text, and what stands behind its end.
+/// The first line of a text, and what comes after its end.
 fn cut_line(text: &[u8]) -> (&[u8], &[u8])
     ensures line { result.0.now ≡ line_of text.now }
     ensures behind { result.1.now ≡ behind_line text.now }

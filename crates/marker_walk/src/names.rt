@@ -1,4 +1,4 @@
-//! Names as they stand between quotes, and the bytes that they mean.
+//! Names as written between quotes, and the bytes that they mean.
 
 ghost use Rattle.std.specs.Prelude.{◌≡◌, ◌↔◌, ◌&&◌, false, not, IfOk, IsOk};
 ghost use Rattle.std.specs.List.{list_any};
@@ -9,7 +9,7 @@ use memchr::memchr;
 use std::alloc::{AllocError, Global};
 use std::borrow::CowSlice;
 
-/// The name that stands so between quotes: without the first of each two bytes that begin with a backslash. It is the slice itself,
+/// The name written like this between quotes: without the first of each two bytes that begin with a backslash. It is the slice itself,
 /// and no memory is taken, where it has no backslash.
 pub fn unescaped<'a>(alloc: Global, raw: &'a [u8]) -> Result<CowSlice<'a, u8>, AllocError>
     ensures value { IfOk result (λ name. cow_slice_items name ≡ meant raw.now) }
@@ -23,7 +23,7 @@ pub fn unescaped<'a>(alloc: Global, raw: &'a [u8]) -> Result<CowSlice<'a, u8>, A
     }
 }
 
-/// Whether a byte, behind a backslash that counts or not, is itself a backslash that counts.
+/// Whether a byte, after a backslash that counts or not, is itself a backslash that counts.
 fn begins_escape(escaped: bool, byte: u8) -> bool
     ensures { result ≡ (not escaped && is_backslash byte) }
 {

@@ -37,7 +37,7 @@ pub(crate) enum Standing {
     Refuses,
 }
 
-/// The names that have come, as they stand between quotes.
+/// The names that have come, as written between quotes.
 #[derive(Drop)]
 pub(crate) struct Seen<'a> {
     pub(crate) names: HashSet<&'a [u8]>,
@@ -107,14 +107,14 @@ fn standing_on<F: Files>(
     }
 }
 
-/// The name that stands so between quotes.
+/// The name that is written like this between quotes.
 fn name_of(alloc: Global, raw: &[u8]) -> Result<OsBytes, AllocError>
     ensures { IfOk result (λ name. name ≡ meant raw.now) }
 {
     Ok(OsBytes::from_vec(unescaped(alloc, raw)?.into_owned(alloc)?))
 }
 
-/// Takes the name of the next marker, which stands so between quotes. Answers whether the walk goes on.
+/// Takes the name of the next marker, which is written like this between quotes. Answers whether the walk goes on.
 fn take_name<'a, F: Files>(
     alloc: Global,
     raw: &'a [u8],
@@ -152,8 +152,8 @@ fn take_name<'a, F: Files>(
 /// The named files of a preprocessed text: the names of its markers that don't begin with `<`, are of regular files and aren't the
 /// input, each once, in the order in which they appear first. Names, and that of the input, are read from the directory `dir`.
 ///
-/// `Refused` where a line can't be told from a marker, `.incbin` or `#pragma GCC pch_preprocess` stands in the text, or a named file
-/// holds `__TIME__`. `Read` names a file on which the device failed, and `Memory` says that a growth was refused.
+/// `Refused` where a line can't be distinguished from a marker, the text holds `.incbin` or `#pragma GCC pch_preprocess`, or a named file
+/// holds `__TIME__`. `Read` names a file on which an I/O error occurred, and `Memory` means out of memory.
 ///
 /// A name that comes again costs a look-up among those that came, and no call of the files.
 pub fn walk<F: Files>(

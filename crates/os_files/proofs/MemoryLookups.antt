@@ -46,7 +46,7 @@ kept_here name key file old entries Less was below = refl
 kept_here name key file old entries Equal was below = ap (λ n. (key, node_of n file) ∷ tree_of entries) (sym (exact_bytes name key was))
 kept_here name key file old entries Greater was below = ap (λ tree. (key, node_of key old) ∷ tree) below
 
--- what the ordered map takes in stands at its place in the tree
+-- what the ordered map inserts is at its place in the tree
 pub tree_kept : (entries : Entries) (name : Bytes) (file : MemoryFile) → tree_of (insert_entry (slice_cmp nat_cmp) entries name file) ≡ with_file (tree_of entries) name file
 tree_kept [] name file = refl
 tree_kept (entry ∷ entries) name file = kept_here name entry.0 file entry.1 entries (slice_cmp nat_cmp name entry.0) refl (tree_kept entries name file)

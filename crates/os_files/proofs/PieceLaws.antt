@@ -23,7 +23,7 @@ pieces_some (b ∷ path) = by (is_slash b) (pieces path)
     by false [] = (b ∷ [], [], refl)
     by false (p ∷ ps) = (b ∷ p, ps, refl)
 
--- a slash parts the pieces before it from those behind it
+-- a slash separates the pieces before it from those after it
 pub pieces-append : (front rest : Bytes) → pieces (front ++ 47 ∷ rest) ≡ pieces front ++ pieces rest
 pieces-append [] rest = refl
 pieces-append (b ∷ front) rest =

@@ -44,7 +44,7 @@ part_of CurDir = current
 part_of ParentDir = parent
 part_of (Normal name) = named name.now
 
--- a piece that is a component wherever it stands: neither empty nor `.`
+-- a piece that is a component wherever it is: neither empty nor `.`
 abbrev pub counts : Bytes → Bool
 counts piece = not (length piece == 0 || bytes_eq piece (codes "."))
 
@@ -80,7 +80,7 @@ part_cmp p q =
     let names = slice_cmp nat_cmp (unwrap_or (name_in p) []) (unwrap_or (name_in q) []) in
     ordering_then (nat_cmp (rank p) (rank q)) names
 
--- Paths component by component, where a path comes before those that go on behind it. Paths of the same components go by their bytes.
+-- Compares paths component by component; a path comes before those that extend it. Paths of the same components compare by their bytes.
 abbrev pub path_cmp : Bytes → Bytes → Ordering
 path_cmp p q = ordering_then (slice_cmp part_cmp (components p) (components q)) (slice_cmp nat_cmp p q)
 
@@ -101,7 +101,7 @@ extension_in name = if has_extension name then Some (after_last is_dot name) els
 abbrev pub extension : Bytes → Option Bytes
 extension path = option_and_then extension_in (file_name path)
 
--- the path with this in the place of its last component, and nothing behind it
+-- the path with this in place of its last component, and nothing after it
 abbrev pub renamed : Bytes → Bytes → Bytes
 renamed path name = join_with_byte (byte "/") (before_last counts (pieces path) ++ name ∷ [])
 

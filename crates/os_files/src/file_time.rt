@@ -1,4 +1,4 @@
-//! The moments that a device keeps of a file.
+//! The timestamps that a device keeps of a file.
 
 ghost use Rattle.std.specs.Prelude.{◌≡◌, ◌<◌, ◌↔◌, IsSome, IfSome};
 

@@ -15,7 +15,7 @@ pub enum FileFail {
     /// No memory was left.
     #[error("no memory was left")]
     Memory,
-    /// The device failed, which its failure tick counts.
+    /// An I/O error, which the failure tick counts.
     #[error("a device of files failed")]
     Device,
 }
@@ -47,10 +47,10 @@ pub trait Files {
     /// The map.
     ghost tree: { Self → Tree };
 
-    /// How often the device has failed, modulo 2 ^ 64: the failure tick.
+    /// The number of I/O errors so far, modulo 2 ^ 64: the failure tick.
     ghost failed: { Self → ℕ };
 
-    /// A call on that name that answered `Device` led from the one state to the other.
+    /// A call on that name that returned `Device` led from the one state to the other.
     ghost fails_on: { Self → Bytes → Self → Type 0 };
 
     /// The contents of a regular file, and `None` where nothing regular is there.

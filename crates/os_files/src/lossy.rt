@@ -4,7 +4,7 @@ use bstr::{BStr, ByteSlice};
 use std::alloc::{AllocError, Global};
 use std::fmt;
 
-/// Bytes that are shown as text, where U+FFFD stands for what is no UTF-8.
+/// Bytes that are shown as text, where U+FFFD replaces what isn't UTF-8.
 #[derive(Clone, Copy)]
 pub struct Lossy<'a> {
     pub bytes: &'a [u8],

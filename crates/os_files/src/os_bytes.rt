@@ -133,7 +133,7 @@ impl fmt::Debug for OsBytes {
     }
 }
 
-/// The text of the bytes, where U+FFFD stands for what is no UTF-8.
+/// The text of the bytes, where U+FFFD replaces what isn't UTF-8.
 impl fmt::Display for OsBytes {
     ghost use Rattle.std.specs.Prelude.{Some};
     ghost use Rattle.std.specs.Str.Lossy.{utf8_lossy};

@@ -59,7 +59,7 @@ fn start_of(path: &[u8]) -> Option<Component<'_>>
     }
 }
 
-/// Whether a piece is a component wherever it stands.
+/// Whether a piece is a component wherever it is.
 fn counts(piece: &[u8]) -> bool
     ensures { result ≡ counts piece.now }
 {
@@ -96,7 +96,7 @@ pub fn components<'a>(alloc: Global, path: &'a [u8]) -> Result<Vec<Component<'a>
 }
 
 /// Whether a path comes before another one: component by component, the root before `.`, `.` before `..`, and `..` before names,
-/// which go by their bytes; a path before those that go on behind it. Paths of the same components go by their bytes.
+/// which compare by their bytes; a path before those that extend it. Paths of the same components compare by their bytes.
 pub fn compare_paths(left: &[u8], right: &[u8]) -> Ordering
     ensures { result ≡ path_cmp left.now right.now }
 {
@@ -117,13 +117,13 @@ pub fn compare_paths(left: &[u8], right: &[u8]) -> Ordering
         .then_with(|| left.cmp(right))
 }
 
-/// Any paths stand in one order, and only equal ones tie. A call of it does nothing.
+/// Paths are totally ordered, and only equal ones tie. Calling it does nothing.
 pub fn paths_have_one_order()
     ensures total { IsTotalOrder path_cmp }
     ensures ties { (left right : Bytes) → path_cmp left right ≡ Equal → left ≡ right }
 {}
 
-/// Where the part behind the last such byte begins: 0 where there is none.
+/// Where the part after the last such byte begins: 0 if there is none.
 fn behind_last(bytes: &[u8], byte: u8) -> usize
     ensures { let behind = suffix_len (λ other. not (other == byte)) bytes.now in
         result ≡ length bytes.now - behind }
@@ -140,7 +140,7 @@ fn up_to_last(path: &[u8]) -> Option<(&[u8], usize)>
     ensures last { let last = last_or None (filter counts (pieces path.now)) in
         option_map (λ found. drop found.1 found.0.now) result ≡ last }
     ensures within { IfSome result (λ found. found.1 ≤ length found.0.now) }
-    // What stands before it, and then any name: the path renamed.
+    // What comes before it, and then any name: the path renamed.
     ensures before { IfSome result
         (λ found. (name : Bytes) → take found.1 found.0.now ++ name ≡ renamed path.now name) }
 {
@@ -205,8 +205,8 @@ pub fn extension(path: &[u8]) -> Option<&[u8]>
     }
 }
 
-/// The path with this extension in the place of its file name's, or behind the file name where it
-/// has none, and with nothing behind that. A path without a file name stays as it is.
+/// The path with this extension in place of its file name's, or appended to the file name where it
+/// has none, and with nothing after that. A path without a file name stays as it is.
 pub fn with_extension(alloc: Global, path: &[u8], extension: &[u8]) -> Result<OsBytes, AllocError>
     ensures { IfOk result (λ changed. changed ≡ with_extension path.now extension.now) }
 {

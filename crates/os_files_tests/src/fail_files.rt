@@ -1,4 +1,4 @@
-//! Files of the tests whose device fails at one call: each call fails in turn.
+//! Files of the tests with an I/O error at one call: each call fails in turn.
 
 use os_files::files::{FileFail, Files};
 use os_files::memory_files::MemoryFiles;

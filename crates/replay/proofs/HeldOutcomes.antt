@@ -27,7 +27,7 @@ status_by false m e h = cc
 pub status_is : (m : Made) → preprocess_fault_of m ≡ None → m.status ≡ pos 0
 status_is m h = status_by (int_eq m.status (pos 0)) m refl h
 
--- keys of outputs tell records
+-- keys of outputs determine records
 abbrev pub Tells : (Bytes → Bytes) → Type 0
 Tells digest_of = (one other : Work) → IsTold digest_of one.rec → IsTold digest_of other.rec → AreDistinct digest_of one.rec other.rec → (store_key_of digest_of one ≡ store_key_of digest_of other) ↔ SameRecord one other
 

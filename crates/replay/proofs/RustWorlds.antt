@@ -50,7 +50,7 @@ use Rattle.replay.specs.declared.rustc_records.RecordedRustc.{RecordedRustc}
 use Rattle.replay.proofs.AskedAlike.{asked_is, bytes_is, names_are}
 use Rattle.replay.proofs.HeldOutcomes.{Tells, chosen, held_is, status_is}
 
--- ---- what was told was recorded, and is the world's
+-- ---- what was reported was recorded, and is the world's
 
 told_same : (told : Option RecordedAnswer) (command : List Bytes) (dir : Bytes) (by : Asked → Made) → ((r : RecordedAnswer) → told ≡ Some r → dir ≡ r.dir → by (words r.words) ≡ printed_as r.printed) → (told_for told (words command) dir).status ≡ pos 0 → told_for told (words command) dir ≡ by (words command)
 told_same None command dir by gives h = cc
@@ -109,7 +109,7 @@ module _ (text : Option RecordedText) (outputs : Option RecordedOutputs) (rustc 
       let rest = digests_same paths here.1 in
       λ i. (path, text_in (one i).contents) ∷ rest i
 
-  -- all that a call without a fault was told is the world's
+  -- all that was reported to a call without a fault is the world's
   dep_info_same : key_fault_of told c ≡ None → dep_info_of told q ≡ dep_info_of world q
   dep_info_same fine =
       let all = answers_of told q in
@@ -216,7 +216,7 @@ module _ (digest_of : Bytes → Bytes) (max_kept : Option ℕ) (tells : Tells di
       let world_told = subst (λ r. IsTold digest_of r) (record_same text outputs rustc world c gives fine) is_told in
       held_is digest_of tells (world_for_call asked) (has_record text outputs rustc world c gives fine) world_told old.objects.held pairs (ap old.objects.held (sym same) ∙ held) earlier inv premises
 
-  -- outputs stand at the same paths
+  -- outputs are at the same paths
   at_same_paths : (asked : RustAsks) (pairs : Pairs) → HasRecord (told_for_call asked) → placed (told_for_call asked).outputs pairs ≡ placed (world_for_call asked).outputs pairs
   at_same_paths asked pairs fine = ap (λ (o : Artifacts). placed o pairs) (outputs_same text outputs rustc world (call_for asked) gives fine)
 

@@ -1,11 +1,11 @@
--- What stands beside outputs.
+-- What comes with outputs.
 use Rattle.std.specs.Prelude.{◌≡◌, Result, Ok, Err}
 use Rattle.ckeys_records.specs.declared.fault.Fault.{Fault}
 use Rattle.wrap.specs.Account.{Account, passed, worked}
 use Rattle.wrap_base.specs.declared.answer.Answer.{Answer}
 use Rattle.wrap_base.specs.declared.answer.Answer.TheVariants.{Pass, Outputs}
 
--- beside outputs stands the call's own text on dependencies, where it asks for one
+-- outputs come with the call's own text on dependencies, where it asks for one
 abbrev pub TellsOwnDependencies : Account → Result Answer Fault → Type 0
 TellsOwnDependencies (passed why) result = Unit {0}
 TellsOwnDependencies (worked w) (Ok (Pass reason)) = Unit {0}

@@ -49,7 +49,7 @@ abbrev pub made_for : Option RecordedOutputs → Asked → List OutputName → M
 made_for None asked names = unmade
 made_for (Some r) asked names = if same_asked asked (asked_of r.kind r.words) && same_list same_name names r.names then made_in r else unmade
 
--- what was recorded of rustc: what it told of dependencies and of names, what it made, and the digest of a static library
+-- what was recorded of rustc: what it reported of dependencies and of names, what it made, and the digest of a static library
 abbrev pub on_dependencies : Option RecordedRustc → Option RecordedAnswer
 on_dependencies rustc = option_and_then (λ (r : RecordedRustc). r.dep_info) rustc
 

@@ -19,7 +19,7 @@ same_delimiter None (Some e) = false
 same_delimiter (Some d) None = false
 same_delimiter (Some d) (Some e) = d == e
 
--- values that stand alike
+-- values that are written alike
 abbrev pub same_way : ArgDisposition → ArgDisposition → Bool
 same_way Separated Separated = true
 same_way (CanBeConcatenated d) (CanBeConcatenated e) = same_delimiter d e

@@ -36,7 +36,7 @@ pub type Entries = WatchedRecords<MapStore<EntryKey, PreprocessorCacheEntry>>;
 
 pub type Objects = AskedStore<MapStore<StoreKey, Pairs>>;
 
-/// What was answered, and the session, whose stores tell for which keys they were asked, and which record was put.
+/// What was answered, and the session, whose stores report for which keys they were asked, and which record was put.
 #[derive(Drop)]
 pub struct SessionAnswer<H> {
     pub answer: Result<Answer, Fault>,
@@ -115,7 +115,7 @@ pub fn answered<H: HashState>(
         → Premises H.digest_of (earlier ++ a ∷ [])
         → Answers a result.answer }
 
-    // Beside them stands what that world's rustc tells of dependencies, for this request's own targets, where it asks for it.
+    // They come with what that world's rustc reports of dependencies, for this request's own targets, where it asks for it.
     ensures dep_info { (world : Meaning) → let tree = ⟦<SnapshotFiles as Files>⟧.tree files.old in
         GivesTo tool.old.text tool.old.outputs tool.old.rustc request.now tree world
         → TellsOwnDependencies (account_at world tree session.settings request.now) result.answer }

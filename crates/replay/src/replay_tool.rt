@@ -107,7 +107,7 @@ impl ReplayTool {
         }
     }
 
-    /// What rustc told of dependencies, where that is recorded.
+    /// What rustc reported of dependencies, where that is recorded.
     fn on_dependencies(&self) -> Option<&RecordedAnswer>
         ensures { option_copied result ≡ on_dependencies self.now.rustc }
     {
@@ -117,7 +117,7 @@ impl ReplayTool {
         }
     }
 
-    /// What it told of the names of its outputs, where that is recorded.
+    /// What it reported of the names of its outputs, where that is recorded.
     fn on_names(&self) -> Option<&RecordedAnswer>
         ensures { option_copied result ≡ on_names self.now.rustc }
     {

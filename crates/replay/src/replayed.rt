@@ -43,7 +43,7 @@ pub fn replayed<
         → Invariant H.digest_of earlier (O.shelf session.old.objects).held
         → Premises H.digest_of (earlier ++ a ∷ []) → Answers a result }
 
-    // Beside them stands what that world's rustc tells of dependencies, for this request's own targets, where it asks for it.
+    // They come with what that world's rustc reports of dependencies, for this request's own targets, where it asks for it.
     ensures dep_info { (world : Meaning) → let tree = F.tree files.old in
         GivesTo tool.old.text tool.old.outputs tool.old.rustc request.now tree world
         → TellsOwnDependencies (account_at world tree session.old.settings request.now) result }

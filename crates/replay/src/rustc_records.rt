@@ -32,9 +32,9 @@ pub struct RecordedCrate {
 /// Recorded answers of rustc, at most one for each step, and of each static library its digest, as 64 lowercase hexadecimal digits.
 #[derive(Drop)]
 pub struct RecordedRustc {
-    /// What it told of what the crate depends on.
+    /// What it reported of what the crate depends on.
     pub dep_info: Option<RecordedAnswer>,
-    /// What it told of the names of its outputs.
+    /// What it reported of the names of its outputs.
     pub file_names: Option<RecordedAnswer>,
     pub outputs: Option<RecordedCrate>,
     pub digests: BTreeMap<OsBytes, OsBytes>,

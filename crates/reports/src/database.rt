@@ -1,7 +1,7 @@
 //! The compilation database: a list in JSON of objects, one for each command line, with these members:
 //!
 //! - `directory`: a text, the folder in which the command is run;
-//! - `arguments`: a list of texts, the executable and its words, or `command`: one text, cut as a file of words of Gcc is. Where
+//! - `arguments`: a list of texts, the executable and its words, or `command`: one text, cut as a response file of Gcc is. Where
 //!   both are there, `arguments` counts.
 //!
 //! All other members are passed over unread, and of a repeated member the last one counts.
@@ -20,7 +20,7 @@ pub(crate) trait TakesEntries {
     fn take(&mut self, entry: &Entry) -> Result<(), ReportFault>;
 }
 
-/// Hands on the entry that these members make with the words in the room, and tells what is wrong where they make none.
+/// Hands on the entry that these members make with the words in the room, and reports what is wrong where they make none.
 fn hand_on<T: TakesEntries>(
     alloc: Global,
     room: &mut EntryRoom,
@@ -46,7 +46,7 @@ fn hand_on<T: TakesEntries>(
     Ok(None)
 }
 
-/// Reads the next value of the list and hands on the entry that it is, and tells what is wrong where it is none.
+/// Reads the next value of the list and hands on the entry that it is, and reports what is wrong where it is none.
 fn read_next<T: TakesEntries>(
     alloc: Global,
     room: &mut EntryRoom,
@@ -67,7 +67,7 @@ fn read_next<T: TakesEntries>(
     }
 }
 
-/// What is told where the list ends.
+/// What is reported where the list ends.
 fn end_of(reader: &mut Reader<'_>, wrong: Option<(u64, &'static str)>) -> Result<(), ReportFault> {
     if reader.next().is_some() {
         return Err(ReportFault::NotJson);
@@ -78,7 +78,7 @@ fn end_of(reader: &mut Reader<'_>, wrong: Option<(u64, &'static str)>) -> Result
     }
 }
 
-/// Reads the values of a list up to its end, and hands on the entries before the first value that is none. That is told once all
+/// Reads the values of a list up to its end, and hands on the entries before the first value that is none. That is reported once all
 /// is known to be JSON.
 fn read_entries<T: TakesEntries>(
     alloc: Global,

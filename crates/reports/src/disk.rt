@@ -14,7 +14,7 @@ use std::io::{ErrorKind, Read};
 use std::rt::Files;
 use std::{fs, mem};
 
-/// How deep files of words may name one another. What lies deeper counts as not there.
+/// How deep response files may name one another. What lies deeper counts as not there.
 const DEPTH: u32 = 64;
 
 /// Whether the words may make a compiler ask for a file.
@@ -67,7 +67,7 @@ fn keep(asked: &mut Asked, path: OsBytes, contents: OsBytes) -> Result<(), Repor
     Ok(())
 }
 
-/// Fetches the files whose contents were asked for, and tells whether one of them is there.
+/// Fetches the files whose contents were asked for, and reports whether one of them is there.
 fn fetch_read<D: Files>(alloc: Global, disk: &D, asked: &mut Asked) -> Result<bool, ReportFault> {
     let mut is_there = false;
     for path in mem::replace(&mut asked.read, Vec::new(alloc)) {
@@ -79,7 +79,7 @@ fn fetch_read<D: Files>(alloc: Global, disk: &D, asked: &mut Asked) -> Result<bo
     Ok(is_there)
 }
 
-/// Notes which of the files that were looked for are there, with no contents, and tells whether one of them is.
+/// Notes which of the files that were looked for are there, with no contents, and reports whether one of them is.
 fn fetch_looked_for<D: Files>(
     alloc: Global,
     disk: &D,

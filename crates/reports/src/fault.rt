@@ -28,7 +28,7 @@ pub enum ReportFault {
     /// Standard output failed.
     #[error("sccache-report: output cannot be written")]
     Output,
-    /// A growth was refused.
+    /// Out of memory.
     #[error("sccache-report: memory")]
     Memory,
 }
@@ -58,7 +58,7 @@ impl From<ParseFault> for ReportFault {
     }
 }
 
-/// `Memory` where that is what the device lacked, and the other fault where it is anything else.
+/// `Memory` where the I/O error was out of memory, and the other fault where it is anything else.
 pub(crate) fn fault_of(error: &io::Error, other: ReportFault) -> ReportFault {
     if error.kind() == ErrorKind::OutOfMemory {
         ReportFault::Memory

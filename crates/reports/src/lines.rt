@@ -18,7 +18,7 @@ use std::alloc::{AllocError, Global};
 /// The folder in which each line is run.
 const DIR: &[u8; 2] = b"/w";
 
-/// Keeps the file that a line `#file PATH LINE..` gives, by the words behind its first.
+/// Keeps the file that a line `#file PATH LINE..` gives, by the words after its first.
 fn keep_file(
     alloc: Global,
     files: &mut MemoryFiles,

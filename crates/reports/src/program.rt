@@ -14,7 +14,7 @@ use std::rt::Files;
 
 /// Reads command lines from the reader to its end, and writes what they come to.
 ///
-/// `args` are the words behind the program's name. Nothing is written before all is read and decided.
+/// `args` are the arguments after the program's name. Nothing is written before all is read and decided.
 pub fn run<D: Files, R: Read, W: Write>(
     alloc: Global,
     args: &[String],

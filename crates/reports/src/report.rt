@@ -19,7 +19,7 @@ use recorded_builds::told::Told;
 use std::alloc::{AllocError, Global};
 use std::fmt::Write;
 
-/// What a report tells beside the verdicts.
+/// What a report shows beside the verdicts.
 #[derive(Clone, Copy, Debug, PartialEq, Eq)]
 pub(crate) struct Shape {
     pub(crate) detail: Detail,
@@ -63,7 +63,7 @@ fn write_commands(
     }
 }
 
-/// Adds what follows what is kept or why not: files of words that aren't there, and options to beware of.
+/// Adds what follows what is kept or why not: response files that aren't there, and options to beware of.
 fn write_marks(
     text: &mut String,
     missing: &[OsBytes],
@@ -130,7 +130,7 @@ struct Report<'a> {
 }
 
 impl<'a> Report<'a> {
-    /// The report on no entries, with these files of words for those that come.
+    /// The report on no entries, with these response files for those that come.
     fn new(alloc: Global, compilers: &'a Compilers, shape: Shape, files: Asked) -> Report<'a> {
         Report {
             files,
@@ -161,7 +161,7 @@ impl<'a> Report<'a> {
 
 impl<'a> TakesEntries for Report<'a> {
     fn take(&mut self, entry: &Entry) -> Result<(), ReportFault>
-        // The entry is told behind those before it, with the same files.
+        // The entry is reported after those before it, with the same files.
         ensures told { OnOk result ((entries : _)
             → HasTold self.old.files.files entries self.old.telling
             → HasTold self.old.files.files (entries ++ entry.now ∷ []) self.new.telling) }

@@ -219,7 +219,7 @@ fn write_arguments(
     Ok(())
 }
 
-/// Adds the words of the compile command, each behind a space: of rustc the arguments that are kept, each in brackets.
+/// Adds the words of the compile command, each after a space: of rustc the arguments that are kept, each in brackets.
 pub(crate) fn write_compile(
     alloc: Global,
     text: &mut String,
@@ -239,7 +239,7 @@ pub(crate) fn write_compile(
     Ok(())
 }
 
-/// Adds the words of the preprocess command, each behind a space; rustc has none.
+/// Adds the words of the preprocess command, each after a space; rustc has none.
 pub(crate) fn write_preprocess(
     alloc: Global,
     text: &mut String,

@@ -14,9 +14,9 @@ use std::mem;
 pub(crate) struct EntryRoom {
     alloc: Global,
     entry: Entry,
-    /// The words behind the executable that were read so far, and behind these the memory of others.
+    /// The words after the executable that were read so far, and after these the memory of others.
     words: Vec<OsBytes>,
-    /// How many words were read behind the executable.
+    /// How many words were read after the executable.
     count: usize,
     has_executable: bool,
 }
@@ -60,7 +60,7 @@ impl EntryRoom {
         self.has_executable = false;
     }
 
-    /// Whether the next word is the executable: the first one is, and one behind wrappers.
+    /// Whether the next word is the executable: the first one is, and one after wrappers.
     fn awaits_executable(&self) -> bool {
         !self.has_executable || (self.count == 0 && is_wrapper(self.entry.executable.as_bytes()))
     }
@@ -74,7 +74,7 @@ impl EntryRoom {
         self.add_behind(word)
     }
 
-    /// Adds a word behind the executable.
+    /// Adds a word after the executable.
     fn add_behind(&mut self, word: &[u8]) -> Result<(), AllocError> {
         match self.words.get_mut(self.count) {
             Some(place) => refill(self.alloc, place, word)?,
@@ -84,7 +84,7 @@ impl EntryRoom {
         Ok(())
     }
 
-    /// Makes the entry of the words that were read, run in that folder, and tells whether there are any.
+    /// Makes the entry of the words that were read, run in that folder, and reports whether there are any.
     pub(crate) fn complete(&mut self, dir: &[u8]) -> Result<bool, AllocError> {
         refill(self.alloc, &mut self.entry.dir, dir)?;
         self.words.truncate(self.count);

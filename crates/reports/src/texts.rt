@@ -17,7 +17,7 @@ pub(crate) fn push_line(text: &mut String, line: &str) -> Result<(), AllocError>
     text.push('\n')
 }
 
-/// Adds words, each behind a space, an empty one as two quotes.
+/// Adds words, each after a space, an empty one as two quotes.
 pub(crate) fn write_words(text: &mut String, words: &[OsBytes]) -> Result<(), AllocError> {
     for word in words {
         if word.as_bytes().is_empty() {

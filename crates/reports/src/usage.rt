@@ -37,7 +37,7 @@ pub(crate) enum Usage {
     Lines(EntryCompiler, Shown),
 }
 
-/// What the arguments ask for a report to tell.
+/// What the arguments ask for a report to show.
 fn report_usage(args: &[String]) -> Option<Usage> {
     let (mut lists, mut commands) = (false, false);
     for arg in args {
@@ -50,7 +50,7 @@ fn report_usage(args: &[String]) -> Option<Usage> {
     Some(Usage::Report { lists, commands })
 }
 
-/// What is shown of lines, by the arguments behind the compiler's name.
+/// What is shown of lines, by the arguments after the compiler's name.
 fn shown_by(args: &[String]) -> Option<Shown> {
     match args.split_first() {
         None => Some(Shown::Lists),
@@ -63,7 +63,7 @@ fn shown_by(args: &[String]) -> Option<Shown> {
     }
 }
 
-/// What the arguments behind `--lines` ask for.
+/// What the arguments after `--lines` ask for.
 fn lines_usage(args: &[String]) -> Option<Usage> {
     let (name, rest) = args.split_first()?;
     Some(Usage::Lines(compiler_called(name.as_str())?, shown_by(rest)?))

@@ -83,7 +83,7 @@ closed_again false b h = refl
 no_path : (style : Style) (dir word : Bytes) → names_file style word ≡ false → path_of style dir word ≡ None
 no_path style dir word h = rw h refl
 
--- words of which none names a file of words stay
+-- words of which none names a response file stay
 pub words_stay : (style : Style) (dir : Bytes) (files : Tree) (words : List Bytes) → list_any (names_file style) words ≡ false → expanded style dir files words ≡ words
 words_stay style dir files [] h = expanded-nil style dir files
 words_stay style dir files (word ∷ words) h = by (names_file style word) refl h (λ rest. words_stay style dir files words rest)

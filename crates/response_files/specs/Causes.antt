@@ -4,7 +4,7 @@ use Rattle.os_files.specs.Bytes.{Bytes}
 use Rattle.response_files.specs.declared.fault.ParseFault.{ParseFault}
 use Rattle.response_files.specs.declared.fault.ParseFault.TheVariants.{Memory, Read}
 
--- memory was refused, or the device failed at that name
+-- out of memory, or an I/O error at that name
 abbrev pub CauseOf : (Bytes → Type 0) → ParseFault → Type 0
 CauseOf on_file Memory = Unit {0}
 CauseOf on_file (Read path) = on_file path

@@ -9,17 +9,17 @@ use Rattle.response_texts.specs.Scanning.{gnu_arguments, msvc_arguments}
 use Rattle.response_files.specs.declared.style.Style.{Style}
 use Rattle.response_files.specs.declared.style.Style.TheVariants.{Gnu, Msvc, Diab}
 
--- what stands before the name of a file of words
+-- what comes before the name of a response file
 abbrev pub mark_of : Style → Bytes
 mark_of Gnu = codes "@"
 mark_of Msvc = codes "@"
 mark_of Diab = codes "-@"
 
--- what stands behind the mark, where the word begins with it
+-- what comes after the mark, where the word begins with it
 abbrev pub behind : Bytes → Bytes → Option Bytes
 behind mark word = if starts_with nat_eq word mark then Some (drop (length mark) word) else None
 
--- where the file of words lies that a word names, in that directory
+-- the path of the response file that a word names, in that directory
 abbrev pub path_of : Style → Bytes → Bytes → Option Bytes
 path_of style dir word = option_map (join dir) (behind (mark_of style) word)
 
@@ -33,6 +33,6 @@ words_of Gnu text = Some (gnu_arguments text)
 words_of Msvc text = Some (msvc_arguments (decoded text))
 words_of Diab text = if list_any is_special text then None else Some (gnu_arguments text)
 
--- whether the word names a file of words
+-- whether the word names a response file
 abbrev pub names_file : Style → Bytes → Bool
 names_file style word = starts_with nat_eq word (mark_of style)

@@ -1,4 +1,4 @@
--- What is left to read of the files of words that are open.
+-- What is left to read of the response files that are open.
 use Rattle.std.specs.Prelude.{List, reverse}
 use Rattle.response_files.specs.declared.unread.Part.{Part}
 use Rattle.response_files.specs.declared.unread.Unread.{Unread}

@@ -1,4 +1,4 @@
-//! The files of words that are open while one in another is read.
+//! The response files that are open while one in another is read.
 
 ghost use Rattle.std.specs.Prelude.{◌≡◌, ◌||◌, ◌&&◌, not, false, Bool, OnOk, OnErr};
 ghost use Rattle.std.specs.Str.{bytes_eq};

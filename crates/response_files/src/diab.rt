@@ -17,5 +17,5 @@ impl Opens for DiabFiles {
     }
 }
 
-/// The words of a command line for Diab, with the files of words that they name opened.
+/// The words of a command line for Diab, with the response files that they name opened.
 pub type ExpandAtArgs = ExpandedWords<DiabFiles>;

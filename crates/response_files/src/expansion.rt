@@ -57,7 +57,7 @@ fn expand_file<F: Files>(
 }
 
 /// What the words become once the files that they name are opened, from that directory. A word whose file is open already, or isn't
-/// there, stays; `Read` names a file on which the device failed.
+/// there, stays; `Read` names a file on which there was an I/O error.
 pub fn expand<F: Files>(
     alloc: Global,
     style: Style,

@@ -7,10 +7,10 @@ use thiserror::Error;
 /// Why a command line isn't read to its end.
 #[derive(Debug, Drop, Error, PartialEq, Eq)]
 pub enum ParseFault {
-    /// A growth was refused.
+    /// Out of memory.
     #[error("no memory was left")]
     Memory,
-    /// A device failed on this path.
+    /// An I/O error on this path.
     #[error("cannot read {0}")]
     Read(OsBytes),
 }

@@ -17,5 +17,5 @@ impl Opens for GnuFiles {
     }
 }
 
-/// The words of a command line for Gcc and Clang, with the files of words that they name opened.
+/// The words of a command line for Gcc and Clang, with the response files that they name opened.
 pub type ExpandIncludeFile = ExpandedWords<GnuFiles>;

@@ -14,7 +14,7 @@ pub fn expansion_is_recursion()
     ensures depth { (style : Style) (dir : Bytes) → DepthIsEnough style dir }
 {}
 
-/// Words of which none names a file of words stay as they are.
+/// Words of which none names a response file stay as they are.
 pub fn other_words_stay()
     ensures { (style : Style) (dir : Bytes) (files : Tree) (words : List Bytes)
         → list_any (names_file style) words ≡ false → expanded style dir files words ≡ words }

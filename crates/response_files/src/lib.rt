@@ -1,4 +1,4 @@
-//! Files of words: command lines whose words name files are expanded.
+//! Response files: command lines whose words name files are expanded.
 #![tactic(auto)]
 
 mod chain;

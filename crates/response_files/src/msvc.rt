@@ -17,5 +17,5 @@ impl Opens for MsvcFiles {
     }
 }
 
-/// The words of a command line for Msvc, with the files of words that they name opened.
+/// The words of a command line for Msvc, with the response files that they name opened.
 pub type ExpandIncludeFile = ExpandedWords<MsvcFiles>;

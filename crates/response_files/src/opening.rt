@@ -16,7 +16,7 @@ use os_files::listed::Listed;
 use os_files::os_bytes::OsBytes;
 use std::alloc::Global;
 
-/// A file of words: its name, and its words.
+/// A response file: its name, and its words.
 #[derive(Drop)]
 pub(crate) struct Opened {
     pub(crate) name: OsBytes,

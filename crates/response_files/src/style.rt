@@ -15,7 +15,7 @@ use response_texts::gnu::split_gnu_response_file_args;
 use response_texts::msvc::SplitMsvcResponseFileArgs;
 use std::alloc::{AllocError, Global};
 
-/// Whose way it is to name a file of words and to cut its text.
+/// Whose way it is to name a response file and to cut its text.
 #[derive(Clone, Copy, Debug, PartialEq, Eq)]
 pub enum Style {
     /// Gcc's and Clang's: `@NAME`, by the GNU grammar.
@@ -27,7 +27,7 @@ pub enum Style {
 }
 
 impl Style {
-    /// What stands before the name of a file of words.
+    /// What comes before the name of a response file.
     fn mark(self) -> &'static [u8]
         ensures { result.now ≡ mark_of self }
     {
@@ -37,7 +37,7 @@ impl Style {
         }
     }
 
-    /// Whether one of the words names a file of words. It takes no memory.
+    /// Whether one of the words names a response file. It takes no memory.
     pub fn opens_any(self, words: &[OsBytes]) -> bool
         ensures { result ≡ list_any (names_file self) words.now }
     {
@@ -50,7 +50,7 @@ impl Style {
         word.starts_with(self.mark())
     }
 
-    /// Where the file of words lies that a word names, in that directory.
+    /// The path of the response file that a word names, in that directory.
     pub(crate) fn path(
         self,
         alloc: Global,
@@ -86,7 +86,7 @@ impl Style {
     }
 }
 
-/// What stands behind the mark, where the word begins with it.
+/// What comes after the mark, where the word begins with it.
 fn behind<'a>(mark: &[u8], word: &'a [u8]) -> Option<&'a [u8]>
     ensures { option_copied result ≡ behind mark.now word.now }
 {

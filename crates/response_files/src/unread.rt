@@ -1,4 +1,4 @@
-//! What is left to read of the files of words that are open.
+//! What is left to read of the response files that are open.
 
 ghost use Rattle.std.specs.Prelude.{◌≡◌, [], ◌∷◌, ◌++◌, map, OnOk, MatchOption};
 ghost use Rattle.response_files.specs.Unread.{parts_of};
@@ -14,7 +14,7 @@ pub(crate) enum Part {
     End(OsBytes),
 }
 
-/// The parts that are left of all open files. The one that is read next stands last.
+/// The parts that are left of all open files. The one that is read next is last.
 #[derive(Drop)]
 pub(crate) struct Unread {
     parts: Vec<Part>,
@@ -30,7 +30,7 @@ impl Unread {
         }
     }
 
-    /// Puts the words of a file in front, and its end behind them.
+    /// Puts the words of a file in front, and its end after them.
     pub(crate) fn add(&mut self, file: Opened) -> Result<(), AllocError>
         ensures { OnOk result
             (parts_of self.new ≡ map Part.Word file.words ++ Part.End file.name ∷ parts_of self.old) }

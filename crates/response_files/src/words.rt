@@ -26,7 +26,7 @@ pub trait Opens {
         ensures { result ≡ style };
 }
 
-/// The words of a command line, in whose place the words of the files that they name stand; or the fault that kept them from being
+/// The words of a command line, with those that name files replaced by the words of these files; or the fault that kept them from being
 /// read.
 #[derive(Drop)]
 pub struct ExpandedWords<S> {
@@ -36,7 +36,7 @@ pub struct ExpandedWords<S> {
 }
 
 impl<S: Opens> ExpandedWords<S> {
-    /// These words, with the files of words that they name opened from that directory.
+    /// These words, with the response files that they name opened from that directory.
     pub fn new<F: Files>(
         alloc: Global,
         dir: &OsBytes,
@@ -50,7 +50,7 @@ impl<S: Opens> ExpandedWords<S> {
             (expanded S.style dir.now (F.tree files.old) words.now)
             (IsAskedFor S.style dir.now (F.tree files.old) words.now) }
         ensures tree { F.tree files.new ≡ F.tree files.old }
-        // No device failed where words come, nor where memory was refused.
+        // There was no I/O error where words come, nor when out of memory.
         ensures steady { AllByRecursion IsOk (items_left result) →
             F.failed files.new ≡ F.failed files.old }
         ensures memory { items_left result ≡ Err ParseFault.Memory ∷ [] →

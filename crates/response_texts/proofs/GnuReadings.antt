@@ -62,7 +62,7 @@ record Outside (text : List ℕ) : Type 0 where
   ends : IsEnding ending
   whole : text ≡ text_of pieces ending
 
--- the rest of a run, and what comes behind it
+-- the rest of a run, and what comes after it
 record Inside (quote : ℕ) (text : List ℕ) : Type 0 where
   run_letters : List Letter
   tail : List ℕ

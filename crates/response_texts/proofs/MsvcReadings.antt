@@ -37,7 +37,7 @@ marks_are quoted (p ∷ ps) left h =
 pub only : (text : Bytes) (arguments : List Bytes) → IsMsvcText text arguments → arguments ≡ msvc_arguments text
 only text arguments r = r.read ∙ ap (gathered None) (sym (ap (msvc_marks false 0) r.whole ∙ marks_are false r.pieces r.left r.are))
 
--- a text behind backslashes, in pieces
+-- a text after backslashes, in pieces
 record Cut (n : ℕ) (text : Bytes) : Type 0 where
   pieces : List Piece
   left : ℕ

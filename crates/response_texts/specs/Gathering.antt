@@ -1,4 +1,4 @@
--- Arguments that are gathered from what stands between separators.
+-- Arguments that are gathered from what lies between separators.
 use Rattle.std.specs.Prelude.{List, [], ◌∷◌, ◌++◌, Option, None, Some, unwrap_or}
 use Rattle.std.specs.Option.{option_to_list}
 use Rattle.os_files.specs.Bytes.{Bytes}

@@ -11,7 +11,7 @@ is_white b = b == 32 || (nat_lt 8 b && nat_lt b 14)
 abbrev pub is_quote : ℕ → Bool
 is_quote b = b == 34 || b == 39
 
--- a letter: a byte that stands for itself, or one behind a backslash, which is 92
+-- a letter: a byte that stands for itself, or one after a backslash, which is 92
 pub data Letter : Type 0 where
   plain : ℕ → Letter
   escaped : ℕ → Letter
@@ -22,7 +22,7 @@ pub data Piece : Type 0 where
   single : Letter → Piece
   run : ℕ → List Letter → Piece
 
--- how a text ends: clean, behind a backslash, in an open run, or in one behind a backslash
+-- how a text ends: clean, after a backslash, in an open run, or in one after a backslash
 pub data Ending : Type 0 where
   clean : Ending
   slash : Ending

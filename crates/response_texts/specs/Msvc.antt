@@ -12,7 +12,7 @@ is_separator b = b == 32 || b == 9 || b == 10 || b == 13
 abbrev pub backslashes : ℕ → Bytes
 backslashes n = replicate n 92
 
--- some backslashes, and the byte behind them
+-- some backslashes, and the byte after them
 pub record Piece : Type 0 where
   pub slashes : ℕ
   pub byte : ℕ
@@ -25,11 +25,11 @@ text_of (p ∷ pieces) left = backslashes p.slashes ++ (p.byte ∷ text_of piece
 abbrev pub quotes : Piece → Bool
 quotes p = p.byte == 34
 
--- a quote behind an odd number of backslashes stands for itself
+-- a quote after an odd number of backslashes stands for itself
 abbrev pub is_even : ℕ → Bool
 is_even n = n % 2 == 0
 
--- whether what stands behind the piece is in quotes
+-- whether what comes after the piece is in quotes
 abbrev pub quoted_behind : Bool → Piece → Bool
 quoted_behind quoted p = if quotes p && is_even p.slashes then not quoted else quoted
 
@@ -37,7 +37,7 @@ quoted_behind quoted p = if quotes p && is_even p.slashes then not quoted else q
 abbrev pub slashes_marks : ℕ → List Mark → List Mark
 slashes_marks n more = if n == 0 then more else Some (backslashes n) ∷ more
 
--- what a quote behind n backslashes adds: half of them, and a quote byte where one is left over
+-- what a quote after n backslashes adds: half of them, and a quote byte where one is left over
 abbrev pub quote_adds : ℕ → Bytes
 quote_adds n = backslashes (n / 2) ++ (if is_even n then [] else 34 ∷ [])
 

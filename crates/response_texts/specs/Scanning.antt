@@ -6,7 +6,7 @@ use Rattle.response_texts.specs.Gathering.{Mark, gathered}
 use Rattle.response_texts.specs.Gnu.{is_white, is_quote}
 use Rattle.response_texts.specs.Msvc.{is_separator, backslashes, is_even, quote_adds, slashes_marks}
 
--- what each byte of the rest adds, behind a backslash or not, in a run of this quote or in none
+-- what each byte of the rest adds, after a backslash or not, in a run of this quote or in none
 abbrev pub gnu_marks : Bool → Option ℕ → Bytes → List Mark
 gnu_marks escaped quote [] = []
 gnu_marks true quote (b ∷ rest) = Some (b ∷ []) ∷ gnu_marks false quote rest
@@ -26,7 +26,7 @@ begun_with true current = Some current
 abbrev pub gnu_arguments : Bytes → List Bytes
 gnu_arguments text = gathered None (gnu_marks false None text)
 
--- what the rest adds, in quotes or not, behind n backslashes
+-- what the rest adds, in quotes or not, after n backslashes
 abbrev pub msvc_marks : Bool → ℕ → Bytes → List Mark
 msvc_marks quoted n [] = slashes_marks n []
 msvc_marks quoted n (b ∷ rest) =

@@ -7,7 +7,7 @@ ghost use Rattle.response_texts.specs.Decoding.{decoded, unmarked_text, utf16_te
 use std::alloc::{AllocError, Global};
 use std::str;
 
-/// What stands for what can't be read.
+/// The replacement for what can't be read.
 const REPLACEMENT: char = '\u{FFFD}';
 
 /// The characters of the bytes 80 to 9f in windows-1252.

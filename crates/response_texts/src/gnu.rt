@@ -25,7 +25,7 @@ fn is_quote(byte: u8) -> bool
     byte == b'"' || byte == b'\''
 }
 
-/// What stands so far of a text that is being cut.
+/// The state so far of cutting a text.
 #[derive(Drop)]
 struct Scanner {
     arguments: Vec<OsBytes>,

@@ -26,7 +26,7 @@ fn push_backslashes(bytes: &mut Vec<u8>, count: usize) -> Result<(), AllocError>
     Ok(())
 }
 
-/// The first argument of the text and the text behind it, and None where no argument begins.
+/// The first argument of the text and the text after it, and None where no argument begins.
 fn first_argument(alloc: Global, text: &[u8]) -> Result<Option<(OsBytes, &[u8])>, AllocError>
     ensures argument { IfOk result (λ found. MatchOption found (msvc_arguments text.now ≡ [])
         (λ first. msvc_arguments text.now ≡ first.0 ∷ msvc_arguments first.1.now)) }
@@ -71,7 +71,7 @@ fn first_argument(alloc: Global, text: &[u8]) -> Result<Option<(OsBytes, &[u8])>
 }
 
 /// The arguments of a response text by the MSVC grammar, one after another: white space separates them, `"` groups, and
-/// backslashes before a `"` count twice. A quoted empty string is an empty argument. After want of memory it is at its end.
+/// backslashes before a `"` count twice. A quoted empty string is an empty argument. Once out of memory it is at its end.
 #[derive(Drop)]
 pub struct SplitMsvcResponseFileArgs<'a> {
     alloc: Global,

@@ -10,13 +10,13 @@ use Rattle.rustc_compiler.specs.declared.fault.RustFault.TheVariants.{Memory, No
 abbrev pub first_missing : Tree → List Bytes → Option Bytes
 first_missing tree paths = find (λ path. is_none (contents_at tree path)) paths
 
--- Want of memory; or the device failed at that file, or it isn't there.
+-- Out of memory; or there was an I/O error at that file, or it isn't there.
 abbrev pub FileCause : Tree → Bytes → (Bytes → Type 0) → RustFault → Type 0
 FileCause tree path on_file Memory = Unit {0}
 FileCause tree path on_file NoHost = ⊥
 FileCause tree path on_file (Read name) = (name ≡ path) × (on_file path ⊎ (contents_at tree path ≡ None))
 
--- Want of memory; no line that tells the host; or one of the toolchain's files, at which the device failed, or which is the first that isn't there.
+-- Out of memory; no line that gives the host; or one of the toolchain's files: an I/O error there, or the first that isn't there.
 abbrev pub CauseOf : Bool → Tree → List Bytes → (Bytes → Type 0) → RustFault → Type 0
 CauseOf has_host tree paths on_file Memory = Unit {0}
 CauseOf has_host tree paths on_file NoHost = has_host ≡ false

@@ -14,11 +14,11 @@ pub record Rustc : Type 0 where
   pub archive : Option Bytes
   pub toolchain : List Bytes
 
--- whether a line tells the host
+-- whether a line gives the host
 abbrev pub tells_host : Bytes → Bool
 tells_host line = starts_with nat_eq line (codes "host: ")
 
--- whether a line of a version tells the host; a line ends at 10
+-- whether a line of a version gives the host; a line ends at 10
 abbrev pub has_host : Bytes → Bool
 has_host version = list_any tells_host (slice_split (λ b. b == 10) version)
 

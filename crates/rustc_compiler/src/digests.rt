@@ -28,7 +28,7 @@ fn digest_of<H: HashState, F: Files>(
     ensures steady { OnOk result (F.failed files.new ≡ F.failed files.old) }
     ensures memory { IsErrOf result RustFault.Memory → F.failed files.new ≡ F.failed files.old }
 {
-    // Before the file is touched, so that no device's failure is answered as want of memory.
+    // Before the file is touched, so that no I/O error is returned as out of memory.
     let name = path.clone()?;
     match Digest::<H>::file(alloc, path, files) {
         Ok(Some(digest)) => Ok(OsBytes::from_vec(digest.into_bytes())),

@@ -7,13 +7,13 @@ use thiserror::Error;
 /// Why a compiler isn't made of what is known of it.
 #[derive(Debug, Drop, Error, PartialEq, Eq)]
 pub enum RustFault {
-    /// A growth was refused.
+    /// Out of memory.
     #[error("no memory was left")]
     Memory,
     /// No line of its version begins with `host: `.
     #[error("the version tells no host")]
     NoHost,
-    /// A file of its toolchain isn't there, or the device failed on this path.
+    /// A file of its toolchain isn't there, or there was an I/O error on this path.
     #[error("cannot read {0}")]
     Read(OsBytes),
 }

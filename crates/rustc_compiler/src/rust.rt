@@ -60,7 +60,7 @@ impl Rust {
     /// of paths, each as often as it is named. The folder of libraries is kept, and never looked for.
     ///
     /// `NoHost` where no line of the version begins with `host: `, which is found before any file is touched. `Read` names the first
-    /// of the files that isn't there, or one at which the device failed.
+    /// of the files that isn't there, or one at which there was an I/O error.
     pub fn new<H: HashState, F: Files>(
         alloc: Global,
         executable: OsBytes,
@@ -138,8 +138,8 @@ impl Rust {
         self.toolchain.as_slice()
     }
 
-    /// What these words come to as a request to this compiler, with the files of words that they name opened from that directory.
-    /// `Read` names a file on which the device failed.
+    /// What these words come to as a request to this compiler, with the response files that they name opened from that directory.
+    /// `Read` names a file on which there was an I/O error.
     pub fn parse_arguments<F: Files>(
         &self,
         alloc: Global,

@@ -1,4 +1,4 @@
-//! What is told of a toolchain: its host, and its files in the order of paths.
+//! What is known of a toolchain: its host, and its files in the order of paths.
 
 ghost use Rattle.std.specs.Prelude.{◌≡◌, IfOk};
 ghost use Rattle.os_files.specs.Path.{path_cmp};
@@ -10,14 +10,14 @@ use os_files::os_bytes::OsBytes;
 use os_files::path::{compare_paths, paths_have_one_order};
 use std::alloc::AllocError;
 
-/// Whether a line tells the host.
+/// Whether a line gives the host.
 fn tells_host(line: &[u8]) -> bool
     ensures { result ≡ tells_host line.now }
 {
     line.starts_with(b"host: ")
 }
 
-/// Whether a line of the version tells the host. It takes no memory.
+/// Whether a line of the version gives the host. It takes no memory.
 pub(crate) fn has_host(version: &[u8]) -> bool
     ensures { result ≡ has_host version.now }
 {

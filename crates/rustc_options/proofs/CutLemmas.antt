@@ -8,7 +8,7 @@ use Rattle.rustc_options.specs.Printed.{both_again}
 abbrev pub is_equals : ℕ → Bool
 is_equals b = b == 61
 
--- how many bytes stand before it
+-- how many bytes come before it
 abbrev front : List ℕ → ℕ
 front w = position_or_len is_equals w
 
@@ -44,7 +44,7 @@ none-behind : (w : List ℕ) → length w ≤ front w → behind_equals w ≡ No
 none-behind [] past = refl
 none-behind (b ∷ bs) past = none-step b bs (b == 61) refl (none-behind bs) past
 
--- where it stands, as `position` says it
+-- where it is, as `position` says it
 abbrev pub place_if : List ℕ → Bool → Option ℕ
 place_if w within = cond within (Some (front w)) None
 

@@ -41,7 +41,7 @@ crate_types_of word = record {
   others = in_order (filter is_other_type (between_commas word));
 }
 
--- a name that stands, or does not
+-- a name that is listed, or is not
 abbrev pub named_if : Bool → Bytes → List Bytes
 named_if false name = []
 named_if true name = name ∷ []
@@ -144,7 +144,7 @@ refusal _ w = None
 abbrev pub IsWordValue : ArgKind → Bytes → ArgData → Type 0
 IsWordValue kind w value = (value ≡ data_of kind w) × (refusal kind w ≡ None)
 
--- what a flag says. Only flags of the first two kinds stand in the table; of any other kind it would be an empty word that is passed on.
+-- what a flag says. Only flags of the first two kinds are in the table; of any other kind it would be an empty word that is passed on.
 abbrev pub flag_data : ArgKind → ArgData
 flag_data kinds.TooHardFlag = values.TooHardFlag
 flag_data kinds.NotCompilationFlag = values.NotCompilationFlag
@@ -173,7 +173,7 @@ word_of (values.PassThrough w) = w
 word_of (values.Target t) = target_word t
 word_of (values.Unstable o) = option_word o
 
--- where its word ends in a path: what stands before that, and the path
+-- where its word ends in a path: what comes before that, and the path
 abbrev pub path_in : ArgData → Option (Bytes × Bytes)
 path_in (values.TooHardPath w) = Some ([], w)
 path_in (values.OutDir w) = Some ([], w)

@@ -2,12 +2,12 @@
 use Rattle.std.specs.Prelude.{◌==◌, [], ◌∷◌, ◌++◌, Option, None, Some, if◌then◌else◌}
 use Rattle.os_files.specs.Bytes.{Bytes}
 
--- what stands before it, or all where there is none
+-- what comes before it, or all where there is none
 abbrev pub before_equals : Bytes → Bytes
 before_equals [] = []
 before_equals (b ∷ bs) = if b == 61 then [] else b ∷ before_equals bs
 
--- what stands behind it
+-- what comes after it
 abbrev pub behind_equals : Bytes → Option Bytes
 behind_equals [] = None
 behind_equals (b ∷ bs) = if b == 61 then Some bs else behind_equals bs

@@ -7,11 +7,11 @@ use Rattle.cmdlines_base.specs.declared.argument.ArgDisposition.TheVariants.{Can
 use Rattle.rustc_options.specs.declared.kind.ArgKind.{ArgKind}
 use Rattle.rustc_options.specs.declared.kind.ArgKind.TheVariants as kinds
 
--- a flag that stands alone
+-- a flag without a value
 abbrev alone : Bytes → ArgKind → Entry ArgKind
 alone flag kind = record { flag = flag; kind = kind; takes = None }
 
--- one whose value may stand in the next word, or joined behind `=`
+-- one whose value may be in the next word, or joined after `=`
 abbrev by_equals : Bytes → ArgKind → Entry ArgKind
 by_equals flag kind = record { flag = flag; kind = kind; takes = Some (CanBeSeparated (Some 61)) }
 

@@ -31,7 +31,7 @@ pub enum ArgKind {
     OutDir,
     /// An option of code generation.
     CodeGen,
-    /// What is passed on as it stands.
+    /// What is passed on as it is.
     PassThrough,
     /// What to compile for.
     Target,

@@ -16,7 +16,7 @@ pub struct CrateTypes {
 /// A request to rustc that can be cached, by its words.
 #[derive(Clone, Debug, Drop, PartialEq, Eq)]
 pub struct ParsedArguments {
-    /// All arguments but those on colours, in order, each that may stand either way apart from its value.
+    /// All arguments but those on colours, in order, each that may be joined or separate made separate from its value.
     pub arguments: Listed<Argument<ArgData>>,
     /// The folder of the outputs, as it is written.
     pub output_dir: OsBytes,
@@ -28,7 +28,7 @@ pub struct ParsedArguments {
     pub staticlibs: Listed<OsBytes>,
     pub crate_name: OsBytes,
     pub crate_types: CrateTypes,
-    /// The name of the file that tells what the crate depends on, where one is written.
+    /// The name of the file that lists what the crate depends on, where one is written.
     pub dep_info: Option<OsBytes>,
     /// The profile that code generation uses, where something is linked.
     pub profile: Option<OsBytes>,

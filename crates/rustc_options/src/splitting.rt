@@ -6,7 +6,7 @@ ghost use Rattle.rustc_options.specs.Splitting.{before_equals, behind_equals, wi
 use os_files::os_bytes::OsBytes;
 use std::alloc::{AllocError, Global};
 
-/// What stands before the first `=`, and what stands behind it where there is one. Only what stands behind it is
+/// What comes before the first `=`, and what comes after it where there is one. Only what comes after it is
 /// copied.
 pub fn split_at_equals(word: OsBytes) -> Result<(OsBytes, Option<OsBytes>), AllocError>
     ensures before { IfOk result (λ parts. parts.0 ≡ before_equals word) }

@@ -65,7 +65,7 @@ pub enum ArgTarget {
     Name(OsBytes),
     /// A file that describes a target.
     Path(OsBytes),
-    /// Either: a file of that name, with `.json` behind it, is there.
+    /// Either: a file of that name, with `.json` appended, is there.
     Unsure(OsBytes),
 }
 
@@ -204,7 +204,7 @@ impl IntoArg for ArgLinkLibrary {
     }
 }
 
-/// A path behind a name and a `=`, as text.
+/// A path after a name and a `=`, as text.
 fn behind_equals_to_string<F: FnMut(&[u8]) -> Option<String>>(
     alloc: Global,
     name: &OsBytes,

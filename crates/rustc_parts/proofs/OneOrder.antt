@@ -1,4 +1,4 @@
--- Variables stand in one order.
+-- Variables are totally ordered.
 use Rattle.std.proofs.Common.{◌≡◌, Option, None, Some, refl, ap}
 use Rattle.std.specs.Cmp.{IsTotalOrder}
 use Rattle.std.specs.Cmp.Lexicographic.{options_total}

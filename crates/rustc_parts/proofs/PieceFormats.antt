@@ -96,7 +96,7 @@ module _ {A X : Type 0} (one : A → Bytes → Read X) (f : X → Bytes) (known 
     again = λ xs rest fits. subst (λ (known_all : List A). each_at one known_all (flat_map f xs ++ rest) ≡ Some (xs, rest)) fits.1 (each_again xs rest fits.0);
   }
 
--- ---- a byte, and what stands behind it
+-- ---- a byte, and what comes after it
 
 byte_takes : (b : ℕ) (bytes rest : Bytes) → IsBytes bytes → byte_at b bytes ≡ Some rest → Takes bytes (b ∷ []) rest
 unfolding byte_at

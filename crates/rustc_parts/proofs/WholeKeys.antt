@@ -106,7 +106,7 @@ in_row tc w s e a t pr deps vars dir v = ap (λ (x : Bytes). 56 ∷ x) (behind_v
 material_in_row : (p : Parts) → material_of p ≡ front_spelled (front_of p) ++ (p.version ++ (255 ∷ []))
 material_in_row p = in_row (joined p.toolchain) (framed (joined p.words)) (joined p.sources) (joined p.externs) (joined p.archives) (unwrap_or p.target []) (unwrap_or p.profile []) (flat_map env_dep_bytes p.env_deps) (flat_map pair_bytes p.variables) (framed p.dir) p.version
 
--- ---- what stands in bytes that can be counted can be counted
+-- ---- what lies in bytes that can be counted can be counted
 
 record PiecesFit (words deps pairs place : Bytes) : Type 0 where
   in_words : FitsFrame words

@@ -1,4 +1,4 @@
--- Pieces of the right form: digests are digits, and variables stand in order.
+-- Pieces of the right form: digests are digits, and variables are in order.
 use Rattle.std.specs.Prelude.{◌≡◌, ℕ, Bool, true, ◌==◌, ◌&&◌, ◌||◌, nat_le, length}
 use Rattle.std.specs.List.{list_all, AllByRecursion}
 use Rattle.std.specs.List.Sorted.{IsSorted}
@@ -32,7 +32,7 @@ pub record HasDigests (width : ℕ) (p : Parts) : Type 0 where
   pub target : IfFits (IsDigest width) p.target
   pub profile : IfFits (IsDigest width) p.profile
 
--- variables stand in order; a repeated one may stand
+-- variables are in order; one may be repeated
 pub record IsSortedByNames (p : Parts) : Type 0 where
   pub env_deps : IsSorted env_dep_cmp p.env_deps
   pub variables : IsSorted pair_cmp p.variables

@@ -11,11 +11,11 @@ use Rattle.rustc_parts.specs.declared.parts.Parts.{Parts}
 abbrev pub cache_version : Bytes
 cache_version = codes "8"
 
--- one right behind the other
+-- one right after the other
 abbrev pub joined : List Bytes → Bytes
 joined pieces = flat_map (λ piece. piece) pieces
 
--- a name and a value, each behind its length, with `=` between them
+-- a name and a value, each after its length, with `=` between them
 abbrev pub pair_bytes : Bytes × Bytes → Bytes
 pair_bytes pair = framed pair.0 ++ (byte "=" ∷ framed pair.1)
 
@@ -27,7 +27,7 @@ env_dep_bytes dep = pair_bytes (dep.name, unwrap_or dep.value [])
 abbrev pub files_bytes : Parts → Bytes
 files_bytes p = joined p.sources ++ joined p.externs ++ joined p.archives ++ unwrap_or p.target [] ++ unwrap_or p.profile []
 
--- The version of this layout, the digests of the toolchain, the words behind their joined length, the digests of files, the variables that the source names, those of the call that count, the directory behind its length, what the compiler says of its version, and the byte 255.
+-- The version of this layout, the digests of the toolchain, the words after their joined length, the digests of files, the variables that the source names, those of the call that count, the directory after its length, what the compiler says of its version, and the byte 255.
 abbrev pub material_of : Parts → Bytes
 material_of p =
     cache_version

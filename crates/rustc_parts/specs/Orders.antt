@@ -1,4 +1,4 @@
--- The orders in which the variables of a key stand.
+-- The orders of the variables of a key.
 use Rattle.std.specs.Ordering.{nat_cmp, ordering_then}
 use Rattle.std.specs.Option.{option_cmp}
 use Rattle.std.specs.Cmp.Lexicographic.{slice_cmp}

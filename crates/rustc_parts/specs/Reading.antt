@@ -1,4 +1,4 @@
--- The pieces of a key, read from the left of its bytes by what these don't tell.
+-- The pieces of a key, read from the left of its bytes by what these don't determine.
 use Rattle.std.specs.Prelude.{ℕ, Bool, true, false, ◌==◌, ◌-◌, List, [], ◌∷◌, length, take, slice_index, Option, None, Some, if◌then◌else◌}
 use Rattle.std.specs.List.{list_all}
 use Rattle.std.specs.Str.{byte}
@@ -17,12 +17,12 @@ each_at one (a ∷ others) bytes = do
   rest ← each_at one others first.1
   Some (first.0 ∷ rest.0, rest.1)
 
--- what stands behind this byte
+-- what comes after this byte
 unfoldable pub byte_at : ℕ → Bytes → Option Bytes
 byte_at b [] = None
 byte_at b (first ∷ rest) = if first == b then Some rest else None
 
--- this byte, and the field behind it
+-- this byte, and the field after it
 unfoldable pub behind_at : {X : Type 0} → ℕ → (Bytes → Read X) → Bytes → Read X
 behind_at b one bytes = do
   rest ← byte_at b bytes
@@ -41,7 +41,7 @@ optional_digest_at width true bytes = do
   digest ← digest_at width bytes
   Some (Some digest.0, digest.1)
 
--- words of these lengths, which fill what stands behind their joined length
+-- words of these lengths, which fill what comes after their joined length
 unfoldable pub words_at : List ℕ → Bytes → Read (List Bytes)
 words_at lengths bytes = do
   block ← framed_at bytes
@@ -79,7 +79,7 @@ Surroundings = List EnvDep × (List (Bytes × Bytes) × Bytes)
 unfoldable pub surroundings_at : RShape → Bytes → Read Surroundings
 surroundings_at shape = both_at (each_at env_dep_at shape.env_deps) (both_at (times_at pair_at shape.variables) framed_at)
 
--- all pieces but the compiler's version, behind the version of this layout
+-- all pieces but the compiler's version, after the version of this layout
 abbrev pub Front : Type 0
 Front = List Bytes × (List Bytes × (Files × Surroundings))
 

@@ -1,4 +1,4 @@
--- What the bytes of a key don't tell.
+-- What the bytes of a key don't determine.
 use Rattle.std.specs.Prelude.{length, map, is_some}
 use Rattle.rustc_parts.specs.declared.parts.Parts.{Parts}
 use Rattle.rustc_parts.specs.declared.parts.RShape.{RShape}

@@ -12,7 +12,7 @@ ghost use Rattle.rustc_parts.specs.Material.{material_of};
 ghost use Rattle.rustc_parts.specs.Shapes.{shape_of};
 ghost use Rattle.rustc_parts.specs.declared.parts.Parts.{Parts};
 
-/// The bytes and the shape tell the pieces, whatever the width of the hash: equal ones are of equal pieces, whose digests have
+/// The bytes and the shape determine the pieces, whatever the width of the hash: equal ones are of equal pieces, whose digests have
 /// their widths and whose bytes can be counted in 64 bits.
 pub fn bytes_and_shape_tell_parts()
     ensures { (width : ℕ) (one other : Parts) → HasDigests width one → HasDigests width other →
@@ -20,7 +20,7 @@ pub fn bytes_and_shape_tell_parts()
         shape_of one ≡ shape_of other → one ≡ other }
 {}
 
-/// Any variables stand in one order, and only equal ones tie.
+/// Variables are totally ordered, and only equal ones tie.
 pub fn variables_have_one_order()
     ensures env_deps { IsTotalOrder env_dep_cmp }
     ensures env_deps_tie { (one other : EnvDep) → env_dep_cmp one other ≡ Equal → one ≡ other }

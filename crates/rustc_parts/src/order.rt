@@ -1,4 +1,4 @@
-//! The orders in which the variables of a key stand.
+//! The orders of the variables of a key.
 
 ghost use Rattle.std.specs.Prelude.{◌≡◌, ◌↔◌, true};
 ghost use Rattle.std.specs.List.Sorted.{IsSorted};
@@ -9,7 +9,7 @@ use crate::parts::{EnvDep, Parts};
 use os_files::os_bytes::OsBytes;
 use std::cmp::Ordering;
 
-/// Whether a variable that a source names stands before another one: by name, one that isn't set before those that are, and by value.
+/// Whether a variable that a source names comes before another one: by name, one that isn't set before those that are, and by value.
 pub fn compare_env_deps(left: &EnvDep, right: &EnvDep) -> Ordering
     ensures { result ≡ env_dep_cmp left.now right.now }
 {
@@ -18,14 +18,14 @@ pub fn compare_env_deps(left: &EnvDep, right: &EnvDep) -> Ordering
         .then_with(|| left.value.cmp(&right.value))
 }
 
-/// Whether a variable with a value stands before another one: by name, and by value.
+/// Whether a variable with a value comes before another one: by name, and by value.
 pub fn compare_pairs(left: &(OsBytes, OsBytes), right: &(OsBytes, OsBytes)) -> Ordering
     ensures { result ≡ pair_cmp left.now right.now }
 {
     left.0.cmp(&right.0).then_with(|| left.1.cmp(&right.1))
 }
 
-/// Whether none stands before the one in front of it.
+/// Whether none is less than the one before it.
 fn env_deps_are_sorted(deps: &[EnvDep]) -> bool
     ensures { (result ≡ true) ↔ IsSorted env_dep_cmp deps.now }
 {
@@ -37,7 +37,7 @@ fn env_deps_are_sorted(deps: &[EnvDep]) -> bool
     true
 }
 
-/// Whether none stands before the one in front of it.
+/// Whether none is less than the one before it.
 fn pairs_are_sorted(pairs: &[(OsBytes, OsBytes)]) -> bool
     ensures { (result ≡ true) ↔ IsSorted pair_cmp pairs.now }
 {
@@ -49,7 +49,7 @@ fn pairs_are_sorted(pairs: &[(OsBytes, OsBytes)]) -> bool
     true
 }
 
-/// Whether the variables stand in order.
+/// Whether the variables are in order.
 pub(crate) fn is_sorted_by_names(parts: &Parts) -> bool
     ensures { (result ≡ true) ↔ IsSortedByNames parts.now }
 {

@@ -1,4 +1,4 @@
-//! The pieces of a key, and what its bytes don't tell.
+//! The pieces of a key, and what its bytes don't determine.
 
 ghost use Rattle.std.specs.Prelude.{◌≡◌, IfOk, is_some, length, map};
 ghost use Rattle.rustc_parts.specs.Shapes.{shape_of};
@@ -41,8 +41,8 @@ pub struct Parts {
     pub dir: OsBytes,
 }
 
-/// What the bytes of a key don't tell: how many digests there are, how long each word is, and which of the variables that the
-/// source names are set. It tells no length of anything else.
+/// What the bytes of a key don't determine: how many digests there are, how long each word is, and which of the variables that the
+/// source names are set. It has no length of anything else.
 #[derive(Clone, Debug, Drop, PartialEq, Eq, PartialOrd, Ord, Hash)]
 pub struct RShape {
     pub toolchain: usize,
@@ -81,7 +81,7 @@ fn are_set(alloc: Global, deps: &[EnvDep]) -> Result<Listed<bool>, AllocError>
 }
 
 impl Parts {
-    /// What the bytes of these pieces don't tell.
+    /// What the bytes of these pieces don't determine.
     pub fn shape(&self, alloc: Global) -> Result<RShape, AllocError>
         ensures { IfOk result (λ shape. shape ≡ shape_of self.now) }
     {

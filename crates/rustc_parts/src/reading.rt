@@ -22,7 +22,7 @@ use std::alloc::{AllocError, Global};
 /// How many digits a digest has.
 const DIGEST_DIGITS: u64 = 64;
 
-/// What stands behind this byte, where it is the first one.
+/// What comes after this byte, where it is the first one.
 #[tactic(auto, unfolding(crate::specs::Reading::byte_at))]
 fn behind(first: u8, bytes: &[u8]) -> Result<&[u8], ReadFault>
     ensures { Gives (λ rest. rest.now) result (byte_at first bytes.now) }
@@ -47,7 +47,7 @@ fn are_digits(text: &[u8]) -> bool
     text.iter().all(|byte| is_digit(*byte))
 }
 
-/// A digest, and what stands behind it.
+/// A digest, and the bytes after it.
 #[tactic(auto, unfolding(crate::specs::Reading::digest_at))]
 fn read_digest(alloc: Global, bytes: &[u8]) -> Result<(OsBytes, &[u8]), ReadFault>
     ensures { Gives (λ x. (x.0, x.1.now)) result (digest_at digest_digits bytes.now) }
@@ -59,7 +59,7 @@ fn read_digest(alloc: Global, bytes: &[u8]) -> Result<(OsBytes, &[u8]), ReadFaul
     Ok((OsBytes::from_slice(alloc, digest)?, rest))
 }
 
-/// So many digests in a row, and what stands behind them.
+/// So many digests in a row, and the bytes after them.
 fn read_digests(
     alloc: Global,
     count: usize,
@@ -78,7 +78,7 @@ fn read_digests(
     Ok((Listed::from_vec(all), rest))
 }
 
-/// A digest where there is one, and what stands behind it.
+/// A digest where there is one, and the bytes after it.
 #[tactic(auto, unfolding(crate::specs::Reading::optional_digest_at))]
 fn read_optional_digest(
     alloc: Global,
@@ -95,7 +95,7 @@ fn read_optional_digest(
     Ok((Some(digest), rest))
 }
 
-/// A word of this length, and what stands behind it.
+/// A word of this length, and the bytes after it.
 fn read_word(alloc: Global, len: usize, bytes: &[u8]) -> Result<(OsBytes, &[u8]), ReadFault>
     ensures { Gives (λ x. (x.0, x.1.now)) result (taken_at len bytes.now) }
 {
@@ -103,7 +103,7 @@ fn read_word(alloc: Global, len: usize, bytes: &[u8]) -> Result<(OsBytes, &[u8])
     Ok((OsBytes::from_slice(alloc, word)?, rest))
 }
 
-/// Pieces of these lengths, and what stands behind them.
+/// Pieces of these lengths, and the bytes after them.
 fn read_each<'a>(
     alloc: Global,
     lengths: &[usize],
@@ -121,7 +121,7 @@ fn read_each<'a>(
     Ok((Listed::from_vec(all), rest))
 }
 
-/// Words of these lengths behind their joined length, and what stands behind them.
+/// Words of these lengths after their joined length, and the bytes after them.
 #[tactic(auto, unfolding(crate::specs::Reading::words_at))]
 fn read_words<'a>(
     alloc: Global,
@@ -138,7 +138,7 @@ fn read_words<'a>(
     Ok((words, rest))
 }
 
-/// A name and a value, and what stands behind them. It takes no memory.
+/// A name and a value, and the bytes after them. It takes no memory.
 #[tactic(auto, unfolding(crate::specs::Reading::pair_at, byte_formats::specs::Reading::both_at, crate::specs::Reading::behind_at))]
 fn read_pair(bytes: &[u8]) -> Result<((&[u8], &[u8]), &[u8]), ReadFault>
     ensures { Gives (λ x. ((x.0.0.now, x.0.1.now), x.1.now)) result (pair_at bytes.now) }
@@ -149,7 +149,7 @@ fn read_pair(bytes: &[u8]) -> Result<((&[u8], &[u8]), &[u8]), ReadFault>
     Ok(((name, value), rest))
 }
 
-/// The value where one is set, of which an empty one stands where none is.
+/// The value where one is set; an empty one is written where none is.
 fn value_of(alloc: Global, is_set: bool, value: &[u8]) -> Result<Option<OsBytes>, ReadFault>
     ensures { Gives (λ x. x) result (valued is_set value.now) }
 {
@@ -162,7 +162,7 @@ fn value_of(alloc: Global, is_set: bool, value: &[u8]) -> Result<Option<OsBytes>
     Ok(None)
 }
 
-/// A variable that a source names, and what stands behind it.
+/// A variable that a source names, and the bytes after it.
 #[tactic(auto, unfolding(crate::specs::Reading::env_dep_at))]
 fn read_env_dep(alloc: Global, is_set: bool, bytes: &[u8]) -> Result<(EnvDep, &[u8]), ReadFault>
     ensures { Gives (λ x. (x.0, x.1.now)) result (env_dep_at is_set bytes.now) }
@@ -173,7 +173,7 @@ fn read_env_dep(alloc: Global, is_set: bool, bytes: &[u8]) -> Result<(EnvDep, &[
     Ok((EnvDep { name, value }, rest))
 }
 
-/// The variables that a source names, and what stands behind them.
+/// The variables that a source names, and the bytes after them.
 fn read_env_deps<'a>(
     alloc: Global,
     are_set: &[bool],
@@ -191,7 +191,7 @@ fn read_env_deps<'a>(
     Ok((Listed::from_vec(all), rest))
 }
 
-/// A variable with its value, and what stands behind them.
+/// A variable with its value, and the bytes after them.
 fn read_variable(alloc: Global, bytes: &[u8]) -> Result<((OsBytes, OsBytes), &[u8]), ReadFault>
     ensures { Gives (λ x. (x.0, x.1.now)) result (pair_at bytes.now) }
 {
@@ -201,7 +201,7 @@ fn read_variable(alloc: Global, bytes: &[u8]) -> Result<((OsBytes, OsBytes), &[u
     Ok(((name, value), rest))
 }
 
-/// So many variables with their values, and what stands behind them.
+/// So many variables with their values, and the bytes after them.
 fn read_pairs(
     alloc: Global,
     count: usize,
@@ -229,7 +229,7 @@ struct FileDigests {
     profile: Option<OsBytes>,
 }
 
-/// The digests of files, and what stands behind them.
+/// The digests of files, and the bytes after them.
 #[tactic(auto, unfolding(crate::specs::Reading::files_at, byte_formats::specs::Reading::both_at))]
 fn read_files<'a>(
     alloc: Global,
@@ -265,7 +265,7 @@ struct Around {
     dir: OsBytes,
 }
 
-/// The variables and the directory, and what stands behind them.
+/// The variables and the directory, and the bytes after them.
 #[tactic(auto, unfolding(crate::specs::Reading::surroundings_at, byte_formats::specs::Reading::both_at))]
 fn read_around<'a>(
     alloc: Global,
@@ -324,7 +324,7 @@ fn read_parts(alloc: Global, bytes: &[u8], shape: &RShape) -> Result<Parts, Read
     })
 }
 
-/// The pieces, where their variables stand in order.
+/// The pieces, where their variables are in order.
 fn if_sorted(parts: Parts) -> Option<Parts>
     ensures kept { IsSortedByNames parts → result ≡ Some parts }
     ensures sorted { IfSome result (λ kept. (parts ≡ kept) × IsSortedByNames kept) }

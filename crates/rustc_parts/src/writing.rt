@@ -13,10 +13,10 @@ use std::alloc::{AllocError, Global};
 /// The version of this layout.
 pub(crate) const CACHE_VERSION: u8 = b'8';
 
-/// The last byte, behind the compiler's version.
+/// The last byte, after the compiler's version.
 pub(crate) const END: u8 = 255;
 
-/// Adds each of them, one right behind the other. Where no memory was left, a part of them may have been added; so with all below.
+/// Adds each of them, one right after the other. When out of memory, a part of them may have been added; so with all below.
 fn put_joined(out: &mut Vec<u8>, pieces: &[OsBytes]) -> Result<(), AllocError>
     ensures { OnOk result (out.new.items ≡ out.old.items ++ joined pieces.now) }
 {
@@ -26,7 +26,7 @@ fn put_joined(out: &mut Vec<u8>, pieces: &[OsBytes]) -> Result<(), AllocError>
     Ok(())
 }
 
-/// Adds a name and a value, each behind its length.
+/// Adds a name and a value, each after its length.
 fn put_pair(out: &mut Vec<u8>, name: &[u8], value: &[u8]) -> Result<(), AllocError>
     ensures { OnOk result (out.new.items ≡ out.old.items ++ pair_bytes (name.now, value.now)) }
 {
@@ -65,7 +65,7 @@ fn put_pairs(out: &mut Vec<u8>, pairs: &[(OsBytes, OsBytes)]) -> Result<(), Allo
     Ok(())
 }
 
-/// Adds the words behind their joined length.
+/// Adds the words after their joined length.
 fn put_words(alloc: Global, out: &mut Vec<u8>, words: &[OsBytes]) -> Result<(), AllocError>
     ensures { OnOk result (out.new.items ≡ out.old.items ++ framed (joined words.now)) }
 {

@@ -10,7 +10,7 @@ use Rattle.rustc_texts.specs.Outputs.{each_once, has_name, with_name}
 abbrev other_than : Bytes → Bytes → Bool
 other_than name other = not (bytes_eq name other)
 
--- a name that isn't that one stands among the others too
+-- a name that isn't that one is among the others too
 pub has-among : (name other : Bytes) → bytes_eq other name ≡ false → (names : List Bytes) → has_name (filter (other_than name) names) other ≡ has_name names other
 has-among name other apart [] = refl
 has-among name other apart (n ∷ names) = by (bytes_eq name n) refl (has-among name other apart names)

@@ -36,7 +36,7 @@ module _ (library name : Bytes) (later names : List Bytes) where
   abbrev kept : List Bytes
   kept = filter (is_none_of (library ∷ later)) names
 
-  -- where the metadata is there, it isn't told again
+  -- where the metadata is there, it isn't added again
   there : has_name names name ≡ true → filter (is_none_of later) (without_name (with_name names name) library) ≡ kept
   there h = less-more library later (with_name names name) ∙ ap (λ b. filter (is_none_of (library ∷ later)) (if b then names else names ++ name ∷ [])) h
 

@@ -4,7 +4,7 @@ use Rattle.std.specs.List.{flat_map, join_with_byte}
 use Rattle.std.proofs.lemmas.List.{append-nil}
 use Rattle.os_files.specs.Bytes.{Bytes}
 
--- each piece behind a space
+-- each piece after a space
 abbrev pub behind_spaces : List Bytes → Bytes
 behind_spaces pieces = flat_map (λ piece. 32 ∷ piece) pieces
 
@@ -12,12 +12,12 @@ pub join-first : (first : Bytes) (later : List Bytes) → first ++ behind_spaces
 join-first first [] = append-nil first
 join-first first (piece ∷ later) = ap (λ (x : Bytes). first ++ 32 ∷ x) (join-first piece later)
 
--- one more piece behind others
+-- one more piece after others
 pub join-last : (first : Bytes) (later : List Bytes) (last : Bytes) → join_with_byte 32 ((first ∷ later) ++ last ∷ []) ≡ join_with_byte 32 (first ∷ later) ++ 32 ∷ last
 join-last first [] last = refl
 join-last first (piece ∷ later) last = ap (λ (x : Bytes). first ++ 32 ∷ x) (join-last piece later last) ∙ sym (append_assoc first (32 ∷ join_with_byte 32 (piece ∷ later)) (32 ∷ last))
 
--- a further piece is written behind a space, where there are others
+-- a further piece is written after a space, where there are others
 pub behind-others : (pieces : List Bytes) (last joined : Bytes) → (length pieces == 0) ≡ false → joined ≡ join_with_byte 32 pieces ++ 32 ∷ [] → joined ++ last ≡ join_with_byte 32 (pieces ++ last ∷ [])
 behind-others [] last joined e q = cc
 behind-others (first ∷ later) last joined e q =

@@ -1,4 +1,4 @@
--- Where names stand last, with one more name.
+-- Where names occur last, with one more name.
 use Rattle.std.proofs.Common.{◌≡◌, ℕ, zero, suc, Bool, true, false, List, [], ◌∷◌, ◌++◌, length, drop, nat_le, refl, ap, sym, ◌∙◌}
 use Rattle.std.specs.Prelude.{cond, Option, Some}
 use Rattle.std.specs.Str.{bytes_eq}
@@ -8,7 +8,7 @@ use Rattle.rustc_texts.specs.Outputs.{has_name}
 use Rattle.rustc_texts.specs.Places.{is_from}
 use Rattle.rustc_texts.proofs.ToldNames.{has-pushed}
 
--- from a place on there are one more name where that stands there, and those that there were
+-- the names from a place on are the one more name, where it is there, and those that were there before
 pub has-from : (names : List Bytes) (name other : Bytes) (place : ℕ) → has_name (drop place (names ++ name ∷ [])) other ≡ cond (bytes_eq name other) (nat_le place (length names)) (has_name (drop place names) other)
 has-from names name other zero =
     has-pushed names name other
@@ -26,7 +26,7 @@ has-from (first ∷ names) name other (suc place) =
     has-from names name other place
     ∙ ap (λ b. cond (bytes_eq name other) b (has_name (drop place names) other)) (sym (leb-suc-suc place (length names)))
 
--- what stands last at one place or where it stood before
+-- what occurs last at one place or where it was before
 pub from-cond : (place last : ℕ) (before : Option ℕ) (here : Bool) → is_from place (cond here (Some last) before) ≡ cond here (nat_le place last) (is_from place before)
 from-cond place last before true = refl
 from-cond place last before false = refl

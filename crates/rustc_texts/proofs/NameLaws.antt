@@ -6,7 +6,7 @@ use Rattle.std.proofs.lemmas.List.{append-nil}
 use Rattle.os_files.specs.Bytes.{Bytes}
 use Rattle.rustc_texts.specs.DepInfo.{Place, first_of, placed, ends_name, is_letter, name_at, without_empty_last}
 
--- the names of bytes behind this one, the last one among them
+-- the names of bytes after this one, the last one among them
 abbrev pub all_names : ℕ → Bytes → List Bytes
 all_names before bytes = map name_at (slice_split ends_name (placed before bytes))
 
@@ -15,7 +15,7 @@ abbrev pub going_on : Bytes → List Bytes → List Bytes
 going_on name [] = name ∷ []
 going_on name (first ∷ others) = (name ++ first) ∷ others
 
--- the first place of a name, and those behind it
+-- the first place of a name, and those after it
 name_at-cons : (x : Place) (places : List Place) → name_at (x ∷ places) ≡ cond (is_letter x) (x.here ∷ name_at places) (name_at places)
 name_at-cons x places = by (is_letter x) refl
   where
@@ -28,17 +28,17 @@ onto-letter : (x : Place) (parts : List (List Place)) → is_letter x ≡ true �
 onto-letter x [] e = rw (name_at-cons x [], e) refl
 onto-letter x (part ∷ parts) e = rw (name_at-cons x part, e) refl
 
--- what is no letter goes, where a letter stands behind it
+-- what is no letter goes, where a letter comes after it
 onto-mark : (x y : Place) (parts : List (List Place)) → is_letter x ≡ false → is_letter y ≡ true → map name_at (onto_first x (onto_first y parts)) ≡ onto_first y.here (map name_at parts)
 onto-mark x y [] e f = rw (name_at-cons x (y ∷ []), e, name_at-cons y [], f) refl
 onto-mark x y (part ∷ parts) e f = rw (name_at-cons x (y ∷ part), e, name_at-cons y part, f) refl
 
--- places with the same byte and the same one behind it make the same names
+-- places with the same byte and the same one after it make the same names
 same-onto : (before b next : ℕ) (parts : List (List Place)) → map name_at (onto_first (record { before = before; here = b; behind = next }) parts) ≡ map name_at (onto_first (record { before = 0; here = b; behind = next }) parts)
 same-onto before b next [] = rw (name_at-cons (record { before = before; here = b; behind = next }) [], name_at-cons (record { before = 0; here = b; behind = next }) []) refl
 same-onto before b next (part ∷ parts) = rw (name_at-cons (record { before = before; here = b; behind = next }) part, name_at-cons (record { before = 0; here = b; behind = next }) part) refl
 
--- the names of a byte behind another one, once it is known whether a name ends there
+-- the names of a byte after another one, once it is known whether a name ends there
 abbrev begun : ℕ → ℕ → Bytes → Bool → List Bytes
 begun before b bs t =
     let place : Place = record { before = before; here = b; behind = unwrap_or (first_of bs) 0 } in
@@ -49,7 +49,7 @@ same-begun : (before b : ℕ) (bs : Bytes) (t : Bool) → begun before b bs t �
 same-begun before b bs true = refl
 same-begun before b bs false = same-onto before b (unwrap_or (first_of bs) 0) (slice_split ends_name (placed b bs))
 
--- names don't tell what stood before them, unless it is a backslash
+-- names don't depend on what came before them, unless it is a backslash
 behind-any : (before : ℕ) (bs : Bytes) → (before == 92) ≡ false → all_names before bs ≡ all_names 0 bs
 behind-any before [] e = refl
 behind-any before (b ∷ bs) e = ap (λ t. begun before b bs ((b == 32) && not t)) e ∙ same-begun before b bs ((b == 32) && true)

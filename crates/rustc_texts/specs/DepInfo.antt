@@ -7,7 +7,7 @@ use Rattle.std.specs.Str.Lines.{lines}
 use Rattle.os_files.specs.Bytes.{Bytes}
 use Rattle.os_files.specs.Path.{join}
 
--- what stands behind the first `: ` of a line
+-- what comes after the first `: ` of a line
 abbrev pub behind_colon : Bytes → Option Bytes
 behind_colon [] = None
 behind_colon (b ∷ bs) = if starts_with nat_eq (b ∷ bs) (codes ": ") then Some (drop 2 (b ∷ bs)) else behind_colon bs
@@ -16,22 +16,22 @@ abbrev pub first_of : {X : Type 0} → List X → Option X
 first_of [] = None
 first_of (x ∷ xs) = Some x
 
--- The rule of a text: what stands behind the first `: ` of its first line. A line ends at 10, and a 13 right before that is no part of it.
+-- The rule of a text: what comes after the first `: ` of its first line. A line ends at 10, and a 13 right before that is no part of it.
 abbrev pub rule_of : Bytes → Option Bytes
 rule_of text = option_and_then behind_colon (first_of (lines text))
 
--- a byte of a rule, between the one before it and the one behind it, each 0 where there is none
+-- a byte of a rule, between the one before it and the one after it, each 0 where there is none
 pub record Place : Type 0 where
   pub before : ℕ
   pub here : ℕ
   pub behind : ℕ
 
--- the bytes of a list in their places, the first of them behind this one
+-- the bytes of a list in their places, the first of them after this one
 abbrev pub placed : ℕ → Bytes → List Place
 placed before [] = []
 placed before (b ∷ bs) = record { before = before; here = b; behind = unwrap_or (first_of bs) 0 } ∷ placed b bs
 
--- a space ends a name, unless a backslash stands right before it
+-- a space ends a name, unless a backslash comes right before it
 abbrev pub ends_name : Place → Bool
 ends_name place = place.here == byte " " && not (place.before == byte "\\")
 
@@ -39,7 +39,7 @@ ends_name place = place.here == byte " " && not (place.before == byte "\\")
 abbrev pub is_letter : Place → Bool
 is_letter place = not (place.here == byte "\\" && place.behind == byte " ")
 
--- the name that stands in these places
+-- the name in these places
 abbrev pub name_at : List Place → Bytes
 name_at places = map (λ place. place.here) (filter is_letter places)
 
@@ -53,6 +53,6 @@ without_empty_last (name ∷ other ∷ others) = name ∷ without_empty_last (ot
 abbrev pub names_in : Bytes → List Bytes
 names_in rule = without_empty_last (map name_at (slice_split ends_name (placed 0 rule)))
 
--- the sources of a text, as they stand, in a directory: none where it starts with no rule
+-- the sources of a text, as they are, in a directory: none where it starts with no rule
 abbrev pub sources_of : Bytes → Bytes → Option (List Bytes)
 sources_of dir text = option_map (λ rule. map (join dir) (names_in rule)) (rule_of text)

@@ -1,4 +1,4 @@
--- What a request writes: the names that rustc tells, and where each goes.
+-- What a request writes: the names that rustc reports, and where each goes.
 use Rattle.std.specs.Prelude.{◌≡◌, nat_eq, Bool, true, false, not, ◌==◌, ◌&&◌, ◌||◌, List, [], ◌∷◌, ◌++◌, length, drop, map, filter, fold, codes, Option, None, Some, if◌then◌else◌}
 use Rattle.std.specs.BTreeSet.{BTreeSet, contains}
 use Rattle.std.specs.Cmp.Lexicographic.{slice_cmp}
@@ -17,7 +17,7 @@ use Rattle.rustc_options.specs.Asks.{RustAsks}
 abbrev pub has_name : List Bytes → Bytes → Bool
 has_name names name = list_any (bytes_eq name) names
 
--- each name once, where it stands first
+-- each name once, where it occurs first
 abbrev pub each_once : List Bytes → List Bytes
 each_once [] = []
 each_once (name ∷ names) = name ∷ filter (λ other. not (bytes_eq name other)) (each_once names)
@@ -26,11 +26,11 @@ each_once (name ∷ names) = name ∷ filter (λ other. not (bytes_eq name other
 abbrev pub Tells : BTreeSet Bytes → List Bytes → Type 0
 Tells told names = (name : Bytes) → contains (slice_cmp nat_cmp) told name ≡ has_name names name
 
--- The names that rustc tells: the lines of its answer.
+-- The names that rustc reports: the lines of its answer.
 abbrev pub named : Bytes → List Bytes
 named text = each_once (lines text)
 
--- Where nothing but metadata and dependencies is written, binaries aren't, although rustc tells them.
+-- Where nothing but metadata and dependencies is written, binaries aren't, although rustc reports them.
 abbrev pub is_no_binary : Bytes → Bool
 is_no_binary kind = bytes_eq kind (codes "metadata") || bytes_eq kind (codes "dep-info")
 
@@ -115,7 +115,7 @@ library stem = stem ++ codes ".rlib"
 abbrev pub metadata : Bytes → Bytes
 metadata stem = stem ++ codes ".rmeta"
 
--- what stands behind the first `.rlib` of a name
+-- what comes after the first `.rlib` of a name
 abbrev pub behind_rlib : Bytes → Option Bytes
 behind_rlib [] = None
 behind_rlib (b ∷ bs) = if starts_with nat_eq (b ∷ bs) (codes ".rlib") then Some (drop 5 (b ∷ bs)) else behind_rlib bs

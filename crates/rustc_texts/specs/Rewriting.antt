@@ -37,7 +37,7 @@ without_line_end text = if starts_with nat_eq text (codes "\n") then drop 1 text
 abbrev pub rules_of : Bytes → List Bytes → List Bytes → Bytes
 rules_of old targets extras = flat_map (rule_for (prerequisites old extras)) targets ++ flat_map phony_rule (map escaped extras)
 
--- These rules in the place of the first line, whose prerequisites they take, and the text behind it: none where that line is no rule.
+-- These rules in place of the first line, whose prerequisites they take, and the text after it: none where that line is no rule.
 abbrev pub rewritten_of : Bytes → List Bytes → List Bytes → Option Bytes
 rewritten_of text targets extras =
     let rest = without_line_end (after_first is_line_end text) in

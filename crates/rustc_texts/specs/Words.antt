@@ -27,7 +27,7 @@ is_cfg said = is_flag (codes "--cfg") said
 abbrev pub is_target : Said → Bool
 is_target said = is_flag (codes "--target") said
 
--- Options whose words don't count: those on paths whose files are hashed or lie behind the outputs, on names that a source may ask for, and on the width of messages.
+-- Options whose words don't count: those on paths whose files are hashed or hold the outputs, on names that a source may ask for, and on the width of messages.
 abbrev pub is_left_out : Said → Bool
 is_left_out said =
     is_flag (codes "--extern") said
@@ -51,7 +51,7 @@ rest_of arguments = filter (λ said. not (is_cfg said)) arguments
 abbrev pub words_cmp : List Bytes → List Bytes → Ordering
 words_cmp one other = slice_cmp (slice_cmp nat_cmp) one other
 
--- The words that count: those of the options `--cfg` in their order, behind all others.
+-- The words that count: those of the options `--cfg` in their order, after all others.
 abbrev pub kept_of : Bool → List Said → List Bytes
 kept_of has_target_file arguments =
     let others = all_words (filter (counts_beside has_target_file) (rest_of arguments)) in
@@ -73,10 +73,10 @@ compile_words asks = all_words asks.arguments ++ color_words asks.has_json
 abbrev pub is_on_outputs : Said → Bool
 is_on_outputs said = is_flag (codes "--emit") said || is_flag (codes "--out-dir") said
 
--- the words that ask for what the crate depends on: all but those, and what is to be told
+-- the words that ask for what the crate depends on: all but those, and what is to be reported
 abbrev pub dep_info_words : RustAsks → List Bytes
 dep_info_words asks = all_words (filter (λ said. not (is_on_outputs said)) asks.arguments) ++ codes "--emit" ∷ codes "dep-info" ∷ []
 
--- the words that ask for the names of what is written: all, and what is to be told
+-- the words that ask for the names of what is written: all, and what is to be reported
 abbrev pub file_names_words : RustAsks → List Bytes
 file_names_words asks = all_words asks.arguments ++ codes "--print" ∷ codes "file-names" ∷ []

@@ -14,7 +14,7 @@ use os_files::path::{compare_paths, join, paths_have_one_order};
 use std::alloc::{AllocError, Global};
 use std::mem;
 
-/// What stands behind the first `: ` of a line.
+/// What comes after the first `: ` of a line.
 pub(crate) fn behind_colon(line: &[u8]) -> Option<&[u8]>
     ensures { option_copied result ≡ behind_colon line.now }
 {
@@ -28,7 +28,7 @@ pub(crate) fn behind_colon(line: &[u8]) -> Option<&[u8]>
     None
 }
 
-/// The rule with which a text starts: what stands behind the first `: ` of its first line.
+/// The rule with which a text starts: what comes after the first `: ` of its first line.
 fn rule_of(text: &str) -> Option<&[u8]>
     ensures { option_copied result ≡ rule_of text.now }
 {

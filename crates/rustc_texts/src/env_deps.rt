@@ -1,4 +1,4 @@
-//! The variables that a source names, as the text on its dependencies tells them.
+//! The variables that a source names, as the text on its dependencies lists them.
 
 ghost use Rattle.std.specs.Prelude.{◌≡◌, IfOk, option_copied};
 ghost use Rattle.rustc_texts.specs.EnvDeps.{env_dep_in, env_dep_of, env_deps_of, mark, told_in};
@@ -9,17 +9,17 @@ use rustc_options::splitting::split_at_equals;
 use rustc_parts::parts::EnvDep;
 use std::alloc::{AllocError, Global};
 
-/// How a line begins that tells a variable.
+/// How a line begins that lists a variable.
 const MARK: &[u8] = b"# env-dep:";
 
-/// What a line tells of a variable, where it tells of one.
+/// What a line says of a variable, where it lists one.
 fn told_in(line: &[u8]) -> Option<&[u8]>
     ensures { option_copied result ≡ told_in line.now }
 {
     line.strip_prefix(MARK)
 }
 
-/// The variable that is told so.
+/// The variable that is listed so.
 fn env_dep_of(alloc: Global, told: &[u8]) -> Result<EnvDep, AllocError>
     ensures { IfOk result (λ dep. dep ≡ env_dep_of told.now) }
 {
@@ -27,7 +27,7 @@ fn env_dep_of(alloc: Global, told: &[u8]) -> Result<EnvDep, AllocError>
     Ok(EnvDep { name, value })
 }
 
-/// The variable that a line tells, where it tells one.
+/// The variable that a line lists, where it lists one.
 fn env_dep_in(alloc: Global, line: &[u8]) -> Result<Option<EnvDep>, AllocError>
     ensures { IfOk result (λ dep. dep ≡ env_dep_in line.now) }
 {
@@ -37,8 +37,8 @@ fn env_dep_in(alloc: Global, line: &[u8]) -> Result<Option<EnvDep>, AllocError>
     }
 }
 
-/// The variables that a source names while it is compiled, in the order in which the text on its dependencies tells them: each line
-/// `# env-dep:NAME=VALUE` tells one that is set, and `# env-dep:NAME` one that isn't.
+/// The variables that a source names while it is compiled, in the order in which the text on its dependencies lists them: each line
+/// `# env-dep:NAME=VALUE` lists one that is set, and `# env-dep:NAME` one that isn't.
 pub fn parse_env_dep_info(alloc: Global, text: &str) -> Result<Listed<EnvDep>, AllocError>
     ensures { IfOk result (λ deps. deps ≡ env_deps_of text.now) }
 {

@@ -6,7 +6,7 @@ use thiserror::Error;
 /// Why a text on dependencies is neither read nor rewritten.
 #[derive(Clone, Copy, Debug, PartialEq, Eq, Error)]
 pub enum TextFault {
-    /// A growth was refused.
+    /// Out of memory.
     #[error("no memory was left")]
     Memory,
     /// The text doesn't start with a rule: its first line holds no `: `.

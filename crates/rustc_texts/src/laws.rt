@@ -9,7 +9,7 @@ ghost use Rattle.rustc_options.specs.Asks.{RustAsks, Said};
 ghost use Rattle.rustc_texts.specs.Outputs.{EndsInOne, has_name, library, metadata, with_metadata};
 ghost use Rattle.rustc_texts.specs.Words.{all_words, cfgs_of, compile_words, dep_info_words, file_names_words, kept_of, rest_of};
 
-/// Where the options `--cfg` stand doesn't count, nor in which order: arguments that differ in that alone have the same words that
+/// The place of the options `--cfg` doesn't count, nor does their order: arguments that differ in that alone have the same words that
 /// count in keys.
 pub fn cfg_places_do_not_count()
     ensures { (has_target_file : Bool) (one other : List Said) → rest_of one ≡ rest_of other
@@ -18,7 +18,7 @@ pub fn cfg_places_do_not_count()
 {}
 
 /// Where no word of a request begins with `@`, none of the words of a command that is run for it does, so that none makes rustc open
-/// a file of words.
+/// a response file.
 pub fn commands_open_nothing()
     ensures compile { (asks : RustAsks)
         → list_any begins_with_at (all_words asks.arguments) ≡ false
@@ -32,7 +32,7 @@ pub fn commands_open_nothing()
 {}
 
 /// For libraries that have `.rlib` at their ends alone, each once, metadata is that of each, with `.rmeta` in the place of `.rlib`:
-/// behind all of them where they are linked, and else in their places.
+/// after all of them where they are linked, and else in their places.
 pub fn metadata_is_that_of_each_library()
     ensures behind { (emit stems : List Bytes) → has_name emit (codes "metadata") ≡ true
         → has_name emit (codes "link") ≡ true → AllByRecursion EndsInOne stems

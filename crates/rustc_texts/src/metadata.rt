@@ -1,4 +1,4 @@
-//! The names of metadata, which rustc doesn't tell.
+//! The names of metadata, which rustc doesn't report.
 
 ghost use Rattle.std.specs.Prelude.{◌≡◌, false, true, List, IfOk, filter, fold};
 ghost use Rattle.os_files.specs.Bytes.{Bytes};
@@ -54,7 +54,7 @@ fn libraries(alloc: Global, names: &[OsBytes]) -> Result<Vec<OsBytes>, AllocErro
     Ok(kept)
 }
 
-/// The names with that of each library's metadata behind them.
+/// The names with that of each library's metadata after them.
 fn beside(
     alloc: Global,
     names: Vec<OsBytes>,
@@ -72,7 +72,7 @@ fn beside(
     Ok(names)
 }
 
-/// The names that don't stand in a list, by where each of its names stands last.
+/// The names that aren't in a list, by where each of its names occurs last.
 fn others(
     alloc: Global,
     names: Vec<OsBytes>,

@@ -11,7 +11,7 @@ use crate::fault::TextFault;
 use os_files::os_bytes::OsBytes;
 use std::alloc::{AllocError, Global};
 
-/// The first line, and what stands behind it.
+/// The first line, and what comes after it.
 fn first_line(text: &str) -> (&[u8], &[u8])
     ensures line { result.0.now ≡ before_first is_line_end text.now }
     ensures rest { result.1.now ≡ after_first is_line_end text.now }
@@ -113,7 +113,7 @@ fn prerequisites(alloc: Global, old: &[u8], escaped: &[OsBytes]) -> Result<OsByt
 }
 
 /// The text on dependencies for these targets: in the place of its first rule, one for each target, with the extra prerequisites
-/// before the old ones; then a rule for each extra prerequisite, and what stands behind the first line, less a line end.
+/// before the old ones; then a rule for each extra prerequisite, and what comes after the first line, less a line end.
 pub fn dep_info_with_targets(
     alloc: Global,
     text: &str,

@@ -1,4 +1,4 @@
-//! Sets of names, and where names stand last in a list.
+//! Sets of names, and where names occur last in a list.
 
 ghost use Rattle.std.specs.Prelude.{◌≡◌, List, drop, not, IfOk, OnOk};
 ghost use Rattle.os_files.specs.Bytes.{Bytes};
@@ -9,7 +9,7 @@ use os_files::os_bytes::OsBytes;
 use std::alloc::{AllocError, Global};
 use std::collections::{BTreeMap, BTreeSet};
 
-/// Adds a name to a set of names, and tells whether it's new there.
+/// Adds a name to a set of names, and returns whether it's new there.
 pub(crate) fn tell(told: &mut BTreeSet<OsBytes>, name: &OsBytes) -> Result<bool, AllocError>
     ensures told { (names : List Bytes) → Tells told.old names
         → OnOk result (Tells told.new (with_name names name.now)) }
@@ -38,7 +38,7 @@ pub(crate) fn told_of(alloc: Global, names: &[OsBytes]) -> Result<BTreeSet<OsByt
     Ok(told)
 }
 
-/// Adds a name, unless it's there, which a set of the names tells.
+/// Adds a name, unless it's there, which is looked up in a set of the names.
 pub(crate) fn add_name(
     names: &mut Vec<OsBytes>,
     told: &mut BTreeSet<OsBytes>,
@@ -54,7 +54,7 @@ pub(crate) fn add_name(
     Ok(())
 }
 
-/// Where each of the names stands last.
+/// Where each of the names occurs last.
 pub(crate) fn last_places(
     alloc: Global,
     names: &[OsBytes],
@@ -68,7 +68,7 @@ pub(crate) fn last_places(
     Ok(last)
 }
 
-/// Whether a name stands at that place of a list or behind it, by where each stands last.
+/// Whether a name occurs at that place of a list or after it, by where each occurs last.
 pub(crate) fn stands_from(last: &BTreeMap<OsBytes, usize>, place: usize, name: &OsBytes) -> bool
     ensures { (names : List Bytes) → TellsLast last.now names
         → result ≡ has_name (drop place names) name.now }

@@ -22,7 +22,7 @@ fn counts(name: &[u8]) -> bool
         && name != b"CARGO_ENCODED_RUSTFLAGS".as_slice()
 }
 
-/// Whether a variable of this name stands when a request is compiled.
+/// Whether a variable of this name is kept when a request is compiled.
 fn compiles_with(name: &[u8]) -> bool
     ensures { result ≡ compiles_with name.now }
 {
@@ -42,7 +42,7 @@ fn in_order(pairs: Vec<(OsBytes, OsBytes)>) -> Listed<(OsBytes, OsBytes)>
 }
 
 /// The variables that count in keys: those of cargo but for its registries, its job server, its count of jobs and its flags, by name
-/// and value, each as often as it stands.
+/// and value, each as often as it occurs.
 pub fn hashed_variables(
     alloc: Global,
     env: &[(OsBytes, OsBytes)],
@@ -60,7 +60,7 @@ pub fn hashed_variables(
     Ok(in_order(kept))
 }
 
-/// The variables with which a request is compiled: all but `RUSTC_COLOR`, by name and value, each as often as it stands.
+/// The variables with which a request is compiled: all but `RUSTC_COLOR`, by name and value, each as often as it occurs.
 pub fn compile_env(
     alloc: Global,
     env: &[(OsBytes, OsBytes)],

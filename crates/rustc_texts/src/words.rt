@@ -154,7 +154,7 @@ fn push_list(words: &mut Listed<OsBytes>, list: Listed<OsBytes>) -> Result<(), A
 }
 
 /// The words of a request that count in its key: all but those of `--extern`, `-L`, `--check-cfg`, `--out-dir` and
-/// `--diagnostic-width`, and of `--target` where a target is a file. Those of the options `--cfg` stand at the end, in the order of
+/// `--diagnostic-width`, and of `--target` where a target is a file. Those of the options `--cfg` come at the end, in the order of
 /// their bytes.
 pub fn kept_words(alloc: Global, parsed: &ParsedArguments) -> Result<Listed<OsBytes>, AllocError>
     ensures { IfOk result (λ words. words ≡ kept_words (asks_in parsed.now)) }
@@ -177,7 +177,7 @@ pub fn compile_words(alloc: Global, parsed: &ParsedArguments) -> Result<Listed<O
     Ok(words)
 }
 
-/// The words that ask for the text on dependencies: all but those on what is written and where, and what is to be told.
+/// The words that ask for the text on dependencies: all but those on what is written and where, and what is to be reported.
 pub fn dep_info_words(
     alloc: Global,
     parsed: &ParsedArguments,
@@ -195,7 +195,7 @@ pub fn dep_info_words(
     Ok(words)
 }
 
-/// The words that ask for the names of what is written: all, and what is to be told.
+/// The words that ask for the names of what is written: all, and what is to be reported.
 pub fn file_names_words(
     alloc: Global,
     parsed: &ParsedArguments,

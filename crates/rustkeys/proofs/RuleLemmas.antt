@@ -1,4 +1,4 @@
--- A text that starts with a rule is rewritten, so it's told exactly where it's asked for.
+-- A text that starts with a rule is rewritten, so it's given exactly where it's asked for.
 use Rattle.std.proofs.Common.{◌≡◌, ◌∙◌, ℕ, zero, suc, ◌+◌, ◌==◌, ◌-◌, Bool, true, false, not, ◌&&◌, cond, if◌then◌else◌, List, [], ◌∷◌, length, take, drop, Option, None, Some, nat_eq, codes, refl, sym, ap, arith}
 use Rattle.std.specs.Prelude.{map, option_and_then, slice_index, is_some, is_none}
 use Rattle.std.specs.List.{before_first, list_any, onto_first, position_or_len, slice_split, starts_with}
@@ -27,7 +27,7 @@ use Rattle.rustkeys.specs.Calls.{answer_fault_of, dep_info_fault_of, files_fault
 use Rattle.rustkeys.specs.Fresh.{ComesOfWords, dep_info_by, emits_dep_info}
 use Rattle.rustkeys.specs.Questions.{Answers, Question, sources_in}
 
--- the first part of a list is what stands before the first that passes
+-- the first part of a list is what comes before the first that passes
 module _ {X : Type 0} (p : X → Bool) where
   first_part : (xs : List X) → (rest : List (List X)) × (slice_split p xs ≡ before_first p xs ∷ rest)
   first_part [] = ([], refl)
@@ -100,7 +100,7 @@ map_some f (Some x) h = refl
 pub rewritten_where_ruled : (text : Bytes) (targets extras : List Bytes) → rule_fault_of text ≡ None → is_some (rewritten_of text targets extras) ≡ true
 rewritten_where_ruled text targets extras fine = map_some _ (behind_colon (before_first is_line_end text)) (rule_stands text (has_rule text fine))
 
--- without a fault of its rule a text is told exactly where one is asked for
+-- without a fault of its rule a text is given exactly where one is asked for
 pub told_where_asked : (asks : RustAsks) (archive : Option Bytes) (text : Bytes) (names : List Bytes) → rule_fault_of text ≡ None → is_some (dep_info_by asks archive text names) ≡ is_some asks.dep_info
 told_where_asked asks archive text names fine = by asks.dep_info
   where

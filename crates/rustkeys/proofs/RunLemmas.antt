@@ -17,7 +17,7 @@ pub once_at_most : (before after : ℕ) → AtMostOnce before after → AtMostTw
 once_at_most before after (inl h) = inl h
 once_at_most before after (inr h) = inr (inl h)
 
--- and so is at most once behind one
+-- and so is at most once after one
 pub once_more : (before mid after : ℕ) → mid ≡ ticked before → AtMostOnce mid after → AtMostTwice before after
 once_more before mid after one (inl h) = inr (inl (h ∙ one))
 once_more before mid after one (inr h) = inr (inr (h ∙ ap ticked one))

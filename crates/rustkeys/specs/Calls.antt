@@ -83,7 +83,7 @@ abbrev pub files_fault_of : Question → List (Bytes × Bytes) → Option Fault
 files_fault_of q archives =
     or_else (read_fault_of q.scene.files (extern_paths q)) (or_else (digest_fault_of archives) (optional_files_fault_of q))
 
--- The first fault in the order in which rustc and its files are asked, where no growth is refused and no device fails: of the text on dependencies, of the names of outputs, and of other files.
+-- The first fault in the order in which rustc and its files are asked, without out of memory and I/O errors: of the text on dependencies, of the names of outputs, and of other files.
 abbrev pub key_fault_with : Question → Answers → Option Fault
 key_fault_with q answers =
     or_else (dep_info_fault_of q answers.dep_info) (or_else (answer_fault_of FileNames answers.file_names) (files_fault_of q answers.archives))

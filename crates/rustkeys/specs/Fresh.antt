@@ -17,7 +17,7 @@ use Rattle.rustc_options.specs.Asks.{RustAsks}
 use Rattle.rustkeys.specs.Questions.{compile_env_of, dep_info_of, file_names_of}
 use Rattle.rustkeys.specs.Calls.{RustCall}
 
--- the outputs, by what rustc tells of their names
+-- the outputs, by what rustc reports of their names
 abbrev pub call_outputs : Meaning → RustCall → Artifacts
 call_outputs meaning c = outputs_of c.question.asks (text_in (file_names_of meaning c.question).contents)
 

@@ -29,7 +29,7 @@ question_of place files moment = record {
   scene = scene_with place.executable.now place.dir.now place.env.now files moment;
 }
 
--- What rustc tells of what the crate depends on, and of the names of its outputs.
+-- What rustc reports of what the crate depends on, and of the names of its outputs.
 abbrev pub dep_info_of : Meaning → Question → Made
 dep_info_of meaning q = meaning DepInfo (words (dep_info_words q.asks)) [] q.scene
 

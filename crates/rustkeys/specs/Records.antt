@@ -1,4 +1,4 @@
--- What a key of a request to rustc stands for, and the pieces that are hashed for it.
+-- What a key of a request to rustc represents, and the pieces that are hashed for it.
 use Rattle.std.specs.Prelude.{◌≡◌, ◌⊎◌, List, map, Option}
 use Rattle.std.specs.List.{AllByRecursion, Contains}
 use Rattle.std.specs.Option.{option_map, option_to_list}
@@ -58,7 +58,7 @@ key_of digest_of r = digest_text digest_of (record_material digest_of r)
 abbrev pub record_shape : (Bytes → Bytes) → RustRecord → RShape
 record_shape digest_of r = shape_of (parts_of digest_of r)
 
--- A record is told by its key: the digests that were handed in are digits, and what is hashed can be counted in 64 bits.
+-- A record is determined by its key: the digests that were handed in are digits, and what is hashed can be counted in 64 bits.
 pub record IsTold (digest_of : Bytes → Bytes) (r : RustRecord) : Type 0 where
   pub toolchain : AllByRecursion (IsDigest digest_digits) r.toolchain
   pub archives : AllByRecursion (IsDigest digest_digits) r.archives

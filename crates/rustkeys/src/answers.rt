@@ -1,4 +1,4 @@
-//! Tools that tell what rustc depends on and what it writes.
+//! Tools that report what rustc depends on and what it writes.
 
 ghost use Rattle.std.specs.Prelude.{◌≡◌, ◌⊎◌, ℕ, ℤ, pos, [], ◌∷◌, Some, IfOk, IsErrOf};
 ghost use Rattle.os_files.specs.Bytes.{ticked};
@@ -16,7 +16,7 @@ pub trait RustcAnswers: Preprocessor {
     /// How often the digest of a static library was asked for, modulo 2 ^ 64.
     ghost archived: { Self → ℕ };
 
-    /// Runs the command, and gives the text in which rustc tells what the crate depends on.
+    /// Runs the command, and gives the text in which rustc reports what the crate depends on.
     fn dep_info<F: Files>(
         &mut self,
         alloc: Global,
@@ -42,7 +42,7 @@ pub trait RustcAnswers: Preprocessor {
         ensures archives { archived self.new ≡ archived self.old }
         ensures compiles { Self.compiled self.new ≡ Self.compiled self.old };
 
-    /// Runs the command, and gives the names that rustc tells of what it writes, a line each.
+    /// Runs the command, and gives the names that rustc reports of what it writes, a line each.
     fn file_names<F: Files>(
         &mut self,
         alloc: Global,

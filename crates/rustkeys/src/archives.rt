@@ -67,7 +67,7 @@ fn archive_digest<F: Files, A: RustcAnswers>(
     ensures once { AtMostOnce (A.archived answers.old) (A.archived answers.new) }
     ensures compiles { A.compiled answers.new ≡ A.compiled answers.old }
 {
-    // The copy is made first, so that no want of memory stands for a digest that isn't one.
+    // The copy is made first, so that out of memory isn't reported as a digest that isn't one.
     let path = path.clone()?;
     match answers.archive_digest(alloc, &path, files) {
         Ok(digest) if is_digest(digest.as_bytes()) => Ok(digest),

@@ -116,7 +116,7 @@ impl<'a> RustPlace<'a> {
         }
     }
 
-    /// The text in which rustc tells what the crate depends on.
+    /// The text in which rustc reports what the crate depends on.
     pub(crate) fn dep_info_text<F: Files, A: RustcAnswers>(
         &self,
         alloc: Global,
@@ -148,7 +148,7 @@ impl<'a> RustPlace<'a> {
         answered_text(printed, Step::DepInfo)
     }
 
-    /// The text in which rustc tells the names of what it writes.
+    /// The text in which rustc reports the names of what it writes.
     pub(crate) fn file_names_text<F: Files, A: RustcAnswers>(
         &self,
         alloc: Global,

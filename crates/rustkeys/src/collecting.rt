@@ -1,4 +1,4 @@
-//! All that rustc and the files tell before a request has its key, in the order in which they are asked.
+//! All that rustc and the files report before a request has its key, in the order in which they are asked.
 
 ghost use Rattle.std.specs.Prelude.{◌≡◌, ℤ, None, string_bytes, IfOk, IfErr, OnOk};
 ghost use Rattle.std.specs.List.{AllByRecursion};
@@ -27,7 +27,7 @@ use os_files::listed::Listed;
 use os_files::os_bytes::OsBytes;
 use std::alloc::Global;
 
-/// The text in which rustc tells what the crate depends on, and the digests of its sources.
+/// The text in which rustc reports what the crate depends on, and the digests of its sources.
 #[derive(Drop)]
 pub(crate) struct Sources {
     pub text: String,
@@ -44,7 +44,7 @@ pub(crate) struct OtherFiles {
     pub profile: Option<OsBytes>,
 }
 
-/// All of it, with the text in which rustc tells the names of what it writes.
+/// All of it, with the text in which rustc reports the names of what it writes.
 #[derive(Drop)]
 pub(crate) struct Collected {
     pub sources: Sources,
@@ -75,7 +75,7 @@ impl<'a> RustPlace<'a> {
         needed_digests::<H, F>(alloc, paths.as_slice(), files)
     }
 
-    /// What rustc tells of dependencies, with the digests of the sources.
+    /// What rustc reports of dependencies, with the digests of the sources.
     fn dep_info<H: HashState, F: Files, A: RustcAnswers>(
         &self,
         alloc: Global,
@@ -157,7 +157,7 @@ impl<'a> RustPlace<'a> {
         })
     }
 
-    /// All that is told before a request has its key: what rustc tells of dependencies, the sources, the names of what it writes, and
+    /// All that is reported before a request has its key: what rustc reports of dependencies, the sources, the names of what it writes, and
     /// then the other files.
     #[tactic(auto, using(crate::proofs::RunLemmas::once_at_most, crate::proofs::RunLemmas::once_more))]
     pub(crate) fn collect<H: HashState, F: Files, A: RustcAnswers>(

@@ -49,7 +49,7 @@ fn needed_digest<H: HashState, F: Files>(
     ensures steady { OnOk result (F.failed files.new ≡ F.failed files.old) }
     ensures still { HasOwnFault result → F.failed files.new ≡ F.failed files.old }
 {
-    // The copy is made first, so that no want of memory stands for a device that failed.
+    // The copy is made first, so that out of memory isn't reported as an I/O error.
     let path = path.clone()?;
     match Digest::<H>::file(alloc, &path, files) {
         Ok(Some(digest)) => Ok(OsBytes::from_vec(digest.into_bytes())),

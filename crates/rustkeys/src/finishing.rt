@@ -1,4 +1,4 @@
-//! What is made of all that rustc and the files told: the key, its shape, the compile, and the text on dependencies.
+//! What is made of all that rustc and the files reported: the key, its shape, the compile, and the text on dependencies.
 
 ghost use Rattle.std.specs.Prelude.{◌≡◌, ℤ, string_bytes, IfOk, OnOk};
 ghost use Rattle.std.specs.Option.{option_copied, option_to_list};

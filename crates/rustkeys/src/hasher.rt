@@ -64,7 +64,7 @@ impl<'a> RustHasher<'a> {
         self.parsed.color_mode
     }
 
-    /// The crate's name, for printing: U+FFFD stands in it for what isn't UTF-8.
+    /// The crate's name, for printing: U+FFFD replaces what isn't UTF-8.
     pub fn output_pretty(&self, alloc: Global) -> Result<String, AllocError>
         ensures { IfOk result
             (λ name. string_bytes name ≡ utf8_lossy self.now.parsed.now.crate_name) }
@@ -95,13 +95,13 @@ impl<'a> RustHasher<'a> {
         }
     }
 
-    /// The key of this request in that directory, under these variables, on these files: the compile that it stands for, the digest
+    /// The key of this request in that directory, under these variables, on these files: the compile that it represents, the digest
     /// of its record's material as text, its shape, and the text on dependencies for its own targets, where that is asked for.
     ///
     /// Refused, by the first that comes in this order: with `PreprocessFailed` where rustc ends with another status than 0, asked
     /// for dependencies, with `AnswerNotUtf8`, with `NoRule`, with `Read` of a source that isn't there; the same of the names of
     /// outputs; with `Read` of a crate that is named, with `BadDigest` of a static library, with `Read` of the target's file,
-    /// then of the profile. `Read` and `Tool` also say that a device failed.
+    /// then of the profile. `Read` and `Tool` also report an I/O error.
     pub fn generate_hash_key<H: HashState, F: Files, A: RustcAnswers>(
         &self,
         alloc: Global,
@@ -161,7 +161,7 @@ impl<'a> RustHasher<'a> {
         // How often rustc was asked before a fault.
         ensures until { OnErr result
             (AtMostTwice (A.preprocessed answers.old) (A.preprocessed answers.new)) }
-        // Where what it tells of dependencies is at fault, or a source, it isn't asked for names.
+        // Where what it reports of dependencies is at fault, or a source, it isn't asked for names.
         ensures early { (moment : ℤ)
             → let q = (call_of self.now dir.now env.now (F.tree files.old) moment).question in
             let made = dep_info_of (A.meaning answers.old) q in

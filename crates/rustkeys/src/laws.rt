@@ -26,7 +26,7 @@ pub fn rustc_keys_tell_records<H: HashState>()
     bytes_and_shape_tell_parts();
 }
 
-/// Of a request of words whose call has no fault a text on dependencies is told exactly where they emit it.
+/// Of a request of words whose call has no fault a text on dependencies is given exactly where they emit it.
 pub fn dep_info_is_told_where_emitted()
     ensures { (meaning : Meaning) (call : RustCall) → ComesOfWords call.question.asks
         → key_fault_of meaning call ≡ None

@@ -22,7 +22,7 @@ use rustc_texts::fault::TextFault;
 use rustc_texts::variables::{compile_env, hashed_variables};
 use std::alloc::{AllocError, Global};
 
-/// The sources that a text on dependencies names, in order. One that begins with no rule is told as that, whatever memory there is.
+/// The sources that a text on dependencies names, in order. One that begins with no rule is reported as that, whatever memory there is.
 #[tactic(auto, using(crate::proofs::TextLemmas::unruled))]
 pub(crate) fn sources_in(alloc: Global, dir: &OsBytes, text: &str) -> Result<Listed<OsBytes>, Fault>
     ensures sources { IfOk result (λ sources. sources ≡ sources_in dir.now text.now) }
@@ -50,7 +50,7 @@ fn in_order(deps: Listed<EnvDep>) -> Listed<EnvDep>
     Listed::from_vec(deps)
 }
 
-/// The variables that a text on dependencies tells, in order.
+/// The variables that a text on dependencies lists, in order.
 pub(crate) fn env_deps_in(alloc: Global, text: &str) -> Result<Listed<EnvDep>, AllocError>
     ensures { IfOk result (λ deps. deps ≡ env_deps_in text.now) }
 {

@@ -21,7 +21,7 @@ use Rattle.rustc_options.specs.Asks.{Said, asks_in, said_in}
 use Rattle.rustkeys_base.specs.Requests.{IsArgument, IsAsked, wanted}
 use Rattle.rustc_options.specs.declared.parsed.ParsedArguments.{ParsedArguments}
 
--- an option prints its flag and its value's word as it stood
+-- an option prints its flag and its value's word as it was
 printed-parts : (f : Bytes) (value : ArgData) (d : ArgDisposition) → map (part_word word_of) (parts_as f value d) ≡ printed_as f (word_of value) d
 printed-parts f value Separated = refl
 printed-parts f value (CanBeConcatenated d) = refl

@@ -19,14 +19,14 @@ pub exit_by : {A : Type 0} (P Q : Bytes → Type 0) → ((name : Bytes) → P na
 exit_by P Q h (Ok x) fault is c = tt
 exit_by P Q h (Err f) fault is c = subst (CauseOf Q) (sym is) (cause_by P Q h fault c)
 
--- the first, and those behind it
+-- the first, and those after it
 pub first_in : {X : Type 0} (x : X) (xs : List X) → Contains (x ∷ xs) x
 first_in x xs = Contains-append_left (x ∷ []) xs x (Contains-push [] x)
 
 pub later_in : {X : Type 0} (x : X) (xs : List X) (y : X) → Contains xs y → Contains (x ∷ xs) y
 later_in x xs y h = Contains-append_right (x ∷ []) xs y h
 
--- what the first gives, and what those behind it give
+-- what the first gives, and what those after it give
 pub first_gives : {X Y : Type 0} (f : X → List Y) (x : X) (xs : List X) (y : Y) → Contains (f x) y → Contains (flat_map f (x ∷ xs)) y
 first_gives f x xs y h = subst (λ (l : List _). Contains l y) (sym (flat_map-cons f x xs)) (Contains-append_left (f x) (flat_map f xs) y h)
 

@@ -18,7 +18,7 @@ module _ (word : Bytes) where
   from_start : (text : Bytes) → OccursAt text word 0 → starts_with nat_eq text word ≡ true
   from_start text occurs = (bytes_eq-Decides word (take (length word) text)).1 (sym (OccursAt-part text word 0 occurs))
 
-  -- an occurrence behind the first byte is one in the rest
+  -- an occurrence after the first byte is one in the rest
   behind : (b : ℕ) (text : Bytes) (k : ℕ) → OccursAt text word k → OccursAt (b ∷ text) word (suc k)
   behind b text k occurs = record { fits = omega (arith, occurs.fits); reads = λ j l. rw suc-add (occurs.reads j l) }
 

@@ -35,7 +35,7 @@ token_is (behind_dashes w) (arguments.UnknownFlag v) h = absurd h
 token_is (behind_dashes w) (arguments.Flag g t) h = absurd h
 token_is (behind_dashes w) (arguments.WithValue g t e) h = absurd h
 
--- each stands apart from its value
+-- each is separate from its value
 pub apart_is : (item : Item ArgKind) (argument : Argument ArgData) → IsArgument item argument → IsArgument (apart item) (normalized Separated argument)
 apart_is (raw w) (arguments.Raw v) h = h
 apart_is (raw w) (arguments.UnknownFlag v) h = absurd h
@@ -59,14 +59,14 @@ apart_is (behind_dashes w) (arguments.Flag g t) h = absurd h
 apart_is (behind_dashes w) (arguments.WithValue g t e) h = absurd h
 
 module _ (items : List (Item ArgKind)) (item : Item ArgKind) (argument : Argument ArgData) (is : IsArgument item argument) where
-  -- an argument on colours isn't wanted, and any other stands before those that are
+  -- an argument on colours isn't wanted, and any other comes before those that are
   pub wanted-left_out : is_color (token_in argument) ≡ true → wanted (item ∷ items) ≡ wanted items
   wanted-left_out h = let c : is_color (token_of item) ≡ true = ap is_color (sym (token_is item argument is)) ∙ h in rw c refl
 
   pub wanted-kept : is_color (token_in argument) ≡ false → wanted (item ∷ items) ≡ apart item ∷ wanted items
   wanted-kept h = let c : is_color (token_of item) ≡ false = ap is_color (sym (token_is item argument is)) ∙ h in rw c refl
 
--- Arguments that stand for the wanted ones of all items, once those for the items that are left stand behind them.
+-- Arguments that represent the wanted ones of all items, once those for the items that are left come after them.
 abbrev pub Continues : List (Item ArgKind) → List (Argument ArgData) → List (Item ArgKind) → Type 0
 Continues left kept all = (rest : List (Argument ArgData)) → AllZip IsArgument (wanted left) rest → AllZip IsArgument (wanted all) (kept ++ rest)
 

@@ -40,7 +40,7 @@ module _ (dir : Bytes) (files : Tree) (f : Facts) (item : Item ArgKind) (left : 
   pub decision-more : is_misread item ≡ false → decides dir files f (token_of item) ≡ None → decision_at dir files f (before item left) ≡ decision_at dir files (facts_with f (token_of item ∷ [])) left
   decision-more accepted nothing = rw (accepted, nothing) refl
 
--- what is asked for by what is known of all items, and by arguments that stand for those that are wanted
+-- what is asked for by what is known of all items, and by arguments that represent those that are wanted
 pub asked : (dir : Bytes) (files same : Tree) (items : List (Item ArgKind)) (f : Facts) (kept : List (Argument ArgData)) → files ≡ same → f ≡ facts_of (map token_of items) → AllZip IsArgument (wanted items) kept
     → (answer : CompilerArguments ParsedArguments) → IsAskedBy dir files f kept answer → IsAsked dir same items answer
 asked dir files same items f kept e known stand (answers.Ok p) h = (

@@ -1,4 +1,4 @@
--- Words that name no file of words.
+-- Words that name no response file.
 use Rattle.std.proofs.Common.{◌≡◌, ◌||◌, Bool, true, false, List, [], ◌∷◌, refl}
 use Rattle.std.specs.List.{list_any}
 use Rattle.os_files.specs.Bytes.{Bytes}

@@ -17,11 +17,11 @@ use Rattle.rustkeys_base.specs.Requests.{library_paths}
 use Rattle.rustkeys_base.specs.Saying.{Token, by_data, token_of}
 use Rattle.rustkeys_base.specs.declared.facts.Facts.{Facts}
 
--- one of the words names that file of words
+-- one of the words names that response file
 abbrev pub IsNamedIn : Bytes → List Bytes → Bytes → Type 0
 IsNamedIn dir words name = (word : Bytes) × Contains words word × (path_of dir word ≡ Some name)
 
--- the file of the directory that has a target's name, with `.json` behind it
+-- the file of the directory that has a target's name, with `.json` appended
 abbrev pub target_file : Bytes → ArgTarget → Option Bytes
 target_file dir (Name word) = Some (join dir (word ++ codes ".json"))
 target_file dir (Path path) = None
@@ -47,7 +47,7 @@ pub data IsAskedByItems (dir : Bytes) (items : List (Item ArgKind)) (name : Byte
   for_target : IsTargetFile dir items name → IsAskedByItems dir items name
   for_library : Contains (library_places dir (facts_of (map token_of items))) name → IsAskedByItems dir items name
 
--- Words ask for the files of words that they name, and for what their items ask for, read with these files opened.
+-- Words ask for the response files that they name, and for what their items ask for, read with these files opened.
 pub data IsAskedByRustc (dir : Bytes) (tree : Tree) (words : List Bytes) (name : Bytes) : Type 0 where
   by_word : IsNamedIn dir words name → IsAskedByRustc dir tree words name
   by_items : IsAskedByItems dir (request_reading (expanded_by_rustc dir tree words)).items name → IsAskedByRustc dir tree words name

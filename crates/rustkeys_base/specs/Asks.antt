@@ -27,7 +27,7 @@ said_of (flag f k) = record { flag = Some f; words = f ∷ [] }
 said_of (valued f k w d) = record { flag = Some f; words = printed_as f (word_of (data_of k w)) d }
 said_of (behind_dashes w) = record { flag = None; words = w ∷ [] }
 
--- What items ask for that say all that a request needs, from this directory, with these files; externs stand in the order of paths.
+-- What items ask for that say all that a request needs, from this directory, with these files; externs are in the order of paths.
 abbrev pub asks_by : Bytes → Tree → List (Item ArgKind) → Facts → RustAsks
 asks_by dir tree items f = record {
   arguments = map said_of (wanted items);

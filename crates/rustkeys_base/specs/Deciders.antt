@@ -6,7 +6,7 @@ use Rattle.cmdlines_base.specs.Reading.{Item}
 use Rattle.rustc_options.specs.declared.kind.ArgKind.{ArgKind}
 use Rattle.rustkeys_base.specs.Parsing.{decides_behind}
 
--- none of them decides behind those before it
+-- none of them decides after those before it
 abbrev pub NoneDecides : Bytes → Tree → List (Item ArgKind) → Type 0
 NoneDecides dir files items =
     (earlier : List (Item ArgKind)) (item : Item ArgKind) (later : List (Item ArgKind))

@@ -9,11 +9,11 @@ use Rattle.os_files.specs.Tree.{Tree, contents_at}
 use Rattle.response_files.specs.Styles.{behind}
 use Rattle.rustkeys_base.specs.Lines.{rustc_lines}
 
--- whether the word names a file of words
+-- whether the word names a response file
 abbrev pub names_file : Bytes → Bool
 names_file word = starts_with nat_eq word (codes "@")
 
--- where the file of words lies that a word names, in that directory
+-- the path of the response file that a word names, in that directory
 abbrev pub path_of : Bytes → Bytes → Option Bytes
 path_of dir word = option_map (join dir) (behind (codes "@") word)
 

@@ -1,4 +1,4 @@
--- The words of the text of one of rustc's files of words.
+-- The words of the text of one of rustc's response files.
 use Rattle.std.specs.Prelude.{◌==◌, not, List, filter, length, map}
 use Rattle.std.specs.List.{slice_split}
 use Rattle.std.specs.Str.{trim}

@@ -12,7 +12,7 @@ use Rattle.serde_json.specs.Written.{has_float}
 abbrev pub extension : Bytes
 extension = codes ".rmeta"
 
--- whether the word stands in the text, at its start or further on
+-- whether the word occurs in the text, at its start or further on
 abbrev pub holds : Bytes → Bytes → Bool
 holds word [] = starts_with nat_eq [] word
 holds word (b ∷ text) = starts_with nat_eq (b ∷ text) word || holds word text
@@ -25,6 +25,6 @@ artifact_of value = option_and_then as_str (get (codes "artifact") value)
 abbrev pub tells_of_metadata : Data → Bool
 tells_of_metadata value = option_map_or (λ artifact. ends_with nat_eq artifact extension) (artifact_of value) false && not (has_float value)
 
--- a line that holds the extension as it stands, and is JSON of such an object
+-- a line that contains the extension as it is, and is JSON of such an object
 abbrev pub is_rmeta_notification : Bytes → Bool
 is_rmeta_notification line = holds extension line && option_map_or tells_of_metadata (read line) false

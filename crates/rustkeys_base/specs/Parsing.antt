@@ -54,7 +54,7 @@ abbrev pub refused : Bytes → Decision
 refused reason = cannot_cache reason None
 
 -- Each item by itself, after what is known of those before it.
--- a second input: both are told, as text
+-- a second input: both are reported, as text
 abbrev pub second_input : Bytes → Bytes → Decision
 second_input previous next = cannot_cache (codes "multiple input files") (Some (codes "prev = " ++ (utf8_lossy previous ++ (codes ", next = " ++ utf8_lossy next))))
 
@@ -70,7 +70,7 @@ codegen_decides opt value =
     else if bytes_eq opt (codes "extra-filename") && not (is_some value) then Some (refused (codes "extra-filename"))
     else None
 
--- A target's name is unsure where a regular file of the directory has it, with `.json` behind it.
+-- A target's name is unsure where a regular file of the directory has it, with `.json` appended.
 abbrev pub is_unsure : Bytes → Tree → ArgTarget → Bool
 is_unsure dir files (targets.Name word) = is_file_at files (join dir (word ++ codes ".json"))
 is_unsure dir files (targets.Path path) = false
@@ -126,7 +126,7 @@ not_parsed = refused (codes "argument parse")
 abbrev pub is_misread : Item ArgKind → Bool
 is_misread item = is_some (refusal_of (values_by IsFlagValue IsWordValue refusal) item)
 
--- What an item decides behind those that stand before it: one whose value is refused does.
+-- What an item decides after those that come before it: one whose value is refused does.
 abbrev pub decides_behind : Bytes → Tree → List (Item ArgKind) → Item ArgKind → Option Decision
 decides_behind dir files earlier item =
     let so_far = facts_of (map token_of earlier) in

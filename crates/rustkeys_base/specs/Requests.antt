@@ -39,7 +39,7 @@ is_color_value _ = false
 abbrev pub is_color : Token → Bool
 is_color token = if_data is_color_value token
 
--- all items but those on colours, each that may stand either way apart from its value
+-- all items but those on colours, each that may be joined or separate made separate from its value
 abbrev pub apart : Item ArgKind → Item ArgKind
 apart (valued f k w d) = valued f k w (normalized_disposition Separated d)
 apart item = item

@@ -51,7 +51,7 @@ pub(crate) fn refused(reason: &'static str) -> Refusal
     Refusal::CannotCache(reason, None)
 }
 
-/// A second input: both are told.
+/// A second input: both are reported.
 fn second_input(alloc: Global, previous: &OsBytes, next: &OsBytes) -> Result<Refusal, AllocError>
     ensures { IfOk result (λ why. decision_of_refusal why ≡ second_input previous.now next.now) }
 {
@@ -85,7 +85,7 @@ fn codegen(option: &ArgOption) -> Option<Refusal>
     }
 }
 
-/// Whether a regular file of the directory has the target's name, with `.json` behind it: rustc may take either.
+/// Whether a regular file of the directory has the target's name, with `.json` appended: rustc may take either.
 fn is_unsure<F: Files>(
     alloc: Global,
     dir: &OsBytes,

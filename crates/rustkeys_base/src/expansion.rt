@@ -23,14 +23,14 @@ use response_files::fault::ParseFault;
 use std::alloc::{AllocError, Global};
 use std::vec::IntoIter;
 
-/// What stands behind the `@` that a word begins with.
+/// What comes after the `@` that a word begins with.
 fn behind_at(word: &[u8]) -> Option<&[u8]>
     ensures { option_copied result ≡ behind (codes "@") word.now }
 {
     word.strip_prefix(b"@")
 }
 
-/// Where the file of words lies that a word names, in that directory.
+/// The path of the response file that a word names, in that directory.
 fn path_of(alloc: Global, dir: &OsBytes, word: &OsBytes) -> Result<Option<OsBytes>, AllocError>
     ensures { IfOk result (λ path. path ≡ path_of dir.now word.now) }
 {
@@ -77,7 +77,7 @@ fn opened_by<F: Files>(
 }
 
 /// What rustc's words become once the files that they name are opened, from that directory. A word whose file isn't there, or isn't
-/// UTF-8, stays, and so does what comes from a file; `Read` names a file on which the device failed.
+/// UTF-8, stays, and so does what comes from a file; `Read` names a file on which there was an I/O error.
 pub fn expand_rustc<F: Files>(
     alloc: Global,
     dir: &OsBytes,
@@ -102,7 +102,7 @@ pub fn expand_rustc<F: Files>(
     Ok(Listed::from_vec(out))
 }
 
-/// The words of a command line for rustc, in whose place the words of the files that they name stand; or the fault that kept them from
+/// The words of a command line for rustc, with those that name files replaced by the words of these files; or the fault that kept them from
 /// being read.
 #[derive(Drop)]
 pub struct ExpandResponseFile {
@@ -111,7 +111,7 @@ pub struct ExpandResponseFile {
 }
 
 impl ExpandResponseFile {
-    /// These words, with the files of words that they name opened from that directory.
+    /// These words, with the response files that they name opened from that directory.
     pub fn new<F: Files>(
         alloc: Global,
         dir: &OsBytes,
@@ -125,7 +125,7 @@ impl ExpandResponseFile {
             (expanded_by_rustc dir.now (F.tree files.old) words.now)
             (IsNamedIn dir.now words.now) }
         ensures tree { F.tree files.new ≡ F.tree files.old }
-        // No device failed where words are all that comes, nor where want of memory is.
+        // There was no I/O error where words are all that comes, nor when out of memory.
         ensures steady { (given : List Bytes) → items_left result ≡ map Ok given
             → F.failed files.new ≡ F.failed files.old }
         ensures memory { items_left result ≡ Err ParseFault.Memory ∷ []
@@ -159,7 +159,7 @@ impl Iterator for ExpandResponseFile {
     }
 }
 
-/// Each file of words is opened once, in the place of its own word: words of which none names one stay as they are, and words in a row
+/// Each response file is opened once, in the place of its own word: words of which none names one stay as they are, and words in a row
 /// become in a row what they become apart. A call of it does nothing.
 pub fn files_of_words_open_once()
     ensures others_stay { (dir : Bytes) (tree : Tree) (words : List Bytes)

@@ -65,7 +65,7 @@ fn exists<F: Files>(alloc: Global, path: &OsBytes, files: &mut F) -> Result<bool
     ensures steady { OnOk result (F.failed files.new ≡ F.failed files.old) }
     ensures memory { IsErrOf result ParseFault.Memory → F.failed files.new ≡ F.failed files.old }
 {
-    // The copy is made first, so that no want of memory stands for a device that failed.
+    // The copy is made first, so that out of memory is never returned in place of an I/O error.
     let path = path.clone()?;
     match files.exists(alloc, &path) {
         Ok(is_there) => Ok(is_there),

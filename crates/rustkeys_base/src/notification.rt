@@ -32,7 +32,7 @@ fn read(alloc: Global, text: &str) -> Result<Option<Value>, AllocError>
     }
 }
 
-/// Whether a number stands in the value that isn't whole.
+/// Whether the value contains a number that isn't whole.
 #[cycle(has_float)]
 fn has_float(value: &Value) -> bool
     ensures { result ≡ has_float (view value.now) }
@@ -79,7 +79,7 @@ fn tells_of_metadata(value: &Value) -> bool
     }
 }
 
-/// Whether a line that rustc writes under `--json=artifacts` tells of a file of metadata.
+/// Whether a line that rustc writes under `--json=artifacts` reports a file of metadata.
 pub fn is_rmeta_artifact_notification(alloc: Global, line: &str) -> Result<bool, AllocError>
     ensures answer { IfOk result (λ answer. answer ≡ is_rmeta_notification line.now) }
     ensures quick { holds extension line.now ≡ false → result ≡ Ok false }

@@ -54,7 +54,7 @@ fn not_cut(error: ArgParseError) -> Result<Refusal, AllocError>
     }
 }
 
-/// Adds an argument, apart from its value where it may stand either way; one on colours is left out.
+/// Adds an argument, made separate from its value where it may be joined or separate; one on colours is left out.
 fn keep(
     arguments: &mut Listed<Argument<ArgData>>,
     argument: Argument<ArgData>,
@@ -164,7 +164,7 @@ fn gather<F: Files>(
     Ok(None)
 }
 
-/// What words come to, with no file of words opened.
+/// What words come to, with no response file opened.
 fn parse<F: Files>(
     alloc: Global,
     words: &[OsBytes],
@@ -193,8 +193,8 @@ fn parse<F: Files>(
     }
 }
 
-/// What these words come to as a request to rustc, with the files of words that they name opened from that directory. `Read` names
-/// a file on which the device failed.
+/// What these words come to as a request to rustc, with the response files that they name opened from that directory. `Read` names
+/// a file on which there was an I/O error.
 pub fn parse_arguments<F: Files>(
     alloc: Global,
     words: &[OsBytes],

@@ -1,4 +1,4 @@
-//! The words of the text of one of rustc's files of words.
+//! The words of the text of one of rustc's response files.
 
 ghost use Rattle.std.specs.Prelude.{◌≡◌, IfOk};
 ghost use Rattle.rustkeys_base.specs.Lines.{rustc_lines};

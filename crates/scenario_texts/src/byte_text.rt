@@ -1,4 +1,4 @@
-//! Byte strings in JSON: a text stands for its UTF-8 bytes, and `{"hex": ".."}` for any bytes.
+//! Byte strings in JSON: a text represents its UTF-8 bytes, and `{"hex": ".."}` any bytes.
 
 use crate::members::{into_list, into_text};
 use crate::scenario::ScenarioFault;
@@ -17,7 +17,7 @@ impl From<FromHexError> for ScenarioFault {
     }
 }
 
-/// The bytes that a text or an object with `hex` stands for. Further members of the object are passed over.
+/// The bytes that a text or an object with `hex` represents. Further members of the object are passed over.
 pub(crate) fn read_byte_text(alloc: Global, value: Value) -> Result<OsBytes, ScenarioFault> {
     match value {
         Value::String(text) => Ok(OsBytes::from_vec(text.into_bytes())),

@@ -1,4 +1,4 @@
-//! The compiler of a request, from the members that tell of it.
+//! The compiler of a request, from the members that describe it.
 
 use crate::byte_text::{read_byte_text, read_texts};
 use crate::members::{into_text, read_text, read_truth};
@@ -36,7 +36,7 @@ impl From<RustFault> for ScenarioFault {
     }
 }
 
-/// What a request's members tell of its C compiler beside the kind. Its version isn't known.
+/// What a request's members say of its C compiler beside the kind. Its version isn't known.
 #[derive(Drop)]
 struct Told {
     plusplus: bool,
@@ -46,14 +46,14 @@ struct Told {
 }
 
 impl Told {
-    /// The compiler of a kind of which this is told.
+    /// The compiler of a kind of which this is given.
     fn found<K: HasKind>(self, alloc: Global) -> Result<CCompiler<FoundCompiler<K>>, AllocError> {
         let compiler = FoundCompiler::new(alloc, self.plusplus, None, self.assembler)?;
         Ok(CCompiler::with_digest(compiler, self.executable, self.digest))
     }
 }
 
-/// The compiler of that name, as a request's members tell it. The files are the request's own, among which are those of a toolchain.
+/// The compiler of that name, as a request's members give it. The files are the request's own, among which are those of a toolchain.
 pub(crate) fn read_compiler(
     alloc: Global,
     name: &str,

@@ -1,4 +1,4 @@
-//! What rustc tells of a request's crate, from the members that tell of it.
+//! What rustc reports of a request's crate, from the members that give it.
 
 use crate::byte_text::read_byte_text;
 use crate::compilers::RUSTC;
@@ -10,7 +10,7 @@ use serde_json::{Map, Value};
 use std::alloc::Global;
 use std::collections::BTreeMap;
 
-/// What rustc tells, where the compiler of that name is rustc: of a C compiler none of these members is read.
+/// What rustc reports, where the compiler of that name is rustc: of a C compiler none of these members is read.
 pub(crate) fn read_crate(
     alloc: Global,
     name: &str,
@@ -26,7 +26,7 @@ pub(crate) fn read_crate(
     })
 }
 
-/// A text that is told, which is empty where the member isn't there.
+/// A text that is given, which is empty where the member isn't there.
 fn read_told(alloc: Global, member: Option<Value>) -> Result<OsBytes, ScenarioFault> {
     match member {
         Some(text) => read_byte_text(alloc, text),

@@ -1,4 +1,4 @@
-//! Scenarios as texts: a JSON text is read into the requests that it tells, each with its own files. Nothing is served here, so that this
+//! Scenarios as texts: a JSON text is read into the requests that it lists, each with its own files. Nothing is served here, so that this
 //! needs nothing of the session.
 #![tactic(auto)]
 

@@ -3,7 +3,7 @@
 //! A scenario is an object with the member `requests`, the list of the requests, and perhaps these:
 //!
 //! - `basedirs`: a list of byte texts, else empty: the folders that don't count. Each is absolute and not only slashes;
-//! - `zone`: a text, the rule of POSIX for the zone in which days are told, else `UTC0`;
+//! - `zone`: a text, the rule of POSIX for the zone in which days are given, else `UTC0`;
 //! - `direct`: a truth value, whether include records are kept, else false;
 //! - `capacity`: a whole number of 64 bits without a sign, how many objects are kept at most, else 0, by which all are;
 //! - `max_kept`: a whole number of 64 bits without a sign, of how many bytes the outputs of a request may be together to be kept, else none,
@@ -13,7 +13,7 @@
 //!
 //! - `compiler`: the text `gcc`, `clang`, `diab`, `msvc`, `taskingvx` or `rustc`;
 //! - `executable`: a byte text, else the compiler's name;
-//! - `words`: the byte texts behind the compiler's name;
+//! - `words`: the byte texts after the compiler's name;
 //! - `dir`: a byte text, else `/w`;
 //! - `env`: a list of pairs of byte texts, else none;
 //! - `moment`: a whole number of 64 bits with a sign, else 1700000000;
@@ -22,9 +22,9 @@
 //!
 //! Of a C compiler it has also these:
 //!
-//! - `digest`: a text that stands for the executable in keys, else `d`;
+//! - `digest`: a text that represents the executable in keys, else `d`;
 //! - `plusplus`: a truth value, whether the compiler compiles C++ by itself, else false;
-//! - `assembler`: a text that stands for the compiler's assembler in keys, else none.
+//! - `assembler`: a text that represents the compiler's assembler in keys, else none.
 //!
 //! And of rustc these:
 //!
@@ -32,8 +32,8 @@
 //! - `sysroot`: a text, its folder of libraries, else `/s`;
 //! - `libs`: a list of texts, the paths of its toolchain's libraries, else empty;
 //! - `archive`: a text, the path of its toolchain's archive, else none. Libraries and archive are among the request's files;
-//! - `dep_info`: a byte text, what it tells of what the crate depends on, else empty;
-//! - `file_names`: a byte text, the names that it tells of what it writes, else empty;
+//! - `dep_info`: a byte text, what it reports of what the crate depends on, else empty;
+//! - `file_names`: a byte text, the names that it reports of what it writes, else empty;
 //! - `archives`: an object that gives each static library's path a text, its digest, else empty.
 //!
 //! A file is a text, which is its contents, or an object with either `text`, a text, or `hex`, as in a byte text, and perhaps `mtime`, a whole number of seconds of 64 bits with a sign, else 0. All other members are passed over unread, and of a repeated member the last one counts.
@@ -79,14 +79,14 @@ pub struct Scenario {
     pub calls: Vec<ScenarioCall>,
 }
 
-/// A request, the files that it finds, and what rustc tells of its crate.
+/// A request, the files that it finds, and what rustc reports of its crate.
 #[derive(Drop)]
 pub struct ScenarioCall {
     /// The request.
     pub request: Request,
     /// The files that it finds, and no others.
     pub files: MemoryFiles,
-    /// What rustc tells of its crate. Empty for a C compiler.
+    /// What rustc reports of its crate. Empty for a C compiler.
     pub told: CrateTexts,
     /// Whether all that both stores hold is dropped before the request.
     pub forget: bool,
@@ -98,7 +98,7 @@ pub enum ScenarioFault {
     /// The bytes are no scenario.
     #[error("scenario cannot be read")]
     Unreadable,
-    /// A growth was refused.
+    /// Out of memory.
     #[error("memory")]
     Memory,
 }
@@ -187,8 +187,8 @@ fn read_calls(alloc: Global, requests: Value) -> Result<Vec<ScenarioCall>, Scena
     Ok(calls)
 }
 
-/// The request to the compiler of that name that these members tell. Its compiler is read last: it would be dropped at each failure
-/// behind it.
+/// The request to the compiler of that name that these members give. Its compiler is read last: it would be dropped at each failure
+/// after it.
 fn read_request(
     alloc: Global,
     name: &str,

@@ -27,7 +27,7 @@ fn wanted(alloc: Global, outputs: &[Output]) -> Result<Wanted, AllocError> {
     Ok(Listed::from_vec(wanted))
 }
 
-/// Puts a remark behind a line. A line end that it holds is shown as U+FFFD, so that the line stays one.
+/// Puts a remark at the end of a line. A line end that it holds is shown as U+FFFD, so that the line stays one.
 fn push_behind(line: &mut String, remark: &str) -> Result<(), AllocError> {
     line.push_str(" #")?;
     let mut mark = ' ';
@@ -39,7 +39,7 @@ fn push_behind(line: &mut String, remark: &str) -> Result<(), AllocError> {
     Ok(())
 }
 
-/// Puts behind a line how a request differs from the latest earlier one with the same outputs, or that there was none.
+/// Puts at the end of a line how a request differs from the latest earlier one with the same outputs, or that there was none.
 fn push_reason(
     alloc: Global,
     one: &Fingerprint,
@@ -63,7 +63,7 @@ impl Explainer {
         }
     }
 
-    /// Puts behind a line what is to be said of this answer to a request of that fingerprint, where anything is: of outputs that were
+    /// Puts at the end of a line what is to be said of this answer to a request of that fingerprint, if anything: of outputs that were
     /// compiled, how the request differs from the latest earlier one with the same outputs, or that there was none. It is the latest
     /// one from now on.
     pub(crate) fn push_remark(
@@ -82,7 +82,7 @@ impl Explainer {
         }
     }
 
-    /// Puts what is to be said behind a line, and gives the outputs that were answered, if any were.
+    /// Puts what is to be said at the end of a line, and gives the outputs that were answered, if any were.
     fn remark(
         &self,
         alloc: Global,

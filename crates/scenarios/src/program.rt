@@ -44,7 +44,7 @@ pub enum RunFault {
     /// The writer failed.
     #[error("sccache-wrap: output cannot be written")]
     Output,
-    /// A growth was refused while no request was served.
+    /// Out of memory while no request was served.
     #[error("sccache-wrap: memory")]
     Memory,
 }
@@ -84,7 +84,7 @@ impl From<ScenarioFault> for RunFault {
 
 /// Reads a scenario from the reader to its end, serves the requests in one session by one tool, and writes a line for each and then how often a compiler ran.
 ///
-/// `args` are the words behind the program's name. Nothing is written before the whole scenario is read.
+/// `args` are the arguments after the program's name. Nothing is written before the whole scenario is read.
 pub fn run<R: Read, W: Write>(
     alloc: Global,
     args: &[String],
@@ -101,7 +101,7 @@ pub fn run<R: Read, W: Write>(
     run_with(alloc, None, args, reader, writer)
 }
 
-/// The same, and behind the line of each request whose outputs were compiled it says in which part, and where, that one differs from the
+/// The same, and at the end of the line of each request whose outputs were compiled it says in which part, and where, it differs from the
 /// latest earlier request with the same outputs: `2 fresh obj:22 # word 1: -DA=2, earlier -DA=1`.
 pub fn run_explained<R: Read, W: Write>(
     alloc: Global,
@@ -257,7 +257,7 @@ fn whole_line(
     Ok(line)
 }
 
-/// What a call is answered by the tool, whose rustc tells what the call says; and before it the call's fingerprint, where that is asked
+/// What a call is answered by the tool, whose rustc reports what the call says; and before it the call's fingerprint, where that is asked
 /// for and there is one. Before both all that the stores hold is dropped where the call says so.
 fn answered<O: Store<StoreKey, Pairs> + Drop, T: RetoldTool>(
     call: ScenarioCall,
@@ -304,7 +304,7 @@ fn write_line<W: Write>(writer: &mut W, line: &String) -> Result<(), RunFault>
         .map_err(|error| fault_of(&error, RunFault::Output))
 }
 
-/// `Memory` where that is what the device lacked, and the other fault where it is anything else.
+/// `Memory` where the I/O error was out of memory, and the other fault where it is anything else.
 fn fault_of(error: &io::Error, other: RunFault) -> RunFault
     ensures { (result ≡ other) ⊎ (result ≡ RunFault.Memory) }
 {

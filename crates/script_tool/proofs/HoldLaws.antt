@@ -13,7 +13,7 @@ or_true true h = refl
 or_true false h = h
 
 module _ (word : Bytes) where
-  -- what begins a text stands at its start
+  -- what begins a text is at its start
   begins : (text : Bytes) → starts_with nat_eq text word ≡ true → OccursAt text word 0
   begins text h =
       let same = (bytes_eq-Decides word (take (length word) text)).0 h in

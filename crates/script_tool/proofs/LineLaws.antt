@@ -14,7 +14,7 @@ bytes_eq-swap [] (y ∷ ys) = refl
 bytes_eq-swap (x ∷ xs) [] = refl
 bytes_eq-swap (x ∷ xs) (y ∷ ys) = grind (arith, bytes_eq-swap xs ys)
 
--- what `strip_suffix` gives is what stands before the ending
+-- what `strip_suffix` gives is what comes before the ending
 pub ahead_of_is : (ending text : Bytes) (r : Option (Bor Bytes))
     → MatchOption r (bytes_eq (drop (length text - length ending) text) ending ≡ false) (λ x. (bytes_eq (drop (length text - length ending) text) ending ≡ true) × (x.now ≡ take (length text - length ending) text) × (length x.now + length ending ≡ length text))
     → option_copied r ≡ ahead_of ending text
@@ -28,7 +28,7 @@ not_true b h = by b refl
     by true q = absurd (h q)
     by false q = q
 
--- no line end stands behind the first byte
+-- there is no line end after the first byte
 no_later : (b : ℕ) (text : Bytes) (k : ℕ) → Nowhere (Passes (is_byte 10) (b ∷ text)) 0 (suc k) → Nowhere (Passes (is_byte 10) text) 0 k
 no_later b text k none i low high here = none (suc i) (omega arith) (omega arith) here
 
@@ -49,12 +49,12 @@ lines-only b [] none = rw (not_first b [] 0 none) refl
 lines-only b (c ∷ text) none =
     rw (not_first b (c ∷ text) (suc (length text)) none, lines-only c text (no_later b (c ∷ text) (suc (length text)) none)) refl
 
--- where the first line ends: behind the first line end, or with the text
+-- where the first line ends: after the first line end, or with the text
 abbrev pub line_len : Bytes → Option ℕ → ℕ
 line_len text None = length text
 line_len text (Some place) = place + 1
 
--- the text is its first line and what stands behind that
+-- the text is its first line and what comes after that
 pub first_line : (text : Bytes) (place : Option ℕ) → IsFirstByte (is_byte 10) text place → 0 < length text → (end : ℕ) → end ≡ line_len text place → (line rest : Bytes) → line ≡ take end text → rest ≡ drop end text → (lines text ≡ line ∷ lines rest) × (length rest < length text)
 first_line [] place first some end at line rest front back = absurd (omega arith)
 first_line (b ∷ text) None first some end at line rest front back =

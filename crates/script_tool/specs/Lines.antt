@@ -10,7 +10,7 @@ abbrev pub lines : Bytes → List Bytes
 lines [] = []
 lines (b ∷ text) = if b == byte "\n" then (b ∷ []) ∷ lines text else onto_first b (lines text)
 
--- what stands before the ending, where the text ends with it
+-- what comes before the ending, where the text ends with it
 abbrev pub ahead_of : Bytes → Bytes → Option Bytes
 ahead_of ending text = if ends_with nat_eq text ending then Some (take (length text - length ending) text) else None
 
@@ -22,6 +22,6 @@ without_end line = unwrap_or (ahead_of (codes "\n") line) line
 abbrev pub with_end : Bytes → Bytes
 with_end text = if ends_with nat_eq text (codes "\n") then text else text ++ codes "\n"
 
--- the NAME of a line `#include "NAME"`: whatever stands between its first quote and the quote that ends it
+-- the NAME of a line `#include "NAME"`: whatever is between its first quote and the quote that ends it
 abbrev pub included : Bytes → Option Bytes
 included line = option_and_then (ahead_of (codes "\"")) (behind (codes "#include \"") (without_end line))

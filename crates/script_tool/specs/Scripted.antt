@@ -28,7 +28,7 @@ only [] = None
 only (word ∷ []) = Some word
 only (word ∷ other ∷ others) = None
 
--- a loose item, also behind double dashes
+-- a loose item, also after double dashes
 abbrev pub input_in : Item ArgKind → List Bytes
 input_in (raw w) = w ∷ []
 input_in (behind_dashes w) = w ∷ []
@@ -51,21 +51,21 @@ source_in reading = record { input = one_in input_in reading; language = one_in 
 abbrev pub is_preprocessed : Bytes → Bool
 is_preprocessed name = option_map_or (λ language. not (needs_preprocessing language)) (language_named name) false
 
--- a compile takes an input of such a language as it stands
+-- a compile takes an input of such a language as it is
 abbrev pub takes_as_it_stands : Step → Option Bytes → Bool
 takes_as_it_stands Compile None = false
 takes_as_it_stands Compile (Some name) = is_preprocessed name
 takes_as_it_stands _ language = false
 
--- the line that says which file the lines behind it are from
+-- the line that says which file the lines after it are from
 abbrev pub marker : Bytes → Bytes
 marker path = codes "# 1 \"" ++ path ++ codes "\"\n"
 
--- what stands in the place of a line that includes a file: a marker of the file, its bytes with a line end, and a marker of the path that the line is from
+-- what replaces a line that includes a file: a marker of the file, its bytes with a line end, and a marker of the path that the line is from
 abbrev pub inclusion : Bytes → Bytes → Bytes → Bytes
 inclusion path file contents = marker file ++ with_end contents ++ marker path
 
--- what stands in the place of a line: the line itself, or the file that it includes, where that is a regular file
+-- what replaces a line: the line itself, or the file that it includes, where that is a regular file
 abbrev pub replaced : Tree → Bytes → Bytes → Bytes → Option Bytes
 replaced files dir path line =
     option_map_or (λ name. let file = join dir name in option_map (inclusion path file) (contents_at files file)) (included line) (Some line)
@@ -75,7 +75,7 @@ abbrev pub text_at : Tree → Bytes → Bytes → Option Bytes
 text_at files dir path =
     option_and_then (λ contents. whole (Some (marker path) ∷ map (replaced files dir path) (lines contents))) (contents_at files path)
 
--- the text of an input: the preprocessed one, or its bytes as they stand
+-- the text of an input: the preprocessed one, or its bytes as they are
 abbrev pub text_by : Bool → Scene → Bytes → Option Bytes
 text_by as_it_stands scene input = if as_it_stands then contents_at scene.files (join scene.dir input) else text_at scene.files scene.dir (join scene.dir input)
 
@@ -98,7 +98,7 @@ compiled (Some text) outputs =
 abbrev pub without : List Bytes → Option Bytes → Option Bytes
 without folders text = option_map (stripped_of text_places folders) text
 
--- One function of the step, what is asked, the outputs asked for and the scene, for these folders and what rustc is to tell: the preprocessor prints the text, and a C compiler makes outputs of what is left of it without the folders. rustc tells its texts, and makes outputs of the sources that it tells. To all else it answers with status 1.
+-- One function of the step, what is asked, the outputs asked for and the scene, for these folders and rustc's set texts: the preprocessor prints the text, and a C compiler makes outputs of what is left of it without the folders. rustc gives its texts, and makes outputs of the sources that it gives. To all else it answers with status 1.
 abbrev pub scripted : List Bytes → CrateTexts → Meaning
 scripted folders told Preprocess (options reading) outputs scene = printed (text_of Preprocess scene (source_in reading))
 scripted folders told Compile (options reading) outputs scene = compiled (without folders (text_of Compile scene (source_in reading))) outputs

@@ -15,7 +15,7 @@ use Rattle.ckeys_records.specs.declared.output_name.OutputName.{OutputName}
 use Rattle.script_tool.specs.Texts.{holds, whole}
 use Rattle.script_tool.specs.declared.crate_texts.CrateTexts.{CrateTexts}
 
--- the digest of the static library of this path, which is the empty text where none is told
+-- the digest of the static library of this path, which is the empty text where none is given
 abbrev pub digest_in : CrateTexts → Bytes → Bytes
 digest_in told path = unwrap_or (get (slice_cmp nat_cmp) told.archives path) []
 

@@ -9,7 +9,7 @@ abbrev pub whole : List (Option Bytes) → Option Bytes
 whole [] = Some []
 whole (part ∷ parts) = option_and_then (λ first. option_map (λ rest. first ++ rest) (whole parts)) part
 
--- whether the word stands in the text, at its start or further on
+-- whether the word occurs in the text, at its start or further on
 abbrev pub holds : Bytes → Bytes → Bool
 holds word [] = starts_with nat_eq [] word
 holds word (b ∷ text) = starts_with nat_eq (b ∷ text) word || holds word text

@@ -1,4 +1,4 @@
-//! What the scripted rustc tells of a crate.
+//! What the scripted rustc reports of a crate.
 
 ghost use Rattle.std.specs.Prelude.{◌≡◌, [], IfOk};
 ghost use Rattle.script_tool.specs.ScriptedCrates.{digest_in};
@@ -7,7 +7,7 @@ use os_files::os_bytes::OsBytes;
 use std::alloc::{AllocError, Global};
 use std::collections::BTreeMap;
 
-/// What rustc tells, whatever its command.
+/// What rustc reports, whatever its command.
 #[derive(Drop)]
 pub struct CrateTexts {
     /// What the crate depends on.
@@ -32,7 +32,7 @@ impl CrateTexts {
         }
     }
 
-    /// The digest of the static library of this path: the empty text where none is told.
+    /// The digest of the static library of this path: the empty text where none is given.
     pub(crate) fn digest_of(&self, alloc: Global, path: &OsBytes) -> Result<OsBytes, AllocError>
         ensures { IfOk result (λ digest. digest ≡ digest_in self.now path.now) }
     {

@@ -61,7 +61,7 @@ fn joined_contents<F: Files>(
     Ok(Some(OsBytes::from_vec(text)))
 }
 
-/// The text of the crate that a command compiles, by what rustc tells of what it depends on.
+/// The text of the crate that a command compiles, by what rustc reports of what it depends on.
 pub fn crate_text<F: Files>(
     alloc: Global,
     dep_info: &OsBytes,

@@ -8,7 +8,7 @@ use cmdlines_base::table::behind;
 use memchr::memchr;
 use std::alloc::AllocError;
 
-/// The first line, with its line end, and what stands behind it.
+/// The first line, with its line end, and what comes after it.
 pub fn split_line(text: &[u8]) -> Option<(&[u8], &[u8])>
     ensures { MatchOption result (lines text.now ≡ [])
         (λ found. (lines text.now ≡ found.0.now ∷ lines found.1.now)
@@ -24,7 +24,7 @@ pub fn split_line(text: &[u8]) -> Option<(&[u8], &[u8])>
     Some(text.split_at(end))
 }
 
-/// What stands before the ending, where the text ends with it.
+/// What comes before the ending, where the text ends with it.
 fn ahead_of<'a>(ending: &[u8], text: &'a [u8]) -> Option<&'a [u8]>
     ensures { option_copied result ≡ ahead_of ending.now text.now }
 {

@@ -1,5 +1,5 @@
 //! A tool with the behaviour of a short script: its preprocessor prints a text, and its C compiler makes outputs of that text without
-//! the configured folders. Its rustc tells texts, and makes outputs of the sources that they name.
+//! the configured folders. Its rustc reports texts, and makes outputs of the sources that they name.
 
 ghost use Rattle.std.specs.Prelude.{◌≡◌, ℤ, None, Some, IfOk, IsErrOf};
 ghost use Rattle.os_files.specs.Bytes.{ticked};
@@ -23,12 +23,12 @@ use rustkeys::answers::RustcAnswers;
 use std::alloc::Global;
 use wrap_base::tool::{Compiled, Tool};
 
-/// A tool that counts how often its steps ran and a device failed in them.
+/// A tool that counts how often its steps ran and how often an I/O error occurred in them.
 #[derive(Drop)]
 pub struct ScriptTool {
     /// Whose folders its outputs don't show.
     pub config: KeyConfig,
-    /// What rustc tells.
+    /// What rustc reports.
     pub told: CrateTexts,
     /// By which its commands to C compilers are read.
     trees: Trees,
@@ -38,12 +38,12 @@ pub struct ScriptTool {
     archived: u64,
     pub compiled: u64,
     pub failed: u64,
-    /// The step in which a device failed last.
+    /// The step in which the last I/O error occurred.
     pub failed_step: Option<Step>,
 }
 
 impl ScriptTool {
-    /// A tool that has not run yet, whose C compiler strips these folders and whose rustc tells this.
+    /// A tool that has not run yet, whose C compiler strips these folders and whose rustc reports this.
     pub fn new(config: KeyConfig, told: CrateTexts, trees: Trees, statuses: Statuses) -> ScriptTool
         ensures config { result.config ≡ config }
         ensures told { result.told ≡ told }
@@ -65,7 +65,7 @@ impl ScriptTool {
         }
     }
 
-    /// What a step's failure is. A device that failed is counted, and the step is remembered.
+    /// What a step's failure is. An I/O error is counted, and the step is remembered.
     fn failure(&mut self, step: Step, fault: FileFail) -> ToolFail
         ensures device { result ≡ ToolFail.Device → fault ≡ FileFail.Device }
         ensures counted { result ≡ ToolFail.Device
@@ -87,7 +87,7 @@ impl ScriptTool {
         }
     }
 
-    /// The text that a step goes over. A device that fails is counted.
+    /// The text that a step goes over. An I/O error is counted.
     fn text<F: Files>(
         &mut self,
         alloc: Global,
@@ -119,9 +119,9 @@ impl ScriptTool {
     }
 }
 
-/// A tool whose rustc can be told other texts.
+/// A tool whose rustc can be given other texts.
 pub trait RetoldTool: Tool {
-    /// From now on its rustc tells these.
+    /// From now on its rustc reports these.
     fn tell(&mut self, told: CrateTexts);
 }
 

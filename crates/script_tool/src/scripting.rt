@@ -26,7 +26,7 @@ use os_files::path::join;
 use std::alloc::{AllocError, Global};
 use wrap_base::tool::Compiled;
 
-/// Adds the line that says which file the lines behind it are from.
+/// Adds the line that says which file the lines after it are from.
 fn push_marker(path: &[u8], text: &mut Vec<u8>) -> Result<(), AllocError>
     ensures { OnOk result (text.new.items ≡ text.old.items ++ marker path.now) }
 {
@@ -36,7 +36,7 @@ fn push_marker(path: &[u8], text: &mut Vec<u8>) -> Result<(), AllocError>
     Ok(())
 }
 
-/// Adds what stands in the place of a line of that path that includes a file.
+/// Adds what replaces a line of that path that includes a file.
 fn push_inclusion(
     path: &[u8],
     file: &[u8],
@@ -51,7 +51,7 @@ fn push_inclusion(
     push_marker(path, text)
 }
 
-/// Adds what stands in the place of a line of that path. Answers whether all that it includes is there.
+/// Adds what replaces a line of that path. Answers whether all that it includes is there.
 fn push_line<F: Files>(
     alloc: Global,
     dir: &[u8],
@@ -81,7 +81,7 @@ fn push_line<F: Files>(
     Ok(true)
 }
 
-/// Adds what stands in the place of each line of the contents of that path. Answers whether all that they include is
+/// Adds what replaces each line of the contents of that path. Answers whether all that they include is
 /// there.
 fn push_lines<F: Files>(
     alloc: Global,

@@ -127,7 +127,7 @@ fn is_preprocessed(name: &[u8]) -> bool
     }
 }
 
-/// Whether the step takes an input of that language as it stands.
+/// Whether the step takes an input of that language as it is.
 pub fn takes_as_it_stands(step: Step, language: Option<&OsBytes>) -> bool
     ensures { result ≡ takes_as_it_stands step (option_copied language.entry) }
 {

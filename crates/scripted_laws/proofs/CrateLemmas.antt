@@ -47,7 +47,7 @@ is_text text fine = by (is_utf8 text) refl
     by true e = e
     by false e = absurd (none_some _ (rw e at fine))
 
--- a text that begins with a rule tells its sources
+-- a text that begins with a rule gives its sources
 sources_told : (dir : Bytes) (rule : Option Bytes) → is_none rule ≡ false → option_map (sorted_by path_cmp) (option_map (λ names. map (join dir) (names_in names)) rule) ≡ Some (sorted_by path_cmp (unwrap_or (option_map (λ names. map (join dir) (names_in names)) rule) []))
 sources_told dir None there = absurd (let never = there in cc)
 sources_told dir (Some rule) there = refl

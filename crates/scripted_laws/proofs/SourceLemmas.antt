@@ -63,7 +63,7 @@ clash false h g = other g
     other : false ≡ true → ⊥
     other h = cc
 
--- what items give doesn't depend on where their values stand
+-- what items give doesn't depend on where their values are
 abbrev IsSteady : (Item ArgKind → List Bytes) → Type 0
 IsSteady f = (a : Item ArgKind) → f (normal a) ≡ f a
 
@@ -200,7 +200,7 @@ added_none : (kind : CCompilerKind) (o : DependencyOptions) (path : Option Bytes
 added_none kind o None = record { is = refl }
 added_none kind o (Some path) = none_behind input_in _ _ [] (when_none _ _ _ _) (when_none _ _ _ _)
 
--- the input stands in front or behind
+-- the input comes first or last
 front_found : (behind : Bool) (input : Bytes) → Gives input_in (front_items behind input) (front_words behind input)
 front_found true input = record { is = refl }
 front_found false input = record { is = refl }
@@ -275,7 +275,7 @@ module _ (kind : CCompilerKind) (p : ParsedArguments) (items : List (Item ArgKin
   compile_language : (command : List Bytes) (path : Bytes) → ReadsAs kind command (compile_items kind p path items) → one_in language_in (reading_of kind command) ≡ only (flat_map language_in (language_items kind p.language))
   compile_language command path r = one_is language_in language_steady kind command (compile_items kind p path items) r ∙ ap only (compile_names path).is
 
--- a compile takes its input as it stands exactly if its language isn't preprocessed
+-- a compile takes its input as it is exactly if its language isn't preprocessed
 stands : (kind : CCompilerKind) (language : Language) → IsKnownTo kind language → takes_as_it_stands Compile (only (flat_map language_in (language_items kind language))) ≡ not (needs_preprocessing language)
 stands Gcc C known = refl
 stands Gcc Cxx known = refl

@@ -19,7 +19,7 @@ use Rattle.wrap_base.specs.Commands.{CFound, NamedBy, by_c, by_rustc, named_by, 
 use Rattle.wrap_base.specs.declared.call.Call.{Call}
 use Rattle.wrap_base.specs.declared.request.Request.{Request}
 
--- Where a request to a C compiler asks for something, its input can stand where it's written: the tables read the word there as an input.
+-- Where a request to a C compiler asks for something, its input can be put where it's written: the tables read the word there as an input.
 abbrev pub HasSafeSourceFor : CFound → Tree → Request → Type 0
 HasSafeSourceFor found tree request = (p : ParsedArguments) → parse_of found.kind (words_at found request tree) ≡ parsing.asks p → HasSafeInput found.kind p
 
@@ -35,7 +35,7 @@ abbrev pub IsGivenBy : NamedBy → Tree → Request → Type 0
 IsGivenBy (by_c found) tree request = IsGivenByOption found.kind (words_at found request tree)
 IsGivenBy (by_rustc rust) tree request = ⊥
 
--- the account of a request whose input can stand where it's written, over a scripted tool whose folders are the configuration's, whatever its rustc tells
+-- the account of a request whose input can be put where it's written, over a scripted tool with the configuration's folders, whatever its rustc reports
 pub record IsScripted (settings : Settings) (a : Account) : Type 0 where
   pub told : CrateTexts
   pub tree : Tree

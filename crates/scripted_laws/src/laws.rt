@@ -19,7 +19,7 @@ use os_files::files::Files;
 use wrap_base::tool::Tool;
 
 /// Over the scripted tool, whose folders are the configuration's, the fresh outcome of a call that has a record is made of
-/// that record alone, whatever rustc tells: so equal records have equal fresh outcomes, under one configuration or two, by one
+/// that record alone, whatever rustc reports: so equal records have equal fresh outcomes, under one configuration or two, by one
 /// tool or two, wherever the calls run.
 pub fn records_fix_scripted_outcomes()
     ensures made { (settings : Settings) (w : Work) → IsScripted settings (worked w)
@@ -27,7 +27,7 @@ pub fn records_fix_scripted_outcomes()
     ensures equal { (one other : Settings) (a b : Work)
         → IsScripted one (worked a) → IsScripted other (worked b)
         → HasRecord a → HasRecord b → SameRecord a b → a.fresh ≡ b.fresh }
-    // Only an option of Msvc gives an input that can't stand where it's written.
+    // Only an option of Msvc gives an input that can't be put where it's written.
     ensures safe { (tree : Tree) (request : Request)
         → (IsGivenBy (named_by request.compiler) tree request → ⊥)
         → HasSafeSource tree request }

@@ -1,4 +1,4 @@
-//! For tests: no files, and a device that fails at each call.
+//! For tests: no files, and an I/O error at each call.
 
 ghost use Rattle.std.specs.Prelude.{◌≡◌, []};
 ghost use Rattle.os_files.specs.Bytes.{ticked};
@@ -7,7 +7,7 @@ use os_files::files::{FileFail, Files, Metadata};
 use os_files::os_bytes::OsBytes;
 use std::alloc::Global;
 
-/// For tests: no files, and a device that fails at each call.
+/// For tests: no files, and an I/O error at each call.
 #[derive(Drop)]
 pub struct BrokenFiles {
     /// How often a call failed.
@@ -15,7 +15,7 @@ pub struct BrokenFiles {
 }
 
 impl BrokenFiles {
-    /// A device that has not failed yet.
+    /// Files on which no I/O error has occurred yet.
     pub fn new() -> BrokenFiles
         ensures { result.failed ≡ 0 }
     {

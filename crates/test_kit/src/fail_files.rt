@@ -1,4 +1,4 @@
-//! For tests: files whose device fails at one call.
+//! For tests: files with an I/O error at one call.
 
 ghost use Rattle.std.specs.Prelude.{◌≡◌, ◌⊎◌, ◌+◌, ◌-◌, ◌%◌, ◌^◌, None, Some, IsErrOf, OnOk};
 ghost use Rattle.os_files.specs.Bytes.{ticked};
@@ -7,20 +7,20 @@ use os_files::files::{FileFail, Files, Metadata};
 use os_files::os_bytes::OsBytes;
 use std::alloc::Global;
 
-/// For tests: files whose device fails at one call, whatever that asks. No call after it fails here.
+/// For tests: files with an I/O error at one call, whatever that asks. No call after it fails here.
 #[derive(Drop)]
 pub struct FailFiles<F> {
     pub files: F,
     /// How many calls come before the one that fails.
     pub calls_left: u64,
-    /// How often this device failed.
+    /// How many I/O errors occurred here.
     pub failed: u64,
     /// The name that the failing call was on.
     pub failed_name: Option<OsBytes>,
 }
 
 impl<F> FailFiles<F> {
-    /// These files, whose device fails at the call after that many.
+    /// These files, with an I/O error at the call after that many.
     pub fn new(files: F, calls_left: u64) -> FailFiles<F>
         ensures files { result.files ≡ files }
         ensures calls_left { result.calls_left ≡ calls_left }

@@ -1,4 +1,4 @@
-//! What tests of several crates write: words of a line, files of rows, files whose device fails, files that count their calls, a
+//! What tests of several crates write: words of a line, files of rows, files with I/O errors, files that count their calls, a
 //! writer of little room, and texts that are compared.
 #![tactic(auto)]
 

@@ -1,6 +1,6 @@
 //! Texts that tests write of lists, and compare; and facts that they ask for.
 //!
-//! A test asks by these functions, which are proved once: each assertion by a macro is proved where it stands.
+//! A test asks by these functions, which are proved once: each assertion by a macro is proved where it is written.
 
 use os_files::os_bytes::OsBytes;
 use std::alloc::{AllocError, Global};
@@ -29,7 +29,7 @@ pub fn prints<T: Display>(alloc: Global, value: &T, want: &str) -> Result<(), Fa
     is_that(text.as_str(), want, "printed")
 }
 
-/// Adds words, each behind a space, an empty one as two quotes.
+/// Adds words, each after a space, an empty one as two quotes.
 pub fn write_words(text: &mut String, words: &[OsBytes]) -> Result<(), AllocError> {
     for word in words {
         if word.as_bytes().is_empty() {

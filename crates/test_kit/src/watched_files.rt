@@ -1,4 +1,4 @@
-//! Files in memory that count how often they are asked, and whose device fails at one name.
+//! Files in memory that count how often they are asked, with an I/O error at one name.
 
 ghost use Rattle.std.specs.Prelude.{◌≡◌};
 ghost use Rattle.os_files.specs.Bytes.{ticked};
@@ -8,7 +8,7 @@ use os_files::memory_files::MemoryFiles;
 use os_files::os_bytes::OsBytes;
 use std::alloc::Global;
 
-/// Files in memory, the number of the calls of them, and the name at which the device fails.
+/// Files in memory, the number of the calls of them, and the name at which an I/O error occurs.
 #[derive(Drop)]
 pub struct WatchedFiles<'a> {
     pub files: MemoryFiles,
@@ -16,7 +16,7 @@ pub struct WatchedFiles<'a> {
     pub calls: u64,
     /// The name whose contents can't be read.
     pub broken: &'a [u8],
-    /// How often the device failed.
+    /// How many I/O errors occurred.
     pub failed: u64,
 }
 

@@ -6,7 +6,7 @@ use Rattle.jiff.proofs.SpanFacts.{signed_arith}
 use Rattle.jiff_core.specs.Timestamp.{nanos_of_seconds, IsTimestampNanos}
 use Rattle.time_macros.specs.Days.{is_in_calendar, day_of, IsDayOf}
 
--- the first second is in the calendar or before it, and the last is in it or behind it
+-- the first second is in the calendar or before it, and the last is in it or after it
 abbrev is_begun : ℤ → Bool
 is_begun moment = int_le (neg_ℤ (pos 377_705_023_201)) moment
 

@@ -1,4 +1,4 @@
--- A text holds a word exactly where the word occurs at some place, so exactly where it stands in the text.
+-- A text holds a word exactly where the word occurs at some place, so exactly where it is in the text.
 use Rattle.std.proofs.Common.{◌≡◌, ℕ, zero, suc, ◌+◌, ◌-◌, ◌<◌, ◌≤◌, List, ◌++◌, length, take, drop, append_assoc, sym, ap, subst, ◌∙◌, arith, true, inl, inr}
 use Rattle.std.specs.Prelude.{◌↔◌, IsTrue, is_some}
 use Rattle.std.proofs.lemmas.Bool.{cases_Bool, cond-true, cond-false, cases_eq, false≢true}
@@ -47,7 +47,7 @@ module _ (text word : Bytes) where
     cut = sym (take-append-drop o.0 text) ∙ ap (λ (l : Bytes). take o.0 text ++ l) (OccursAt-split text word o.0 o.1) ∙ sym (append_assoc (take o.0 text) word (drop (o.0 + length word) text));
   }
 
--- a word between two texts occurs behind the first
+-- a word between two texts occurs after the first
 between : (front word rest : Bytes) → OccursAt (front ++ (word ++ rest)) word (length front)
 between front word rest = record {
   fits = omega (arith, length-append front (word ++ rest), length-append word rest);

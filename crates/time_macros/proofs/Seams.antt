@@ -1,4 +1,4 @@
--- A word of at most thirteen bytes in two joined texts stands in one of them, or across the seam.
+-- A word of at most thirteen bytes in two joined texts is in one of them, or across the seam.
 use Rattle.std.proofs.Common.{◌≡◌, ℕ, ◌+◌, ◌-◌, ◌<◌, ◌≤◌, ◌++◌, length, get_or, take, drop, refl, sym, ap, ◌∙◌, arith, inl, inr, ◌⊎◌, Bool, true, false}
 use Rattle.std.specs.Prelude.{◌||◌}
 use Rattle.std.proofs.lemmas.Bool.{cases_lt}
@@ -9,7 +9,7 @@ use Rattle.time_macros.specs.Macros.{holds}
 use Rattle.time_macros.specs.Seen.{end_of}
 use Rattle.time_macros.proofs.Holding.{Occurs, Occurs-holds}
 
--- where the same bytes stand, the word stands
+-- where the same bytes are, the word is
 moved : (a b word : Bytes) (i j : ℕ) → OccursAt a word i → j + length word ≤ length b → ((n : ℕ) → n < length word → get_or b (j + n) 0 ≡ get_or a (i + n) 0) → OccursAt b word j
 moved a b word i j o fits same = record { fits = fits; reads = λ n lt. same n lt ∙ o.reads n lt }
 

@@ -1,4 +1,4 @@
--- Words that stand in a text, and the macros of date and time.
+-- Words that occur in a text, and the macros of date and time.
 use Rattle.std.specs.Prelude.{◌≡◌, ◌++◌, Bool, ◌||◌, codes, is_some}
 use Rattle.memchr.specs.Find.{first_of, matches}
 use Rattle.os_files.specs.Bytes.{Bytes}
@@ -9,7 +9,7 @@ pub record StandsIn (word text : Bytes) : Type 0 where
   pub rest : Bytes
   pub cut : text ≡ front ++ word ++ rest
 
--- whether the word stands somewhere in the text
+-- whether the word occurs somewhere in the text
 abbrev pub holds : Bytes → Bytes → Bool
 holds text word = is_some (first_of (matches text word 0))
 

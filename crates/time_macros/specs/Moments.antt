@@ -7,6 +7,6 @@ use Rattle.time_macros.specs.declared.timestamp.Timestamp.{Timestamp}
 abbrev pub nanoseconds_of : Timestamp → ℤ
 nanoseconds_of moment = moment.seconds *ℤ pos 1_000_000_000 +ℤ pos moment.nanoseconds
 
--- the moment that a device keeps
+-- the timestamp that a device keeps
 abbrev pub timestamp_of : FileTime → Timestamp
 timestamp_of time = record { seconds = time.seconds; nanoseconds = time.nanoseconds; below_a_second = time.below_a_second }

@@ -6,7 +6,7 @@ ghost use Rattle.time_macros.specs.Macros.{holds, StandsIn};
 
 use memchr::memmem;
 
-/// Whether the word stands somewhere in the text. An empty word stands in each text.
+/// Whether the word occurs somewhere in the text. An empty word occurs in each text.
 pub fn holds(text: &[u8], word: &[u8]) -> bool
     ensures { result ≡ holds text.now word.now }
 {

@@ -1,4 +1,4 @@
-//! When something itself was last changed, as its metadata tell.
+//! When something itself was last changed, according to its metadata.
 
 ghost use Rattle.std.specs.Prelude.{◌≡◌};
 ghost use Rattle.os_files.specs.declared.file_time.FileTime.{FileTime};
@@ -7,7 +7,7 @@ ghost use Rattle.time_macros.specs.Moments.{timestamp_of};
 use crate::timestamp::Timestamp;
 use os_files::files::Metadata;
 
-/// Metadata that tell when something itself was last changed.
+/// Metadata that include when something itself was last changed.
 pub trait MetadataCtimeExt {
     /// When it itself was last changed.
     ghost ctime: { Self → FileTime };

@@ -51,7 +51,7 @@ fn tail_of(tail: &[u8], piece: &[u8]) -> ArrayVec<u8, TAIL_LEN>
     end
 }
 
-/// Whether the word stands in what was shown before, across the seam, or in the piece. What was found before isn't
+/// Whether the word occurs in what was shown before, across the seam, or in the piece. What was found before isn't
 /// searched again.
 fn is_found(before: bool, seam: &[u8], piece: &[u8], word: &[u8]) -> bool
     ensures { result ≡ (before || (holds seam.now word.now || holds piece.now word.now)) }
@@ -72,7 +72,7 @@ impl TimeMacroFinder {
         }
     }
 
-    /// Looks at the next piece, behind the bytes that it was shown. A macro may begin in one piece and end in another.
+    /// Looks at the next piece, after the bytes that it was shown. A macro may begin in one piece and end in another.
     pub fn find_time_macros(&mut self, piece: &[u8])
         ensures { (bytes : Bytes) → HasSeen self.old bytes → HasSeen self.new (bytes ++ piece.now) }
     {
@@ -83,28 +83,28 @@ impl TimeMacroFinder {
         self.tail = tail_of(self.tail.as_slice(), piece);
     }
 
-    /// Whether `__DATE__` stands in the bytes that it was shown.
+    /// Whether `__DATE__` occurs in the bytes that it was shown.
     pub fn found_date(&self) -> bool
         ensures { (bytes : Bytes) → HasSeen self.now bytes → result ≡ holds_date bytes }
     {
         self.date
     }
 
-    /// Whether `__TIME__` stands in the bytes that it was shown.
+    /// Whether `__TIME__` occurs in the bytes that it was shown.
     pub fn found_time(&self) -> bool
         ensures { (bytes : Bytes) → HasSeen self.now bytes → result ≡ holds_time bytes }
     {
         self.time
     }
 
-    /// Whether `__TIMESTAMP__` stands in the bytes that it was shown.
+    /// Whether `__TIMESTAMP__` occurs in the bytes that it was shown.
     pub fn found_timestamp(&self) -> bool
         ensures { (bytes : Bytes) → HasSeen self.now bytes → result ≡ holds_timestamp bytes }
     {
         self.timestamp
     }
 
-    /// Whether one of the three stands in the bytes that it was shown.
+    /// Whether one of the three occurs in the bytes that it was shown.
     pub fn found_time_macros(&self) -> bool
         ensures { (bytes : Bytes) → HasSeen self.now bytes → result ≡ holds_time_macros bytes }
     {

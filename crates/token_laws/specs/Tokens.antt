@@ -5,7 +5,7 @@ use Rattle.os_files.specs.Bytes.{Bytes}
 use Rattle.os_files.specs.Tree.{Node, Tree}
 use Rattle.ckeys_records.specs.Meaning.{Meaning, Scene, scene_with}
 
--- a file with the contents for which those that a session has stand
+-- a file with the contents that those that a session has represent
 abbrev pub decoded_node : (Bytes → Bytes) → Node → Node
 decoded_node decode node = record { contents = option_map decode node.contents; canonical = node.canonical; metadata = node.metadata }
 
@@ -17,6 +17,6 @@ decoded_tree decode tree = map (λ entry. (entry.0, decoded_node decode entry.1)
 abbrev pub decoded_scene : (Bytes → Bytes) → Scene → Scene
 decoded_scene decode scene = scene_with scene.executable scene.dir scene.env (decoded_tree decode scene.files) scene.moment
 
--- a world that reads of each file what its contents stand for, and gives what another one gives for that
+-- a world that reads of each file what its contents represent, and gives what another one gives for that
 abbrev pub decoding : (Bytes → Bytes) → Meaning → Meaning
 decoding decode world step asked names scene = world step asked names (decoded_scene decode scene)

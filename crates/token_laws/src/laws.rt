@@ -14,7 +14,7 @@ ghost use Rattle.wrap.specs.Account.{scene_at};
 ghost use Rattle.wrap_base.specs.declared.request.Request.{Request};
 
 /// The session has tokens in the place of headers, and what it answers is said of each world that gives on these what was recorded. A world
-/// that gives it on the files as they are is one, where tokens are read as the contents for which they stand; and what it gives then is what
+/// that gives it on the files as they are is one, where tokens are read as the contents that they represent; and what it gives then is what
 /// it gives on the files as they are.
 pub fn tokens_stand_for_contents()
     ensures recorded { (decode : Bytes → Bytes) (text : Option RecordedText)

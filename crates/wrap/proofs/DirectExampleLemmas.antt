@@ -35,7 +35,7 @@ module _ (about : Metadata) (zone : ZoneRule) where
   unfolding holds_date holds_time holds_timestamp first_of matches_from
   recorded_on moment = refl
 
-  -- no moment is told
+  -- no moment is given
   same_identity : (one other : ℤ) → identity_by (call_on about zone one) ≡ identity_by (call_on about zone other)
   unfolding identity_by
   same_identity one other = refl

@@ -422,7 +422,7 @@ run_passes : (digest_of : Bytes → Bytes) (max_kept : Option ℕ) (old new : Sh
 run_passes digest_of max_kept old new [] r = tt
 run_passes digest_of max_kept old new (s ∷ run) r = (r.3.passes, run_passes digest_of max_kept r.1 new run r.4)
 
--- beside outputs stands the call's own text on dependencies, in each call of a run
+-- outputs come with the call's own text on dependencies, in each call of a run
 abbrev AllTell : List Served → Type 0
 AllTell run = AllByRecursion (λ s. TellsDependencies s.account s.result) run
 

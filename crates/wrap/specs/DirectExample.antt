@@ -19,7 +19,7 @@ use Rattle.ckeys_records.specs.Meaning.{Meaning, made_of, scene_with}
 use Rattle.ckeys_records.specs.declared.step.Step.TheVariants.{Preprocess}
 use Rattle.wrap_keys.specs.Account.{Account, Work, work_at, worked}
 
--- Each digest has 32 bytes, which tell the first byte.
+-- Each digest has 32 bytes, which determine the first byte.
 abbrev pub first_byte_digest : Bytes → Bytes
 first_byte_digest bytes = repeat 32 (get_or bytes 0 0 ∷ [])
 

@@ -41,7 +41,7 @@ without_arguments asks = record {
   has_json = asks.has_json;
 }
 
--- Both ask one rustc for the same at one place, but for where the options `--cfg` stand and in which order; and rustc answers both alike.
+-- Both ask one rustc for the same at one place, but for where the options `--cfg` are and in which order; and rustc answers both alike.
 pub record AreSameButForCfgs (meaning : Meaning) (one other : RustCall) : Type 0 where
   pub known : one.known ≡ other.known
   pub scene : one.question.scene ≡ other.question.scene

@@ -150,7 +150,7 @@ pub fn premises_can_be_met()
 {}
 
 /// What is assumed of runs can be met with `direct` on: a call at two moments meets it under digests of 32 bytes. It has an
-/// entry key; of its text the header is recorded; and where that stands under the first moment's entry key, it matches at the second.
+/// entry key; of its text the header is recorded; and where that is recorded under the first moment's entry key, it matches at the second.
 pub fn premises_can_be_met_over_records()
     ensures met { (about : Metadata) (zone : ZoneRule) (one other : ℤ) →
         Premises first_byte_digest (two_moments about zone one other) }
@@ -175,7 +175,7 @@ pub fn folders_do_not_count_in_store_keys()
         ≡ store_key_of digest_of (work_at meaning other) }
 {}
 
-/// Where the options `--cfg` of a request to rustc stand doesn't count, nor in which order: two calls that differ in that alone, and
+/// It doesn't count where the options `--cfg` of a request to rustc are, nor in which order: two calls that differ in that alone, and
 /// that rustc answers alike, have one store key.
 pub fn cfg_places_do_not_count_in_store_keys()
     ensures { (digest_of : Bytes → Bytes) (meaning : Meaning) (one other : RustCall)

@@ -136,7 +136,7 @@ impl<
         ensures compiles { T.compiled tool.new ≡ T.compiled tool.old }
         ensures tree { F.tree files.new ≡ F.tree files.old }
         ensures meaning { T.meaning tool.new ≡ T.meaning tool.old }
-        // No device failed where there is an answer, nor where a fault tells of none.
+        // No I/O error occurred where there is an answer, nor where a fault reports none.
         ensures steady { OnOk result
             (AreSteady T.Preprocessor F.Files tool.old files.old tool.new files.new) }
         ensures still { HasOwnFault result →
@@ -215,14 +215,14 @@ impl<
             → Says a (FilesFail F.Files files.old files.new)
             (ToolFails T.Preprocessor tool.old tool.new) result }
 
-        // Then, where no growth is refused and no device fails, what is said before the compile is the account's alone.
+        // Then, without out of memory and I/O errors, what is said before the compile is the account's alone.
         ensures exact { let a = account_at (T.meaning tool.old) (F.tree files.old) self.old.settings
             request.now in
             RecordsAreTrue H.digest_of a (E.shelf self.old.entries).held
             → (IsErrOf result Fault.Memory → ⊥) → F.failed files.new ≡ F.failed files.old
             → T.failed tool.new ≡ T.failed tool.old → settled_by result ≡ settled a }
 
-        // Then, what it does to the store of outputs under its own key, and what the answer tells of the store and of the compiler's runs.
+        // Then, what it does to the store of outputs under its own key, and what the answer says of the store and of the compiler's runs.
         ensures store { let a = account_at (T.meaning tool.old) (F.tree files.old) self.old.settings
             request.now in
             RecordsAreTrue H.digest_of a (E.shelf self.old.entries).held
@@ -248,7 +248,7 @@ impl<
         ensures meaning { T.meaning tool.new ≡ T.meaning tool.old }
         ensures tree { F.tree files.new ≡ F.tree files.old }
 
-        // No device failed where there is an answer, nor where a fault tells of none.
+        // No I/O error occurred where there is an answer, nor where a fault reports none.
         ensures steady { OnOk result
             (AreSteady T.Preprocessor F.Files tool.old files.old tool.new files.new) }
         ensures still { HasOwnFault result →

@@ -41,7 +41,7 @@ executable_of (lent.Diab found) = found.now.executable
 executable_of (lent.Msvc found) = found.now.executable
 executable_of (lent.TaskingVX found) = found.now.executable
 
--- the digest that stands for it
+-- the digest that represents it
 abbrev pub digest_of : AnyC → Bytes
 digest_of (lent.Gcc found) = string_bytes found.now.executable_digest
 digest_of (lent.Clang found) = string_bytes found.now.executable_digest
@@ -77,7 +77,7 @@ abbrev pub named_in : Named → NamedBy
 named_in (families.C compiler) = by_c (found_of compiler)
 named_in (families.Rustc rust) = by_rustc rust.now
 
--- a request's words, in whose place those of the files stand that this compiler opens
+-- a request's words, in which response files that this compiler opens are replaced by their words
 abbrev pub words_at : CFound → Request → Tree → List Bytes
 words_at found request tree = opened_words found.kind request.dir tree request.words
 

@@ -81,7 +81,7 @@ impl<'c> AnyC<'c> {
         }
     }
 
-    /// The digest that stands for it in keys.
+    /// The digest that represents it in keys.
     pub fn executable_digest(&self) -> &str
         ensures { result.now ≡ digest_of self.now }
     {

@@ -18,7 +18,7 @@ pub struct Config {
 }
 
 impl Config {
-    /// These folders, each without the slashes at its end; days are told in that zone; include records are kept where `direct` says so,
+    /// These folders, each without the slashes at its end; days are given in that zone; include records are kept where `direct` says so,
     /// and results of at most so many bytes.
     ///
     /// `BadFolder` names the first folder that isn't absolute or is only slashes.

@@ -1,4 +1,4 @@
-//! What a session stands on: requests and answers, tools, and what each of them means.
+//! What a session is built on: requests and answers, tools, and what each of them means.
 #![tactic(auto)]
 
 pub mod answer;

@@ -9,9 +9,9 @@ pub enum Reason {
     NotCompilation,
     /// An option or the closing table refuses it: why, and what more there is to say.
     CannotCache(&'static str, Option<String>),
-    /// An option whose value may stand either way was read with an empty value.
+    /// An option whose value may be joined or separate was read with an empty value.
     EmptyValue,
-    /// A word of a command would open a file of words.
+    /// A word of a command would open a response file.
     OpensFile,
     /// A hashed word holds the byte 255, which ends a word where it is hashed.
     Byte255,

@@ -8,7 +8,7 @@ use os_files::os_bytes::OsBytes;
 #[derive(Debug, Drop)]
 pub struct Request {
     pub compiler: Compiler,
-    /// The words behind the executable.
+    /// The words after the executable.
     pub words: Listed<OsBytes>,
     /// The directory in which the compiler would run.
     pub dir: OsBytes,

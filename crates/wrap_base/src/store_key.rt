@@ -22,7 +22,7 @@ pub enum Family {
     Rustc,
 }
 
-/// What the hashed bytes of a request don't tell, by its family.
+/// What the hashed bytes of a request don't determine, by its family.
 #[derive(Clone, Debug, Drop, PartialEq, Eq, Hash, PartialOrd, Ord)]
 pub enum Shape {
     C(CShape),
@@ -68,7 +68,7 @@ pub fn keys_are_their_fields()
     ties_are_equal::<StoreKey>();
 }
 
-/// What an order doesn't tell apart is equal.
+/// What an order doesn't distinguish is equal.
 fn ties_are_equal<K: Ord>()
     ensures { (one other : K) → (K.cmp one other ≡ Equal) ↔ (K.eq one other ≡ true) }
 {}

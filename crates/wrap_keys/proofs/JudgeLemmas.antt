@@ -29,7 +29,7 @@ any_front p (w ∷ ws) other h = by (any_front p ws other) (p w) h
 abbrev OpensBy : (RustAsks → List Bytes) → Type 0
 OpensBy words = (asks : RustAsks) → list_any begins_with_at (all_words asks.arguments) ≡ false → list_any begins_with_at (words asks) ≡ false
 
--- where the compile opens no file of words, neither does what is asked before it
+-- where the compile opens no response file, neither does what is asked before it
 pub opens_nothing : OpensBy dep_info_words → OpensBy file_names_words → (parsed : ParsedArguments) → list_any begins_with_at (compile_words (asks_in parsed)) ≡ false → OpensNothing parsed
 opens_nothing dep_info file_names parsed h =
     let asks = asks_in parsed in

@@ -33,6 +33,6 @@ pub on_exit : {A : Type 0} (P : Fault → Type 0) (result : Result A Fault) (fau
 on_exit P (Ok x) fault h p = absurd h
 on_exit P (Err f) fault h p = subst P (sym h) p
 
--- a file's device failed after calls on which it didn't
+-- an I/O error on a file after calls without one
 pub fails_on_later : {F : Type 0} (tree : F → Tree) (failed : F → ℕ) (fails_on : F → Bytes → F → Type 0) (old mid new : F) → tree mid ≡ tree old → failed mid ≡ failed old → (name : Bytes) → FailsOn tree failed fails_on mid new name → FailsOn tree failed fails_on old new name
 fails_on_later tree failed fails_on old mid new m f name h = record { from = h.from; same = h.same ∙ m; steady = h.steady ∙ f; ticks = h.ticks; leads = h.leads }

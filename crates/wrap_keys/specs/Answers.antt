@@ -13,7 +13,7 @@ use Rattle.wrap_base.specs.declared.answer.Answer.{Answer}
 use Rattle.wrap_base.specs.declared.answer.Answer.TheVariants.{Pass, Outputs}
 use Rattle.wrap_base.specs.declared.answer.Output.{Output}
 
--- Why there is no verdict: memory was refused, or the device failed at that name while files of words were opened.
+-- Why there is no verdict: out of memory, or an I/O error on that name while response files were opened.
 abbrev pub EarlyCause : (Bytes → Type 0) → Fault → Type 0
 EarlyCause on_file fault = IsCaused None on_file no_step fault
 
@@ -23,7 +23,7 @@ SaysPassed why on_file (Ok (Pass reason)) = why_of reason ≡ why
 SaysPassed why on_file (Ok (Outputs map how dep_info)) = ⊥
 SaysPassed why on_file (Err fault) = EarlyCause on_file fault
 
--- What an answer says of another call: outputs stand beside the call's own text on dependencies, and mean that the call went on past its faults before the store is asked; a fault of the compile means that too, and that the compile caused it; any other one has a cause before it.
+-- What an answer says of another call: outputs come with the call's own text on dependencies, and mean that the call went on past its faults before the store is asked; a fault of the compile means that too, and that the compile caused it; any other one has a cause before it.
 abbrev pub SaysWorkedBy : Type 0 → Work → (Bytes → Type 0) → (Step → Type 0) → Result Answer Fault → Type 0
 SaysWorkedBy went_on w on_file device_in (Ok (Pass reason)) = ⊥
 SaysWorkedBy went_on w on_file device_in (Ok (Outputs map how dep_info)) = (dep_info ≡ w.dep_info) × went_on
@@ -65,7 +65,7 @@ Answers (worked w) (Ok (Pass reason)) = Unit {0}
 Answers (worked w) (Ok (Outputs map how dep_info)) = Placed w map (IsSuccess w)
 Answers (worked w) (Err fault) = Unit {0}
 
--- what a call comes to before its compile, where no growth is refused and no device fails
+-- what a call comes to before its compile, without out of memory and I/O errors
 pub data Settled : Type 0 where
   is_passed : Why → Settled
   has_fault : Fault → Settled
@@ -85,7 +85,7 @@ settled_in any_time fault = has_fault fault
 settled_in before_compile fault = has_fault fault
 settled_in in_compile fault = goes_on
 
--- what an answer comes to, before the compile; a device's fault in any step is a fault
+-- what an answer comes to, before the compile; an I/O error in any step is a fault
 abbrev pub settled_by : Result Answer Fault → Settled
 settled_by (Ok (Pass reason)) = is_passed (why_of reason)
 settled_by (Ok (Outputs map how dep_info)) = goes_on

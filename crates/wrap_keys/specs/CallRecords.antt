@@ -20,7 +20,7 @@ abbrev pub family_of : CallRecord → Family
 family_of (of_c r) = families.C
 family_of (of_rustc r) = families.Rustc
 
--- what the hashed bytes don't tell
+-- what the hashed bytes don't determine
 abbrev pub record_shape : (Bytes → Bytes) → CallRecord → Shape
 record_shape digest_of (of_c r) = shapes.C (c.record_shape digest_of r)
 record_shape digest_of (of_rustc r) = shapes.Rustc (rustc.record_shape digest_of r)
@@ -39,7 +39,7 @@ IsHashedFor digest_of (of_rustc r) bytes = rustc.IsHashedFor digest_of r bytes
 abbrev pub AreDistinct : (Bytes → Bytes) → CallRecord → CallRecord → Type 0
 AreDistinct digest_of one other = Distinct digest_of (λ bytes. IsHashedFor digest_of one bytes ⊎ IsHashedFor digest_of other bytes)
 
--- its key tells it: what is hashed can be counted in 64 bits, and digests that were handed in are digits
+-- its key determines it: what is hashed can be counted in 64 bits, and digests that were handed in are digits
 abbrev pub IsTold : (Bytes → Bytes) → CallRecord → Type 0
 IsTold digest_of (of_c r) = AreTold r.words r.variables
 IsTold digest_of (of_rustc r) = rustc.IsTold digest_of r

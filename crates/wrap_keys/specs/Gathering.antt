@@ -10,7 +10,7 @@ use Rattle.wrap_keys.specs.Account.{Collected, all, missing}
 abbrev pub Outcome : Type 0
 Outcome = OutputName × Option Bytes
 
--- Each output beside the file of its place. Behind the last file none was made.
+-- Each output beside the file of its place. After the last file none was made.
 abbrev pub outcomes_of : List OutputName → List (Option Bytes) → List Outcome
 outcomes_of names files = zip names (files ++ replicate (length names) None)
 

@@ -18,7 +18,7 @@ abbrev pub judgement_of : Verdict → Judgement
 judgement_of (Passes reason) = passes (why_of reason)
 judgement_of (Asks plan) = asks plan.parsed
 
--- The plan's compile command is that of the request, no hashed word holds the byte that ends one, and no word of its two commands makes the compiler open a file of words.
+-- The plan's compile command is that of the request, no hashed word holds the byte that ends one, and no word of its two commands makes the compiler open a response file.
 pub record IsPlanOf (found : CFound) (request : Request) (plan : Plan) : Type 0 where
   pub compile : plan.compile ≡ compile_command_of found request plan.parsed
   pub told : hold_end (hashed_words plan.parsed) ≡ false
@@ -30,7 +30,7 @@ pub record IsReadAgain (found : CFound) (words : List Bytes) (plan : Plan) : Typ
   pub compile : ReadsAs found.kind plan.compile.arguments (compile_items found.kind plan.parsed (output_path plan.parsed) (reading_of found.kind words).items)
   pub preprocess : ReadsAs found.kind (preprocess_words found.kind plan.parsed) (preprocess_items found.kind plan.parsed (reading_of found.kind words).items)
 
--- It does, where the input can stand where it's written, whoever gave it.
+-- It does, where the input can be put where it's written, whoever gave it.
 abbrev pub IsReadAgainWhereSafe : CFound → List Bytes → Plan → Type 0
 IsReadAgainWhereSafe found words plan = HasSafeInput found.kind plan.parsed → IsReadAgain found words plan
 

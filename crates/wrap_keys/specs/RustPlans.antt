@@ -15,7 +15,7 @@ abbrev pub judgement_of : RustVerdict → RustJudgement
 judgement_of (Passes reason) = passes (why_of reason)
 judgement_of (Asks parsed) = asks (asks_in parsed)
 
--- no word of the commands that are run for it makes rustc open a file of words
+-- no word of the commands that are run for it makes rustc open a response file
 pub record OpensNothing (parsed : ParsedArguments) : Type 0 where
   pub compile : list_any begins_with_at (compile_words (asks_in parsed)) ≡ false
   pub dep_info : list_any begins_with_at (dep_info_words (asks_in parsed)) ≡ false

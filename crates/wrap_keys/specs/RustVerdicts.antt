@@ -33,7 +33,7 @@ abbrev pub is_rust_no_text : NamedBy → Request → Bool
 is_rust_no_text (by_c found) request = false
 is_rust_no_text (by_rustc rust) request = not (is_text request)
 
--- The hazard: a word with which it is compiled would make rustc open a file of words.
+-- The hazard: a word with which it is compiled would make rustc open a response file.
 abbrev pub opens_words : RustAsks → Bool
 opens_words asked = list_any begins_with_at (compile_words asked)
 
@@ -46,7 +46,7 @@ decided parsing.asks asked = with_hazards asked
 decided parsing.not_compilation asked = passes not_compilation
 decided (parsing.cannot_cache reason more) asked = passes (cannot_cache reason more)
 
--- its words, read with the files of words opened that they name
+-- its words, read with the response files opened that they name
 abbrev pub decided_on : Request → Tree → RustJudgement
 decided_on request tree =
     let reading = request_reading (expanded_by_rustc request.dir tree request.words) in

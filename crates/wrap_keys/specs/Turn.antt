@@ -1,4 +1,4 @@
--- One call of a session: what it does to the store, and what its answer tells of the store and of the compiler's runs.
+-- One call of a session: what it does to the store, and what its answer reports of the store and of the compiler's runs.
 use Rattle.std.specs.Prelude.{◌≡◌, ◌⊎◌, ℕ, true, false, if◌then◌else◌, [], Option, Some, None, IsSome, Result, Ok, Err, OnErr}
 use Rattle.os_files.specs.Bytes.{Bytes, ticked}
 use Rattle.ckeys_base.specs.Shelf.{Shelf, Within, KeepsKeys}
@@ -17,7 +17,7 @@ use Rattle.wrap_base.specs.declared.answer.How.TheVariants.{Direct, Stored, Fres
 use Rattle.wrap_base.specs.declared.store_key.StoreKey.{StoreKey}
 
 module _ (digest_of : Bytes → Bytes) (text_key : Bytes) (w : Work) (old new : Shelf StoreKey Pairs) (before after : ℕ) where
-  -- what was kept is answered: the map held it when the call began, no look-up forgot, and no compile ran; and the record's words can be told apart
+  -- what was kept is answered: the map held it when the call began, no look-up forgot, no compile ran; and the record's words are distinguishable
   pub record StoredTurn (pairs : Pairs) : Type 0 where
     pub held : old.held (store_key_with digest_of w text_key) ≡ Some pairs
     pub steady : new.forgets ≡ old.forgets
@@ -42,7 +42,7 @@ module _ (digest_of : Bytes → Bytes) (max_kept : Option ℕ) (text_key : Bytes
     pub holds : new.kept ≡ true → is_within max_kept (size_of pairs) ≡ true → new.held (store_key_with digest_of w text_key) ≡ Some pairs
     pub large : is_within max_kept (size_of pairs) ≡ false → Within old.held new.held × RefusesNothing old new
 
-  -- what the answer tells: a fault that comes before the compile, that none ran and the store wasn't asked; one of the compile, that the map lacked the key
+  -- what the answer says: a fault that comes before the compile, that none ran and the store wasn't asked; one of the compile, that the map lacked the key
   abbrev pub Told : Result Answer Fault → Type 0
   Told (Ok (Pass reason)) = ⊥
   Told (Ok (Outputs map Direct dep_info)) = IsSome w.direct × Placed w map (StoredTurn digest_of text_key w old new before after)
@@ -74,7 +74,7 @@ PutsBy max_kept (Ok (Outputs map Stored dep_info)) old new = new.puts ≡ old.pu
 PutsBy max_kept (Ok (Outputs map Fresh dep_info)) old new = new.puts ≡ (if is_within max_kept (size_in map) then ticked old.puts else old.puts)
 PutsBy max_kept (Err fault) old new = new.puts ≡ old.puts
 
--- how often it is looked up: once where there are outputs or the compile has a fault, once at most before want of memory, and else not
+-- how often it is looked up: once where there are outputs or the compile has a fault, at most once before out of memory, and else not
 abbrev pub GetsBy : Result Answer Fault → Shelf StoreKey Pairs → Shelf StoreKey Pairs → Type 0
 GetsBy (Ok (Pass reason)) old new = new.gets ≡ old.gets
 GetsBy (Ok (Outputs map how dep_info)) old new = new.gets ≡ ticked old.gets

@@ -35,7 +35,7 @@ pub data Judgement : Type 0 where
   passes : Why → Judgement
   asks : ParsedArguments → Judgement
 
--- a word of one of its commands would make the compiler open a file of words
+-- a word of one of its commands would make the compiler open a response file
 abbrev pub commands_open_file : CCompilerKind → ParsedArguments → Bool
 commands_open_file kind p = opens_file kind (compile_words kind p (output_path p)) || opens_file kind (preprocess_words kind p)
 
@@ -43,7 +43,7 @@ commands_open_file kind p = opens_file kind (compile_words kind p (output_path p
 abbrev pub hashed_words : ParsedArguments → List Bytes
 hashed_words p = p.common_args ++ p.arch_args
 
--- The hazards: an option whose value may stand either way has an empty one, or a word of a command would open a file, or a hashed word holds the byte that ends one.
+-- The hazards: an option whose value may be joined or separate has an empty one, a word of a command would open a file, or a hashed word holds the byte ending one.
 abbrev pub with_hazards : CCompilerKind → parsing.Decision → Judgement
 with_hazards kind parsing.not_compilation = passes not_compilation
 with_hazards kind (parsing.cannot_cache reason more) = passes (cannot_cache reason more)

@@ -36,14 +36,14 @@ pub record Ticks : Type 0 where
 abbrev pub SameFailures : Ticks → Ticks → Type 0
 SameFailures before after = (after.failed ≡ before.failed) × (after.files_failed ≡ before.files_failed)
 
--- beside outputs stands the call's own text on dependencies
+-- outputs come with the call's own text on dependencies
 abbrev pub TellsDependencies : Account → Result Answer Fault → Type 0
 TellsDependencies (passed why) result = Unit {0}
 TellsDependencies (worked w) (Ok (Pass reason)) = Unit {0}
 TellsDependencies (worked w) (Ok (Outputs map how dep_info)) = dep_info ≡ w.dep_info
 TellsDependencies (worked w) (Err fault) = Unit {0}
 
--- One call, by plain values: what it does to the store and what its answer tells; what the verdict passes through is passed through, unless memory was refused before or a file's device failed, and then no tick of the tool moves; outputs are answered only where the call has a record, beside its own text on dependencies; and where no growth is refused and no device fails, what is said before the compile is the account's alone.
+-- One call, by plain values: what it does to the store and what its answer reports; what the verdict passes through is passed through, unless there was out of memory or an I/O error on a file before, and then no tick of the tool moves; outputs are answered only where the call has a record, beside its own text on dependencies; and without out of memory and I/O errors, what is said before the compile is the account's alone.
 pub record Turn (digest_of : Bytes → Bytes) (max_kept : Option ℕ) (a : Account) (old new : Shelf StoreKey Pairs) (before after : Ticks) (result : Result Answer Fault) : Type 0 where
   pub store : StoreTurn digest_of max_kept a old new before.compiled after.compiled result
   pub passes : (why : Why) → why_passed a ≡ Some why → SaysPassed why (λ name. after.files_failed ≡ ticked before.files_failed) result
@@ -69,7 +69,7 @@ abbrev pub Run : (Bytes → Bytes) → Option ℕ → Shelf StoreKey Pairs → L
 Run digest_of max_kept old [] new = Loses old new
 Run digest_of max_kept old (s ∷ rest) new = (begin : Shelf StoreKey Pairs) × (mid : Shelf StoreKey Pairs) × Loses old begin × Turn digest_of max_kept s.account begin mid s.before s.after s.result × Run digest_of max_kept mid rest new
 
--- One call over both stores, by plain values: where the records are true of it, it is a turn over the object store alone; and, whether they are or not, it asks that store under a key and does to both what its answer tells; what the verdict passes through is passed through; and no failure tick has moved, unless the fault tells of a device.
+-- One call over both stores, by plain values: where the records are true of it, it is a turn over the object store alone; and, whether they are or not, it asks that store under a key and does to both what its answer reports; what the verdict passes through is passed through; and no failure tick has moved, unless the fault is an I/O error.
 pub record CallTurn (digest_of : Bytes → Bytes) (max_kept : Option ℕ) (settings : Settings) (a : Account) (old new : Shelves) (before after : Ticks) (result : Result Answer Fault) : Type 0 where
   pub own : RecordsAreTrue digest_of a old.entries.held → Turn digest_of max_kept a old.objects new.objects before after result
   pub asked : AskedTurn digest_of max_kept a old new before.preprocessed after.preprocessed before.compiled after.compiled result
@@ -119,7 +119,7 @@ HaveOneRecord (passed why) other = ⊥
 HaveOneRecord (worked w) (passed why) = ⊥
 HaveOneRecord (worked w) (worked v) = SameRecord w v
 
--- of the answers whose records are equal, and whose size is within the limit, at most one is fresh: behind a fresh one of such a size there is no other
+-- of the answers whose records are equal, and whose size is within the limit, at most one is fresh: after a fresh one of such a size there is no other
 abbrev pub OneFresh : Option ℕ → List Served → Type 0
 OneFresh max_kept [] = Unit {0}
 OneFresh max_kept (s ∷ rest) = (IsFreshWithin max_kept s.result → AllByRecursion (λ t. IsFresh t.result → HaveOneRecord s.account t.account → ⊥) rest) × OneFresh max_kept rest
@@ -175,7 +175,7 @@ Each P (b ∷ begins) [] results = Unit {0}
 Each P (b ∷ begins) (e ∷ ends) [] = Unit {0}
 Each P (b ∷ begins) (e ∷ ends) (r ∷ results) = P b e r × Each P begins ends results
 
--- A call is answered: its answer says what it may, a fault only with its cause, and outputs, where no records are kept, only where the call has no fault before; a fault of one that is passed through names no file but those that its words ask for; no failure tick has moved, unless the fault tells of a device; and its request, the tree of its files and its tool's meaning are as they were.
+-- A call is answered: its answer says what it may, a fault only with its cause, and outputs, where no records are kept, only where the call has no fault before; a fault of one that is passed through names no file but those that its words ask for; no failure tick has moved, unless the fault is an I/O error; and its request, the tree of its files and its tool's meaning are as they were.
 pub record IsAnswered {F T : Type 0} (settings : Settings) (files : FilesView F) (tool : ToolView T) (begin end : Call F T) (result : Result Answer Fault) : Type 0 where
   pub says : SaysBy GoesOn (account_at (tool.meaning begin.tool) (files.tree begin.files) settings begin.request) (FilesFail files begin.files end.files) (ToolFails tool begin.tool end.tool) result
   pub plain : settings.direct ≡ false → Says (account_at (tool.meaning begin.tool) (files.tree begin.files) settings begin.request) (FilesFail files begin.files end.files) (ToolFails tool begin.tool end.tool) result

@@ -22,7 +22,7 @@ pub fn compiles_give_what_they_made()
         collected names files ≡ gives names files }
 {}
 
-/// The calls of a run are what stands place by place in the lists of how they begin, how they end and what they answered; what is said
+/// The calls of a run are what is at each place in the lists of how they begin, how they end and what they answered; what is said
 /// of each is said of each place; and the outputs of two runs agree exactly where those at each place do.
 pub fn runs_are_said_by_places<F: Files, T: Tool>()
     ensures calls { (begins : List (Account × Ticks)) (ends : List Ticks)

@@ -71,7 +71,7 @@ fn is_text(request: &Request) -> bool
         && (is_utf8(request.dir.as_bytes()) && are_text_variables(request.env.as_slice()))
 }
 
-/// Whether a word with which it is compiled would make rustc open a file of words.
+/// Whether a word with which it is compiled would make rustc open a response file.
 fn opens_words(alloc: Global, parsed: &ParsedArguments) -> Result<bool, AllocError>
     ensures { IfOk result (λ opens. opens ≡ opens_words (asks_in parsed.now)) }
 {
@@ -80,7 +80,7 @@ fn opens_words(alloc: Global, parsed: &ParsedArguments) -> Result<bool, AllocErr
     Ok(list.iter().any(|word| word.as_bytes().starts_with(b"@")))
 }
 
-/// The verdict on a request that asks for this: whether a word of its compile names a file of words.
+/// The verdict on a request that asks for this: whether a word of its compile names a response file.
 fn after_hazards(alloc: Global, parsed: ParsedArguments) -> Result<RustVerdict, AllocError>
     ensures verdict { IfOk result
         (λ verdict. judgement_of verdict ≡ with_hazards (asks_in parsed)) }
@@ -94,7 +94,7 @@ fn after_hazards(alloc: Global, parsed: ParsedArguments) -> Result<RustVerdict, 
     Ok(RustVerdict::Asks(parsed))
 }
 
-/// The verdict on a request to this rustc, with the files of words that it names opened. What isn't UTF-8 is found before any file
+/// The verdict on a request to this rustc, with the response files that it names opened. What isn't UTF-8 is found before any file
 /// is touched.
 pub fn judge_rust<F: Files>(
     alloc: Global,
@@ -104,7 +104,7 @@ pub fn judge_rust<F: Files>(
 ) -> Result<RustVerdict, Fault>
     ensures verdict { IfOk result
         (λ verdict. judgement_of verdict ≡ rust_verdict_of request.now (F.tree files.old)) }
-    // None of the commands of what is asked for makes rustc open a file of words.
+    // None of the commands of what is asked for makes rustc open a response file.
     ensures opens { IfOk result (λ verdict. OnAsks verdict OpensNothing) }
     ensures untouched { is_text request.now ≡ false → files.new ≡ files.old }
     ensures cause { IfErr result

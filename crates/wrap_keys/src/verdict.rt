@@ -41,8 +41,8 @@ pub enum Verdict {
     Asks(Plan),
 }
 
-/// The verdict on a request that asks for this: an option whose value may stand either way has an empty one, or a word
-/// of a command would open a file of words, or a hashed word holds the byte that ends one.
+/// The verdict on a request that asks for this: an option whose value may be joined or separate has an empty one, or a word
+/// of a command would open a response file, or a hashed word holds the byte that ends one.
 fn after_hazards(
     alloc: Global,
     compiler: AnyC<'_>,
@@ -90,7 +90,7 @@ fn after_hazards(
     Ok(Verdict::Asks(Plan { parsed, compile }))
 }
 
-/// The verdict on a request to this C compiler, with the files of words that it names opened.
+/// The verdict on a request to this C compiler, with the response files that it names opened.
 pub fn judge<F: Files>(
     alloc: Global,
     compiler: AnyC<'_>,
@@ -101,7 +101,7 @@ pub fn judge<F: Files>(
         (λ verdict. judgement_of verdict
         ≡ verdict_of found.kind (words_at found request.now (F.tree files.old))) }
     // The commands are those of the request, and its compiler reads them again as what was wanted, unless an option of Msvc gave an
-    // input that can't stand where it's written.
+    // input that can't be put where it's written.
     ensures plan { IfOk result
         (λ verdict. OnAsks verdict (IsPlanOf (found_of compiler.entry) request.now)) }
     ensures again { let found = found_of compiler.entry in IfOk result

@@ -54,7 +54,7 @@ module _ (digest_of : Bytes → Bytes) (meaning : Meaning) (made call : KeyCall)
       by true h = cc
       by false h = cc
 
--- a fault of the key, or want of memory behind it
+-- a fault of the key, or out of memory after it
 pub unkeyed_exit : {A : Type 0} → (P : Type 0) (result : Result A Fault) → P → OnUnkeyed result P
 unkeyed_exit P (Ok answer) h = tt
 unkeyed_exit P (Err fault) h = by (stage_of fault)

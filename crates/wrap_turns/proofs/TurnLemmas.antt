@@ -241,7 +241,7 @@ pub steady_later : {T F A : Type 0} → (tool : ToolView T) (files : FilesView F
 steady_later tool files tool_old tool_mid tool_new files_old files_mid files_new before (Ok x) h = (h.0 ∙ before.0, h.1 ∙ before.1)
 steady_later tool files tool_old tool_mid tool_new files_old files_mid files_new before (Err fault) h = tt
 
--- a fault that tells of no device is one before it is handed on
+-- a fault that reports no I/O error is one before it is handed on
 pub own_fault : {A : Type 0} → (B : Type 0) (result : Result A Fault) (fault : Fault) → IsErrAnd result (λ f. f ≡ fault) → HasOwnFault result → HasOwnFault {A = B} (Err fault)
 own_fault {A} B (Ok x) fault err h = absurd err
 own_fault {A} B (Err f) fault err h = subst (λ (e : Fault). HasOwnFault {A = B} (Err e)) err (by f h)

@@ -13,6 +13,6 @@ abbrev pub path_found : Option (Bor Bytes) → Bytes
 path_found None = []
 path_found (Some path) = path.now
 
--- at each name stands the path of the output that it means
+-- each name is mapped to the path of the output that it means
 abbrev pub HasPaths : BTreeMap Bytes (Bor Bytes) → Artifacts → Type 0
 HasPaths paths outputs = (name : Bytes) → path_found (get (slice_cmp nat_cmp) paths name) ≡ path_of outputs name

@@ -23,7 +23,7 @@ pub record Makes (meaning : Meaning) (tree : Tree) (kind : Option CCompilerKind)
   pub outputs : artifacts ≡ w.outputs
   pub fresh : meaning Compile (asked_by kind command.arguments) (names_of artifacts) (scene_of command tree moment) ≡ w.fresh
 
--- The request has the work's key, but for where the digest comes from; the record's words can be told apart; its command makes the work's outputs; and the text on dependencies beside them is the work's. A record gave the key only where the work asks for one.
+-- The request has the work's key but for where the digest comes from; its record's words can be told apart; its command makes the work's outputs; and the text on dependencies beside them is the work's. A record gave the key only where the work asks for one.
 pub record IsPrepared (digest_of : Bytes → Bytes) (meaning : Meaning) (tree : Tree) (w : Work) (p : Prepared) : Type 0 where
   pub is_key : p.key ≡ store_key_with digest_of w p.key.digest
   pub told : IsTold digest_of w.rec

@@ -17,7 +17,7 @@ use Rattle.wrap_base.specs.declared.request.Request.{Request}
 abbrev pub rust_command_of : Rustc → Request → RustAsks → SingleCompileCommand
 rust_command_of rust request asked = command_at rust.executable (compile_words asked) (compile_env_of request.env) request.dir
 
--- It has the work's key, whose record can be told by it, and no fault; the work's outputs and its text on dependencies; and the command that makes them.
+-- It has the work's key, which determines its record, and no fault; the work's outputs and its text on dependencies; and the command that makes them.
 pub record IsRustPrepared (digest_of : Bytes → Bytes) (rust : Rustc) (request : Request) (asked : RustAsks) (w : Work) (made : RustPrepared) : Type 0 where
   pub is_key : made.key ≡ store_key_of digest_of w
   pub told : IsTold digest_of w.rec

@@ -32,7 +32,7 @@ abbrev pub IsKept : (StoreKey → StoreKey → Bool) → Bool → Shelf StoreKey
 IsKept eq true old new key pairs = (put : Result (Unit {0}) (StoreKey × Pairs)) × Puts eq old new key pairs put
 IsKept eq false old new key pairs = new ≡ old
 
--- how a hit is told, by whether a record gave its key
+-- how a hit is reported, by whether a record gave its key
 abbrev pub kept_how : Bool → How
 kept_how true = Direct
 kept_how false = Stored

@@ -24,7 +24,7 @@ use wrap_base::answer::{Answer, How};
 use wrap_base::store_key::{Pairs, StoreKey, keys_are_their_fields};
 use wrap_base::tool::Tool;
 
-/// How a hit is told.
+/// How a hit is reported.
 fn kept_how(from_record: bool) -> How
     ensures { result ≡ kept_how from_record }
 {

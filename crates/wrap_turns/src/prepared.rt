@@ -104,7 +104,7 @@ pub fn prepare<'a, H: HashState, E: Store<EntryKey, PreprocessorCacheEntry>, F: 
         AreSteady T.Preprocessor F.Files tool.old files.old tool.new files.new }
     ensures compiles { T.compiled tool.new ≡ T.compiled tool.old }
 {
-    // A law, which costs nothing: words of which none holds the byte that ends one can be told apart without the folders too.
+    // A law, which costs nothing: words of which none holds the byte that ends one can be distinguished without the folders too.
     stripped_words_lack_the_end();
     let hasher = compiler.hasher(&plan.parsed);
     let place = place_of(request, config);

@@ -1,4 +1,4 @@
-//! Requests to rustc: the verdict on one, its key by what rustc tells, and what it is answered.
+//! Requests to rustc: the verdict on one, its key by what rustc reports, and what it is answered.
 
 ghost use Rattle.std.specs.Prelude.{◌≡◌, false, IfOk, IfErr, OnOk};
 ghost use Rattle.os_files.specs.Bytes.{ticked};
@@ -37,7 +37,7 @@ use wrap_base::tool::Tool;
 use wrap_keys::keys::names_of;
 use wrap_keys::rust_verdict::{RustVerdict, judge_rust};
 
-/// A request to rustc with its key: the compile that it stands for, and the text on dependencies where it asks for one.
+/// A request to rustc with its key: the compile that it represents, and the text on dependencies where it asks for one.
 #[derive(Drop)]
 pub struct RustPrepared {
     key: StoreKey,

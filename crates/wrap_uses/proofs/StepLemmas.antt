@@ -10,7 +10,7 @@ use Rattle.wrap_base.specs.declared.answer.Answer.TheVariants.{Pass, Outputs}
 use Rattle.wrap_base.specs.declared.answer.How.TheVariants.{Direct, Stored, Fresh}
 use Rattle.wrap_uses.specs.Steps.{Costs, GivesFresh, came_to}
 
--- a step costs what its answer tells
+-- a step costs what its answer reports
 pub costs_of : (digest_of : Bytes → Bytes) (max_kept : Option ℕ) (a : Account) (on_file : Bytes → Type 0) (device_in : Step → Type 0) (answer : Answer) (old new : Shelves) (printed printed_new before after : ℕ) → SaysBy GoesOn a on_file device_in (Ok answer) → AskedTurn digest_of max_kept a old new printed printed_new before after (Ok answer) → Costs (came_to answer) before after
 costs_of digest_of max_kept (passed why) on_file device_in (Pass reason) old new printed printed_new before after says turn = turn.objects.told.1
 costs_of digest_of max_kept (passed why) on_file device_in (Outputs map how dep_info) old new printed printed_new before after says turn = absurd says

@@ -9,7 +9,7 @@ use Rattle.wrap_uses.specs.declared.budget.BudgetStore.{BudgetStore}
 abbrev pub size_of : Pairs → ℕ
 size_of pairs = sum (map (λ pair. length pair.1) pairs)
 
--- what is left of a number of bytes behind so many: none where they are more
+-- what is left of a number of bytes after so many: none where they are more
 abbrev pub Left : ℕ → ℕ → Option ℕ → Type 0
 Left bytes size None = bytes < size
 Left bytes size (Some left) = left + size ≡ bytes

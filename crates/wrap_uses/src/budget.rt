@@ -17,7 +17,7 @@ pub struct BudgetStore<O> {
     puts: u64,
 }
 
-/// What is left of these bytes behind the contents of these outputs, if they fit.
+/// What is left of these bytes after the contents of these outputs, if they fit.
 fn left_after(pairs: &[(OsBytes, OsBytes)], bytes: u64) -> Option<u64>
     ensures { Left bytes (size_of pairs.now) result }
 {

@@ -12,7 +12,7 @@ use wrap::{
     RustcAnswers, SingleCompileCommand, Step, Ticks, Tool, ToolFail,
 };
 
-/// Runs the steps of another tool, but no more than so many compiles: a further one fails as a device does, and nothing runs.
+/// Runs the steps of another tool, but no more than so many compiles: a further one fails as if by an I/O error, and nothing runs.
 #[derive(Drop)]
 pub struct CappedTool<T> {
     inner: T,

@@ -8,7 +8,7 @@ use rustc_parts::parts::{Parts, RShape};
 use rustc_parts::reading::read_key_bytes;
 use std::alloc::{AllocError, Global};
 
-/// A key as it was recorded: the bytes that were hashed, and what they don't tell.
+/// A key as it was recorded: the bytes that were hashed, and what they don't determine.
 #[derive(Debug, Drop, PartialEq, Eq)]
 pub struct RecordedKey {
     pub bytes: OsBytes,

@@ -39,7 +39,7 @@ fn outcome_of(answer: Answer) -> Outcome
     }
 }
 
-/// Asks a session for one step's outputs. Where the build is to run the compiler itself, it is told why.
+/// Asks a session for one step's outputs. Where the build is to run the compiler itself, the reason is given.
 pub fn run_step<
     H: HashState,
     E: Store<EntryKey, PreprocessorCacheEntry> + Drop,

@@ -14,7 +14,7 @@ pub(super) enum Kind {
     Argument,
 }
 
-/// Whether a folder of a text may stand behind this byte.
+/// Whether a folder of a text may come after this byte.
 fn opens(byte: u8) -> bool
     ensures { result ≡ spec.opens byte }
 {

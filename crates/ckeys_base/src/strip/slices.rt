@@ -107,7 +107,7 @@ fn next_byte(kind: Kind, folders: &[OsBytes], text: &[u8], from: usize) -> usize
     text.len()
 }
 
-/// Where the slice behind the folder at this place begins, unless this is the end.
+/// Where the slice after the folder at this place begins, unless this is the end.
 pub(super) fn next_start(kind: Kind, folders: &[OsBytes], text: &[u8], end: usize) -> Option<usize>
     requires { end ≤ length text.now }
     ensures value { result

@@ -6,7 +6,7 @@ use Rattle.include_records.specs.Surroundings.{contents_in}
 use Rattle.ckeys_records.specs.Faults.{first_missing}
 use Rattle.ckeys.proofs.needed.extra_hashes.Given as goal
 
--- the digests so far stand before those of the files that are left, and the first file that isn't there is among these
+-- the digests so far come before those of the files that are left, and the first file that isn't there is among these
 abbrev pub invariant-loop-name : goal.invariant-loop-name
 invariant-loop-name g l =
     let tree = g.F.Files.tree l.fn.files in

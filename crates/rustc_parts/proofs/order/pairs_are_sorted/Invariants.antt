@@ -3,6 +3,6 @@ use Rattle.std.specs.List.Sorted.{IsSortedWithin}
 use Rattle.rustc_parts.specs.Orders.{pair_cmp}
 use Rattle.rustc_parts.proofs.order.pairs_are_sorted.Given as goal
 
--- none of those so far stands before the one in front of it
+-- none of those so far is less than the one before it
 abbrev pub invariant-loop-i : goal.invariant-loop-i
 invariant-loop-i l = IsSortedWithin (λ x y. is_lt (pair_cmp x y)) l.pairs 0 l.i

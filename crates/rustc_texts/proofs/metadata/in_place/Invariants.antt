@@ -4,7 +4,7 @@ use Rattle.rustc_texts.specs.Outputs.{Tells, with_metadata_of}
 use Rattle.rustc_texts.specs.Places.{TellsLast, is_none_of}
 use Rattle.rustc_texts.proofs.metadata.in_place.Given as goal
 
--- The set tells the names with the metadata of the libraries so far. Those of them are made that are none of the libraries that are left.
+-- The set contains the names with the metadata of the libraries so far. Those of them are made that are none of the libraries left.
 abbrev pub invariant-loop-place : goal.invariant-loop-place
 invariant-loop-place l =
     let names : List Bytes = fold (with_metadata_of false) l.fn.names.items (take l.place l.libraries) in

@@ -2,6 +2,6 @@ use Rattle.std.proofs.Common.{take}
 use Rattle.rustc_texts.specs.Outputs.{Tells}
 use Rattle.rustc_texts.proofs.told.told_of.Given as goal
 
--- the set tells the names so far
+-- the set contains the names so far
 abbrev pub invariant-loop-name : goal.invariant-loop-name
 invariant-loop-name l = Tells l.told (take l.name-index l.names)

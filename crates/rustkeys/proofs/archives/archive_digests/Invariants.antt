@@ -7,7 +7,7 @@ use Rattle.rustkeys.specs.Questions.{digested}
 use Rattle.rustkeys.specs.Runs.{AtMostFor, ticked_for}
 use Rattle.rustkeys.proofs.archives.archive_digests.Given as goal
 
--- the digests so far stand before those of the libraries that are left, and the first one that isn't a digest is among these
+-- the digests so far come before those of the libraries that are left, and the first one that isn't a digest is among these
 abbrev pub invariant-loop-path : goal.invariant-loop-path
 invariant-loop-path g l =
     let tree = g.F.Files.tree l.fn.files in

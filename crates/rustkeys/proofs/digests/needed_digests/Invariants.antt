@@ -5,7 +5,7 @@ use Rattle.ckeys_records.specs.Faults.{first_missing}
 use Rattle.rustkeys.specs.Records.{digest_text}
 use Rattle.rustkeys.proofs.digests.needed_digests.Given as goal
 
--- the digests so far stand before those of the files that are left, and the first file that isn't there is among these
+-- the digests so far come before those of the files that are left, and the first file that isn't there is among these
 abbrev pub invariant-loop-path : goal.invariant-loop-path
 invariant-loop-path g l =
     let tree = g.F.Files.tree l.fn.files in

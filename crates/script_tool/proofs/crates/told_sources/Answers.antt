@@ -14,7 +14,7 @@ use Rattle.rustc_texts.specs.DepInfo.{sources_of}
 use Rattle.script_tool.specs.ScriptedCrates.{told_sources}
 use Rattle.script_tool.proofs.crates.told_sources.Goals as goal
 
--- what isn't UTF-8 tells no sources
+-- what isn't UTF-8 gives no sources
 none_told : (dir text : Bytes) → (IsUtf8 text → ⊥) → None ≡ told_sources dir text
 none_told dir text other = by (is_utf8 text) refl
   where
@@ -22,7 +22,7 @@ none_told dir text other = by (is_utf8 text) refl
     by true e = absurd (other (IsUtf8-from_is_utf8 text e))
     by false e = rw e refl
 
--- sources that are found and sorted are those that are told
+-- sources that are found and sorted are those that are reported
 found_in_order : IsTotalOrder path_cmp → ((x y : Bytes) → path_cmp x y ≡ Equal → x ≡ y) → (ys : List Bytes) (found : Option (List Bytes)) → (found ≡ None → ⊥) → IfSome found (λ zs. IsPermutation zs ys) → IsSorted path_cmp ys → Some ys ≡ option_map (sorted_by path_cmp) found
 found_in_order total ties ys None there same sorted = absurd (there refl)
 found_in_order total ties ys (Some zs) there same sorted = ap Some (sorted_is path_cmp total ties zs ys same sorted)

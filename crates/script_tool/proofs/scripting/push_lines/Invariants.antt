@@ -5,7 +5,7 @@ use Rattle.script_tool.specs.Scripted.{replaced}
 use Rattle.script_tool.specs.Texts.{whole}
 use Rattle.script_tool.proofs.scripting.push_lines.Given as goal
 
--- the text so far, and what stands in the place of the lines that are left
+-- the text so far, and what replaces the lines that are left
 abbrev pub invariant-loop-line : goal.invariant-loop-line
 invariant-loop-line g l =
     let line_by = replaced (g.F.Files.tree l.fn.files) l.fn.dir l.fn.path in
