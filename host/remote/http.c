@@ -1,4 +1,4 @@
-/* HTTP by libcurl, which is loaded where it is needed alone: that takes longer than all else here. */
+/* HTTP with TLS or through a proxy, by libcurl, which is loaded only where it is needed: that takes longer than all else here. */
 #define _GNU_SOURCE
 #include "remote.h"
 #define CURL_DISABLE_TYPECHECK

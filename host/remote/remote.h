@@ -39,7 +39,7 @@ struct kind {
     void (*let_go)(void);
 };
 
-extern const struct kind redis, http, folder;
+extern const struct kind redis, plain, http, folder;
 
 struct storage *storage_of(const char *text, long connect, long whole);
 int place_of(const struct storage *storage, const char *name, char *place, size_t room);

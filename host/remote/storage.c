@@ -71,14 +71,14 @@ static int take_place(struct storage *storage, char *text) {
         storage->kind = &redis;
         storage->path = text + 11;
     } else if (begins(text, "http://") || begins(text, "https://")) {
-        storage->kind = &http;
+        storage->kind = begins(text, "https://") || getenv("http_proxy") ? &http : &plain;
         storage->path = text;
     } else if (begins(text, "file:")) {
         storage->kind = &folder;
         storage->path = text + (begins(text, "file://") ? 7 : 5);
     } else return -1;
     for (size_t size = strlen(storage->path); size > 1 && storage->path[size - 1] == '/'; size--) storage->path[size - 1] = 0;
-    return storage->kind == &http || *storage->path == '/' ? 0 : -1;
+    return storage->kind == &http || storage->kind == &plain || *storage->path == '/' ? 0 : -1;
 }
 
 static void take_attribute(struct storage *storage, char *text) {
