@@ -11,6 +11,7 @@ import sys
 sys.dont_write_bytecode = True
 
 from documents import Document, names_in  # noqa: E402
+from pictures import PICTURES  # noqa: E402
 from sources import Sources, read  # noqa: E402
 
 TOP = os.path.dirname(os.path.dirname(os.path.dirname(os.path.realpath(__file__))))
@@ -295,10 +296,18 @@ class Check:
             for library in sorted(self.sources.libraries):
                 self.is_so(f"`{library}`" in " ".join(listed), path, f"doesn't list {library} as trusted")
 
+    def pictures(self):
+        """Each picture is as it would be drawn now, and names crates that are there."""
+        for path, draw in PICTURES.items():
+            text = draw()
+            self.is_so(os.path.isfile(f"{TOP}/{path}") and read(f"{TOP}/{path}") == text, path, "isn't what bin/pictures draws")
+            for name in sorted(set(re.findall(r"\b[a-z0-9]+(?:_[a-z0-9]+)+\b", text))):
+                self.is_so(name in self.sources.crates, path, f"names no crate: {name}")
+
     def run(self):
         """All checks. Gives whether any failed."""
         for check in (self.paths, self.links, self.commands, self.names, self.variables, self.keys, self.options, self.crates, self.promises,
-                      self.promises_elsewhere, self.trusted):
+                      self.promises_elsewhere, self.trusted, self.pictures):
             check()
         for row in self.exceptions.patterns:
             self.is_so(row in self.exceptions.used, "lib/docs/exceptions", f"nothing needs: {' '.join(row)}")
