@@ -1,4 +1,4 @@
-//! Words of commands: cut by the tree of a compiler's flags or by its tables one behind the other, parsed, or copied.
+//! Words of commands: cut by the tree of a compiler's flags or by its tables one after the other, parsed, or copied.
 
 use crate::words::{Tally, copy};
 use cmdlines::gcc::Gcc;
@@ -76,7 +76,7 @@ pub(crate) fn tree_cuttings(
     cuttings(alloc, kind, &tree, words, repeats)
 }
 
-/// Cuts the words so often by the compiler's table, or by its two, one behind the other.
+/// Cuts the words so often by the compiler's table, or by its two, one after the other.
 pub(crate) fn table_cuttings(
     alloc: Global,
     kind: CCompilerKind,

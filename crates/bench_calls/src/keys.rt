@@ -1,4 +1,4 @@
-//! Keys of texts without folders, and digests of texts: as they stand, and without folders by way of a copy.
+//! Keys of texts without folders, and digests of texts: as they are, and without folders by way of a copy.
 
 use ckeys_base::digest::Digest;
 use ckeys_base::strip::strip_basedirs;
@@ -34,7 +34,7 @@ fn digest_of(alloc: Global, text: &[u8]) -> Result<String, AllocError> {
     digest.finish(alloc)
 }
 
-/// Digests the text so often, as it stands.
+/// Digests the text so often, as it is.
 pub(crate) fn text_digests(alloc: Global, text: &[u8], repeats: u32) -> Result<String, AllocError> {
     let mut last = String::new(alloc);
     for _ in 0..repeats {

@@ -2,7 +2,7 @@
 //! walks over their markers or digests them; words in a file it cuts by a compiler's tree or tables, parses or copies; on a chain
 //! of files in memory, each of which names the next one, it opens the chain or copies it; and it makes trees, and looks into include
 //! records, makes keys, looks into stores, and reads and writes texts on dependencies and bytes of rustc's keys: as often as it is
-//! told. It prints one line of what the last call gave.
+//! asked. It prints one line of what the last call gave.
 #![tactic(auto)]
 
 ghost use Rattle.std.specs.Prelude.{◌≡◌, IfOk, length};
@@ -57,7 +57,7 @@ enum Fault {
     /// The line can't be written.
     #[error("bench_calls: the line cannot be written")]
     Output,
-    /// A growth was refused.
+    /// Out of memory.
     #[error("bench_calls: out of memory")]
     Memory,
 }
@@ -101,7 +101,7 @@ impl From<TextFault> for Fault {
     }
 }
 
-/// What the line tells of a text: its length, and the byte in its middle, which the calls have to have written.
+/// What the line says of a text: its length, and the byte in its middle, which the calls have to have written.
 #[derive(Clone, Copy, Debug, PartialEq, Eq)]
 struct Glance {
     length: usize,

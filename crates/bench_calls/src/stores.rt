@@ -23,7 +23,7 @@ fn turns<S: Store<u64, usize>>(store: &mut S, first: u64, count: u32) -> Tally {
     tally
 }
 
-/// Puts a pair under the key. One that is refused isn't found again, which a tally tells.
+/// Puts a pair under the key. One that is refused isn't found again, which a tally shows.
 fn put<S: Store<u64, usize>>(store: &mut S, key: u64) {
     let _ = store.put(key, 1);
 }

@@ -83,7 +83,7 @@ pub(crate) fn marker_tallies(text: &[u8], repeats: u32) -> Tally {
     last
 }
 
-/// Searches the text so often for a byte that stands in no text of UTF-8, and tallies how often and how far.
+/// Searches the text so often for a byte that occurs in no text of UTF-8, and tallies how often and how far.
 pub(crate) fn byte_searches(text: &[u8], repeats: u32) -> Tally {
     let mut tally = Tally::none();
     for byte in (0xf8u8..=u8::MAX).cycle().take(repeats as usize) {

@@ -1,4 +1,4 @@
-//! Files of words: texts that are split into their arguments, and chains of files of which each names the next one.
+//! Response files: texts that are split into their arguments, and chains of files of which each names the next one.
 
 ghost use Rattle.std.specs.Prelude.{◌≡◌, IfOk, length};
 ghost use Rattle.response_files.specs.Expansion.{expanded};
@@ -17,7 +17,7 @@ use response_texts::gnu::split_gnu_response_file_args;
 use response_texts::msvc::SplitMsvcResponseFileArgs;
 use std::alloc::{AllocError, Global};
 
-/// What the line tells of words, or of the texts of files: how many there are, and how many bytes they have together, modulo
+/// What the line says of words, or of the texts of files: how many there are, and how many bytes they have together, modulo
 /// 2 ^ 64.
 #[derive(Clone, Copy, Debug, PartialEq, Eq)]
 pub(crate) struct Tally {

@@ -1,4 +1,4 @@
-//! The builds of a log, told apart by parent and gap.
+//! The builds of a log, distinguished by parent and gap.
 
 use crate::call::Call;
 use std::alloc::{AllocError, Global};

@@ -1,4 +1,4 @@
-//! A call, as its line in a log tells it.
+//! A call, as its line in a log describes it.
 
 use crate::kind::Kind;
 use crate::texts::TextId;

@@ -30,7 +30,7 @@ fn behind<'a>(text: &'a str, front: &str) -> Option<&'a str> {
     text.strip_prefix(front)
 }
 
-/// What made a miss, from what is said of it: a file, or what it is otherwise, without the place at which a word stands.
+/// What caused a miss, from what is said of it: a file, or any other cause, without the position of a word.
 pub fn maker_of(alloc: Global, why: &str) -> Result<String, AllocError> {
     if why.is_empty() {
         return String::from_str(alloc, "unknown");

@@ -9,7 +9,7 @@ use std::alloc::{AllocError, AllocFailed, Global};
 /// Why a line isn't read.
 #[derive(Drop)]
 pub enum LineFault {
-    /// A growth was refused.
+    /// Out of memory.
     Memory,
     /// It isn't a line of such a log.
     Broken,
@@ -148,7 +148,7 @@ fn ran(
     Ok(ran)
 }
 
-/// The call that the members of a line tell.
+/// The call that the members of a line describe.
 fn call_of(
     alloc: Global,
     texts: &mut Texts,
@@ -181,7 +181,7 @@ fn call_of(
     })
 }
 
-/// The call that a line tells.
+/// The call that a line describes.
 pub fn read_line(alloc: Global, texts: &mut Texts, line: &[u8]) -> Result<Call, LineFault> {
     let value = Value::from_slice(alloc, line)?;
     let Some(members) = value.as_object() else {

@@ -1,4 +1,4 @@
-//! What ninja's own log tells beside a log of calls: other commands of a build, as links.
+//! What ninja's own log adds to a log of calls: other commands of a build, as links.
 
 use crate::call::Call;
 use crate::kind::Kind;
@@ -61,7 +61,7 @@ fn origin(entries: &[Entry<'_>], starts: &BTreeMap<String, u64>) -> Option<u64> 
     origin
 }
 
-/// The call that stands for a command.
+/// The call that represents a command.
 fn call_of(alloc: Global, what: TextId, output: TextId, start: u64, end: u64) -> Call {
     Call {
         kind: Kind::Other,
@@ -99,7 +99,7 @@ fn starts_of(
     Ok(starts)
 }
 
-/// Calls that stand for the commands of ninja's last build which aren't among these calls; nothing where none of its outputs is one of theirs,
+/// Calls that represent the commands of ninja's last build which aren't among these calls; nothing where none of its outputs is one of theirs,
 /// so that it isn't known when it began.
 pub fn other_commands(
     alloc: Global,

@@ -9,14 +9,14 @@ pub type TextId = u32;
 /// The number of the empty text.
 pub const NOTHING: TextId = 0;
 
-/// Texts, each once. None has a control character in it, nor one that turns the direction of what stands beside it.
+/// Texts, each once. None contains a control character, nor one that changes the direction of the text beside it.
 #[derive(Drop)]
 pub struct Texts {
     texts: Vec<String>,
     ids: HashMap<String, TextId>,
 }
 
-/// The character that stands for a byte of no text, or for what must not be shown.
+/// The character that stands for a byte that belongs to no text, or for what must not be shown.
 const UNFIT: char = '\u{fffd}';
 
 /// What is shown of a character: pictures of control characters, and none that turns the direction of others.
@@ -56,7 +56,7 @@ fn digit(byte: u8) -> Option<u8> {
     }
 }
 
-/// The text that stands for bytes which are none, by their digits: letters as they are, and `\x` with two digits for other bytes. Nothing
+/// The text that represents bytes that are no text, from their digits: letters as they are, `\x` with two digits for other bytes. Nothing
 /// where these are no digits.
 pub fn text_of_digits(alloc: Global, digits: &str) -> Result<Option<String>, AllocError> {
     let mut text = String::new(alloc);

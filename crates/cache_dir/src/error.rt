@@ -8,7 +8,7 @@ use std::{fmt, io};
 /// Why a file of the folder couldn't be read or written.
 #[derive(Drop)]
 pub enum CacheDirError {
-    /// A growth was refused.
+    /// Out of memory.
     Memory,
     /// The disk failed.
     Device,

@@ -1,4 +1,4 @@
-//! Digests of files, which are read again only where their path, size, device, inode or time isn't what it was.
+//! Digests of files. A file is read again only where its path, size, device, inode or time has changed.
 
 ghost use Rattle.std.specs.Prelude.{◌≡◌, IfOk, string_bytes};
 ghost use Rattle.ckeys_base.specs.Hex.{hex_of};
@@ -31,7 +31,7 @@ pub fn digest_of(alloc: Global, bytes: &[u8]) -> Result<String, CacheDirError>
     digest_by::<Blake2b256>(alloc, bytes)
 }
 
-/// Adds what tells whether a file changed.
+/// Adds what shows whether a file changed.
 fn put_state<R: Files>(rt: &R, path: &str, state: &mut Vec<u8>) -> Result<(), CacheDirError> {
     let metadata = fs::metadata(rt, path)?;
     put_framed(state, path.as_bytes())?;

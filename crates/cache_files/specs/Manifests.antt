@@ -15,6 +15,6 @@ included includes = map (λ include. include.path) includes
 abbrev pub names_in : List CachedResult → List Bytes
 names_in results = in_order (flat_map (λ r. included r.includes) results)
 
--- the zone in which days are told, and the two digests of the key
+-- the time zone of dates, and the two digests of the key
 abbrev pub row_of : Bytes → EntryKey → Bytes
 row_of zone key = framed zone ++ framed key.identity ++ framed key.key

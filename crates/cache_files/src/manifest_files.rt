@@ -19,7 +19,7 @@ use os_files::os_bytes::OsBytes;
 use std::alloc::Global;
 use std::rt::Files;
 
-/// The name of the manifest that lies under this key, of calls that told days in that zone: the digest of both.
+/// The name of the manifest under this key for calls with dates in that time zone: the digest of both.
 pub fn name_of_manifest(alloc: Global, zone: &str, key: &EntryKey) -> Result<String, CacheDirError>
     ensures { IfOk result (λ name. string_bytes name
         ≡ hex_of (⟦<Blake2b256 as HashState>⟧.digest_of (row_of zone.now key.now))) }
@@ -31,7 +31,7 @@ pub fn name_of_manifest(alloc: Global, zone: &str, key: &EntryKey) -> Result<Str
     digest_of(alloc, row.as_slice())
 }
 
-/// Puts a manifest of calls that told days in that zone under its key, which has this name, with what to watch of its results.
+/// Puts a manifest of calls with dates in that time zone under its key, which has this name, with what to watch of its results.
 pub fn put_manifest<R: Files + AllocGlobal>(
     rt: &R,
     folder: &CacheDir,
@@ -46,7 +46,7 @@ pub fn put_manifest<R: Files + AllocGlobal>(
     folder.put(rt, Kind::Manifests, name, bytes.as_slice())
 }
 
-/// The manifest of this name, if there is one of calls that told days in that zone.
+/// The manifest of this name, if there is one of calls with dates in that time zone.
 pub fn manifest_under<R: Files + AllocGlobal>(
     rt: &R,
     folder: &CacheDir,

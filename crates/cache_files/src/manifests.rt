@@ -110,7 +110,7 @@ fn results_of(alloc: Global, entry: &PreprocessorCacheEntry) -> Result<OsBytes, 
     }
 }
 
-/// A manifest under its key with what to watch of its results, as it is kept of calls that told days in that zone.
+/// A manifest under its key with what to watch of its results, as it is kept of calls with dates in that time zone.
 pub fn kept_of(
     alloc: Global,
     zone: &str,

@@ -1,8 +1,8 @@
-//! A preprocessed text in short: a line for each file that its markers name, in the order in which they come last, so that a file stands
-//! behind those that it includes.
+//! A preprocessed text in short: a line for each file that its markers name, in the order in which they come last, so that a file comes
+//! after those that it includes.
 //!
-//! A line has the digest of all lines of that file, a space and the file's name, as it stands between the quotes. Lines of a file are
-//! those behind a marker of it, up to the next marker, and the marker itself; lines ahead of the first one are those of an empty name. A
+//! A line has the digest of all lines of that file, a space and the file's name, as it is written between the quotes. Lines of a file are
+//! those after a marker of it, up to the next marker, and the marker itself; lines before the first one are those of an empty name. A
 //! last line has the digest of the names of all markers, one after another, and no space. So two texts are the same where they are the
 //! same in short, if digests are distinct.
 
@@ -41,7 +41,7 @@ impl<'a> FileLines<'a> {
 /// The files of a text, so far.
 #[derive(Drop)]
 struct TextFiles<'a> {
-    /// Where among them the file of a name stands.
+    /// The index among them of the file of a name.
     places: HashMap<&'a [u8], usize>,
     files: Vec<FileLines<'a>>,
     /// How many times lines of a file were taken.
@@ -60,7 +60,7 @@ impl<'a> TextFiles<'a> {
         }
     }
 
-    /// Where the file of that name stands, from now on.
+    /// The index of the file of that name, which it has from now on.
     fn place_of(&mut self, name: &'a [u8]) -> Result<usize, AllocError> {
         if let Some(place) = self.places.get(&name) {
             return Ok(*place);

@@ -30,7 +30,7 @@ bytes_own : (xs : Bytes) → pointwise nat_eq xs xs ≡ true
 bytes_own [] = refl
 bytes_own (x ∷ xs) = and_from (nat_eq x x) (pointwise nat_eq xs xs) (eq-eqb x x refl) (bytes_own xs)
 
--- what a test of two texts says where they aren't told apart, and where they are
+-- what a test for a difference says of two texts where it finds none, and where it finds one
 pub untold : (xs ys : Bytes) (t : Bool) → t ≡ not (pointwise nat_eq xs ys) → t ≡ false → xs ≡ ys
 untold xs ys t is h = bytes_are xs ys (not-false (pointwise nat_eq xs ys) (sym is ∙ h))
 

@@ -32,7 +32,7 @@ language_of b =
     if b == 5 then Some AssemblerToPreprocess else (
     if b == 6 then Some Rust else None))))))
 
--- a choice by its byte, and what stands behind it
+-- a choice by its byte, and what comes after it
 unfoldable pub coded_at : {X : Type 0} → (ℕ → Option X) → Bytes → Read X
 coded_at of [] = None
 coded_at of (b ∷ rest) = do

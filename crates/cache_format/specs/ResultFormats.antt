@@ -25,7 +25,7 @@ module _ {X : Type 0} (of : ℕ → Option X) (code : X → ℕ) (back : (x : X)
   pub coded_format : IsFormat (coded_at of) (coded code) AnyFits
   coded_format = record { takes = coded_takes; again = coded_again }
 
--- a choice by a test of its byte, or by the tests behind it
+-- a choice by a test of its byte, or by the tests after it
 chosen_by : {X : Type 0} (code : X → ℕ) (b n : ℕ) (own x : X) (rest : Option X) → (rest ≡ Some x → code x ≡ b) → code own ≡ n → (t : Bool) → (b == n) ≡ t → (if t then Some own else rest) ≡ Some x → code x ≡ b
 chosen_by code b n own x rest others is true same e = ap code (sym (some_is own x e)) ∙ is ∙ sym (eqb-true b n same)
 chosen_by code b n own x rest others is false same e = others e

@@ -17,7 +17,7 @@ fn flag_of(byte: u8) -> Option<bool>
     }
 }
 
-/// Whether it is so, and what stands behind it.
+/// The flag, and what comes after it.
 #[tactic(auto, unfolding(crate::specs::Codes::coded_at))]
 pub(crate) fn read_flag(bytes: &[u8]) -> Result<(bool, &[u8]), ReadFault>
     ensures { Gives (λ x. (x.0, x.1.now)) result (coded_at flag_of bytes.now) }
@@ -52,7 +52,7 @@ fn language_of(byte: u8) -> Option<Language>
     }
 }
 
-/// The language, and what stands behind it.
+/// The language, and what comes after it.
 #[tactic(auto, unfolding(crate::specs::Codes::coded_at))]
 pub(crate) fn read_language(bytes: &[u8]) -> Result<(Language, &[u8]), ReadFault>
     ensures { Gives (λ x. (x.0, x.1.now)) result (coded_at language_of bytes.now) }

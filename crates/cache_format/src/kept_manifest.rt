@@ -10,7 +10,7 @@ use std::alloc::{AllocError, Global};
 /// An manifest, as its own bytes, under an entry key of calls in one zone.
 #[derive(Drop)]
 pub struct KeptManifest {
-    /// The zone in which these calls told days, as text.
+    /// The time zone of the dates in these calls, as text.
     pub zone: OsBytes,
     /// The two digests of the entry key.
     pub identity: OsBytes,

@@ -11,7 +11,7 @@ pub struct KeptName {
     pub optional: bool,
 }
 
-/// What the hashed bytes of a request don't tell.
+/// What the hashed bytes of a request don't determine.
 #[derive(Drop)]
 pub struct KeptShape {
     pub language: Language,

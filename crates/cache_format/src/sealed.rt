@@ -1,4 +1,4 @@
-//! Whole values, behind the version of their layout and with the digest of their bytes at the end.
+//! Whole values, preceded by the version of their layout and followed by the digest of their bytes.
 
 ghost use Rattle.std.specs.Prelude.{◌≡◌, ℕ, IfOk, IfSome, OnOk, Some};
 ghost use Rattle.byte_formats.specs.Reading.{Gives};
@@ -84,7 +84,7 @@ fn read_fields<T: Field>(alloc: Global, bytes: &[u8]) -> Result<T, ReadFault>
     Ok(value)
 }
 
-/// The value that stands behind that version in these bytes.
+/// The value that comes after that version in these bytes.
 #[tactic(auto, unfolding(crate::specs::Sealed::whole_at))]
 fn read_whole<T: Field>(alloc: Global, version: u8, bytes: &[u8]) -> Result<T, ReadFault>
     ensures { Gives (λ value. value) result (whole_at version T.reads bytes.now) }

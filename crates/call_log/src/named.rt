@@ -38,7 +38,7 @@ const VALUED: [&str; 25] = [
     "--param",
 ];
 
-/// Whether the word behind this one is its value.
+/// Whether the word after this one is its value.
 fn takes_value(word: &[u8]) -> bool {
     VALUED.iter().any(|name| name.as_bytes() == word)
 }

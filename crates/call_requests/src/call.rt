@@ -1,4 +1,4 @@
-//! The request of a call. Words that ask for a dependency file aren't told to the session: what that file has in it is bound to the key, and
+//! The request of a call. Words that ask for a dependency file aren't passed to the session: what is in that file is bound to the key, and
 //! the file that a compile wrote is kept beside its messages.
 
 ghost use Rattle.std.specs.Prelude.{◌≡◌};
@@ -21,13 +21,13 @@ use std::io::Read;
 use std::rt::Files;
 use wrap_base::request::Request;
 
-/// What inputs are called that are compiled as they stand, or of which an assembler notes where they lie.
+/// Name endings of inputs that are compiled as they are, or whose place an assembler records.
 const WITHOUT_FOLDER: [&str; 5] = [".i", ".ii", ".s", ".S", ".sx"];
 
-/// What words begin with behind which an assembler may note where an input lies.
+/// What words begin with after which an assembler may record where an input is.
 const FOR_ASSEMBLER: [&str; 2] = ["-Wa,", "-Xassembler"];
 
-/// Languages of inputs that are compiled as they stand, or of which an assembler notes where they lie.
+/// Languages of inputs that are compiled as they are, or whose place an assembler records.
 const LANGUAGES: [&str; 4] = [
     "assembler",
     "assembler-with-cpp",
@@ -35,7 +35,7 @@ const LANGUAGES: [&str; 4] = [
     "cpp-output",
 ];
 
-/// The variables that the session is told: those that compilers read, in the order of their names, and the one that stands for all
+/// The variables that are passed to the session: those that compilers read, in the order of their names, and the one that stands for all
 /// additions.
 fn env_of(
     alloc: Global,
@@ -116,13 +116,13 @@ fn dependencies_in(alloc: Global, line: &CommandLine) -> Result<Option<Dependenc
     Ok(dependencies_of(alloc, line.words.as_slice())?)
 }
 
-/// What the session is asked about a call, and what it isn't told.
+/// What the session is asked about a call, and what isn't passed to it.
 #[derive(Drop)]
 pub struct Call {
     pub request: Request,
     /// Whether the compiler takes the word by which its messages are in colour.
     pub takes_color: bool,
-    /// What the words say of a dependency file; nothing where the session is told of it.
+    /// What the words say of a dependency file; nothing where those words are passed to the session.
     pub dependencies: Option<Dependencies>,
 }
 

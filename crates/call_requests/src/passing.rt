@@ -1,4 +1,4 @@
-//! What is passed through before the session is asked, since neither the compiler's words nor its text would tell what was made.
+//! What is passed through before the session is asked, since neither the compiler's words nor its text would determine what was made.
 //! docs/WRAPPER.md says what each variable and option does.
 
 use host_protocol::command_line::CommandLine;
@@ -73,7 +73,7 @@ pub fn reason_against(alloc: Global, line: &CommandLine) -> Result<Option<String
     }
 }
 
-/// Whether an object may be asked for, by these words or those in a file of words.
+/// Whether an object may be asked for, by these words or those in a response file.
 fn may_ask_for_object(words: &[OsBytes]) -> bool {
     has_word(words, b"-c")
         || has_word(words, b"-S")
@@ -97,12 +97,12 @@ fn unknown_in(alloc: Global, line: &CommandLine) -> Result<Option<String>, HostE
     }
 }
 
-/// Whether a word says of which language the inputs behind it are.
+/// Whether a word says of which language the inputs after it are.
 fn is_language(word: &[u8]) -> bool {
     word.starts_with(b"-x") || word.starts_with(b"--language")
 }
 
-/// The word of a language behind an input: compilers take it for those behind it, and the session for all.
+/// A word for a language that comes after an input: compilers apply it to the inputs after it, and the session to all.
 fn late_language(words: &[OsBytes]) -> Option<&OsBytes> {
     let mut has_input = false;
     for placed in PlacedWords::of(words) {

@@ -2,8 +2,8 @@
 //! made first. Then `ready` is said on standard error, and from there on no memory grows. Of each row a line is printed: `a table: right`, or
 //! `wrong` where a call isn't answered as it has to be.
 //!
-//! `bin/refusals` gives each row to a process of its own, and refuses each growth behind `ready`. The row `a copy` takes memory there, so it
-//! shows that growths are refused.
+//! `bin/refusals` gives each row to a process of its own, and refuses each allocation after `ready`. The row `a copy` allocates there, so it
+//! shows that allocations are refused.
 #![tactic(auto)]
 
 mod keys;
@@ -72,7 +72,7 @@ fn run_on<R: Print + Eprint + Input + AllocGlobal>(rt: &R) -> Result<(), Stop> {
     Ok(())
 }
 
-/// Want of memory where that is what reading lacked.
+/// Out of memory where that is why reading failed.
 fn input_stop(error: &io::Error) -> Stop {
     if error.kind() == ErrorKind::OutOfMemory {
         Stop::Memory

@@ -8,7 +8,7 @@ use sha2::Sha256;
 use test_kit::rows::words;
 use time_macros::time_macro_finder::TimeMacroFinder;
 
-/// `update` of a digest, with more bytes than fill one block. What the bytes come to can't be told without memory.
+/// `update` of a digest, with more bytes than fill one block. What the bytes come to can't be determined without memory.
 pub(crate) fn digest<R: Eprint>(rt: &R) -> bool {
     let mut digest: Digest<Sha256> = Digest::new();
     say_ready(rt);
@@ -41,7 +41,7 @@ pub(crate) fn slices<R: Eprint + AllocGlobal>(rt: &R) -> Result<bool, Stop> {
     Ok(leaves_the_rest(folders.as_slice()))
 }
 
-/// The folder goes at both of its places, and what is between, before and behind them stays.
+/// The folder goes at both of its places, and what is between, before and after them stays.
 fn leaves_the_rest(folders: &[OsBytes]) -> bool {
     let mut slices = kept_slices(b"\"/p/a\" /p", folders);
     slices.next() == Some(b"\"".as_slice())

@@ -51,7 +51,7 @@ fn is_include_flag(found: Option<&ArgInfo<ArgData>>) -> bool {
     }
 }
 
-/// `normalize`, `flag_str` and `get_data` of an argument whose value may stand joined or apart.
+/// `normalize`, `flag_str` and `get_data` of an argument whose value may be joined or separate.
 pub(crate) fn argument<R: Eprint + AllocGlobal>(rt: &R) -> Result<bool, Stop> {
     let value = OsBytes::from_slice(rt.alloc(), b"inc")?;
     say_ready(rt);
@@ -60,7 +60,7 @@ pub(crate) fn argument<R: Eprint + AllocGlobal>(rt: &R) -> Result<bool, Stop> {
     Ok(stands_apart(&normal))
 }
 
-/// It has its flag and its value, and its value stands apart.
+/// It has its flag and its value, and its value is separate.
 fn stands_apart(argument: &Argument<OsBytes>) -> bool {
     let has_value = match argument.get_data() {
         Some(value) => value.as_bytes() == b"inc".as_slice(),
@@ -106,7 +106,7 @@ fn request(alloc: Global) -> Result<ParsedArguments, AllocError> {
     })
 }
 
-/// `opens_file` of a command with a file of words.
+/// `opens_file` of a command with a response file.
 pub(crate) fn file_of_words<R: Eprint + AllocGlobal>(rt: &R) -> Result<bool, Stop> {
     let command = words(rt.alloc(), "-c @a.rsp")?;
     say_ready(rt);

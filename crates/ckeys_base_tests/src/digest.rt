@@ -247,7 +247,7 @@ fn files(alloc: Global, abc: &OsBytes, empty: &OsBytes) -> Result<MemoryFiles, A
     Ok(files)
 }
 
-/// The digests of the first of these files, each behind a bar: one of `abc`, an empty one, and one that isn't there.
+/// The digests of the first of these files, each after a bar: one of `abc`, an empty one, and one that isn't there.
 fn digests_of_files(alloc: Global, count: usize) -> Result<String, Fail> {
     let abc = OsBytes::from_slice(alloc, b"/w/abc")?;
     let empty = OsBytes::from_slice(alloc, b"/w/empty")?;
@@ -260,7 +260,7 @@ fn digests_of_files(alloc: Global, count: usize) -> Result<String, Fail> {
     }
 }
 
-/// The texts, each behind a bar.
+/// The texts, each after a bar.
 fn barred(alloc: Global, texts: &[String]) -> Result<String, AllocError> {
     let mut all = String::new(alloc);
     for text in texts {

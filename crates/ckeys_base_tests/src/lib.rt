@@ -1,4 +1,4 @@
-//! Tests of what keys stand on, by example: digests, stripping, and the small calls.
+//! Tests of what keys are built on, by example: digests, stripping, and the small calls.
 #![tactic(auto)]
 
 #[cfg(test)]

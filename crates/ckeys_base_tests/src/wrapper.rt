@@ -86,7 +86,7 @@ impl Files for LinkedFiles {
     }
 }
 
-/// What `/a/gcc` stands for where `PATH` is `/a:/b`.
+/// What `/a/gcc` resolves to where `PATH` is `/a:/b`.
 fn compiler_found(alloc: Global, has_second: bool) -> Result<OsBytes, FileFail> {
     let time = FileTime::from_seconds(0);
     let metadata = Metadata {

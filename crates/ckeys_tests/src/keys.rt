@@ -19,7 +19,7 @@ pub(crate) fn digest_of(alloc: Global, bytes: &[u8]) -> Result<String, AllocErro
     digest.finish(alloc)
 }
 
-/// The digest of these parts, one behind the other.
+/// The digest of these parts, one after the other.
 pub(crate) fn digest_of_all(alloc: Global, parts: &[&[u8]]) -> Result<String, AllocError> {
     let mut digest: Digest<Sha256> = Digest::new();
     for part in parts {

@@ -36,7 +36,7 @@ impl Preprocessor for PrintTool {
 
     ghost failed = { λ _. 0 };
 
-    /// It has no device.
+    /// It has no I/O errors.
     ghost fails_in = { λ t _ u. ⊥ };
 
     fn preprocess<F: Files>(

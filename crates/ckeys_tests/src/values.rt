@@ -10,7 +10,7 @@ use std::fmt::Debug;
 use std::test::Fail;
 use test_kit::texts::{holds, is_that};
 
-/// Asserts that a value equals its copy, is told from another one, and is printed so.
+/// Asserts that a value equals its copy, differs from another one, and is printed so.
 fn is_a_value<T: Clone + Debug + Drop + Eq>(
     alloc: Global,
     value: &T,

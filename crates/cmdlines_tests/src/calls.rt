@@ -40,7 +40,7 @@ fn tells_its_traits<K: HasKind>(alloc: Global) -> Result<bool, AllocError> {
     Ok(tells)
 }
 
-/// Whether one of which nothing more is known tells so.
+/// Whether a compiler of which nothing more is known says so.
 fn tells_nothing_more<K: HasKind>(alloc: Global) -> Result<bool, AllocError> {
     let bare = bare::<K>(alloc)?;
     let tells = tells(&bare, false, None, None);
@@ -48,7 +48,7 @@ fn tells_nothing_more<K: HasKind>(alloc: Global) -> Result<bool, AllocError> {
     Ok(tells)
 }
 
-/// Asserts that a compiler is of this kind and tells what it was made with.
+/// Asserts that a compiler is of this kind and says what it was made with.
 fn traits_are_told<K: HasKind>(alloc: Global, kind: CCompilerKind) -> Result<(), Fail> {
     holds(K::kind() == kind, "its kind")?;
     holds(tells_its_traits::<K>(alloc)?, "its traits")?;

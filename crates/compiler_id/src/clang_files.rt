@@ -1,4 +1,4 @@
-//! What a Clang loads and reads beside its driver: its libraries, and the files of words that stand before those of each call.
+//! What a Clang loads and reads beside its driver: its libraries, and the configuration files whose words come before those of each call.
 
 use crate::compilers::file_name;
 use host_protocol::command_line::CommandLine;
@@ -15,7 +15,7 @@ fn is_library(name: &[u8]) -> bool {
         && memmem::find(name, b".so").is_some()
 }
 
-/// Adds Clang's libraries in that folder, behind all links.
+/// Adds Clang's libraries in that folder, with all links followed.
 fn add_libraries<R: Files + AllocGlobal>(
     rt: &R,
     folder: &str,
@@ -56,7 +56,7 @@ fn libraries_beside<R: Files + AllocGlobal>(
 }
 
 /// The names of the files in which a Clang of that name looks for words: by the name, by the machine that it begins with, and by that with
-/// the language behind it.
+/// the language after it.
 fn names_of_words(alloc: Global, driver: &str) -> Result<Vec<String>, HostError> {
     let mut names = Vec::new(alloc);
     names.push(format!(in alloc; "{driver}.cfg")?)?;
@@ -73,7 +73,7 @@ fn names_of_words(alloc: Global, driver: &str) -> Result<Vec<String>, HostError>
     Ok(names)
 }
 
-/// Whether a file of words lies beside a driver of that name. What is in it isn't looked at, so nothing is kept of such a compiler.
+/// Whether there is a configuration file beside a driver of that name. It isn't looked into, so nothing is kept of such a compiler.
 fn has_words<R: Files + AllocGlobal>(
     rt: &R,
     folder: &str,
@@ -89,7 +89,7 @@ fn has_words<R: Files + AllocGlobal>(
 }
 
 /// Adds the libraries that a Clang loads, which lie beside its driver. They are looked for in each call: a link to one may be turned to
-/// another file. A file of words beside the driver is an error.
+/// another file. A configuration file beside the driver is an error.
 pub(crate) fn add_clang_files<R: Files + AllocGlobal>(
     rt: &R,
     line: &CommandLine,
@@ -109,7 +109,7 @@ pub(crate) fn add_clang_files<R: Files + AllocGlobal>(
     Ok(())
 }
 
-/// Whether a Clang said that it read a file of words, by what it printed when it was asked for its version.
+/// Whether a Clang said that it read a configuration file, by what it printed when it was asked for its version.
 pub(crate) fn names_configuration(said: &[u8]) -> bool {
     memmem::find(said, b"Configuration file: ").is_some()
 }

@@ -18,7 +18,7 @@ use std::io::Read;
 use std::rt::Files;
 use wrap_base::compiler::Compiler;
 
-/// The compiler that the file of this path is, behind all links, where it is one that is answered here.
+/// The compiler that the file of this path is, with all links followed, where it is one that is supported here.
 pub fn kind_of<R: Files + AllocGlobal>(
     rt: &R,
     path: &str,
@@ -60,7 +60,7 @@ const OF_OBJECTS: [&str; 4] = [
     "RC_DEBUG_OPTIONS",
 ];
 
-/// The name of a file, behind the folders of its path.
+/// The name of a file, without the folders of its path.
 pub(crate) fn file_name(path: &str) -> &str {
     match path.rsplit_once('/') {
         Some((_, name)) => name,

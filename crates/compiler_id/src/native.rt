@@ -16,7 +16,7 @@ use os_files::os_bytes::OsBytes;
 use std::io::Read;
 use std::rt::Files;
 
-/// What tells one start of a machine from another one: between two of them its processor may be another.
+/// What distinguishes one boot of a machine from another: between two of them its processor may change.
 const START: &str = "/proc/sys/kernel/random/boot_id";
 
 /// The words by which a driver asks the machine for its processor.

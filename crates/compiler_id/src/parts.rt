@@ -170,7 +170,7 @@ fn ask_color<P: Print + Files + AllocGlobal, I: Read>(
     Ok(OsBytes::from_slice(rt.alloc(), word.as_bytes())?)
 }
 
-/// Refuses a driver that says of itself that it reads a file of words.
+/// Refuses a driver that says of itself that it reads a configuration file.
 fn refuse_configuration<P: Print + Files + AllocGlobal, I: Read>(
     rt: &P,
     line: &CommandLine,
@@ -187,7 +187,7 @@ fn refuse_configuration<P: Print + Files + AllocGlobal, I: Read>(
     }
 }
 
-/// The word by which the messages of a driver of that kind are in colour, and behind it the names of what it runs and reads.
+/// The word that makes the messages of a driver of that kind coloured, followed by the names of what it runs and reads.
 fn ask_names<P: Print + Files + AllocGlobal, I: Read>(
     rt: &P,
     line: &CommandLine,
@@ -254,7 +254,7 @@ fn note_said<R: Files + AllocGlobal>(
     Ok(line.folder.put(rt, Kind::Parts, state, bytes.as_slice())?)
 }
 
-/// Whether a driver is a script, of which no file tells what it runs.
+/// Whether a driver is a script: then no file shows what it runs.
 fn is_script<R: Files + AllocGlobal>(rt: &R, path: &str) -> bool {
     let mut front = [0; 2];
     match fs::open(rt, path) {
@@ -286,7 +286,7 @@ fn names_of<P: Print + Files + AllocGlobal, I: Read>(
     Ok(names)
 }
 
-/// Whether it is a regular file, behind all links.
+/// Whether it is a regular file, with all links followed.
 fn is_file<R: Files>(rt: &R, path: &str) -> bool {
     match fs::metadata(rt, path) {
         Ok(metadata) => metadata.is_file(),

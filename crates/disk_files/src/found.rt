@@ -52,7 +52,7 @@ fn kind_of(metadata: &Metadata) -> Found {
     }
 }
 
-/// What lies under a path. None where that can't be told: it can't be asked, or a link lies there that leads nowhere.
+/// What is at a path. None where that can't be determined: it can't be read, or it is a link that leads nowhere.
 pub fn found_at<R: Files>(rt: &R, path: &str) -> Option<Found> {
     match fs::symlink_metadata(rt, path) {
         Ok(metadata) if metadata.is_symlink() => {
@@ -95,7 +95,7 @@ fn put_time(out: &mut Vec<u8>, time: FileTime) -> Result<(), AllocError> {
     put_number(out, u64::from(time.nanoseconds))
 }
 
-/// The moment ahead in these bytes, and what stands behind it.
+/// The time at the front of these bytes, and what comes after it.
 fn read_time(bytes: &[u8]) -> Result<(FileTime, &[u8]), ReadFault> {
     let (seconds, rest) = read_number(bytes)?;
     let (nanoseconds, rest) = read_number(rest)?;
@@ -104,7 +104,7 @@ fn read_time(bytes: &[u8]) -> Result<(FileTime, &[u8]), ReadFault> {
 }
 
 impl State {
-    /// That of what lies under a path, behind all links.
+    /// The state of what is at a path, with all links followed.
     pub fn at<R: Files>(rt: &R, path: &str) -> io::Result<State> {
         Ok(State::of(&fs::metadata(rt, path)?))
     }
@@ -139,7 +139,7 @@ impl State {
         put_time(out, self.moved)
     }
 
-    /// The state ahead in these bytes, and what stands behind it.
+    /// The state at the front of these bytes, and what comes after it.
     pub fn read(bytes: &[u8]) -> Result<(State, &[u8]), ReadFault> {
         let (device, rest) = read_number(bytes)?;
         let (number, rest) = read_number(rest)?;

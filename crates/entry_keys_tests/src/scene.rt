@@ -98,7 +98,7 @@ impl Scene {
         Scene::new(alloc, "/usr/bin/gcc", "/bin", "foo.o")
     }
 
-    /// Asks for C++, by an input behind `--`.
+    /// Asks for C++, by an input after `--`.
     pub fn ask_for_cxx(&mut self) {
         self.parsed.language = Language::Cxx;
         self.parsed.double_dash_input = true;

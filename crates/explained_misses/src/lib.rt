@@ -1,4 +1,4 @@
-//! What differed at the last call with the same outputs that was compiled from the one before it: what is kept of that, and what is told of it.
+//! What differed, at the last call with the same outputs that was compiled, from the one before it: what is kept and what is reported of that.
 #![tactic(auto)]
 
 pub mod why;

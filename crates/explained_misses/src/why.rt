@@ -123,7 +123,7 @@ fn in_short(alloc: Global, fingerprint: Fingerprint) -> Result<Fingerprint, Host
 }
 
 /// Keeps the parts of a call that was compiled, whose text is in short, under that name, and what differs from those that lay there, which is
-/// told.
+/// reported.
 fn note_parts<R: Files + AllocGlobal>(
     rt: &R,
     folder: &CacheDir,
@@ -141,7 +141,7 @@ fn note_parts<R: Files + AllocGlobal>(
 }
 
 /// Keeps of what the key of a request was made that was compiled, by its fingerprint, and what differs from the call before it with these
-/// outputs, which is told.
+/// outputs, which is reported.
 pub fn note_fingerprint<R: Files + AllocGlobal, F: CallFiles>(
     rt: &R,
     line: &CommandLine,
@@ -217,7 +217,7 @@ fn kept_at<R: Files + AllocGlobal>(
     Ok(parts_under(rt, &folder, name.as_str())?)
 }
 
-/// Tells of the call of which this is kept, and which object it made.
+/// Reports on the call of which this is kept, and which object it made.
 fn tell_of<R: Print + AllocGlobal>(
     rt: &R,
     found: &Option<KeptParts>,
@@ -231,7 +231,7 @@ fn tell_of<R: Print + AllocGlobal>(
     Ok(())
 }
 
-/// Tells of the last call in that folder with these outputs that was compiled.
+/// Reports on the last call in that folder with these outputs that was compiled.
 fn tell<R: Print + Files + AllocGlobal>(
     rt: &R,
     kept: &str,
@@ -248,7 +248,7 @@ fn tell_pass<R: Print>(rt: &R, reason: Reason) -> Result<(), HostError> {
     Ok(())
 }
 
-/// Tells of a call in that folder that asks for this.
+/// Reports on a call in that folder that asks for this.
 fn tell_asked<R: Print + Files + AllocGlobal>(
     rt: &R,
     kept: &str,
@@ -264,7 +264,7 @@ fn tell_asked<R: Print + Files + AllocGlobal>(
     }
 }
 
-/// Tells of a call of a compiler of that kind in that folder with these words.
+/// Reports on a call of a compiler of that kind in that folder with these words.
 fn tell_words<R: Print + Files + AllocGlobal>(
     rt: &R,
     kept: &str,
@@ -285,7 +285,7 @@ fn words_in(alloc: Global, words: &[String]) -> Result<Listed<OsBytes>, HostErro
     Ok(copies)
 }
 
-/// Tells of a command to a compiler of that kind in that folder.
+/// Reports on a command to a compiler of that kind in that folder.
 fn tell_command<R: Print + Files + AllocGlobal>(
     rt: &R,
     kept: &str,
@@ -302,7 +302,7 @@ fn tell_command<R: Print + Files + AllocGlobal>(
 }
 
 /// Says in a line, of the last call in that folder with the outputs of this command that was compiled, what differed from the one before
-/// it. Files of words aren't opened.
+/// it. Response files aren't opened.
 pub fn why<R: Print + Files + AllocGlobal>(
     rt: &R,
     kept: &str,

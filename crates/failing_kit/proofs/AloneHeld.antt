@@ -10,7 +10,7 @@ none_of (Some v) never = absurd (never refl)
 nothing_is_some : {V : Type 0} (o : Option V) → o ≡ None → IsSome o → ⊥
 nothing_is_some o none some = let never = rw none at some in cc
 
--- what is held behind a removal
+-- what is held after a removal
 no_rest : {V : Type 0} (b : Bool) (old rest : Option V) → rest ≡ cond b None old → (b ≡ false → old ≡ None) → rest ≡ None
 no_rest true old rest is alone = is
 no_rest false old rest is alone = is ∙ alone refl

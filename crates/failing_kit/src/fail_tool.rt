@@ -1,4 +1,4 @@
-//! For tests: a tool whose device fails at one call.
+//! For tests: a tool with an I/O error at one call.
 
 ghost use Rattle.std.specs.Prelude.{◌≡◌, ◌⊎◌, ◌+◌, ◌-◌, ◌%◌, ◌^◌, None, Some, OnOk, OnErr, IfErr};
 ghost use Rattle.os_files.specs.Bytes.{ticked};
@@ -14,7 +14,7 @@ use rustkeys::answers::RustcAnswers;
 use std::alloc::Global;
 use wrap_base::tool::{Compiled, Tool};
 
-/// For tests: a tool whose device fails at one call, of whichever step. No call after it fails here.
+/// For tests: a tool with an I/O error at one call, of whichever step. No later call fails here.
 #[derive(Drop)]
 pub struct FailTool<T> {
     pub tool: T,
@@ -31,7 +31,7 @@ pub struct FailTool<T> {
 }
 
 impl<T> FailTool<T> {
-    /// This tool, whose device fails at the call after that many.
+    /// This tool, with an I/O error at the call after that many.
     pub fn new(tool: T, calls_left: u64) -> FailTool<T>
         ensures tool { result.tool ≡ tool }
         ensures calls_left { result.calls_left ≡ calls_left }

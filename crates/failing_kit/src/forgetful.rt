@@ -23,7 +23,7 @@ pub enum Order {
     Refuse,
 }
 
-/// Follows these orders, one at each `get` and each `put`, and does what is asked behind the last one.
+/// Follows these orders, one at each `get` and each `put`, and does what is asked after the last one.
 #[derive(Drop)]
 pub struct Forgetful<K: Eq + Hash, V> {
     map: HashMap<K, V>,

@@ -1,4 +1,4 @@
-//! What tests of hostile use write: a tool whose device fails at one call, and a store that forgets and refuses by a list of orders.
+//! What tests of hostile use need: a tool with an I/O error at one call, and a store that forgets and refuses by a list of orders.
 #![tactic(auto)]
 
 pub mod fail_tool;

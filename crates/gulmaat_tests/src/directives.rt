@@ -1,4 +1,4 @@
-//! What sources ask for, and the times that they may paste. Names in quotes stand in quotes, and those that come next behind `next`.
+//! What sources ask for, and the times that they may paste. Names in quotes are shown in quotes, and those of `include_next` after `next`.
 
 use os_files::lossy::Lossy;
 use source_directives::directives::{Asked, Search, add_defined, directives_of};
@@ -9,7 +9,7 @@ use std::test::Fail;
 use test_kit::rows::words;
 use test_kit::texts::{holds, is_that};
 
-/// Sources, and what they ask for; `none` where that can't be told.
+/// Sources, and what they ask for; `none` where that can't be determined.
 const SOURCES: [(&str, &str); 62] = [
     ("", ""),
     ("int x;\n", ""),
@@ -124,7 +124,7 @@ fn sources_ask_for_files(rt: HostRuntime) -> Result<(), Fail> {
     Ok(())
 }
 
-/// Sources, and what `NAME` stands for in them; `none` where that may be another thing than the name of a file.
+/// Sources, and what `NAME` stands for in them; `none` where that may be something other than the name of a file.
 const DEFINED: [(&str, &str); 17] = [
     ("", ""),
     ("#define NAME <a.h>\n", " <a.h>"),

@@ -1,4 +1,4 @@
-//! Tests of what gulmaat stands on, by example: what sources ask for, where compilers look, what is watched, states of files, lines as they were
+//! Tests of what gulmaat builds on, by example: what sources ask for, where compilers look, what is watched, states of files, lines as they were
 //! written, manifests, dependency files, variables, what is bound to keys, what is passed through, and where outputs are put.
 #![tactic(auto)]
 

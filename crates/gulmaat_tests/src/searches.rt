@@ -40,7 +40,7 @@ const SAID: [(&str, &str); 7] = [
     ),
 ];
 
-/// Adds folders behind their name, where there are some.
+/// Adds folders after their name, where there are some.
 fn write_folders(text: &mut String, name: &str, folders: &[&str]) -> Result<(), AllocError> {
     if folders.is_empty() {
         return Ok(());

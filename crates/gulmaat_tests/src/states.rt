@@ -166,7 +166,7 @@ fn outputs_are_locked(rt: HostRuntime) -> Result<(), Fail> {
     holds(locks_object(&rt, folder, "linked/a.o")?, "a lock by a link")
 }
 
-/// Lines of what is mounted, as the kernel's manual has them, and the number of the device where its file system is trusted.
+/// Lines of the list of mounts, as the kernel's manual has them, and the number of the device where its file system is trusted.
 const MOUNTS: [(&str, Option<u64>); 6] = [
     ("", None),
     (

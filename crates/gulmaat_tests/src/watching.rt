@@ -86,7 +86,7 @@ const CONTENTS: [(&str, bool); 4] = [
     ("remove b/x.h", false),
 ];
 
-/// What is watched: in a folder, behind a moment in seconds before which changes are settled, where the text names this file; and changes.
+/// What is watched: in a folder, with a moment in seconds before which changes are settled, where the text names this file; and changes.
 struct Watch {
     folder: &'static str,
     before: i64,

@@ -28,7 +28,7 @@ pub struct CommandLine {
     pub list: String,
     pub executable: String,
     pub dir: OsBytes,
-    /// The words behind the executable.
+    /// The words after the executable.
     pub words: Listed<OsBytes>,
     pub env: Listed<(OsBytes, OsBytes)>,
     /// How far local clocks are from UTC now, as the rule of a zone.
@@ -57,7 +57,7 @@ impl<'a> Variables for LineVariables<'a> {
 }
 
 impl CommandLine {
-    /// The one that the message tells, at that moment. Nothing is set yet.
+    /// The command line in the message, at that moment. Nothing is set yet.
     pub fn read(
         alloc: Global,
         message: &[u8],

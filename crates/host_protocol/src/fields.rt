@@ -1,4 +1,4 @@
-//! The fields of a message, one behind the other.
+//! The fields of a message, one after the other.
 
 use crate::host_error::HostError;
 use byte_formats::fields::{read_framed, read_number};

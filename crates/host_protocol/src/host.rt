@@ -1,4 +1,4 @@
-//! What the host is asked to run. A message stands behind its length in eight bytes, low byte first.
+//! What the host is asked to run. A message is preceded by its length in eight bytes, low byte first.
 
 ghost use Rattle.std.specs.Prelude.{◌≡◌};
 
@@ -91,7 +91,7 @@ fn send<P: Print + Alloc>(rt: &P, alloc: Global, message: &[u8]) -> Result<(), H
     Ok(writer.flush()?)
 }
 
-/// Has a host put a line into the log at that place. This is its front, behind which the host writes when the call began and ended, what ran and
+/// Has a host put a line into the log at that place. This is its front; after it the host writes when the call began and ended, what ran and
 /// with which status: it alone knows. It answers nothing.
 pub fn tell_line<P: Print + Alloc>(
     rt: &P,

@@ -9,7 +9,7 @@ use thiserror::Error;
 /// Why no decision was made.
 #[derive(Debug, Drop, Error, PartialEq, Eq)]
 pub enum HostError {
-    /// A growth was refused.
+    /// Out of memory.
     #[error("no memory")]
     Memory,
     /// A file or the host couldn't be read or written.
@@ -39,13 +39,13 @@ pub enum HostError {
     /// The compiler doesn't say what it runs.
     #[error("the compiler doesn't name its parts")]
     Parts,
-    /// The compiler reads a file of words, which isn't looked at.
+    /// The compiler reads a configuration file, which isn't looked at.
     #[error("the compiler has a configuration file")]
     Configuration,
     /// A folder that isn't to count isn't absolute, or is only slashes.
     #[error("a folder that base_dir names isn't absolute, or is only slashes")]
     Folder,
-    /// No command is there to tell of.
+    /// There is no command to report on.
     #[error("--why takes a compiler's command: --help tells all")]
     Command,
 }

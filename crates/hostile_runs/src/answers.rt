@@ -1,4 +1,4 @@
-//! What answers tell.
+//! What answers say.
 
 use ckeys_records::fault::Fault;
 use os_files::os_bytes::OsBytes;
@@ -6,7 +6,7 @@ use std::alloc::{AllocError, Global};
 use std::fmt::Display;
 use wrap_base::answer::{Answer, How, Output};
 
-/// What an answer tells.
+/// What an answer says.
 #[derive(Drop)]
 pub(crate) struct Told {
     /// Where outputs came from, or that the request passes, or that there is a fault.
@@ -18,7 +18,7 @@ pub(crate) struct Told {
 }
 
 impl Told {
-    /// Whether both tell the same outputs, or the same reason.
+    /// Whether both have the same outputs, or the same reason.
     pub(crate) fn agrees(&self, other: &Told) -> bool {
         self.whole.as_str() == other.whole.as_str()
     }
@@ -102,7 +102,7 @@ fn of_outputs(
     })
 }
 
-/// What this answer tells.
+/// What this answer says.
 pub(crate) fn told_of(alloc: Global, answer: &Result<Answer, Fault>) -> Result<Told, AllocError> {
     match answer {
         Ok(Answer::Pass(reason)) => of_reason(alloc, "pass", reason),

@@ -20,7 +20,7 @@ enum Which {
 /// At which calls a store gets an order.
 #[derive(Clone, Copy)]
 enum At {
-    /// At the one behind so many.
+    /// At the one after so many.
     Call(u64),
     Each,
 }
@@ -112,7 +112,7 @@ fn push_order(order: Order, at: At, text: &mut String) -> Result<(), AllocError>
 }
 
 /// Adds what came of a run in which that store got that order, and a line where outputs are others than those of the plain run. A run in
-/// which an order to refuse met no pair isn't told.
+/// which an order to refuse met no pair isn't reported.
 fn push_told(
     run: &Run,
     plain: &[Turn],

@@ -1,4 +1,4 @@
-//! Two runs of a scenario, in one of which one growth of memory may be refused.
+//! Two runs of a scenario, in one of which one allocation may be refused.
 
 use crate::answers::{Told, push_unless};
 use crate::refusals::push_unless_kept;
@@ -13,13 +13,13 @@ fn last_of(turn: &Turn) -> &Told {
     }
 }
 
-/// Whether no growth was refused in the run, as far as that is seen: no request was served again, and both stores kept all.
+/// Whether no allocation was refused in the run, as far as can be seen: no request was served again, and both stores kept all.
 fn is_whole(run: &Run) -> bool {
     let served_again = run.turns.iter().any(|turn| turn.again.is_some());
     run.end.outputs.kept && run.end.records.kept && !served_again
 }
 
-/// Adds a line where a call that lacked memory changed the stores, or where what it is answered tells of a device.
+/// Adds a line where a call that ran out of memory changed the stores, or where its answer reports an I/O error.
 fn push_refused(turn: &Turn, text: &mut String) -> Result<(), AllocError> {
     let compiles = turn
         .after
@@ -56,7 +56,7 @@ fn push_unkept(turn: &Turn, text: &mut String) -> Result<(), AllocError> {
     )
 }
 
-/// Adds lines where a request of the run isn't answered as in the whole one. How many growths were refused in it, as far as that is seen.
+/// Adds lines where a request of the run isn't answered as in the whole one. Returns how many refused allocations it shows.
 fn push_turn(turn: &Turn, whole: &Turn, text: &mut String) -> Result<u64, AllocError> {
     let agrees = last_of(turn).agrees(&whole.answer);
     push_unless(agrees, "the same outputs at last", text)?;
@@ -72,7 +72,7 @@ fn push_turn(turn: &Turn, whole: &Turn, text: &mut String) -> Result<u64, AllocE
     Ok(u64::from(before.records.kept && !after.records.kept))
 }
 
-/// Adds lines where the run's requests aren't answered as those of the whole run, where more than one growth was refused, and where
+/// Adds lines where the run's requests aren't answered as those of the whole run, where more than one allocation was refused, and where
 /// outputs come from elsewhere although all was kept.
 fn push_compared(run: &Run, whole: &Run, text: &mut String) -> Result<(), AllocError> {
     let all_kept = run.end.outputs.kept && run.end.records.kept;

@@ -1,4 +1,4 @@
-//! Hostile use: reads scenarios, a line each, from standard input, and serves each again and again, while each call of a device fails in
+//! Hostile use: reads scenarios, a line each, from standard input, and serves each again and again, while each I/O call fails in
 //! turn and while stores forget and refuse. It prints what came of it, and what isn't as it has to be.
 //!
 //! Of each scenario these lines are printed:
@@ -14,10 +14,10 @@
 //! In each of these runs a request is answered the outputs of the first run, or the fault of the call that failed, and then its outputs
 //! when it is served again. Where it isn't so, a line says it: `not so: ..`.
 //!
-//! With the argument `growths` each scenario is served twice alone, and one growth of memory may be refused meanwhile: what is printed
-//! is then the same, or nothing, with status 2. `bin/refusals` refuses each growth in turn.
+//! With the argument `growths` each scenario is only served twice, and one allocation may be refused meanwhile: what is printed
+//! is then the same, or nothing, with status 2. `bin/refusals` refuses each allocation in turn.
 //!
-//! With `record` or `key` it says what is read of the bytes of standard input as an include record, or, behind three lines with its shape,
+//! With `record` or `key` it says what is read of the bytes of standard input as an include record, or, after three lines with its shape,
 //! as what is hashed of a request to rustc. `bin/hostile` changes such bytes at random.
 #![tactic(auto)]
 
@@ -46,9 +46,9 @@ const FAILED: u8 = 2;
 /// What is done with what standard input gives.
 #[derive(Clone, Copy)]
 enum Mode {
-    /// Of scenarios calls of devices fail, and stores forget and refuse.
+    /// I/O calls of scenarios fail, and stores forget and refuse.
     Devices,
-    /// A growth of memory may be refused.
+    /// An allocation may be refused.
     Growths,
     /// A record is read.
     Record,
@@ -81,7 +81,7 @@ fn run_on<R: Print + Input + Env + AllocGlobal>(rt: &R) -> Result<(), Stop> {
         .map_err(|error| stop_of(&error, Stop::Output))
 }
 
-/// Want of memory where that is what a device lacked, and the other reason where it is anything else.
+/// Out of memory where that is the cause of an I/O error, and the other reason where it is anything else.
 fn stop_of(error: &io::Error, other: Stop) -> Stop {
     if error.kind() == ErrorKind::OutOfMemory {
         Stop::Memory
@@ -150,7 +150,7 @@ fn push_scenario(
     push_devices(alloc, line, text)
 }
 
-/// Adds what came of the runs in which devices fail and stores forget and refuse.
+/// Adds what came of the runs in which I/O calls fail and stores forget and refuse.
 fn push_devices(alloc: Global, line: &[u8], text: &mut String) -> Result<(), Stop> {
     let plain = plain_run(alloc, line, NONE_FAILS)?;
     let turns = plain.turns.as_slice();

@@ -36,7 +36,7 @@ pub(crate) fn push_record(alloc: Global, bytes: &[u8], text: &mut String) -> Res
     Ok(())
 }
 
-/// The bytes up to the first line end, and those behind it.
+/// The bytes up to the first line end, and those after it.
 fn first_line(bytes: &[u8]) -> (&[u8], &[u8]) {
     let Some(end) = bytes.iter().position(|byte| *byte == b'\n') else {
         return (bytes, &[]);
@@ -132,7 +132,7 @@ fn push_read(alloc: Global, bytes: &[u8], shape: &RShape, text: &mut String) -> 
     }
 }
 
-/// Adds what is read of the bytes behind three lines as what is hashed of a request to rustc, under the shape that the lines tell.
+/// Adds what is read of the bytes after three lines as what is hashed of a request to rustc, under the shape that the lines give.
 pub(crate) fn push_key(alloc: Global, bytes: &[u8], text: &mut String) -> Result<(), Stop> {
     let (counts, rest) = first_line(bytes);
     let (words, rest) = first_line(rest);

@@ -1,10 +1,10 @@
-//! Runs in which one call of a device fails.
+//! Runs in which one I/O call fails.
 
 use crate::answers::push_unless;
 use crate::runs::{Limits, Run, Stop, Turn, plain_run};
 use std::alloc::{AllocError, Global};
 
-/// Adds a line where behind a refused call the stores aren't as they were, but for one include record.
+/// Adds a line where after a refused call the stores aren't as they were, except for one include record.
 pub(crate) fn push_unless_kept(turn: &Turn, text: &mut String) -> Result<(), AllocError> {
     let (before, after) = (&turn.before, &turn.after);
     let put = after.records.puts.wrapping_sub(before.records.puts);
@@ -68,14 +68,14 @@ fn due_of(turns: &[Turn]) -> Option<&str> {
     None
 }
 
-/// A device of which each call fails in turn.
+/// A part that does I/O: each of its calls fails in turn.
 #[derive(Clone, Copy)]
 enum Device {
     Files,
     Tool,
 }
 
-/// The call of that device behind that many fails.
+/// The call of that device after that many fails.
 fn limits_of(device: Device, calls_left: u64) -> Limits {
     match device {
         Device::Files => Limits {
@@ -89,7 +89,7 @@ fn limits_of(device: Device, calls_left: u64) -> Limits {
     }
 }
 
-/// Whether a fault of that device is to be told: each of the tool's is, of the files' each that wasn't told yet.
+/// Whether a fault of that device is to be reported: each of the tool's is, and of the files' each that wasn't reported yet.
 fn is_told(device: Device, fault: &str, faults: &str) -> bool {
     match device {
         Device::Files => !faults.contains(fault),
@@ -134,7 +134,7 @@ fn push_faults(
     Ok(())
 }
 
-/// Adds what came of the runs of the scenario of this line in which a call of a device fails.
+/// Adds what came of the runs of the scenario of this line in which an I/O call fails.
 pub(crate) fn push_refusals(
     alloc: Global,
     line: &[u8],

@@ -71,7 +71,7 @@ pub(crate) const NONE_FAILS: Limits = Limits {
     tool: u64::MAX,
 };
 
-/// How the session and the tool stand between two calls.
+/// The state of the session and the tool between two calls.
 #[derive(Clone, Copy)]
 pub(crate) struct State {
     pub(crate) records: Seen,
@@ -85,15 +85,15 @@ pub(crate) struct State {
 /// What came of one request.
 #[derive(Drop)]
 pub(crate) struct Turn {
-    /// How all stood before it, and behind its first answer.
+    /// The state before it, and after its first answer.
     pub(crate) before: State,
     pub(crate) after: State,
     pub(crate) answer: Told,
-    /// Where a call of a device failed, the fault that is due for it.
+    /// Where an I/O call failed, the fault that is due for it.
     pub(crate) due: Option<String>,
-    /// What it was answered when it was served again, behind such a failure or want of memory.
+    /// What it was answered when it was served again, after such a failure or after it ran out of memory.
     pub(crate) again: Option<Told>,
-    /// How many calls of the files come before the one that fails in a request behind it.
+    /// How many calls of the files come before the one that fails in a later request.
     files_left: u64,
 }
 
@@ -102,7 +102,7 @@ pub(crate) struct Turn {
 pub(crate) struct Run {
     /// Request by request.
     pub(crate) turns: Vec<Turn>,
-    /// How all stands at the end.
+    /// The state at the end.
     pub(crate) end: State,
 }
 
@@ -123,7 +123,7 @@ fn served<
     told_of(alloc, &answer)
 }
 
-/// How all stands.
+/// The state of the session and the tool.
 fn state_of<E: Watched<EntryKey, PreprocessorCacheEntry>, O: Watched<StoreKey, Pairs>, T: Tool>(
     session: &Session<Sha256, E, O>,
     tool: &FailTool<T>,
@@ -136,7 +136,7 @@ fn state_of<E: Watched<EntryKey, PreprocessorCacheEntry>, O: Watched<StoreKey, P
     }
 }
 
-/// The fault that is due where a call of a device failed: that of the tool's last step, where it was in that.
+/// The fault that is due where an I/O call failed: that of the tool's last step, where it was in that.
 fn due_fault(
     alloc: Global,
     before: &State,
@@ -154,7 +154,7 @@ fn due_fault(
     Ok(Some(due))
 }
 
-/// Serves the request, and serves it again where a call of a device failed or memory was refused.
+/// Serves the request, and serves it again where an I/O call failed or memory ran out.
 fn turn_of<
     E: Watched<EntryKey, PreprocessorCacheEntry>,
     O: Watched<StoreKey, Pairs>,
@@ -191,7 +191,7 @@ fn turn_of<
     })
 }
 
-/// Serves the call. The files' call behind that many fails.
+/// Serves the call. The files' call after that many fails.
 fn call_turn<
     E: Watched<EntryKey, PreprocessorCacheEntry>,
     O: Watched<StoreKey, Pairs>,
@@ -208,7 +208,7 @@ fn call_turn<
     turn_of(alloc, session, &call.request, &mut files, tool)
 }
 
-/// Serves the calls in order. The files' call behind that many fails.
+/// Serves the calls in order. The files' call after that many fails.
 fn turns_of<
     E: Watched<EntryKey, PreprocessorCacheEntry>,
     O: Watched<StoreKey, Pairs>,

@@ -23,7 +23,7 @@ pub(crate) struct Seen {
     pub(crate) held: usize,
 }
 
-/// A store of which is told how many pairs it holds, and how many it refused by an order.
+/// A store that says how many pairs it holds, and how many it refused by an order.
 pub(crate) trait Watched<K: Eq, V>: Store<K, V> + Drop {
     fn held(&self) -> usize;
 

@@ -11,7 +11,7 @@ use os_files::listed::Listed;
 use os_files::os_bytes::OsBytes;
 use std::test::Fail;
 
-/// 258, -2, and `hi` behind its length.
+/// 258, -2, and `hi` after its length.
 const FIELDS: &[u8] = b"\x02\x01\0\0\0\0\0\0\xfe\xff\xff\xff\xff\xff\xff\xff\x02\0\0\0\0\0\0\0hi";
 
 #[test]
@@ -45,7 +45,7 @@ fn fields_are_written_and_read(rt: HostRuntime) -> Result<(), Fail> {
     Ok(())
 }
 
-/// Two words, the second of them none, behind their count.
+/// Two words, the second of them none, after their count.
 const WORDS: &[u8] = b"\x02\0\0\0\0\0\0\0\x01\x01\0\0\0\0\0\0\0a\0";
 
 #[test]

@@ -1,4 +1,4 @@
-//! Tests of include records: their bytes, their bounds, what they tell of files, and the fields of layouts, by example.
+//! Tests of include records: their bytes, their bounds, what they say of files, and the fields of layouts, by example.
 #![tactic(auto)]
 
 #[cfg(test)]

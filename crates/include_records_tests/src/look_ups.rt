@@ -1,4 +1,4 @@
-//! What records tell of files.
+//! What records say of files.
 
 use include_records::entry::IncludeEntry;
 use include_records::includes::includes_of;
@@ -61,7 +61,7 @@ fn record_of<F: Files>(
     Ok(())
 }
 
-/// The key that a look-up tells, and `none` where it tells none.
+/// The key that a look-up returns, and `none` where it returns none.
 fn told<F: Files>(
     alloc: Global,
     entry: &PreprocessorCacheEntry,

@@ -3,8 +3,8 @@
 use crate::told::told;
 use std::test::Fail;
 
-/// Of a source that includes `vector`. Most of the headers are left out with all that stands between, but for each form of a marker one
-/// stands here.
+/// Of a source that includes `vector`. Most of the headers are left out with all that is between them, but for each form of a marker one
+/// is kept here.
 const VECTOR: &[u8] = b"# 0 \"v.cc\"\n# 0 \"<built-in>\"\n# 0 \"<command-line>\"\n\
     # 1 \"/usr/include/stdc-predef.h\" 1 3 4\n# 0 \"<command-line>\" 2\n# 1 \"v.cc\"\n\
     # 1 \"/usr/include/c++/12/vector\" 1 3\n# 58 \"/usr/include/c++/12/vector\" 3\n       \n\

@@ -23,7 +23,7 @@ fn includes(alloc: Global, count: usize) -> Result<Listed<IncludeEntry>, AllocEr
     Ok(list)
 }
 
-/// Adds a result with so many includes, and tells how many the record has then.
+/// Adds a result with so many includes, and returns how many the record has then.
 fn add(
     alloc: Global,
     entry: &mut PreprocessorCacheEntry,

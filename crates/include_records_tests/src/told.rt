@@ -1,4 +1,4 @@
-//! What a walk tells of a text, as bytes to compare.
+//! What a walk reports of a text, as bytes to compare.
 
 use marker_walk::answer::Walk;
 use marker_walk::walk::walk;

@@ -1,4 +1,4 @@
-//! Lines that refuse a text, plain ones, markers, and devices that fail.
+//! Lines for which a text is refused, plain ones, markers, and I/O errors.
 
 use crate::told::{BROKEN, told};
 use marker_walk::walk::walk;

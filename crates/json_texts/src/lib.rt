@@ -1,4 +1,4 @@
-//! Texts and bytes as JSON has them, written so that they may stand in a page too: no `<`, `>` or `&` is left in them.
+//! Texts and bytes as JSON has them, written so that a page may contain them too: no `<`, `>` or `&` is left in them.
 #![tactic(auto)]
 
 use std::alloc::AllocError;

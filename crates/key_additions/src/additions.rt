@@ -52,7 +52,7 @@ impl Additions {
         Ok(again)
     }
 
-    /// The variable, with the rows as its value: their count, and of each the name and the value behind their lengths.
+    /// The variable, with the rows as its value: their count, and for each its name and its value, both preceded by their lengths.
     pub fn variable(&self, alloc: Global) -> Result<Row, HostError> {
         let mut value = Vec::new(alloc);
         put_number(&mut value, self.rows.as_slice().len() as u64)?;
@@ -90,7 +90,7 @@ fn has_name(rows: &[Row], name: &OsBytes) -> bool {
     rows.iter().any(|row| row.0 == *name)
 }
 
-/// A name, and what stands beside it in each of two lists.
+/// A name, and what each of two lists has for it.
 fn told(alloc: Global, name: &OsBytes, here: &str, there: &str) -> Result<String, HostError> {
     Ok(format!(in alloc; "{name}: {here}, earlier {there}")?)
 }

@@ -60,9 +60,9 @@ pub struct Known {
     pub kind: CCompilerKind,
     /// Whether the compiler takes the word by which its messages are in colour.
     takes_color: bool,
-    /// What the words say of a dependency file; nothing where the session is told of it.
+    /// What the words say of a dependency file; nothing where those words are passed to the session.
     dependencies: Option<Dependencies>,
-    /// The zone in which days are told, where direct mode is on.
+    /// The time zone of dates, where direct mode is on.
     pub zone: Option<Zone>,
     /// Why no manifest says of what the text is made, where direct mode was on.
     pub unwatched: Option<Unwatched>,
@@ -84,9 +84,9 @@ pub struct Known {
     pub audited: Option<Audited>,
     /// The file that was loaded last.
     loaded: Option<OsBytes>,
-    /// The files that the text names, once it was printed, or an input that is compiled as it stands.
+    /// The files that the text names, once it was printed, or an input that is compiled as it is.
     pub(crate) named: NamedFiles,
-    /// Whether these were found to be as they were, behind the compile where one ran.
+    /// Whether these were found unchanged, after the compile where one ran.
     pub(crate) are_unchanged: bool,
     /// The files of the text, as the compiler lists them for a dependency file; nothing where none is asked for.
     list: OsBytes,
@@ -162,7 +162,7 @@ impl Known {
         }
     }
 
-    /// Loads the file of that path, as it is there or not. Where that can't be told direct mode goes off. False where it was the last
+    /// Loads the file of that path, as it is there or not. Where that can't be determined direct mode goes off. False where it was the last
     /// one already.
     pub fn load<R: Files + AllocGlobal>(
         &mut self,
@@ -180,7 +180,7 @@ impl Known {
         Ok(true)
     }
 
-    /// Loads what the text names that was printed last. Direct mode goes off where what was read for it can't be told, or the preprocessor
+    /// Loads what the text printed last names. Direct mode is turned off where it isn't certain what was read for it, or the preprocessor
     /// printed messages, which no manifest has.
     pub fn follow_text<R: Files + AllocGlobal>(
         &mut self,
@@ -198,7 +198,7 @@ impl Known {
         Ok(())
     }
 
-    /// Takes an input that is compiled as it stands, as it was loaded. One that takes in files is refused.
+    /// Takes an input that is compiled as it is, as it was loaded. One that includes files is refused.
     fn take_input<R: Files + AllocGlobal>(
         &mut self,
         rt: &R,
@@ -217,7 +217,7 @@ impl Known {
         Ok(())
     }
 
-    /// Whether an input that is compiled as it stands has the contents that were loaded of it.
+    /// Whether an input that is compiled as it is has the contents that were loaded of it.
     fn has_loaded_input<R: Files + AllocGlobal>(&self, rt: &R) -> bool {
         let (None, Some(input)) = (&self.tool.text, self.named.files.first()) else {
             return true;
@@ -292,7 +292,7 @@ impl Known {
         Ok(text_words(alloc, dependencies.others.as_slice(), list)?)
     }
 
-    /// The text that was printed, and behind it what it doesn't say of its sources: the digest of lines as they were written, and that of the
+    /// The text that was printed, followed by what it doesn't say of its sources: the digest of lines as they were written, and that of the
     /// list of its files, where a dependency file is asked for.
     fn text_at<R: Files + AllocGlobal>(
         &mut self,
@@ -379,7 +379,7 @@ impl Known {
         }
     }
 
-    /// The words by which the host compiles: the caller's own, and behind them the one for colours, where the session's have it, the compiler
+    /// The words by which the host compiles: the caller's own, followed by the one for colours, where the session's have it, the compiler
     /// takes it, and there is a text to which that compiler has something to say.
     fn own_words(
         &self,
@@ -480,7 +480,7 @@ impl Known {
         Ok(true)
     }
 
-    /// Refuses what was made where a file that the text names, or an input that is compiled as it stands, was changed meanwhile.
+    /// Refuses what was made where a file that the text names, or an input that is compiled as it is, was changed meanwhile.
     pub(crate) fn check_sources<R: Files + AllocGlobal>(&self, rt: &R) -> Result<(), HostError> {
         let are_unchanged = self.are_unchanged || self.named.are_unchanged(rt);
         match are_unchanged && self.has_loaded_input(rt) {
@@ -494,7 +494,7 @@ impl Known {
         self.printed.as_bytes().is_empty() && self.errors.as_bytes().is_empty()
     }
 
-    /// Copies of what was printed and written beside the outputs that the compiler made. Messages that can't be told to be as they would be
+    /// Copies of what was printed and written beside the outputs that the compiler made. Messages that might be different
     /// in another call are an error.
     pub fn messages<R: Files + AllocGlobal>(&mut self, rt: &R) -> Result<KeptMessages, HostError> {
         self.check_sources(rt)?;
@@ -544,7 +544,7 @@ impl Known {
     }
 }
 
-/// Puts a digest behind a text, as lines of a file that is none. An empty one isn't put there.
+/// Appends a digest to a text, as lines of a file that doesn't exist. An empty digest isn't appended.
 fn push_digest(text: &mut Vec<u8>, name: &str, digest: &[u8]) -> Result<(), HostError> {
     if digest.is_empty() {
         return Ok(());

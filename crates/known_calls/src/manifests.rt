@@ -62,7 +62,7 @@ impl KnownManifest {
     }
 }
 
-/// What is noted of headers in what a manifest has beside its results, and the lists behind it.
+/// What is noted of headers in what a manifest has beside its results, and the lists after it.
 fn noted_in(watched: &[u8]) -> (&[u8], &[u8]) {
     let Ok((key, rest)) = read_framed(watched) else {
         return (&[], watched);
@@ -90,7 +90,7 @@ impl Known {
         self.record.kept.is_none() && self.record.whole.is_none()
     }
 
-    /// Has the files loaded that a manifest names, which is taken then. False where one of them can't be told.
+    /// Has the files that a manifest names loaded, then takes the manifest. False where one of the files can't be determined.
     pub fn take_manifest<R: Files + AllocGlobal>(
         &mut self,
         rt: &R,
@@ -269,7 +269,7 @@ impl Known {
         self.put_whole(rt, line, &newest.0, &whole, lists.as_slice())
     }
 
-    /// Puts a manifest with these lists, behind what is noted of its headers.
+    /// Puts a manifest with these lists, which come after what is noted of its headers.
     fn put_whole<R: Files + AllocGlobal>(
         &self,
         rt: &R,

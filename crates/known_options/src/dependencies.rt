@@ -1,4 +1,4 @@
-//! What the words of a command say of its dependency file. The session isn't told of that: what its contents hang on is bound to the key,
+//! What the words of a command say of its dependency file. The session isn't given that: what its contents depend on is bound to the key,
 //! and what the compile wrote is kept beside its messages.
 
 use crate::placed::PlacedWords;
@@ -7,10 +7,10 @@ use os_files::listed::Listed;
 use os_files::os_bytes::OsBytes;
 use std::alloc::{AllocError, Global};
 
-/// Words that ask the preprocessor for a dependency file, whose path stands behind them.
+/// Words that ask the preprocessor for a dependency file; its path follows in the same word.
 const FOR_PREPROCESSOR: [&str; 2] = ["-Wp,-MD,", "-Wp,-MMD,"];
 
-/// The path of the dependency file in a word for the preprocessor, and what stands before it.
+/// The path of the dependency file in a word for the preprocessor, and what comes before it.
 pub fn for_preprocessor(word: &[u8]) -> Option<(&'static str, &[u8])> {
     for front in FOR_PREPROCESSOR {
         if let Some(path) = word.strip_prefix(front.as_bytes()) {
@@ -129,7 +129,7 @@ impl<'a> Said<'a> {
         Ok(())
     }
 
-    /// Whether it can't be told to which of several files the dependencies go.
+    /// Whether it can't be determined to which of several files the dependencies go.
     fn is_unclear(&self) -> bool {
         self.asked_preprocessor > 1 || (self.asked_preprocessor == 1 && self.asked != 0)
     }
@@ -152,7 +152,7 @@ impl<'a> Said<'a> {
     }
 }
 
-/// The name of a file, behind the folders of its path.
+/// The name of a file, without the folders of its path.
 fn file_name(path: &[u8]) -> &[u8] {
     match path.rsplit(|byte| *byte == b'/').next() {
         Some(name) => name,
@@ -160,7 +160,7 @@ fn file_name(path: &[u8]) -> &[u8] {
     }
 }
 
-/// What the words of a command say of its dependency file; nothing where it can't be told which of several ones is written.
+/// What the words of a command say of its dependency file; nothing where it can't be determined which of several ones is written.
 pub fn dependencies_of(
     alloc: Global,
     words: &[OsBytes],

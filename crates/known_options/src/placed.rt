@@ -52,7 +52,7 @@ pub(crate) fn takes_next(word: &[u8]) -> bool {
     takes_any(word) || is_among(&TAKE_KNOWN, word)
 }
 
-/// A word of a command where it stands.
+/// A word of a command in its place.
 #[derive(Clone, Copy)]
 pub struct Placed<'a> {
     pub word: &'a OsBytes,
@@ -72,7 +72,7 @@ impl Placed<'_> {
     }
 }
 
-/// The words of a command where they stand.
+/// The words of a command in their places.
 #[derive(Drop)]
 pub struct PlacedWords<'a> {
     rest: &'a [OsBytes],

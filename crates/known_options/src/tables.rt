@@ -3,7 +3,7 @@
 //! of GCC 12 and Clang 14 (`--help=common,optimizers,c,c++,target`, `--help-hidden`) and of their manuals; lib/options/exceptions says of
 //! each other option there why it isn't here, and bin/check-options that none is forgotten.
 
-/// Words that stand alone. For `-fno-NAME`, `-mno-NAME` and `-gno-NAME` stands that without `no-`.
+/// Words that are used alone. For `-fno-NAME`, `-mno-NAME` and `-gno-NAME` the form without `no-` is listed.
 pub const WHOLE: &str = " \
     -c -S -E -M -MM -MD -MMD -MP -ansi -pedantic -pedantic-errors -w -pipe -pthread -p -pg -undef -trigraphs -remap -nostdinc \
     -nostdinc++ -nostdlibinc -nobuiltininc -s -static -shared -pie -no-pie -static-pie -rdynamic -symbolic -nostdlib -nodefaultlibs \
@@ -135,7 +135,7 @@ pub const WHOLE: &str = " \
     -munaligned-access -munsafe-fp-atomics -mvaes -mvect8-ret-in-mem -mvpclmulqdq -mvzeroupper -mwaitpkg -mwavefrontsize64 -mwbnoinvd \
     -mwidekl -mx32 -mxop -mxsave -mxsavec -mxsaveopt -mxsaves ";
 
-/// Words up to their first `=`, with what may stand behind it: `#` is a number, or several with colons or commas between them, `*` is any text,
+/// Words up to their first `=`, with what may come after it: `#` is a number, or several with colons or commas between them, `*` is any text,
 /// and else it is one or more of these names, with commas between them.
 pub const VALUED: &str = " \
     -fabi-compat-version=# -fabi-version=# -falign-functions=# -falign-jumps=# -falign-labels=# -falign-loops=# -faligned-new=# \
@@ -186,7 +186,7 @@ pub const VALUED: &str = " \
     -mx86-used-note=yes,no -std=* -stdlib=libc++,libstdc++,platform -rtlib=libgcc,compiler-rt,platform \
     -unwindlib=none,libgcc,libunwind,platform --std=* --sysroot=* --target=* --gcc-toolchain=* ";
 
-/// Words for the assembler, behind `-Wa,` or `-Xassembler`.
+/// Words for the assembler, after `-Wa,` or `-Xassembler`.
 pub const ASSEMBLER: &str = " \
     --noexecstack --execstack --fatal-warnings --no-warn -W --warn --32 --64 --x32 --divide --keep-locals -L --strip-local-absolute \
     --reduce-memory-overheads --compress-debug-sections --compress-debug-sections=none --compress-debug-sections=zlib \
@@ -194,11 +194,11 @@ pub const ASSEMBLER: &str = " \
     --elf-stt-common=no --generate-missing-build-notes=yes --generate-missing-build-notes=no -mrelax-relocations=yes \
     -mrelax-relocations=no -mx86-used-note=yes -mx86-used-note=no -mbranches-within-32B-boundaries -msse2avx -mamd64 -mintel64 ";
 
-/// Words for Clang's own compiler, behind `-Xclang`.
+/// Words for Clang's own compiler, after `-Xclang`.
 pub const CLANG: &str = " \
     -disable-O0-optnone -disable-lifetime-markers -disable-llvm-passes -fno-pch-timestamp -opaque-pointers -no-opaque-pointers ";
 
-/// Words up to their `=` for what lies behind Clang, behind `-mllvm`, with what may stand behind it.
+/// Words for Clang's back end, after `-mllvm`: up to their `=`, with what may come after it.
 pub const LLVM: &str = " \
     -inline-threshold=# -inlinehint-threshold=# -unroll-count=# -unroll-threshold=# -align-all-functions=# \
     -align-all-nofallthru-blocks=# ";

@@ -1,4 +1,4 @@
-//! The words by which a compiler prints the text of a command: the caller's own, but for the object, with `-E` behind them.
+//! The words by which a compiler prints the text of a command: the caller's own, except for the object, followed by `-E`.
 
 use crate::placed::{Placed, PlacedWords};
 use os_files::listed::Listed;
@@ -86,7 +86,7 @@ fn push_without_object(
     Ok(())
 }
 
-/// The path of the dependency file of an object: that with `d` for what stands behind the last dot of its name.
+/// The path of the dependency file of an object: the object's path with `d` in place of what comes after the last dot of its name.
 pub(crate) fn dependency_file(alloc: Global, object: &[u8]) -> Result<Vec<u8>, AllocError> {
     let name = match object.rsplit(|byte| *byte == b'/').next() {
         Some(name) => name,

@@ -10,7 +10,7 @@ use std::alloc::{AllocError, Global};
 /// What words begin with that only look as if they began as one of `FRONTS`.
 const OTHERS: [&str; 4] = ["-obj", "-lang", "-include-pch", "-fbuiltin-module-map"];
 
-/// Words that name a file which is written, whether it stands behind them or in the next word.
+/// Words that name a file which is written, whether its name follows in the same word or is the next word.
 const NAME_OUTPUT: [&str; 2] = ["-o", "-MF"];
 
 /// What words begin with that may go on in any way.
@@ -52,7 +52,7 @@ fn begins_with(fronts: &[&str], word: &[u8]) -> bool {
         .any(|front| word.starts_with(front.as_bytes()))
 }
 
-/// What stands behind a front with which a word of the table begins, up to that word's end.
+/// What comes after a front with which a word of the table begins, up to that word's end.
 fn rest_behind<'a>(table: &'a str, front: &[u8]) -> Option<&'a [u8]> {
     let table = table.as_bytes();
     let at = memmem::find(table, front)?;
@@ -60,7 +60,7 @@ fn rest_behind<'a>(table: &'a str, front: &[u8]) -> Option<&'a [u8]> {
     behind.split(|byte| *byte == b' ').next()
 }
 
-/// A word as a table has it, behind a space: without the `no-` of one that turns off what another one turns on.
+/// A word as a table has it, after a space: an option that turns off what another one turns on loses its `no-`.
 fn front_of(alloc: Global, word: &[u8]) -> Result<Vec<u8>, AllocError> {
     let mut front = Vec::with_capacity(alloc, 64)?;
     front.push(b' ')?;
@@ -76,7 +76,7 @@ fn front_of(alloc: Global, word: &[u8]) -> Result<Vec<u8>, AllocError> {
 
 /// Whether the table has that word.
 fn is_listed(alloc: Global, table: &str, word: &[u8]) -> Result<bool, AllocError> {
-    // A space would let it stand for two words of the table.
+    // With a space in it, it could match two words of the table.
     if word.contains(&b' ') {
         return Ok(false);
     }
@@ -107,7 +107,7 @@ fn fits(said: &[u8], value: &[u8]) -> bool {
     }
 }
 
-/// Whether the table has that word up to its first `=`, and says that what stands behind it may.
+/// Whether the table has that word up to its first `=`, and allows what comes after it.
 fn is_valued(alloc: Global, table: &str, word: &[u8]) -> Result<bool, AllocError> {
     let Some(at) = memchr(b'=', word) else {
         return Ok(false);
@@ -126,7 +126,7 @@ fn is_valued(alloc: Global, table: &str, word: &[u8]) -> Result<bool, AllocError
     }
 }
 
-/// Whether it is a name with a value behind `=`, as `--param` takes one: small letters, digits and lines.
+/// Whether it is a name with a value after `=`, as `--param` takes one: lower-case letters, digits and dashes.
 fn is_parameter(word: &[u8]) -> bool {
     memchr(b'=', word).is_some()
         && word.iter().all(|byte| {
@@ -163,7 +163,7 @@ fn is_file(path: &[u8]) -> bool {
     }
 }
 
-/// Whether a word that begins with one of `FRONTS` is known, in which a path may stand.
+/// Whether a word that begins with one of `FRONTS`, and may contain a path, is known.
 fn is_known_front(word: &[u8]) -> bool {
     let path = NAME_OUTPUT
         .iter()
@@ -210,7 +210,7 @@ fn is_known_value(alloc: Global, option: &[u8], value: &[u8]) -> Result<bool, Al
     }
 }
 
-/// Whether a word is known where it stands.
+/// Whether a word is known in its place.
 fn is_known(alloc: Global, placed: Placed<'_>) -> Result<bool, AllocError> {
     let word = placed.word.as_bytes();
     if let Some(option) = placed.option {

@@ -10,7 +10,7 @@ use Rattle.recorded_builds.specs.Tallies.{Row, numbers_in}
 use Rattle.recorded_builds.specs.declared.entry.Entry.{Entry}
 use Rattle.recorded_builds.specs.declared.tally.Tally.{Tally}
 
--- the numbers of entries and of one behind them
+-- the numbers of entries and of one after them
 numbers_behind : (test : Entry → Bool) (first : ℕ) (entries : List Entry) (entry : Entry)
     → numbers_where test first (entries ++ entry ∷ [])
     ≡ numbers_where test first entries
@@ -30,7 +30,7 @@ numbers_behind test first (one ∷ entries) entry =
     (append_assoc here more
     (if test entry then (first + length (one ∷ entries)) ∷ [] else []))
 
--- what was noted of entries and of one behind them
+-- what was noted of entries and of one after them
 pub noted_behind : (noted next : List ℕ) (test : Entry → Bool) (number : ℕ) (entries : List Entry)
     (entry : Entry)
     → next ≡ noted ++ (if test entry then number ∷ [] else []) → number ≡ 1 + length entries

@@ -1,4 +1,4 @@
--- What a tally's entries tell of the numbers at which a name was noted.
+-- What a tally's entries say of the numbers at which a name was noted.
 use Rattle.std.proofs.Common.{◌≡◌, refl, ℕ, ◌≢◌, List, [], Option, None, Some, Vec, ap, sym, ◌∙◌, map, All, Contains, string_bytes}
 use Rattle.std.specs.BTreeMap.{IsOrdered, get, get_by_text}
 use Rattle.std.specs.Cmp.Lexicographic.{bytes_decides}

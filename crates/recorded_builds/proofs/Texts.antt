@@ -92,7 +92,7 @@ once_pushed (text ∷ found) one once new =
           (or_false_right (bytes_eq text.now one.now) (is_among one.now found) new),
     )
 
--- What one that is noted first leaves to those behind it: where a name is the first, it is none of those.
+-- What one that is noted first leaves to those after it: where a name is the first, it is none of those.
 pub rest_noted : (one : Text) (rest : List Text) → AreOnce (one ∷ rest)
     → (before : List ℕ) (number : ℕ) (name : Bytes)
     → (before ++ (cond (bytes_eq name one.now) (number ∷ []) []))

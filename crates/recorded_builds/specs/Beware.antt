@@ -18,7 +18,7 @@ abbrev pub is_named : Bytes → Option Bytes → Bool
 is_named name None = false
 is_named name (Some other) = bytes_eq other name
 
--- an option that names a file behind an equals sign
+-- an option that names a file after an equals sign
 abbrev pub naming : Bytes → Option Bytes
 naming word =
     if begins_with word NAMING_FRONT.now && list_any (nat_eq 61) word then Some NAMING_FRONT.now

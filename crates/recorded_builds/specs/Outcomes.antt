@@ -19,7 +19,7 @@ pub data Outcome : Type 0 where
   by_rustc : rust.Decision → Outcome
   unknown : Outcome
 
--- the words of an executable, with the files of words that they name opened from that folder
+-- the words of an executable, with the response files that they name opened from that folder
 abbrev pub outcome_by : Option EntryCompiler → Bytes → Tree → List Bytes → Outcome
 outcome_by None dir tree words = unknown
 outcome_by (Some (compilers.C kind)) dir tree words =
@@ -31,7 +31,7 @@ outcome_by (Some compilers.Rustc) dir tree words =
 abbrev pub outcome_of : Tree → Entry → Outcome
 outcome_of tree entry = outcome_by entry.compiler entry.dir tree entry.words
 
--- what an answer tells
+-- what an answer says
 abbrev pub outcome_in : Decided → Outcome
 outcome_in (decided.C kind answer) = by_c kind (decision_of answer)
 outcome_in (decided.Rustc answer) = by_rustc (rust.decision_of answer)

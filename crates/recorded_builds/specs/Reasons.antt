@@ -1,4 +1,4 @@
--- What is told of an entry: why it is passed through, what keeps direct mode from being used, and
+-- What is reported for an entry: why it is passed through, what keeps direct mode from being used, and
 -- options to beware of.
 use Rattle.std.specs.Prelude.{◌≡◌, Bool, List, [], ◌++◌, Option, None, Some, codes, string_bytes}
 use Rattle.std.specs.List.{list_any}
@@ -47,7 +47,7 @@ words_looked_at _ = []
 abbrev pub holds_option : Bytes → Outcome → Bool
 holds_option option outcome = list_any (is_option option) (words_looked_at outcome)
 
--- all this is told of what the words of that executable come to
+-- all this is reported for what the words of that executable come to
 pub record Tells (executable : Bytes) (outcome : Outcome) (told : Told) : Type 0 where
   pub decided : outcome_in told.decided ≡ outcome
   pub reason : option_map string_bytes told.reason ≡ reason_for executable outcome

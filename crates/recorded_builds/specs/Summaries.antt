@@ -18,7 +18,7 @@ numbers_where test number [] = []
 numbers_where test number (entry ∷ entries) =
     (if test entry then number ∷ [] else []) ++ numbers_where test (number + 1) entries
 
--- Rows that tell which entries have each name: each row the numbers of all that have its name, with
+-- Rows that list which entries have each name: each row the numbers of all that have its name, with
 -- one row for each name that one has, and the names that most have first.
 pub record AreRowsOf
     (has : Bytes → Entry → Bool) (entries : List Entry) (rows : List Row) : Type 0 where
@@ -34,7 +34,7 @@ pub record IsSummaryOf (tree : Tree) (entries : List Entry) (summary : Summary) 
   pub blockers : AreRowsOf (is_blocked_by tree) entries summary.blockers.items
   pub beware : AreRowsOf (holds tree) entries summary.beware.items
 
--- What was noted of these entries, told in this order with these files: how many they are, how many
+-- What was noted of these entries, reported in this order with these files: how many they are, how many
 -- are kept, and the numbers of those that have each reason or option.
 pub record HasTold (tree : Tree) (entries : List Entry) (telling : Telling) : Type 0 where
   pub count : telling.count ≡ length entries

@@ -1,4 +1,4 @@
--- The verdict on an entry: what its words come to, unless a hazard has it passed through that its words don't tell as a reason.
+-- The verdict on an entry: what its words come to, unless a hazard that its words don't give as a reason has it passed through.
 use Rattle.std.specs.Prelude.{Bool, ◌==◌, ◌&&◌, ◌||◌, List, Option, None, Some, codes, if◌then◌else◌}
 use Rattle.std.specs.List.{list_all, list_any}
 use Rattle.std.specs.Str.{is_utf8}
@@ -21,7 +21,7 @@ use Rattle.recorded_builds.specs.declared.entry.Entry.{Entry}
 use Rattle.recorded_builds.specs.declared.executables.EntryCompiler.{EntryCompiler}
 use Rattle.recorded_builds.specs.declared.executables.EntryCompiler.TheVariants as compilers
 
--- a word of one of the commands would make the compiler open a file of words
+-- a word of one of the commands would make the compiler open a response file
 abbrev pub commands_open_file : CCompilerKind → ParsedArguments → Bool
 commands_open_file kind p =
     opens_file kind (compile_words kind p (output_path p)) || opens_file kind (preprocess_words kind p)
@@ -30,7 +30,7 @@ commands_open_file kind p =
 abbrev pub holds_255 : Bytes → Bool
 holds_255 word = list_any (λ b. b == 255) word
 
--- The hazard of what is asked for: an option whose value may stand either way has an empty one, a word of a command would open a
+-- The hazard of what is asked for: an option whose value may be attached or separate has an empty one, a word of a command would open a
 -- file, or a hashed word holds the byte 255.
 abbrev pub hazard_of : CCompilerKind → ParsedArguments → Option Bytes
 hazard_of kind p =
@@ -73,7 +73,7 @@ not_text = rust.cannot_cache (codes "not utf-8") None
 abbrev pub rust_verdict : Bytes → Tree → List Bytes → rust.Decision
 rust_verdict dir tree words = if are_text dir words then rust_verdict_by dir tree words else not_text
 
--- the verdict on the words of an executable, with the files of words that they name opened from that folder
+-- the verdict on the words of an executable, with the response files that they name opened from that folder
 abbrev pub verdict_by : Option EntryCompiler → Bytes → Tree → List Bytes → Outcome
 verdict_by None dir tree words = unknown
 verdict_by (Some (compilers.C kind)) dir tree words =

@@ -1,4 +1,4 @@
-//! Options that the tables don't know, and under which a kept output may be incomplete or wrong. docs/REPORT.md tells what each does.
+//! Options that the tables don't know, and under which a kept output may be incomplete or wrong. docs/REPORT.md says what each does.
 
 ghost use Rattle.std.specs.Prelude.{◌≡◌, ◌||◌, Bool, None, find, IfOk, OnOk, map, ◌++◌};
 ghost use Rattle.std.specs.List.{list_any};
@@ -9,7 +9,7 @@ ghost use Rattle.recorded_builds.specs.Beware.{AreOnce, begins_with, is_among, i
 use os_files::os_bytes::OsBytes;
 use std::alloc::{AllocError, Global};
 
-/// Options that stand alone.
+/// Options that are used alone.
 const WHOLE: [&str; 7] = [
     "-coverage",
     "-fstack-usage",
@@ -38,7 +38,7 @@ const FRONTS: [&str; 14] = [
     "-MJ",
 ];
 
-/// What options begin with that write a file where they name one behind `=`.
+/// What options begin with that write a file where they name one after `=`.
 const NAMING_FRONT: &str = "-fopt-info";
 
 /// The first of these options that a word is.
@@ -61,7 +61,7 @@ fn front_option(fronts: &[&'static str], word: &[u8]) -> Option<&'static str>
         .find(|front| word.starts_with(front.as_bytes()))
 }
 
-/// The option of a word that names a file behind `=`.
+/// The option of a word that names a file after `=`.
 fn naming_option(word: &[u8]) -> Option<&'static str>
     ensures { option_map (λ option. option.now) result ≡ naming word.now }
 {

@@ -7,11 +7,11 @@ use os_files::os_bytes::OsBytes;
 /// A command line of a build.
 #[derive(Drop)]
 pub struct Entry {
-    /// The compiler, where its executable's name tells one.
+    /// The compiler, where its executable's name shows which it is.
     pub compiler: Option<EntryCompiler>,
-    /// The executable that compiles, as its word stands.
+    /// The executable that compiles, as it is written in the command line.
     pub executable: OsBytes,
-    /// The words behind it.
+    /// The words after it.
     pub words: Listed<OsBytes>,
     /// The folder in which it is run.
     pub dir: OsBytes,

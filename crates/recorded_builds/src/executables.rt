@@ -2,14 +2,14 @@
 //!
 //! | file name | compiler |
 //! |---|---|
-//! | `cc`, `gcc`, `c++`, `g++`, perhaps with a target before and a version behind, as `aarch64-linux-gnu-gcc-13.2` | Gcc |
+//! | `cc`, `gcc`, `c++`, `g++`, perhaps with a target before and a version after it, as `aarch64-linux-gnu-gcc-13.2` | Gcc |
 //! | `clang`, `clang++`, likewise | Clang |
 //! | `cl` | Msvc |
 //! | `dcc` | Diab |
 //! | `cctc` | TaskingVX |
 //! | `rustc` | rustc |
 //!
-//! Each may end in `.exe`. The file name is what stands behind the last slash of either kind.
+//! Each may end in `.exe`. The file name is what comes after the last slash of either kind.
 
 use cmdlines_tables::compiler::CCompilerKind;
 
@@ -20,7 +20,7 @@ pub enum EntryCompiler {
     Rustc,
 }
 
-/// What stands behind the last slash of either kind.
+/// What comes after the last slash of either kind.
 fn file_name(path: &[u8]) -> &[u8] {
     let mut parts = path.rsplit(|byte| *byte == b'/' || *byte == b'\\');
     parts.next().unwrap_or(path)
@@ -48,7 +48,7 @@ fn without_target_and_version(name: &[u8]) -> &[u8] {
     }
 }
 
-/// The compiler that an executable of this path is, where its name tells.
+/// The compiler that an executable of this path is, where its name shows it.
 pub fn compiler_of(executable: &[u8]) -> Option<EntryCompiler> {
     let name = without_exe(file_name(executable));
     if name == b"cl".as_slice() {
@@ -80,7 +80,7 @@ pub fn compiler_of(executable: &[u8]) -> Option<EntryCompiler> {
     None
 }
 
-/// Whether an executable of this path runs the compiler that the words behind it name.
+/// Whether an executable of this path runs the compiler that the words after it name.
 pub fn is_wrapper(executable: &[u8]) -> bool {
     let name = without_exe(file_name(executable));
     name == b"ccache".as_slice() || name == b"sccache".as_slice() || name == b"distcc".as_slice()

@@ -95,7 +95,7 @@ impl Noted {
         self.blockers.note_some(blocker, number)
     }
 
-    /// Notes what is told of the entry of this number.
+    /// Notes what is reported for the entry of this number.
     pub(crate) fn note(&mut self, alloc: Global, number: u64, told: Told) -> Result<(), AllocError>
         requires room { self.old.kept + 1 < 2 ^ 64 }
         requires once { AreOnce told.beware.items }

@@ -1,4 +1,4 @@
-//! All entries of a recorded build, each decided and told, and their summary.
+//! All entries of a recorded build, each decided and reported, and their summary.
 
 ghost use Rattle.std.specs.Prelude.{◌≡◌, ◌+◌, ◌^◌, ◌<◌, [], ◌∷◌, ◌++◌, IfOk, OnOk, if◌then◌else◌};
 ghost use Rattle.recorded_builds.specs.Outcomes.{is_kept};
@@ -15,9 +15,9 @@ use crate::told::Told;
 use response_files::fault::ParseFault;
 use std::alloc::{AllocError, Global};
 
-/// Where entries are told.
+/// Where entries are reported.
 pub trait Lines {
-    /// Tells the entry of this number. `files` has noted the files of words that it names and that aren't there.
+    /// Reports the entry of this number. `files` has noted the response files that it names and that aren't there.
     fn tell(
         &mut self,
         number: u64,
@@ -25,11 +25,11 @@ pub trait Lines {
         told: &Told,
         files: &Asked,
     ) -> Result<(), AllocError>
-        // What is told is what the definitions make of the entry's words.
+        // What is reported is what the definitions make of the entry's words.
         requires { Tells entry.now.executable (verdict_of files.now.files entry.now) told.now };
 }
 
-/// What is told of an entry, with these files.
+/// What is reported for an entry, with these files.
 fn told_of(
     alloc: Global,
     compilers: &Compilers,
@@ -44,7 +44,7 @@ fn told_of(
     Ok(Told::new(alloc, decided, &entry.executable)?)
 }
 
-/// Decides, tells and notes the entry of this number.
+/// Decides, reports and notes the entry of this number.
 fn tell<L: Lines>(
     alloc: Global,
     compilers: &Compilers,
@@ -75,7 +75,7 @@ fn tell<L: Lines>(
     Ok(())
 }
 
-/// Entries that are told one after another, and what was noted of them.
+/// Entries that are reported one after another, and what was noted of them.
 #[derive(Drop)]
 pub struct Telling {
     /// How many there were.
@@ -84,7 +84,7 @@ pub struct Telling {
 }
 
 impl Telling {
-    /// No entry was told.
+    /// No entry has been reported yet.
     pub fn new(alloc: Global) -> Telling
         ensures { (tree : _) → HasTold tree [] result }
     {
@@ -105,7 +105,7 @@ impl Telling {
         Ok(self.count + 1)
     }
 
-    /// Decides and tells one more entry, with these files.
+    /// Decides and reports one more entry, with these files.
     pub fn tell<L: Lines>(
         &mut self,
         alloc: Global,
@@ -133,7 +133,7 @@ impl Telling {
         Ok(())
     }
 
-    /// The summary of all entries that were told.
+    /// The summary of all entries that were reported.
     pub fn into_summary(self, alloc: Global) -> Result<Summary, AllocError>
         ensures { IfOk result (λ summary. (tree : _) (entries : _)
             → HasTold tree entries self → IsSummaryOf tree entries summary) }

@@ -1,4 +1,4 @@
-//! What is told of an entry.
+//! What is reported for an entry.
 
 ghost use Rattle.std.specs.Prelude.{◌≡◌, Bool, List, IfOk, string_bytes};
 ghost use Rattle.std.specs.List.{list_any};
@@ -15,7 +15,7 @@ use cmdlines_tables::compiler::CCompilerKind;
 use os_files::os_bytes::OsBytes;
 use std::alloc::{AllocError, Global};
 
-/// What is told of an entry.
+/// What is reported for an entry.
 #[derive(Drop)]
 pub struct Told {
     pub decided: Decided,
@@ -62,7 +62,7 @@ fn options_to_beware_of(alloc: Global, decided: &Decided) -> Result<Vec<&'static
     }
 }
 
-/// What is told of an entry besides what it comes to.
+/// What is reported for an entry besides what it comes to.
 #[derive(Drop)]
 struct Remarks {
     reason: Option<String>,
@@ -70,7 +70,7 @@ struct Remarks {
     beware: Vec<&'static str>,
 }
 
-/// What is told of the words of that executable besides what they come to.
+/// What is reported for the words of that executable besides what they come to.
 fn remarks_on(alloc: Global, decided: &Decided, executable: &OsBytes) -> Result<Remarks, AllocError>
     ensures reason { IfOk result (λ remarks. option_map string_bytes remarks.reason
         ≡ reason_for executable.now (outcome_in decided.now)) }
@@ -88,7 +88,7 @@ fn remarks_on(alloc: Global, decided: &Decided, executable: &OsBytes) -> Result<
 }
 
 impl Told {
-    /// What is told of the words of that executable, which come to this.
+    /// What is reported for the words of that executable, which come to this.
     pub fn new(alloc: Global, decided: Decided, executable: &OsBytes) -> Result<Told, AllocError>
         ensures { IfOk result (Tells executable.now (outcome_in decided)) }
     {

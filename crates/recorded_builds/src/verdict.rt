@@ -31,7 +31,7 @@ use rustc_texts::words::compile_words;
 use rustkeys_base::parse;
 use std::alloc::{AllocError, Global};
 
-/// Whether a word of a command would make this compiler open a file of words.
+/// Whether a word of a command would make this compiler open a response file.
 fn opens_by<K: HasKind>(
     alloc: Global,
     compiler: &FoundCompiler<K>,
@@ -89,7 +89,7 @@ fn are_text(words: &[OsBytes], dir: &OsBytes) -> bool
     are_all_text(words) && is_text(dir.as_bytes())
 }
 
-/// Whether a word with which it is compiled would make rustc open a file of words.
+/// Whether a word with which it is compiled would make rustc open a response file.
 fn opens_words(alloc: Global, parsed: &rust::ParsedArguments) -> Result<bool, AllocError>
     ensures { IfOk result (λ opens.
         opens ≡ list_any begins_with_at (rustc.compile_words (asks_in parsed.now))) }
@@ -99,7 +99,7 @@ fn opens_words(alloc: Global, parsed: &rust::ParsedArguments) -> Result<bool, Al
     Ok(list.iter().any(|word| word.as_bytes().starts_with(b"@")))
 }
 
-/// It is asked for, unless it would make rustc open a file of words.
+/// It is asked for, unless it would make rustc open a response file.
 fn past_rust_hazard(
     alloc: Global,
     parsed: rust::ParsedArguments,
@@ -134,7 +134,7 @@ fn judge_rust<F: Files>(
 }
 
 impl Compilers {
-    /// Whether a word of a command would make the compiler of that kind open a file of words.
+    /// Whether a word of a command would make the compiler of that kind open a response file.
     fn commands_open_file(
         &self,
         alloc: Global,
@@ -216,7 +216,7 @@ impl Compilers {
         }
     }
 
-    /// The verdict on an entry, with the files of words opened that it names.
+    /// The verdict on an entry, with the response files that it names opened.
     pub fn judge<F: Files>(
         &self,
         alloc: Global,

@@ -16,7 +16,7 @@ const SCENARIO: &str = r##"{"requests":[
   "dep_info":"deps.d: foo.rs\n\nfoo.rs:\n\n# env-dep:FOO=a\n","file_names":"libfoo.rlib\n",
   "archives":{"/w/lib/libz.a":"0000000000000000000000000000000000000000000000000000000000000000"}}]}"##;
 
-/// The text on dependencies has rules of 27 and 33 bytes for its two targets, each with an empty line behind it, rules of 10 and 8 bytes for the
+/// The text on dependencies has rules of 27 and 33 bytes for its two targets, each with an empty line after it, rules of 10 and 8 bytes for the
 /// archive and the source, an empty line, and the variable's of 16: 97. In the other folder each target is a byte longer.
 const EXPECTED: &str =
     "1 fresh libfoo.rlib:14 dep-info:97\n2 stored libfoo.rlib:14 dep-info:99\ncompiles 1\n";

@@ -1,4 +1,4 @@
-//! Tests that accept want of memory and nothing else. `bin/refusals` runs them with each allocation refused in turn.
+//! Tests that accept running out of memory and nothing else. `bin/refusals` runs them with each allocation refused in turn.
 #![tactic(auto)]
 
 #[cfg(test)]

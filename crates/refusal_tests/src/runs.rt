@@ -1,4 +1,4 @@
-//! Runs of a scenario one after another: the one that meets the refused growth says so, and the others are as if there had been none.
+//! Runs of a scenario one after another: the one that meets the refused allocation says so, and the others are as if there had been none.
 
 use scenarios::program::{RunFault, run, run_explained};
 use std::alloc::Global;
@@ -19,8 +19,8 @@ pub(crate) enum Program {
     Explained,
 }
 
-/// Whether three runs of the scenario go right: each prints the lines that are expected or some of those that want of memory
-/// leads to, and two print what is expected, since one growth is refused at most.
+/// Whether three runs of the scenario go right: each prints the lines that are expected or some of those that running out of memory
+/// leads to, and two print what is expected, since at most one allocation is refused.
 pub(crate) fn go_right(
     alloc: Global,
     program: Program,

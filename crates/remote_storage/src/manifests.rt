@@ -27,7 +27,7 @@ pub(crate) fn name_of_manifest(alloc: Global, own: &str) -> Result<String, HostE
     name_of(alloc, "m", KeptManifest::VERSION, "c", own)
 }
 
-/// The lists in what a manifest has beside its results, behind what is noted of headers.
+/// The lists in what a manifest has beside its results, after what is noted of headers.
 fn lists_in(watched: &[u8]) -> &[u8] {
     let Ok((empty, rest)) = read_framed(watched) else {
         return watched;

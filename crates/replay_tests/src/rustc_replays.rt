@@ -1,4 +1,4 @@
-//! A session over recorded answers of rustc: what it tells that it lacks, and what it answers where it lacks nothing.
+//! A session over recorded answers of rustc: what it reports as lacking, and what it answers where it lacks nothing.
 //!
 //! The proof of a function grows with what it drops by itself, field by field, at each of its ends. So each function here holds few large
 //! values, and hands them over to `drop`, which is one call.
@@ -55,7 +55,7 @@ const SECOND_ON_NAMES: &str =
 const COMPILE: &str =
     "--emit dep-info,link -C opt-level=1 foo.rs --out-dir out --crate-name foo --crate-type rlib -L native=lib -l static=z --color always";
 
-/// What rustc tells of what the crate depends on.
+/// What rustc says of what the crate depends on.
 const DEPENDENCIES: &str = "deps.d: foo.rs\n\nfoo.rs:\n";
 
 /// The digest of nothing, the low half of each byte first.
@@ -194,7 +194,7 @@ fn add_word(alloc: Global, told: &mut Option<RecordedAnswer>) -> Result<(), Allo
     Ok(())
 }
 
-/// Changes what rustc told.
+/// Changes what rustc answered.
 fn change_told(alloc: Global, rustc: &mut RecordedRustc, change: Change) -> Result<(), AllocError> {
     match change {
         Change::NoDependencies => rustc.dep_info = None,
@@ -300,7 +300,7 @@ fn ask(
     answer(alloc, &request, tool, kept)
 }
 
-/// What is told by an answer, and of what is lacking.
+/// What an answer says, and what is lacking.
 fn text_of(
     alloc: Global,
     told: &SessionAnswer<Sha256>,
@@ -312,7 +312,7 @@ fn text_of(
     Ok(text)
 }
 
-/// What the first request is told by what this tool recorded.
+/// What the first request is answered from what this tool recorded.
 fn told_by_tool(alloc: Global, tool: &mut ReplayTool) -> Result<String, Fail> {
     let told = ask(alloc, FIRST, tool, None)?;
     Ok(text_of(alloc, &told, tool)?)
@@ -326,7 +326,7 @@ fn changed(alloc: Global, change: Change) -> Result<RecordedRustc, AllocError> {
     Ok(rustc)
 }
 
-/// What the first request is told where what is recorded of it is changed so.
+/// What the first request is answered where what is recorded of it is changed so.
 fn told_with(alloc: Global, change: Change) -> Result<String, Fail> {
     let rustc = changed(alloc, change)?;
     let mut tool = ReplayTool::new();
@@ -424,7 +424,7 @@ fn kept(alloc: Global) -> Result<Option<(StoreKey, Pairs)>, Fail> {
     Ok(kept?)
 }
 
-/// What a request is told by all that is recorded, over what is kept.
+/// What a request is answered from all that is recorded, over what is kept.
 fn told_by(
     alloc: Global,
     line: &str,

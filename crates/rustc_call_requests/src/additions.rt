@@ -16,10 +16,10 @@ use snapshot_files::SnapshotFiles;
 use std::alloc::Global;
 use std::rt::Files;
 
-/// What the names of variables begin with under which the session is told of what is bound to a key: it hashes those of cargo.
+/// What the names of variables begin with that pass to the session what is bound to a key: it hashes cargo's variables.
 const OWN: &str = "CARGO_GULMAAT_";
 
-/// The variable under which it is told of all additions.
+/// The variable that passes all additions to it.
 const VARIABLE: &str = "CARGO_GULMAAT_ADDITIONS";
 
 /// Variables by which rustc makes something else, though no text on dependencies names them.
@@ -42,7 +42,7 @@ const PROCESSOR: &str = "/proc/cpuinfo";
 /// What the lines of that file begin with that count.
 const OF_PROCESSOR: [&str; 5] = ["cpu family", "flags", "model", "stepping", "vendor_id"];
 
-/// The values of an option, which stand behind it, of a long one behind `=`, or in the next word.
+/// The values of an option, which come right after it, for a long one after `=`, or are the next word.
 fn values_of<'a>(
     alloc: Global,
     words: &'a [OsBytes],
@@ -96,7 +96,7 @@ fn add_processor<R: Files + AllocGlobal>(
     Ok(())
 }
 
-/// A crate that a word names, with what stands before its place, and that place as it is written, where one is.
+/// A crate that a word names: what comes before its path, and that path as it is written, where there is one.
 fn crate_in(value: &[u8]) -> (&[u8], Option<&[u8]>) {
     match value.iter().position(|byte| *byte == b'=') {
         Some(at) => {
@@ -196,7 +196,7 @@ pub fn additions_of<R: Files + AllocGlobal>(
     Ok(additions)
 }
 
-/// The variables of a call that the session is told: those that it hashes.
+/// The variables of a call that are passed to the session: those that it hashes.
 pub fn variables_of(
     alloc: Global,
     line: &CommandLine,
@@ -211,7 +211,7 @@ pub fn variables_of(
     Ok(env)
 }
 
-/// The variable that stands for all additions. The session takes text alone, so it is told their digest.
+/// The variable that stands for all additions. The session takes text alone, so it is given their digest.
 pub fn variable_of(alloc: Global, additions: &Additions) -> Result<(OsBytes, OsBytes), HostError> {
     let digest = digest_of(alloc, additions.variable(alloc)?.1.as_bytes())?;
     let name = OsBytes::from_slice(alloc, VARIABLE.as_bytes())?;

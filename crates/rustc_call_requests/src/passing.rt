@@ -27,7 +27,7 @@ const TERMINALS: [&str; 2] = ["/dev/pts/", "/dev/tty"];
 /// Words by which messages are written as JSON.
 const AS_JSON: &str = "--error-format=json";
 
-/// The option that tells how wide a terminal is.
+/// The option that says how wide a terminal is.
 const WIDTH: &str = "--diagnostic-width";
 
 /// Whether one of the words is that one, or begins so.

@@ -72,7 +72,7 @@ const ATTEMPTS: u32 = 64;
 /// How many files words may name that are looked at as they are parsed.
 const FILES_OF_WORDS: u32 = 64;
 
-/// The words that the session is told: without the one that names a toolchain.
+/// The words that are passed to the session: without the one that names a toolchain.
 fn words_of(line: &CommandLine) -> &[OsBytes] {
     let words = line.words.as_slice();
     match (toolchain_word(words), words.split_first()) {
@@ -98,7 +98,7 @@ fn parse<R: Files + AllocGlobal>(
     Err(HostError::Unreadable)
 }
 
-/// A pass for that reason, as the session tells it.
+/// A pass for that reason, as the session reports it.
 fn pass(alloc: Global, reason: &str, more: Option<String>) -> Result<RustcEnd, HostError> {
     let told = match more {
         Some(more) => format!(in alloc; "pass: {reason}: {}", more.as_str())?,

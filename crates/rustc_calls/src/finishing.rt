@@ -119,7 +119,7 @@ pub(crate) fn give<R: Files<File = File> + AllocGlobal>(
 }
 
 /// Whether what was made may be kept: its sources are as they were, messages are such as another call can have, and the text on dependencies
-/// is the one that the session tells.
+/// is the one that the session gives.
 fn may_keep<R: Files + AllocGlobal>(
     rt: &R,
     line: &CommandLine,

@@ -49,7 +49,7 @@ pub(crate) struct KnownCrate {
     states: Vec<(OsBytes, Option<State>)>,
     /// The folder of the outputs, as it is written.
     folder: OsBytes,
-    /// How wide the terminal is, as a word tells it.
+    /// How wide the terminal is, as a word gives it.
     width: OsBytes,
     /// Of what the key is made, and the name under which that lies of the call before this one.
     pub(crate) parts: PartRows,
@@ -60,10 +60,10 @@ pub(crate) struct KnownCrate {
     pub(crate) dep_info: Option<OsBytes>,
 }
 
-/// The option that tells how wide a terminal is.
+/// The option that says how wide a terminal is.
 const WIDTH: &str = "--diagnostic-width=";
 
-/// How wide the terminal is, as a word tells it, or that none does.
+/// How wide the terminal is, as a word gives it, or `none` where no word does.
 fn width_in(words: &[OsBytes]) -> &[u8] {
     words
         .iter()
@@ -71,7 +71,7 @@ fn width_in(words: &[OsBytes]) -> &[u8] {
         .unwrap_or(b"none")
 }
 
-/// What a session is told of a file of that size: nothing of its times.
+/// What a session is given about a file of that size: nothing of its times.
 fn metadata_of(size: u64) -> Metadata {
     let time = FileTime::from_seconds(0);
     Metadata {
@@ -127,7 +127,7 @@ impl KnownCrate {
         self.width = OsBytes::from_slice(alloc, width_in(words))?;
         self.parts_name = name_of_parts(alloc, line.dir.as_bytes(), parsed)?;
         self.naming = match parsed.target_json {
-            // Which target that is stands in a file.
+            // A file says which target that is.
             Some(_) => dep_info_words(alloc, parsed)?,
             None => kept_words(alloc, parsed)?,
         };
@@ -279,7 +279,7 @@ impl KnownCrate {
         Ok(())
     }
 
-    /// Notes of what the key was made, for whoever asks why the call was compiled, and tells it.
+    /// Notes of what the key was made, for whoever asks why the call was compiled, and reports it.
     pub(crate) fn note_parts<R: Files + AllocGlobal>(
         &mut self,
         rt: &R,

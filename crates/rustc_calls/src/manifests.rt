@@ -21,10 +21,10 @@ use std::collections::BTreeSet;
 use std::fs;
 use std::rt::Files;
 
-/// What stands in the place of a zone in manifests of rustc.
+/// What is used in place of a zone in manifests of rustc.
 const OF_RUSTC: &[u8] = b"rustc";
 
-/// Whether variables that sources name have the values that a text tells.
+/// Whether variables that sources name have the values that a text gives.
 fn are_set_so(line: &CommandLine, told: &[EnvDep]) -> bool {
     told.iter().all(|dep| {
         let pair = line.env.as_slice().iter().find(|pair| pair.0 == dep.name);
@@ -64,7 +64,7 @@ fn have_no_others<R: Files + AllocGlobal>(rt: &R, sources: &[OsBytes]) -> Result
     Ok(true)
 }
 
-/// The sources that a text tells, where variables and modules are as they were.
+/// The sources that a text names, where variables and modules are as they were.
 fn sources_in<R: Files + AllocGlobal>(
     rt: &R,
     line: &CommandLine,
@@ -99,7 +99,7 @@ impl KnownCrate {
         Ok(true)
     }
 
-    /// The text on dependencies of a manifest of that name, where all that it tells is as it was.
+    /// The text on dependencies of a manifest of that name, where all that it names is as it was.
     pub(crate) fn noted_text<R: Files + AllocGlobal>(
         &mut self,
         rt: &R,
@@ -128,7 +128,7 @@ impl KnownCrate {
         Ok(Some(kept.results))
     }
 
-    /// Loads the sources that a text tells, and keeps a manifest of it, where these can be known again by their states.
+    /// Loads the sources that a text names, and keeps a manifest of it, where these can be recognized by their states.
     pub(crate) fn take_text<R: Files + AllocGlobal>(
         &mut self,
         rt: &R,

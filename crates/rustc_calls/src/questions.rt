@@ -32,10 +32,10 @@ use wrap_base::request::Request;
 use wrap_base::store_key::StoreKey;
 use wrap_base::tool::Compiled;
 
-/// The variable under which the session is told what a crate is made of.
+/// The variable that passes to the session what a crate is made of.
 const SOURCES: &str = "CARGO_GULMAAT_SOURCES";
 
-/// The words of a question as they are run: behind the one that names a toolchain, and with those that the session doesn't know of.
+/// The words of a question as they are run: after the one that names a toolchain, and followed by those that the session doesn't know of.
 fn own_words(
     alloc: Global,
     line: &CommandLine,
@@ -79,7 +79,7 @@ fn name_of_answer(
     Ok(digest_of(alloc, row.as_slice())?)
 }
 
-/// The names of outputs that a rustc tells. It is asked once: they hang on the words and the folder alone.
+/// The names of outputs that a rustc gives. It is asked once: they depend on the words and the folder alone.
 fn names_for<P: Print + Files + AllocGlobal, I: Read>(
     rt: &P,
     line: &CommandLine,
@@ -106,7 +106,7 @@ fn names_for<P: Print + Files + AllocGlobal, I: Read>(
     Ok(printed)
 }
 
-/// What a text on dependencies says of them, behind the target of its first rule.
+/// What a text on dependencies says of them, after the target of its first rule.
 fn behind_target(text: &[u8]) -> &[u8] {
     match memmem::find(text, b": ") {
         Some(at) => text.get(at..).unwrap_or(text),
@@ -114,7 +114,7 @@ fn behind_target(text: &[u8]) -> &[u8] {
     }
 }
 
-/// The variable by which the session is told what a crate is made of.
+/// The variable that passes to the session what a crate is made of.
 fn sources_variable(alloc: Global, told: &[u8]) -> Result<(OsBytes, OsBytes), HostError> {
     let name = OsBytes::from_slice(alloc, SOURCES.as_bytes())?;
     let digest = digest_of(alloc, told)?;
@@ -195,7 +195,7 @@ impl KnownCrate {
         Ok(())
     }
 
-    /// Has rustc tell the names of outputs that the session asked for. False where it asked for none.
+    /// Has rustc give the names of outputs that the session asked for. False where it asked for none.
     pub(crate) fn learn_names<P: Print + Files + AllocGlobal, I: Read>(
         &mut self,
         rt: &P,

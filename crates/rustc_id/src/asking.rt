@@ -41,7 +41,7 @@ pub fn toolchain_word(words: &[OsBytes]) -> Option<&OsBytes> {
         .filter(|word| word.as_bytes().starts_with(b"+"))
 }
 
-/// What rustc prints for these words, behind the one that names a toolchain, or `Parts` where it fails.
+/// What rustc prints for these words, after the one that names a toolchain, or `Parts` where it fails.
 pub fn said_for<P: Print + Files + AllocGlobal, I: Read>(
     rt: &P,
     line: &CommandLine,

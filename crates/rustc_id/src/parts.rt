@@ -57,7 +57,7 @@ impl Wanted {
     }
 }
 
-/// Whether these bytes stand somewhere in a name.
+/// Whether a name contains these bytes.
 fn has_part(name: &[u8], part: &[u8]) -> bool {
     memmem::find(name, part).is_some()
 }
@@ -83,7 +83,7 @@ pub fn archives_in<R: Files + AllocGlobal>(rt: &R, folder: &str) -> Result<Vec<S
     in_row(rt.alloc(), files)
 }
 
-/// The machine of the version that a rustc tells, in its line `host: `.
+/// The machine in the version that a rustc prints, in its line `host: `.
 fn machine_in(version: &str) -> Option<&str> {
     version.lines().find_map(|line| line.strip_prefix("host: "))
 }

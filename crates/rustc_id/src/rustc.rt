@@ -55,7 +55,7 @@ fn place_by_proxy<P: Print + Files + AllocGlobal, I: Read>(
     Ok(Place { file, sysroot })
 }
 
-/// Where the rustc lies that is called, behind all links and behind rustup's proxy.
+/// Where the rustc that is called really is, with all links followed and past rustup's proxy.
 fn place_of<P: Print + Files + AllocGlobal, I: Read>(
     rt: &P,
     line: &CommandLine,

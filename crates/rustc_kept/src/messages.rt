@@ -32,7 +32,7 @@ fn is_plain(folder: &[u8]) -> bool {
         .all(|byte| *byte >= b' ' && *byte != b'"' && *byte != b'\\')
 }
 
-/// The rest of a path behind a folder and its slash.
+/// The rest of a path after a folder and its slash.
 fn behind_folder<'a>(path: &'a [u8], folder: &[u8]) -> Option<&'a [u8]> {
     path.strip_prefix(folder)?.strip_prefix(b"/")
 }
@@ -57,7 +57,7 @@ fn push_moved(
     Ok(memmem::find(line, old).is_none())
 }
 
-/// Messages of a call whose outputs went to the old folder, as they are where they go to the new one. Nothing where that can't be told.
+/// Messages of a call whose outputs went to the old folder, as they are for the new one. Nothing where that can't be determined.
 pub fn moved(
     alloc: Global,
     messages: &[u8],

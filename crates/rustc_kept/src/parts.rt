@@ -18,7 +18,7 @@ use std::rt::Files;
 /// A name and a value.
 type Row = (OsBytes, OsBytes);
 
-/// What stands in the place of a zone in what is kept of a call's parts.
+/// What is used in place of a zone in what is kept of a call's parts.
 const OF_PARTS: &[u8] = b"parts of rustc";
 
 /// What the names of rows begin with whose values are digests, which say nothing to people.
@@ -117,7 +117,7 @@ fn is_told(row: &Row) -> bool {
         .any(|front| row.0.as_bytes().starts_with(front))
 }
 
-/// The value of a row that stands there, or that none does.
+/// The value of the row, or `none` where there is no row.
 fn value_of(alloc: Global, row: Option<&Row>) -> Result<String, HostError> {
     match row {
         Some(row) => Ok(format!(in alloc; "{}", row.1)?),
@@ -198,7 +198,7 @@ fn put_rows<R: Files + AllocGlobal>(
     Ok(make_room(&rt, folder, &[name])?)
 }
 
-/// Keeps the parts of a call that was compiled, and what differs from those of the call before it with these outputs, which is told.
+/// Keeps the parts of a call that was compiled, and what differs from those of the call before it with these outputs, which is reported.
 pub fn note_parts<R: Files + AllocGlobal>(
     rt: &R,
     folder: &CacheDir,

@@ -35,7 +35,7 @@ pub struct Wishes<'a> {
     pub width: &'a [u8],
 }
 
-/// Adds the numbers that the bytes of a key don't tell.
+/// Adds the numbers that the bytes of a key don't determine.
 fn put_shape(row: &mut Vec<u8>, shape: &RShape) -> Result<(), AllocError> {
     put_number(row, shape.toolchain as u64)?;
     put_number(row, shape.words.len() as u64)?;

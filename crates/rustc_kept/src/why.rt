@@ -54,7 +54,7 @@ fn tell_pass<R: Print>(rt: &R, reason: Reason) -> Result<(), HostError> {
     Ok(())
 }
 
-/// Tells of a call in that folder that asks for this.
+/// Reports on a call in that folder that asks for this.
 fn tell_asked<R: Print + Files + AllocGlobal>(
     rt: &R,
     kept: &str,

@@ -1,4 +1,4 @@
-//! The variables that a text on dependencies tells.
+//! The variables that a text on dependencies lists.
 
 use os_files::listed::Listed;
 use os_files::os_bytes::OsBytes;
@@ -19,7 +19,7 @@ fn dep(alloc: Global, name: &[u8], value: Option<&[u8]>) -> Result<EnvDep, Alloc
     })
 }
 
-/// Whether the text tells these variables, in this order.
+/// Whether the text lists these variables, in this order.
 fn tells(alloc: Global, text: &str, wanted: Vec<EnvDep>) -> Result<bool, Fail> {
     Ok(parse_env_dep_info(alloc, text)? == Listed::from_vec(wanted))
 }

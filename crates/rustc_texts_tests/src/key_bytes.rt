@@ -1,4 +1,4 @@
-//! The bytes of keys, and what they don't tell.
+//! The bytes of keys, and what they don't determine.
 
 use crate::requests::barred;
 use os_files::listed::Listed;
@@ -40,7 +40,7 @@ fn shape_of(alloc: Global, counts: Counts) -> Result<RShape, AllocError> {
     })
 }
 
-/// Variables, each behind a bar.
+/// Variables, each after a bar.
 fn variables(alloc: Global, deps: &[EnvDep]) -> Result<String, AllocError> {
     let mut text = String::new(alloc);
     for dep in deps {
@@ -93,7 +93,7 @@ fn each_reads(alloc: Global, rows: &[(&[u8], Counts, &str)]) -> Result<(), Fail>
     Ok(())
 }
 
-/// The words `ab` and `c` stand in a row, as `a` and `bc` do.
+/// The words `ab` and `c` in a row, which give the same bytes as `a` and `bc`.
 const WORDS: &[u8] = b"8\x03\0\0\0\0\0\0\0abc\0\0\0\0\0\0\0\0\xff";
 
 /// The variable `FOO` without a value, or with an empty one.
@@ -134,7 +134,7 @@ fn shapes_tell_files(rt: HostRuntime) -> Result<(), Fail> {
     each_reads(rt.alloc(), &rows)
 }
 
-/// The same without its last byte, and with one more before it and behind it.
+/// The same without its last byte, and with one more before it and after it.
 #[test]
 fn no_byte_is_left_out_or_added(rt: HostRuntime) -> Result<(), Fail> {
     let counts: Counts = (&[2, 1], 0, 0, &[]);

@@ -22,7 +22,7 @@ pub(crate) fn parsed(alloc: Global, line: &str) -> Result<ParsedArguments, Fail>
     }
 }
 
-/// The words, each behind a bar.
+/// The words, each after a bar.
 pub(crate) fn barred(alloc: Global, words: &[OsBytes]) -> Result<String, AllocError> {
     let mut text = String::new(alloc);
     for word in words {

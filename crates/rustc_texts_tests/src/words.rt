@@ -8,7 +8,7 @@ use std::alloc::{AllocError, Global};
 use std::test::Fail;
 use test_kit::texts::is_that;
 
-/// A request for a library, in whose words an option stands joined.
+/// A request for a library, in whose words an option is joined with its value.
 const PLAIN: &str =
     "--emit link -Copt-level=1 foo.rs --out-dir out --crate-name foo --crate-type lib";
 
@@ -16,7 +16,7 @@ const PLAIN: &str =
 const JSON: &str =
     "--emit link --json=a foo.rs -L n --out-dir o --crate-name f --crate-type lib -C";
 
-/// One whose definitions stand at two places.
+/// One whose definitions are at two places.
 const PLACES: &str =
     "--cfg xyz a.rs --emit link --out-dir o --crate-name f --cfg abc --crate-type lib";
 

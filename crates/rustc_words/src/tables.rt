@@ -3,7 +3,7 @@
 /// Options without a value.
 pub const FLAGS: [&str; 5] = ["--verbose", "-O", "-g", "-v", "--"];
 
-/// Options with a value, behind `=` or in the next word.
+/// Options with a value, after `=` or in the next word.
 pub const VALUED: [&str; 21] = [
     "--allow",
     "--cap-lints",
@@ -28,7 +28,7 @@ pub const VALUED: [&str; 21] = [
     "--warn",
 ];
 
-/// Options with a value, which goes on behind their letter or is the next word.
+/// Options with a value, which comes right after their letter or is the next word.
 pub const LETTERS: [&str; 5] = ["-A", "-D", "-F", "-W", "-l"];
 
 /// The option of a folder in which crates or libraries are searched.

@@ -8,7 +8,7 @@ fn is_among(words: &[&str], word: &[u8]) -> bool {
     words.iter().any(|it| word == it.as_bytes())
 }
 
-/// What stands before the first `=`.
+/// What comes before the first `=`.
 fn before_equals(word: &[u8]) -> &[u8] {
     match word.iter().position(|byte| *byte == b'=') {
         Some(at) => word.get(..at).unwrap_or(word),
@@ -16,7 +16,7 @@ fn before_equals(word: &[u8]) -> &[u8] {
     }
 }
 
-/// What stands behind an option's own letters: nothing where it is another option, or its value is the next word.
+/// What comes after an option's own letters: nothing where it is another option, or its value is the next word.
 fn value_behind<'a>(option: &str, word: &'a [u8]) -> Option<&'a [u8]> {
     let rest = word.strip_prefix(option.as_bytes())?;
     let rest = match option.starts_with("--") {

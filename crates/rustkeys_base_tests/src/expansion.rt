@@ -1,4 +1,4 @@
-//! Files of words.
+//! Response files.
 
 use crate::written::{WHOLE, answer};
 use os_files::files::Files;
@@ -54,7 +54,7 @@ fn a_device_that_fails(rt: HostRuntime) -> Result<(), Fail> {
     each_becomes(rt.alloc(), &mut BrokenFiles::new(), &rows)
 }
 
-/// What is said of the whole request with words before and behind it, where the device fails at the first file that is asked for.
+/// What is said of the whole request with words before and after it, where reading the first file that is asked for is an I/O error.
 fn said(alloc: Global, before: &str, more: &str) -> Result<String, Fail> {
     let line = format!(in alloc; "{before}{WHOLE} {more}")?;
     let list = words(alloc, line.as_str())?;
@@ -64,7 +64,7 @@ fn said(alloc: Global, before: &str, more: &str) -> Result<String, Fail> {
     }
 }
 
-/// Each row: words before and behind the whole request, and what is said of it; words that ask for no file have an answer.
+/// Each row: words before and after the whole request, and what is said of it; words that ask for no file have an answer.
 #[test]
 fn requests_by_a_device_that_fails(rt: HostRuntime) -> Result<(), Fail> {
     for (before, more, want) in [

@@ -34,7 +34,7 @@ fn texts_of(alloc: Global, arguments: &[Argument<ArgData>]) -> Result<String, Al
     Ok(text)
 }
 
-/// More words behind those of a whole request: one of each kind of value.
+/// More words after those of a whole request: one of each kind of value.
 const MORE: &str =
     "--target t.json --target u -l p -L q --extern a=b --json j -C profile-use=r --cfg a=b -Z a=b --test -l";
 

@@ -1,4 +1,4 @@
-//! Tests of rustc's words of what rows of data cannot show: what is kept as values, files of words, failing devices, notifications.
+//! Tests of rustc's words for what rows of data cannot show: what is kept as values, response files, I/O errors, notifications.
 #![tactic(auto)]
 
 #[cfg(test)]

@@ -42,7 +42,7 @@ pub(crate) fn rust<F: Files>(
     )
 }
 
-/// The digests of a compiler, each behind a bar.
+/// The digests of a compiler, each after a bar.
 fn digests_in(alloc: Global, rust: &Rust) -> Result<String, AllocError> {
     let mut text = String::new(alloc);
     for digest in rust.toolchain_digests() {
@@ -68,7 +68,7 @@ fn files(alloc: Global) -> Result<MemoryFiles, AllocError> {
     )
 }
 
-/// What is told of a compiler of that version, of the libraries of a line.
+/// What is reported for a compiler of that version, with the libraries of a line.
 fn told_of(alloc: Global, version: &str, line: &str) -> Result<String, Fail> {
     let mut files = files(alloc)?;
     let made = rust(alloc, version, words(alloc, line)?, &mut files);

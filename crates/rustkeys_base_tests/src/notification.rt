@@ -4,7 +4,7 @@ use rustkeys_base::notification::is_rmeta_artifact_notification;
 use std::alloc::{AllocError, Global};
 use std::test::Fail;
 
-/// Lines that tell of a file of metadata: numbers in them are whole.
+/// Lines that report a file of metadata: numbers in them are whole.
 const TELLING: [&str; 16] = [
     r#"{"artifact":"/t/a.rmeta","emit":"metadata"}"#,
     "{\"artifact\":\"/t/a.rmeta\",\"emit\":\"metadata\"}\n",
@@ -18,7 +18,7 @@ const TELLING: [&str; 16] = [
     r#"{"artifact":"a.rmeta","n":18446744073709551615}"#,
     r#"{"artifact":"a.rmeta","n":-9223372036854775808}"#,
     r#"{"artifact":"a.rmeta","n":[1,{"m":[2]}]}"#,
-    // An escape may stand in the member, but the line has to hold the extension as it stands.
+    // The member may contain an escape, but the line has to contain the extension unescaped.
     r#"{"artifact":"/t/a\u002ermeta","emit":"b.rmeta"}"#,
     r#"{"\u0061rtifact":"/t/a.rmeta"}"#,
     // Of repeated members the last one counts.
@@ -26,7 +26,7 @@ const TELLING: [&str; 16] = [
     r#"{"artifact":"a.rmeta","n":1.5,"n":1}"#,
 ];
 
-/// Lines that don't: the object stands alone, its artifact is a text, and no number has a fraction or is too great.
+/// Lines that don't: the object has to be alone, its artifact a text, and no number may have a fraction or be too great.
 const OTHERS: [&str; 29] = [
     r#"{"artifact":"/t/a.rlib","emit":"link"}"#,
     r#"{"artifact":"/t/a.rmeta.d","emit":"dep-info"}"#,
@@ -60,7 +60,7 @@ const OTHERS: [&str; 29] = [
     "warning: 1 warning emitted",
 ];
 
-/// Each of the lines tells of a file of metadata, or each doesn't.
+/// Each of the lines reports a file of metadata, or each doesn't.
 fn each_tells(alloc: Global, lines: &[&str], tells: bool) -> Result<(), Fail> {
     for line in lines {
         if is_rmeta_artifact_notification(alloc, line)? != tells {

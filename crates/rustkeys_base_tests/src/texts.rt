@@ -78,7 +78,7 @@ fn a_name_or_a_path_stays(rt: HostRuntime) -> Result<(), Fail> {
     is_that(text.as_str(), "x", "a name or a path")
 }
 
-/// A path behind a name or a kind is moved, and what stands before it stays.
+/// A path after a name or a kind is moved, and what comes before it stays.
 #[test]
 fn paths_behind_names_are_transformed(rt: HostRuntime) -> Result<(), Fail> {
     reads::<ArgLinkPath>(rt.alloc(), "native=o", "native=/there/o")?;

@@ -4,7 +4,7 @@ use Rattle.os_files.specs.Bytes.{Bytes}
 use Rattle.ckeys_records.specs.Meaning.{Meaning, made_of}
 use Rattle.ckeys_records.specs.declared.step.Step.TheVariants.{Preprocess, Compile, DepInfo, FileNames, ArchiveDigest}
 
--- rustc ends with that status, and tells these texts on dependencies, on names and as a digest; whatever else is asked fails
+-- rustc ends with that status, and gives these texts on dependencies, on names and as a digest; whatever else is asked fails
 abbrev pub answering : ℤ → Bytes → Bytes → Bytes → Meaning
 answering status dep_info file_names digest DepInfo asked outputs scene = made_of status (Some dep_info ∷ [])
 answering status dep_info file_names digest FileNames asked outputs scene = made_of status (Some file_names ∷ [])

@@ -1,4 +1,4 @@
-//! For tests: a tool that tells the texts that it was told, whose device may fail at one call.
+//! For tests: a tool that answers with the texts that it was given, and may have an I/O error at one call.
 
 ghost use Rattle.std.specs.Prelude.{◌≡◌, Some, OnOk, OnErr, IfErr};
 ghost use Rattle.os_files.specs.Bytes.{ticked};
@@ -25,7 +25,7 @@ pub(crate) struct RustTexts {
 }
 
 impl RustTexts {
-    /// It ends with 0, and tells these; the digest of a static library is this.
+    /// It ends with 0, and gives these texts; the digest of a static library is this.
     pub(crate) fn new(
         alloc: Global,
         dep_info: &[u8],
@@ -44,7 +44,7 @@ impl RustTexts {
     }
 }
 
-/// For tests: a tool of these answers, whose device fails at one call, of whichever step. No call after it fails.
+/// For tests: a tool of these answers, with an I/O error at one call, of whichever step. No later call fails.
 #[derive(Drop)]
 pub(crate) struct AnswerTool {
     texts: RustTexts,
@@ -59,7 +59,7 @@ pub(crate) struct AnswerTool {
 }
 
 impl AnswerTool {
-    /// A tool of these answers, whose device fails at the call after that many.
+    /// A tool of these answers, with an I/O error at the call after that many.
     pub(crate) fn new(texts: RustTexts, calls_left: u64) -> AnswerTool {
         AnswerTool {
             texts,

@@ -52,7 +52,7 @@ const FILES: [(&str, &[u8]); 5] = [
     ("/w/lib/liby.a", b""),
 ];
 
-/// What rustc tells of what the crate depends on.
+/// What rustc says of what the crate depends on.
 pub(crate) const DEPENDENCIES: &[u8] = b"deps.d: foo.rs\n\nfoo.rs:\n";
 
 /// A key, and what comes with it.
@@ -63,7 +63,7 @@ pub(crate) fn all_files(alloc: Global) -> Result<MemoryFiles, AllocError> {
     files_of(alloc, &FILES)
 }
 
-/// A tool that tells these texts, and of which no call fails.
+/// A tool that gives these texts, and of which no call fails.
 pub(crate) fn tool(
     alloc: Global,
     dep_info: &[u8],
@@ -74,7 +74,7 @@ pub(crate) fn tool(
     Ok(AnswerTool::new(texts, u64::MAX))
 }
 
-/// The digest of these pieces, one behind the other.
+/// The digest of these pieces, one after the other.
 pub(crate) fn digest_of_all(alloc: Global, pieces: &[&[u8]]) -> Result<String, AllocError> {
     let mut digest: Digest<Sha256> = Digest::new();
     for piece in pieces {

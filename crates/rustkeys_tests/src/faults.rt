@@ -6,7 +6,7 @@ use std::alloc::Global;
 use std::test::Fail;
 use test_kit::texts::is_that;
 
-/// Words behind the first request, what rustc tells of dependencies and of names, and the fault.
+/// Words after the first request, what rustc says of dependencies and of names, and the fault.
 const ROWS: [(&str, &[u8], &[u8], &str); 10] = [
     ("", b"foo.rs", b"libfoo.rlib", "fault rule"),
     ("", b"a:b", b"libfoo.rlib", "fault rule"),
@@ -42,7 +42,7 @@ const ROWS: [(&str, &[u8], &[u8], &str); 10] = [
     ),
 ];
 
-/// What is told of the first request with more words behind it.
+/// What is reported for the first request with more words after it.
 fn told_with(alloc: Global, more: &str, tool: &mut AnswerTool) -> Result<String, Fail> {
     let line = format!(in alloc; "{FIRST}{more}")?;
     let mut files = all_files(alloc)?;
@@ -66,7 +66,7 @@ fn the_target_is_read_last(rt: HostRuntime) -> Result<(), Fail> {
     is_that(text.as_str(), "fault read /w/t.json", "--target t.json")
 }
 
-/// A status is told before what is wrong with the text.
+/// A status is reported before what is wrong with the text.
 #[test]
 fn a_status_is_told(rt: HostRuntime) -> Result<(), Fail> {
     let mut texts = RustTexts::new(rt.alloc(), b"\xff", b"", b"")?;

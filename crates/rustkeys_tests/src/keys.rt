@@ -21,7 +21,7 @@ use std::test::Fail;
 use test_kit::rows::{files_of, words};
 use test_kit::texts::is_that;
 
-/// The key of a line's request, where rustc tells of `foo.rs` and `libfoo.rlib`.
+/// The key of a line's request, where rustc names `foo.rs` and `libfoo.rlib`.
 fn key_of(alloc: Global, line: &str) -> Result<String, Fail> {
     let mut files = all_files(alloc)?;
     let mut tool = tool(alloc, DEPENDENCIES, b"libfoo.rlib\n", b"")?;
@@ -54,7 +54,7 @@ fn one_request_in_two_ways_has_one_key(rt: HostRuntime) -> Result<(), Fail> {
     Ok(())
 }
 
-/// Crates are told in the order of their paths, and options of where to look and how to print don't count.
+/// Crates are hashed in the order of their paths, and options of where to look and how to print don't count.
 #[test]
 fn crates_in_another_order_have_one_key(rt: HostRuntime) -> Result<(), Fail> {
     let alloc = rt.alloc();
@@ -66,14 +66,14 @@ fn crates_in_another_order_have_one_key(rt: HostRuntime) -> Result<(), Fail> {
     is_that(other.as_str(), one.as_str(), more)
 }
 
-/// What comes of a line's request, where rustc tells of `foo.rs` and `libfoo.rlib`.
+/// What comes of a line's request, where rustc names `foo.rs` and `libfoo.rlib`.
 pub(crate) fn made_of(alloc: Global, line: &str) -> Result<Made, Fail> {
     let mut files = all_files(alloc)?;
     let mut tool = tool(alloc, DEPENDENCIES, b"libfoo.rlib\n", b"")?;
     made(asked(alloc, line, &mut files, &mut tool)?)
 }
 
-/// The outputs of a compilation, each with its path behind a bar.
+/// The outputs of a compilation, each after a bar and with its path.
 fn listed(alloc: Global, compilation: &RustCompilation) -> Result<String, Fail> {
     let mut text = String::new(alloc);
     for (name, output) in compilation.outputs() {

@@ -1,4 +1,4 @@
-//! Keys of sessions in which one growth of memory is refused at most. `bin/refusals` runs these tests with each growth refused in turn.
+//! Keys of sessions in which at most one allocation is refused. `bin/refusals` runs these tests with each allocation refused in turn.
 
 use crate::answer_tool::AnswerTool;
 use crate::asking::{
@@ -78,7 +78,7 @@ fn of_fault(fault: &Fault) -> Outcome {
     }
 }
 
-/// How an asking went that asked rustc so often: with a key twice, with want of memory twice at most.
+/// How a request for a key went that asked rustc so often: twice where it got a key, at most twice where it ran out of memory.
 fn of_answer(made: &Result<Made, Fault>, row: &Row, asked: u64) -> Outcome {
     match made {
         Ok(made) => {
@@ -92,7 +92,7 @@ fn of_answer(made: &Result<Made, Fault>, row: &Row, asked: u64) -> Outcome {
     }
 }
 
-/// How an asking went: nothing was compiled, and no device failed.
+/// How a request for a key went: nothing was compiled, and there was no I/O error.
 fn outcome_of(made: &Result<Made, Fault>, row: &Row, before: Ticks, after: Ticks) -> Outcome {
     let asked = after.preprocess.wrapping_sub(before.preprocess);
     if after.compile != before.compile || after.failure != before.failure || asked > 2 {
@@ -193,7 +193,7 @@ fn went(alloc: Global, row: &Row) -> Outcome {
     }
 }
 
-/// Whether two sessions go right, since one growth is refused at most.
+/// Whether two sessions go right, since at most one allocation is refused.
 fn go_right(alloc: Global, row: &Row) -> bool {
     let first = went(alloc, row);
     let second = went(alloc, row);

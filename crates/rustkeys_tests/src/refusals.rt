@@ -1,4 +1,4 @@
-//! Devices that fail at each of their calls in turn.
+//! I/O errors at each call in turn.
 
 use crate::answer_tool::{AnswerTool, RustTexts};
 use crate::asking::{

@@ -28,7 +28,7 @@ fn has_a_copy<T: Clone + Debug + Drop + Eq>(alloc: Global, value: &T) -> Result<
     is_that(copied.as_str(), text.as_str(), "a copy")
 }
 
-/// Asserts that a value is told from another one.
+/// Asserts that a value differs from another one.
 fn differ<T: Eq>(value: &T, other: &T) -> Result<(), Fail> {
     holds(*value != *other, "two values")
 }
@@ -51,7 +51,7 @@ fn compilers_are_values(rt: HostRuntime) -> Result<(), Fail> {
     is
 }
 
-/// Asserts that these requests are values, and are told from one another.
+/// Asserts that these requests are values, and differ from one another.
 fn hashers_differ(
     alloc: Global,
     compiler: &Rust,
@@ -101,7 +101,7 @@ fn compile_of(alloc: Global, line: &str) -> Result<RustCompilation, Fail> {
     Ok(compilation?)
 }
 
-/// Asserts that a compile is told from that of the second request.
+/// Asserts that a compile differs from that of the second request.
 fn second_compile_differs(alloc: Global, first: &RustCompilation) -> Result<(), Fail> {
     let second = compile_of(alloc, SECOND)?;
     let differ = differ::<RustCompilation>(first, &second);
@@ -109,7 +109,7 @@ fn second_compile_differs(alloc: Global, first: &RustCompilation) -> Result<(), 
     differ
 }
 
-/// Asserts that a compile is a value, and is told from that of the second request.
+/// Asserts that a compile is a value, and differs from that of the second request.
 fn compiles_differ(alloc: Global, first: &RustCompilation) -> Result<(), Fail> {
     has_a_copy::<RustCompilation>(alloc, first)?;
     second_compile_differs(alloc, first)

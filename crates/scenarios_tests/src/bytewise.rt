@@ -1,4 +1,4 @@
-//! Runs over a device that gives a byte a read and takes a byte a write, and fails at one call.
+//! Runs over a device that reads and writes one byte at a time, and fails at one call.
 
 use scenarios::program::{RunFault, run};
 use std::alloc::Global;
@@ -13,7 +13,7 @@ const SCENARIO: &[u8] = br#"{"requests":[
 /// The text is a marker of 15 bytes and a line of 7.
 const PRINTED: &[u8] = b"1 fresh obj:22\n2 stored obj:22\ncompiles 1\n";
 
-/// Gives a byte a read and takes a byte a write. The call behind so many fails, be it a read, a write or a flush.
+/// Reads and writes one byte at a time. The call after so many fails, be it a read, a write or a flush.
 #[derive(Drop)]
 struct Bytewise<'a> {
     rest: &'a [u8],
@@ -22,7 +22,7 @@ struct Bytewise<'a> {
 }
 
 impl<'a> Bytewise<'a> {
-    /// A device that gives these bytes.
+    /// A device from which these bytes are read.
     fn new(alloc: Global, rest: &'a [u8], calls_left: usize) -> Bytewise<'a> {
         let held = Vec::new(alloc);
         Bytewise {
@@ -88,7 +88,7 @@ fn each_read_fails_in_turn(rt: HostRuntime) -> Result<(), Fail> {
     Ok(())
 }
 
-/// Each write of a byte and the flush behind them fails in turn: what was printed before is there, and no more.
+/// Each write of a byte and the flush after them fails in turn: what was printed before is there, and no more.
 #[test]
 fn each_write_fails_in_turn(rt: HostRuntime) -> Result<(), Fail> {
     let alloc = rt.alloc();

@@ -25,7 +25,7 @@ use std::rt::Files;
 /// What words begin with that say nothing of where files are looked for.
 const FRONTS: [&[u8]; 6] = [b"-D", b"-U", b"-o", b"-M", b"-include", b"-imacros"];
 
-/// Words that stand alone and say what is to be made.
+/// Words that are used alone and say what is to be made.
 const STEPS: [&[u8]; 4] = [b"-c", b"-S", b"-E", b"-v"];
 
 /// Whether a word that is no value says where files are looked for.
@@ -36,7 +36,7 @@ fn says_where(word: &[u8]) -> bool {
         && !word.starts_with(b"-Wp,")
 }
 
-/// The words by which the compiler tells where it looks for a source of that language.
+/// The words that make the compiler report where it looks for a source of that language.
 fn asking_words(
     alloc: Global,
     words: &[OsBytes],

@@ -1,4 +1,4 @@
-//! The lists of what to watch of a manifest's results, which lie beside the manifest: the key of a result and its list, each behind its length.
+//! The lists of what to watch of a manifest's results, kept beside the manifest: the key of a result and its list, each after its length.
 //! A result may have a list for each of several folders in which calls were made.
 
 use crate::watch_list::{folder_of, holds};
@@ -19,7 +19,7 @@ pub(crate) struct Row<'a> {
     pub(crate) list: &'a [u8],
 }
 
-/// The row ahead in these bytes, and what stands behind it.
+/// The row at the front of these bytes, and what comes after it.
 fn row_ahead(bytes: &[u8]) -> Option<(Row<'_>, &[u8])> {
     let (key, rest) = read_framed(bytes).ok()?;
     let (list, rest) = read_framed(rest).ok()?;

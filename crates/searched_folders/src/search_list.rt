@@ -1,4 +1,4 @@
-//! The folders in which a compiler looks for what sources take in, as it tells them.
+//! The folders in which a compiler looks for what sources include, as it reports them.
 
 use std::alloc::{AllocError, Global};
 
@@ -34,7 +34,7 @@ pub struct SearchList<'a> {
     pub installations: Vec<&'a str>,
 }
 
-/// Which part of the list a line stands in.
+/// Which part of the list a line is in.
 #[derive(Clone, Copy, PartialEq, Eq)]
 enum Part {
     Before,
@@ -43,7 +43,7 @@ enum Part {
     Behind,
 }
 
-/// What stands behind one of these at the front of a line.
+/// What comes after one of these at the front of a line.
 fn behind_front<'a>(line: &'a str, fronts: &[&str]) -> Option<&'a str> {
     for front in fronts {
         if let Some(rest) = line.strip_prefix(*front) {
@@ -64,7 +64,7 @@ impl<'a> SearchList<'a> {
         }
     }
 
-    /// Takes a line that stands outside of the list.
+    /// Takes a line outside of the list.
     fn take_remark(&mut self, line: &'a str) -> Result<(), AllocError> {
         if let Some(folder) = behind_front(line, &LEFT_OUT) {
             self.left_out.push(folder.trim_end_matches('"'))?;
@@ -75,7 +75,7 @@ impl<'a> SearchList<'a> {
         Ok(())
     }
 
-    /// Takes a line, and says in which part the next one stands.
+    /// Takes a line, and says in which part the next one is.
     fn take(&mut self, part: Part, line: &'a str) -> Result<Part, AllocError> {
         if line == QUOTED {
             return Ok(Part::Quoted);
@@ -94,7 +94,7 @@ impl<'a> SearchList<'a> {
         Ok(part)
     }
 
-    /// The list in what a compiler says beside the text, asked to tell what it does. None where there is none.
+    /// The list in what a compiler prints beside the text when it is asked to say what it does. None where there is none.
     pub fn read(alloc: Global, said: &'a [u8]) -> Result<Option<SearchList<'a>>, AllocError> {
         let Ok(said) = str::from_utf8(said) else {
             return Ok(None);

@@ -13,7 +13,7 @@ use std::rt::Files;
 /// A state that no file and no folder has.
 const NO_STATE: [u8; 56] = [0; 56];
 
-/// Adds the folder ahead in these bytes without its state, and gives what stands behind it. None where it must be the same folder as it was.
+/// Adds the first folder of these bytes without its state, and returns what comes after it. None where it must be the same folder as before.
 fn put_folder<'a>(bytes: &'a [u8], out: &mut Vec<u8>) -> Result<Option<&'a [u8]>, Unwatched> {
     let (path, rest) = read_framed(bytes)?;
     let (_, rest) = State::read(rest)?;
@@ -29,7 +29,7 @@ fn put_folder<'a>(bytes: &'a [u8], out: &mut Vec<u8>) -> Result<Option<&'a [u8]>
     Ok(Some(rest))
 }
 
-/// Adds the file ahead in these bytes without its state, and gives what stands behind it. None where it is a folder, which must be in the state in
+/// Adds the first file of these bytes without its state, and returns what comes after it. None where it is a folder, which must be in the state in
 /// which it was.
 fn put_file<'a>(bytes: &'a [u8], out: &mut Vec<u8>) -> Result<Option<&'a [u8]>, Unwatched> {
     let (path, rest) = read_framed(bytes)?;
@@ -44,7 +44,7 @@ fn put_file<'a>(bytes: &'a [u8], out: &mut Vec<u8>) -> Result<Option<&'a [u8]>, 
     Ok(Some(rest))
 }
 
-/// Adds the folders ahead in these bytes without their states, and gives what stands behind them. None where one can't go so.
+/// Adds the folders at the front of these bytes without their states, and gives what comes after them. None where one can't be added so.
 fn put_folders<'a>(bytes: &'a [u8], out: &mut Vec<u8>) -> Result<Option<&'a [u8]>, Unwatched> {
     let (count, mut rest) = read_number(bytes)?;
     put_number(out, count)?;
@@ -108,7 +108,7 @@ pub fn lists_to_send(alloc: Global, lists: &[u8]) -> Result<Option<Vec<u8>>, All
     }
 }
 
-/// Adds the folder ahead in these bytes with the state that it has now, and gives what stands behind it. Where it was changed only just now its
+/// Adds the folder at the front of these bytes with its present state, and gives what comes after it. Where it was changed only just now its
 /// names are looked at all the same.
 fn fill_folder<'a, R: Files>(
     rt: &R,
@@ -132,7 +132,7 @@ fn fill_folder<'a, R: Files>(
     Ok(rest)
 }
 
-/// Adds the file ahead in these bytes with the state that it has now, unless it was changed only just now, and gives what stands behind it.
+/// Adds the file at the front of these bytes with its present state, unless it was changed only just now, and gives what comes after it.
 fn fill_file<'a, R: Files>(
     rt: &R,
     bytes: &'a [u8],
@@ -152,7 +152,7 @@ fn fill_file<'a, R: Files>(
     Ok(rest)
 }
 
-/// Adds the folders ahead in these bytes with their states, and gives what stands behind them.
+/// Adds the folders at the front of these bytes with their states, and gives what comes after them.
 fn fill_folders<'a, R: Files>(
     rt: &R,
     bytes: &'a [u8],

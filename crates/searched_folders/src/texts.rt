@@ -70,7 +70,7 @@ fn definition_in(placed: Placed<'_>) -> Option<&[u8]> {
     }
 }
 
-/// Adds what a macro may stand for by the words of the command. False where that can't be told.
+/// Adds what a macro may stand for by the words of the command. False where that can't be determined.
 fn add_all_said<'a>(
     words: &'a [OsBytes],
     name: &[u8],
@@ -88,7 +88,7 @@ fn add_all_said<'a>(
     Ok(true)
 }
 
-/// The names that words define the macros to be that stand for what a source takes in.
+/// The names that words of the command define for the macros that stand for what a source includes.
 fn said_for<'a>(
     alloc: Global,
     words: &'a [OsBytes],
@@ -103,7 +103,7 @@ fn said_for<'a>(
     Ok(said)
 }
 
-/// Adds what a macro may stand for by its definitions in these sources. False where that can't be told.
+/// Adds what a macro may stand for by its definitions in these sources. False where that can't be determined.
 fn add_all_defined<'a>(
     sources: &[Source<'a>],
     name: &[u8],
@@ -117,7 +117,7 @@ fn add_all_defined<'a>(
     Ok(true)
 }
 
-/// Adds what a source takes in that these macros stand for: each name that sources define them to be. One that none defines isn't live, or
+/// Adds what a source includes by these macros: each name that sources define them to be. One that no source defines isn't live, or
 /// nothing is made.
 fn add_computed<'a>(sources: &[Source<'a>], found: &mut Directives<'a>) -> Result<(), Unwatched> {
     for name in found.computed.iter() {
@@ -153,7 +153,7 @@ fn add_all_probed<'a>(
     Ok(())
 }
 
-/// Looks for all that a source asks for, but for names in brackets that were looked for: which source asks for these tells nothing. For the
+/// Looks for all that a source asks for, except names in brackets already looked for: which source asks for these doesn't matter. For the
 /// input has it watched that no precompiled header lies beside that.
 fn search_all<'a, R: Files + AllocGlobal>(
     rt: &R,

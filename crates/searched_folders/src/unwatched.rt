@@ -28,7 +28,7 @@ pub enum Unwatched {
     /// The preprocessor printed messages, which no manifest has.
     #[error("message of the preprocessor")]
     Messages,
-    /// A file was changed since the call began, or can't be told to have been the same since.
+    /// A file was changed since the call began, or it isn't certain that it wasn't.
     #[error("changed file")]
     Changed,
     /// Of two equal files that are taken in once alone, the second one may be skipped by its time.
@@ -37,7 +37,7 @@ pub enum Unwatched {
     /// A precompiled header may be taken in place of one that the text shows.
     #[error("precompiled header")]
     Precompiled,
-    /// The compiler doesn't tell where it looks.
+    /// The compiler doesn't say where it looks.
     #[error("no search list")]
     List,
 }

@@ -1,7 +1,7 @@
 //! What to watch of a text: where its compiler looked for files, and what lay there.
 //!
-//! Its bytes are the folder of the call, the folders in which something was looked for, and files, each list behind its number. A folder
-//! has its path, its state, how it may be another one, and its names with what lay there, all of them behind their length; a file has its
+//! Its bytes are the folder of the call, the folders in which something was looked for, and files, each list after its count. A folder
+//! has its path, its state, how it may be another one, and its names with what was there, all of them after their length; a file has its
 //! path, its state and the digest of its contents. docs/FORMATS.md has the layout.
 
 use crate::unwatched::Unwatched;
@@ -41,7 +41,7 @@ impl Hold {
 #[derive(Drop)]
 pub(crate) struct Folder {
     pub(crate) state: State,
-    /// The names, each behind its length and with the number of what lay there.
+    /// The names, each preceded by its length and followed by the number of what was there.
     pub(crate) names: Vec<u8>,
     /// Whether the compiler left it out as one that it has already.
     pub(crate) is_left_out: bool,
@@ -81,7 +81,7 @@ pub(crate) fn text_of(path: &[u8]) -> Result<&str, Unwatched> {
     }
 }
 
-/// Whether under the name that is ahead in these bytes the same lies as then, and what stands behind it.
+/// Whether the same as then is still at the name at the front of these bytes, and what comes after that name.
 fn name_holds<'a, R: Files + AllocGlobal>(
     rt: &R,
     folder: &str,
@@ -119,7 +119,7 @@ fn names_hold<R: Files + AllocGlobal>(
     Ok(true)
 }
 
-/// Whether the folder that is ahead in these bytes is as it was, as far as something was looked for in it, and what stands behind it.
+/// Whether the folder at the front of these bytes is as it was, as far as something was looked for in it, and what comes after it.
 fn folder_holds<'a, R: Files + AllocGlobal>(
     rt: &R,
     bytes: &'a [u8],
@@ -146,7 +146,7 @@ pub(crate) fn contents_at<R: Files + AllocGlobal>(rt: &R, path: &str) -> Result<
     Ok(digest_of(rt.alloc(), contents.as_slice())?)
 }
 
-/// Whether the file that is ahead in these bytes is as it was, and what stands behind it. One in another state may have the same contents; a
+/// Whether the file at the front of these bytes is as it was, and what comes after it. One in another state may have the same contents; a
 /// folder is another one then.
 fn file_holds<'a, R: Files + AllocGlobal>(
     rt: &R,
@@ -161,7 +161,7 @@ fn file_holds<'a, R: Files + AllocGlobal>(
     Ok((holds, rest))
 }
 
-/// Whether the folders ahead in these bytes are as they were, and what stands behind them.
+/// Whether the folders at the front of these bytes are as they were, and what comes after them.
 fn folders_hold<'a, R: Files + AllocGlobal>(
     rt: &R,
     bytes: &'a [u8],
@@ -200,7 +200,7 @@ fn all_holds<R: Files + AllocGlobal>(rt: &R, dir: &[u8], list: &[u8]) -> Result<
     Ok(holds && files_hold(rt, rest)?)
 }
 
-/// Whether a call in that folder finds all files where the call found them whose list these bytes are. What can't be told is none.
+/// Whether a call in that folder finds all files where the call that made this list found them. False where that can't be determined.
 pub fn holds<R: Files + AllocGlobal>(rt: &R, dir: &[u8], list: &[u8]) -> Result<bool, AllocError> {
     match all_holds(rt, dir, list) {
         Ok(holds) => Ok(holds),

@@ -102,7 +102,7 @@ impl<'d, 'a> Watching<'d, 'a> {
         Ok(there)
     }
 
-    /// The nearest folder above a path that is there, and what stands behind it in the path.
+    /// The nearest existing folder above a path, and what comes after it in the path.
     fn place<'p, R: Files + AllocGlobal>(
         &mut self,
         rt: &R,
@@ -301,7 +301,7 @@ impl<'d, 'a> Watching<'d, 'a> {
         Ok(())
     }
 
-    /// Adds the folders that are there, behind their number.
+    /// Adds the number of the folders that are there, then the folders.
     fn put_folders(&self, out: &mut Vec<u8>) -> Result<(), Unwatched> {
         let count = self.folders.values().filter(|it| it.is_some()).count();
         put_number(out, count as u64)?;

@@ -25,7 +25,7 @@ grows begun (byte ∷ text) = by (is_digit byte) (grows (10 * begun + (byte - 48
     by false more = omega arith
     by true more = omega arith
 
--- and what stands behind them is no longer
+-- and what comes after them is no longer
 pub shortens : (begun : ℕ) (text : List ℕ) → length (digits_behind begun text).1 ≤ length text
 shortens begun [] = omega arith
 shortens begun (byte ∷ text) = by (is_digit byte) (shortens (10 * begun + (byte - 48)) text)
@@ -46,7 +46,7 @@ too_great (byte ∷ text) found is great = by (is_digit byte)
     by true = none
     by false = refl
 
--- one more digit goes behind the number
+-- one more digit is appended to the number
 pub one_more : (begun : ℕ) (text : List ℕ) (found : ℕ × List ℕ) → Some found ≡ digit_in text → digits_behind begun text ≡ digits_behind (10 * begun + found.0) found.1
 one_more begun [] found is = cc
 one_more begun (byte ∷ text) found is = by (is_digit byte) is
@@ -85,7 +85,7 @@ too_great_behind text rest begun found is digit none =
     let great = not_held (10 * begun + found.0) none in
     too_great text (digits_behind (10 * begun + found.0) found.1) (sym (one_more begun rest found digit) ∙ is) (omega arith)
 
--- where all of a text stands behind its digits it has none
+-- where what comes after a text's digits is as long as the text, it has no digits
 pub no_digits : (text : List ℕ) (number : ℕ) (rest : List ℕ) → ◌≡◌ {A = ℕ × List ℕ} (number, rest) (digits_behind 0 text) → length rest ≡ length text → None ≡ number_in text
 no_digits [] number rest is same = refl
 no_digits (byte ∷ text) number rest is same = by (is_digit byte) refl

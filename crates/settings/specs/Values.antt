@@ -37,12 +37,12 @@ age_unit_in text =
 abbrev pub is_digit : ℕ → Bool
 is_digit byte = nat_le 48 byte && nat_le byte 57
 
--- The digit that begins a text, and what stands behind it.
+-- The digit that begins a text, and what comes after it.
 abbrev pub digit_in : List ℕ → Option (ℕ × List ℕ)
 digit_in [] = None
 digit_in (byte ∷ text) = if is_digit byte then Some (byte - 48, text) else None
 
--- The number that these digits spell behind one that was begun, and what stands behind them.
+-- The number that these digits spell when appended to the number begun so far, and what comes after them.
 abbrev pub digits_behind : ℕ → List ℕ → ℕ × List ℕ
 digits_behind begun [] = (begun, [])
 digits_behind begun (byte ∷ text) = if is_digit byte then digits_behind (10 * begun + (byte - 48)) text else (begun, byte ∷ text)
@@ -51,16 +51,16 @@ digits_behind begun (byte ∷ text) = if is_digit byte then digits_behind (10 * 
 abbrev pub held : ℕ → Option ℕ
 held number = if nat_lt number (2 ^ 64) then Some number else None
 
--- A number that digits spell, and what stands behind them, where 64 bits hold it.
+-- A number that digits spell, and what comes after them, where 64 bits hold it.
 abbrev pub held_ahead : ℕ × List ℕ → Option (ℕ × List ℕ)
 held_ahead found = if nat_lt found.0 (2 ^ 64) then Some found else None
 
--- The number whose digits begin a text, and what stands behind them.
+-- The number whose digits begin a text, and what comes after them.
 abbrev pub number_in : List ℕ → Option (ℕ × List ℕ)
 number_in [] = None
 number_in (byte ∷ text) = if is_digit byte then held_ahead (digits_behind 0 (byte ∷ text)) else None
 
--- A whole number with a unit behind it.
+-- A whole number followed by a unit.
 abbrev pub measured : (List ℕ → Option ℕ) → List ℕ → Option ℕ
 measured unit text = option_and_then (λ found. option_and_then (λ one. held (found.0 * one)) (unit found.1)) (number_in text)
 

@@ -6,11 +6,11 @@ use std::{fmt, io};
 /// Why settings can't be read or set.
 #[derive(Drop)]
 pub enum SettingsError {
-    /// A growth was refused.
+    /// Out of memory.
     Memory,
     /// A file of settings can't be read or written: which, and what the system says.
     Device(String),
-    /// A line or a value is none: where it stands, and what is right.
+    /// An invalid line or value: where it is, and what would be valid.
     Wrong(String),
 }
 

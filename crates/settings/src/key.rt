@@ -40,7 +40,7 @@ pub enum Key {
     Umask,
 }
 
-/// The value of `audit` by which each hit is compared, and a user is told.
+/// The value of `audit` by which each hit is compared, and the user gets a report.
 pub const TELL: &str = "tell";
 
 /// What the values of a key are.

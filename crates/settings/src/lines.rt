@@ -1,4 +1,4 @@
-//! Lines of a file of settings: `key = value`, nothing, or a comment behind `#`.
+//! Lines of a file of settings: `key = value`, nothing, or a comment after `#`.
 
 /// What a line is.
 #[derive(Clone, Copy)]

@@ -77,7 +77,7 @@ impl Settings {
         }
     }
 
-    /// Whether a user wants to be told what comparing showed.
+    /// Whether the user wants a report of what comparing showed.
     pub fn tells_audit(&self) -> bool {
         self.value_of(Key::Audit) == TELL
     }

@@ -1,4 +1,4 @@
-//! Where results of other machines are: the address of a server or a folder, and attributes behind it, each behind a `|`.
+//! Where results of other machines are: the address of a server or a folder, followed by attributes, each after a `|`.
 
 use crate::values::truth_named;
 use std::alloc::Global;
@@ -7,7 +7,7 @@ use std::fmt;
 /// What addresses begin with.
 const FRONTS: [&str; 5] = ["redis://", "redis+unix:/", "http://", "https://", "file:/"];
 
-/// What stands where something isn't shown.
+/// What is shown in place of something hidden.
 const HIDDEN: &str = "***";
 
 /// Whether an address is one.
@@ -55,7 +55,7 @@ fn value_in<'a>(storage: &'a str, name: &str) -> Option<&'a str> {
     None
 }
 
-/// Whether an attribute is on: it stands there alone, or with a truth value.
+/// Whether an attribute is on: it is given alone, or with a truth value.
 pub fn has_attribute(storage: &str, name: &str) -> bool {
     match value_in(storage, name) {
         Some(value) => value.is_empty() || truth_named(value) == Some(true),

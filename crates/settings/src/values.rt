@@ -4,7 +4,7 @@ ghost use Rattle.std.specs.Prelude.{◌≡◌, ◌+◌, ◌*◌};
 ghost use Rattle.std.specs.Option.{option_map};
 ghost use Rattle.settings.specs.Values.{age_in, age_unit_in, digit_in, held, number_in, size_in, truth_in, unit_in};
 
-/// The digit that begins a text, and what stands behind it.
+/// The digit that begins a text, and what comes after it.
 fn digit_ahead(text: &[u8]) -> Option<(u64, &[u8])>
     ensures { option_map (λ found. (found.0, found.1.now)) result ≡ digit_in text.now }
 {
@@ -21,7 +21,7 @@ fn with_digit(number: u64, digit: u64) -> Option<u64>
     number.checked_mul(10)?.checked_add(digit)
 }
 
-/// The whole number whose digits begin a text, and what stands behind them. Nothing where no digit does, or where the number passes
+/// The whole number whose digits begin a text, and what comes after them. Nothing where no digit begins it, or the number exceeds
 /// what 64 bits hold.
 fn number_ahead(text: &[u8]) -> Option<(u64, &[u8])>
     ensures { option_map (λ found. (found.0, found.1.now)) result ≡ number_in text.now }
@@ -55,7 +55,7 @@ fn unit_named(unit: &[u8]) -> Option<u64>
     }
 }
 
-/// How many bytes a text means: a whole number with a unit behind it, or none for `G`. Nothing where it is no such text, or means more than
+/// How many bytes a text means: a whole number followed by a unit, or by none for `G`. Nothing where it is no such text, or means more than
 /// 64 bits hold.
 pub fn size_named(text: &str) -> Option<u64>
     ensures { result ≡ size_in text.now }
@@ -96,7 +96,7 @@ fn age_unit_named(unit: &[u8]) -> Option<u64>
     }
 }
 
-/// How many seconds an age means: a whole number with s, m, h or d behind it, for seconds, minutes, hours or days. Nothing where it is no
+/// How many seconds an age means: a whole number followed by s, m, h or d, for seconds, minutes, hours or days. Nothing where it is no
 /// such text, or means more than 64 bits hold.
 pub fn age_named(text: &str) -> Option<u64>
     ensures { result ≡ age_in text.now }

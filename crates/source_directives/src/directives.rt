@@ -1,6 +1,6 @@
 //! The files that a source asks for by its directives, live or not.
 //!
-//! Which of them are live hangs on macros, so all of them count: those in comments too. Where it can't be told what is asked for, as where a
+//! Which of them are live depends on macros, so all of them count: those in comments too. Where it isn't clear what is asked for, as where a
 //! macro stands for the name, there is no answer.
 
 use memchr::{memchr, memchr_iter, memmem, memrchr};
@@ -13,7 +13,7 @@ pub enum Search {
     Quoted,
     /// In the folders for names in brackets.
     Bracketed,
-    /// In the folders that come behind the one in which the source was found that asks.
+    /// In the folders that come after the one in which the source that asks was found.
     Next,
 }
 
@@ -30,7 +30,7 @@ pub struct Directives<'a> {
     pub asked: Vec<Asked<'a>>,
     /// The macros by which it asks whether a file is there: each hands its parameter on.
     pub probes: Vec<&'a [u8]>,
-    /// The macros that stand for names that it takes in.
+    /// The macros that stand for names that it includes.
     pub computed: Vec<&'a [u8]>,
     /// Whether it may be taken in once alone.
     pub is_once: bool,
@@ -53,18 +53,18 @@ fn is_space(byte: u8) -> bool {
     matches!(byte, b' ' | b'\t' | b'\r' | 0 | 11 | 12)
 }
 
-/// Whether it may stand in a name of a macro.
+/// Whether the byte may be in a name of a macro.
 fn is_letter(byte: u8) -> bool {
     byte.is_ascii_alphanumeric() || byte == b'_' || byte == b'$' || byte >= 128
 }
 
-/// What stands behind spaces.
+/// What comes after spaces.
 pub(crate) fn behind_spaces(text: &[u8]) -> &[u8] {
     let spaces = text.iter().take_while(|byte| is_space(**byte)).count();
     text.get(spaces..).unwrap_or(&[])
 }
 
-/// The word that a text begins with, and what stands behind it.
+/// The word that a text begins with, and what comes after it.
 pub(crate) fn word_ahead(text: &[u8]) -> (&[u8], &[u8]) {
     let length = text.iter().take_while(|byte| is_letter(**byte)).count();
     match text.split_at_checked(length) {
@@ -80,7 +80,7 @@ fn before_spaces(text: &[u8]) -> &[u8] {
         .unwrap_or(&[])
 }
 
-/// Whether a directive may begin behind these bytes of a source: in its line nothing stands before it but spaces and the end of a comment, which
+/// Whether a directive may begin after these bytes of a source: before it, its line has only spaces and the end of a comment, which
 /// a line that goes on may cut in two.
 pub(crate) fn may_begin_directive(front: &[u8]) -> bool {
     let front = before_spaces(front);
@@ -119,7 +119,7 @@ fn between(text: &[u8], first: u8, last: u8) -> Option<&[u8]> {
     rest.get(..end)
 }
 
-/// The name in quotes or brackets at the front of a text. None where neither stands there.
+/// The name in quotes or brackets at the front of a text. None where the text begins with neither.
 fn name_ahead(text: &[u8]) -> Option<Asked<'_>> {
     if let Some(name) = between(text, b'<', b'>') {
         let search = Search::Bracketed;
@@ -134,8 +134,8 @@ fn name_ahead(text: &[u8]) -> Option<Asked<'_>> {
     Some(Asked { name, search })
 }
 
-/// Whether a name may be computed by what stands where one isn't written: a macro begins there, or a comment, the end of a line that goes on,
-/// or a name in quotes that is none. All else fails to compile, or stands in a comment.
+/// Whether a name may be computed by what comes in place of a written one: a macro begins there, or a comment, a line continuation,
+/// or something in quotes that is no name. All else fails to compile, or is in a comment.
 fn may_be_computed(operand: &[u8]) -> bool {
     match operand {
         [b'/' | b'\\', ..] | [b'"', b'<', ..] => true,
@@ -163,7 +163,7 @@ fn defines(line: &[u8], macro_name: &[u8]) -> bool {
     }
 }
 
-/// Whether a word stands there that isn't a part of a longer one.
+/// Whether the word at that place isn't a part of a longer one.
 pub(crate) fn stands_alone(line: &[u8], at: usize) -> bool {
     match line.get(..at).unwrap_or(&[]).last() {
         Some(byte) => !is_letter(*byte),
@@ -171,7 +171,7 @@ pub(crate) fn stands_alone(line: &[u8], at: usize) -> bool {
     }
 }
 
-/// What stands behind a probe of that name, with how it looks. None where it is a part of a longer word.
+/// What comes after a probe, and whether the probe is a `_next` one. None where its name is a part of a longer word.
 fn behind_probe(behind: &[u8]) -> Option<(&[u8], bool)> {
     let (word, rest) = word_ahead(behind);
     match word {
@@ -192,7 +192,7 @@ impl<'a> Directives<'a> {
         }
     }
 
-    /// Takes the name at the front of what stands behind a directive or a probe. False where one is computed there.
+    /// Takes the name at the front of what comes after a directive or a probe. False where a name is computed there.
     fn take_name(&mut self, operand: &'a [u8], is_next: bool) -> Result<bool, AllocError> {
         let operand = behind_spaces(operand);
         let Some(Asked { name, search }) = name_ahead(operand) else {
@@ -203,7 +203,7 @@ impl<'a> Directives<'a> {
         Ok(true)
     }
 
-    /// Takes what a directive takes in, which a macro may stand for. False where it can't be told what it is.
+    /// Takes what a directive includes, which a macro may stand for. False where it can't be determined what it is.
     fn take_included(&mut self, operand: &'a [u8], is_next: bool) -> Result<bool, AllocError> {
         if self.take_name(operand, is_next)? {
             return Ok(true);
@@ -213,7 +213,7 @@ impl<'a> Directives<'a> {
         Ok(!is_next && !name.is_empty() && behind_spaces(rest).is_empty())
     }
 
-    /// Takes what stands behind `pragma`. False where it asks for a file.
+    /// Takes what comes after `pragma`. False where it asks for a file.
     fn take_pragma(&mut self, operand: &[u8]) -> bool {
         let (word, rest) = word_ahead(behind_spaces(operand));
         let (second, _) = word_ahead(behind_spaces(rest));
@@ -224,7 +224,7 @@ impl<'a> Directives<'a> {
         }
     }
 
-    /// Takes a directive, which stands behind its `#`. False where it can't be told what it asks for.
+    /// Takes a directive: what comes after its `#`. False where it can't be determined what it asks for.
     fn take_directive(&mut self, behind: &'a [u8]) -> Result<bool, AllocError> {
         let behind = behind_spaces(behind);
         let (word, operand) = word_ahead(behind);
@@ -245,7 +245,7 @@ impl<'a> Directives<'a> {
         }
     }
 
-    /// Takes what stands behind one probe in a line. False where it can't be told what it asks for.
+    /// Takes what comes after one probe in a line. False where it can't be determined what it asks for.
     fn take_probe(&mut self, line: &'a [u8], behind: &'a [u8]) -> Result<bool, AllocError> {
         let Some((rest, is_next)) = behind_probe(behind) else {
             return Ok(true);
@@ -267,7 +267,7 @@ impl<'a> Directives<'a> {
         }
     }
 
-    /// Takes the probes of that name in a source, but in the line that defines it. False where it can't be told what one asks for.
+    /// Takes the probes of that name in a source, except in the line that defines it. False where it can't be determined what one asks for.
     fn take_probes(&mut self, source: &'a [u8], probe: &[u8]) -> Result<bool, AllocError> {
         for at in memmem::find_iter(source, probe) {
             if !stands_alone(source, at) {
@@ -282,7 +282,7 @@ impl<'a> Directives<'a> {
         Ok(true)
     }
 
-    /// Takes a directive, where one begins at that place of a source, at which a mark stands. False where it can't be told what it asks for:
+    /// Takes a directive, where one begins at the mark at that place of a source. False where it can't be determined what it asks for:
     /// that is so of other spellings of `#`, and of those of the end of a line that goes on.
     fn take_at(&mut self, source: &'a [u8], at: usize) -> Result<bool, AllocError> {
         let Some((front, found)) = source.split_at_checked(at) else {
@@ -298,7 +298,7 @@ impl<'a> Directives<'a> {
         }
     }
 
-    /// Takes the directives of a source that begin with that mark. False where it can't be told what one asks for.
+    /// Takes the directives of a source that begin with that mark. False where it can't be determined what one asks for.
     fn take_marked(&mut self, source: &'a [u8], mark: u8) -> Result<bool, AllocError> {
         for at in memchr_iter(mark, source) {
             if !self.take_at(source, at)? {
@@ -308,7 +308,7 @@ impl<'a> Directives<'a> {
         Ok(true)
     }
 
-    /// Takes the directives of a source. False where it can't be told what one asks for.
+    /// Takes the directives of a source. False where it can't be determined what one asks for.
     fn take_directives(&mut self, source: &'a [u8]) -> Result<bool, AllocError> {
         for mark in MARKS {
             if !self.take_marked(source, mark)? {
@@ -319,7 +319,7 @@ impl<'a> Directives<'a> {
     }
 }
 
-/// What a source asks for. None where that can't be told.
+/// What a source asks for. None where that can't be determined.
 pub fn directives_of(alloc: Global, source: &[u8]) -> Result<Option<Directives<'_>>, AllocError> {
     let mut found = Directives::new(alloc);
     if memmem::find(source, EMBED_PROBE).is_some()
@@ -331,24 +331,24 @@ pub fn directives_of(alloc: Global, source: &[u8]) -> Result<Option<Directives<'
     Ok(Some(found))
 }
 
-/// What stands before spaces and ends of lines that go on.
+/// What comes before spaces and line continuations.
 fn before_gap(front: &[u8]) -> &[u8] {
     let is_gap = |byte: &u8| is_space(*byte) || *byte == b'\\' || *byte == b'\n';
     let gap = front.iter().rev().take_while(|byte| is_gap(*byte)).count();
     front.get(..front.len().saturating_sub(gap)).unwrap_or(&[])
 }
 
-/// Whether a name may be defined that these bytes stand before: `define` does, or a comment that may stand behind that.
+/// Whether a name that comes after these bytes may be defined there: `define` comes before it, or a comment that may come after `define`.
 fn may_be_defined(front: &[u8]) -> bool {
     let before = before_gap(front);
     before.ends_with(b"define") || before.ends_with(b"*/")
 }
 
-/// The name of a file that is all that a macro stands for, behind its own name.
+/// The name of a file, where a macro stands for nothing else. The text is what comes after the macro's own name.
 fn literal_ahead(behind: &[u8]) -> Option<Asked<'_>> {
     let operand = behind_spaces(behind);
     let asked = name_ahead(operand)?;
-    // Its two marks stand around it.
+    // The name has a mark on each side.
     let rest = operand.get(asked.name.len().saturating_add(2)..)?;
     match behind_spaces(rest) {
         [] | [b'\n', ..] | [b'/', b'*' | b'/', ..] => Some(asked),
@@ -356,7 +356,7 @@ fn literal_ahead(behind: &[u8]) -> Option<Asked<'_>> {
     }
 }
 
-/// Adds what a macro may stand for by its definitions in a source, live or not. False where one of them may be another thing than a name in
+/// Adds what a macro may stand for by its definitions in a source, live or not. False where one of them may be anything but a name in
 /// quotes or brackets.
 pub fn add_defined<'a>(
     source: &'a [u8],
@@ -378,7 +378,7 @@ pub fn add_defined<'a>(
     Ok(true)
 }
 
-/// Adds what a macro stands for by a command's definition, as `NAME="file"`. False where it isn't one of that macro, or may be another thing
+/// Adds what a macro stands for by a command's definition, as `NAME="file"`. False where it defines another macro, or may be something other
 /// than a name in quotes or brackets.
 pub fn add_said<'a>(
     definition: &'a [u8],
@@ -395,7 +395,7 @@ pub fn add_said<'a>(
     Ok(true)
 }
 
-/// Adds what a source asks for by a probe of another name. False where that can't be told.
+/// Adds what a source asks for by a probe of another name. False where that can't be determined.
 pub fn add_probed<'a>(
     source: &'a [u8],
     probe: &[u8],

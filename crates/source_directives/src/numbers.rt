@@ -3,17 +3,17 @@
 use crate::directives::{MARKS, behind_spaces, may_begin_directive};
 use memchr::memchr_iter;
 
-/// Whether such a directive stands behind its `#`, or what may be one.
+/// Whether such a directive, or what may be one, comes after the `#`.
 fn is_number(behind: &[u8]) -> bool {
     match behind_spaces(behind) {
         [b'0'..=b'9', ..] | [b'l', b'i', b'n', b'e', ..] => true,
-        // A comment or the end of a line that goes on may stand before the word.
+        // A comment or a line continuation may come before the word.
         [b'/' | b'\\', ..] => true,
         _ => false,
     }
 }
 
-/// Whether such a directive may begin at that place of a source, at which a mark stands.
+/// Whether such a directive may begin at the mark at that place of a source.
 fn may_number(source: &[u8], at: usize) -> bool {
     let Some((front, found)) = source.split_at_checked(at) else {
         return false;

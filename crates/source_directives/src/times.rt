@@ -4,7 +4,7 @@ use crate::directives::{behind_spaces, stands_alone, word_ahead};
 use memchr::memmem;
 use os_files::os_bytes::OsBytes;
 
-/// The macros that tell a day or a time.
+/// The macros that give a day or a time.
 const MACROS: [&[u8]; 3] = [b"__TIME__", b"__DATE__", b"__TIMESTAMP__"];
 
 /// What the first of two pieces begins with, of which such a macro may be pasted.
@@ -17,7 +17,7 @@ fn is_piece(name: &[u8]) -> bool {
         .any(|it| it.len() > name.len() && it.starts_with(name))
 }
 
-/// Whether a name may be pasted that these bytes stand behind: it is pasted there, is an argument, or is all that a macro stands for.
+/// Whether a name before these bytes may be pasted: it is pasted there, is an argument, or is all that a macro stands for.
 fn may_be_pasted(behind: &[u8]) -> bool {
     match behind_spaces(behind) {
         // By `##`, which other spellings have for `#`.
@@ -29,7 +29,7 @@ fn may_be_pasted(behind: &[u8]) -> bool {
     }
 }
 
-/// Whether a piece of such a macro that begins so stands in a source.
+/// Whether a source contains a piece of such a macro that begins so.
 fn has_piece(source: &[u8], front: &[u8]) -> bool {
     for at in memmem::find_iter(source, front) {
         let (name, behind) = word_ahead(source.get(at..).unwrap_or(&[]));
@@ -40,7 +40,7 @@ fn has_piece(source: &[u8], front: &[u8]) -> bool {
     false
 }
 
-/// Whether a source has a piece of which a macro may be pasted that tells a day or a time.
+/// Whether a source has a piece from which a macro that gives a day or a time may be pasted.
 pub fn pastes_time(source: &[u8]) -> bool {
     FRONTS.iter().any(|front| has_piece(source, front))
 }

@@ -11,7 +11,7 @@ pub fn digest_of_list(alloc: Global, list: &[u8]) -> Result<String, HostError> {
     Ok(digest_of(alloc, list)?)
 }
 
-/// What stands behind the targets of a list's first rule.
+/// What comes after the targets of a list's first rule.
 fn behind_targets(list: &[u8]) -> &[u8] {
     match memmem::find(list, b": ") {
         Some(at) => list.get(at.saturating_add(2)..).unwrap_or(&[]),

@@ -19,7 +19,7 @@ use std::rt::Files;
 use std::time::{Duration, SystemTime, UNIX_EPOCH};
 use written_lines::named::{Lying, NamedFile, NamedFiles};
 
-/// How many milliseconds the times of files may stand behind the clock: they are told by the ticks of a kernel.
+/// How many milliseconds the times of files may lag behind the clock: they advance with a kernel's ticks.
 const TICK: u64 = 20;
 
 /// What a file has in it that takes in another one.
@@ -32,7 +32,7 @@ enum OnDisk {
     File(OsBytes, Metadata),
     /// Nothing, or something else.
     NoFile,
-    /// That can't be told.
+    /// That can't be determined.
     Unknown,
 }
 
@@ -46,7 +46,7 @@ fn regular_at<R: Files>(rt: &R, path: &str) -> Result<fs::Metadata, OnDisk> {
     }
 }
 
-/// What a session is told of a file of that size.
+/// What a session is given about a file of that size.
 fn metadata_of(found: &fs::Metadata, size: u64) -> Metadata {
     Metadata {
         size,
@@ -107,7 +107,7 @@ fn look_for_token<R: Files + AllocGlobal>(
     as_token(rt, path, &found, contents.as_slice(), before, tokens)
 }
 
-/// Loads what was found under a path. False where that can't be told.
+/// Loads what was found at a path. False where that couldn't be determined.
 fn take(path: OsBytes, found: OnDisk, files: &mut SnapshotFiles) -> Result<bool, HostError> {
     match found {
         OnDisk::File(contents, metadata) => {
@@ -131,7 +131,7 @@ fn take(path: OsBytes, found: OnDisk, files: &mut SnapshotFiles) -> Result<bool,
     }
 }
 
-/// Loads what stands under a path. False where that can't be told.
+/// Loads what is at a path. False where that can't be determined.
 pub fn load<R: Files + AllocGlobal>(
     rt: &R,
     path: OsBytes,
@@ -164,7 +164,7 @@ pub fn settled_before(moment: SystemTime) -> FileTime {
     time_of(seconds, i64::from(since.subsec_nanos()))
 }
 
-/// Loads the headers of these names, by their tokens. False where one of them can't be told. What was loaded as it is stays.
+/// Loads the headers of these names, by their tokens. False where one of them can't be determined. What was loaded as it is stays.
 pub fn load_all<R: Files + AllocGlobal>(
     rt: &R,
     line: &CommandLine,
@@ -241,8 +241,8 @@ fn load_named_file<R: Files + AllocGlobal>(
     }
 }
 
-/// Loads the files that a text names, which were read once the preprocessor had printed it. False where what that read can't be told: a
-/// line can't be told from a marker, a file was changed since the call began, or takes in another one.
+/// Loads the files that a text names, which were read once the preprocessor had printed it. False where it isn't certain what that read: a
+/// line can't be distinguished from a marker, a file was changed since the call began, or includes another one.
 pub fn load_named<R: Files + AllocGlobal>(
     rt: &R,
     line: &CommandLine,

@@ -13,14 +13,14 @@ const TYPES: [&[u8]; 9] = [
     b"btrfs", b"ext2", b"ext3", b"ext4", b"f2fs", b"overlay", b"tmpfs", b"xfs", b"zfs",
 ];
 
-/// The number of a device, as its two parts give it.
+/// The number of a device, from its two parts.
 fn device_of(major: u64, minor: u64) -> u64 {
     let low = (major & 0xfff) << 8 | (minor & 0xff);
     let high = (major & 0xffff_f000) << 32 | (minor & 0xffff_ff00) << 12;
     low | high
 }
 
-/// The device of a mount, which is told as two numbers with a colon between them.
+/// The device of a mount, which is given as two numbers with a colon between them.
 fn device_in(text: &[u8]) -> Option<u64> {
     let (major, minor) = str::from_utf8(text).ok()?.split_once(':')?;
     Some(device_of(
@@ -41,7 +41,7 @@ fn trusted_in(line: &[u8]) -> Option<u64> {
     }
 }
 
-/// The devices in a list of what is mounted of which a file that has the state that it had has the contents that it had.
+/// The devices in a list of mounts on which a file whose state is the same as before has the same contents as before.
 pub fn devices_in(alloc: Global, list: &[u8]) -> Result<BTreeSet<u64>, AllocError> {
     let mut devices = BTreeSet::new(alloc);
     for line in list.split(|byte| *byte == b'\n') {

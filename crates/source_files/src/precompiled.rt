@@ -12,13 +12,13 @@ use std::fs;
 use std::rt::Files;
 use written_lines::named::NamedFiles;
 
-/// What precompiled headers have behind the name of their header.
+/// What the name of a precompiled header has after the name of its header.
 const ENDINGS: [&str; 2] = [".gch", ".pch"];
 
 /// What GCC takes in before all else.
 const PREDEFINED: &[u8] = b"/stdc-predef.h";
 
-/// Words by which a folder is searched, behind them or in the next word.
+/// Words for a folder that is searched, which follows in the same word or is the next one.
 const FOLDERS: [&[u8]; 4] = [b"-I", b"-iquote", b"-isystem", b"-idirafter"];
 
 /// Variables that list folders which are searched.

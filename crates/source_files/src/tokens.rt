@@ -1,5 +1,5 @@
-//! Tokens: what stands for the contents of a header. A token has the digest of the contents, and those of the words that a session looks for
-//! which stand in them. It is known again by the state of the file, so that a header that is as it was isn't read.
+//! Tokens: what stands for the contents of a header. A token has the digest of the contents, and of the words that a session looks for those
+//! that occur in them. It is recognized by the state of the file, so that an unchanged header isn't read.
 
 use crate::mounts::devices;
 use blake2::Blake2b256;
@@ -24,7 +24,7 @@ const WORDS: [&str; 5] = ["__TIME__", "__DATE__", "__TIMESTAMP__", "#embed", "# 
 /// How many tokens are kept beside a manifest.
 const MOST: usize = 20_000;
 
-/// How far the times of files may stand behind the clock where they have no parts of a second.
+/// How far the times of files may lag behind the clock where they have no parts of a second.
 const COARSE: i64 = 2;
 
 /// The token of these contents. None where they look like one.
@@ -59,7 +59,7 @@ pub struct Tokens {
     noted: BTreeMap<OsBytes, Noted>,
     /// The paths of files whose contents a session has as they are.
     whole: BTreeSet<OsBytes>,
-    /// The devices of file systems on which a file of the same state has the same contents, once that was asked.
+    /// The devices of file systems on which a file of the same state has the same contents, once they were looked up.
     devices: Option<BTreeSet<u64>>,
     /// Whether there are others than those that were read.
     pub are_new: bool,
@@ -138,7 +138,7 @@ impl Tokens {
         Ok(())
     }
 
-    /// Takes the row ahead in these bytes, and gives what stands behind it.
+    /// Takes the row at the front of these bytes, and returns what comes after it.
     fn take_row<'a>(
         &mut self,
         alloc: Global,

@@ -107,7 +107,7 @@ fn of_pass(
     Ok(())
 }
 
-/// The counters of a call with these words that was passed through for this reason: the first one says what it came to, and one behind it
+/// The counters of a call with these words that was passed through for this reason: the first says what it came to, and one after it says
 /// which option or variable that was.
 pub fn counters_of(
     alloc: Global,

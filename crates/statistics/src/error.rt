@@ -6,7 +6,7 @@ use std::{fmt, io};
 /// Why counters couldn't be read or written.
 #[derive(Drop)]
 pub enum StatisticsError {
-    /// A growth was refused.
+    /// Out of memory.
     Memory,
     /// The disk failed.
     Device,

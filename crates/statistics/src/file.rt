@@ -37,7 +37,7 @@ fn place_in<R: Files + AllocGlobal>(
     place_of(rt.alloc(), path)
 }
 
-/// Opens the file of that name, to be read and to have records put behind the others.
+/// Opens the file of that name, to read it and append records.
 fn open_file<R: Files<File = File>>(rt: &R, place: &str, umask: Option<u32>) -> io::Result<File> {
     let is_new = fs::metadata(rt, place).is_err();
     let mut options = OpenOptions::new();

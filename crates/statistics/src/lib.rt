@@ -1,4 +1,4 @@
-//! Counters of what calls came to, in one file of the folder: a record of fixed size is put behind the others for each call, and the records
+//! Counters of what calls came to, in one file of the folder: a record of fixed size is appended for each call, and the records
 //! are folded, one for each name, once there are many.
 #![tactic(auto)]
 

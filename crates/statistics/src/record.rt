@@ -1,4 +1,4 @@
-//! A record of the file: a number, a name behind its length, and zeros, so that each has 64 bytes.
+//! A record of the file: a number, the length of a name, the name, and zeros that fill it up to 64 bytes.
 
 use byte_formats::fields::{put_framed, put_number, read_framed, read_number};
 use std::alloc::AllocError;
@@ -6,7 +6,7 @@ use std::alloc::AllocError;
 /// How many bytes a record has.
 pub const SIZE: usize = 64;
 
-/// How many bytes of a name stand in a record; those behind them are left out.
+/// How many bytes of a name fit in a record; the rest is left out.
 pub const LONGEST: usize = 48;
 
 /// Adds the record of this name and number.

@@ -1,14 +1,14 @@
-//! Directives by which an assembler takes in files. They stand in an assembler's text, and in strings that a compiler hands on to one.
+//! Directives by which an assembler includes files. They occur in an assembler's text, and in strings that a compiler passes on to one.
 //!
-//! A directive may be written in any case, with escapes, and over several strings that stand side by side. A member of C
+//! A directive may be written in any case, with escapes, and over several adjacent strings. A member of C
 //! (`options.include`, `.include = x`) is none, nor is a part of a path (`parts.include/x.h`).
 
 use memchr::memchr2_iter;
 
-/// The directives, behind their dot.
+/// The directives, without their dot.
 const DIRECTIVES: [&[u8]; 2] = [b"incbin", b"include"];
 
-/// What stands before a string.
+/// What may come before a string.
 const PREFIXES: [&[u8]; 4] = [b"u8", b"u", b"U", b"L"];
 
 /// The text from that place on.
@@ -19,7 +19,7 @@ fn from(text: &[u8], at: usize) -> &[u8] {
     }
 }
 
-/// The text behind spaces and ends of lines.
+/// The text after spaces and line ends.
 fn behind_blanks(text: &[u8]) -> &[u8] {
     match text.iter().position(|byte| !byte.is_ascii_whitespace()) {
         Some(at) => from(text, at),
@@ -27,7 +27,7 @@ fn behind_blanks(text: &[u8]) -> &[u8] {
     }
 }
 
-/// The text behind the end of its first line.
+/// The text after the end of its first line.
 fn behind_line(text: &[u8]) -> &[u8] {
     match text.iter().position(|byte| *byte == b'\n') {
         Some(at) => from(text, at.saturating_add(1)),
@@ -35,7 +35,7 @@ fn behind_line(text: &[u8]) -> &[u8] {
     }
 }
 
-/// The text behind spaces and markers of lines.
+/// The text after spaces and line markers.
 fn behind_markers(text: &[u8]) -> &[u8] {
     let mut rest = behind_blanks(text);
     for _ in text {
@@ -47,7 +47,7 @@ fn behind_markers(text: &[u8]) -> &[u8] {
     rest
 }
 
-/// The inside of a string that begins there, behind spaces and markers.
+/// The inside of a string that begins there, after spaces and line markers.
 fn other_string(text: &[u8]) -> Option<&[u8]> {
     let mut rest = behind_markers(text);
     for prefix in PREFIXES {
@@ -59,7 +59,7 @@ fn other_string(text: &[u8]) -> Option<&[u8]> {
     rest.strip_prefix(b"\"")
 }
 
-/// The text, behind quotes between two strings side by side.
+/// The text, past the quotes between two adjacent strings.
 fn joined(text: &[u8]) -> &[u8] {
     let mut rest = text;
     for _ in text {
@@ -84,7 +84,7 @@ fn digit(byte: u8) -> Option<u8> {
     }
 }
 
-/// The byte that digits mean at the front, at most so many, and what stands behind them.
+/// The byte that digits at the front mean, at most so many of them, and what comes after them.
 fn number(text: &[u8], radix: u8, most: usize) -> (u8, &[u8]) {
     let mut value: u8 = 0;
     let mut rest = text;
@@ -100,7 +100,7 @@ fn number(text: &[u8], radix: u8, most: usize) -> (u8, &[u8]) {
     (value, rest)
 }
 
-/// The byte that an escape means whose text stands there, behind its backslash, and what stands behind it.
+/// The byte that an escape means, given the text after its backslash, and what comes after the escape.
 fn escaped(text: &[u8]) -> Option<(u8, &[u8])> {
     let (first, rest) = text.split_first()?;
     match *first {
@@ -112,7 +112,7 @@ fn escaped(text: &[u8]) -> Option<(u8, &[u8])> {
     }
 }
 
-/// The next byte that an assembler reads, and what stands behind it.
+/// The next byte that an assembler reads, and what comes after it.
 fn next_byte(text: &[u8]) -> Option<(u8, &[u8])> {
     let (first, rest) = joined(text).split_first()?;
     match *first {
@@ -121,7 +121,7 @@ fn next_byte(text: &[u8]) -> Option<(u8, &[u8])> {
     }
 }
 
-/// What stands behind these letters, in any case, where they stand there.
+/// What comes after these letters, in any case, where the text begins with them.
 fn behind_word<'a>(text: &'a [u8], word: &[u8]) -> Option<&'a [u8]> {
     let mut rest = text;
     for letter in word {
@@ -139,7 +139,7 @@ fn begins_name(byte: u8) -> bool {
     byte.is_ascii_alphanumeric() || !byte.is_ascii() || b"\"\\%<'_$@/{".contains(&byte)
 }
 
-/// Whether a file's name stands there, behind spaces; the end of a text or of a string may have one behind it.
+/// Whether a file's name comes there, after spaces; the end of a text or of a string counts, as one may come after it.
 fn takes_name(text: &[u8]) -> bool {
     let mut rest = text;
     let mut is_apart = false;
@@ -156,7 +156,7 @@ fn takes_name(text: &[u8]) -> bool {
     true
 }
 
-/// Whether a dot behind this text may begin a directive: it doesn't behind a name, or what stands for a value, but for an escape.
+/// Whether a dot after this text may begin a directive: it can't after a name or something else that is a value, unless that is an escape.
 fn may_begin(before: &[u8]) -> bool {
     let Some(last) = before.last() else {
         return true;
@@ -165,7 +165,7 @@ fn may_begin(before: &[u8]) -> bool {
     !is_value || before.iter().rev().take(4).any(|byte| *byte == b'\\')
 }
 
-/// Whether a dot, or its escape, stands at the front, and a directive with a file's name behind it.
+/// Whether the text begins with a dot, or its escape, followed by a directive and a file's name.
 fn is_directive(text: &[u8]) -> bool {
     match next_byte(text) {
         Some((b'.', behind)) => DIRECTIVES.iter().any(|word| match behind_word(behind, word) {

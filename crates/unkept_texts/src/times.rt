@@ -22,7 +22,7 @@ fn seconds_of(hours: u8, minutes: u8, seconds: u8) -> u32 {
     u32::from(hours) * 3600 + u32::from(minutes) * 60 + u32::from(seconds)
 }
 
-/// The second of a day that stands at the front of a text, with a quote behind it.
+/// The second of a day that a text begins with, followed by a quote.
 fn second_in(text: &[u8]) -> Option<u32> {
     match text {
         [h, hours, b':', m, minutes, b':', s, seconds, b'"', ..] => {
@@ -34,7 +34,7 @@ fn second_in(text: &[u8]) -> Option<u32> {
     }
 }
 
-/// Whether a date stands at the front of a text, with a quote behind it.
+/// Whether a text begins with a date followed by a quote.
 fn is_date(text: &[u8]) -> bool {
     match text {
         [a, b, c, b' ', tens, ones, b' ', d, e, f, g, b'"', ..] => {
@@ -89,7 +89,7 @@ fn second_of_day(moment: i64, zone: &str) -> Option<u32> {
 
 /// Whether that second is one of those of a call that began at the other.
 fn is_of_call(second: u32, begun: u32) -> bool {
-    // A clock may be told a little earlier where it isn't as fine.
+    // A coarser clock may give a slightly earlier time.
     (second % DAY + DAY + 2 - begun % DAY) % DAY < SPAN
 }
 

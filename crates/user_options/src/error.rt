@@ -9,7 +9,7 @@ use std::{fmt, io};
 /// Why it wasn't done.
 #[derive(Drop)]
 pub enum OptionError {
-    /// A growth was refused.
+    /// Out of memory.
     Memory,
     /// Something couldn't be read or written.
     Device,

@@ -41,7 +41,7 @@ pub fn help<R: Print>(rt: &R) -> Result<(), OptionError> {
     Ok(())
 }
 
-/// What the file beside the program says that it is: lines of a word and what stands for it.
+/// What the file beside the program says about this build: lines of a word and its value.
 pub fn built_lines<R: Files + AllocGlobal>(rt: &R, program: &str) -> Result<String, OptionError> {
     let alloc = rt.alloc();
     let folder = match program.rsplit_once('/') {

@@ -1,5 +1,5 @@
 //! What a user asks of the program before a real compiler beside a compile: its help, its version, its statistics, what is kept and how much,
-//! its settings, and links by which it stands before compilers.
+//! its settings, and links by which it runs in place of compilers.
 #![tactic(auto)]
 
 pub mod asked;

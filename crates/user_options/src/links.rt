@@ -1,4 +1,4 @@
-//! Links by which the program stands before compilers: a folder with them comes before those of the compilers in `PATH`.
+//! Links by which the program runs in place of compilers: a folder with them comes before those of the compilers in `PATH`.
 
 use crate::error::OptionError;
 use std::fs;

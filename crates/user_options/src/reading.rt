@@ -51,7 +51,7 @@ fn read_long<'a>(
     Ok(())
 }
 
-/// The value of a short option: what stands behind its letter, or the next word.
+/// The value of a short option: what comes after its letter, or the next word.
 fn value_behind<'a>(rest: &'a str, words: &mut Words<'a>) -> Option<&'a str> {
     match rest.is_empty() {
         true => words.take(),

@@ -1,5 +1,5 @@
-//! How a difference is told that no row of `sccache_explain` shows: that in the mark of an output alone. Only by its words does a request
-//! have an output that its compile may leave out, and where words differ that is told.
+//! How a difference is reported that no row of `sccache_explain` shows: one in an output's mark alone. Only by its words does a request
+//! have an output that its compile may leave out, and where words differ that is reported.
 
 use ckeys_records::output_name::OutputName;
 use cmdlines_tables::language::Language;

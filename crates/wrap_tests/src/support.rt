@@ -98,7 +98,7 @@ fn push_answer(text: &mut String, answer: &Result<Answer, Fault>) -> Result<(), 
     Ok(())
 }
 
-/// What these answers tell, in order.
+/// What these answers say, in order.
 pub(crate) fn all_told(
     alloc: Global,
     answers: &[Result<Answer, Fault>],

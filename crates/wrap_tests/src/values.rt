@@ -21,7 +21,7 @@ fn shows<T: Debug>(alloc: Global, value: &T, want: &str) -> Result<(), Fail> {
     is_that(text.as_str(), want, "printed")
 }
 
-/// Asserts that a value equals its copy, is told from another one, and is printed so, as its copy is.
+/// Asserts that a value equals its copy, differs from another one, and is printed so, as its copy is.
 fn is_a_value<T: Holding + Clone + Debug + Drop + Eq>(
     alloc: Global,
     want: &str,

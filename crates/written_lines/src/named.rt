@@ -23,7 +23,7 @@ pub enum Lying {
     File(Metadata, Option<OsBytes>),
     /// A folder, or what is neither.
     Other,
-    /// That can't be told.
+    /// That can't be determined.
     Unknown,
 }
 
@@ -43,13 +43,13 @@ pub struct NamedFile {
 pub struct NamedFiles {
     /// Each once, in the order in which they come first: the first one is the input.
     pub files: Vec<NamedFile>,
-    /// Whether each line could be told from a marker.
+    /// Whether each line could be distinguished from a marker.
     pub are_all: bool,
     are_read: bool,
     are_noted: bool,
 }
 
-/// Whether a marker's name is that of a file: those in brackets are none, and one with two slashes behind it is a folder.
+/// Whether a marker's name is that of a file: those in brackets are none, and one that ends in two slashes is a folder.
 fn is_file_name(name: &[u8]) -> bool {
     !name.starts_with(b"<") && !name.ends_with(b"//")
 }
@@ -151,7 +151,7 @@ impl NamedFiles {
         Ok(named)
     }
 
-    /// An input of that path and contents, which is compiled as it stands: no text names it.
+    /// An input of that path and contents, which is compiled as it is: no text names it.
     pub fn of_input<R: Files + AllocGlobal>(
         rt: &R,
         path: OsBytes,
@@ -193,7 +193,7 @@ impl NamedFiles {
         }
     }
 
-    /// Whether the same lies under each path now, in the same state. What couldn't be told doesn't.
+    /// Whether the same is at each path now, in the same state. What couldn't be determined counts as changed.
     pub fn are_unchanged<R: Files>(&self, rt: &R) -> bool {
         self.files.iter().all(|file| file.is_unchanged(rt))
     }

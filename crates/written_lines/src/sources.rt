@@ -84,7 +84,7 @@ pub struct Sources<'a> {
 }
 
 impl<'a> Sources<'a> {
-    /// The files of a text, which were read. A line that can't be told from a marker, and a file that is none or can't be read, is an error.
+    /// The files of a text, which were read. A line that may be a marker or not, or a file that is missing or unreadable, is an error.
     pub fn of(alloc: Global, named: &'a mut NamedFiles) -> Result<Sources<'a>, HostError> {
         let mut sources = Sources {
             files: HashMap::new(alloc),
@@ -160,7 +160,7 @@ impl<'a> Sources<'a> {
     }
 }
 
-/// Feeds bytes behind their length.
+/// Feeds the length of bytes, then the bytes.
 fn feed(digest: &mut Digest<Blake2b256>, bytes: &[u8]) {
     let length = bytes.len() as u64;
     digest.update(&length.to_le_bytes());

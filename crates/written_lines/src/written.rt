@@ -47,7 +47,7 @@ fn opens_outside(line: &[u8]) -> bool {
     open > close
 }
 
-/// Whether tokens of the lines below it may stand in the text's line of this one: the arguments of a macro, or a line that goes on.
+/// Whether the text's line for this one may also hold tokens of the lines below it: arguments of a macro, or a line that continues.
 fn goes_on(line: &[u8]) -> bool {
     if line.trim_ascii_end().ends_with(b"\\") {
         return true;
@@ -70,7 +70,7 @@ fn may_be_label(line: &[u8]) -> bool {
     }
 }
 
-/// The bytes behind so many of them.
+/// The bytes after the first so many.
 fn behind(bytes: &[u8], count: usize) -> &[u8] {
     bytes.get(count..).unwrap_or(&[])
 }
@@ -94,7 +94,7 @@ fn alike_behind(one: &[u8], other: &[u8]) -> usize {
     pairs.take_while(|pair| pair.0 == pair.1).count()
 }
 
-/// Puts a number, which is small most often: in one byte, or behind 255 in eight.
+/// Puts a number, most often a small one: in one byte, or in eight after a 255.
 fn put_small(bytes: &mut Vec<u8>, number: u64) -> Result<(), AllocError> {
     match u8::try_from(number) {
         Ok(small) if small < 255 => Ok(bytes.push(small)?),
@@ -105,7 +105,7 @@ fn put_small(bytes: &mut Vec<u8>, number: u64) -> Result<(), AllocError> {
     }
 }
 
-/// What was collected: behind the number of a text's line, counted from the one before it, what the text doesn't say of it.
+/// What was collected: the number of a text's line, counted from the one before it, followed by what the text doesn't say of it.
 #[derive(Drop)]
 pub struct Written {
     bytes: Vec<u8>,
@@ -138,7 +138,7 @@ impl Written {
         Ok(())
     }
 
-    /// Puts bytes behind their length.
+    /// Puts the length of bytes, then the bytes.
     fn put(&mut self, bytes: &[u8]) -> Result<(), AllocError> {
         put_small(&mut self.bytes, bytes.len() as u64)?;
         Ok(self.bytes.extend_from_slice(bytes)?)
@@ -180,7 +180,7 @@ impl Written {
     }
 }
 
-/// Where in a file a walk over a text stands.
+/// The place in a file that a walk over a text has reached.
 #[derive(Drop)]
 pub struct Place<'s> {
     name: &'s [u8],
