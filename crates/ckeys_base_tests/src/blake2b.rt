@@ -84,14 +84,17 @@ fn in_pieces(alloc: Global, bytes: &[u8], size: usize) -> Result<String, AllocEr
     hex::encode(alloc, hasher.finalize())
 }
 
+/// Sizes of pieces.
+const SIZES: [usize; 5] = [1, 7, 128, 129, 4096];
+
 #[test]
 fn digests_are_those_of_another_program(rt: HostRuntime) -> Result<(), Fail> {
     is_that(in_pieces(rt.alloc(), b"abc", 3)?.as_str(), OF_ABC, "abc")?;
-    for (length, want) in OF_LENGTHS {
-        let bytes = message(rt.alloc(), length)?;
-        for size in [1, 7, 128, 129, 4096] {
+    for (length, want) in OF_LENGTHS.iter() {
+        let bytes = message(rt.alloc(), *length)?;
+        for size in SIZES.iter() {
             is_that(
-                in_pieces(rt.alloc(), bytes.as_slice(), size)?.as_str(),
+                in_pieces(rt.alloc(), bytes.as_slice(), *size)?.as_str(),
                 want,
                 "pieces",
             )?;

@@ -26,26 +26,29 @@ fn leaves(
     Ok(left.as_slice() == want.as_bytes())
 }
 
+/// Arguments, and what is left of them without the folder.
+const STRIPPED: [(&str, &str); 8] = [
+    (
+        "-ffile-prefix-map=/home/user/project=.",
+        "-ffile-prefix-map==.",
+    ),
+    ("-I/home/user/project/inc", "-I/inc"),
+    ("/home/user/project", ""),
+    ("/home/user/project-docs", "/home/user/project-docs"),
+    (
+        "-DROOT=\"/home/user/project\"",
+        "-DROOT=\"/home/user/project\"",
+    ),
+    ("-DROOT=/home/user/project", "-DROOT=/home/user/project"),
+    ("--/home/user/project", "--/home/user/project"),
+    ("x/home/user/project", "x/home/user/project"),
+];
+
 #[test]
 fn arguments_lose_a_folder(rt: HostRuntime) -> Result<(), Fail> {
     let alloc = rt.alloc();
     let project = folders(alloc, &["/home/user/project"])?;
-    for (argument, want) in [
-        (
-            "-ffile-prefix-map=/home/user/project=.",
-            "-ffile-prefix-map==.",
-        ),
-        ("-I/home/user/project/inc", "-I/inc"),
-        ("/home/user/project", ""),
-        ("/home/user/project-docs", "/home/user/project-docs"),
-        (
-            "-DROOT=\"/home/user/project\"",
-            "-DROOT=\"/home/user/project\"",
-        ),
-        ("-DROOT=/home/user/project", "-DROOT=/home/user/project"),
-        ("--/home/user/project", "--/home/user/project"),
-        ("x/home/user/project", "x/home/user/project"),
-    ] {
+    for (argument, want) in STRIPPED.iter() {
         if !leaves(alloc, argument, &project, want)? {
             return Err(Fail::new(format_args!("{argument:?} isn't {want:?}")));
         }

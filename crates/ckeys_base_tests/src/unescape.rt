@@ -10,10 +10,13 @@ fn escapes_by_example(rt: HostRuntime) -> Result<(), Fail> {
     Ok(())
 }
 
+/// Texts with a bad escape.
+const BAD_ESCAPES: [&str; 4] = ["\\x4", "\\q", "\\", "a\\"];
+
 #[test]
 fn bad_escapes_by_example(rt: HostRuntime) -> Result<(), Fail> {
     let alloc = rt.alloc();
-    for text in ["\\x4", "\\q", "\\", "a\\"] {
+    for text in BAD_ESCAPES.iter() {
         let refused = ascii_unescape_default(alloc, text.as_bytes());
         assert!(rt;
             matches!(refused, Err(UnescapeError::BadEscape)),

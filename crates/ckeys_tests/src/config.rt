@@ -28,21 +28,23 @@ fn refusal(alloc: Global, folders: &[OsBytes]) -> Result<String, Fail> {
     }
 }
 
+/// Lines of folders, and what comes of them.
+const FOLDERS: [(&str, &str); 5] = [
+    ("w", "BadFolder(\"w\")"),
+    ("//", "BadFolder(\"//\")"),
+    ("/", "BadFolder(\"/\")"),
+    ("/a w //", "BadFolder(\"w\")"),
+    ("/a /b", "a configuration"),
+];
+
 #[test]
 fn bad_folders_are_named(rt: HostRuntime) -> Result<(), Fail> {
     let alloc = rt.alloc();
-    let rows = [
-        ("w", "BadFolder(\"w\")"),
-        ("//", "BadFolder(\"//\")"),
-        ("/", "BadFolder(\"/\")"),
-        ("/a w //", "BadFolder(\"w\")"),
-        ("/a /b", "a configuration"),
-    ];
-    for (line, text) in rows {
+    for (line, text) in FOLDERS.iter() {
         let folders = words(alloc, line)?;
         assert_eq!(rt;
             refusal(alloc, folders.as_slice())?.as_str(),
-            text,
+            *text,
             "{line:?}"
         );
     }

@@ -21,50 +21,51 @@ fn normalized(
     Ok(with_value(alloc, read)?.normalize(wanted))
 }
 
+/// How an option was written, how it is wanted, how it is written then, and what the row says.
+const NORMALIZED: [(ArgDisposition, NormalizedDisposition, ArgDisposition, &str); 6] = [
+    (
+        ArgDisposition::CanBeConcatenated(None),
+        NormalizedDisposition::Separated,
+        ArgDisposition::Separated,
+        "joined or apart, wanted apart",
+    ),
+    (
+        ArgDisposition::CanBeSeparated(Some(b'=')),
+        NormalizedDisposition::Separated,
+        ArgDisposition::Separated,
+        "apart or joined by a sign, wanted apart",
+    ),
+    (
+        ArgDisposition::CanBeConcatenated(Some(b'=')),
+        NormalizedDisposition::Concatenated,
+        ArgDisposition::Concatenated(Some(b'=')),
+        "joined by a sign or apart, wanted joined",
+    ),
+    (
+        ArgDisposition::CanBeSeparated(None),
+        NormalizedDisposition::Concatenated,
+        ArgDisposition::Concatenated(None),
+        "apart or joined, wanted joined",
+    ),
+    (
+        ArgDisposition::Separated,
+        NormalizedDisposition::Concatenated,
+        ArgDisposition::Separated,
+        "apart, wanted joined",
+    ),
+    (
+        ArgDisposition::Concatenated(None),
+        NormalizedDisposition::Separated,
+        ArgDisposition::Concatenated(None),
+        "joined, wanted apart",
+    ),
+];
+
 #[test]
 fn either_way_stands_as_is_wanted(rt: HostRuntime) -> Result<(), Fail> {
-    let apart = NormalizedDisposition::Separated;
-    let joined = NormalizedDisposition::Concatenated;
-    for (read, wanted, stands, what) in [
-        (
-            ArgDisposition::CanBeConcatenated(None),
-            apart,
-            ArgDisposition::Separated,
-            "joined or apart, wanted apart",
-        ),
-        (
-            ArgDisposition::CanBeSeparated(Some(b'=')),
-            apart,
-            ArgDisposition::Separated,
-            "apart or joined by a sign, wanted apart",
-        ),
-        (
-            ArgDisposition::CanBeConcatenated(Some(b'=')),
-            joined,
-            ArgDisposition::Concatenated(Some(b'=')),
-            "joined by a sign or apart, wanted joined",
-        ),
-        (
-            ArgDisposition::CanBeSeparated(None),
-            joined,
-            ArgDisposition::Concatenated(None),
-            "apart or joined, wanted joined",
-        ),
-        (
-            ArgDisposition::Separated,
-            joined,
-            ArgDisposition::Separated,
-            "apart, wanted joined",
-        ),
-        (
-            ArgDisposition::Concatenated(None),
-            apart,
-            ArgDisposition::Concatenated(None),
-            "joined, wanted apart",
-        ),
-    ] {
-        let read = normalized(rt.alloc(), read, wanted);
-        are_equal(read, with_value(rt.alloc(), stands), what)?;
+    for (read, wanted, stands, what) in NORMALIZED.iter() {
+        let read = normalized(rt.alloc(), *read, *wanted);
+        are_equal(read, with_value(rt.alloc(), *stands), what)?;
     }
     Ok(())
 }

@@ -202,16 +202,19 @@ fn is_table(
     Ok(Table::new(entries).is_some())
 }
 
+/// The flags of two entries, the delimiter of the second, whether they make a table, and what the row says.
+const TABLES: [(&str, &str, u8, bool, &str); 4] = [
+    ("-b", "-c", 127, true, "in order"),
+    ("-b", "-c", 128, false, "a delimiter that is no text"),
+    ("-c", "-c", 127, false, "twice"),
+    ("-c", "-b", 127, false, "out of order"),
+];
+
 #[test]
 fn tables_by_example(rt: HostRuntime) -> Result<(), Fail> {
-    for (first, second, delimiter, wanted, what) in [
-        ("-b", "-c", 127, true, "in order"),
-        ("-b", "-c", 128, false, "a delimiter that is no text"),
-        ("-c", "-c", 127, false, "twice"),
-        ("-c", "-b", 127, false, "out of order"),
-    ] {
+    for (first, second, delimiter, wanted, what) in TABLES.iter() {
         holds(
-            is_table(rt.alloc(), first, second, delimiter)? == wanted,
+            is_table(rt.alloc(), first, second, *delimiter)? == *wanted,
             what,
         )?;
     }

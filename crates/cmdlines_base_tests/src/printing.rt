@@ -122,24 +122,27 @@ fn moved_and_emptied(alloc: Global, read: ArgDisposition) -> Result<String, Allo
     format!(in alloc; "{moved} {emptied}")
 }
 
+/// How `--sysroot` and a path are written, and both texts of them.
+const ANSWERED: [(ArgDisposition, &str); 4] = [
+    (
+        ArgDisposition::Concatenated(Some(b'=')),
+        "--sysroot=/there| --sysroot|",
+    ),
+    (
+        ArgDisposition::CanBeSeparated(None),
+        "--sysroot/there| --sysroot|",
+    ),
+    (ArgDisposition::Separated, "--sysroot|/there| --sysroot||"),
+    (
+        ArgDisposition::CanBeConcatenated(Some(b'=')),
+        "--sysroot|/there| --sysroot||",
+    ),
+];
+
 #[test]
 fn paths_are_what_the_closure_answers(rt: HostRuntime) -> Result<(), Fail> {
-    for (read, want) in [
-        (
-            ArgDisposition::Concatenated(Some(b'=')),
-            "--sysroot=/there| --sysroot|",
-        ),
-        (
-            ArgDisposition::CanBeSeparated(None),
-            "--sysroot/there| --sysroot|",
-        ),
-        (ArgDisposition::Separated, "--sysroot|/there| --sysroot||"),
-        (
-            ArgDisposition::CanBeConcatenated(Some(b'=')),
-            "--sysroot|/there| --sysroot||",
-        ),
-    ] {
-        let text = moved_and_emptied(rt.alloc(), read)?;
+    for (read, want) in ANSWERED.iter() {
+        let text = moved_and_emptied(rt.alloc(), *read)?;
         is_that(text.as_str(), want, "--sysroot")?;
     }
     Ok(())

@@ -25,18 +25,21 @@ fn split(alloc: Global, word: &str, separator: &str) -> Result<String, Fail> {
     Ok(told(alloc, &parts)?)
 }
 
+/// Words, separators, and what comes before and after them.
+const SPLIT: [(&str, &str, &str); 8] = [
+    ("a=b=c", "=", "<a> and <b=c>"),
+    ("a", "=", "<a>"),
+    ("a=", "=", "<a> and <>"),
+    ("=a", "=", "<> and <a>"),
+    ("", "=", "<>"),
+    ("a::b::c", "::", "<a> and <b::c>"),
+    ("a:b", "::", "<a:b>"),
+    ("\u{e9}=\u{e9}", "=", "<\u{e9}> and <\u{e9}>"),
+];
+
 #[test]
 fn splits_at_the_first_separator(rt: HostRuntime) -> Result<(), Fail> {
-    for (word, separator, parts) in [
-        ("a=b=c", "=", "<a> and <b=c>"),
-        ("a", "=", "<a>"),
-        ("a=", "=", "<a> and <>"),
-        ("=a", "=", "<> and <a>"),
-        ("", "=", "<>"),
-        ("a::b::c", "::", "<a> and <b::c>"),
-        ("a:b", "::", "<a:b>"),
-        ("\u{e9}=\u{e9}", "=", "<\u{e9}> and <\u{e9}>"),
-    ] {
+    for (word, separator, parts) in SPLIT.iter() {
         is_that(split(rt.alloc(), word, separator)?.as_str(), parts, word)?;
     }
     Ok(())

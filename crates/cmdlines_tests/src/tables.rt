@@ -13,20 +13,23 @@ use cmdlines_tables::value::ArgData;
 use std::test::Fail;
 use test_kit::texts::{holds, is_that};
 
+/// Compilers, words, the flags that are found of them, and how many steps that takes.
+const SEARCHED: [(CCompilerKind, &str, Option<&str>, usize); 4] = [
+    (CCompilerKind::Msvc, "/MP4", Some("/MP"), 4),
+    (CCompilerKind::Msvc, "", None, 1),
+    (CCompilerKind::Gcc, "-stdlib=libc++", Some("-stdlib"), 8),
+    (CCompilerKind::Gcc, "foo.c", None, 1),
+];
+
 /// One step for the root, and one for each byte of the longest beginning that begins a flag.
 #[test]
 fn nodes_that_are_looked_at(rt: HostRuntime) -> Result<(), Fail> {
-    for (kind, word, flag, steps) in [
-        (CCompilerKind::Msvc, "/MP4", Some("/MP"), 4),
-        (CCompilerKind::Msvc, "", None, 1),
-        (CCompilerKind::Gcc, "-stdlib=libc++", Some("-stdlib"), 8),
-        (CCompilerKind::Gcc, "foo.c", None, 1),
-    ] {
-        let tree = compiler_tree(rt.alloc(), kind)?;
+    for (kind, word, flag, steps) in SEARCHED.iter() {
+        let tree = compiler_tree(rt.alloc(), *kind)?;
         let (found, counted) = tree.search_counted(word.as_bytes());
         holds(tree.check(), "a table in order")?;
-        holds(found.map(ArgInfo::flag) == flag, word)?;
-        holds(counted == steps, word)?;
+        holds(found.map(ArgInfo::flag) == *flag, word)?;
+        holds(counted == *steps, word)?;
     }
     Ok(())
 }

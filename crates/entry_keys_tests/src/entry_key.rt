@@ -18,17 +18,20 @@ fn key_of(alloc: Global, identity: &str, key: &str) -> Result<EntryKey, AllocErr
     })
 }
 
+/// Identities and keys, and how the entry key of `a1` and `b2` compares to theirs.
+const ORDERED: [(&str, &str, Ordering); 4] = [
+    ("a1", "b2", Ordering::Equal),
+    ("a1", "b3", Ordering::Less),
+    ("a2", "b1", Ordering::Less),
+    ("a0", "b3", Ordering::Greater),
+];
+
 #[test]
 fn keys_are_ordered_by_identity_first(rt: HostRuntime) -> Result<(), Fail> {
     let alloc = rt.alloc();
     let key = key_of(alloc, "a1", "b2")?;
-    for (identity, text, order) in [
-        ("a1", "b2", Ordering::Equal),
-        ("a1", "b3", Ordering::Less),
-        ("a2", "b1", Ordering::Less),
-        ("a0", "b3", Ordering::Greater),
-    ] {
-        assert_eq!(rt; key.cmp(&key_of(alloc, identity, text)?), order);
+    for (identity, text, order) in ORDERED.iter() {
+        assert_eq!(rt; key.cmp(&key_of(alloc, identity, text)?), *order);
     }
     entry_keys_are_their_fields();
     entry_keys_are_ordered_by_their_fields();

@@ -157,24 +157,27 @@ fn each_file_is_looked_at_once(rt: HostRuntime) -> Result<(), Fail> {
     Ok(())
 }
 
+/// The contents of `a.h`, the second of the last change of `d.h`, the moment of a look-up, and the key that it returns.
+const LOOKED_UP: [(&[u8], i64, i64, &str); 7] = [
+    (b"abc", 8, MOMENT, "both"),
+    (b"abd", 8, MOMENT, "none"),
+    (b"abcd", 8, MOMENT, "none"),
+    (b"abc", 9, MOMENT, "none"),
+    (b"abc", 8, 1_700_006_399, "both"),
+    (b"abc", 8, 1_700_006_400, "none"),
+    (b"abc", 8, i64::MAX, "none"),
+];
+
 #[test]
 fn files_are_found_again(rt: HostRuntime) -> Result<(), Fail> {
     let alloc = rt.alloc();
     let mut files = files_with(alloc, &[("a.h", b"abc", 7), ("d.h", DATED, 8)])?;
     let mut entry = PreprocessorCacheEntry::new(alloc);
     record_of(alloc, &mut entry, "both", &["a.h", "d.h"], &mut files)?;
-    for (contents, second, moment, key) in [
-        (b"abc".as_slice(), 8, MOMENT, "both"),
-        (b"abd".as_slice(), 8, MOMENT, "none"),
-        (b"abcd".as_slice(), 8, MOMENT, "none"),
-        (b"abc".as_slice(), 9, MOMENT, "none"),
-        (b"abc".as_slice(), 8, 1_700_006_399, "both"),
-        (b"abc".as_slice(), 8, 1_700_006_400, "none"),
-        (b"abc".as_slice(), 8, i64::MAX, "none"),
-    ] {
-        let mut now = files_with(alloc, &[("a.h", contents, 0), ("d.h", DATED, second)])?;
+    for (contents, second, moment, key) in LOOKED_UP.iter() {
+        let mut now = files_with(alloc, &[("a.h", *contents, 0), ("d.h", DATED, *second)])?;
         is_that(
-            told(alloc, &entry, moment, &mut now)?.as_str(),
+            told(alloc, &entry, *moment, &mut now)?.as_str(),
             key,
             "both files",
         )?;

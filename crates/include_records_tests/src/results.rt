@@ -49,26 +49,29 @@ fn a_hundred_and_one_results_stand(rt: HostRuntime) -> Result<(), Fail> {
     Ok(())
 }
 
+/// Keys of results that are added, how many includes each has, and how many the record has then.
+const ADDED: [(&str, usize, usize); 11] = [
+    ("b", 6000, 6000),
+    ("a", 3990, 9990),
+    ("c", 10, 10000),
+    ("d", 1, 1),
+    ("a", 10000, 10000),
+    ("a", 20000, 20000),
+    ("b", 0, 0),
+    ("b", 5000, 5000),
+    ("a", 10, 5010),
+    ("b", 4990, 5000),
+    ("b", 4000, 4010),
+];
+
 #[test]
 fn ten_thousand_includes_stand(rt: HostRuntime) -> Result<(), Fail> {
     let alloc = rt.alloc();
     let mut entry = PreprocessorCacheEntry::new(alloc);
-    for (key, count, number) in [
-        ("b", 6000, 6000),
-        ("a", 3990, 9990),
-        ("c", 10, 10000),
-        ("d", 1, 1),
-        ("a", 10000, 10000),
-        ("a", 20000, 20000),
-        ("b", 0, 0),
-        ("b", 5000, 5000),
-        ("a", 10, 5010),
-        ("b", 4990, 5000),
-        ("b", 4000, 4010),
-    ] {
+    for (key, count, number) in ADDED.iter() {
         assert_eq!(rt;
-            add(alloc, &mut entry, key, count)?,
-            number,
+            add(alloc, &mut entry, key, *count)?,
+            *number,
             "{key} {count}"
         );
     }

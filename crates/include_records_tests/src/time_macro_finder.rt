@@ -28,21 +28,24 @@ fn all_three_in_pieces_of_any_size(rt: HostRuntime) -> Result<(), Fail> {
     Ok(())
 }
 
+/// Texts, and whether `__DATE__`, `__TIME__` and `__TIMESTAMP__` are found in them.
+const TEXTS: [(&[u8], bool, bool, bool); 5] = [
+    (b"int x = __DATE__;", true, false, false),
+    (b"int x = __TIME__;", false, true, false),
+    (b"int x = __TIMESTAMP__;", false, false, true),
+    (b"int __TIME, _DATE__, __TIMESTAMP_ _;", false, false, false),
+    (b"", false, false, false),
+];
+
 #[test]
 fn each_is_told_apart(rt: HostRuntime) -> Result<(), Fail> {
-    for (text, date, time, timestamp) in [
-        (b"int x = __DATE__;".as_slice(), true, false, false),
-        (b"int x = __TIME__;", false, true, false),
-        (b"int x = __TIMESTAMP__;", false, false, true),
-        (b"int __TIME, _DATE__, __TIMESTAMP_ _;", false, false, false),
-        (b"", false, false, false),
-    ] {
+    for (text, date, time, timestamp) in TEXTS.iter() {
         for size in [1, 100] {
             let finder = shown(text, size);
-            assert_eq!(rt; finder.found_date(), date);
-            assert_eq!(rt; finder.found_time(), time);
-            assert_eq!(rt; finder.found_timestamp(), timestamp);
-            assert_eq!(rt; finder.found_time_macros(), date || time || timestamp);
+            assert_eq!(rt; finder.found_date(), *date);
+            assert_eq!(rt; finder.found_time(), *time);
+            assert_eq!(rt; finder.found_timestamp(), *timestamp);
+            assert_eq!(rt; finder.found_time_macros(), *date || *time || *timestamp);
         }
     }
     Ok(())

@@ -8,21 +8,23 @@ use response_files::fault::ParseFault;
 use std::test::Fail;
 use test_kit::watched_files::WatchedFiles;
 
+/// Texts that are refused.
+const REFUSED: [&[u8]; 10] = [
+    b"# 1 foo\n",
+    b"int x;\n# 1 \"a\\qb\"\n",
+    b"#line 1 \"a\\qb\"\n",
+    b"# 1 \"a",
+    b"# 1",
+    b"# 1\"a\"",
+    b"# 1 \"h\\303\\251.h\" 1\n",
+    b"__asm__(\".incbin \\\"x\\\"\");\n",
+    b"#pragma GCC pch_preprocess \"x.gch\"\n",
+    b"# 1 \"t.h\" 1\n",
+];
+
 #[test]
 fn refuses_what_it_cannot_tell(rt: HostRuntime) -> Result<(), Fail> {
-    let refused = [
-        b"# 1 foo\n".as_slice(),
-        b"int x;\n# 1 \"a\\qb\"\n".as_slice(),
-        b"#line 1 \"a\\qb\"\n".as_slice(),
-        b"# 1 \"a".as_slice(),
-        b"# 1".as_slice(),
-        b"# 1\"a\"".as_slice(),
-        b"# 1 \"h\\303\\251.h\" 1\n".as_slice(),
-        b"__asm__(\".incbin \\\"x\\\"\");\n".as_slice(),
-        b"#pragma GCC pch_preprocess \"x.gch\"\n".as_slice(),
-        b"# 1 \"t.h\" 1\n".as_slice(),
-    ];
-    for text in refused {
+    for text in REFUSED.iter() {
         let (lines, _) = told(rt.alloc(), text, b"a.c", b"")?;
         assert_eq!(rt;
             lines.as_slice(),
@@ -34,37 +36,41 @@ fn refuses_what_it_cannot_tell(rt: HostRuntime) -> Result<(), Fail> {
     Ok(())
 }
 
+/// Texts that name no file to be recorded.
+const PLAIN: [&[u8]; 10] = [
+    b"",
+    b"#line 7\n",
+    b"#line 7 foo\n",
+    b"#1 \"x.h\"\n",
+    b" # 1 \"x.h\"\n",
+    b"#\t1 \"x.h\"\n",
+    b"# line 1 \"x.h\"\n",
+    b"#pragma GCC diagnostic push\n#ident \"x.h\"\n# foo\n",
+    b"# 1 \"<built-in>\"\n",
+    b"# 1 \"\"\n# 1 \"gone.h\"\n# 1 \"/w//\"\n# 1 \"a.c\" 2\n",
+];
+
 #[test]
 fn passes_plain_lines_over(rt: HostRuntime) -> Result<(), Fail> {
-    let plain = [
-        b"".as_slice(),
-        b"#line 7\n".as_slice(),
-        b"#line 7 foo\n".as_slice(),
-        b"#1 \"x.h\"\n".as_slice(),
-        b" # 1 \"x.h\"\n".as_slice(),
-        b"#\t1 \"x.h\"\n".as_slice(),
-        b"# line 1 \"x.h\"\n".as_slice(),
-        b"#pragma GCC diagnostic push\n#ident \"x.h\"\n# foo\n".as_slice(),
-        b"# 1 \"<built-in>\"\n".as_slice(),
-        b"# 1 \"\"\n# 1 \"gone.h\"\n# 1 \"/w//\"\n# 1 \"a.c\" 2\n".as_slice(),
-    ];
-    for text in plain {
+    for text in PLAIN.iter() {
         let (lines, _) = told(rt.alloc(), text, b"a.c", b"/w/x.h\n/w/a.c")?;
         assert_eq!(rt; lines.as_slice(), b"".as_slice(), "{}", text.escape_ascii());
     }
     Ok(())
 }
 
+/// Texts whose markers name `x.h`.
+const MARKERS: [&[u8]; 5] = [
+    b"# 1 \"x.h\"",
+    b"# 1 \"x.h\" 1 3 4\r\n",
+    b"#  007   \"x.h\"\"y.h\n",
+    b"#line 1 \"x.h\"\r\n",
+    b"#line 2 \"x.h\" foo\nint x;\n#line 3 \"x.h\"",
+];
+
 #[test]
 fn reads_markers_with_anything_behind(rt: HostRuntime) -> Result<(), Fail> {
-    let markers = [
-        b"# 1 \"x.h\"".as_slice(),
-        b"# 1 \"x.h\" 1 3 4\r\n".as_slice(),
-        b"#  007   \"x.h\"\"y.h\n".as_slice(),
-        b"#line 1 \"x.h\"\r\n".as_slice(),
-        b"#line 2 \"x.h\" foo\nint x;\n#line 3 \"x.h\"".as_slice(),
-    ];
-    for text in markers {
+    for text in MARKERS.iter() {
         let (lines, calls) = told(rt.alloc(), text, b"a.c", b"/w/x.h")?;
         assert_eq!(rt;
             lines.as_slice(),

@@ -4,17 +4,20 @@ use os_files::os_bytes::OsBytes;
 use std::cmp::Ordering;
 use std::test::Fail;
 
+/// Bytes, and what is printed of them.
+const PRINTED: [(&[u8], &str); 4] = [
+    (b"a\xffb", "a\u{fffd}b"),
+    (b"\xc3\xa9\xc3", "é\u{fffd}"),
+    (b"\xff\xff", "\u{fffd}\u{fffd}"),
+    (b"", ""),
+];
+
 #[test]
 fn prints_what_is_no_text_by_a_sign(rt: HostRuntime) -> Result<(), Fail> {
     let alloc = rt.alloc();
-    for (bytes, want) in [
-        (b"a\xffb".as_slice(), "a\u{fffd}b"),
-        (b"\xc3\xa9\xc3".as_slice(), "é\u{fffd}"),
-        (b"\xff\xff".as_slice(), "\u{fffd}\u{fffd}"),
-        (b"".as_slice(), ""),
-    ] {
+    for (bytes, want) in PRINTED.iter() {
         let text = format!(in alloc; "{}", OsBytes::from_slice(alloc, bytes)?)?;
-        assert_eq!(rt; text.as_str(), want);
+        assert_eq!(rt; text.as_str(), *want);
     }
     Ok(())
 }
@@ -27,20 +30,23 @@ fn shows_what_is_not_printable_escaped(rt: HostRuntime) -> Result<(), Fail> {
     Ok(())
 }
 
+/// Two byte strings, and their order.
+const COMPARED: [(&[u8], &[u8], Ordering); 4] = [
+    (b"ab", b"ab", Ordering::Equal),
+    (b"", b"a", Ordering::Less),
+    (b"a\xff", b"b", Ordering::Less),
+    (b"b", b"ab", Ordering::Greater),
+];
+
 #[test]
 fn compares_by_bytes(rt: HostRuntime) -> Result<(), Fail> {
     let alloc = rt.alloc();
-    for (a, b, order) in [
-        (b"ab".as_slice(), b"ab".as_slice(), Ordering::Equal),
-        (b"".as_slice(), b"a".as_slice(), Ordering::Less),
-        (b"a\xff".as_slice(), b"b".as_slice(), Ordering::Less),
-        (b"b".as_slice(), b"ab".as_slice(), Ordering::Greater),
-    ] {
+    for (a, b, order) in COMPARED.iter() {
         let a = OsBytes::from_slice(alloc, a)?;
         let b = OsBytes::from_slice(alloc, b)?;
-        assert_eq!(rt; a.cmp(&b), order, "{a} and {b}");
-        assert_eq!(rt; a.partial_cmp(&b), Some(order), "{a} and {b}");
-        assert_eq!(rt; a == b, order == Ordering::Equal, "{a} and {b}");
+        assert_eq!(rt; a.cmp(&b), *order, "{a} and {b}");
+        assert_eq!(rt; a.partial_cmp(&b), Some(*order), "{a} and {b}");
+        assert_eq!(rt; a == b, *order == Ordering::Equal, "{a} and {b}");
     }
     Ok(())
 }

@@ -34,26 +34,29 @@ fn sources(alloc: Global, text: &str, dir: &str) -> Result<String, Fail> {
     }
 }
 
+/// Texts on dependencies, folders, and the sources that are read there.
+const READ: [(&str, &str, &str); 8] = [
+    (
+        ASKED,
+        "/w",
+        "[/w/src/lib.rs][/w/src/my mod/a b.txt][/w/src/plain.rs][/w/src/with space.rs]",
+    ),
+    (
+        "foo: baz.rs abc\\ def.rs",
+        "foo/",
+        "[foo/abc def.rs][foo/baz.rs]",
+    ),
+    ("foo: a/b.rs a-c.rs /x.rs", "", "[/x.rs][a/b.rs][a-c.rs]"),
+    ("foo: b: c", "", "[b:][c]"),
+    ("foo: ", "/w", ""),
+    ("", "/w", "no rule"),
+    ("a:b", "/w", "no rule"),
+    ("# env-dep:FOO", "/w", "no rule"),
+];
+
 #[test]
 fn sources_are_read(rt: HostRuntime) -> Result<(), Fail> {
-    for (text, dir, want) in [
-        (
-            ASKED,
-            "/w",
-            "[/w/src/lib.rs][/w/src/my mod/a b.txt][/w/src/plain.rs][/w/src/with space.rs]",
-        ),
-        (
-            "foo: baz.rs abc\\ def.rs",
-            "foo/",
-            "[foo/abc def.rs][foo/baz.rs]",
-        ),
-        ("foo: a/b.rs a-c.rs /x.rs", "", "[/x.rs][a/b.rs][a-c.rs]"),
-        ("foo: b: c", "", "[b:][c]"),
-        ("foo: ", "/w", ""),
-        ("", "/w", "no rule"),
-        ("a:b", "/w", "no rule"),
-        ("# env-dep:FOO", "/w", "no rule"),
-    ] {
+    for (text, dir, want) in READ.iter() {
         let list = sources(rt.alloc(), text, dir)?;
         is_that(list.as_str(), want, text)?;
     }
@@ -77,25 +80,28 @@ fn rewritten(alloc: Global, text: &str, targets: &[&str], extra: &str) -> Result
     }
 }
 
+/// Texts on dependencies, targets, paths that are added, and the texts for both.
+const REWRITTEN: [(&str, &str, &str, &str); 5] = [
+    (ASKED, "small", "", WRITTEN),
+    (
+        "/tmp/x/deps.d: src/lib.rs\n\nsrc/lib.rs:\n\n# env-dep:FOO=a: b\n",
+        "foo",
+        "/toolchains/my rust.tar.gz",
+        "out/foo.d: /toolchains/my\\ rust.tar.gz src/lib.rs\n\nout/libfoo.rlib: /toolchains/my\\ rust.tar.gz src/lib.rs\n\n/toolchains/my\\ rust.tar.gz:\nsrc/lib.rs:\n\n# env-dep:FOO=a: b\n",
+    ),
+    (
+        "/tmp/x/deps.d: a\\ b.rs\n\na\\ b.rs:\n",
+        "a dir/foo",
+        "",
+        "out/a dir/foo.d: a\\ b.rs\n\nout/liba dir/foo.rlib: a\\ b.rs\n\na\\ b.rs:\n",
+    ),
+    ("", "foo", "", "no rule"),
+    ("a:b\nc: d", "foo", "", "no rule"),
+];
+
 #[test]
 fn texts_are_rewritten(rt: HostRuntime) -> Result<(), Fail> {
-    for (text, target, extra, want) in [
-        (ASKED, "small", "", WRITTEN),
-        (
-            "/tmp/x/deps.d: src/lib.rs\n\nsrc/lib.rs:\n\n# env-dep:FOO=a: b\n",
-            "foo",
-            "/toolchains/my rust.tar.gz",
-            "out/foo.d: /toolchains/my\\ rust.tar.gz src/lib.rs\n\nout/libfoo.rlib: /toolchains/my\\ rust.tar.gz src/lib.rs\n\n/toolchains/my\\ rust.tar.gz:\nsrc/lib.rs:\n\n# env-dep:FOO=a: b\n",
-        ),
-        (
-            "/tmp/x/deps.d: a\\ b.rs\n\na\\ b.rs:\n",
-            "a dir/foo",
-            "",
-            "out/a dir/foo.d: a\\ b.rs\n\nout/liba dir/foo.rlib: a\\ b.rs\n\na\\ b.rs:\n",
-        ),
-        ("", "foo", "", "no rule"),
-        ("a:b\nc: d", "foo", "", "no rule"),
-    ] {
+    for (text, target, extra, want) in REWRITTEN.iter() {
         let alloc = rt.alloc();
         let own = format!(in alloc; "out/{target}.d")?;
         let library = format!(in alloc; "out/lib{target}.rlib")?;

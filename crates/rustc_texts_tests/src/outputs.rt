@@ -18,24 +18,27 @@ fn names_of(alloc: Global, emit: &str, text: &str) -> Result<String, AllocError>
     barred(alloc, names.as_slice())
 }
 
+/// Kinds of outputs, rustc's answer, and the names that are written.
+const NAMES: [(&str, &str, &str); 6] = [
+    (
+        "link metadata",
+        "foo.rlib\nfoo.a\n",
+        "|foo.rlib|foo.a|foo.rmeta",
+    ),
+    ("link", "foo.rlib\r\nfoo.a\nfoo.rlib\n", "|foo.rlib|foo.a"),
+    ("dep-info metadata", "foo\nfoo.rlib\n", "|foo.rmeta"),
+    (
+        "metadata",
+        "a.rmeta.rlib\na.rlib.rlib\n",
+        "|a.rmeta.rmeta|a.rmeta.rlib",
+    ),
+    ("metadata", "a.rlib.rlib\na.rmeta.rlib\n", "|a.rmeta.rmeta"),
+    ("link", "", ""),
+];
+
 #[test]
 fn names_are_told(rt: HostRuntime) -> Result<(), Fail> {
-    for (emit, text, want) in [
-        (
-            "link metadata",
-            "foo.rlib\nfoo.a\n",
-            "|foo.rlib|foo.a|foo.rmeta",
-        ),
-        ("link", "foo.rlib\r\nfoo.a\nfoo.rlib\n", "|foo.rlib|foo.a"),
-        ("dep-info metadata", "foo\nfoo.rlib\n", "|foo.rmeta"),
-        (
-            "metadata",
-            "a.rmeta.rlib\na.rlib.rlib\n",
-            "|a.rmeta.rmeta|a.rmeta.rlib",
-        ),
-        ("metadata", "a.rlib.rlib\na.rmeta.rlib\n", "|a.rmeta.rmeta"),
-        ("link", "", ""),
-    ] {
+    for (emit, text, want) in NAMES.iter() {
         let names = names_of(rt.alloc(), emit, text)?;
         is_that(names.as_str(), want, text)?;
     }

@@ -64,23 +64,25 @@ fn said(alloc: Global, before: &str, more: &str) -> Result<String, Fail> {
     }
 }
 
-/// Each row: words before and after the whole request, and what is said of it; words that ask for no file have an answer.
+/// Words before and after the whole request, and what is said of it; words that ask for no file have an answer.
+const SAID: [(&str, &str, &str); 12] = [
+    ("", "--target x", "cannot read /w/x.json"),
+    ("", "-L n -l static=s", "cannot read /w/n/libs.a"),
+    ("", "-l static=s -L native=/o", "cannot read /o/libs.a"),
+    ("@args ", "", "cannot read /w/args"),
+    ("", "@args", "cannot read /w/args"),
+    ("", "-o x @args", "cannot read /w/args"),
+    ("", "-g", "an answer"),
+    ("", "-L p -l bar", "an answer"),
+    ("", "--target x.json", "an answer"),
+    ("", "-L crate=n -l static=s", "an answer"),
+    ("", "-o x --target x", "an answer"),
+    ("", "-L n -l static=s bar.rs", "an answer"),
+];
+
 #[test]
 fn requests_by_a_device_that_fails(rt: HostRuntime) -> Result<(), Fail> {
-    for (before, more, want) in [
-        ("", "--target x", "cannot read /w/x.json"),
-        ("", "-L n -l static=s", "cannot read /w/n/libs.a"),
-        ("", "-l static=s -L native=/o", "cannot read /o/libs.a"),
-        ("@args ", "", "cannot read /w/args"),
-        ("", "@args", "cannot read /w/args"),
-        ("", "-o x @args", "cannot read /w/args"),
-        ("", "-g", "an answer"),
-        ("", "-L p -l bar", "an answer"),
-        ("", "--target x.json", "an answer"),
-        ("", "-L crate=n -l static=s", "an answer"),
-        ("", "-o x --target x", "an answer"),
-        ("", "-L n -l static=s bar.rs", "an answer"),
-    ] {
+    for (before, more, want) in SAID.iter() {
         is_that(said(rt.alloc(), before, more)?.as_str(), want, more)?;
     }
     Ok(())

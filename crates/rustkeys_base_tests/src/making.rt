@@ -84,18 +84,21 @@ fn toolchains_are_told_in_the_order_of_paths(rt: HostRuntime) -> Result<(), Fail
     is_that(text.as_str(), want.as_str(), "toolchain")
 }
 
+/// Versions, lines of libraries, and why no compiler is made of them.
+const REFUSED: [(&str, &str, &str); 4] = [
+    ("x", "", "the version tells no host"),
+    (
+        "a host: x\nhost:x",
+        "/s/none.so",
+        "the version tells no host",
+    ),
+    (VERSION, "/s/none.so /s/a/b.so", "cannot read /s/none.so"),
+    (VERSION, "/s/z.so /s/none.so", "cannot read /s/none.so"),
+];
+
 #[test]
 fn compilers_are_refused(rt: HostRuntime) -> Result<(), Fail> {
-    for (version, line, want) in [
-        ("x", "", "the version tells no host"),
-        (
-            "a host: x\nhost:x",
-            "/s/none.so",
-            "the version tells no host",
-        ),
-        (VERSION, "/s/none.so /s/a/b.so", "cannot read /s/none.so"),
-        (VERSION, "/s/z.so /s/none.so", "cannot read /s/none.so"),
-    ] {
+    for (version, line, want) in REFUSED.iter() {
         let text = told_of(rt.alloc(), version, line)?;
         is_that(text.as_str(), want, version)?;
     }

@@ -45,18 +45,21 @@ fn reads<T: FromArg + IntoArg>(alloc: Global, text: &str, want: &str) -> Result<
     )
 }
 
+/// Types of crates, and their text.
+const CRATE_TYPES: [(&str, &str); 8] = [
+    ("lib", "rlib"),
+    ("lib,rlib", "rlib"),
+    ("lib,staticlib", "rlib,staticlib"),
+    ("lib,staticlib,cdylib", "cdylib,rlib,staticlib"),
+    ("staticlib,proc-macro,bin", "bin,proc-macro,staticlib"),
+    ("bin,bin", "bin"),
+    ("lib,", ",rlib"),
+    ("sharedlib,lib", "rlib,sharedlib"),
+];
+
 #[test]
 fn crate_types_stand_in_order(rt: HostRuntime) -> Result<(), Fail> {
-    for (text, want) in [
-        ("lib", "rlib"),
-        ("lib,rlib", "rlib"),
-        ("lib,staticlib", "rlib,staticlib"),
-        ("lib,staticlib,cdylib", "cdylib,rlib,staticlib"),
-        ("staticlib,proc-macro,bin", "bin,proc-macro,staticlib"),
-        ("bin,bin", "bin"),
-        ("lib,", ",rlib"),
-        ("sharedlib,lib", "rlib,sharedlib"),
-    ] {
+    for (text, want) in CRATE_TYPES.iter() {
         reads::<ArgCrateTypes>(rt.alloc(), text, want)?;
     }
     Ok(())

@@ -168,16 +168,19 @@ fn request(alloc: Global) -> Result<ParsedArguments, Fail> {
     Ok(request)
 }
 
+/// Variables of a call, and their values.
+const VARIABLES: [(&str, &str); 5] = [
+    ("CARGO_PKG_NAME", "foo"),
+    ("FOO", "bar"),
+    ("CARGO_BLAH", "abc"),
+    ("CARGO_REGISTRIES_A_TOKEN", "i"),
+    ("CARGO_BUILD_JOBS", "i"),
+];
+
 /// The variables of its call, of which two count.
 fn variables(alloc: Global) -> Result<Vec<(OsBytes, OsBytes)>, AllocError> {
     let mut list = Vec::new(alloc);
-    for (name, value) in [
-        ("CARGO_PKG_NAME", "foo"),
-        ("FOO", "bar"),
-        ("CARGO_BLAH", "abc"),
-        ("CARGO_REGISTRIES_A_TOKEN", "i"),
-        ("CARGO_BUILD_JOBS", "i"),
-    ] {
+    for (name, value) in VARIABLES.iter() {
         let name = OsBytes::from_slice(alloc, name.as_bytes())?;
         list.push((name, OsBytes::from_slice(alloc, value.as_bytes())?))?;
     }

@@ -50,9 +50,9 @@ const MEMBERS: [&str; 12] = [
 
 #[test]
 fn directives_take_in_files(_rt: HostRuntime) -> Result<(), Fail> {
-    for text in DIRECTIVES {
+    for text in DIRECTIVES.iter() {
         if !takes_files(text.as_bytes()) {
-            return Err(text.into());
+            return Err(Fail::from(*text));
         }
     }
     Ok(())
@@ -60,9 +60,9 @@ fn directives_take_in_files(_rt: HostRuntime) -> Result<(), Fail> {
 
 #[test]
 fn members_and_paths_take_in_none(_rt: HostRuntime) -> Result<(), Fail> {
-    for text in MEMBERS {
+    for text in MEMBERS.iter() {
         if takes_files(text.as_bytes()) {
-            return Err(text.into());
+            return Err(Fail::from(*text));
         }
     }
     Ok(())
@@ -96,9 +96,9 @@ const SAME: [(&str, i64, &str); 6] = [
 
 #[test]
 fn a_time_of_the_call_is_told(_rt: HostRuntime) -> Result<(), Fail> {
-    for (text, moment, zone) in TOLD {
-        if !tells_time(text.as_bytes(), moment, zone) {
-            return Err(text.into());
+    for (text, moment, zone) in TOLD.iter() {
+        if !tells_time(text.as_bytes(), *moment, zone) {
+            return Err(Fail::from(*text));
         }
     }
     Ok(())
@@ -106,9 +106,9 @@ fn a_time_of_the_call_is_told(_rt: HostRuntime) -> Result<(), Fail> {
 
 #[test]
 fn other_times_are_the_texts_own(_rt: HostRuntime) -> Result<(), Fail> {
-    for (text, moment, zone) in SAME {
-        if tells_time(text.as_bytes(), moment, zone) {
-            return Err(text.into());
+    for (text, moment, zone) in SAME.iter() {
+        if tells_time(text.as_bytes(), *moment, zone) {
+            return Err(Fail::from(*text));
         }
     }
     Ok(())

@@ -97,41 +97,43 @@ fn told_in_order(
     Ok(told_over::<Sha256, _, _, _, _>(alloc, config, entries, objects, calls.as_mut_slice())?)
 }
 
+/// Whether include records are kept, whether the tool gives its text, the status of a compile, lines of calls, and what is told of them.
+const CALLS: [(bool, bool, i32, &[&str], &str); 4] = [
+    (
+        false,
+        true,
+        0,
+        &["-c y.i", "-c y.i", "-c m.c", "-c m.c", "-E y.i"],
+        "Fresh obj y.o # 1 \"/w/h.h\"\nA\n;Stored obj y.o # 1 \"/w/h.h\"\nA\n;Fresh obj m.o # 1 \"/w/h.h\"\nA\n;Stored obj m.o # 1 \"/w/h.h\"\nA\n;pass -E; 0 1, 0 0, 1 1, 1 0, 0 0, put 0 2",
+    ),
+    (
+        true,
+        true,
+        0,
+        &["-c m.c", "-c m.c"],
+        "Fresh obj m.o # 1 \"/w/h.h\"\nA\n;Direct obj m.o # 1 \"/w/h.h\"\nA\n; 1 1, 0 0, put 1 1",
+    ),
+    (
+        false,
+        true,
+        1,
+        &["-c m.c", "-c m.c"],
+        "fault compile 1;fault compile 1; 1 1, 1 1, put 0 0",
+    ),
+    (
+        false,
+        false,
+        0,
+        &["-c y.i"],
+        "fault missing obj; 0 1, put 0 0",
+    ),
+];
+
 #[test]
 fn calls_in_order(rt: HostRuntime) -> Result<(), Fail> {
     laws::<Sha256>();
-    let rows: [(bool, bool, i32, &[&str], &str); 4] = [
-        (
-            false,
-            true,
-            0,
-            &["-c y.i", "-c y.i", "-c m.c", "-c m.c", "-E y.i"],
-            "Fresh obj y.o # 1 \"/w/h.h\"\nA\n;Stored obj y.o # 1 \"/w/h.h\"\nA\n;Fresh obj m.o # 1 \"/w/h.h\"\nA\n;Stored obj m.o # 1 \"/w/h.h\"\nA\n;pass -E; 0 1, 0 0, 1 1, 1 0, 0 0, put 0 2",
-        ),
-        (
-            true,
-            true,
-            0,
-            &["-c m.c", "-c m.c"],
-            "Fresh obj m.o # 1 \"/w/h.h\"\nA\n;Direct obj m.o # 1 \"/w/h.h\"\nA\n; 1 1, 0 0, put 1 1",
-        ),
-        (
-            false,
-            true,
-            1,
-            &["-c m.c", "-c m.c"],
-            "fault compile 1;fault compile 1; 1 1, 1 1, put 0 0",
-        ),
-        (
-            false,
-            false,
-            0,
-            &["-c y.i"],
-            "fault missing obj; 0 1, put 0 0",
-        ),
-    ];
-    for (direct, gives, status, lines, expected) in rows {
-        let told = told_in_order(rt.alloc(), direct, gives, status, lines)?;
+    for (direct, gives, status, lines, expected) in CALLS.iter() {
+        let told = told_in_order(rt.alloc(), *direct, *gives, *status, lines)?;
         is_that(told.as_str(), expected, "in order")?;
     }
     Ok(())
