@@ -21,11 +21,19 @@ const MARK: &[u8] = b"\0token ";
 /// The words that a session, or what loads its files, looks for in contents.
 const WORDS: [&str; 5] = ["__TIME__", "__DATE__", "__TIMESTAMP__", "#embed", "# embed"];
 
+/// Parts of these words, of which each has one: where none of these parts occurs, as in most files, no word does.
+const PARTS: [&str; 3] = ["__TIME", "__DATE__", "embed"];
+
 /// How many tokens are kept beside a manifest.
 const MOST: usize = 20_000;
 
 /// How far the times of files may lag behind the clock where they have no parts of a second.
 const COARSE: i64 = 2;
+
+/// Whether the text is in these contents.
+fn has(contents: &[u8], text: &str) -> bool {
+    memmem::find(contents, text.as_bytes()).is_some()
+}
 
 /// The token of these contents. None where they look like one.
 pub fn token_of(alloc: Global, contents: &[u8]) -> Result<Option<OsBytes>, AllocError> {
@@ -37,8 +45,8 @@ pub fn token_of(alloc: Global, contents: &[u8]) -> Result<Option<OsBytes>, Alloc
     let mut token = Vec::with_capacity(alloc, 128)?;
     token.extend_from_slice(MARK)?;
     token.extend_from_slice(digest.finish(alloc)?.as_bytes())?;
-    for word in WORDS {
-        if memmem::find(contents, word.as_bytes()).is_some() {
+    if PARTS.iter().any(|part| has(contents, part)) {
+        for word in WORDS.iter().filter(|word| has(contents, word)) {
             token.push(b' ')?;
             token.extend_from_slice(word.as_bytes())?;
         }

@@ -62,9 +62,9 @@ fn falls_through(lines: &[u8]) -> bool {
         || memmem::find(lines, b"HR").is_some() && memmem::find(lines, b"ALL").is_some()
 }
 
-/// Whether a case or a label may begin in a line of a text, before which such a comment counts.
+/// Whether a case or a label may begin in a line of a text, given without the spaces ahead of it: before one such a comment counts.
 fn may_be_label(line: &[u8]) -> bool {
-    match behind_spaces(line) {
+    match line {
         [b'c', b'a', b's', b'e', ..] | [b'd', b'e', b'f', b'a', b'u', b'l', b't', ..] => true,
         line => memchr(b':', line).is_some(),
     }
@@ -150,13 +150,13 @@ impl Written {
         self.put(lines)
     }
 
-    /// Takes how a line was written that the text shows: with other spaces ahead of it, most often. Else how many bytes it begins with and
-    /// ends with as the text has it, and the rest.
-    fn note_line(&mut self, line: &[u8], shown: &[u8]) -> Result<(), AllocError> {
-        let written = behind_spaces(line);
-        if written == behind_spaces(shown) {
+    /// Takes how a line was written that the text shows, there with so many spaces ahead of it: with other ones, most often. Else how many
+    /// bytes it begins with and ends with as the text has it, and the rest.
+    fn note_line(&mut self, line: &[u8], shown: &[u8], spaces: usize) -> Result<(), AllocError> {
+        let own = spaces_ahead(line);
+        if behind(line, own) == behind(shown, spaces) {
             self.begin(b'i')?;
-            return self.put(up_to(line, line.len().saturating_sub(written.len())));
+            return self.put(up_to(line, own));
         }
         let ahead = alike_ahead(line, shown);
         let rest = behind(line, ahead);
@@ -270,15 +270,16 @@ impl<'s> Place<'s> {
         let Some(file) = self.file else {
             return Ok(());
         };
-        if spaces_ahead(line) == line.len() {
+        let spaces = spaces_ahead(line);
+        if spaces == line.len() {
             return Ok(());
         }
         if self.left < number {
-            self.pass(number, may_be_label(line), written)?;
+            self.pass(number, may_be_label(behind(line, spaces)), written)?;
         }
         let as_written = file.line(number);
         if as_written != line {
-            written.note_line(as_written, line)?;
+            written.note_line(as_written, line, spaces)?;
         }
         self.shown = Some(number);
         self.left = number.saturating_add(1);
