@@ -36,6 +36,9 @@ pub struct Directives<'a> {
     pub is_once: bool,
 }
 
+/// What the names of all probes begin with.
+const PROBES: &[u8] = b"__has_";
+
 /// By what a source asks whether a file is there.
 pub const PROBE: &[u8] = b"__has_include";
 
@@ -322,9 +325,12 @@ impl<'a> Directives<'a> {
 /// What a source asks for. None where that can't be determined.
 pub fn directives_of(alloc: Global, source: &[u8]) -> Result<Option<Directives<'_>>, AllocError> {
     let mut found = Directives::new(alloc);
-    if memmem::find(source, EMBED_PROBE).is_some()
-        || !found.take_directives(source)?
-        || !found.take_probes(source, PROBE)?
+    if !found.take_directives(source)? {
+        return Ok(None);
+    }
+    // Most sources have no probe at all.
+    if memmem::find(source, PROBES).is_some()
+        && (memmem::find(source, EMBED_PROBE).is_some() || !found.take_probes(source, PROBE)?)
     {
         return Ok(None);
     }

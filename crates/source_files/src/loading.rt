@@ -145,7 +145,12 @@ pub fn load<R: Files + AllocGlobal>(
 
 /// Whether the contents take in another file, which no marker names.
 fn embeds(contents: &OsBytes) -> bool {
-    EMBEDS.iter().any(|word| memmem::find(contents.as_bytes(), word.as_bytes()).is_some())
+    let contents = contents.as_bytes();
+    // Most files don't even have the part that both spellings share.
+    memmem::find(contents, b"embed").is_some()
+        && EMBEDS
+            .iter()
+            .any(|word| memmem::find(contents, word.as_bytes()).is_some())
 }
 
 /// Whether a file of that state and these contents, or their token, can be recorded as what a preprocessor read: it was changed before that
