@@ -293,6 +293,18 @@ remote_bazel() {
     stop_servers
 }
 
+# A server that closes each connection after one answer, and doesn't say so.
+remote_closing() {
+    local port
+    port=$(free_port)
+    serve python3 "$top/lib/remote/closing.py" "$port"
+    wait_for_port "$port"
+    # The stub listens for this machine alone.
+    local remote_networks=()
+    two_machines "closed connections" "6 0" "http://127.0.0.1:$port"
+    stop_servers
+}
+
 # ---- What attributes say.
 
 remote_attributes() {
@@ -615,6 +627,7 @@ remote() {
     remote_attributes
     remote_keys
     remote_bazel
+    remote_closing
     remote_helpers
     if command -v redis-server redis-cli >/dev/null; then remote_redis; remote_redis_faults; else echo "remote: redis-server isn't there: left out"; fi
     if command -v nginx >/dev/null; then remote_nginx; remote_nginx_faults; else echo "remote: nginx isn't there: left out"; fi

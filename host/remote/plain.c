@@ -11,7 +11,6 @@
 #include <stdlib.h>
 #include <string.h>
 #include <sys/socket.h>
-#include <unistd.h>
 
 #define LONGEST 8192    /* how long an address may be, and what is said to show a right */
 #define UNASKED (1 << 20)   /* how many bytes an answer may have beside what was asked for */
@@ -168,8 +167,10 @@ static enum came_to ask(const struct storage *storage, enum evhttp_cmd_type kind
     if (place_of(storage, name, place, sizeof place)) return FAILED;
     const char *path = strchr(place + strlen("http://"), '/');
     if (!path) return FAILED;
-    if (is_connected()) ask_once(storage, kind, path, sent, question);
-    else ask_each(storage, kind, path, sent, question);
+    int is_asked = is_connected();
+    if (is_asked) ask_once(storage, kind, path, sent, question);
+    /* A server may have closed a connection on which nothing was asked for a while: so it is asked once more, over another one. */
+    if (!is_asked || question->came_to == FAILED) ask_each(storage, kind, path, sent, question);
     if (question->came_to == FAILED || question->came_to == LATE) let_go();
     return question->came_to;
 }
