@@ -10,8 +10,9 @@ import sys
 
 sys.dont_write_bytecode = True
 
+from clauses import LAST_FLOOR, PATH as CLAUSES, clauses  # noqa: E402
 from documents import Document, names_in  # noqa: E402
-from pictures import PICTURES  # noqa: E402
+from pictures import PICTURES, floors  # noqa: E402
 from sources import Sources, read  # noqa: E402
 
 TOP = os.path.dirname(os.path.dirname(os.path.dirname(os.path.realpath(__file__))))
@@ -214,74 +215,41 @@ class Check:
     # ---- Crates and what they promise.
 
     def crates(self):
-        """crates.txt has all crates, each has a row in docs/LAYERS.md, and what it stands on there is what crates.txt says."""
-        layers = self.documents["docs/LAYERS.md"]
-        crates = self.sources.crates
+        """crates.txt has all crates, docs/CLAUSES.md each but those of tests, and the stations of docs/LAYERS.md are where it says."""
+        layers, crates = self.documents["docs/LAYERS.md"], self.sources.crates
         folders = {it.split("/")[1] for it in glob.glob("crates/*/src", root_dir=TOP)}
         for crate in sorted(set(crates) ^ folders):
             self.is_so(False, "crates.txt", f"is at variance with crates/: {crate}")
+        headings = set(self.documents[CLAUSES].headings())
+        for crate in [name for head, names in floors() if head != LAST_FLOOR for name in names]:
+            self.is_so(crate in headings, CLAUSES, f"lacks the crate {crate}")
         for _, span in layers.spans():
             if span.endswith("_tests") and span != "NAME_tests":
                 self.is_so(span in crates, layers.path, f"no such crate: {span}")
-        told = {name for _, head, cells in layers.rows() if head[:2] == ["crate", "stands on"] for name in names_in(cells[0])}
-        for crate in crates:
-            is_tests = crate.endswith("_tests") and crate.removesuffix("_tests") in crates
-            self.is_so(crate in told or is_tests, layers.path, f"lacks the crate {crate}")
         for line, head, cells in layers.rows():
-            if head[:2] == ["crate", "stands on"] and cells[0] != "`NAME_tests`":
-                for crate in names_in(cells[0]):
-                    self.stands_on(crate, cells[1], f"{layers.path}:{line}")
-            elif head[:2] == ["crate", "laws"]:
-                for law in names_in(cells[1]):
-                    self.is_so(self.sources.defines(names_in(cells[0])[0], law), f"{layers.path}:{line}", f"no such law: {law}")
-            elif head[1:3] == ["station", "crate"]:
+            if head[1:3] == ["station", "crate"]:
                 for part in re.findall(r"\w+", cells[1]):
                     is_there = any(self.sources.defines(crate, part) for crate in names_in(cells[2]))
                     self.is_so(is_there, f"{layers.path}:{line}", f"no such station in {cells[2]}: {part}")
 
-    def stands_on(self, crate, cell, place):
-        """What a crate stands on, as a cell of docs/LAYERS.md has it: crates, perhaps with what these stand on but for one."""
-        if crate not in self.sources.crates:
-            self.is_so(False, place, f"no such crate: {crate}")
-            return
-        said = set(names_in(re.sub(r" but `\w+`", "", cell))) - self.sources.libraries
-        for other in sorted(said):
-            self.is_so(other in self.sources.below(crate), place, f"{crate} doesn't stand on {other}")
-        reached = said.union(*(self.sources.below(other) for other in said)) if "what" in cell else said
-        lacking = self.sources.crates[crate] - reached
-        self.is_so(not lacking, place, f"{crate} stands on {' '.join(sorted(lacking))} too")
-        if "what" not in cell:
-            more = said - self.sources.crates[crate]
-            self.is_so(not more, place, f"{crate} uses no name of {' '.join(sorted(more))}")
+    def clauses(self):
+        """docs/CLAUSES.md is as it would be written now."""
+        self.is_so(self.documents[CLAUSES].text == clauses(), CLAUSES, "isn't what bin/clauses writes")
 
     def promises(self):
-        """In docs/PROVED.md each crate at the head of a table is one, and has what the table's first column names."""
-        proved = self.documents["docs/PROVED.md"]
-        crates = []
-        rows = {line: cells for line, head, cells in proved.rows() if head[0] == "function"}
-        for number, text in enumerate(proved.lines, 1):
-            head = re.match(r"\*\*(.*?)\*\*", text)
-            if head:
-                crates = names_in(head[1])
-                for crate in crates:
-                    self.is_so(crate in self.sources.crates, f"{proved.path}:{number}", f"no such crate: {crate}")
-            if number in rows:
-                self.promise(rows[number][0], crates, f"{proved.path}:{number}")
-
-    def promises_elsewhere(self):
-        """Names in backticks with a crate in brackets behind them are defined in that crate."""
+        """Names in backticks with a crate before them, as `wrap::serve`, or with its folder in brackets after them, are defined in that crate."""
         for path, document in self.documents.items():
+            for line, span in document.spans():
+                it = re.fullmatch(r"(\w+)((?:::\w+)+)", span)
+                if it and it[1] in self.sources.crates:
+                    self.promise(it[2], it[1], f"{path}:{line}")
             for line, it in document.found(r"((?:`[\w:]+`(?:, | and |,\n| and\n))*`[\w:]+`)\s+\(`crates/(\w+)`\)"):
-                self.promise(it[1], [it[2]], f"{path}:{line}")
+                self.promise(" ".join(re.findall(r"`([^`]*)`", it[1])), it[2], f"{path}:{line}")
 
-    def promise(self, cell, crates, place):
-        """The names of a cell are defined in these crates, or in the one that is named behind them."""
-        cell, _, other = cell.partition(" (of `")
-        if other:
-            crates = [other.partition("`")[0]]
-        for name in re.findall(r"[A-Za-z]\w*", " ".join(re.findall(r"`([^`]*)`", cell))):
-            is_there = any(self.sources.defines(crate, name) for crate in crates)
-            self.is_known(is_there, "promise", f"{' '.join(crates)}::{name}", place)
+    def promise(self, text, crate, place):
+        """The names of a text are defined in that crate."""
+        for name in re.findall(r"[A-Za-z]\w*", text):
+            self.is_so(self.sources.defines(crate, name), place, f"no such promise: {crate}::{name}")
 
     def trusted(self):
         """Each library that crates use stands among what is trusted, wherever that is listed, and each document names one kit."""
@@ -306,8 +274,8 @@ class Check:
 
     def run(self):
         """All checks. Gives whether any failed."""
-        for check in (self.paths, self.links, self.commands, self.names, self.variables, self.keys, self.options, self.crates, self.promises,
-                      self.promises_elsewhere, self.trusted, self.pictures):
+        for check in (self.paths, self.links, self.commands, self.names, self.variables, self.keys, self.options, self.crates, self.clauses, self.promises,
+                      self.trusted, self.pictures):
             check()
         for row in self.exceptions.patterns:
             self.is_so(row in self.exceptions.used, "lib/docs/exceptions", f"nothing needs: {' '.join(row)}")

@@ -52,15 +52,6 @@ class Sources:
         libraries = set().union(*used.values()) - set(used)
         return {name: names - libraries for name, names in used.items()}, libraries
 
-    def below(self, crate):
-        """All crates that a crate stands on, through others too."""
-        found, left = set(), [crate]
-        while left:
-            new = self.crates.get(left.pop(), set()) - found
-            found |= new
-            left += new
-        return found
-
     @functools.lru_cache(maxsize=None)
     def defined(self, crate):
         """The names that the sources of a crate define, implement, or hand on from another crate."""
