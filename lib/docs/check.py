@@ -274,8 +274,8 @@ class Check:
 
     def run(self):
         """All checks. Gives whether any failed."""
-        for check in (self.paths, self.links, self.commands, self.names, self.variables, self.keys, self.options, self.crates, self.clauses, self.promises,
-                      self.trusted, self.pictures):
+        for check in (self.paths, self.links, self.commands, self.names, self.variables, self.keys, self.options, self.crates, self.clauses,
+                      self.promises, self.trusted, self.pictures):
             check()
         for row in self.exceptions.patterns:
             self.is_so(row in self.exceptions.used, "lib/docs/exceptions", f"nothing needs: {' '.join(row)}")
