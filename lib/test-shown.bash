@@ -88,6 +88,12 @@ host_colours() {
             done
         done
     done
+    # GCC counts the escapes of colours where it breaks lines.
+    printf 'int main( { return 0; }\n' >wrong.c
+    for words in -fmessage-length=0 -fmessage-length=50; do
+        as_alone "$cc: header.c, $words" 2 "$cc" -Wall $words -c header.c -o it.o
+        as_alone "$cc: wrong.c, $words" 2 "$cc" $words -c wrong.c -o it.o
+    done
     mark
     "$host" "$cc" -Wall -c plain.c -o it.o 2>shown
     is "$cc: plain.c is kept" since 1 0

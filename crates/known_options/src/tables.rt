@@ -150,7 +150,7 @@ pub const VALUED: &str = " \
     -finstrument-functions-exclude-file-list=* -finstrument-functions-exclude-function-list=* -fira-algorithm=CB,priority \
     -fira-region=one,all,mixed -flifetime-dse=# -flive-patching=inline-only-static,inline-clone -flto-compression-level=# \
     -flto-partition=1to1,balanced,max,one,none -flto=auto,jobserver,full,thin,1,2,3,4,5,6,7,8,9,10,11,12,13,14,15,16,24,32,48,64 \
-    -flto-jobs=# -fmacro-prefix-map=* -fmax-errors=# -fmax-include-depth=# -fmessage-length=# -fopenacc-dim=* \
+    -flto-jobs=# -fmacro-prefix-map=* -fmax-errors=# -fmax-include-depth=# -fmessage-length=0 -fopenacc-dim=* \
     -fopenmp=libomp,libgomp,libiomp5 -fopenmp-version=# -fpack-struct=# -fpatchable-function-entry=# \
     -fpermitted-flt-eval-methods=c11,ts-18661 -fplugin=* -frandom-seed=* -freorder-blocks-algorithm=simple,stc \
     -fsanitize=address,undefined,thread,leak,hwaddress,kernel-address,kernel-hwaddress,pointer-compare,pointer-subtract,shadow-call-stack,shift,shift-exponent,shift-base,integer-divide-by-zero,unreachable,vla-bound,null,return,signed-integer-overflow,bounds,bounds-strict,alignment,object-size,float-divide-by-zero,float-cast-overflow,nonnull-attribute,returns-nonnull-attribute,bool,enum,vptr,pointer-overflow,builtin,memory,memtag,safe-stack,integer,implicit-conversion,implicit-integer-truncation,implicit-integer-arithmetic-value-change,implicit-signed-integer-truncation,implicit-unsigned-integer-truncation,implicit-integer-sign-change,unsigned-integer-overflow,unsigned-shift-base,nullability,nullability-arg,nullability-assign,nullability-return,local-bounds,array-bounds,function,fuzzer,fuzzer-no-link,all \

@@ -8,12 +8,12 @@ use memchr::memchr_iter;
 use std::alloc::{AllocError, Global};
 use std::collections::HashMap;
 
-/// A file and where its lines end.
+/// A file and where its lines begin.
 #[derive(Drop)]
 pub struct Source<'a> {
     contents: &'a [u8],
-    /// Where each line ends, ahead of its line end; nothing before it is cut into lines.
-    ends: Vec<usize>,
+    /// Where each line begins, and where one more would; nothing before it is cut into lines.
+    begins: Vec<usize>,
     /// Whether it has a directive that says of a line that it is another one, or of another file.
     pub renumbers: bool,
 }
@@ -23,20 +23,21 @@ impl<'a> Source<'a> {
     fn new(alloc: Global, contents: &'a [u8], renumbers: bool) -> Source<'a> {
         Source {
             contents,
-            ends: Vec::new(alloc),
+            begins: Vec::new(alloc),
             renumbers,
         }
     }
 
-    /// Notes where its lines end.
+    /// Notes where its lines begin.
     fn cut_into_lines(&mut self) -> Result<(), AllocError> {
+        self.begins.push(0)?;
         for end in memchr_iter(b'\n', self.contents) {
-            self.ends.push(end)?;
+            self.begins.push(end.saturating_add(1))?;
         }
         match self.contents.last() {
             None | Some(b'\n') => Ok(()),
             // The last line has no end of its own.
-            Some(_) => Ok(self.ends.push(self.contents.len())?),
+            Some(_) => Ok(self.begins.push(self.contents.len().saturating_add(1))?),
         }
     }
 
@@ -52,24 +53,17 @@ impl<'a> Source<'a> {
 
     /// The lines from that number up to another one, without the last one's end.
     pub fn lines(&self, from: usize, to: usize) -> &'a [u8] {
-        let (Some(first), Some(end)) = (self.begin(from), self.end_before(to)) else {
+        let (Some(begin), Some(next)) = (self.begin(from), self.begin(to)) else {
             return &[];
         };
-        self.contents.get(first..end).unwrap_or(&[])
+        self.contents
+            .get(begin..next.saturating_sub(1))
+            .unwrap_or(&[])
     }
 
-    /// Where the line before that number ends.
-    fn end_before(&self, number: usize) -> Option<usize> {
-        self.ends.get(number.checked_sub(2)?).copied()
-    }
-
-    /// Where the line of that number begins.
+    /// Where the line of that number begins, or would, as the one after the last.
     fn begin(&self, number: usize) -> Option<usize> {
-        match number {
-            0 => None,
-            1 => Some(0),
-            _ => Some(self.end_before(number)?.saturating_add(1)),
-        }
+        self.begins.get(number.checked_sub(1)?).copied()
     }
 }
 
@@ -111,7 +105,7 @@ impl<'a> Sources<'a> {
         Ok(sources)
     }
 
-    /// Notes where the lines of all files end.
+    /// Notes where the lines of all files begin.
     pub fn cut_into_lines(&mut self) -> Result<(), AllocError> {
         for source in self.files.values_mut() {
             source.cut_into_lines()?;

@@ -190,8 +190,8 @@ pub struct Place<'s> {
     number: usize,
     /// The first line that wasn't looked at.
     left: usize,
-    /// The line that was shown last, if one was since the file was named.
-    shown: Option<usize>,
+    /// The line that was shown last as it was written, if one was since the file was named.
+    shown: Option<&'s [u8]>,
 }
 
 impl<'s> Place<'s> {
@@ -220,7 +220,7 @@ impl<'s> Place<'s> {
         let lines = file.lines(left, to);
         let is_more = match self.shown {
             Some(shown) => {
-                goes_on(file.line(shown)) || matches!(behind_spaces(lines), [b'(', ..])
+                goes_on(shown) || matches!(behind_spaces(lines), [b'(', ..])
             }
             None => false,
         };
@@ -281,7 +281,7 @@ impl<'s> Place<'s> {
         if as_written != line {
             written.note_line(as_written, line, spaces)?;
         }
-        self.shown = Some(number);
+        self.shown = Some(as_written);
         self.left = number.saturating_add(1);
         Ok(())
     }
