@@ -17,7 +17,7 @@ use explained_misses::why::why;
 use host_protocol::command_line::CommandLine;
 use host_protocol::host::Host;
 use host_protocol::host_error::HostError;
-use known_calls::audits::Audit;
+use made_outputs::differences::Audit;
 use rustc_id::rustc::is_named_rustc;
 use rustc_kept::why::why_of_rustc;
 use settings::reading::read_settings;

@@ -5,7 +5,7 @@ use byte_formats::fields::put_framed;
 use cache_dir::file_digests::digest_of;
 use disk_files::found::State;
 use host_protocol::command_line::CommandLine;
-use known_calls::outputs::{lock_paths, made_since, states_of};
+use made_outputs::outputs::{lock_paths, made_since, states_of};
 use os_files::os_bytes::OsBytes;
 use source_files::mounts::devices_in;
 use source_files::tokens::Tokens;

@@ -4,6 +4,4 @@
 pub mod audits;
 pub mod kept;
 pub mod known;
-pub mod logging;
 mod manifests;
-pub mod outputs;

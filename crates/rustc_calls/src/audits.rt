@@ -5,7 +5,7 @@ use cache_dir::folder::Kind;
 use host_protocol::command_line::CommandLine;
 use host_protocol::fields::text_in;
 use host_protocol::host_error::HostError;
-use known_calls::audits::{
+use made_outputs::differences::{
     Audit, copies_of, difference_of_outputs, difference_of_texts, is_one_of, log_difference,
 };
 use os_files::os_bytes::OsBytes;

@@ -14,7 +14,7 @@ use host_protocol::fields::into_text;
 use host_protocol::host::Host;
 use host_protocol::host_error::HostError;
 use key_additions::additions::Additions;
-use known_calls::audits::Audit;
+use made_outputs::differences::Audit;
 use os_files::listed::Listed;
 use os_files::os_bytes::OsBytes;
 use replay::kept_session::{SessionAnswer, answered, session_over};

@@ -6,7 +6,7 @@ use cache_dir::making_room::make_room;
 use host_protocol::command_line::CommandLine;
 use host_protocol::fields::text_in;
 use host_protocol::host_error::HostError;
-use known_calls::outputs::lock_paths;
+use made_outputs::outputs::lock_paths;
 use os_files::listed::Listed;
 use os_files::os_bytes::OsBytes;
 use os_files::path::join;

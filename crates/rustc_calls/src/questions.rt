@@ -13,7 +13,7 @@ use host_protocol::command_line::CommandLine;
 use host_protocol::fields::{into_text, text_in};
 use host_protocol::host::Host;
 use host_protocol::host_error::HostError;
-use known_calls::outputs::{Locks, lock_paths, made_since, states_of};
+use made_outputs::outputs::{Locks, lock_paths, made_since, states_of};
 use memchr::memmem;
 use os_files::listed::Listed;
 use os_files::os_bytes::OsBytes;
