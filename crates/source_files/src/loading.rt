@@ -8,10 +8,11 @@ use host_protocol::fields::into_text;
 use host_protocol::host_error::HostError;
 use memchr::memmem;
 use os_files::file_time::FileTime;
-use os_files::files::Metadata;
+use os_files::files::{Files as CallFiles, Metadata};
 use os_files::os_bytes::OsBytes;
 use os_files::path::join;
 use snapshot_files::{LoadedFile, SnapshotFiles};
+use std::alloc::Global;
 use std::fs;
 use std::io::ErrorKind;
 use std::os::unix::fs::MetadataExt;
@@ -153,10 +154,24 @@ fn embeds(contents: &OsBytes) -> bool {
             .any(|word| memmem::find(contents, word.as_bytes()).is_some())
 }
 
-/// Whether a file of that state and these contents, or their token, can be recorded as what a preprocessor read: it was changed before that
-/// moment and takes in no other file.
-fn is_recorded(metadata: &Metadata, contents: &OsBytes, before: FileTime) -> bool {
-    is_before(metadata.mtime, before) && is_before(metadata.ctime, before) && !embeds(contents)
+/// Whether a file of that state was changed before that moment.
+fn is_settled(metadata: &Metadata, before: FileTime) -> bool {
+    is_before(metadata.mtime, before) && is_before(metadata.ctime, before)
+}
+
+/// Whether a file that was loaded before the preprocessor ran has that state and these contents still. They are what the preprocessor read then,
+/// though the file may be too young for its times alone to say so, as the source of a test that a configure script wrote just now.
+fn is_as_loaded(
+    alloc: Global,
+    path: &OsBytes,
+    metadata: &Metadata,
+    contents: &OsBytes,
+    files: &mut SnapshotFiles,
+) -> bool {
+    match (files.metadata(alloc, path), files.read(alloc, path)) {
+        (Ok(Some(before)), Ok(Some(loaded))) => before == *metadata && loaded == *contents,
+        (_, _) => false,
+    }
 }
 
 /// Until when a file must have been changed so that it's certain to have been the same since that moment.
@@ -206,7 +221,8 @@ fn token_for<R: Files + AllocGlobal>(
     }
 }
 
-/// Loads a regular file that a text names, by its token unless it was loaded as it is. False where it can't be recorded.
+/// Loads a regular file that a text names, by its token unless it was loaded as it is. False where it can't be recorded as what a preprocessor
+/// read: it takes in a file that no marker names, or may have been changed since.
 fn load_regular<R: Files + AllocGlobal>(
     rt: &R,
     path: &OsBytes,
@@ -216,11 +232,16 @@ fn load_regular<R: Files + AllocGlobal>(
     files: &mut SnapshotFiles,
     tokens: &mut Tokens,
 ) -> Result<bool, HostError> {
-    if !is_recorded(&metadata_of(found, found.len()), contents, before) {
+    if embeds(contents) {
         return Ok(false);
     }
+    let metadata = metadata_of(found, found.len());
+    let is_settled = is_settled(&metadata, before);
     if tokens.has_whole(path) {
-        return Ok(true);
+        return Ok(is_settled || is_as_loaded(rt.alloc(), path, &metadata, contents, files));
+    }
+    if !is_settled {
+        return Ok(false);
     }
     let token = token_for(rt, path, found, contents, before, tokens)?;
     take(path.clone()?, token, files)
