@@ -160,6 +160,45 @@ fn sorted(paths: Listed<OsBytes>) -> Listed<OsBytes>
     Listed::from_vec(paths)
 }
 
+/// The names of the file of dependencies, of the profile and of the file of coverage, where they are wanted.
+fn names_for(
+    alloc: Global,
+    facts: &Facts,
+    kinds: &[OsBytes],
+) -> Result<(Option<OsBytes>, Option<OsBytes>, Option<OsBytes>), AllocError>
+    requires { kinds.now ≡ emitted facts.now }
+    ensures dep_info { IfOk result (λ names. names.0 ≡ dep_info facts.now) }
+    ensures profile { IfOk result (λ names. names.1 ≡ profile facts.now) }
+    ensures gcno { IfOk result (λ names. names.2 ≡ gcno facts.now) }
+{
+    let links = has_kind(b"link", kinds);
+    let depends = has_kind(b"dep-info", kinds);
+    let dep_info = named_if(alloc, depends, facts, b".d")?;
+    let profile = profile(facts, links)?;
+    let gcno = named_if(alloc, facts.asks_gcno && links, facts, b".gcno")?;
+    Ok((dep_info, profile, gcno))
+}
+
+/// The static libraries that are there.
+fn libraries_for<F: Files>(
+    alloc: Global,
+    dir: &OsBytes,
+    facts: &Facts,
+    files: &mut F,
+) -> Result<Listed<OsBytes>, ParseFault>
+    ensures libraries { IfOk result
+        (λ found. found ≡ static_libraries dir.now (F.tree files.old) facts.now) }
+    ensures cause { IfErr result (CauseOf (FilesFail F.Files files.old files.new)) }
+    ensures names { IfErr result (CauseOf (Contains (library_places dir.now facts.now))) }
+    ensures tree { F.tree files.new ≡ F.tree files.old }
+    ensures steady { OnOk result (F.failed files.new ≡ F.failed files.old) }
+    ensures memory { IsErrOf result ParseFault.Memory → F.failed files.new ≡ F.failed files.old }
+{
+    let folders = joined(alloc, dir, facts.static_paths.as_slice())?;
+    let names = facts.static_libraries.as_slice();
+    libraries_in(alloc, folders.as_slice(), names, files)
+}
+
 /// What has to be made for a request.
 #[derive(Drop)]
 struct Made {
@@ -194,22 +233,53 @@ fn made_for<F: Files>(
     ensures steady { OnOk result (F.failed files.new ≡ F.failed files.old) }
     ensures memory { IsErrOf result ParseFault.Memory → F.failed files.new ≡ F.failed files.old }
 {
-    let links = has_kind(b"link", kinds.as_slice());
-    let depends = has_kind(b"dep-info", kinds.as_slice());
-    let dep_info = named_if(alloc, depends, facts, b".d")?;
-    let gcno = named_if(alloc, facts.asks_gcno && links, facts, b".gcno")?;
+    let staticlibs = libraries_for(alloc, dir, facts, files)?;
     let crate_link_paths = joined(alloc, dir, facts.crate_paths.as_slice())?;
-    let folders = joined(alloc, dir, facts.static_paths.as_slice())?;
-    let names = facts.static_libraries.as_slice();
-    let staticlibs = libraries_in(alloc, folders.as_slice(), names, files)?;
+    let (dep_info, profile, gcno) = names_for(alloc, facts, kinds.as_slice())?;
     Ok(Made {
         crate_link_paths,
         staticlibs,
         dep_info,
-        profile: profile(facts, links)?,
+        profile,
         gcno,
         emit: in_order(alloc, kinds)?,
     })
+}
+
+/// What has to be made for these arguments, or why nothing is asked for.
+fn made_or_refused<F: Files>(
+    alloc: Global,
+    dir: &OsBytes,
+    facts: &Facts,
+    files: &mut F,
+) -> Result<Result<Made, Refusal>, ParseFault>
+    ensures asks { IfOk result (λ found. IfOk found (λ made. closing facts.now ≡ asks)) }
+    ensures refused { IfOk result
+        (λ found. IfErr found (λ why. decision_of_refusal why ≡ closing facts.now)) }
+    ensures paths { IfOk result
+        (λ found. IfOk found
+        (λ made. made.crate_link_paths ≡ map (join dir.now) facts.now.crate_paths)) }
+    ensures libraries { IfOk result
+        (λ found. IfOk found
+        (λ made. made.staticlibs ≡ static_libraries dir.now (F.tree files.old) facts.now)) }
+    ensures dep_info { IfOk result
+        (λ found. IfOk found (λ made. made.dep_info ≡ dep_info facts.now)) }
+    ensures profile { IfOk result
+        (λ found. IfOk found (λ made. made.profile ≡ profile facts.now)) }
+    ensures gcno { IfOk result (λ found. IfOk found (λ made. made.gcno ≡ gcno facts.now)) }
+    ensures emit { IfOk result
+        (λ found. IfOk found (λ made. made.emit ≡ in_order (emitted facts.now))) }
+    ensures cause { IfErr result (CauseOf (FilesFail F.Files files.old files.new)) }
+    ensures names { IfErr result (CauseOf (Contains (library_places dir.now facts.now))) }
+    ensures tree { F.tree files.new ≡ F.tree files.old }
+    ensures steady { OnOk result (F.failed files.new ≡ F.failed files.old) }
+    ensures memory { IsErrOf result ParseFault.Memory → F.failed files.new ≡ F.failed files.old }
+{
+    let kinds = emitted(alloc, facts)?;
+    match refusal(alloc, facts, kinds.as_slice())? {
+        Some(why) => Ok(Err(why)),
+        None => Ok(Ok(made_for(alloc, dir, facts, kinds, files)?)),
+    }
 }
 
 /// What these arguments ask for, where they ask for something.
@@ -259,10 +329,15 @@ pub(crate) fn close<F: Files>(
     ensures steady { OnOk result (F.failed files.new ≡ F.failed files.old) }
     ensures memory { IsErrOf result ParseFault.Memory → F.failed files.new ≡ F.failed files.old }
 {
-    let kinds = emitted(alloc, &facts)?;
-    if let Some(why) = refusal(alloc, &facts, kinds.as_slice())? {
-        return Ok(why.into_answer());
+    match made_or_refused(alloc, dir, &facts, files) {
+        Ok(Ok(made)) => Ok(CompilerArguments::Ok(parsed(facts, made, arguments))),
+        Ok(Err(why)) => {
+            drop(facts);
+            Ok(why.into_answer())
+        }
+        Err(fault) => {
+            drop(facts);
+            Err(fault)
+        }
     }
-    let made = made_for(alloc, dir, &facts, kinds, files)?;
-    Ok(CompilerArguments::Ok(parsed(facts, made, arguments)))
 }

@@ -1,6 +1,6 @@
 //! What the arguments of a request say, noted one after another.
 
-ghost use Rattle.std.specs.Prelude.{◌≡◌, ◌∷◌, [], OnOk};
+ghost use Rattle.std.specs.Prelude.{◌≡◌, ◌∷◌, [], OnOk, Some};
 ghost use Rattle.std.specs.Option.{option_copied};
 ghost use Rattle.os_files.specs.Bytes.{Bytes};
 ghost use Rattle.rustc_options.specs.declared.data.ArgData.TheVariants.{CodeGen, LinkLibrary, LinkPath, Unstable};
@@ -64,6 +64,14 @@ fn holds_libraries(kind: &[u8]) -> bool
     kind == b"native".as_slice() || kind == b"all".as_slice()
 }
 
+/// Puts a word in a place, in the stead of what was there.
+fn put(place: &mut Option<OsBytes>, word: &OsBytes) -> Result<(), AllocError>
+    ensures { OnOk result (place.new ≡ Some word.now) }
+{
+    *place = Some(word.clone()?);
+    Ok(())
+}
+
 impl Facts {
     pub(crate) fn new(alloc: Global) -> Facts
         ensures { result ≡ no_facts }
@@ -95,7 +103,7 @@ impl Facts {
         match argument {
             Argument::Raw(word) => {
                 if self.input.is_none() {
-                    self.input = Some(word.clone()?);
+                    put(&mut self.input, word)?;
                 }
                 Ok(())
             }
@@ -112,13 +120,13 @@ impl Facts {
         match value {
             ArgData::Emit(kinds) => {
                 if self.emit.is_none() {
-                    self.emit = Some(kinds.clone()?);
+                    put(&mut self.emit, kinds)?;
                 }
             }
-            ArgData::Color(mode) => self.color = Some(mode.clone()?),
-            ArgData::CrateName(name) => self.crate_name = Some(name.clone()?),
-            ArgData::OutDir(path) => self.output_dir = Some(path.clone()?),
-            ArgData::Target(ArgTarget::Path(path)) => self.target_json = Some(path.clone()?),
+            ArgData::Color(mode) => put(&mut self.color, mode)?,
+            ArgData::CrateName(name) => put(&mut self.crate_name, name)?,
+            ArgData::OutDir(path) => put(&mut self.output_dir, path)?,
+            ArgData::Target(ArgTarget::Path(path)) => put(&mut self.target_json, path)?,
             ArgData::Json(_) => self.has_json = true,
             ArgData::CrateType(types) => {
                 self.rlib = self.rlib || types.rlib;
@@ -169,9 +177,9 @@ impl Facts {
         let name = option.opt.as_bytes();
         if let Some(value) = &option.value {
             if name == b"extra-filename".as_slice() {
-                self.extra_filename = Some(value.clone()?);
+                put(&mut self.extra_filename, value)?;
             } else if name == b"profile-use".as_slice() {
-                self.profile_use = Some(value.clone()?);
+                put(&mut self.profile_use, value)?;
             }
         }
         Ok(())

@@ -62,6 +62,7 @@ fn keep(
     ensures { OnOk result (arguments.new ≡ kept_with arguments.old argument) }
 {
     if let Some(ArgData::Color(_)) = argument.get_data() {
+        drop(argument);
         return Ok(());
     }
     arguments.push(argument.normalize(NormalizedDisposition::Separated))
@@ -119,9 +120,10 @@ fn take<F: Files>(
     ensures steady { OnOk result (F.failed files.new ≡ F.failed files.old) }
     ensures memory { IsErrOf result ParseFault.Memory → F.failed files.new ≡ F.failed files.old }
 {
-    let why = note(alloc, dir, facts, &argument, files)?;
-    if why.is_some() {
-        return Ok(why);
+    let why = note(alloc, dir, facts, &argument, files);
+    if !matches!(why, Ok(None)) {
+        drop(argument);
+        return why;
     }
     keep(kept, argument)?;
     Ok(None)
@@ -164,6 +166,30 @@ fn gather<F: Files>(
     Ok(None)
 }
 
+/// Gathers what the words say, cut by the table of rustc, as far as none decides by itself.
+fn gather_words<F: Files>(
+    alloc: Global,
+    words: &[OsBytes],
+    dir: &OsBytes,
+    facts: &mut Facts,
+    kept: &mut Listed<Argument<ArgData>>,
+    files: &mut F,
+) -> Result<Option<Refusal>, ParseFault>
+    requires facts { facts.old ≡ no_facts }
+    requires kept { kept.old ≡ [] }
+    ensures gathered { IfOk result
+        (Gathers dir.now (F.tree files.old) (rustc_reading words.now) facts.new kept.new) }
+    ensures cause { IfErr result (CauseOf (FilesFail F.Files files.old files.new)) }
+    ensures asked { IfErr result
+        (CauseOf (IsTargetFile dir.now (rustc_reading words.now).items)) }
+    ensures tree { F.tree files.new ≡ F.tree files.old }
+    ensures steady { OnOk result (F.failed files.new ≡ F.failed files.old) }
+    ensures memory { IsErrOf result ParseFault.Memory → F.failed files.new ≡ F.failed files.old }
+{
+    let tree = ByteTree::of_one(rustc_table(alloc)?);
+    gather(alloc, &tree, words, dir, facts, kept, files)
+}
+
 /// What words come to, with no response file opened.
 fn parse<F: Files>(
     alloc: Global,
@@ -183,13 +209,25 @@ fn parse<F: Files>(
     ensures steady { OnOk result (F.failed files.new ≡ F.failed files.old) }
     ensures memory { IsErrOf result ParseFault.Memory → F.failed files.new ≡ F.failed files.old }
 {
-    let tree = ByteTree::of_one(rustc_table(alloc)?);
-    let words = behind_rustc(words);
     let mut facts = Facts::new(alloc);
     let mut kept = Listed::new(alloc);
-    match gather(alloc, &tree, words, dir, &mut facts, &mut kept, files)? {
-        Some(why) => Ok(why.into_answer()),
-        None => close(alloc, dir, facts, kept, files),
+    match gather_words(
+        alloc,
+        behind_rustc(words),
+        dir,
+        &mut facts,
+        &mut kept,
+        files,
+    ) {
+        Ok(None) => close(alloc, dir, facts, kept, files),
+        Ok(Some(why)) => {
+            drop(facts);
+            Ok(why.into_answer())
+        }
+        Err(fault) => {
+            drop(facts);
+            Err(fault)
+        }
     }
 }
 
