@@ -68,28 +68,31 @@ impl RustCompilation {
     }
 }
 
-/// The compile of a request that writes these names.
-pub(crate) fn compilation(
+/// The command with which a request is compiled.
+fn command_for(alloc: Global, place: &RustPlace) -> Result<SingleCompileCommand, AllocError>
+    ensures { let words = compile_words (asks_in place.now.parsed.now) in
+        let env = compile_env_of place.now.env.now in
+        IfOk result (λ command. command
+        ≡ command_at place.now.executable.now words env place.now.dir.now) }
+{
+    let words = compile_words(alloc, place.parsed)?;
+    let env = compile_env_of(alloc, place.env)?;
+    command_at(alloc, place.executable, words, env.as_slice(), place.dir)
+}
+
+/// The command with which a request is compiled that writes these names, and what it writes.
+pub(crate) fn compile_of(
     alloc: Global,
     place: &RustPlace,
     names: &[OsBytes],
-    parts: Parts,
-) -> Result<RustCompilation, AllocError>
+) -> Result<(SingleCompileCommand, Listed<Output>), AllocError>
     ensures command { let words = compile_words (asks_in place.now.parsed.now) in
         let env = compile_env_of place.now.env.now in
-        IfOk result (λ made. made.command
+        IfOk result (λ made. made.0
         ≡ command_at place.now.executable.now words env place.now.dir.now) }
     ensures outputs { IfOk result
-        (λ made. made.outputs ≡ outputs_with (asks_in place.now.parsed.now) names.now) }
-    ensures parts { IfOk result (λ made. made.parts ≡ parts) }
+        (λ made. made.1 ≡ outputs_with (asks_in place.now.parsed.now) names.now) }
 {
     let outputs = outputs(alloc, place.parsed, names)?;
-    let words = compile_words(alloc, place.parsed)?;
-    let env = compile_env_of(alloc, place.env)?;
-    let command = command_at(alloc, place.executable, words, env.as_slice(), place.dir)?;
-    Ok(RustCompilation {
-        command,
-        outputs,
-        parts,
-    })
+    Ok((command_for(alloc, place)?, outputs))
 }

@@ -9,32 +9,71 @@ ghost use Rattle.cmdlines_requests.specs.Small.{command_at};
 ghost use Rattle.rustc_parts.specs.Material.{material_of};
 ghost use Rattle.rustc_parts.specs.Shapes.{shape_of};
 ghost use Rattle.rustc_texts.specs.Outputs.{output_names, outputs_of};
-ghost use Rattle.rustc_texts.specs.Words.{compile_words};
+ghost use Rattle.rustc_texts.specs.Words.{compile_words, kept_words};
 ghost use Rattle.rustc_options.specs.Asks.{asks_in};
 ghost use Rattle.rustkeys.specs.Calls.{record_with};
 ghost use Rattle.rustkeys.specs.Collected.{IsCollected};
 ghost use Rattle.rustkeys.specs.Fresh.{dep_info_by};
 ghost use Rattle.rustkeys.specs.Hashers.{call_at, known_in};
-ghost use Rattle.rustkeys.specs.Questions.{Answers, compile_env_of};
+ghost use Rattle.rustkeys.specs.Questions.{Answers, compile_env_of, counted_in, env_deps_in};
 ghost use Rattle.rustkeys.specs.Records.{digest_text, parts_of};
 
-use crate::collecting::{Collected, Sources};
-use crate::compilation::{RustCompilation, compilation, copied};
+use crate::collecting::Collected;
+use crate::compilation::{RustCompilation, compile_of, copied};
 use crate::place::{KnownRust, RustPlace};
 use crate::sorting::{counted_in, env_deps_in};
 use ckeys_base::digest::Digest;
 use ckeys_base::hash_state::HashState;
+use cmdlines_base::command::SingleCompileCommand;
 use os_files::listed::Listed;
 use os_files::os_bytes::OsBytes;
 use rustc_options::parsed::ParsedArguments;
-use rustc_parts::parts::{Parts, RShape};
+use rustc_parts::parts::{EnvDep, Parts, RShape};
 use rustc_parts::writing::key_bytes;
 use rustc_texts::fault::TextFault;
 use rustc_texts::output_names::output_names;
-use rustc_texts::outputs::targets;
+use rustc_texts::outputs::{Output, targets};
 use rustc_texts::rewriting::dep_info_with_targets;
 use rustc_texts::words::kept_words;
 use std::alloc::{AllocError, Global};
+
+/// The pieces of a key that are no digests of a request's files.
+#[derive(Drop)]
+struct Told {
+    toolchain: Listed<OsBytes>,
+    version: OsBytes,
+    words: Listed<OsBytes>,
+    dir: OsBytes,
+    env_deps: Listed<EnvDep>,
+    variables: Listed<(OsBytes, OsBytes)>,
+}
+
+/// What is told of a request with that text on dependencies.
+fn told_of(
+    alloc: Global,
+    known: &KnownRust,
+    place: &RustPlace,
+    text: &str,
+) -> Result<Told, AllocError>
+    ensures { IfOk result
+        (λ told. told ≡ record {
+          toolchain = known.now.toolchain.now;
+          version = known.now.version.now;
+          words = kept_words (asks_in place.now.parsed.now);
+          dir = place.now.dir.now;
+          env_deps = env_deps_in text.now;
+          variables = counted_in place.now.env.now;
+        }) }
+{
+    Ok(Told {
+        toolchain: copied(alloc, known.toolchain)?,
+        version: known.version.clone()?,
+        words: kept_words(alloc, place.parsed)?,
+        dir: place.dir.clone()?,
+        env_deps: env_deps_in(alloc, text)?,
+        variables: counted_in(alloc, place.env)?,
+    })
+}
 
 /// The pieces of the key: those of the record of the call for which all this was collected.
 fn parts_by(
@@ -48,20 +87,20 @@ fn parts_by(
         IsCollected digest_of c.question answers found →
         IfOk result (λ parts. parts ≡ parts_of digest_of (record_with c answers)) }
 {
+    let told = told_of(alloc, known, place, found.sources.text.as_str())?;
     let Collected { sources, files, .. } = found;
-    let Sources { text, digests } = sources;
     Ok(Parts {
-        toolchain: copied(alloc, known.toolchain)?,
-        version: known.version.clone()?,
-        words: kept_words(alloc, place.parsed)?,
-        sources: digests,
+        toolchain: told.toolchain,
+        version: told.version,
+        words: told.words,
+        sources: sources.digests,
         externs: files.externs,
         archives: files.archives,
         target: files.target,
         profile: files.profile,
-        env_deps: env_deps_in(alloc, text.as_str())?,
-        variables: counted_in(alloc, place.env)?,
-        dir: place.dir.clone()?,
+        env_deps: told.env_deps,
+        variables: told.variables,
+        dir: told.dir,
     })
 }
 
@@ -121,6 +160,59 @@ fn dep_info_for(
     }
 }
 
+/// The compile of a request, its outputs and its own text on dependencies, by what rustc reported as text: what the crate depends on,
+/// and the names of what is written.
+fn written(
+    alloc: Global,
+    known: &KnownRust,
+    place: &RustPlace,
+    text: &str,
+    names: &str,
+) -> Result<(SingleCompileCommand, Listed<Output>, Option<OsBytes>), AllocError>
+    ensures command { let words = compile_words (asks_in place.now.parsed.now) in
+        let env = compile_env_of place.now.env.now in
+        IfOk result (λ made. made.0
+        ≡ command_at place.now.executable.now words env place.now.dir.now) }
+    ensures outputs { IfOk result
+        (λ made. made.1 ≡ outputs_of (asks_in place.now.parsed.now) names.now) }
+    ensures dep_info { let asks = asks_in place.now.parsed.now in
+        IfOk result (λ made. made.2
+        ≡ dep_info_by asks (known_in known.now).archive text.now
+        (output_names asks.emit names.now)) }
+{
+    let names = output_names(alloc, place.parsed.emit.as_slice(), names)?;
+    let names = names.as_slice();
+    let (command, outputs) = compile_of(alloc, place, names)?;
+    let dep_info = dep_info_for(alloc, place.parsed, known.archive, text, names)?;
+    Ok((command, outputs, dep_info))
+}
+
+/// The pieces, the key and its shape.
+fn keyed<H: HashState>(
+    alloc: Global,
+    known: &KnownRust,
+    place: &RustPlace,
+    found: Collected,
+) -> Result<(Parts, String, RShape), AllocError>
+    ensures parts { (files : Tree) (moment : ℤ) (answers : Answers)
+        → let c = call_at known.now place.now files moment in
+        IsCollected H.digest_of c.question answers found →
+        IfOk result (λ made. made.0 ≡ parts_of H.digest_of (record_with c answers)) }
+    ensures key { IfOk result
+        (λ made. string_bytes made.1 ≡ digest_text H.digest_of (material_of made.0)) }
+    ensures shape { IfOk result (λ made. made.2 ≡ shape_of made.0) }
+    ensures fits { IfOk result (λ made. FitsFrame (material_of made.0)) }
+{
+    let parts = parts_by(alloc, known, place, found)?;
+    match key_of_parts::<H>(alloc, &parts) {
+        Ok((key, shape)) => Ok((parts, key, shape)),
+        Err(error) => {
+            drop(parts);
+            Err(error)
+        }
+    }
+}
+
 /// All of it.
 pub(crate) fn finish<H: HashState>(
     alloc: Global,
@@ -148,12 +240,13 @@ pub(crate) fn finish<H: HashState>(
         ≡ dep_info_by asks (known_in known.now).archive (string_bytes found.sources.text)
         (output_names asks.emit (string_bytes found.names))) }
 {
-    let names = output_names(alloc, place.parsed.emit.as_slice(), found.names.as_str())?;
-    let names = names.as_slice();
     let text = found.sources.text.as_str();
-    let dep_info = dep_info_for(alloc, place.parsed, known.archive, text, names)?;
-    let parts = parts_by(alloc, known, place, found)?;
-    let (key, shape) = key_of_parts::<H>(alloc, &parts)?;
-    let made = compilation(alloc, place, names, parts)?;
+    let (command, outputs, dep_info) = written(alloc, known, place, text, found.names.as_str())?;
+    let (parts, key, shape) = keyed::<H>(alloc, known, place, found)?;
+    let made = RustCompilation {
+        command,
+        outputs,
+        parts,
+    };
     Ok((made, key, shape, dep_info))
 }
