@@ -88,10 +88,17 @@ fn after_hazards(alloc: Global, parsed: ParsedArguments) -> Result<RustVerdict, 
 {
     // A law, which costs nothing: what follows from it is said above.
     commands_open_nothing();
-    if opens_words(alloc, &parsed)? {
-        return Ok(RustVerdict::Passes(Reason::OpensFile));
+    match opens_words(alloc, &parsed) {
+        Ok(false) => Ok(RustVerdict::Asks(parsed)),
+        Ok(true) => {
+            drop(parsed);
+            Ok(RustVerdict::Passes(Reason::OpensFile))
+        }
+        Err(error) => {
+            drop(parsed);
+            Err(error)
+        }
     }
-    Ok(RustVerdict::Asks(parsed))
 }
 
 /// The verdict on a request to this rustc, with the response files that it names opened. What isn't UTF-8 is found before any file

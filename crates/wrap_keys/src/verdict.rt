@@ -1,16 +1,19 @@
 //! The verdict on a request's words to a C compiler: it is passed through, or there is a plan of what is run for it.
 
-ghost use Rattle.std.specs.Prelude.{◌≡◌, is_some, true, List, IfOk, IfErr, OnOk};
+ghost use Rattle.std.specs.Prelude.{◌≡◌, ◌||◌, if◌then◌else◌, is_some, true, List, None, Some, IfOk, IfErr, OnOk};
 ghost use Rattle.os_files.specs.Bytes.{Bytes};
 ghost use Rattle.os_files.specs.Views.{FilesFail};
-ghost use Rattle.cmdlines.specs.Commands.{object_path};
+ghost use Rattle.cmdlines.specs.Commands.{object_path, preprocess_words};
+ghost use Rattle.cmdlines.specs.Hazards.{opens_file};
 ghost use Rattle.cmdlines.specs.Parsing as parsing;
-ghost use Rattle.wrap_base.specs.Commands.{by_c, found_of, kind_of, words_at};
+ghost use Rattle.cmdlines.specs.ReadBack.{ReadsAsCompile, ReadsAsPreprocess};
+ghost use Rattle.wrap_base.specs.Commands.{by_c, compile_command_of, found_of, kind_of, words_at};
 ghost use Rattle.wrap_keys.specs.Answers.{EarlyCause};
 ghost use Rattle.wrap_keys.specs.Early.{IsAskedEarly};
-ghost use Rattle.wrap_keys.specs.Verdicts.{with_hazards, verdict_of};
+ghost use Rattle.wrap_keys.specs.Verdicts.{asks, hashed_words, passes, verdict_of, why_of, with_hazards};
 ghost use Rattle.wrap_keys.specs.Plans.{judgement_of, IsPlanOf, IsReadAgain, IsReadAgainUnlessGiven, IsReadAgainWhereSafe, OnAsks};
 ghost use Rattle.ckeys_records.specs.Causes.{HasOwnFault};
+ghost use Rattle.ckeys_records.specs.Records.{hold_end};
 
 use ckeys::compiler_impl::CCompilerImpl;
 use ckeys_records::fault::Fault;
@@ -20,7 +23,9 @@ use cmdlines::hazards::{empty_value, opens_file};
 use cmdlines_base::command::SingleCompileCommand;
 use cmdlines_base::compiler_arguments::CompilerArguments;
 use cmdlines_requests::parsed::ParsedArguments;
+use cmdlines_tables::compiler::CCompilerKind;
 use os_files::files::Files;
+use os_files::os_bytes::OsBytes;
 use response_files::fault::ParseFault;
 use std::alloc::{AllocError, Global};
 use wrap_base::compiler::AnyC;
@@ -39,6 +44,89 @@ pub struct Plan {
 pub enum Verdict {
     Passes(Reason),
     Asks(Plan),
+}
+
+/// The compile command of a request that asks for this.
+fn compile_command(
+    alloc: Global,
+    compiler: AnyC<'_>,
+    request: &Request,
+    parsed: &ParsedArguments,
+) -> Result<SingleCompileCommand, AllocError>
+    requires object { is_some (object_path parsed.now) ≡ true }
+    ensures command { IfOk result
+        (λ compile. compile ≡ compile_command_of (found_of compiler.entry) request.now parsed.now) }
+    ensures again { IfOk result
+        (λ compile. ReadsAsCompile (kind_of compiler.entry) parsed.now compile.arguments) }
+{
+    let executable = compiler.executable();
+    let env = request.env.as_slice();
+    match compiler.generate_compile_commands(alloc, executable, parsed, &request.dir, env) {
+        Ok((compile, _)) => Ok(compile),
+        Err(CommandError::Memory) => Err(AllocError),
+        Err(CommandError::NoObjOutput) => unreachable!(),
+    }
+}
+
+/// Why a request with these commands is passed through, where it is: a word of a command would open a response file, or a hashed
+/// word holds the byte that ends one.
+fn reason_by(
+    kind: CCompilerKind,
+    parsed: &ParsedArguments,
+    compile: &[OsBytes],
+    preprocess: &[OsBytes],
+) -> Option<Reason>
+    ensures { result
+        ≡ (if opens_file kind compile.now || opens_file kind preprocess.now then Some Reason.OpensFile
+        else if hold_end (hashed_words parsed.now) then Some Reason.Byte255
+        else None) }
+{
+    if opens_file(compile, kind) || opens_file(preprocess, kind) {
+        return Some(Reason::OpensFile);
+    }
+    if hold_word_end(parsed.common_args.as_slice()) || hold_word_end(parsed.arch_args.as_slice()) {
+        return Some(Reason::Byte255);
+    }
+    None
+}
+
+/// The compile command of a request that asks for this, or why it is passed through.
+fn compile_or_reason(
+    alloc: Global,
+    compiler: AnyC<'_>,
+    request: &Request,
+    parsed: &ParsedArguments,
+) -> Result<Result<SingleCompileCommand, Reason>, AllocError>
+    requires object { is_some (object_path parsed.now) ≡ true }
+    ensures asks { IfOk result
+        (λ found. OnOk found
+        (with_hazards (kind_of compiler.entry) (parsing.asks parsed.now) ≡ asks parsed.now)) }
+    ensures passes { IfOk result
+        (λ found. IfErr found
+        (λ reason. with_hazards (kind_of compiler.entry) (parsing.asks parsed.now)
+        ≡ passes (why_of reason))) }
+    ensures plan { IfOk result
+        (λ found. IfOk found
+        (λ compile. IsPlanOf (found_of compiler.entry) request.now
+        (record { parsed = parsed.now; compile = compile }))) }
+    ensures again { IfOk result
+        (λ found. IfOk found
+        (λ compile. ReadsAsCompile (kind_of compiler.entry) parsed.now compile.arguments)) }
+    ensures preprocess { IfOk result
+        (λ found. OnOk found
+        (ReadsAsPreprocess (kind_of compiler.entry) parsed.now
+        (preprocess_words (kind_of compiler.entry) parsed.now))) }
+{
+    if empty_value(parsed) {
+        return Ok(Err(Reason::EmptyValue));
+    }
+    let preprocess = compiler.preprocess_words(alloc, parsed)?;
+    let compile = compile_command(alloc, compiler, request, parsed)?;
+    let words = compile.arguments.as_slice();
+    match reason_by(compiler.kind(), parsed, words, preprocess.as_slice()) {
+        None => Ok(Ok(compile)),
+        Some(reason) => Ok(Err(reason)),
+    }
 }
 
 /// The verdict on a request that asks for this: an option whose value may be joined or separate has an empty one, or a word
@@ -63,31 +151,17 @@ fn after_hazards(
         → parsing.parse_of (kind_of compiler.entry) words ≡ parsing.asks parsed
         → IfOk result (λ verdict. OnAsks verdict (IsReadAgainWhereSafe (found_of compiler.entry) words)) }
 {
-    if empty_value(&parsed) {
-        return Ok(Verdict::Passes(Reason::EmptyValue));
+    match compile_or_reason(alloc, compiler, request, &parsed) {
+        Ok(Ok(compile)) => Ok(Verdict::Asks(Plan { parsed, compile })),
+        Ok(Err(reason)) => {
+            drop(parsed);
+            Ok(Verdict::Passes(reason))
+        }
+        Err(error) => {
+            drop(parsed);
+            Err(error)
+        }
     }
-    let kind = compiler.kind();
-    let preprocess = compiler.preprocess_words(alloc, &parsed)?;
-    let executable = compiler.executable();
-    let env = request.env.as_slice();
-    let compile = match compiler.generate_compile_commands(
-        alloc,
-        executable,
-        &parsed,
-        &request.dir,
-        env,
-    ) {
-        Ok((compile, _)) => compile,
-        Err(CommandError::Memory) => return Err(AllocError),
-        Err(CommandError::NoObjOutput) => unreachable!(),
-    };
-    if opens_file(compile.arguments.as_slice(), kind) || opens_file(preprocess.as_slice(), kind) {
-        return Ok(Verdict::Passes(Reason::OpensFile));
-    }
-    if hold_word_end(parsed.common_args.as_slice()) || hold_word_end(parsed.arch_args.as_slice()) {
-        return Ok(Verdict::Passes(Reason::Byte255));
-    }
-    Ok(Verdict::Asks(Plan { parsed, compile }))
 }
 
 /// The verdict on a request to this C compiler, with the response files that it names opened.
