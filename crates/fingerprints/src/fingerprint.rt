@@ -1,27 +1,31 @@
 //! The fingerprint of a request: of what its key is made, with no store asked and nothing compiled.
 
-ghost use Rattle.std.specs.Prelude.{◌≡◌, false, true, IfOk, IfErr, OnOk};
+ghost use Rattle.std.specs.Prelude.{◌≡◌, false, true, filter, IfOk, IfErr, OnOk};
 ghost use Rattle.os_files.specs.Bytes.{ticked};
 ghost use Rattle.os_files.specs.Views.{FilesFail};
 ghost use Rattle.ckeys.specs.Calls.{needs_preprocessing};
 ghost use Rattle.ckeys.specs.EntryTurns.{RunsUntilKey};
 ghost use Rattle.ckeys_records.specs.Causes.{HasOwnFault};
 ghost use Rattle.ckeys_records.specs.Faults.{KeyCause};
+ghost use Rattle.ckeys_records.specs.Meaning.{names_of};
+ghost use Rattle.ckeys_records.specs.Params.{is_cached, stripped_words};
 ghost use Rattle.ckeys_records.specs.Records.{hold_end};
 ghost use Rattle.ckeys_records.specs.Views.{AreSteady, ToolFails};
 ghost use Rattle.rustc_options.specs.Asks.{asks_in};
 ghost use Rattle.rustkeys.specs.Runs.{AtMostTwice};
-ghost use Rattle.wrap_base.specs.Commands.{by_c, found_of};
+ghost use Rattle.wrap_base.specs.Commands.{by_c, digest_of, found_of, traits_of};
 ghost use Rattle.wrap_keys.specs.Account.{account_at, account_named, call_at, rust_account_by, rust_call_at, rust_work_at, work_at};
 ghost use Rattle.wrap_keys.specs.Asking.{RunsOf, StopsEarly};
 ghost use Rattle.wrap_keys.specs.RustVerdicts.{rust_verdict_of};
 ghost use Rattle.wrap_keys.specs.Verdicts.{hashed_words};
 ghost use Rattle.fingerprints.specs.Fingerprints.{IsFingerprintOf};
+ghost use Rattle.fingerprints.specs.declared.fingerprint.Fingerprint.TheVariants.{Rustc};
 ghost use Rattle.fingerprints.specs.Telling.{OnReason, Tells};
 
 use crate::c_parts::CParts;
 use crate::pieces::{assembler_of, cached_variables, stripped};
 use ckeys::compiler_impl::CCompilerImpl;
+use ckeys::contents::KeyContents;
 use ckeys_base::hash_state::HashState;
 use ckeys_records::config::KeyConfig;
 use ckeys_records::fault::Fault;
@@ -34,8 +38,9 @@ use os_files::os_bytes::OsBytes;
 use rustc_compiler::rust::Rust;
 use rustc_options::parsed::ParsedArguments as RustArguments;
 use rustc_parts::parts::Parts;
+use rustkeys::compilation::RustCompilation;
 use rustkeys::hasher::RustHasher;
-use std::alloc::Global;
+use std::alloc::{AllocError, Global};
 use wrap_base::compiler::{AnyC, Named};
 use wrap_base::reason::Reason;
 use wrap_base::request::Request;
@@ -50,6 +55,51 @@ pub enum Fingerprint {
     C(CParts),
     /// The pieces that are hashed, and the names of the outputs with their marks.
     Rustc(Parts, Listed<OutputName>),
+}
+
+/// The parts of a request to this C compiler that asks for this, of what its key is made of.
+fn c_parts(
+    alloc: Global,
+    config: &KeyConfig,
+    compiler: AnyC<'_>,
+    request: &Request,
+    parsed: &ParsedArguments,
+    made: KeyContents,
+) -> Result<CParts, AllocError>
+    ensures { IfOk result
+        (λ parts. parts ≡ record {
+          compiler = digest_of compiler.entry;
+          plusplus = (traits_of compiler.entry).plusplus;
+          language = parsed.now.language;
+          words = stripped_words config.now.basedirs (hashed_words parsed.now);
+          variables = filter is_cached request.now.env;
+          extra_hashes = made.extra_hashes;
+          assembler = (traits_of compiler.entry).assembler_digest;
+          text = made.text;
+          names = names_of parsed.now.outputs;
+        }) }
+{
+    let digest = compiler.executable_digest().as_bytes();
+    let common = parsed.common_args.as_slice();
+    let arch = parsed.arch_args.as_slice();
+    let folders = config.basedirs();
+    let outputs = parsed.outputs.as_slice();
+    let executable = OsBytes::from_slice(alloc, digest)?;
+    let words = stripped(alloc, common, arch, folders)?;
+    let assembler = assembler_of(alloc, compiler)?;
+    let names = names_of(alloc, outputs)?;
+    let variables = cached_variables(alloc, request.env.as_slice())?;
+    Ok(CParts {
+        compiler: executable,
+        plusplus: compiler.plusplus(),
+        language: parsed.language,
+        words,
+        variables,
+        extra_hashes: made.extra_hashes,
+        assembler,
+        text: made.text,
+        names,
+    })
 }
 
 /// The fingerprint of a request to this C compiler that asks for this.
@@ -93,28 +143,21 @@ fn c_fingerprint<H: HashState, F: Files, T: Tool>(
     let place = place_of(request, config);
     let hasher = compiler.hasher(parsed);
     let made = hasher.key_contents::<H, F, T>(alloc, &place, files, tool)?;
-    let digest = compiler.executable_digest().as_bytes();
-    let common = parsed.common_args.as_slice();
-    let arch = parsed.arch_args.as_slice();
-    let folders = config.basedirs();
-    let env = request.env.as_slice();
-    let outputs = parsed.outputs.as_slice();
-    let executable = OsBytes::from_slice(alloc, digest)?;
-    let words = stripped(alloc, common, arch, folders)?;
-    let variables = cached_variables(alloc, env)?;
-    let assembler = assembler_of(alloc, compiler)?;
-    let names = names_of(alloc, outputs)?;
-    Ok(Fingerprint::C(CParts {
-        compiler: executable,
-        plusplus: compiler.plusplus(),
-        language: parsed.language,
-        words,
-        variables,
-        extra_hashes: made.extra_hashes,
-        assembler,
-        text: made.text,
-        names,
-    }))
+    Ok(Fingerprint::C(c_parts(alloc, config, compiler, request, parsed, made)?))
+}
+
+/// The fingerprint of a request to rustc whose key is that of this compile.
+fn by_compilation(alloc: Global, compilation: RustCompilation) -> Result<Fingerprint, AllocError>
+    ensures { IfOk result
+        (λ made. made ≡ Rustc compilation.parts (names_of compilation.outputs)) }
+{
+    match names_of(alloc, compilation.outputs()) {
+        Ok(names) => Ok(Fingerprint::Rustc(compilation.parts, names)),
+        Err(error) => {
+            drop(compilation);
+            Err(error)
+        }
+    }
 }
 
 /// The fingerprint of a request to this rustc that asks for this.
@@ -160,8 +203,7 @@ fn rust_fingerprint<H: HashState, F: Files, T: Tool>(
         files,
         tool,
     )?;
-    let names = names_of(alloc, compilation.outputs())?;
-    Ok(Fingerprint::Rustc(compilation.parts, names))
+    Ok(by_compilation(alloc, compilation)?)
 }
 
 /// What a request to this C compiler comes to: why it is passed through, or its fingerprint.
@@ -197,8 +239,9 @@ fn of_c<H: HashState, F: Files, T: Tool>(
             let parsed = &plan.parsed;
             let made = c_fingerprint::<H, F, T>(
                 alloc, config, compiler, request, parsed, files, tool,
-            )?;
-            Ok(Ok(made))
+            );
+            drop(plan);
+            Ok(Ok(made?))
         }
     }
 }
@@ -232,8 +275,9 @@ fn of_rustc<H: HashState, F: Files, T: Tool>(
     match judge_rust(alloc, rust, request, files)? {
         RustVerdict::Passes(reason) => Ok(Err(reason)),
         RustVerdict::Asks(parsed) => {
-            let made = rust_fingerprint::<H, F, T>(alloc, rust, request, &parsed, files, tool)?;
-            Ok(Ok(made))
+            let made = rust_fingerprint::<H, F, T>(alloc, rust, request, &parsed, files, tool);
+            drop(parsed);
+            Ok(Ok(made?))
         }
     }
 }

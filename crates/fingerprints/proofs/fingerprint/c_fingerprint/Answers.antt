@@ -8,7 +8,7 @@ use Rattle.ckeys.specs.Hashers.{call_by}
 use Rattle.ckeys_records.specs.Meaning.{FailsIn, Variables, names_of}
 use Rattle.ckeys_records.specs.Params.{is_cached, stripped_words}
 use Rattle.ckeys_records.specs.Records.{FitsLength}
-use Rattle.wrap_base.specs.Commands.{found_of, kind_of, traits_of}
+use Rattle.wrap_base.specs.Commands.{digest_of as digest_in, found_of, kind_of, traits_of}
 use Rattle.wrap_keys.specs.Account.{call_at}
 use Rattle.wrap_keys.specs.Verdicts.{hashed_words}
 use Rattle.wrap_keys.proofs.KeyLemmas.{call_is, on_exit}
@@ -39,24 +39,22 @@ returns-clause-is g c =
     let own : KeyCall = call_at (found_of c.args.compiler) c.args.request.now tree c.args.config.now c.args.parsed.now in
     let call : call_by kind_of traits_of c.hasher-hasher.result c.place_of-place.result tree ≡ own = call_is c.args.compiler c.args.request.now tree c.args.config.now c.args.parsed.now c.hasher-hasher.result c.place_of-place.result h.compiler h.executable h.digest h.parsed p.dir p.env p.moment p.config in
     let made = c.in_ok-made.ensures in
-    let executable = c.in_ok-executable.ensures ∙ c.as_bytes-digest.ensures.value ∙ c.executable_digest.ensures in
-    let words = c.in_ok-words.ensures ∙ (λ i. stripped_words (c.basedirs-folders.ensures i) (c.as_slice-common.ensures i ++ c.as_slice-arch.ensures i)) in
-    let variables = c.in_ok-variables.ensures ∙ ap (filter is_cached) c.as_slice-env.ensures in
+    let parsed = c.args.parsed.now in
+    let traits = traits_of c.args.compiler in
     let extra = made.extra ∙ ap (extra_digests digest_of) call in
     let text = made.text ∙ ap (λ (k : KeyCall). (record_of meaning k).text) call in
-    let names = c.in_ok-names.ensures ∙ ap names_of c.as_slice-outputs.ensures in
     record {
-      is = λ i. C (record {
-        compiler = executable i;
-        plusplus = c.plusplus.ensures i;
-        language = c.args.parsed.now.language;
-        words = words i;
-        variables = variables i;
+      is = ap C (c.in_ok-c_parts.ensures ∙ (λ i. record {
+        compiler = digest_in c.args.compiler;
+        plusplus = traits.plusplus;
+        language = parsed.language;
+        words = stripped_words c.args.config.now.basedirs (hashed_words parsed);
+        variables = filter is_cached c.args.request.now.env;
         extra_hashes = extra i;
-        assembler = c.in_ok-assembler.ensures i;
+        assembler = traits.assembler_digest;
         text = text i;
-        names = names i;
-      });
+        names = names_of parsed.outputs;
+      }));
       fine = subst (λ (k : KeyCall). key_fault_of meaning k ≡ None) call made.fine;
       told = record { words = c.stripped_words_lack_the_end.ensures c.args.config.now.basedirs (hashed_words c.args.parsed.now) c.requires.told; variables = subst (λ (env : Variables). AllByRecursion FitsLength (filter is_cached env)) p.env made.fit };
     }
@@ -70,44 +68,8 @@ returns-in_err-made-clause-early g c =
     let call : call_by kind_of traits_of c.hasher-hasher.result c.place_of-place.result tree ≡ own = call_is c.args.compiler c.args.request.now tree c.args.config.now c.args.parsed.now c.hasher-hasher.result c.place_of-place.result h.compiler h.executable h.digest h.parsed p.dir p.env p.moment p.config in
     subst (λ (k : KeyCall). (early_fault_of k ≡ None → ⊥) → g.T.Preprocessor.preprocessed c.key_contents.new.tool ≡ g.T.Preprocessor.preprocessed c.args.tool.now) call c.key_contents.ensures.early
 
-pub returns-in_err-executable-clause-early : goal.returns-in_err-executable-clause-early
-returns-in_err-executable-clause-early g c =
-    let tree = g.F.Files.tree c.args.files.now in
-    let h = c.hasher-hasher.ensures in
-    let p = c.place_of-place.ensures in
-    let own : KeyCall = call_at (found_of c.args.compiler) c.args.request.now tree c.args.config.now c.args.parsed.now in
-    let call : call_by kind_of traits_of c.hasher-hasher.result c.place_of-place.result tree ≡ own = call_is c.args.compiler c.args.request.now tree c.args.config.now c.args.parsed.now c.hasher-hasher.result c.place_of-place.result h.compiler h.executable h.digest h.parsed p.dir p.env p.moment p.config in
-    subst (λ (k : KeyCall). (early_fault_of k ≡ None → ⊥) → g.T.Preprocessor.preprocessed c.key_contents.new.tool ≡ g.T.Preprocessor.preprocessed c.args.tool.now) call c.key_contents.ensures.early
-
-pub returns-in_err-words-clause-early : goal.returns-in_err-words-clause-early
-returns-in_err-words-clause-early g c =
-    let tree = g.F.Files.tree c.args.files.now in
-    let h = c.hasher-hasher.ensures in
-    let p = c.place_of-place.ensures in
-    let own : KeyCall = call_at (found_of c.args.compiler) c.args.request.now tree c.args.config.now c.args.parsed.now in
-    let call : call_by kind_of traits_of c.hasher-hasher.result c.place_of-place.result tree ≡ own = call_is c.args.compiler c.args.request.now tree c.args.config.now c.args.parsed.now c.hasher-hasher.result c.place_of-place.result h.compiler h.executable h.digest h.parsed p.dir p.env p.moment p.config in
-    subst (λ (k : KeyCall). (early_fault_of k ≡ None → ⊥) → g.T.Preprocessor.preprocessed c.key_contents.new.tool ≡ g.T.Preprocessor.preprocessed c.args.tool.now) call c.key_contents.ensures.early
-
-pub returns-in_err-variables-clause-early : goal.returns-in_err-variables-clause-early
-returns-in_err-variables-clause-early g c =
-    let tree = g.F.Files.tree c.args.files.now in
-    let h = c.hasher-hasher.ensures in
-    let p = c.place_of-place.ensures in
-    let own : KeyCall = call_at (found_of c.args.compiler) c.args.request.now tree c.args.config.now c.args.parsed.now in
-    let call : call_by kind_of traits_of c.hasher-hasher.result c.place_of-place.result tree ≡ own = call_is c.args.compiler c.args.request.now tree c.args.config.now c.args.parsed.now c.hasher-hasher.result c.place_of-place.result h.compiler h.executable h.digest h.parsed p.dir p.env p.moment p.config in
-    subst (λ (k : KeyCall). (early_fault_of k ≡ None → ⊥) → g.T.Preprocessor.preprocessed c.key_contents.new.tool ≡ g.T.Preprocessor.preprocessed c.args.tool.now) call c.key_contents.ensures.early
-
-pub returns-in_err-assembler-clause-early : goal.returns-in_err-assembler-clause-early
-returns-in_err-assembler-clause-early g c =
-    let tree = g.F.Files.tree c.args.files.now in
-    let h = c.hasher-hasher.ensures in
-    let p = c.place_of-place.ensures in
-    let own : KeyCall = call_at (found_of c.args.compiler) c.args.request.now tree c.args.config.now c.args.parsed.now in
-    let call : call_by kind_of traits_of c.hasher-hasher.result c.place_of-place.result tree ≡ own = call_is c.args.compiler c.args.request.now tree c.args.config.now c.args.parsed.now c.hasher-hasher.result c.place_of-place.result h.compiler h.executable h.digest h.parsed p.dir p.env p.moment p.config in
-    subst (λ (k : KeyCall). (early_fault_of k ≡ None → ⊥) → g.T.Preprocessor.preprocessed c.key_contents.new.tool ≡ g.T.Preprocessor.preprocessed c.args.tool.now) call c.key_contents.ensures.early
-
-pub returns-in_err-names-clause-early : goal.returns-in_err-names-clause-early
-returns-in_err-names-clause-early g c =
+pub returns-in_err-c_parts-clause-early : goal.returns-in_err-c_parts-clause-early
+returns-in_err-c_parts-clause-early g c =
     let tree = g.F.Files.tree c.args.files.now in
     let h = c.hasher-hasher.ensures in
     let p = c.place_of-place.ensures in

@@ -26,11 +26,11 @@ returns-in_err-made-in-Asks-clause-tells g c =
     let request = c.args.request.now in
     let settings = c.args.config.now in
     let parsed = c.in-Asks.plan.parsed in
-    let on_old = FailsOn tree g.F.Files.failed g.F.Files.fails_on c.args.files.now c.c_fingerprint.new.files in
-    let on_mid = FailsOn tree g.F.Files.failed g.F.Files.fails_on c.judge.new.files c.c_fingerprint.new.files in
-    let device = FailsIn meaning g.T.Preprocessor.failed g.T.Preprocessor.fails_in c.args.tool.now c.c_fingerprint.new.tool in
+    let on_old = FailsOn tree g.F.Files.failed g.F.Files.fails_on c.args.files.now c.c_fingerprint-made.new.files in
+    let on_mid = FailsOn tree g.F.Files.failed g.F.Files.fails_on c.judge.new.files c.c_fingerprint-made.new.files in
+    let device = FailsIn meaning g.T.Preprocessor.failed g.T.Preprocessor.fails_in c.args.tool.now c.c_fingerprint-made.new.tool in
     let work_on : Tree → Work = λ files. work_at (meaning c.args.tool.now) (call_at found request files settings parsed) in
-    let before : (name : Bytes) → on_mid name → on_old name = fails_on_later tree g.F.Files.failed g.F.Files.fails_on c.args.files.now c.judge.new.files c.c_fingerprint.new.files c.in_ok-reason.ensures.tree c.in_ok-reason.ensures.steady in
+    let before : (name : Bytes) → on_mid name → on_old name = fails_on_later tree g.F.Files.failed g.F.Files.fails_on c.args.files.now c.judge.new.files c.c_fingerprint-made.new.files c.in_ok-reason.ensures.tree c.in_ok-reason.ensures.steady in
     let decided : asks parsed ≡ verdict_of found.kind (words_at found request (tree c.args.files.now)) = rw c.in-Asks.is at c.in_ok-reason.ensures.verdict in
     let account : Judgement → Account = account_by (meaning c.args.tool.now) (tree c.args.files.now) settings found request in
     let fault = c.in_err-made-in-Asks.field-0.0 in
@@ -53,11 +53,11 @@ returns-in_err-made-in-Asks-clause-runs g c =
     let decided : asks parsed ≡ verdict_of found.kind (words_at found request (tree c.args.files.now)) = rw c.in-Asks.is at c.in_ok-reason.ensures.verdict in
     let account : Judgement → Account = account_by (g.T.Preprocessor.meaning c.args.tool.now) (tree c.args.files.now) c.args.config.now found request in
     let before = g.T.Preprocessor.preprocessed c.args.tool.now in
-    let after = g.T.Preprocessor.preprocessed c.c_fingerprint.new.tool in
+    let after = g.T.Preprocessor.preprocessed c.c_fingerprint-made.new.tool in
     let told = c.from_residual-in_err-made-in-Asks.result in
     let work_on : Tree → Work = λ files. work_at (g.T.Preprocessor.meaning c.args.tool.now) (call_at found request files c.args.config.now parsed) in
-    let early = subst (λ (t : Tree). StopsEarly (work_on t) before after) c.in_ok-reason.ensures.tree c.c_fingerprint.ensures.early in
-    subst (λ (d : Judgement). RunsOf (account d) false told before after) decided (until_told parsed.language before after c.in_err-made-in-Asks.field-0.0 c.c_fingerprint.ensures.idle c.in_err-made-in-Asks.ensures.until told c.from_residual-in_err-made-in-Asks.ensures.1, early)
+    let early = subst (λ (t : Tree). StopsEarly (work_on t) before after) c.in_ok-reason.ensures.tree c.c_fingerprint-made.ensures.early in
+    subst (λ (d : Judgement). RunsOf (account d) false told before after) decided (until_told parsed.language before after c.in_err-made-in-Asks.field-0.0 c.c_fingerprint-made.ensures.idle c.in_err-made-in-Asks.ensures.until told c.from_residual-in_err-made-in-Asks.ensures.1, early)
 
 pub returns-in_ok-made-in-Asks-clause-runs : goal.returns-in_ok-made-in-Asks-clause-runs
 returns-in_ok-made-in-Asks-clause-runs g c =
@@ -66,7 +66,7 @@ returns-in_ok-made-in-Asks-clause-runs g c =
     let request = c.args.request.now in
     let decided : asks c.in-Asks.plan.parsed ≡ verdict_of found.kind (words_at found request (tree c.args.files.now)) = rw c.in-Asks.is at c.in_ok-reason.ensures.verdict in
     let account : Judgement → Account = account_by (g.T.Preprocessor.meaning c.args.tool.now) (tree c.args.files.now) c.args.config.now found request in
-    let told : Told = Ok (Ok c.in_ok-made-in-Asks.made) in
+    let told : Told = Ok (Ok c.in_ok-made-in-Asks.field-0) in
     let work_on : Tree → Work = λ files. work_at (g.T.Preprocessor.meaning c.args.tool.now) (call_at found request files c.args.config.now c.in-Asks.plan.parsed) in
-    let early = subst (λ (t : Tree). StopsEarly (work_on t) (g.T.Preprocessor.preprocessed c.args.tool.now) (g.T.Preprocessor.preprocessed c.c_fingerprint.new.tool)) c.in_ok-reason.ensures.tree c.c_fingerprint.ensures.early in
-    subst (λ (d : Judgement). RunsOf (account d) false told (g.T.Preprocessor.preprocessed c.args.tool.now) (g.T.Preprocessor.preprocessed c.c_fingerprint.new.tool)) decided ((c.c_fingerprint.ensures.idle, c.in_ok-made-in-Asks.ensures.runs), early)
+    let early = subst (λ (t : Tree). StopsEarly (work_on t) (g.T.Preprocessor.preprocessed c.args.tool.now) (g.T.Preprocessor.preprocessed c.c_fingerprint-made.new.tool)) c.in_ok-reason.ensures.tree c.c_fingerprint-made.ensures.early in
+    subst (λ (d : Judgement). RunsOf (account d) false told (g.T.Preprocessor.preprocessed c.args.tool.now) (g.T.Preprocessor.preprocessed c.c_fingerprint-made.new.tool)) decided ((c.c_fingerprint-made.ensures.idle, c.in_ok-made-in-Asks.ensures.runs), early)

@@ -24,11 +24,11 @@ returns-in_err-made-in-Asks-clause-tells g c =
     let meaning = g.T.Preprocessor.meaning in
     let request = c.args.request.now in
     let asked = asks_in c.in-Asks.parsed in
-    let on_old = FailsOn tree g.F.Files.failed g.F.Files.fails_on c.args.files.now c.rust_fingerprint.new.files in
-    let on_mid = FailsOn tree g.F.Files.failed g.F.Files.fails_on c.judge_rust.new.files c.rust_fingerprint.new.files in
-    let device = FailsIn meaning g.T.Preprocessor.failed g.T.Preprocessor.fails_in c.args.tool.now c.rust_fingerprint.new.tool in
+    let on_old = FailsOn tree g.F.Files.failed g.F.Files.fails_on c.args.files.now c.rust_fingerprint-made.new.files in
+    let on_mid = FailsOn tree g.F.Files.failed g.F.Files.fails_on c.judge_rust.new.files c.rust_fingerprint-made.new.files in
+    let device = FailsIn meaning g.T.Preprocessor.failed g.T.Preprocessor.fails_in c.args.tool.now c.rust_fingerprint-made.new.tool in
     let work_on : Tree → Work = λ files. rust_work_at (meaning c.args.tool.now) (rust_call_at c.args.rust.now request files asked) in
-    let before : (name : Bytes) → on_mid name → on_old name = fails_on_later tree g.F.Files.failed g.F.Files.fails_on c.args.files.now c.judge_rust.new.files c.rust_fingerprint.new.files c.in_ok-reason.ensures.tree c.in_ok-reason.ensures.steady in
+    let before : (name : Bytes) → on_mid name → on_old name = fails_on_later tree g.F.Files.failed g.F.Files.fails_on c.args.files.now c.judge_rust.new.files c.rust_fingerprint-made.new.files c.in_ok-reason.ensures.tree c.in_ok-reason.ensures.steady in
     let decided : asks asked ≡ rust_verdict_of request (tree c.args.files.now) = rw c.in-Asks.is at c.in_ok-reason.ensures.verdict in
     let account : RustJudgement → Account = rust_account_by (meaning c.args.tool.now) (tree c.args.files.now) c.args.rust.now request in
     let fault = c.in_err-made-in-Asks.field-0.0 in
@@ -49,11 +49,11 @@ returns-in_err-made-in-Asks-clause-runs g c =
     let decided : asks (asks_in c.in-Asks.parsed) ≡ rust_verdict_of request (tree c.args.files.now) = rw c.in-Asks.is at c.in_ok-reason.ensures.verdict in
     let account : RustJudgement → Account = rust_account_by (g.T.Preprocessor.meaning c.args.tool.now) (tree c.args.files.now) c.args.rust.now request in
     let before = g.T.Preprocessor.preprocessed c.args.tool.now in
-    let after = g.T.Preprocessor.preprocessed c.rust_fingerprint.new.tool in
+    let after = g.T.Preprocessor.preprocessed c.rust_fingerprint-made.new.tool in
     let told = c.from_residual-in_err-made-in-Asks.result in
     let work_on : Tree → Work = λ files. rust_work_at (g.T.Preprocessor.meaning c.args.tool.now) (rust_call_at c.args.rust.now request files (asks_in c.in-Asks.parsed)) in
-    let early = subst (λ (t : Tree). StopsEarly (work_on t) before after) c.in_ok-reason.ensures.tree c.rust_fingerprint.ensures.early in
-    subst (λ (d : RustJudgement). RunsOf (account d) false told before after) decided (asked_until told c.in_err-made-in-Asks.field-0.0 before after c.from_residual-in_err-made-in-Asks.ensures.1 c.rust_fingerprint.ensures.twice, early)
+    let early = subst (λ (t : Tree). StopsEarly (work_on t) before after) c.in_ok-reason.ensures.tree c.rust_fingerprint-made.ensures.early in
+    subst (λ (d : RustJudgement). RunsOf (account d) false told before after) decided (asked_until told c.in_err-made-in-Asks.field-0.0 before after c.from_residual-in_err-made-in-Asks.ensures.1 c.rust_fingerprint-made.ensures.twice, early)
 
 pub returns-in_ok-made-in-Asks-clause-runs : goal.returns-in_ok-made-in-Asks-clause-runs
 returns-in_ok-made-in-Asks-clause-runs g c =
@@ -62,8 +62,8 @@ returns-in_ok-made-in-Asks-clause-runs g c =
     let decided : asks (asks_in c.in-Asks.parsed) ≡ rust_verdict_of request (tree c.args.files.now) = rw c.in-Asks.is at c.in_ok-reason.ensures.verdict in
     let account : RustJudgement → Account = rust_account_by (g.T.Preprocessor.meaning c.args.tool.now) (tree c.args.files.now) c.args.rust.now request in
     let before = g.T.Preprocessor.preprocessed c.args.tool.now in
-    let after = g.T.Preprocessor.preprocessed c.rust_fingerprint.new.tool in
-    let told : Told = Ok (Ok c.in_ok-made-in-Asks.made) in
+    let after = g.T.Preprocessor.preprocessed c.rust_fingerprint-made.new.tool in
+    let told : Told = Ok (Ok c.in_ok-made-in-Asks.field-0) in
     let work_on : Tree → Work = λ files. rust_work_at (g.T.Preprocessor.meaning c.args.tool.now) (rust_call_at c.args.rust.now request files (asks_in c.in-Asks.parsed)) in
-    let early = subst (λ (t : Tree). StopsEarly (work_on t) before after) c.in_ok-reason.ensures.tree c.rust_fingerprint.ensures.early in
+    let early = subst (λ (t : Tree). StopsEarly (work_on t) before after) c.in_ok-reason.ensures.tree c.rust_fingerprint-made.ensures.early in
     subst (λ (d : RustJudgement). RunsOf (account d) false told before after) decided (c.in_ok-made-in-Asks.ensures.runs, early)

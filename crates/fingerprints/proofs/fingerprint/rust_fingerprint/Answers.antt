@@ -14,14 +14,14 @@ use Rattle.wrap_keys.proofs.KeyLemmas.{on_exit}
 use Rattle.fingerprints.specs.declared.fingerprint.Fingerprint.TheVariants.{Rustc}
 use Rattle.fingerprints.proofs.fingerprint.rust_fingerprint.Goals as goal
 
-pub returns-in_err-names-clause-cause : goal.returns-in_err-names-clause-cause
-returns-in_err-names-clause-cause g c =
+pub returns-in_err-by_compilation-clause-cause : goal.returns-in_err-by_compilation-clause-cause
+returns-in_err-by_compilation-clause-cause g c =
     let meaning = g.T.Preprocessor.meaning c.args.tool.now in
     let tree = g.F.Files.tree c.args.files.now in
     let own = rust_call_at c.args.rust.now c.args.request.now tree (asks_in c.args.parsed.now) in
     let on_file = FailsOn g.F.Files.tree g.F.Files.failed g.F.Files.fails_on c.args.files.now c.generate_hash_key.new.files in
     let device_in = FailsIn g.T.Preprocessor.meaning g.T.Preprocessor.failed g.T.Preprocessor.fails_in c.args.tool.now c.generate_hash_key.new.answers in
-    on_exit (KeyCause (key_fault_of meaning own) on_file device_in) c.from_residual-in_err-names.result Memory c.from_residual-in_err-names.ensures.1 tt
+    on_exit (KeyCause (key_fault_of meaning own) on_file device_in) c.from_residual-in_err-by_compilation.result Memory c.from_residual-in_err-by_compilation.ensures.1 tt
 
 pub returns-clause-is : goal.returns-clause-is
 returns-clause-is g c =
@@ -36,9 +36,9 @@ returns-clause-is g c =
     let made = c.in_ok-compilation.ensures in
     let parts = made.parts request.moment ∙ ap (λ (k : RustCall). parts_of digest_of (record_of meaning k)) call in
     let outputs = made.outputs request.moment ∙ ap (call_outputs meaning) call in
-    let names = c.in_ok-names.ensures ∙ ap names_of (c.outputs.ensures ∙ outputs) in
+    let names = ap names_of outputs in
     record {
-      is = λ i. Rustc (parts i) (names i);
+      is = c.in_ok-by_compilation.ensures ∙ (λ i. Rustc (parts i) (names i));
       fine = subst (λ (k : RustCall). key_fault_of meaning k ≡ None) call (made.fine request.moment);
       told = subst (λ (k : RustCall). IsTold digest_of (record_of meaning k)) call (made.told request.moment);
     }
@@ -53,8 +53,8 @@ returns-in_err-compilation-clause-early g c =
     let asked = AtMostOnce (g.T.Preprocessor.preprocessed c.args.tool.now) (g.T.Preprocessor.preprocessed c.generate_hash_key.new.answers) in
     subst (λ (env : Variables). (dep_info_fault_of (under env) (dep_info_of meaning (under env)) ≡ None → ⊥) → asked) c.as_slice-env.ensures (c.generate_hash_key.ensures.early request.moment)
 
-pub returns-in_err-names-clause-early : goal.returns-in_err-names-clause-early
-returns-in_err-names-clause-early g c =
+pub returns-in_err-by_compilation-clause-early : goal.returns-in_err-by_compilation-clause-early
+returns-in_err-by_compilation-clause-early g c =
     let meaning = g.T.Preprocessor.meaning c.args.tool.now in
     let tree = g.F.Files.tree c.args.files.now in
     let rust = c.args.rust.now in
