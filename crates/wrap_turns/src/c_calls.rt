@@ -80,7 +80,7 @@ pub fn c_turn<
     match judge(alloc, compiler, request, files)? {
         Verdict::Passes(reason) => Ok(Answer::Pass(reason)),
         Verdict::Asks(plan) => {
-            let prepared = prepare::<H, E, F, T>(
+            match prepare::<H, E, F, T>(
                 alloc,
                 compiler,
                 request,
@@ -89,8 +89,17 @@ pub fn c_turn<
                 entries,
                 files,
                 tool,
-            )?;
-            finish(alloc, config.max_kept, objects, prepared, files, tool)
+            ) {
+                Ok(prepared) => {
+                    let answer = finish(alloc, config.max_kept, objects, prepared, files, tool);
+                    drop(plan);
+                    answer
+                }
+                Err(fault) => {
+                    drop(plan);
+                    Err(fault)
+                }
+            }
         }
     }
 }

@@ -88,7 +88,10 @@ fn rust_prepare<H: HashState, F: Files, T: Tool>(
         files,
         tool,
     )?;
-    let names = names_of(alloc, compilation.outputs())?;
+    let Ok(names) = names_of(alloc, compilation.outputs()) else {
+        drop(compilation);
+        return Err(Fault::Memory);
+    };
     let key = StoreKey {
         family: Family::Rustc,
         shape: Shape::Rustc(shape),
@@ -148,7 +151,9 @@ fn rust_answer<H: HashState, O: Store<StoreKey, Pairs>, F: Files, T: Tool>(
         moment: request.moment,
         dep_info,
     };
-    finish(alloc, max_kept, objects, prepared, files, tool)
+    let answer = finish(alloc, max_kept, objects, prepared, files, tool);
+    drop(compilation);
+    answer
 }
 
 /// Answers a request to this rustc: it is passed through, or it gets what the store holds under its key or what one compile makes,
@@ -192,9 +197,11 @@ pub fn rust_turn<H: HashState, O: Store<StoreKey, Pairs>, F: Files, T: Tool>(
     match judge_rust(alloc, rust, request, files)? {
         RustVerdict::Passes(reason) => Ok(Answer::Pass(reason)),
         RustVerdict::Asks(parsed) => {
-            rust_answer::<H, O, F, T>(
+            let answer = rust_answer::<H, O, F, T>(
                 alloc, max_kept, objects, rust, request, &parsed, files, tool,
-            )
+            );
+            drop(parsed);
+            answer
         }
     }
 }

@@ -1,8 +1,9 @@
-use Rattle.std.proofs.Common.{◌≡◌, ℕ, IfErr, None, false, refl, subst, sym, ◌∙◌}
+use Rattle.std.proofs.Common.{◌≡◌, ℕ, Err, IfErr, None, Result, false, refl, subst, sym, ◌∙◌}
 use Rattle.os_files.specs.Bytes.{Bytes}
 use Rattle.os_files.specs.Fails.{FailsOn}
 use Rattle.ckeys.specs.Calls.{KeyCall, PrintedCall, printed_call}
 use Rattle.ckeys_records.specs.Meaning.{FailsIn}
+use Rattle.ckeys_records.specs.declared.fault.Fault.{Fault}
 use Rattle.ckeys_records.specs.declared.step.Step.{Step}
 use Rattle.wrap_keys.specs.Account.{account_named, call_at, work_at, worked}
 use Rattle.wrap_keys.specs.Answers.{EarlyCause, GoesOn, Says, SaysBy}
@@ -39,8 +40,8 @@ returns-in_err-reason-clause-entries g c =
     let a = account_named (g.T.Preprocessor.meaning c.args.tool.now) (g.F.Files.tree c.args.files.now) c.args.config.now.keys c.args.request.now (by_c (found_of c.args.compiler)) in
     quiet_entries g.H.HashState.digest_of a _ _
 
-pub returns-in_err-prepared-in-Asks-clause-says : goal.returns-in_err-prepared-in-Asks-clause-says
-returns-in_err-prepared-in-Asks-clause-says g c =
+pub returns-in-Err-clause-says : goal.returns-in-Err-clause-says
+returns-in-Err-clause-says g c =
     let tree = g.F.Files.tree in
     let meaning = g.T.Preprocessor.meaning in
     let request = c.args.request.now in
@@ -53,12 +54,12 @@ returns-in_err-prepared-in-Asks-clause-says g c =
     let on_old = FailsOn tree g.F.Files.failed g.F.Files.fails_on c.args.files.now c.prepare.new.files in
     let device = FailsIn meaning g.T.Preprocessor.failed g.T.Preprocessor.fails_in c.args.tool.now c.prepare.new.tool in
     let before : (name : Bytes) → on_mid name → on_old name = fails_on_later tree g.F.Files.failed g.F.Files.fails_on c.args.files.now c.judge.new.files c.prepare.new.files c.in_ok-reason.ensures.tree c.in_ok-reason.ensures.steady in
-    let result = c.from_residual-in_err-prepared-in-Asks.result in
+    let result : Result Answer Fault = Err c.in-Err.fault in
     of_asked (λ a. SaysBy GoesOn a on_old device result) (meaning c.args.tool.now) _ _ c.args.config.now.keys found request parsed _ c.in_ok-reason.ensures.tree decided
-    (says_later (GoesOn w) w on_mid on_old device before result (key_says (GoesOn w) w on_mid device c.in_err-prepared-in-Asks.field-0.0 c.in_err-prepared-in-Asks.ensures.cause result c.from_residual-in_err-prepared-in-Asks.ensures.1))
+    (says_later (GoesOn w) w on_mid on_old device before result (key_says (GoesOn w) w on_mid device c.in-Err.fault c.in-Err.ensures.cause result refl))
 
-pub returns-in_err-prepared-in-Asks-clause-goes_on : goal.returns-in_err-prepared-in-Asks-clause-goes_on
-returns-in_err-prepared-in-Asks-clause-goes_on g c =
+pub returns-in-Err-clause-goes_on : goal.returns-in-Err-clause-goes_on
+returns-in-Err-clause-goes_on g c =
     let digest_of = g.H.HashState.digest_of in
     let tree = g.F.Files.tree in
     let meaning = g.T.Preprocessor.meaning in
@@ -72,13 +73,13 @@ returns-in_err-prepared-in-Asks-clause-goes_on g c =
     let on_old = FailsOn tree g.F.Files.failed g.F.Files.fails_on c.args.files.now c.prepare.new.files in
     let device = FailsIn meaning g.T.Preprocessor.failed g.T.Preprocessor.fails_in c.args.tool.now c.prepare.new.tool in
     let before : (name : Bytes) → on_mid name → on_old name = fails_on_later tree g.F.Files.failed g.F.Files.fails_on c.args.files.now c.judge.new.files c.prepare.new.files c.in_ok-reason.ensures.tree c.in_ok-reason.ensures.steady in
-    let result = c.from_residual-in_err-prepared-in-Asks.result in
+    let result : Result Answer Fault = Err c.in-Err.fault in
     let held = (g.E.Store.shelf c.args.entries.now).held in
     of_asked (λ a. RecordsAreTrue digest_of a held → Says a on_old device result) (meaning c.args.tool.now) _ _ c.args.config.now.keys found request parsed _ c.in_ok-reason.ensures.tree decided
-    (λ are_true. says_later (w.fault ≡ None) w on_mid on_old device before result (key_says (w.fault ≡ None) w on_mid device c.in_err-prepared-in-Asks.field-0.0 c.in_err-prepared-in-Asks.ensures.cause result c.from_residual-in_err-prepared-in-Asks.ensures.1))
+    (λ are_true. says_later (w.fault ≡ None) w on_mid on_old device before result (key_says (w.fault ≡ None) w on_mid device c.in-Err.fault c.in-Err.ensures.cause result refl))
 
-pub returns-in_err-prepared-in-Asks-clause-asked : goal.returns-in_err-prepared-in-Asks-clause-asked
-returns-in_err-prepared-in-Asks-clause-asked g c =
+pub returns-in-Err-clause-asked : goal.returns-in-Err-clause-asked
+returns-in-Err-clause-asked g c =
     let digest_of = g.H.HashState.digest_of in
     let tree = g.F.Files.tree in
     let meaning = g.T.Preprocessor.meaning in
@@ -88,22 +89,22 @@ returns-in_err-prepared-in-Asks-clause-asked g c =
     let decided : asks parsed ≡ verdict_of found.kind (words_at found request (tree c.args.files.now)) = rw c.in-Asks.is at c.in_ok-reason.ensures.verdict in
     let own : KeyCall = call_at found request (tree c.judge.new.files) c.args.config.now.keys parsed in
     let w = work_at (meaning c.args.tool.now) own in
-    let fault = c.in_err-prepared-in-Asks.field-0.0 in
-    let e = c.in_err-prepared-in-Asks.ensures in
+    let fault = c.in-Err.fault in
+    let e = c.in-Err.ensures in
     let old = shelves_of (g.E.Store.shelf c.args.entries.now) (g.O.Store.shelf c.args.objects.now) in
     let new = shelves_of (g.E.Store.shelf c.prepare.new.entries) (g.O.Store.shelf c.args.objects.now) in
-    of_asked (λ a. AskedTurn digest_of c.args.config.now.max_kept a old new (g.T.Preprocessor.preprocessed c.args.tool.now) (g.T.Preprocessor.preprocessed c.prepare.new.tool) (g.T.Preprocessor.compiled c.args.tool.now) (g.T.Preprocessor.compiled c.prepare.new.tool) c.from_residual-in_err-prepared-in-Asks.result) (meaning c.args.tool.now) _ _ c.args.config.now.keys found request parsed _ c.in_ok-reason.ensures.tree decided
-    (asked_fault digest_of c.args.config.now.max_kept (worked w) old new _ _ _ _ _ fault c.from_residual-in_err-prepared-in-Asks.ensures.1 _ e.cause e.unput false (key_of digest_of w.rec) refl
+    of_asked (λ a. AskedTurn digest_of c.args.config.now.max_kept a old new (g.T.Preprocessor.preprocessed c.args.tool.now) (g.T.Preprocessor.preprocessed c.prepare.new.tool) (g.T.Preprocessor.compiled c.args.tool.now) (g.T.Preprocessor.compiled c.prepare.new.tool) (Err c.in-Err.fault)) (meaning c.args.tool.now) _ _ c.args.config.now.keys found request parsed _ c.in_ok-reason.ensures.tree decided
+    (asked_fault digest_of c.args.config.now.max_kept (worked w) old new _ _ _ _ _ fault refl _ e.cause e.unput false (key_of digest_of w.rec) refl
     ((c.prepare.ensures.idle, λ h. key_until false _ _ fault (e.until h)), c.prepare.ensures.early)
-    (key_turn digest_of c.args.config.now.max_kept (key_of digest_of w.rec) w w.fault _ _ _ c.prepare.ensures.compiles _ _ fault e.cause _ c.from_residual-in_err-prepared-in-Asks.ensures.1))
+    (key_turn digest_of c.args.config.now.max_kept (key_of digest_of w.rec) w w.fault _ _ _ c.prepare.ensures.compiles _ _ fault e.cause _ refl))
 
-pub returns-in_err-prepared-in-Asks-clause-still : goal.returns-in_err-prepared-in-Asks-clause-still
-returns-in_err-prepared-in-Asks-clause-still g c own =
-    let kept = c.in_err-prepared-in-Asks.ensures.still (own_fault Prepared c.from_residual-in_err-prepared-in-Asks.result c.in_err-prepared-in-Asks.field-0.0 c.from_residual-in_err-prepared-in-Asks.ensures.1 own) in
+pub returns-in-Err-clause-still : goal.returns-in-Err-clause-still
+returns-in-Err-clause-still g c own =
+    let kept = c.in-Err.ensures.still (own_fault {A = Answer} Prepared (Err c.in-Err.fault) c.in-Err.fault refl own) in
     (kept.0, kept.1 ∙ c.in_ok-reason.ensures.steady)
 
-pub returns-in_ok-prepared-in-Asks-clause-says : goal.returns-in_ok-prepared-in-Asks-clause-says
-returns-in_ok-prepared-in-Asks-clause-says g c =
+pub returns-in-Ok-clause-says : goal.returns-in-Ok-clause-says
+returns-in-Ok-clause-says g c =
     let digest_of = g.H.HashState.digest_of in
     let tree = g.F.Files.tree in
     let meaning = g.T.Preprocessor.meaning in
@@ -114,17 +115,17 @@ returns-in_ok-prepared-in-Asks-clause-says g c =
     let own : KeyCall = call_at found request (tree c.judge.new.files) c.args.config.now.keys parsed in
     let w = work_at (meaning c.args.tool.now) own in
     let p : PrintedCall = printed_call (meaning c.args.tool.now) own in
-    let k = c.in_ok-prepared-in-Asks.ensures in
-    let on_old = FailsOn tree g.F.Files.failed g.F.Files.fails_on c.args.files.now c.finish.new.files in
-    let device = FailsIn meaning g.T.Preprocessor.failed g.T.Preprocessor.fails_in c.args.tool.now c.finish.new.tool in
-    let later_in = FailsIn meaning g.T.Preprocessor.failed g.T.Preprocessor.fails_in c.prepare.new.tool c.finish.new.tool in
-    let later : (step : Step) → later_in step → device step = fails_in_later meaning g.T.Preprocessor.failed g.T.Preprocessor.fails_in c.args.tool.now c.prepare.new.tool c.finish.new.tool c.prepare.ensures.meaning k.steady.0 in
-    let result = c.finish.result in
+    let k = c.in-Ok.ensures in
+    let on_old = FailsOn tree g.F.Files.failed g.F.Files.fails_on c.args.files.now c.finish-answer.new.files in
+    let device = FailsIn meaning g.T.Preprocessor.failed g.T.Preprocessor.fails_in c.args.tool.now c.finish-answer.new.tool in
+    let later_in = FailsIn meaning g.T.Preprocessor.failed g.T.Preprocessor.fails_in c.prepare.new.tool c.finish-answer.new.tool in
+    let later : (step : Step) → later_in step → device step = fails_in_later meaning g.T.Preprocessor.failed g.T.Preprocessor.fails_in c.args.tool.now c.prepare.new.tool c.finish-answer.new.tool c.prepare.ensures.meaning k.steady.0 in
+    let result = c.finish-answer.result in
     of_asked (λ a. SaysBy GoesOn a on_old device result) (meaning c.args.tool.now) _ _ c.args.config.now.keys found request parsed _ c.in_ok-reason.ensures.tree decided
-    (finished_says (GoesOn w) w on_old device later_in later (goes_on digest_of w p refl _ _ _ k.from k.fine) result (c.finish.ensures.says digest_of w k.prepared))
+    (finished_says (GoesOn w) w on_old device later_in later (goes_on digest_of w p refl _ _ _ k.from k.fine) result (c.finish-answer.ensures.says digest_of w k.prepared))
 
-pub returns-in_ok-prepared-in-Asks-clause-goes_on : goal.returns-in_ok-prepared-in-Asks-clause-goes_on
-returns-in_ok-prepared-in-Asks-clause-goes_on g c =
+pub returns-in-Ok-clause-goes_on : goal.returns-in-Ok-clause-goes_on
+returns-in-Ok-clause-goes_on g c =
     let digest_of = g.H.HashState.digest_of in
     let tree = g.F.Files.tree in
     let meaning = g.T.Preprocessor.meaning in
@@ -135,27 +136,27 @@ returns-in_ok-prepared-in-Asks-clause-goes_on g c =
     let own : KeyCall = call_at found request (tree c.judge.new.files) c.args.config.now.keys parsed in
     let w = work_at (meaning c.args.tool.now) own in
     let p : PrintedCall = printed_call (meaning c.args.tool.now) own in
-    let k = c.in_ok-prepared-in-Asks.ensures in
-    let on_old = FailsOn tree g.F.Files.failed g.F.Files.fails_on c.args.files.now c.finish.new.files in
-    let device = FailsIn meaning g.T.Preprocessor.failed g.T.Preprocessor.fails_in c.args.tool.now c.finish.new.tool in
-    let later_in = FailsIn meaning g.T.Preprocessor.failed g.T.Preprocessor.fails_in c.prepare.new.tool c.finish.new.tool in
-    let later : (step : Step) → later_in step → device step = fails_in_later meaning g.T.Preprocessor.failed g.T.Preprocessor.fails_in c.args.tool.now c.prepare.new.tool c.finish.new.tool c.prepare.ensures.meaning k.steady.0 in
-    let result = c.finish.result in
+    let k = c.in-Ok.ensures in
+    let on_old = FailsOn tree g.F.Files.failed g.F.Files.fails_on c.args.files.now c.finish-answer.new.files in
+    let device = FailsIn meaning g.T.Preprocessor.failed g.T.Preprocessor.fails_in c.args.tool.now c.finish-answer.new.tool in
+    let later_in = FailsIn meaning g.T.Preprocessor.failed g.T.Preprocessor.fails_in c.prepare.new.tool c.finish-answer.new.tool in
+    let later : (step : Step) → later_in step → device step = fails_in_later meaning g.T.Preprocessor.failed g.T.Preprocessor.fails_in c.args.tool.now c.prepare.new.tool c.finish-answer.new.tool c.prepare.ensures.meaning k.steady.0 in
+    let result = c.finish-answer.result in
     let held = (g.E.Store.shelf c.args.entries.now).held in
     of_asked (λ a. RecordsAreTrue digest_of a held → Says a on_old device result) (meaning c.args.tool.now) _ _ c.args.config.now.keys found request parsed _ c.in_ok-reason.ensures.tree decided
-    (λ are_true. finished_says (w.fault ≡ None) w on_old device later_in later (own_goes_on digest_of w p refl held _ _ k.from k.fine are_true) result (c.finish.ensures.says digest_of w k.prepared))
+    (λ are_true. finished_says (w.fault ≡ None) w on_old device later_in later (own_goes_on digest_of w p refl held _ _ k.from k.fine are_true) result (c.finish-answer.ensures.says digest_of w k.prepared))
 
-pub returns-in_ok-prepared-in-Asks-clause-quiet : goal.returns-in_ok-prepared-in-Asks-clause-quiet
-returns-in_ok-prepared-in-Asks-clause-quiet g c =
+pub returns-in-Ok-clause-quiet : goal.returns-in-Ok-clause-quiet
+returns-in-Ok-clause-quiet g c =
     let tool = g.T.Preprocessor in
     let old = c.args.tool.now in
-    let new = c.finish.new.tool in
+    let new = c.finish-answer.new.tool in
     let w = work_at (tool.meaning old) (call_at (found_of c.args.compiler) c.args.request.now (g.F.Files.tree c.judge.new.files) c.args.config.now.keys c.in-Asks.plan.parsed) in
-    finished_unpassed ((tool.preprocessed new ≡ tool.preprocessed old) × (tool.compiled new ≡ tool.compiled old) × (tool.failed new ≡ tool.failed old)) w _ c.finish.result
-    (c.finish.ensures.says g.H.HashState.digest_of w c.in_ok-prepared-in-Asks.ensures.prepared)
+    finished_unpassed ((tool.preprocessed new ≡ tool.preprocessed old) × (tool.compiled new ≡ tool.compiled old) × (tool.failed new ≡ tool.failed old)) w _ c.finish-answer.result
+    (c.finish-answer.ensures.says g.H.HashState.digest_of w c.in-Ok.ensures.prepared)
 
-pub returns-in_ok-prepared-in-Asks-clause-asked : goal.returns-in_ok-prepared-in-Asks-clause-asked
-returns-in_ok-prepared-in-Asks-clause-asked g c =
+pub returns-in-Ok-clause-asked : goal.returns-in-Ok-clause-asked
+returns-in-Ok-clause-asked g c =
     let digest_of = g.H.HashState.digest_of in
     let tree = g.F.Files.tree in
     let meaning = g.T.Preprocessor.meaning in
@@ -166,48 +167,48 @@ returns-in_ok-prepared-in-Asks-clause-asked g c =
     let own : KeyCall = call_at found request (tree c.judge.new.files) c.args.config.now.keys parsed in
     let w = work_at (meaning c.args.tool.now) own in
     let p : PrintedCall = printed_call (meaning c.args.tool.now) own in
-    let k = c.in_ok-prepared-in-Asks.ensures in
-    let from = c.in_ok-prepared-in-Asks.prepared.from_record in
-    let key = c.in_ok-prepared-in-Asks.prepared.key.digest in
+    let k = c.in-Ok.ensures in
+    let from = c.in-Ok.prepared.from_record in
+    let key = c.in-Ok.prepared.key.digest in
     let old = shelves_of (g.E.Store.shelf c.args.entries.now) (g.O.Store.shelf c.args.objects.now) in
-    let new = shelves_of (g.E.Store.shelf c.prepare.new.entries) (g.O.Store.shelf c.finish.new.objects) in
+    let new = shelves_of (g.E.Store.shelf c.prepare.new.entries) (g.O.Store.shelf c.finish-answer.new.objects) in
     let ran : ℕ → Type 0 = λ after. RanForKey w.rec from (g.T.Preprocessor.preprocessed c.args.tool.now) after in
-    let runs : ran (g.T.Preprocessor.preprocessed c.finish.new.tool) = subst ran (sym c.finish.ensures.preprocesses) (c.prepare.ensures.idle, k.runs) in
-    let early : StopsEarly w (g.T.Preprocessor.preprocessed c.args.tool.now) (g.T.Preprocessor.preprocessed c.finish.new.tool) = subst (StopsEarly w (g.T.Preprocessor.preprocessed c.args.tool.now)) (sym c.finish.ensures.preprocesses) c.prepare.ensures.early in
-    let turned : ℕ → Type 0 = λ compiled. KeyedTurn digest_of c.args.config.now.max_kept key (worked w) old.objects new.objects compiled (g.T.Preprocessor.compiled c.finish.new.tool) c.finish.result in
-    let turn : turned (g.T.Preprocessor.compiled c.args.tool.now) = subst turned c.prepare.ensures.compiles (c.finish.ensures.turn digest_of w k.prepared) in
-    of_asked (λ a. AskedTurn digest_of c.args.config.now.max_kept a old new (g.T.Preprocessor.preprocessed c.args.tool.now) (g.T.Preprocessor.preprocessed c.finish.new.tool) (g.T.Preprocessor.compiled c.args.tool.now) (g.T.Preprocessor.compiled c.finish.new.tool) c.finish.result) (meaning c.args.tool.now) _ _ c.args.config.now.keys found request parsed _ c.in_ok-reason.ensures.tree decided
-    (asked_finished digest_of c.args.config.now.max_kept w old new _ _ _ _ from key k.from (text_fine w p refl from k.fine) runs early k.recorded _ _ (c.finish.ensures.says digest_of w k.prepared) c.finish.ensures.how turn)
+    let runs : ran (g.T.Preprocessor.preprocessed c.finish-answer.new.tool) = subst ran (sym c.finish-answer.ensures.preprocesses) (c.prepare.ensures.idle, k.runs) in
+    let early : StopsEarly w (g.T.Preprocessor.preprocessed c.args.tool.now) (g.T.Preprocessor.preprocessed c.finish-answer.new.tool) = subst (StopsEarly w (g.T.Preprocessor.preprocessed c.args.tool.now)) (sym c.finish-answer.ensures.preprocesses) c.prepare.ensures.early in
+    let turned : ℕ → Type 0 = λ compiled. KeyedTurn digest_of c.args.config.now.max_kept key (worked w) old.objects new.objects compiled (g.T.Preprocessor.compiled c.finish-answer.new.tool) c.finish-answer.result in
+    let turn : turned (g.T.Preprocessor.compiled c.args.tool.now) = subst turned c.prepare.ensures.compiles (c.finish-answer.ensures.turn digest_of w k.prepared) in
+    of_asked (λ a. AskedTurn digest_of c.args.config.now.max_kept a old new (g.T.Preprocessor.preprocessed c.args.tool.now) (g.T.Preprocessor.preprocessed c.finish-answer.new.tool) (g.T.Preprocessor.compiled c.args.tool.now) (g.T.Preprocessor.compiled c.finish-answer.new.tool) c.finish-answer.result) (meaning c.args.tool.now) _ _ c.args.config.now.keys found request parsed _ c.in_ok-reason.ensures.tree decided
+    (asked_finished digest_of c.args.config.now.max_kept w old new _ _ _ _ from key k.from (text_fine w p refl from k.fine) runs early k.recorded _ _ (c.finish-answer.ensures.says digest_of w k.prepared) c.finish-answer.ensures.how turn)
 
-pub returns-in_ok-prepared-in-Asks-clause-steady : goal.returns-in_ok-prepared-in-Asks-clause-steady
-returns-in_ok-prepared-in-Asks-clause-steady g c =
-    let prepared = c.in_ok-prepared-in-Asks.ensures.steady in
-    steady_later g.T.Preprocessor g.F.Files c.args.tool.now c.prepare.new.tool c.finish.new.tool c.args.files.now c.prepare.new.files c.finish.new.files
-    (prepared.0, prepared.1 ∙ c.in_ok-reason.ensures.steady) c.finish.result c.finish.ensures.steady
+pub returns-in-Ok-clause-steady : goal.returns-in-Ok-clause-steady
+returns-in-Ok-clause-steady g c =
+    let prepared = c.in-Ok.ensures.steady in
+    steady_later g.T.Preprocessor g.F.Files c.args.tool.now c.prepare.new.tool c.finish-answer.new.tool c.args.files.now c.prepare.new.files c.finish-answer.new.files
+    (prepared.0, prepared.1 ∙ c.in_ok-reason.ensures.steady) c.finish-answer.result c.finish-answer.ensures.steady
 
 pub returns-in_err-reason-clause-passed : goal.returns-in_err-reason-clause-passed
 returns-in_err-reason-clause-passed g c =
     let asked : Bytes → Type 0 = IsAskedEarly (by_c (found_of c.args.compiler)) c.args.request.now (g.F.Files.tree c.args.files.now) in
     early_passed _ asked c.in_err-reason.field-0.0 c.in_err-reason.ensures.asked _ c.from_residual.ensures.1
 
-pub returns-in_err-prepared-in-Asks-clause-passed : goal.returns-in_err-prepared-in-Asks-clause-passed
-returns-in_err-prepared-in-Asks-clause-passed g c =
+pub returns-in-Err-clause-passed : goal.returns-in-Err-clause-passed
+returns-in-Err-clause-passed g c =
     let tree = g.F.Files.tree in
     let request = c.args.request.now in
     let found = found_of c.args.compiler in
     let parsed = c.in-Asks.plan.parsed in
     let decided : asks parsed ≡ verdict_of found.kind (words_at found request (tree c.args.files.now)) = rw c.in-Asks.is at c.in_ok-reason.ensures.verdict in
     let asked : Bytes → Type 0 = IsAskedEarly (by_c found) request (tree c.args.files.now) in
-    let result = c.from_residual-in_err-prepared-in-Asks.result in
+    let result : Result Answer Fault = Err c.in-Err.fault in
     of_asked (λ a. IfErr result (λ f. OfPassed a (EarlyCause asked f))) (g.T.Preprocessor.meaning c.args.tool.now) _ _ c.args.config.now.keys found request parsed _ c.in_ok-reason.ensures.tree decided (not_passed result)
 
-pub returns-in_ok-prepared-in-Asks-clause-passed : goal.returns-in_ok-prepared-in-Asks-clause-passed
-returns-in_ok-prepared-in-Asks-clause-passed g c =
+pub returns-in-Ok-clause-passed : goal.returns-in-Ok-clause-passed
+returns-in-Ok-clause-passed g c =
     let tree = g.F.Files.tree in
     let request = c.args.request.now in
     let found = found_of c.args.compiler in
     let parsed = c.in-Asks.plan.parsed in
     let decided : asks parsed ≡ verdict_of found.kind (words_at found request (tree c.args.files.now)) = rw c.in-Asks.is at c.in_ok-reason.ensures.verdict in
     let asked : Bytes → Type 0 = IsAskedEarly (by_c found) request (tree c.args.files.now) in
-    let result = c.finish.result in
+    let result = c.finish-answer.result in
     of_asked (λ a. IfErr result (λ f. OfPassed a (EarlyCause asked f))) (g.T.Preprocessor.meaning c.args.tool.now) _ _ c.args.config.now.keys found request parsed _ c.in_ok-reason.ensures.tree decided (not_passed result)

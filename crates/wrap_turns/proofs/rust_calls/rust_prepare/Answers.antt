@@ -14,8 +14,6 @@ use Rattle.rustkeys.specs.Questions.{Question, compile_env_of, dep_info_of}
 use Rattle.rustkeys.specs.Records.{IsTold, key_of, record_shape}
 use Rattle.wrap_base.specs.declared.store_key.Family.TheVariants.{Rustc}
 use Rattle.wrap_base.specs.declared.store_key.Shape.TheVariants as shapes
-use Rattle.ckeys_records.specs.declared.fault.Fault.TheVariants.{Memory}
-use Rattle.wrap_keys.specs.Account.{rust_call_at}
 use Rattle.wrap_keys.proofs.KeyLemmas.{on_exit}
 use Rattle.wrap_turns.proofs.rust_calls.rust_prepare.Goals as goal
 
@@ -32,15 +30,6 @@ returns-in_err-compilation-clause-cause g c =
     on_exit (KeyCause (key_fault_of meaning (under request.env)) on_file device_in) c.from_residual.result fault c.from_residual.ensures.1
     (subst (λ (env : Variables). KeyCause (key_fault_of meaning (under env)) on_file device_in fault) c.as_slice-env.ensures (c.in_err-compilation.ensures.cause request.moment))
 
-pub returns-in_err-names-clause-cause : goal.returns-in_err-names-clause-cause
-returns-in_err-names-clause-cause g c =
-    let meaning = g.T.Preprocessor.meaning c.args.tool.now in
-    let tree = g.F.Files.tree c.args.files.now in
-    let own = rust_call_at c.args.rust.now c.args.request.now tree (asks_in c.args.parsed.now) in
-    let on_file = FailsOn g.F.Files.tree g.F.Files.failed g.F.Files.fails_on c.args.files.now c.generate_hash_key.new.files in
-    let device_in = FailsIn g.T.Preprocessor.meaning g.T.Preprocessor.failed g.T.Preprocessor.fails_in c.args.tool.now c.generate_hash_key.new.answers in
-    on_exit (KeyCause (key_fault_of meaning own) on_file device_in) c.from_residual-in_err-names.result Memory c.from_residual-in_err-names.ensures.1 tt
-
 pub returns-clause-prepared : goal.returns-clause-prepared
 returns-clause-prepared g c =
     let digest_of = g.H.HashState.digest_of in
@@ -54,7 +43,7 @@ returns-clause-prepared g c =
     let made = c.in_ok-compilation.ensures in
     let outputs = made.outputs request.moment ∙ ap (call_outputs meaning) call in
     let shape = made.shape request.moment ∙ ap (λ (k : RustCall). record_shape digest_of (record_of meaning k)) call in
-    let names = c.in_ok-names.ensures ∙ ap names_of (c.outputs.ensures ∙ outputs) in
+    let names = c.in-Ok.ensures ∙ ap names_of (c.outputs.ensures ∙ outputs) in
     let text = c.from_vec.ensures ∙ ap (λ (v : Vec ℕ Global). v.items) c.into_bytes.ensures.value in
     let digest = text ∙ made.key request.moment ∙ ap (λ (k : RustCall). key_of digest_of (record_of meaning k)) call in
     record {
@@ -76,8 +65,8 @@ returns-in_err-compilation-clause-early g c =
     let asked = AtMostOnce (g.T.Preprocessor.preprocessed c.args.tool.now) (g.T.Preprocessor.preprocessed c.generate_hash_key.new.answers) in
     subst (λ (env : Variables). (dep_info_fault_of (under env) (dep_info_of meaning (under env)) ≡ None → ⊥) → asked) c.as_slice-env.ensures (c.generate_hash_key.ensures.early request.moment)
 
-pub returns-in_err-names-clause-early : goal.returns-in_err-names-clause-early
-returns-in_err-names-clause-early g c =
+pub returns-in_default-clause-early : goal.returns-in_default-clause-early
+returns-in_default-clause-early g c =
     let meaning = g.T.Preprocessor.meaning c.args.tool.now in
     let tree = g.F.Files.tree c.args.files.now in
     let rust = c.args.rust.now in
