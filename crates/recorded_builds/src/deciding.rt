@@ -46,28 +46,57 @@ pub struct Compilers {
 /// Gcc and Clang, of which nothing more is known.
 fn gnu_compilers(alloc: Global) -> Result<(Gcc, Clang), AllocError> {
     let gcc = Gcc::new(alloc, false, None, None)?;
-    Ok((gcc, Clang::new(alloc, false, None, None)?))
+    match Clang::new(alloc, false, None, None) {
+        Ok(clang) => Ok((gcc, clang)),
+        Err(error) => {
+            drop(gcc);
+            Err(error)
+        }
+    }
 }
 
-/// Likewise the others.
-fn other_compilers(alloc: Global) -> Result<(Diab, Msvc, TaskingVX), AllocError> {
+/// Likewise Diab and Msvc.
+fn own_compilers(alloc: Global) -> Result<(Diab, Msvc), AllocError> {
     let diab = Diab::new(alloc, false, None, None)?;
-    let msvc = Msvc::new(alloc, false, None, None)?;
-    Ok((diab, msvc, TaskingVX::new(alloc, false, None, None)?))
+    match Msvc::new(alloc, false, None, None) {
+        Ok(msvc) => Ok((diab, msvc)),
+        Err(error) => {
+            drop(diab);
+            Err(error)
+        }
+    }
+}
+
+/// Likewise all others than Gcc and Clang.
+fn other_compilers(alloc: Global) -> Result<(Diab, Msvc, TaskingVX), AllocError> {
+    let tasking_vx = TaskingVX::new(alloc, false, None, None)?;
+    match own_compilers(alloc) {
+        Ok((diab, msvc)) => Ok((diab, msvc, tasking_vx)),
+        Err(error) => {
+            drop(tasking_vx);
+            Err(error)
+        }
+    }
 }
 
 impl Compilers {
     /// Makes the tables of all of them, some at a time: what is made before one that can't be is dropped.
     pub fn new(alloc: Global) -> Result<Compilers, AllocError> {
         let (gcc, clang) = gnu_compilers(alloc)?;
-        let (diab, msvc, tasking_vx) = other_compilers(alloc)?;
-        Ok(Compilers {
-            gcc,
-            clang,
-            diab,
-            msvc,
-            tasking_vx,
-        })
+        match other_compilers(alloc) {
+            Ok((diab, msvc, tasking_vx)) => Ok(Compilers {
+                gcc,
+                clang,
+                diab,
+                msvc,
+                tasking_vx,
+            }),
+            Err(error) => {
+                drop(gcc);
+                drop(clang);
+                Err(error)
+            }
+        }
     }
 
     /// What words come to by a compiler of that kind.

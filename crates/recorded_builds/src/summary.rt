@@ -111,14 +111,15 @@ impl Noted {
             ≡ numbers_in self.old.beware name
             ++ (if is_among name told.beware.items then number ∷ [] else [])) }
     {
-        self.kept = kept_with(self.kept, &told.decided);
-        self.note_texts(
-            alloc,
-            number,
-            told.reason,
-            told.blocker,
-            told.beware.as_slice(),
-        )
+        let Told {
+            decided,
+            reason,
+            blocker,
+            beware,
+        } = told;
+        self.kept = kept_with(self.kept, &decided);
+        drop(decided);
+        self.note_texts(alloc, number, reason, blocker, beware.as_slice())
     }
 
     /// The summary of what was noted of so many entries.

@@ -69,7 +69,10 @@ fn tell<L: Lines>(
     ensures tree { files.new.files ≡ files.old.files }
 {
     let told = told_of(alloc, compilers, entry, files)?;
-    lines.tell(number, entry, &told, files)?;
+    if lines.tell(number, entry, &told, files).is_err() {
+        drop(told);
+        return Err(ParseFault::Memory);
+    }
     files.forget();
     noted.note(alloc, number, told)?;
     Ok(())

@@ -92,12 +92,17 @@ impl Told {
     pub fn new(alloc: Global, decided: Decided, executable: &OsBytes) -> Result<Told, AllocError>
         ensures { IfOk result (Tells executable.now (outcome_in decided)) }
     {
-        let remarks = remarks_on(alloc, &decided, executable)?;
-        Ok(Told {
-            decided,
-            reason: remarks.reason,
-            blocker: remarks.blocker,
-            beware: remarks.beware,
-        })
+        match remarks_on(alloc, &decided, executable) {
+            Ok(remarks) => Ok(Told {
+                decided,
+                reason: remarks.reason,
+                blocker: remarks.blocker,
+                beware: remarks.beware,
+            }),
+            Err(error) => {
+                drop(decided);
+                Err(error)
+            }
+        }
     }
 }

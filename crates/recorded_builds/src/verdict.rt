@@ -107,10 +107,17 @@ fn past_rust_hazard(
     ensures { IfOk result (λ answer. rust_parsing.decision_of answer
         ≡ with_rust_hazard rust_parsing.asks (asks_in parsed)) }
 {
-    if opens_words(alloc, &parsed)? {
-        return Ok(CompilerArguments::CannotCache("opens file", None));
+    match opens_words(alloc, &parsed) {
+        Ok(false) => Ok(CompilerArguments::Ok(parsed)),
+        Ok(true) => {
+            drop(parsed);
+            Ok(CompilerArguments::CannotCache("opens file", None))
+        }
+        Err(error) => {
+            drop(parsed);
+            Err(error)
+        }
     }
-    Ok(CompilerArguments::Ok(parsed))
 }
 
 /// The verdict on words of rustc.
@@ -190,9 +197,16 @@ impl Compilers {
         ensures { IfOk result (λ answer. parsing.decision_of answer
             ≡ with_hazards kind (parsing.asks parsed)) }
     {
-        match self.hazard_of(alloc, kind, &parsed, dir)? {
-            Some(reason) => Ok(CompilerArguments::CannotCache(reason, None)),
-            None => Ok(CompilerArguments::Ok(parsed)),
+        match self.hazard_of(alloc, kind, &parsed, dir) {
+            Ok(None) => Ok(CompilerArguments::Ok(parsed)),
+            Ok(Some(reason)) => {
+                drop(parsed);
+                Ok(CompilerArguments::CannotCache(reason, None))
+            }
+            Err(error) => {
+                drop(parsed);
+                Err(error)
+            }
         }
     }
 
