@@ -224,7 +224,8 @@ fn is_known(alloc: Global, placed: Placed<'_>) -> Result<bool, AllocError> {
 
 /// Whether a user says that a word may be kept: it is one of these, which have spaces between them.
 fn is_allowed(allowed: &str, word: &[u8]) -> bool {
-    allowed.split(' ').any(|it| it.as_bytes() == word)
+    let allowed = allowed.as_bytes();
+    allowed.split(|byte| *byte == b' ').any(|it| it == word)
 }
 
 /// The first of the words that isn't known, and that a user doesn't allow, by a list with spaces between its words.
