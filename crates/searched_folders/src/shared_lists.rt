@@ -3,7 +3,7 @@
 
 use crate::manifests::rows_of;
 use crate::unwatched::Unwatched;
-use crate::watch_list::{Hold, holds, text_of};
+use crate::watch_list::{FileRow, Hold, file_ahead, folder_ahead, holds, text_of};
 use byte_formats::fields::{put_framed, put_number, read_framed, read_number};
 use disk_files::found::State;
 use os_files::file_time::FileTime;
@@ -15,32 +15,32 @@ const NO_STATE: [u8; 56] = [0; 56];
 
 /// Adds the first folder of these bytes without its state, and returns what comes after it. None where it must be the same folder as before.
 fn put_folder<'a>(bytes: &'a [u8], out: &mut Vec<u8>) -> Result<Option<&'a [u8]>, Unwatched> {
-    let (path, rest) = read_framed(bytes)?;
-    let (_, rest) = State::read(rest)?;
-    let (hold, rest) = read_number(rest)?;
-    let (names, rest) = read_framed(rest)?;
-    if hold == Hold::Same.code() {
+    let (row, rest) = folder_ahead(bytes)?;
+    if row.hold == Hold::Same.code() {
         return Ok(None);
     }
-    put_framed(out, path)?;
+    put_framed(out, row.path)?;
     out.extend_from_slice(&NO_STATE)?;
     put_number(out, Hold::Names.code())?;
-    put_framed(out, names)?;
+    put_framed(out, row.names)?;
     Ok(Some(rest))
+}
+
+/// Adds a file without its state.
+fn put_without_state(row: FileRow<'_>, out: &mut Vec<u8>) -> Result<(), AllocError> {
+    put_framed(out, row.path)?;
+    out.extend_from_slice(&NO_STATE)?;
+    put_framed(out, row.digest)
 }
 
 /// Adds the first file of these bytes without its state, and returns what comes after it. None where it is a folder, which must be in the state in
 /// which it was.
 fn put_file<'a>(bytes: &'a [u8], out: &mut Vec<u8>) -> Result<Option<&'a [u8]>, Unwatched> {
-    let (path, rest) = read_framed(bytes)?;
-    let (_, rest) = State::read(rest)?;
-    let (digest, rest) = read_framed(rest)?;
-    if digest.is_empty() {
+    let (row, rest) = file_ahead(bytes)?;
+    if row.digest.is_empty() {
         return Ok(None);
     }
-    put_framed(out, path)?;
-    out.extend_from_slice(&NO_STATE)?;
-    put_framed(out, digest)?;
+    put_without_state(row, out)?;
     Ok(Some(rest))
 }
 
@@ -116,19 +116,14 @@ fn fill_folder<'a, R: Files>(
     before: FileTime,
     out: &mut Vec<u8>,
 ) -> Result<&'a [u8], Unwatched> {
-    let (path, rest) = read_framed(bytes)?;
-    let (_, rest) = State::read(rest)?;
-    let (_, rest) = read_number(rest)?;
-    let (names, rest) = read_framed(rest)?;
-    let now = State::at(rt, text_of(path)?)?;
-    let hold = match now.is_before(before) {
+    let (mut row, rest) = folder_ahead(bytes)?;
+    row.state = State::at(rt, text_of(row.path)?)?;
+    let hold = match row.state.is_before(before) {
         true => Hold::Settled,
         false => Hold::Names,
     };
-    put_framed(out, path)?;
-    now.put(out)?;
-    put_number(out, hold.code())?;
-    put_framed(out, names)?;
+    row.hold = hold.code();
+    row.put(out)?;
     Ok(rest)
 }
 
@@ -139,16 +134,12 @@ fn fill_file<'a, R: Files>(
     before: FileTime,
     out: &mut Vec<u8>,
 ) -> Result<&'a [u8], Unwatched> {
-    let (path, rest) = read_framed(bytes)?;
-    let (_, rest) = State::read(rest)?;
-    let (digest, rest) = read_framed(rest)?;
-    let now = State::at(rt, text_of(path)?)?;
-    put_framed(out, path)?;
-    match now.is_before(before) {
-        true => now.put(out)?,
-        false => out.extend_from_slice(&NO_STATE)?,
+    let (mut row, rest) = file_ahead(bytes)?;
+    row.state = State::at(rt, text_of(row.path)?)?;
+    match row.state.is_before(before) {
+        true => row.put(out)?,
+        false => put_without_state(row, out)?,
     }
-    put_framed(out, digest)?;
     Ok(rest)
 }
 

@@ -262,6 +262,24 @@ fn search_sources<'a, R: Files + AllocGlobal>(
     Ok(())
 }
 
+/// Has all watched that a text hangs on which is made of these sources, of which the first is the input.
+fn watch_all<'a, R: Files + AllocGlobal>(
+    rt: &R,
+    words: &[OsBytes],
+    list: &SearchList<'_>,
+    sources: &[Source<'a>],
+    all: &mut [Directives<'a>],
+    watching: &mut Watching<'_, 'a>,
+) -> Result<(), Unwatched> {
+    take_sources(rt.alloc(), sources, all, watching)?;
+    watching.take_folders(rt, list)?;
+    search_words(rt, list, words, watching)?;
+    let name = PREDEFINED;
+    let search = Search::Bracketed;
+    watching.search(rt, list, b"", Asked { name, search })?;
+    search_sources(rt, words, list, sources, all, watching)
+}
+
 /// What to watch of a text that is made of these sources, of which the first is the input, by what its compiler said of where it looks.
 pub fn list_of<R: Files + AllocGlobal>(
     rt: &R,
@@ -280,12 +298,6 @@ pub fn list_of<R: Files + AllocGlobal>(
     };
     let mut all = directives_in(alloc, sources)?;
     let mut watching = Watching::new(alloc, line.dir.as_bytes(), before);
-    take_sources(alloc, sources, all.as_slice(), &mut watching)?;
-    watching.take_folders(rt, &list)?;
-    search_words(rt, &list, words, &mut watching)?;
-    let name = PREDEFINED;
-    let search = Search::Bracketed;
-    watching.search(rt, &list, b"", Asked { name, search })?;
-    search_sources(rt, words, &list, sources, all.as_mut_slice(), &mut watching)?;
+    watch_all(rt, words, &list, sources, all.as_mut_slice(), &mut watching)?;
     watching.into_list(alloc)
 }

@@ -37,6 +37,72 @@ impl Hold {
     }
 }
 
+/// A folder in a list.
+#[derive(Clone, Copy)]
+pub(crate) struct FolderRow<'a> {
+    pub(crate) path: &'a [u8],
+    pub(crate) state: State,
+    /// How it may be another one, by its number.
+    pub(crate) hold: u64,
+    /// Names with what was there.
+    pub(crate) names: &'a [u8],
+}
+
+impl FolderRow<'_> {
+    /// Adds it.
+    pub(crate) fn put(&self, out: &mut Vec<u8>) -> Result<(), AllocError> {
+        put_framed(out, self.path)?;
+        self.state.put(out)?;
+        put_number(out, self.hold)?;
+        put_framed(out, self.names)
+    }
+}
+
+/// The folder at the front of these bytes, and what comes after it.
+pub(crate) fn folder_ahead(bytes: &[u8]) -> Result<(FolderRow<'_>, &[u8]), ReadFault> {
+    let (path, rest) = read_framed(bytes)?;
+    let (state, rest) = State::read(rest)?;
+    let (hold, rest) = read_number(rest)?;
+    let (names, rest) = read_framed(rest)?;
+    let row = FolderRow {
+        path,
+        state,
+        hold,
+        names,
+    };
+    Ok((row, rest))
+}
+
+/// A file in a list, or a folder with an empty digest.
+#[derive(Clone, Copy)]
+pub(crate) struct FileRow<'a> {
+    pub(crate) path: &'a [u8],
+    pub(crate) state: State,
+    pub(crate) digest: &'a [u8],
+}
+
+impl FileRow<'_> {
+    /// Adds it.
+    pub(crate) fn put(&self, out: &mut Vec<u8>) -> Result<(), AllocError> {
+        put_framed(out, self.path)?;
+        self.state.put(out)?;
+        put_framed(out, self.digest)
+    }
+}
+
+/// The file at the front of these bytes, and what comes after it.
+pub(crate) fn file_ahead(bytes: &[u8]) -> Result<(FileRow<'_>, &[u8]), ReadFault> {
+    let (path, rest) = read_framed(bytes)?;
+    let (state, rest) = State::read(rest)?;
+    let (digest, rest) = read_framed(rest)?;
+    let row = FileRow {
+        path,
+        state,
+        digest,
+    };
+    Ok((row, rest))
+}
+
 /// A folder in which names were looked for.
 #[derive(Drop)]
 pub(crate) struct Folder {
@@ -66,10 +132,13 @@ impl Folder {
             (false, true) => Hold::Settled,
             (false, false) => Hold::Names,
         };
-        put_framed(out, path.as_bytes())?;
-        self.state.put(out)?;
-        put_number(out, hold.code())?;
-        put_framed(out, self.names.as_slice())
+        let row = FolderRow {
+            path: path.as_bytes(),
+            state: self.state,
+            hold: hold.code(),
+            names: self.names.as_slice(),
+        };
+        row.put(out)
     }
 }
 
@@ -124,15 +193,12 @@ fn folder_holds<'a, R: Files + AllocGlobal>(
     rt: &R,
     bytes: &'a [u8],
 ) -> Result<(bool, &'a [u8]), Unwatched> {
-    let (path, rest) = read_framed(bytes)?;
-    let (then, rest) = State::read(rest)?;
-    let (hold, rest) = read_number(rest)?;
-    let (names, rest) = read_framed(rest)?;
-    let path = text_of(path)?;
+    let (row, rest) = folder_ahead(bytes)?;
+    let path = text_of(row.path)?;
     let now = State::at(rt, path)?;
-    let may_be_another = hold != Hold::Same.code() || now.is_same(then);
-    let holds = (hold == Hold::Settled.code() && now == then)
-        || (may_be_another && names_hold(rt, path, names)?);
+    let may_be_another = row.hold != Hold::Same.code() || now.is_same(row.state);
+    let holds = (row.hold == Hold::Settled.code() && now == row.state)
+        || (may_be_another && names_hold(rt, path, row.names)?);
     Ok((holds, rest))
 }
 
@@ -152,12 +218,10 @@ fn file_holds<'a, R: Files + AllocGlobal>(
     rt: &R,
     bytes: &'a [u8],
 ) -> Result<(bool, &'a [u8]), Unwatched> {
-    let (path, rest) = read_framed(bytes)?;
-    let (then, rest) = State::read(rest)?;
-    let (digest, rest) = read_framed(rest)?;
-    let path = text_of(path)?;
-    let holds = State::at(rt, path)? == then
-        || (!digest.is_empty() && contents_at(rt, path)?.as_bytes() == digest);
+    let (row, rest) = file_ahead(bytes)?;
+    let path = text_of(row.path)?;
+    let holds = State::at(rt, path)? == row.state
+        || (!row.digest.is_empty() && contents_at(rt, path)?.as_bytes() == row.digest);
     Ok((holds, rest))
 }
 

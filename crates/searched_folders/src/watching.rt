@@ -13,7 +13,6 @@ use source_directives::directives::{Asked, Search};
 use std::alloc::Global;
 use std::collections::{BTreeMap, BTreeSet, HashSet};
 use std::fs;
-use std::iter::once;
 use std::rt::Files;
 
 /// What was looked at so far.
@@ -244,18 +243,29 @@ impl<'d, 'a> Watching<'d, 'a> {
         Ok(())
     }
 
+    /// Has folders watched in which the compiler looks.
+    fn take_searched<R: Files + AllocGlobal>(
+        &mut self,
+        rt: &R,
+        folders: &[&str],
+    ) -> Result<(), Unwatched> {
+        for folder in folders {
+            let path = path_in(rt.alloc(), self.dir, folder.as_bytes(), b"")?;
+            if !self.take_folder(rt, path.trim_end_matches('/'))? {
+                return Err(Unwatched::List);
+            }
+        }
+        Ok(())
+    }
+
     /// Has the folders watched in which the compiler looks, and those that it leaves out.
     pub fn take_folders<R: Files + AllocGlobal>(
         &mut self,
         rt: &R,
         list: &SearchList<'_>,
     ) -> Result<(), Unwatched> {
-        for folder in list.quoted.iter().chain(list.bracketed.iter()) {
-            let path = path_in(rt.alloc(), self.dir, folder.as_bytes(), b"")?;
-            if !self.take_folder(rt, path.trim_end_matches('/'))? {
-                return Err(Unwatched::List);
-            }
-        }
+        self.take_searched(rt, list.quoted.as_slice())?;
+        self.take_searched(rt, list.bracketed.as_slice())?;
         for folder in list.left_out.as_slice() {
             self.take_left_out(rt, folder)?;
         }
@@ -279,6 +289,33 @@ impl<'d, 'a> Watching<'d, 'a> {
         Ok(())
     }
 
+    /// Has it watched that nothing of that name lies in a folder.
+    fn is_not_in<R: Files + AllocGlobal>(
+        &mut self,
+        rt: &R,
+        folder: &[u8],
+        name: &[u8],
+    ) -> Result<(), Unwatched> {
+        let path = path_in(rt.alloc(), self.dir, folder, name)?;
+        match self.look(rt, path.as_str())? {
+            Found::Nothing => Ok(()),
+            _ => Err(Unwatched::Precompiled),
+        }
+    }
+
+    /// Has it watched that nothing of that name lies in one of these folders.
+    fn is_in_none<R: Files + AllocGlobal>(
+        &mut self,
+        rt: &R,
+        folders: &[&str],
+        name: &[u8],
+    ) -> Result<(), Unwatched> {
+        for folder in folders {
+            self.is_not_in(rt, folder.as_bytes(), name)?;
+        }
+        Ok(())
+    }
+
     /// Has it watched that no precompiled header of that ending lies beside a name, in none of the folders in which it is looked for.
     pub fn look_for_precompiled<R: Files + AllocGlobal>(
         &mut self,
@@ -291,14 +328,10 @@ impl<'d, 'a> Watching<'d, 'a> {
         let mut precompiled = Vec::new(rt.alloc());
         precompiled.extend_from_slice(name)?;
         precompiled.extend_from_slice(ending)?;
-        let others = list.quoted.iter().chain(list.bracketed.iter());
-        for folder in others.map(|folder| folder.as_bytes()).chain(once(beside)) {
-            let path = path_in(rt.alloc(), self.dir, folder, precompiled.as_slice())?;
-            if self.look(rt, path.as_str())? != Found::Nothing {
-                return Err(Unwatched::Precompiled);
-            }
-        }
-        Ok(())
+        let name = precompiled.as_slice();
+        self.is_in_none(rt, list.quoted.as_slice(), name)?;
+        self.is_in_none(rt, list.bracketed.as_slice(), name)?;
+        self.is_not_in(rt, beside, name)
     }
 
     /// Adds the number of the folders that are there, then the folders.
