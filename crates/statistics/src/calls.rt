@@ -80,31 +80,73 @@ fn front_of(text: &str) -> &str {
     }
 }
 
-/// The counters of a call that the session passed through, or for which it wasn't asked.
-fn of_pass(
+/// Adds a counter.
+fn push(alloc: Global, counter: &str, counters: &mut Vec<String>) -> Result<(), AllocError> {
+    Ok(counters.push(String::from_str(alloc, counter)?)?)
+}
+
+/// Adds a counter whose name is that front, followed by a text.
+fn push_name(
+    alloc: Global,
+    front: &str,
+    text: &str,
+    counters: &mut Vec<String>,
+) -> Result<(), AllocError> {
+    Ok(counters.push(name_of(alloc, front, text)?)?)
+}
+
+/// The counter of a call that was passed through for a reason that has one.
+fn of_reason(why: &str, words: &[OsBytes]) -> Option<&'static str> {
+    if why == "not a compilation" {
+        Some(without_object(words))
+    } else if why == "-E" {
+        Some("called_for_preprocessing")
+    } else if why == TO_STANDARD_OUTPUT {
+        Some("output_to_stdout")
+    } else if why == "-" {
+        Some("uncacheable_standard_input")
+    } else {
+        None
+    }
+}
+
+/// Adds the counters of a call that the session passed through, or for which it wasn't asked.
+fn push_pass(
     alloc: Global,
     why: &str,
     words: &[OsBytes],
     counters: &mut Vec<String>,
 ) -> Result<(), AllocError> {
-    if why == "not a compilation" {
-        counters.push(String::from_str(alloc, without_object(words))?)?;
-    } else if why == "-E" {
-        counters.push(String::from_str(alloc, "called_for_preprocessing")?)?;
-    } else if why == TO_STANDARD_OUTPUT {
-        counters.push(String::from_str(alloc, "output_to_stdout")?)?;
-    } else if why == "-" {
-        counters.push(String::from_str(alloc, "uncacheable_standard_input")?)?;
-    } else if why.starts_with('-') || why.starts_with('@') {
-        counters.push(String::from_str(alloc, "unsupported_compiler_option")?)?;
-        counters.push(name_of(alloc, "option_", front_of(why))?)?;
-    } else if is_variable(why) {
-        counters.push(String::from_str(alloc, "unsupported_environment_variable")?)?;
-        counters.push(name_of(alloc, "variable_", why)?)?;
-    } else {
-        counters.push(name_of(alloc, UNCACHEABLE, front_of(why))?)?;
+    if let Some(counter) = of_reason(why, words) {
+        return push(alloc, counter, counters);
     }
-    Ok(())
+    let front = if why.starts_with('-') || why.starts_with('@') {
+        push(alloc, "unsupported_compiler_option", counters)?;
+        "option_"
+    } else if is_variable(why) {
+        push(alloc, "unsupported_environment_variable", counters)?;
+        "variable_"
+    } else {
+        UNCACHEABLE
+    };
+    push_name(alloc, front, front_of(why), counters)
+}
+
+/// Adds the counters of a call with these words that was passed through for this reason.
+fn push_counters(
+    alloc: Global,
+    reason: &str,
+    words: &[OsBytes],
+    counters: &mut Vec<String>,
+) -> Result<(), AllocError> {
+    if let Some(counter) = by_beginning(reason) {
+        return push(alloc, counter, counters);
+    }
+    match reason.split_once(": ") {
+        Some(("pass", why)) => push_pass(alloc, why, words, counters),
+        Some((_, why)) => push_name(alloc, ERROR, why, counters),
+        None => push_name(alloc, ERROR, reason, counters),
+    }
 }
 
 /// The counters of a call with these words that was passed through for this reason: the first says what it came to, and one after it says
@@ -115,14 +157,6 @@ pub fn counters_of(
     words: &[OsBytes],
 ) -> Result<Vec<String>, AllocError> {
     let mut counters = Vec::new(alloc);
-    if let Some(counter) = by_beginning(reason) {
-        counters.push(String::from_str(alloc, counter)?)?;
-        return Ok(counters);
-    }
-    match reason.split_once(": ") {
-        Some(("pass", why)) => of_pass(alloc, why, words, &mut counters)?,
-        Some((_, why)) => counters.push(name_of(alloc, ERROR, why)?)?,
-        None => counters.push(name_of(alloc, ERROR, reason)?)?,
-    }
+    push_counters(alloc, reason, words, &mut counters)?;
     Ok(counters)
 }

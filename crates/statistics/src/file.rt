@@ -7,7 +7,7 @@ use crate::names::ZEROED;
 use crate::record::{SIZE, put_record};
 use disk_files::rights::{give_rights, make_folders};
 use disk_files::whole::read_whole;
-use std::alloc::Global;
+use std::alloc::{AllocError, Global};
 use std::fs::{File, OpenOptions};
 use std::io::{ErrorKind, Write};
 use std::os::unix::fs::MetadataExt;
@@ -102,6 +102,41 @@ fn fold<R: Files + AllocGlobal>(
     replace(rt, place, umask, counts.records(rt.alloc())?.as_slice())
 }
 
+/// Takes a record away that a full disk cut short, and says how long the file was.
+fn cut_rest(file: &File) -> io::Result<u64> {
+    let size = file.metadata()?.len();
+    let rest = size % SIZE as u64;
+    if rest != 0 {
+        file.set_len(size - rest)?;
+    }
+    Ok(size)
+}
+
+/// The records that count these names once each.
+fn records_of(alloc: Global, names: &[String]) -> Result<Vec<u8>, AllocError> {
+    let mut records = Vec::new(alloc);
+    for name in names {
+        put_record(&mut records, name.as_bytes(), 1)?;
+    }
+    Ok(records)
+}
+
+/// Counts these names once more each in the file of that name.
+fn count_in<R: Files<File = File> + AllocGlobal>(
+    rt: &R,
+    place: &str,
+    umask: Option<u32>,
+    names: &[String],
+) -> Result<(), StatisticsError> {
+    let mut file = locked(rt, place, umask)?;
+    let size = cut_rest(&file)?;
+    file.write_all(records_of(rt.alloc(), names)?.as_slice())?;
+    match size > LONG {
+        true => fold(rt, place, umask),
+        false => Ok(()),
+    }
+}
+
 /// Counts these names once more each, in a file that is made under this umask where it isn't there. A record that a full disk cut
 /// short is taken away first.
 pub fn count<R: Files<File = File> + AllocGlobal>(
@@ -111,21 +146,7 @@ pub fn count<R: Files<File = File> + AllocGlobal>(
     names: &[String],
 ) -> Result<(), StatisticsError> {
     let place = place_in(rt, path, umask)?;
-    let mut file = locked(rt, place.as_str(), umask)?;
-    let size = file.metadata()?.len();
-    let rest = size % SIZE as u64;
-    if rest != 0 {
-        file.set_len(size - rest)?;
-    }
-    let mut records = Vec::new(rt.alloc());
-    for name in names {
-        put_record(&mut records, name.as_bytes(), 1)?;
-    }
-    file.write_all(records.as_slice())?;
-    if size > LONG {
-        fold(rt, place.as_str(), umask)?;
-    }
-    Ok(())
+    count_in(rt, place.as_str(), umask, names)
 }
 
 /// What was counted so far in the folder of this path; nothing where there is no file.
