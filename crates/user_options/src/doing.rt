@@ -228,26 +228,46 @@ where
     }
 }
 
+/// Does what options ask for, in order.
+fn do_all<R>(
+    rt: &R,
+    caller: &Caller<'_>,
+    place: &mut Place,
+    asked: &[Asked<'_>],
+) -> Result<(), OptionError>
+where
+    R: Print + Files<File = File> + Env + Clock + AllocGlobal + Clone + Drop,
+{
+    for option in asked {
+        do_one(rt, caller, place, *option)?;
+    }
+    Ok(())
+}
+
+/// What these options are done with.
+fn place_of<R: Files + Env + AllocGlobal>(
+    rt: &R,
+    caller: &Caller<'_>,
+    asked: &[Asked<'_>],
+) -> Result<Place, OptionError> {
+    let variables = variables(rt)?;
+    let settings = read_settings(rt, &variables)?;
+    let kept = kept_of(rt.alloc(), caller, &settings, asked)?;
+    let is_verbose = asked.contains(&Asked::Verbose);
+    Ok(Place {
+        settings,
+        variables,
+        kept,
+        is_verbose,
+    })
+}
+
 /// Does what these words ask for, in order.
 pub fn do_options<R>(rt: &R, caller: &Caller<'_>, words: &[String]) -> Result<(), OptionError>
 where
     R: Print + Files<File = File> + Env + Clock + AllocGlobal + Clone + Drop,
 {
-    let alloc = rt.alloc();
-    let asked = read_options(alloc, words)?;
-    let asked = asked.as_slice();
-    let variables = variables(rt)?;
-    let settings = read_settings(rt, &variables)?;
-    let kept = kept_of(alloc, caller, &settings, asked)?;
-    let is_verbose = asked.contains(&Asked::Verbose);
-    let mut place = Place {
-        settings,
-        variables,
-        kept,
-        is_verbose,
-    };
-    for option in asked {
-        do_one(rt, caller, &mut place, *option)?;
-    }
-    Ok(())
+    let asked = read_options(rt.alloc(), words)?;
+    let mut place = place_of(rt, caller, asked.as_slice())?;
+    do_all(rt, caller, &mut place, asked.as_slice())
 }

@@ -44,11 +44,20 @@ fn read_long<'a>(
             None => None,
         },
     };
+    take(alloc, word, option, asked)
+}
+
+/// Takes what a word asks for. One that asks for nothing is wrong.
+fn take<'a>(
+    alloc: Global,
+    word: &str,
+    option: Option<Asked<'a>>,
+    asked: &mut Vec<Asked<'a>>,
+) -> Result<(), OptionError> {
     match option {
-        Some(option) => asked.push(option)?,
-        None => return Err(wrong(alloc, word)?),
+        Some(option) => Ok(asked.push(option)?),
+        None => Err(wrong(alloc, word)?),
     }
-    Ok(())
 }
 
 /// The value of a short option: what comes after its letter, or the next word.
@@ -56,6 +65,14 @@ fn value_behind<'a>(rest: &'a str, words: &mut Words<'a>) -> Option<&'a str> {
     match rest.is_empty() {
         true => words.take(),
         false => Some(rest),
+    }
+}
+
+/// The option of that name, with the value behind it.
+fn valued<'a>(name: &str, rest: &'a str, words: &mut Words<'a>) -> Option<Asked<'a>> {
+    match value_behind(rest, words) {
+        Some(value) => Asked::with_value(name, value),
+        None => None,
     }
 }
 
@@ -79,16 +96,7 @@ fn read_short<'a>(
             Some((_, rest)) => rest,
             None => "",
         };
-        let value = value_behind(rest, words);
-        let option = match value {
-            Some(value) => Asked::with_value(name.as_str(), value),
-            None => None,
-        };
-        match option {
-            Some(option) => asked.push(option)?,
-            None => return Err(wrong(alloc, word)?),
-        }
-        return Ok(());
+        return take(alloc, word, valued(name.as_str(), rest, words), asked);
     }
     Ok(())
 }

@@ -102,6 +102,49 @@ fn print_rows<R: Print>(rt: &R, rows: &[(&str, u64)]) -> Result<(), OptionError>
     Ok(())
 }
 
+/// Prints the number of calls that were passed through, or of failures on this side, and of each name among these.
+fn print_kind<R: Print + AllocGlobal>(
+    rt: &R,
+    statistics: &Statistics,
+    name: &str,
+    errors: bool,
+) -> Result<(), OptionError> {
+    let rows = statistics.rows(rt.alloc(), errors)?;
+    let number = total_of(rows.as_slice());
+    println!(rt; "{name:<24}{number:>8}")?;
+    print_rows(rt, rows.as_slice())
+}
+
+/// Prints what calls came to that are kept.
+fn print_shares<R: Print>(rt: &R, statistics: &Statistics) -> Result<(), OptionError> {
+    let hits = statistics.sum_of(&HITS);
+    let misses = statistics.sum_of(&MISSES);
+    let all = hits.saturating_add(misses);
+    let direct = statistics.counts.number_of("direct_cache_hit");
+    let by_text = statistics.counts.number_of("preprocessed_cache_hit");
+    print_share(rt, "Hits:", hits, all)?;
+    print_share(rt, "  Direct:", direct, all)?;
+    print_share(rt, "  By text:", by_text, all)?;
+    print_share(rt, "Misses:", all.saturating_sub(hits), all)?;
+    match statistics.sum_of(&REMOTE) {
+        0 => Ok(()),
+        asked => {
+            let remote = statistics.counts.number_of("remote_storage_hit");
+            print_share(rt, "Remote hits:", remote, asked)
+        }
+    }
+}
+
+/// Prints how much is kept, and where.
+fn print_kept<R: Print>(rt: &R, bytes: u64, kept: &str, limit: u64) -> Result<(), OptionError> {
+    match limit {
+        0 => println!(rt; "Kept:                   {bytes} bytes, without a limit")?,
+        limit => println!(rt; "Kept:                   {bytes} bytes of at most {limit}")?,
+    }
+    println!(rt; "Directory:              {kept}")?;
+    Ok(())
+}
+
 /// Prints all as people read it.
 pub fn show<R: Print + AllocGlobal>(
     rt: &R,
@@ -111,49 +154,13 @@ pub fn show<R: Print + AllocGlobal>(
     built: &str,
     is_verbose: bool,
 ) -> Result<(), OptionError> {
-    let alloc = rt.alloc();
-    let hits = statistics.sum_of(&HITS);
-    let cacheable = hits.saturating_add(statistics.sum_of(&MISSES));
-    print_share(rt, "Hits:", hits, cacheable)?;
-    print_share(
-        rt,
-        "  Direct:",
-        statistics.sum_of(&["direct_cache_hit"]),
-        cacheable,
-    )?;
-    print_share(
-        rt,
-        "  By text:",
-        statistics.sum_of(&["preprocessed_cache_hit"]),
-        cacheable,
-    )?;
-    print_share(rt, "Misses:", cacheable.saturating_sub(hits), cacheable)?;
-    let asked = statistics.sum_of(&REMOTE);
-    if asked != 0 {
-        print_share(
-            rt,
-            "Remote hits:",
-            statistics.sum_of(&["remote_storage_hit"]),
-            asked,
-        )?;
-    }
-    let passed = statistics.rows(alloc, false)?;
-    let number = total_of(passed.as_slice());
-    println!(rt; "Uncacheable:            {number:>8}")?;
-    print_rows(rt, passed.as_slice())?;
-    let errors = statistics.rows(alloc, true)?;
-    let number = total_of(errors.as_slice());
-    println!(rt; "Errors:                 {number:>8}")?;
-    print_rows(rt, errors.as_slice())?;
+    print_shares(rt, statistics)?;
+    print_kind(rt, statistics, "Uncacheable:", false)?;
+    print_kind(rt, statistics, "Errors:", true)?;
     if is_verbose {
         show_details(rt, statistics)?;
     }
-    let bytes = statistics.bytes;
-    match limit {
-        0 => println!(rt; "Kept:                   {bytes} bytes, without a limit")?,
-        limit => println!(rt; "Kept:                   {bytes} bytes of at most {limit}")?,
-    }
-    println!(rt; "Directory:              {kept}")?;
+    print_kept(rt, statistics.bytes, kept, limit)?;
     let proved = line_of(built, "proved ");
     println!(rt; "Program:                {proved}")?;
     Ok(())
@@ -180,25 +187,48 @@ fn show_details<R: Print + AllocGlobal>(
 /// Prints names and numbers with a tab between them: ccache's names that we count, also where they are 0, and all others.
 pub fn print<R: Print + AllocGlobal>(rt: &R, statistics: &Statistics) -> Result<(), OptionError> {
     let counts = &statistics.counts;
-    let cacheable = HITS.iter().chain(MISSES.iter());
-    for name in cacheable.chain(PASSED.iter()).chain(REMOTE.iter()) {
+    print_numbers(rt, counts, &HITS)?;
+    print_numbers(rt, counts, &MISSES)?;
+    print_numbers(rt, counts, &PASSED)?;
+    print_numbers(rt, counts, &REMOTE)?;
+    print_others(rt, counts)?;
+    print_whole(rt, statistics)
+}
+
+/// Prints these names with their numbers.
+fn print_numbers<R: Print>(rt: &R, counts: &Counts, names: &[&str]) -> Result<(), OptionError> {
+    for name in names {
         let number = counts.number_of(name);
         println!(rt; "{name}\t{number}")?;
     }
+    Ok(())
+}
+
+/// Whether it is one of the names that are printed in each case.
+fn is_usual(name: &str) -> bool {
+    HITS.contains(&name)
+        || MISSES.contains(&name)
+        || PASSED.contains(&name)
+        || REMOTE.contains(&name)
+        || name == ZEROED
+        || name == "cleanups_performed"
+}
+
+/// Prints the names that aren't printed in each case, with their numbers.
+fn print_others<R: Print + AllocGlobal>(rt: &R, counts: &Counts) -> Result<(), OptionError> {
     for name in counts.names(rt.alloc())? {
-        if !HITS.contains(&name)
-            && !MISSES.contains(&name)
-            && !PASSED.contains(&name)
-            && !REMOTE.contains(&name)
-            && name != ZEROED
-            && name != "cleanups_performed"
-        {
+        if !is_usual(name) {
             let number = counts.number_of(name);
             println!(rt; "{name}\t{number}")?;
         }
     }
-    let cleanups = counts.number_of("cleanups_performed");
-    let zeroed = counts.number_of(ZEROED);
+    Ok(())
+}
+
+/// Prints what is known of all that is kept.
+fn print_whole<R: Print>(rt: &R, statistics: &Statistics) -> Result<(), OptionError> {
+    let cleanups = statistics.counts.number_of("cleanups_performed");
+    let zeroed = statistics.counts.number_of(ZEROED);
     let updated = statistics.updated;
     let files = statistics.files;
     let kibibytes = statistics.bytes / 1024;
