@@ -2,6 +2,7 @@
 
 use crate::known::{Given, Known};
 use cache_dir::folder::Kind;
+use cache_format::kept_result::KeptMessages;
 use host_protocol::command_line::CommandLine;
 use host_protocol::fields::text_in;
 use host_protocol::host_error::HostError;
@@ -73,6 +74,31 @@ impl Audited {
     }
 }
 
+/// A copy of bytes, where there are some.
+fn copy_of(contents: &Option<OsBytes>) -> Result<Option<OsBytes>, AllocError> {
+    match contents {
+        Some(contents) => Ok(Some(contents.clone()?)),
+        None => Ok(None),
+    }
+}
+
+/// Copies of a hit that is kept under that digest.
+fn audited_of(
+    alloc: Global,
+    digest: &OsBytes,
+    given: &Given<'_>,
+    messages: &KeptMessages,
+) -> Result<Audited, AllocError> {
+    Ok(Audited {
+        how: given.how,
+        digest: digest.clone()?,
+        outputs: copies_of(alloc, given.outputs)?,
+        printed: messages.printed.clone()?,
+        errors: messages.errors.clone()?,
+        dependencies: copy_of(&messages.dependencies)?,
+    })
+}
+
 impl Known {
     /// Whether a hit is compiled too. It is a miss from now on then.
     pub fn is_to_audit(
@@ -94,17 +120,7 @@ impl Known {
             return Ok(false);
         }
         self.looked_up = Some(key.digest.clone()?);
-        self.audited = Some(Audited {
-            how: given.how,
-            digest: key.digest.clone()?,
-            outputs: copies_of(alloc, given.outputs)?,
-            printed: messages.printed.clone()?,
-            errors: messages.errors.clone()?,
-            dependencies: match &messages.dependencies {
-                Some(dependencies) => Some(dependencies.clone()?),
-                None => None,
-            },
-        });
+        self.audited = Some(audited_of(alloc, &key.digest, given, messages)?);
         Ok(true)
     }
 

@@ -40,6 +40,19 @@ pub fn hint_name(alloc: Global, line: &CommandLine) -> Result<String, HostError>
     Ok(digest_of(alloc, row.as_slice())?)
 }
 
+/// What is kept under this digest.
+fn entry_under<R: Files + AllocGlobal>(
+    rt: &R,
+    line: &CommandLine,
+    digest: OsBytes,
+) -> Result<Option<KeptResult>, HostError> {
+    let name = into_text(digest)?;
+    match line.folder.read(rt, Kind::Results, name.as_str()) {
+        Ok(bytes) => Ok(unseal::<Blake2b256, KeptResult>(rt.alloc(), bytes.as_slice())?),
+        Err(_) => Ok(None),
+    }
+}
+
 /// What is kept under this digest, where the preprocessor printed these messages then: it may print others beside the same text. Nothing
 /// where all is to be kept anew.
 pub fn found<R: Files + AllocGlobal>(
@@ -51,14 +64,11 @@ pub fn found<R: Files + AllocGlobal>(
     if line.settings.is_on(Key::Recache) {
         return Ok(None);
     }
-    let name = into_text(digest)?;
-    let Ok(bytes) = line.folder.read(rt, Kind::Results, name.as_str()) else {
-        return Ok(None);
-    };
-    let Some(entry) = unseal::<Blake2b256, KeptResult>(rt.alloc(), bytes.as_slice())? else {
+    let Some(entry) = entry_under(rt, line, digest)? else {
         return Ok(None);
     };
     if entry.messages.preprocessor.as_bytes() != messages {
+        drop(entry);
         return Ok(None);
     }
     Ok(Some(kept_of(rt.alloc(), entry)?))
@@ -120,6 +130,17 @@ pub fn note_hint<R: Files + AllocGlobal>(
     Ok(line.folder.put(rt, Kind::Hints, hint, bytes.as_slice())?)
 }
 
+/// The bytes of what is kept of outputs under the key, with what was printed beside them.
+fn sealed(
+    alloc: Global,
+    key: &StoreKey,
+    outputs: &[Output],
+    messages: KeptMessages,
+) -> Result<Vec<u8>, HostError> {
+    let entry = entry_of(alloc, key, outputs, messages)?;
+    Ok(seal::<Blake2b256, KeptResult>(alloc, &entry)?)
+}
+
 /// Keeps outputs under the key, with what was printed beside them, where they aren't too large for the limit.
 pub fn keep<R: Files + AllocGlobal>(
     rt: &R,
@@ -128,8 +149,7 @@ pub fn keep<R: Files + AllocGlobal>(
     outputs: &[Output],
     messages: KeptMessages,
 ) -> Result<(), HostError> {
-    let entry = entry_of(rt.alloc(), key, outputs, messages)?;
-    let bytes = seal::<Blake2b256, KeptResult>(rt.alloc(), &entry)?;
+    let bytes = sealed(rt.alloc(), key, outputs, messages)?;
     let name = into_text(key.digest.clone()?)?;
     let folder = &line.folder;
     if !takes(folder.limit, bytes.len() as u64) {

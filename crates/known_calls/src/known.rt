@@ -40,7 +40,6 @@ use unkept_texts::directives::takes_files;
 use unkept_texts::times::tells_time;
 use wrap_base::answer::{How, Output};
 use wrap_base::store_key::{Shape, StoreKey};
-use wrap_base::tool::Compiled;
 use written_lines::asked::Asked;
 use written_lines::lines::{digest_asked, digest_of_contents};
 use written_lines::named::NamedFiles;
@@ -98,7 +97,7 @@ pub struct Known {
     pub printed: OsBytes,
     pub errors: OsBytes,
     /// How many microseconds the compile took; nothing where it didn't run.
-    compile_time: Option<u64>,
+    pub(crate) compile_time: Option<u64>,
 }
 
 impl Known {
@@ -381,7 +380,7 @@ impl Known {
 
     /// The words by which the host compiles: the caller's own, followed by the one for colours, where the session's have it, the compiler
     /// takes it, and there is a text to which that compiler has something to say.
-    fn own_words(
+    pub(crate) fn own_words(
         &self,
         alloc: Global,
         line: &CommandLine,
@@ -399,7 +398,7 @@ impl Known {
     }
 
     /// Takes the dependency file that the compile wrote. What is missing, or names files that the text doesn't have, isn't kept.
-    fn take_written<R: Files + AllocGlobal>(
+    pub(crate) fn take_written<R: Files + AllocGlobal>(
         &mut self,
         rt: &R,
         key: &StoreKey,
@@ -433,29 +432,13 @@ impl Known {
         requires { host.old.compiled ≡ 0 }
         ensures { host.new.compiled ≤ 1 }
     {
-        let Wanted { words, paths, .. } = wanted;
         let names = key.names.clone()?;
-        let own = self.own_words(rt.alloc(), line, words.as_slice())?;
-        let paths = paths.as_slice();
-        // Until what was made is read no other call writes these files.
-        let locks = lock_paths(rt, line, paths, self.dependency_file())?;
-        let before = states_of(rt, paths)?;
-        let ended = host.compile(rt, rt.alloc(), own.as_slice())?;
-        self.are_unchanged = false;
-        self.printed = printed_at(rt, &ended, line.printed.as_str())?;
-        self.errors = printed_at(rt, &ended, line.errors.as_str())?;
-        self.compile_time = Some(ended.time);
-        let contents = made_since(rt, paths, before.as_slice())?;
-        let status = ended.status;
-        if status == 0 {
-            self.take_written(rt, key)?;
-        }
-        drop(locks);
+        let made = self.made_by(rt, line, host, key, &wanted)?;
         self.tool.outputs = Some(RecordedOutputs {
             kind: self.kind,
-            words,
+            words: wanted.words,
             names,
-            made: Compiled { status, contents },
+            made,
         });
         Ok(())
     }
@@ -580,7 +563,7 @@ fn is_preprocessed(key: &StoreKey) -> bool {
 }
 
 /// What a command printed there.
-fn printed_at<R: Files + AllocGlobal>(
+pub(crate) fn printed_at<R: Files + AllocGlobal>(
     rt: &R,
     ended: &Ended,
     place: &str,

@@ -2,6 +2,7 @@
 #![tactic(auto)]
 
 pub mod audits;
+mod compiling;
 pub mod kept;
 pub mod known;
 mod manifests;

@@ -62,6 +62,18 @@ impl KnownManifest {
     }
 }
 
+impl KnownManifest {
+    /// Has these results alone in the place of those that it has, which stay in it as a whole where no others were left out before.
+    fn leave_out(&mut self, rest: PreprocessorCacheEntry) {
+        if let Some((key, entry)) = self.kept.take() {
+            self.kept = Some((key, rest));
+            if self.whole.is_none() {
+                self.whole = Some(entry);
+            }
+        }
+    }
+}
+
 /// What is noted of headers in what a manifest has beside its results, and the lists after it.
 fn noted_in(watched: &[u8]) -> (&[u8], &[u8]) {
     let Ok((key, rest)) = read_framed(watched) else {
@@ -90,6 +102,19 @@ impl Known {
         self.record.kept.is_none() && self.record.whole.is_none()
     }
 
+    /// Has the files loaded that a manifest names. False where one of them can't be determined.
+    fn load_files_of<R: Files + AllocGlobal>(
+        &mut self,
+        rt: &R,
+        line: &CommandLine,
+        found: &FoundManifest,
+    ) -> Result<bool, HostError> {
+        let noted = noted_in(found.watched.as_bytes()).0;
+        self.tokens.take_rows(rt.alloc(), noted)?;
+        let names = found.names.as_slice();
+        load_all(rt, line, names, &mut self.files, &mut self.tokens)
+    }
+
     /// Has the files that a manifest names loaded, then takes the manifest. False where one of the files can't be determined.
     pub fn take_manifest<R: Files + AllocGlobal>(
         &mut self,
@@ -97,25 +122,13 @@ impl Known {
         line: &CommandLine,
         found: FoundManifest,
     ) -> Result<bool, HostError> {
-        let FoundManifest {
-            key,
-            entry,
-            names,
-            watched,
-        } = found;
-        self.tokens
-            .take_rows(rt.alloc(), noted_in(watched.as_bytes()).0)?;
-        if !load_all(
-            rt,
-            line,
-            names.as_slice(),
-            &mut self.files,
-            &mut self.tokens,
-        )? {
-            return Ok(false);
+        let are_loaded = self.load_files_of(rt, line, &found);
+        if !matches!(are_loaded, Ok(true)) {
+            drop(found);
+            return are_loaded;
         }
-        self.record.kept = Some((key, entry));
-        self.record.watched = watched;
+        self.record.kept = Some((found.key, found.entry));
+        self.record.watched = found.watched;
         Ok(true)
     }
 
@@ -175,24 +188,15 @@ impl Known {
         let (Some(key), None) = (key, &self.tool.text) else {
             return Ok(true);
         };
-        let Some((entry_key, entry)) = self.record.kept.take() else {
+        let Some((_, entry)) = &self.record.kept else {
             return Ok(true);
         };
-        let digest = key.digest.as_bytes();
-        if result_holds(
-            rt,
-            line.dir.as_bytes(),
-            self.record.watched.as_bytes(),
-            digest,
-        )? {
-            self.record.kept = Some((entry_key, entry));
+        let (dir, digest) = (line.dir.as_bytes(), key.digest.as_bytes());
+        if result_holds(rt, dir, self.record.watched.as_bytes(), digest)? {
             return Ok(true);
         }
-        let rest = without(rt.alloc(), &entry, digest)?;
-        if self.record.whole.is_none() {
-            self.record.whole = Some(entry);
-        }
-        self.record.kept = Some((entry_key, rest));
+        let rest = without(rt.alloc(), entry, digest)?;
+        self.record.leave_out(rest);
         self.looked_up = None;
         Ok(false)
     }
