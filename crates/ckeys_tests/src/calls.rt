@@ -61,6 +61,18 @@ fn told(alloc: Global, answer: Result<(String, CShape, bool), Fault>) -> Result<
     }
 }
 
+/// The key of this request of gcc in `/w` on these files, or the fault as text.
+fn key_of<F: Files>(
+    alloc: Global,
+    hasher: &CCompilerHasher<'_, Gcc>,
+    files: &mut F,
+    tool: &mut PrintTool,
+) -> Result<String, Fail> {
+    let dir = OsBytes::from_slice(alloc, b"/w")?;
+    let config = KeyConfig::new(alloc, &[], Zone::utc(), false)?;
+    told(alloc, key_by(alloc, hasher, &dir, &config, files, tool))
+}
+
 /// The key of this line of gcc in `/w` on these files, or the fault as text.
 fn key_on<F: Files>(
     alloc: Global,
@@ -68,12 +80,9 @@ fn key_on<F: Files>(
     files: &mut F,
     tool: &mut PrintTool,
 ) -> Result<String, Fail> {
-    let dir = OsBytes::from_slice(alloc, b"/w")?;
-    let config = KeyConfig::new(alloc, &[], Zone::utc(), false)?;
     let compiler = known(alloc, gcc(alloc)?)?;
     let parsed = parsed(alloc, &compiler.compiler, line)?;
-    let hasher = compiler.hasher(&parsed);
-    told(alloc, key_by(alloc, &hasher, &dir, &config, files, tool))
+    key_of(alloc, &compiler.hasher(&parsed), files, tool)
 }
 
 /// A request of gcc on one file, the bytes that are hashed of it, and how often its preprocessor runs, which prints `int x;`.

@@ -46,12 +46,17 @@ pub(crate) fn parsed<I: CCompilerImpl>(
     }
 }
 
+/// The digest of a compiler that was found.
+fn digest_in(compiler: CCompiler<Gcc>) -> String {
+    compiler.executable_digest
+}
+
 /// The digest of the compiler `/usr/bin/cc` of this version on these files, or the fault as text.
 fn found<F: Files>(alloc: Global, version: Option<&str>, files: &mut F) -> Result<String, Fail> {
-    let gcc = Gcc::new(alloc, false, copied(alloc, version)?, None)?;
     let executable = OsBytes::from_slice(alloc, b"/usr/bin/cc")?;
+    let gcc = Gcc::new(alloc, false, copied(alloc, version)?, None)?;
     match CCompiler::<Gcc>::new::<Sha256, F>(alloc, gcc, executable, files) {
-        Ok(made) => Ok(made.executable_digest),
+        Ok(made) => Ok(digest_in(made)),
         Err(fault) => Ok(format!(in alloc; "{fault}")?),
     }
 }

@@ -46,11 +46,11 @@ fn sources(alloc: Global, header: &[u8]) -> Result<MemoryFiles, AllocError> {
 /// Calls of which keys are made, each on the sources and by a tool that prints its own text.
 type Calls<'a> = Vec<HashCall<'a, Gcc, MemoryFiles, PrintTool>>;
 
+/// What calls are answered.
+type Answers = Vec<Result<(String, CShape, bool), Fault>>;
+
 /// What `hash_keys` answers of these calls from an empty store of records.
-fn answers_of(
-    alloc: Global,
-    calls: &mut Calls<'_>,
-) -> Result<Vec<Result<(String, CShape, bool), Fault>>, Fail> {
+fn answers_of(alloc: Global, calls: &mut Calls<'_>) -> Result<Answers, Fail> {
     let config = KeyConfig::new(alloc, &[], Zone::utc(), true)?;
     let mut records: Records = LruStore::new(alloc, NonZeroUsize::MIN)?;
     Ok(hash_keys::<Sha256, Gcc, Records, MemoryFiles, PrintTool>(
@@ -113,13 +113,22 @@ fn told_of(alloc: Global, calls: &mut Calls<'_>) -> Result<(Vec<(String, bool)>,
     Ok((keys, runs))
 }
 
+/// What this request is answered twice in `/w`, and how often the preprocessor ran for each.
+fn told_twice(
+    alloc: Global,
+    compiler: &CCompiler<Gcc>,
+    parsed: &ParsedArguments,
+) -> Result<(Vec<(String, bool)>, Vec<u64>), Fail> {
+    let dir = OsBytes::from_slice(alloc, b"/w")?;
+    let mut calls = two_calls(alloc, compiler, parsed, &dir)?;
+    told_of(alloc, &mut calls)
+}
+
 /// What two such calls are answered, and how often the preprocessor ran for each.
 fn asked_twice(alloc: Global) -> Result<(Vec<(String, bool)>, Vec<u64>), Fail> {
-    let dir = OsBytes::from_slice(alloc, b"/w")?;
     let compiler = known(alloc, gcc(alloc)?)?;
     let parsed = parsed(alloc, &compiler.compiler, "-c foo.c -O2")?;
-    let mut calls = two_calls(alloc, &compiler, &parsed, &dir)?;
-    told_of(alloc, &mut calls)
+    told_twice(alloc, &compiler, &parsed)
 }
 
 #[test]
@@ -151,14 +160,33 @@ fn calls_behind_a_fault<'a>(
     Ok(calls)
 }
 
-/// What two such calls are answered.
-fn asked_behind_a_fault(alloc: Global) -> Result<Vec<Result<(String, CShape, bool), Fault>>, Fail> {
+/// What these two are answered in `/w`.
+fn answers_behind_a_fault(
+    alloc: Global,
+    compiler: &CCompiler<Gcc>,
+    faulty: &ParsedArguments,
+    good: &ParsedArguments,
+) -> Result<Answers, Fail> {
     let dir = OsBytes::from_slice(alloc, b"/w")?;
+    let mut calls = calls_behind_a_fault(alloc, compiler, faulty, good, &dir)?;
+    answers_of(alloc, &mut calls)
+}
+
+/// What this one and one that asks for no other file are answered.
+fn asked_with(
+    alloc: Global,
+    compiler: &CCompiler<Gcc>,
+    faulty: &ParsedArguments,
+) -> Result<Answers, Fail> {
+    let good = parsed(alloc, &compiler.compiler, "-c foo.c -O2")?;
+    answers_behind_a_fault(alloc, compiler, faulty, &good)
+}
+
+/// What a call that asks for a file that isn't there is answered, and then one that asks for none.
+fn asked_behind_a_fault(alloc: Global) -> Result<Answers, Fail> {
     let compiler = known(alloc, gcc(alloc)?)?;
     let faulty = parsed(alloc, &compiler.compiler, "-c foo.c -fplugin=p.so")?;
-    let good = parsed(alloc, &compiler.compiler, "-c foo.c -O2")?;
-    let mut calls = calls_behind_a_fault(alloc, &compiler, &faulty, &good, &dir)?;
-    answers_of(alloc, &mut calls)
+    asked_with(alloc, &compiler, &faulty)
 }
 
 /// The path of the file that couldn't be read.

@@ -6,6 +6,7 @@ use entry_keys::sights::{SeenInput, preprocessor_cache_entry_hash_key};
 use sha2::Sha256;
 use std::alloc::{AllocError, Global};
 use std::test::Fail;
+use test_kit::texts::is_that;
 
 /// The key of an input that asks for neither day nor second.
 const OF_PLAIN: &str = "29233562820e4c8fbb484b31a5df1ecf8cb510420474d61ea5247f9cec9d5a58";
@@ -80,14 +81,16 @@ fn what_the_input_asks_for_is_in_its_key(rt: HostRuntime) -> Result<(), Fail> {
     )
 }
 
-#[test]
-fn clang_has_a_key_of_its_own(rt: HostRuntime) -> Result<(), Fail> {
-    let alloc = rt.alloc();
+/// The key of a call of Clang for C++.
+fn key_of_clang(alloc: Global) -> Result<String, AllocError> {
     let mut scene = Scene::usual(alloc)?;
     scene.ask_for_cxx();
-    assert_eq!(rt;
-        key_of(alloc, &scene.clang(), b"int x;", None, 5)?.as_str(),
-        "75fccfd2d5e658a0fa670cff18e7f9897b9a5e7f12edea29e90276b88d26eb2c"
-    );
-    Ok(())
+    key_of(alloc, &scene.clang(), b"int x;", None, 5)
+}
+
+#[test]
+fn clang_has_a_key_of_its_own(rt: HostRuntime) -> Result<(), Fail> {
+    let key = key_of_clang(rt.alloc())?;
+    let want = "75fccfd2d5e658a0fa670cff18e7f9897b9a5e7f12edea29e90276b88d26eb2c";
+    is_that(key.as_str(), want, "Clang")
 }

@@ -3,11 +3,11 @@
 ghost use Rattle.std.specs.Prelude.{◌≡◌, ◌≤◌};
 
 use crate::known::{Known, printed_at};
-use crate::outputs::{lock_paths, made_since, states_of};
 use disk_files::found::State;
 use host_protocol::command_line::CommandLine;
 use host_protocol::host::{Ended, Host};
 use host_protocol::host_error::HostError;
+use made_outputs::outputs::{lock_paths, made_since, states_of};
 use os_files::os_bytes::OsBytes;
 use replay::replay_tool::Wanted;
 use std::fs::File;
