@@ -1,5 +1,6 @@
 //! The tables of options: values, steps of a search, laws. What is found of a word is shown by rows of command lines.
 
+use cmdlines_base::byte_tree::ByteTree;
 use cmdlines_base::table::{ArgInfo, SearchableArgInfo};
 use cmdlines_base::value::{ArgumentValue, IntoArg};
 use cmdlines_tables::compiler::CCompilerKind;
@@ -21,15 +22,25 @@ const SEARCHED: [(CCompilerKind, &str, Option<&str>, usize); 4] = [
     (CCompilerKind::Gcc, "foo.c", None, 1),
 ];
 
+/// The tree is in order, and finds that flag of the word by so many steps.
+fn finds(
+    tree: &ByteTree<ArgData>,
+    word: &str,
+    flag: Option<&str>,
+    steps: usize,
+) -> Result<(), Fail> {
+    let (found, counted) = tree.search_counted(word.as_bytes());
+    holds(tree.check(), "a table in order")?;
+    holds(found.map(ArgInfo::flag) == flag, word)?;
+    holds(counted == steps, word)
+}
+
 /// One step for the root, and one for each byte of the longest beginning that begins a flag.
 #[test]
 fn nodes_that_are_looked_at(rt: HostRuntime) -> Result<(), Fail> {
     for (kind, word, flag, steps) in SEARCHED.iter() {
         let tree = compiler_tree(rt.alloc(), *kind)?;
-        let (found, counted) = tree.search_counted(word.as_bytes());
-        holds(tree.check(), "a table in order")?;
-        holds(found.map(ArgInfo::flag) == *flag, word)?;
-        holds(counted == *steps, word)?;
+        finds(&tree, word, *flag, *steps)?;
     }
     Ok(())
 }

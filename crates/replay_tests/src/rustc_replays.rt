@@ -296,8 +296,13 @@ fn ask(
     tool: &mut ReplayTool,
     kept: Option<(StoreKey, Pairs)>,
 ) -> Result<SessionAnswer<Sha256>, Fail> {
-    let request = request(alloc, line)?;
-    answer(alloc, &request, tool, kept)
+    match request(alloc, line) {
+        Ok(request) => answer(alloc, &request, tool, kept),
+        Err(fail) => {
+            drop(kept);
+            Err(fail)
+        }
+    }
 }
 
 /// What an answer says, and what is lacking.
