@@ -1,7 +1,8 @@
 //! Lines as they were written: which changes of a source change what is bound to a key beside its text.
 
-use crate::disks::{change, line_of, make_fresh};
+use crate::disks::{change, make_fresh};
 use os_files::os_bytes::OsBytes;
+use std::alloc::Global;
 use std::fs;
 use std::rt::Files;
 use std::test::Fail;
@@ -77,6 +78,22 @@ const CHANGES: [(&str, &str, &str, bool); 12] = [
     ),
 ];
 
+/// The digest that is asked for of a text of these files.
+fn digest_by(
+    alloc: Global,
+    asked: Asked,
+    text: &str,
+    named: &mut NamedFiles,
+) -> Result<OsBytes, Fail> {
+    let Ok(sources) = Sources::of(alloc, named) else {
+        return Err("no sources".into());
+    };
+    match digest_asked(alloc, asked, text.as_bytes(), sources) {
+        Ok(digest) => Ok(digest),
+        Err(_) => Err("no digest".into()),
+    }
+}
+
 /// The digest of what is asked of a source with these contents and that text.
 fn digest_of<R: Files + AllocGlobal>(
     rt: &R,
@@ -84,17 +101,10 @@ fn digest_of<R: Files + AllocGlobal>(
     source: &str,
     text: &str,
 ) -> Result<OsBytes, Fail> {
-    let line = line_of(rt.alloc(), "gulmaat_tests_lines", "-c a.c")?;
     fs::write(rt, "gulmaat_tests_lines/a.c", source.as_bytes())?;
-    let mut named = NamedFiles::of(rt, line.dir.as_bytes(), text.as_bytes())?;
+    let mut named = NamedFiles::of(rt, b"gulmaat_tests_lines", text.as_bytes())?;
     named.read(rt);
-    let Ok(sources) = Sources::of(rt.alloc(), &mut named) else {
-        return Err("no sources".into());
-    };
-    match digest_asked(rt.alloc(), asked, text.as_bytes(), sources) {
-        Ok(digest) => Ok(digest),
-        Err(_) => Err("no digest".into()),
-    }
+    digest_by(rt.alloc(), asked, text, &mut named)
 }
 
 #[test]
