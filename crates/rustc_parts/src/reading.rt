@@ -2,7 +2,7 @@
 
 ghost use Rattle.std.specs.Prelude.{◌≡◌, IfOk, IfSome, Some};
 ghost use Rattle.std.specs.List.{list_all};
-ghost use Rattle.byte_formats.specs.Reading.{Gives, taken_at, times_at};
+ghost use Rattle.byte_formats.specs.Reading.{Gives, both_at, taken_at, times_at};
 ghost use Rattle.byte_formats.specs.Spelling.{FitsFrame};
 ghost use Rattle.rustc_parts.specs.Formed.{AreFormed, IsSortedByNames, digest_digits, is_digit};
 ghost use Rattle.rustc_parts.specs.Material.{material_of};
@@ -287,6 +287,32 @@ fn read_around<'a>(
     Ok((around, rest))
 }
 
+/// The digests of files, then the variables and the directory, and the bytes after them.
+#[tactic(auto, unfolding(byte_formats::specs::Reading::both_at))]
+fn read_files_and_around<'a>(
+    alloc: Global,
+    shape: &RShape,
+    bytes: &'a [u8],
+) -> Result<(FileDigests, Around, &'a [u8]), ReadFault>
+    ensures { Gives (λ x. (
+      (
+        (x.0.sources, (x.0.externs, (x.0.archives, (x.0.target, x.0.profile)))),
+        (x.1.env_deps, (x.1.variables, x.1.dir)),
+      ),
+      x.2.now,
+    )) result
+        (both_at (files_at digest_digits shape.now) (surroundings_at shape.now) bytes.now) }
+{
+    let (files, rest) = read_files(alloc, shape, bytes)?;
+    match read_around(alloc, shape, rest) {
+        Ok((around, rest)) => Ok((files, around, rest)),
+        Err(fault) => {
+            drop(files);
+            Err(fault)
+        }
+    }
+}
+
 /// All bytes but the last one, which ends them.
 #[tactic(auto, unfolding(crate::specs::Reading::version_at))]
 fn read_version(alloc: Global, bytes: &[u8]) -> Result<OsBytes, ReadFault>
@@ -306,22 +332,27 @@ fn read_parts(alloc: Global, bytes: &[u8], shape: &RShape) -> Result<Parts, Read
     let rest = behind(CACHE_VERSION, bytes)?;
     let (toolchain, rest) = read_digests(alloc, shape.toolchain, rest)?;
     let (words, rest) = read_words(alloc, shape.words.as_slice(), rest)?;
-    let (files, rest) = read_files(alloc, shape, rest)?;
-    let (around, rest) = read_around(alloc, shape, rest)?;
-    let version = read_version(alloc, rest)?;
-    Ok(Parts {
-        toolchain,
-        version,
-        words,
-        sources: files.sources,
-        externs: files.externs,
-        archives: files.archives,
-        target: files.target,
-        profile: files.profile,
-        env_deps: around.env_deps,
-        variables: around.variables,
-        dir: around.dir,
-    })
+    let (files, around, rest) = read_files_and_around(alloc, shape, rest)?;
+    match read_version(alloc, rest) {
+        Ok(version) => Ok(Parts {
+            toolchain,
+            version,
+            words,
+            sources: files.sources,
+            externs: files.externs,
+            archives: files.archives,
+            target: files.target,
+            profile: files.profile,
+            env_deps: around.env_deps,
+            variables: around.variables,
+            dir: around.dir,
+        }),
+        Err(fault) => {
+            drop(files);
+            drop(around);
+            Err(fault)
+        }
+    }
 }
 
 /// The pieces, where their variables are in order.
@@ -332,6 +363,7 @@ fn if_sorted(parts: Parts) -> Option<Parts>
     if is_sorted_by_names(&parts) {
         Some(parts)
     } else {
+        drop(parts);
         None
     }
 }
