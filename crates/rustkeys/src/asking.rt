@@ -77,7 +77,9 @@ impl<'a> RustPlace<'a> {
     {
         let words = dep_info_words(alloc, self.parsed)?;
         let command = command_at(alloc, self.executable, words, self.env, self.dir)?;
-        match answers.dep_info(alloc, &command, files) {
+        let printed = answers.dep_info(alloc, &command, files);
+        drop(command);
+        match printed {
             Ok(printed) => Ok(printed),
             Err(ToolFail::Memory) => Err(Fault::Memory),
             Err(ToolFail::Device) => Err(Fault::Tool(Step::DepInfo)),
@@ -109,7 +111,9 @@ impl<'a> RustPlace<'a> {
     {
         let words = file_names_words(alloc, self.parsed)?;
         let command = command_at(alloc, self.executable, words, self.env, self.dir)?;
-        match answers.file_names(alloc, &command, files) {
+        let printed = answers.file_names(alloc, &command, files);
+        drop(command);
+        match printed {
             Ok(printed) => Ok(printed),
             Err(ToolFail::Memory) => Err(Fault::Memory),
             Err(ToolFail::Device) => Err(Fault::Tool(Step::FileNames)),
