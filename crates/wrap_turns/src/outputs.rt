@@ -79,6 +79,23 @@ fn path_of<'a>(paths: &BTreeMap<OsBytes, &'a [u8]>, name: &OsBytes) -> &'a [u8]
     }
 }
 
+/// The output of this name with these contents, on that path.
+fn output_at(
+    alloc: Global,
+    path: &[u8],
+    name: &OsBytes,
+    contents: &OsBytes,
+) -> Result<Output, AllocError>
+    ensures { IfOk result
+        (λ made. made ≡ record { name = name.now; path = path.now; contents = contents.now }) }
+{
+    Ok(Output {
+        name: name.clone()?,
+        path: OsBytes::from_slice(alloc, path)?,
+        contents: contents.clone()?,
+    })
+}
+
 /// Outputs on a request's own paths.
 pub fn placed(
     alloc: Global,
@@ -90,11 +107,7 @@ pub fn placed(
     let paths = paths_of(alloc, outputs)?;
     let mut map = Vec::with_capacity(alloc, pairs.len())?;
     for (name, contents) in pairs {
-        map.push(Output {
-            name: name.clone()?,
-            path: OsBytes::from_slice(alloc, path_of(&paths, name))?,
-            contents: contents.clone()?,
-        })?;
+        map.push(output_at(alloc, path_of(&paths, name), name, contents)?)?;
     }
     Ok(Listed::from_vec(map))
 }
