@@ -1,4 +1,4 @@
-use Rattle.std.proofs.Common.{◌≡◌, ◌++◌, None, ap, filter, subst, ◌∙◌}
+use Rattle.std.proofs.Common.{◌≡◌, None, ap, filter, subst, ◌∙◌}
 use Rattle.std.specs.List.{AllByRecursion}
 use Rattle.os_files.specs.Fails.{FailsOn}
 use Rattle.ckeys.specs.Calls.{KeyCall, early_fault_of, key_fault_of, record_of}
