@@ -69,15 +69,15 @@ impl Explainer {
     pub(crate) fn push_remark(
         &mut self,
         alloc: Global,
-        made: Option<Fingerprint>,
+        made: &mut Option<Fingerprint>,
         answer: &Result<Answer, Fault>,
         line: &mut String,
     ) -> Result<(), AllocError> {
-        let Some(made) = made else {
+        let Some(one) = made.as_ref() else {
             return Ok(());
         };
-        match self.remark(alloc, &made, answer, line)? {
-            Some(outputs) => self.keep(outputs, made),
+        match self.remark(alloc, one, answer, line)? {
+            Some(outputs) => self.keep(outputs, made.take()),
             None => Ok(()),
         }
     }
@@ -100,9 +100,11 @@ impl Explainer {
         Ok(Some(outputs))
     }
 
-    /// Keeps the fingerprint of the latest request with these outputs.
-    fn keep(&mut self, outputs: Wanted, made: Fingerprint) -> Result<(), AllocError> {
-        self.earlier.insert(outputs, made)?;
+    /// Keeps the fingerprint of the latest request with these outputs, where it has one.
+    fn keep(&mut self, outputs: Wanted, made: Option<Fingerprint>) -> Result<(), AllocError> {
+        if let Some(made) = made {
+            drop(self.earlier.insert(outputs, made)?);
+        }
         Ok(())
     }
 }

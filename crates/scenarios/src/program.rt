@@ -181,19 +181,36 @@ fn serve_calls<O: Store<StoreKey, Pairs> + Drop, W: Write>(
 ) -> Result<(), RunFault>
     ensures fault { IfErr result (λ f. (f ≡ RunFault.Output) ⊎ (f ≡ RunFault.Memory)) }
 {
+    let print: StatusOf = Box::new(alloc, |text: &[u8]| print_status(text))?;
+    let compile: StatusOf = Box::new(alloc, |text: &[u8]| error_status(text))?;
+    let statuses = Statuses::new(print, compile);
+    serve_by(alloc, scenario, statuses, explainer, objects, writer)
+}
+
+/// Serves the calls in one session by a tool whose compilers end with these statuses.
+fn serve_by<O: Store<StoreKey, Pairs> + Drop, W: Write>(
+    alloc: Global,
+    scenario: Scenario,
+    statuses: Statuses,
+    explainer: Option<Explainer>,
+    objects: O,
+    writer: &mut W,
+) -> Result<(), RunFault>
+    ensures fault { IfErr result (λ f. (f ≡ RunFault.Output) ⊎ (f ≡ RunFault.Memory)) }
+{
+    let trees = Trees::new(alloc)?;
     let Scenario {
         session_config,
         tool_config,
         capacity: _,
         calls,
     } = scenario;
+    let mut tool = ScriptTool::new(tool_config, CrateTexts::empty(alloc), trees, statuses);
     let mut session = Session::new(alloc, session_config, MapStore::new(alloc), objects);
-    let print: StatusOf = Box::new(alloc, |text: &[u8]| print_status(text))?;
-    let compile: StatusOf = Box::new(alloc, |text: &[u8]| error_status(text))?;
-    let statuses = Statuses::new(print, compile);
-    let told = CrateTexts::empty(alloc);
-    let mut tool = ScriptTool::new(tool_config, told, Trees::new(alloc)?, statuses);
-    serve_in_order(alloc, calls, explainer, &mut session, &mut tool, writer)
+    let served = serve_in_order(alloc, calls, explainer, &mut session, &mut tool, writer);
+    drop(session);
+    drop(tool);
+    served
 }
 
 /// Serves the calls in order, and writes a line for each and then how often a compiler ran.
@@ -226,9 +243,11 @@ fn serve_call<O: Store<StoreKey, Pairs> + Drop, T: RetoldTool, W: Write>(
 ) -> Result<(), RunFault>
     ensures fault { IfErr result (λ f. (f ≡ RunFault.Output) ⊎ (f ≡ RunFault.Memory)) }
 {
-    let (made, answer) = answered(call, explainer.is_some(), session, tool);
-    let line = whole_line(alloc, number, explainer, made, &answer)?;
-    write_line(writer, &line)
+    let (mut made, answer) = answered(call, explainer.is_some(), session, tool);
+    let line = whole_line(alloc, number, explainer, &mut made, &answer);
+    drop(made);
+    drop(answer);
+    write_line(writer, &line?)
 }
 
 /// Writes how often a compiler ran, which is the last line.
@@ -246,7 +265,7 @@ fn whole_line(
     alloc: Global,
     number: u64,
     explainer: &mut Option<Explainer>,
-    made: Option<Fingerprint>,
+    made: &mut Option<Fingerprint>,
     answer: &Result<Answer, Fault>,
 ) -> Result<String, AllocError> {
     let mut line = line_of(alloc, number, answer)?;
@@ -275,11 +294,24 @@ fn answered<O: Store<StoreKey, Pairs> + Drop, T: RetoldTool>(
     if forget {
         session.forget_all();
     }
+    let answered = made_and_answer(&request, is_explained, session, &mut files, tool);
+    drop(request);
+    answered
+}
+
+/// What a request is answered by the tool, and before it its fingerprint.
+fn made_and_answer<O: Store<StoreKey, Pairs> + Drop, T: Tool>(
+    request: &Request,
+    is_explained: bool,
+    session: &mut Session<Sha256, Entries, O>,
+    files: &mut MemoryFiles,
+    tool: &mut T,
+) -> (Option<Fingerprint>, Result<Answer, Fault>) {
     let made = match is_explained {
-        true => fingerprint_of(&request, session, &mut files, tool),
+        true => fingerprint_of(request, session, files, tool),
         false => None,
     };
-    let answer = session.serve(&request, &mut files, tool);
+    let answer = session.serve(request, files, tool);
     (made, answer)
 }
 
