@@ -203,9 +203,17 @@ fn call_turn<
     session: &mut Session<Sha256, E, O>,
     tool: &mut FailTool<T>,
 ) -> Result<Turn, AllocError> {
-    tool.tool.tell(call.told);
-    let mut files = FailFiles::new(call.files, files_left);
-    turn_of(alloc, session, &call.request, &mut files, tool)
+    let ScenarioCall {
+        request,
+        files,
+        told,
+        forget: _,
+    } = call;
+    tool.tool.tell(told);
+    let mut files = FailFiles::new(files, files_left);
+    let turn = turn_of(alloc, session, &request, &mut files, tool);
+    drop(request);
+    turn
 }
 
 /// Serves the calls in order. The files' call after that many fails.
@@ -239,13 +247,27 @@ fn run_calls<E: Watched<EntryKey, PreprocessorCacheEntry>, O: Watched<StoreKey, 
     limits: Limits,
     session: &mut Session<Sha256, E, O>,
 ) -> Result<Run, AllocError> {
-    let trees = Trees::new(alloc)?;
     let print: StatusOf = Box::new(alloc, |text: &[u8]| print_status(text))?;
     let compile: StatusOf = Box::new(alloc, |text: &[u8]| error_status(text))?;
     let statuses = Statuses::new(print, compile);
+    run_by(alloc, config, statuses, calls, limits, session)
+}
+
+/// Serves the calls by a scripted tool whose compilers end with these statuses.
+fn run_by<E: Watched<EntryKey, PreprocessorCacheEntry>, O: Watched<StoreKey, Pairs>>(
+    alloc: Global,
+    config: KeyConfig,
+    statuses: Statuses,
+    calls: Vec<ScenarioCall>,
+    limits: Limits,
+    session: &mut Session<Sha256, E, O>,
+) -> Result<Run, AllocError> {
+    let trees = Trees::new(alloc)?;
     let tool = ScriptTool::new(config, CrateTexts::empty(alloc), trees, statuses);
     let mut tool = FailTool::new(tool, limits.tool);
-    turns_of(alloc, calls, limits.files, session, &mut tool)
+    let run = turns_of(alloc, calls, limits.files, session, &mut tool);
+    drop(tool);
+    run
 }
 
 /// A run of the scenario of this line over these stores, in which one call of each device fails.
