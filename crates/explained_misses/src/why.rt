@@ -49,6 +49,14 @@ fn asked_of<C: CCompilerImpl, F: CallFiles>(
     }
 }
 
+/// The name under which the parts of a request in that folder lie that asks for this.
+fn name_of_asked(alloc: Global, dir: &OsBytes, asked: &Asked) -> Result<String, HostError> {
+    match asked {
+        CompilerArguments::Ok(parsed) => Ok(name_of_parts(alloc, dir, parsed.outputs.as_slice())?),
+        _ => Err(HostError::Unreadable),
+    }
+}
+
 /// The name under which the parts of this request lie.
 fn name_of_request<F: CallFiles>(
     alloc: Global,
@@ -59,12 +67,8 @@ fn name_of_request<F: CallFiles>(
         return Err(HostError::Unreadable);
     };
     let words = request.words.as_slice();
-    match asked_of(alloc, &compiler, words, &request.dir, files)? {
-        CompilerArguments::Ok(parsed) => {
-            Ok(name_of_parts(alloc, &request.dir, parsed.outputs.as_slice())?)
-        }
-        _ => Err(HostError::Unreadable),
-    }
+    let asked = asked_of(alloc, &compiler, words, &request.dir, files)?;
+    name_of_asked(alloc, &request.dir, &asked)
 }
 
 /// What differs in the first part in which two requests do, whose texts are in short.
@@ -89,6 +93,16 @@ fn difference_of(
     }
 }
 
+/// What differs in the first part in which two requests do, as bytes.
+fn difference_in_bytes(
+    alloc: Global,
+    one: &Fingerprint,
+    earlier: &Fingerprint,
+) -> Result<OsBytes, HostError> {
+    let told = difference_of(alloc, one, earlier)?;
+    Ok(OsBytes::from_vec(told.into_bytes()))
+}
+
 /// What differs from the request whose parts were kept.
 fn difference_from(
     alloc: Global,
@@ -96,8 +110,9 @@ fn difference_from(
     kept: &KeptParts,
 ) -> Result<OsBytes, HostError> {
     let earlier = Fingerprint::C(parts_of(alloc, kept)?);
-    let told = difference_of(alloc, one, &earlier)?;
-    Ok(OsBytes::from_vec(told.into_bytes()))
+    let told = difference_in_bytes(alloc, one, &earlier);
+    drop(earlier);
+    told
 }
 
 /// What differs from the request whose parts lie under that name; nothing where there was none.
@@ -113,13 +128,25 @@ fn difference_there<R: Files + AllocGlobal>(
     }
 }
 
-/// The fingerprint with its text in short.
-fn in_short(alloc: Global, fingerprint: Fingerprint) -> Result<Fingerprint, HostError> {
-    let Fingerprint::C(mut parts) = fingerprint else {
+/// Has the fingerprint have its text in short.
+fn shorten(alloc: Global, fingerprint: &mut Fingerprint) -> Result<(), HostError> {
+    let Fingerprint::C(parts) = fingerprint else {
         return Err(HostError::Unreadable);
     };
     parts.text = short_text(alloc, parts.text.as_bytes())?;
-    Ok(Fingerprint::C(parts))
+    Ok(())
+}
+
+/// Keeps parts under that name, and reports what differs in them.
+fn keep<R: Files + AllocGlobal>(
+    rt: &R,
+    folder: &CacheDir,
+    name: &str,
+    kept: &KeptParts,
+) -> Result<String, HostError> {
+    put_parts(rt, folder, name, kept)?;
+    make_room(&rt, folder, &[name])?;
+    told_in(rt.alloc(), &kept.difference)
 }
 
 /// Keeps the parts of a call that was compiled, whose text is in short, under that name, and what differs from those that lay there, which is
@@ -135,9 +162,22 @@ fn note_parts<R: Files + AllocGlobal>(
     };
     let difference = difference_there(rt, folder, name, one)?;
     let kept = kept_parts(rt.alloc(), parts, difference)?;
-    put_parts(rt, folder, name, &kept)?;
-    make_room(&rt, folder, &[name])?;
-    told_of(rt.alloc(), &Some(kept))
+    let told = keep(rt, folder, name, &kept);
+    drop(kept);
+    told
+}
+
+/// Keeps of what the key of a request was made, by its fingerprint, which has its text in short from now on.
+fn note_short<R: Files + AllocGlobal, F: CallFiles>(
+    rt: &R,
+    line: &CommandLine,
+    request: &Request,
+    one: &mut Fingerprint,
+    files: &mut F,
+) -> Result<String, HostError> {
+    shorten(rt.alloc(), one)?;
+    let name = name_of_request(rt.alloc(), request, files)?;
+    note_parts(rt, &line.folder, name.as_str(), &*one)
 }
 
 /// Keeps of what the key of a request was made that was compiled, by its fingerprint, and what differs from the call before it with these
@@ -149,10 +189,10 @@ pub fn note_fingerprint<R: Files + AllocGlobal, F: CallFiles>(
     fingerprint: Fingerprint,
     files: &mut F,
 ) -> Result<String, HostError> {
-    let alloc = rt.alloc();
-    let one = in_short(alloc, fingerprint)?;
-    let name = name_of_request(alloc, request, files)?;
-    note_parts(rt, &line.folder, name.as_str(), &one)
+    let mut one = fingerprint;
+    let told = note_short(rt, line, request, &mut one, files);
+    drop(one);
+    told
 }
 
 /// What words ask Gcc for. No file is opened.
@@ -190,17 +230,19 @@ fn object_in(outputs: &[(OsBytes, ArtifactDescriptor)]) -> Option<&OsBytes> {
     Some(&output.1.path)
 }
 
+/// What a difference says; where it is empty, there was no call before.
+fn told_in(alloc: Global, difference: &OsBytes) -> Result<String, HostError> {
+    match difference.as_bytes().is_empty() {
+        true => Ok(String::from_str(alloc, "the first call that was compiled")?),
+        false => Ok(format!(in alloc; "{difference}")?),
+    }
+}
+
 /// What is known of the last call with these outputs that was compiled.
 fn told_of(alloc: Global, kept: &Option<KeptParts>) -> Result<String, HostError> {
     match kept {
         None => Ok(String::from_str(alloc, "nothing is known")?),
-        Some(kept) if kept.difference.as_bytes().is_empty() => {
-            Ok(String::from_str(alloc, "the first call that was compiled")?)
-        }
-        Some(kept) => {
-            let difference = &kept.difference;
-            Ok(format!(in alloc; "{difference}")?)
-        }
+        Some(kept) => told_in(alloc, &kept.difference),
     }
 }
 
