@@ -126,28 +126,50 @@ pub struct Call {
     pub dependencies: Option<Dependencies>,
 }
 
-/// What the session is asked about the command line of a compiler of that kind.
-pub fn call_of<P: Print + Files + AllocGlobal, I: Read>(
+/// The variables that are passed to the session, with the one that stands for all additions.
+fn env_with<P: Print + Files + AllocGlobal, I: Read>(
     rt: &P,
     line: &CommandLine,
     host: &mut Host<I>,
     kind: CCompilerKind,
-) -> Result<Call, HostError>
+    dependencies: Option<&Dependencies>,
+) -> Result<Listed<(OsBytes, OsBytes)>, HostError>
     requires { host.old.compiled ≡ 0 }
     ensures { host.new.compiled ≡ 0 }
 {
     let alloc = rt.alloc();
-    let dependencies = dependencies_in(alloc, line)?;
-    let mut additions = additions_of(alloc, line, kind, dependencies.as_ref())?;
+    let mut additions = additions_of(alloc, line, kind, dependencies)?;
     if let Some(native) = native_of(rt, line, host)? {
         additions.add(alloc, "native", native.as_bytes())?;
     }
-    let words = match &dependencies {
+    env_of(alloc, line.env.as_slice(), &additions)
+}
+
+/// Copies of the words that are passed to the session, and of the folder.
+fn words_and_dir(
+    line: &CommandLine,
+    dependencies: Option<&Dependencies>,
+) -> Result<(Listed<OsBytes>, OsBytes), HostError> {
+    let words = match dependencies {
         Some(dependencies) => dependencies.others.clone()?,
         None => line.words.clone()?,
     };
-    let env = env_of(alloc, line.env.as_slice(), &additions)?;
-    let dir = line.dir.clone()?;
+    Ok((words, line.dir.clone()?))
+}
+
+/// The request of a call of a compiler of that kind, and whether that takes the word by which its messages are in colour.
+fn request_of<P: Print + Files + AllocGlobal, I: Read>(
+    rt: &P,
+    line: &CommandLine,
+    host: &mut Host<I>,
+    kind: CCompilerKind,
+    dependencies: Option<&Dependencies>,
+) -> Result<(Request, bool), HostError>
+    requires { host.old.compiled ≡ 0 }
+    ensures { host.new.compiled ≡ 0 }
+{
+    let env = env_with(rt, line, host, kind, dependencies)?;
+    let (words, dir) = words_and_dir(line, dependencies)?;
     let KnownCompiler {
         compiler,
         takes_color,
@@ -159,6 +181,21 @@ pub fn call_of<P: Print + Files + AllocGlobal, I: Read>(
         env,
         moment: line.second(),
     };
+    Ok((request, takes_color))
+}
+
+/// What the session is asked about the command line of a compiler of that kind.
+pub fn call_of<P: Print + Files + AllocGlobal, I: Read>(
+    rt: &P,
+    line: &CommandLine,
+    host: &mut Host<I>,
+    kind: CCompilerKind,
+) -> Result<Call, HostError>
+    requires { host.old.compiled ≡ 0 }
+    ensures { host.new.compiled ≡ 0 }
+{
+    let dependencies = dependencies_in(rt.alloc(), line)?;
+    let (request, takes_color) = request_of(rt, line, host, kind, dependencies.as_ref())?;
     Ok(Call {
         request,
         takes_color,
