@@ -89,6 +89,17 @@ pub fn name_of_parts(
     Ok(digest_of(alloc, row.as_slice())?)
 }
 
+/// The rows that a file keeps. Nothing where it keeps something else.
+fn rows_of(alloc: Global, kept: KeptManifest) -> Result<Option<KeptRows>, HostError> {
+    if kept.zone.as_bytes() != OF_PARTS {
+        drop(kept);
+        return Ok(None);
+    }
+    let rows = Fields::of(kept.results.as_bytes()).pairs(alloc)?;
+    let difference = kept.watched;
+    Ok(Some(KeptRows { rows, difference }))
+}
+
 /// What is kept under that name.
 fn kept_under<R: Files + AllocGlobal>(
     rt: &R,
@@ -99,15 +110,10 @@ fn kept_under<R: Files + AllocGlobal>(
     let Ok(bytes) = folder.read(rt, Kind::Fingerprints, name) else {
         return Ok(None);
     };
-    let Some(kept) = unseal::<Blake2b256, KeptManifest>(alloc, bytes.as_slice())? else {
-        return Ok(None);
-    };
-    if kept.zone.as_bytes() != OF_PARTS {
-        return Ok(None);
+    match unseal::<Blake2b256, KeptManifest>(alloc, bytes.as_slice())? {
+        Some(kept) => rows_of(alloc, kept),
+        None => Ok(None),
     }
-    let rows = Fields::of(kept.results.as_bytes()).pairs(alloc)?;
-    let difference = kept.watched;
-    Ok(Some(KeptRows { rows, difference }))
 }
 
 /// Whether a row's value says something to people.

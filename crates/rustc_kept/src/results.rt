@@ -123,6 +123,17 @@ fn pair_of(
     Ok((key.clone()?, pairs))
 }
 
+/// The outputs under their key, with these messages.
+fn found_with(
+    alloc: Global,
+    key: &StoreKey,
+    outputs: Listed<KeptOutput>,
+    errors: Vec<u8>,
+) -> Result<Option<FoundCrate>, HostError> {
+    let pair = pair_of(alloc, key, outputs)?;
+    Ok(Some(FoundCrate { pair, errors }))
+}
+
 /// What is kept under a key, where its messages can be those of this call. Nothing where all is to be kept anew.
 pub fn found<R: Files + AllocGlobal>(
     rt: &R,
@@ -136,11 +147,11 @@ pub fn found<R: Files + AllocGlobal>(
     let Some(kept) = kept_under(rt, line, key)? else {
         return Ok(None);
     };
-    let Some(errors) = errors_of(rt.alloc(), &kept, key, wishes)? else {
-        return Ok(None);
-    };
-    let pair = pair_of(rt.alloc(), key, kept.outputs)?;
-    Ok(Some(FoundCrate { pair, errors }))
+    match errors_of(rt.alloc(), &kept, key, wishes) {
+        Ok(Some(errors)) => found_with(rt.alloc(), key, kept.outputs, errors),
+        Ok(None) => Ok(None),
+        Err(stop) => Err(stop),
+    }
 }
 
 /// Outputs as they are kept.
@@ -175,6 +186,18 @@ fn kept_crate(
     })
 }
 
+/// The bytes of what is kept of outputs under their key.
+fn sealed(
+    alloc: Global,
+    key: &StoreKey,
+    outputs: &[Output],
+    errors: &OsBytes,
+    wishes: Wishes<'_>,
+) -> Result<Vec<u8>, HostError> {
+    let kept = kept_crate(alloc, key, outputs, errors, wishes)?;
+    Ok(seal::<Blake2b256, KeptCrate>(alloc, &kept)?)
+}
+
 /// Keeps outputs under their key with what was printed beside them, where they aren't too large for the limit.
 pub fn keep<R: Files + AllocGlobal>(
     rt: &R,
@@ -184,8 +207,7 @@ pub fn keep<R: Files + AllocGlobal>(
     errors: &OsBytes,
     wishes: Wishes<'_>,
 ) -> Result<(), HostError> {
-    let kept = kept_crate(rt.alloc(), key, outputs, errors, wishes)?;
-    let bytes = seal::<Blake2b256, KeptCrate>(rt.alloc(), &kept)?;
+    let bytes = sealed(rt.alloc(), key, outputs, errors, wishes)?;
     let folder = &line.folder;
     if !takes(folder.limit, bytes.len() as u64) {
         return Ok(());
