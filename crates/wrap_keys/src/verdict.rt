@@ -77,7 +77,8 @@ fn reason_by(
     preprocess: &[OsBytes],
 ) -> Option<Reason>
     ensures { result
-        ≡ (if opens_file kind compile.now || opens_file kind preprocess.now then Some Reason.OpensFile
+        ≡ (if opens_file kind compile.now || opens_file kind preprocess.now
+        then Some Reason.OpensFile
         else if hold_end (hashed_words parsed.now) then Some Reason.Byte255
         else None) }
 {
