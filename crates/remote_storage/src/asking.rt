@@ -57,25 +57,33 @@ fn push_number(alloc: Global, words: &mut Listed<OsBytes>, number: u64) -> Resul
     Ok(words.push(OsBytes::from_vec(word.into_bytes()))?)
 }
 
+/// Adds a text as a word.
+fn push_text(alloc: Global, words: &mut Listed<OsBytes>, text: &str) -> Result<(), HostError> {
+    Ok(words.push(OsBytes::from_slice(alloc, text.as_bytes())?)?)
+}
+
+/// Adds the words of a question for that name.
+fn push_question(
+    alloc: Global,
+    line: &CommandLine,
+    name: &str,
+    words: &mut Listed<OsBytes>,
+) -> Result<(), HostError> {
+    let storage = line.settings.value_of(Key::RemoteStorage);
+    let connect = number_in(storage, "connect-timeout", CONNECT);
+    let whole = number_in(storage, "operation-timeout", WHOLE);
+    push_number(alloc, words, u64::from(connect))?;
+    push_number(alloc, words, u64::from(whole))?;
+    push_text(alloc, words, storage)?;
+    push_text(alloc, words, line.settings.value_of(Key::RemoteKey))?;
+    push_number(alloc, words, most_of(line))?;
+    push_text(alloc, words, name)
+}
+
 /// The words of a question for that name.
 fn words_of(alloc: Global, line: &CommandLine, name: &str) -> Result<Listed<OsBytes>, HostError> {
-    let storage = line.settings.value_of(Key::RemoteStorage);
-    let key = line.settings.value_of(Key::RemoteKey);
     let mut words = Listed::new(alloc);
-    push_number(
-        alloc,
-        &mut words,
-        u64::from(number_in(storage, "connect-timeout", CONNECT)),
-    )?;
-    push_number(
-        alloc,
-        &mut words,
-        u64::from(number_in(storage, "operation-timeout", WHOLE)),
-    )?;
-    words.push(OsBytes::from_slice(alloc, storage.as_bytes())?)?;
-    words.push(OsBytes::from_slice(alloc, key.as_bytes())?)?;
-    push_number(alloc, &mut words, most_of(line))?;
-    words.push(OsBytes::from_slice(alloc, name.as_bytes())?)?;
+    push_question(alloc, line, name, &mut words)?;
     Ok(words)
 }
 

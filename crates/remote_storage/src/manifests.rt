@@ -123,6 +123,18 @@ fn keep_manifest<R: Files + AllocGlobal>(
     Ok(())
 }
 
+/// Notes that a manifest that came is sealed, and keeps it here with the states of this machine.
+fn keep_with_states<R: Files + AllocGlobal>(
+    rt: &R,
+    line: &CommandLine,
+    own: &str,
+    kept: &mut KeptManifest,
+) -> Result<(), HostError> {
+    note_sealed(rt, line)?;
+    kept.watched = watched_here(rt, line, &kept.watched)?;
+    keep_manifest(rt, line, own, kept)
+}
+
 /// Takes a manifest that came, and keeps it with the states of this machine. What isn't sealed, or is of another key, is as if the server had
 /// failed.
 fn take_manifest<R: Files + AllocGlobal, I>(
@@ -139,8 +151,9 @@ fn take_manifest<R: Files + AllocGlobal, I>(
         note_failure(rt, line, host)?;
         return Ok(None);
     };
-    note_sealed(rt, line)?;
-    kept.watched = watched_here(rt, line, &kept.watched)?;
-    keep_manifest(rt, line, own, &kept)?;
+    if let Err(stop) = keep_with_states(rt, line, own, &mut kept) {
+        drop(kept);
+        return Err(stop);
+    }
     Ok(found_in(rt.alloc(), kept)?)
 }

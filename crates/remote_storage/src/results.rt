@@ -103,6 +103,7 @@ fn take_kept<I>(
     ensures { host.new.compiled ≡ host.old.compiled }
 {
     if entry.messages.preprocessor.as_bytes() != messages {
+        drop(entry);
         return Ok(None);
     }
     host.tally.hits = host.tally.hits.saturating_add(1);
@@ -124,6 +125,11 @@ fn take_result<R: Files + AllocGlobal, I>(
         note_failure(rt, line, host)?;
         return Ok(None);
     };
-    keep_result(rt, line, key, bytes)?;
-    take_kept(rt.alloc(), host, entry, messages)
+    match keep_result(rt, line, key, bytes) {
+        Ok(()) => take_kept(rt.alloc(), host, entry, messages),
+        Err(stop) => {
+            drop(entry);
+            Err(stop)
+        }
+    }
 }
