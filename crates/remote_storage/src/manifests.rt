@@ -47,16 +47,23 @@ fn watched_with(alloc: Global, lists: &[u8]) -> Result<OsBytes, HostError> {
     Ok(OsBytes::from_vec(watched))
 }
 
+/// Takes from a manifest what is noted of headers and its states, and gives its bytes. None where nothing of it is of use then.
+fn sealed_to_send(alloc: Global, kept: &mut KeptManifest) -> Result<Option<Vec<u8>>, HostError> {
+    let Some(lists) = lists_to_send(alloc, lists_in(kept.watched.as_bytes()))? else {
+        return Ok(None);
+    };
+    kept.watched = watched_with(alloc, lists.as_slice())?;
+    Ok(Some(seal::<Blake2b256, KeptManifest>(alloc, &*kept)?))
+}
+
 /// The bytes of a manifest as others may have them: without what is noted of headers, and without states. None where nothing of it is of use then.
 pub(crate) fn manifest_to_send(alloc: Global, bytes: &[u8]) -> Result<Option<Vec<u8>>, HostError> {
     let Some(mut kept) = unseal::<Blake2b256, KeptManifest>(alloc, bytes)? else {
         return Ok(None);
     };
-    let Some(lists) = lists_to_send(alloc, lists_in(kept.watched.as_bytes()))? else {
-        return Ok(None);
-    };
-    kept.watched = watched_with(alloc, lists.as_slice())?;
-    Ok(Some(seal::<Blake2b256, KeptManifest>(alloc, &kept)?))
+    let sent = sealed_to_send(alloc, &mut kept);
+    drop(kept);
+    sent
 }
 
 /// The manifest of another machine of that name, under that key. It is kept here too. Nothing where all is to be kept anew.
