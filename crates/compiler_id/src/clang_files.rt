@@ -55,19 +55,29 @@ fn libraries_beside<R: Files + AllocGlobal>(
     Ok(libraries)
 }
 
+/// Pushes the name of a file that begins and ends so.
+fn push_configuration(
+    alloc: Global,
+    front: &str,
+    ending: &str,
+    names: &mut Vec<String>,
+) -> Result<(), HostError> {
+    Ok(names.push(format!(in alloc; "{front}{ending}")?)?)
+}
+
 /// The names of the files in which a Clang of that name looks for words: by the name, by the machine that it begins with, and by that with
 /// the language after it.
 fn names_of_words(alloc: Global, driver: &str) -> Result<Vec<String>, HostError> {
     let mut names = Vec::new(alloc);
-    names.push(format!(in alloc; "{driver}.cfg")?)?;
+    push_configuration(alloc, driver, ".cfg", &mut names)?;
     for (at, byte) in driver.bytes().enumerate() {
         let Some((machine, _)) = driver.split_at_checked(at) else {
             continue;
         };
         if byte == b'-' {
-            names.push(format!(in alloc; "{machine}.cfg")?)?;
-            names.push(format!(in alloc; "{machine}-clang.cfg")?)?;
-            names.push(format!(in alloc; "{machine}-clang++.cfg")?)?;
+            push_configuration(alloc, machine, ".cfg", &mut names)?;
+            push_configuration(alloc, machine, "-clang.cfg", &mut names)?;
+            push_configuration(alloc, machine, "-clang++.cfg", &mut names)?;
         }
     }
     Ok(names)

@@ -4,7 +4,7 @@ ghost use Rattle.std.specs.Prelude.{◌≡◌};
 
 use crate::parts::{Driver, driver_of};
 use ckeys::compiler::CCompiler;
-use cmdlines::found::FoundCompiler;
+use cmdlines::found::{FoundCompiler, HasKind};
 use cmdlines_tables::compiler::CCompilerKind;
 use host_protocol::command_line::CommandLine;
 use host_protocol::host::Host;
@@ -99,6 +99,31 @@ pub struct KnownCompiler {
     pub takes_color: bool,
 }
 
+/// The C compiler of a command line, with that digest.
+fn found_with<K: HasKind>(
+    alloc: Global,
+    line: &CommandLine,
+    digest: String,
+) -> Result<CCompiler<FoundCompiler<K>>, HostError> {
+    let executable = OsBytes::from_slice(alloc, line.executable.as_bytes())?;
+    let plusplus = is_plusplus(line.executable.as_str());
+    let compiler = FoundCompiler::new(alloc, plusplus, None, None)?;
+    Ok(CCompiler::with_digest(compiler, executable, digest))
+}
+
+/// The compiler of that kind, with that digest.
+fn compiler_with(
+    alloc: Global,
+    line: &CommandLine,
+    kind: CCompilerKind,
+    digest: String,
+) -> Result<Compiler, HostError> {
+    match kind {
+        CCompilerKind::Clang => Ok(Compiler::Clang(found_with(alloc, line, digest)?)),
+        _ => Ok(Compiler::Gcc(found_with(alloc, line, digest)?)),
+    }
+}
+
 /// The compiler of that kind, with its digest.
 pub fn compiler_at<P: Print + Files + AllocGlobal, I: Read>(
     rt: &P,
@@ -109,21 +134,9 @@ pub fn compiler_at<P: Print + Files + AllocGlobal, I: Read>(
     requires { host.old.compiled ≡ 0 }
     ensures { host.new.compiled ≡ 0 }
 {
-    let alloc = rt.alloc();
     let Driver { files, takes_color } = driver_of(rt, line, host, kind)?;
     let digest = line.folder.digest_of_files(rt, files.as_slice())?;
-    let executable = OsBytes::from_slice(alloc, line.executable.as_bytes())?;
-    let plusplus = is_plusplus(line.executable.as_str());
-    let compiler = match kind {
-        CCompilerKind::Clang => {
-            let compiler = FoundCompiler::new(alloc, plusplus, None, None)?;
-            Compiler::Clang(CCompiler::with_digest(compiler, executable, digest))
-        }
-        _ => {
-            let compiler = FoundCompiler::new(alloc, plusplus, None, None)?;
-            Compiler::Gcc(CCompiler::with_digest(compiler, executable, digest))
-        }
-    };
+    let compiler = compiler_with(rt.alloc(), line, kind, digest)?;
     Ok(KnownCompiler {
         compiler,
         takes_color,

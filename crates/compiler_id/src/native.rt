@@ -30,16 +30,25 @@ fn native_words<R: AllocGlobal>(rt: &R, line: &CommandLine) -> Result<Listed<OsB
     Ok(words)
 }
 
+/// Adds the digest of the driver's state.
+fn put_state<R: Files + AllocGlobal>(
+    rt: &R,
+    line: &CommandLine,
+    row: &mut Vec<u8>,
+) -> Result<(), HostError> {
+    let driver = [line.executable.clone()?];
+    Ok(put_framed(row, state_of(rt, &driver)?.as_bytes())?)
+}
+
 /// The name under which it is noted what the driver makes of these words on this machine.
 fn name_of<R: Files + AllocGlobal>(
     rt: &R,
     line: &CommandLine,
     words: &[OsBytes],
 ) -> Result<String, HostError> {
-    let driver = [line.executable.clone()?];
     let mut row = Vec::new(rt.alloc());
     put_framed(&mut row, b"native")?;
-    put_framed(&mut row, state_of(rt, &driver)?.as_bytes())?;
+    put_state(rt, line, &mut row)?;
     put_framed(&mut row, read_whole(rt, START)?.as_slice())?;
     for word in words {
         put_framed(&mut row, word.as_bytes())?;

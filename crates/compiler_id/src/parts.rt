@@ -19,6 +19,7 @@ use std::alloc::Global;
 use std::fs;
 use std::io::Read;
 use std::rt::Files;
+use std::vec::IntoIter;
 
 /// What GCC runs for a compile, by the names that it knows it by: with -gsplit-dwarf a program that takes debug information out. Clang runs
 /// an assembler alone.
@@ -146,13 +147,24 @@ fn specs_places(alloc: Global, folder: &[u8]) -> Result<Vec<String>, HostError> 
     let mut parts = folder.trim_end_matches('/').rsplit('/');
     let version = parts.next().unwrap_or("");
     let machine = parts.next().unwrap_or("");
-    let library = format!(in alloc; "{folder}../../../../{machine}/lib")?;
     let mut places = Vec::new(alloc);
-    places.push(format!(in alloc; "{folder}specs")?)?;
-    places.push(format!(in alloc; "{library}/{machine}/{version}/specs")?)?;
-    places.push(format!(in alloc; "{library}/specs")?)?;
-    places.push(format!(in alloc; "{folder}../specs")?)?;
+    push_place(alloc, folder, "specs", &mut places)?;
+    let library = format!(in alloc; "{folder}../../../../{machine}/lib/")?;
+    let own = format!(in alloc; "{machine}/{version}/specs")?;
+    push_place(alloc, library.as_str(), own.as_str(), &mut places)?;
+    push_place(alloc, library.as_str(), "specs", &mut places)?;
+    push_place(alloc, folder, "../specs", &mut places)?;
     Ok(places)
+}
+
+/// Pushes the path of that name behind this front.
+fn push_place(
+    alloc: Global,
+    front: &str,
+    name: &str,
+    places: &mut Vec<String>,
+) -> Result<(), HostError> {
+    Ok(places.push(format!(in alloc; "{front}{name}")?)?)
 }
 
 /// The word by which the driver's messages are in colour; an empty one where it doesn't take that.
@@ -340,6 +352,21 @@ pub struct Driver {
     pub takes_color: bool,
 }
 
+/// Adds the files of these names, where there are some.
+fn add_files<R: Files + AllocGlobal>(
+    rt: &R,
+    line: &CommandLine,
+    names: IntoIter<OsBytes>,
+    files: &mut Vec<String>,
+) -> Result<(), HostError> {
+    for name in names {
+        if let Some(file) = file_of(rt, line, name)? {
+            files.push(file)?;
+        }
+    }
+    Ok(())
+}
+
 /// What is known of the driver of that kind.
 pub fn driver_of<P: Print + Files + AllocGlobal, I: Read>(
     rt: &P,
@@ -357,11 +384,7 @@ pub fn driver_of<P: Print + Files + AllocGlobal, I: Read>(
     };
     let mut files = Vec::new(rt.alloc());
     files.push(line.executable.clone()?)?;
-    for name in names {
-        if let Some(file) = file_of(rt, line, name)? {
-            files.push(file)?;
-        }
-    }
+    add_files(rt, line, names, &mut files)?;
     if kind == CCompilerKind::Clang {
         add_clang_files(rt, line, &mut files)?;
     }
