@@ -297,7 +297,11 @@ fn ask(
     kept: Option<(StoreKey, Pairs)>,
 ) -> Result<SessionAnswer<Sha256>, Fail> {
     match request(alloc, line) {
-        Ok(request) => answer(alloc, &request, tool, kept),
+        Ok(request) => {
+            let answered = answer(alloc, &request, tool, kept);
+            drop(request);
+            answered
+        }
         Err(fail) => {
             drop(kept);
             Err(fail)
