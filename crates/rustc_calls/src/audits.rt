@@ -60,6 +60,28 @@ impl AuditedCrate {
 }
 
 impl KnownCrate {
+    /// Copies of a hit under that key.
+    fn audited_by(
+        &self,
+        alloc: Global,
+        key: &StoreKey,
+        how: How,
+        outputs: &[Output],
+        dep_info: Option<&OsBytes>,
+    ) -> Result<AuditedCrate, HostError> {
+        let errors = match &self.found_errors {
+            Some(errors) => errors.clone()?,
+            None => OsBytes::empty(alloc),
+        };
+        Ok(AuditedCrate {
+            how,
+            digest: key.digest.clone()?,
+            outputs: copies_of(alloc, outputs)?,
+            errors,
+            dep_info: again(dep_info)?,
+        })
+    }
+
     /// Whether a hit is compiled too. It is a miss from now on then.
     pub(crate) fn is_to_audit(
         &mut self,
@@ -75,17 +97,7 @@ impl KnownCrate {
             return Ok(false);
         }
         self.looked_up = Some(key.digest.clone()?);
-        let errors = match &self.found_errors {
-            Some(errors) => errors.clone()?,
-            None => OsBytes::empty(alloc),
-        };
-        self.audited = Some(AuditedCrate {
-            how,
-            digest: key.digest.clone()?,
-            outputs: copies_of(alloc, outputs)?,
-            errors,
-            dep_info: again(dep_info)?,
-        });
+        self.audited = Some(self.audited_by(alloc, key, how, outputs, dep_info)?);
         Ok(true)
     }
 

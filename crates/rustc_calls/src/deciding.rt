@@ -134,6 +134,15 @@ fn copies(alloc: Global, words: &[OsBytes]) -> Result<Listed<OsBytes>, HostError
     Ok(copies)
 }
 
+/// Copies of the words and the folder of a call.
+fn words_and_dir(
+    alloc: Global,
+    line: &CommandLine,
+) -> Result<(Listed<OsBytes>, OsBytes), HostError> {
+    let words = copies(alloc, words_of(line))?;
+    Ok((words, line.dir.clone()?))
+}
+
 /// Notes of what the key of a request is made, but for its files.
 fn note_request(
     alloc: Global,
@@ -158,6 +167,40 @@ fn note_request(
     Ok(())
 }
 
+/// The variables of a request, with what is bound to its key, of which is noted what it is made of.
+fn env_of<R: Files + AllocGlobal>(
+    rt: &R,
+    line: &CommandLine,
+    rust: &Rust,
+    known: &mut KnownCrate,
+) -> Result<Listed<(OsBytes, OsBytes)>, HostError> {
+    let alloc = rt.alloc();
+    let words = words_of(line);
+    let additions = additions_of(rt, line, words, &mut known.files)?;
+    let mut env = variables_of(alloc, line)?;
+    let parts = &mut known.parts;
+    note_request(alloc, rust, words, env.as_slice(), &additions, parts)?;
+    env.push(variable_of(alloc, &additions)?)?;
+    Ok(env)
+}
+
+/// The request of a call with these variables to that rustc.
+fn request_with(
+    alloc: Global,
+    line: &CommandLine,
+    rust: Rust,
+    env: Listed<(OsBytes, OsBytes)>,
+) -> Result<Request, HostError> {
+    let (words, dir) = words_and_dir(alloc, line)?;
+    Ok(Request {
+        compiler: Compiler::Rust(rust),
+        words,
+        dir,
+        env,
+        moment: line.second(),
+    })
+}
+
 /// The request of a call to that rustc, whose crates are loaded. In a box, so that no other function has to hold it.
 fn request_of<R: Files + AllocGlobal>(
     rt: &R,
@@ -165,29 +208,9 @@ fn request_of<R: Files + AllocGlobal>(
     rust: Rust,
     known: &mut KnownCrate,
 ) -> Result<Box<Request>, HostError> {
-    let alloc = rt.alloc();
-    let words = words_of(line);
-    let additions = additions_of(rt, line, words, &mut known.files)?;
-    let mut env = variables_of(alloc, line)?;
-    note_request(
-        alloc,
-        &rust,
-        words,
-        env.as_slice(),
-        &additions,
-        &mut known.parts,
-    )?;
-    env.push(variable_of(alloc, &additions)?)?;
-    let words = copies(alloc, words)?;
-    let dir = line.dir.clone()?;
-    let request = Request {
-        compiler: Compiler::Rust(rust),
-        words,
-        dir,
-        env,
-        moment: line.second(),
-    };
-    Ok(Box::new(alloc, request)?)
+    let env = env_of(rt, line, &rust, known)?;
+    let request = request_with(rt.alloc(), line, rust, env)?;
+    Ok(Box::new(rt.alloc(), request)?)
 }
 
 /// What the session answers by what is known.

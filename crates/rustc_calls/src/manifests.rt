@@ -84,6 +84,18 @@ fn sources_in<R: Files + AllocGlobal>(
     Ok(Some(sources))
 }
 
+/// The manifest of that name, where one is kept.
+fn kept_under<R: Files + AllocGlobal>(
+    rt: &R,
+    line: &CommandLine,
+    name: &str,
+) -> Result<Option<KeptManifest>, HostError> {
+    match line.folder.read(rt, Kind::Manifests, name) {
+        Ok(bytes) => Ok(unseal::<Blake2b256, KeptManifest>(rt.alloc(), bytes.as_slice())?),
+        Err(_) => Ok(None),
+    }
+}
+
 impl KnownCrate {
     /// Loads the sources of a manifest, each by what is noted of it. False where one isn't as it was.
     fn load_noted<R: Files + AllocGlobal>(
@@ -99,6 +111,26 @@ impl KnownCrate {
         Ok(true)
     }
 
+    /// Loads all that a manifest of that name names. False where something isn't as it was.
+    fn has_noted<R: Files + AllocGlobal>(
+        &mut self,
+        rt: &R,
+        line: &CommandLine,
+        name: &str,
+        kept: &KeptManifest,
+    ) -> Result<bool, HostError> {
+        let is_of_rustc = kept.zone.as_bytes() == OF_RUSTC
+            && kept.key.as_bytes() == name.as_bytes();
+        if !is_of_rustc || !line.settings.is_on(Key::DirectMode) {
+            return Ok(false);
+        }
+        self.tokens.take_rows(rt.alloc(), kept.watched.as_bytes())?;
+        match sources_in(rt, line, kept.results.as_bytes())? {
+            Some(sources) => self.load_noted(rt, sources),
+            None => Ok(false),
+        }
+    }
+
     /// The text on dependencies of a manifest of that name, where all that it names is as it was.
     pub(crate) fn noted_text<R: Files + AllocGlobal>(
         &mut self,
@@ -106,26 +138,17 @@ impl KnownCrate {
         line: &CommandLine,
         name: &str,
     ) -> Result<Option<OsBytes>, HostError> {
-        let Ok(bytes) = line.folder.read(rt, Kind::Manifests, name) else {
+        let Some(kept) = kept_under(rt, line, name)? else {
             return Ok(None);
         };
-        let Some(kept) = unseal::<Blake2b256, KeptManifest>(rt.alloc(), bytes.as_slice())? else {
-            return Ok(None);
-        };
-        let is_of_rustc = kept.zone.as_bytes() == OF_RUSTC
-            && kept.key.as_bytes() == name.as_bytes();
-        if !is_of_rustc || !line.settings.is_on(Key::DirectMode) {
-            return Ok(None);
+        match self.has_noted(rt, line, name, &kept) {
+            Ok(true) => {
+                let _ = line.folder.renew(rt, Kind::Manifests, name, line.moment);
+                Ok(Some(kept.results))
+            }
+            Ok(false) => Ok(None),
+            Err(stop) => Err(stop),
         }
-        self.tokens.take_rows(rt.alloc(), kept.watched.as_bytes())?;
-        let Some(sources) = sources_in(rt, line, kept.results.as_bytes())? else {
-            return Ok(None);
-        };
-        if !self.load_noted(rt, sources)? {
-            return Ok(None);
-        }
-        let _ = line.folder.renew(rt, Kind::Manifests, name, line.moment);
-        Ok(Some(kept.results))
     }
 
     /// Loads the sources that a text names, and keeps a manifest of it, where these can be recognized by their states.

@@ -121,6 +121,12 @@ fn sources_variable(alloc: Global, told: &[u8]) -> Result<(OsBytes, OsBytes), Ho
     Ok((name, OsBytes::from_vec(digest.into_bytes())))
 }
 
+/// Binds to the key of a request what a text says of its crate.
+fn bind_sources(alloc: Global, text: &[u8], request: &mut Request) -> Result<(), HostError> {
+    let sources = sources_variable(alloc, behind_target(text))?;
+    Ok(request.env.push(sources)?)
+}
+
 /// Paths as they are from the folder of the call.
 fn joined(
     alloc: Global,
@@ -180,11 +186,10 @@ impl KnownCrate {
     ) -> Result<(), HostError>
         ensures { host.new.compiled ≡ host.old.compiled }
     {
+        let dir = line.dir.clone()?;
         let words = dep_info_words(rt.alloc(), parsed)?;
         let printed = self.ask_dependencies(rt, line, host, request, words.as_slice())?;
-        let sources = sources_variable(rt.alloc(), behind_target(printed.text.as_bytes()))?;
-        request.env.push(sources)?;
-        let dir = line.dir.clone()?;
+        bind_sources(rt.alloc(), printed.text.as_bytes(), request)?;
         if let Some(rustc) = self.tool.rustc.as_mut() {
             rustc.dep_info = Some(RecordedAnswer {
                 words,
@@ -251,6 +256,38 @@ impl KnownCrate {
         lock_paths(rt, line, paths, self.dep_info.as_ref())
     }
 
+    /// What the host makes at these paths, from the folder of the call, by the caller's own words.
+    fn made_by<P: Print + Files<File = File> + AllocGlobal, I: Read>(
+        &mut self,
+        rt: &P,
+        line: &CommandLine,
+        host: &mut Host<I>,
+        paths: &[OsBytes],
+    ) -> Result<Compiled, HostError>
+        requires { host.old.compiled ≡ 0 }
+        ensures { host.new.compiled ≤ 1 }
+    {
+        let paths = joined(rt.alloc(), line, paths)?;
+        let _locks = self.lock(rt, line, paths.as_slice())?;
+        let before = states_of(rt, paths.as_slice())?;
+        let ended = host.compile(rt, rt.alloc(), line.words.as_slice())?;
+        let contents = made_since(rt, paths.as_slice(), before.as_slice())?;
+        self.take_printed(rt, line)?;
+        let status = ended.status;
+        Ok(Compiled { status, contents })
+    }
+
+    /// Takes what the compile printed.
+    fn take_printed<R: Files + AllocGlobal>(
+        &mut self,
+        rt: &R,
+        line: &CommandLine,
+    ) -> Result<(), HostError> {
+        self.errors = OsBytes::from_vec(read_whole(rt, line.errors.as_str())?);
+        self.is_talking = has_output(rt, line.printed.as_str())?;
+        Ok(())
+    }
+
     /// Has the host compile by the caller's own words, and records what was made as what the session's words make.
     fn record_crate<P: Print + Files<File = File> + AllocGlobal, I: Read>(
         &mut self,
@@ -263,23 +300,12 @@ impl KnownCrate {
         requires { host.old.compiled ≡ 0 }
         ensures { host.new.compiled ≤ 1 }
     {
-        let alloc = rt.alloc();
-        let Wanted { words, paths, .. } = wanted;
         let names = key.names.clone()?;
-        let paths = joined(alloc, line, paths.as_slice())?;
-        let locks = self.lock(rt, line, paths.as_slice())?;
-        let before = states_of(rt, paths.as_slice())?;
-        let ended = host.compile(rt, alloc, line.words.as_slice())?;
-        let contents = made_since(rt, paths.as_slice(), before.as_slice())?;
-        self.errors = OsBytes::from_vec(read_whole(rt, line.errors.as_str())?);
-        self.is_talking = has_output(rt, line.printed.as_str())?;
-        drop(locks);
         let dir = line.dir.clone()?;
-        let status = ended.status;
-        let made = Compiled { status, contents };
+        let made = self.made_by(rt, line, host, wanted.paths.as_slice())?;
         if let Some(rustc) = self.tool.rustc.as_mut() {
             rustc.outputs = Some(RecordedCrate {
-                words,
+                words: wanted.words,
                 dir,
                 names,
                 made,
