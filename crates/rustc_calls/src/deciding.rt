@@ -407,7 +407,9 @@ fn attempt<P: Print + Files<File = File> + AllocGlobal, I: Read>(
     ensures { host.new.compiled ≤ 1 }
 {
     let answered = answer_by(rt.alloc(), request, known)?;
-    act_on(rt, line, host, request, &answered, known)
+    let end = act_on(rt, line, host, request, &answered, known);
+    drop(answered);
+    end
 }
 
 /// Asks the session about the request until it answers, each time with more that is known.
@@ -495,7 +497,11 @@ fn ask_parsed<P: Print + Files<File = File> + AllocGlobal, I: Read>(
     ensures once { host.new.compiled ≤ 1 }
 {
     match parse(rt, line, words_of(line), known)? {
-        CompilerArguments::Ok(parsed) => ask_about(rt, line, host, &parsed, known),
+        CompilerArguments::Ok(parsed) => {
+            let end = ask_about(rt, line, host, &parsed, known);
+            drop(parsed);
+            end
+        }
         CompilerArguments::NotCompilation => pass(rt.alloc(), "not a compilation", None),
         CompilerArguments::CannotCache(reason, more) => pass(rt.alloc(), reason, more),
     }
