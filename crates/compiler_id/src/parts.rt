@@ -157,7 +157,7 @@ fn specs_places(alloc: Global, folder: &[u8]) -> Result<Vec<String>, HostError> 
     Ok(places)
 }
 
-/// Pushes the path of that name behind this front.
+/// Pushes the path of that name after this front.
 fn push_place(
     alloc: Global,
     front: &str,

@@ -39,7 +39,7 @@ use std::alloc::{AllocError, Global};
 
 /// The pieces of a key that are no digests of a request's files.
 #[derive(Drop)]
-struct Told {
+struct OtherPieces {
     toolchain: Listed<OsBytes>,
     version: OsBytes,
     words: Listed<OsBytes>,
@@ -48,15 +48,15 @@ struct Told {
     variables: Listed<(OsBytes, OsBytes)>,
 }
 
-/// What is told of a request with that text on dependencies.
-fn told_of(
+/// Those of a request with that text on dependencies.
+fn other_pieces(
     alloc: Global,
     known: &KnownRust,
     place: &RustPlace,
     text: &str,
-) -> Result<Told, AllocError>
+) -> Result<OtherPieces, AllocError>
     ensures { IfOk result
-        (λ told. told ≡ record {
+        (λ pieces. pieces ≡ record {
           toolchain = known.now.toolchain.now;
           version = known.now.version.now;
           words = kept_words (asks_in place.now.parsed.now);
@@ -65,7 +65,7 @@ fn told_of(
           variables = counted_in place.now.env.now;
         }) }
 {
-    Ok(Told {
+    Ok(OtherPieces {
         toolchain: copied(alloc, known.toolchain)?,
         version: known.version.clone()?,
         words: kept_words(alloc, place.parsed)?,
@@ -87,20 +87,20 @@ fn parts_by(
         IsCollected digest_of c.question answers found →
         IfOk result (λ parts. parts ≡ parts_of digest_of (record_with c answers)) }
 {
-    let told = told_of(alloc, known, place, found.sources.text.as_str())?;
+    let others = other_pieces(alloc, known, place, found.sources.text.as_str())?;
     let Collected { sources, files, .. } = found;
     Ok(Parts {
-        toolchain: told.toolchain,
-        version: told.version,
-        words: told.words,
+        toolchain: others.toolchain,
+        version: others.version,
+        words: others.words,
         sources: sources.digests,
         externs: files.externs,
         archives: files.archives,
         target: files.target,
         profile: files.profile,
-        env_deps: told.env_deps,
-        variables: told.variables,
-        dir: told.dir,
+        env_deps: others.env_deps,
+        variables: others.variables,
+        dir: others.dir,
     })
 }
 

@@ -68,7 +68,7 @@ fn value_behind<'a>(rest: &'a str, words: &mut Words<'a>) -> Option<&'a str> {
     }
 }
 
-/// The option of that name, with the value behind it.
+/// The option of that name, with the value after it.
 fn valued<'a>(name: &str, rest: &'a str, words: &mut Words<'a>) -> Option<Asked<'a>> {
     match value_behind(rest, words) {
         Some(value) => Asked::with_value(name, value),

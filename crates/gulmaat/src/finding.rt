@@ -1,0 +1,179 @@
+//! What a call lacks, found out: its text, its outputs, a manifest, what is kept of it.
+
+ghost use Rattle.std.specs.Prelude.{◌≡◌, ◌≤◌};
+
+use blake2::Blake2b256;
+use cache_files::manifest_files::name_of_manifest;
+use ckeys_records::fault::Fault;
+use ckeys_records::step::Step;
+use entry_keys::entry_key::EntryKey;
+use host_protocol::command_line::CommandLine;
+use host_protocol::host::Host;
+use host_protocol::host_error::HostError;
+use known_calls::kept::{found, hint_at, kept_under};
+use known_calls::known::Known;
+use remote_storage::manifests::fetched_manifest;
+use remote_storage::results::fetched;
+use replay::kept_session::SessionAnswer;
+use std::fs::File;
+use std::io::Read;
+use std::rt::Files;
+use wrap_base::store_key::StoreKey;
+
+/// Asks the disk for the key that the store was asked for, once, and where that has nothing other machines. False where they have nothing too.
+fn look_up<P: Print + Files + AllocGlobal, I: Read>(
+    rt: &P,
+    line: &CommandLine,
+    host: &mut Host<I>,
+    key: Option<&StoreKey>,
+    known: &mut Known,
+) -> Result<bool, HostError>
+    ensures { host.new.compiled ≡ host.old.compiled }
+{
+    let Some(key) = key else {
+        return Ok(false);
+    };
+    if known.looked_up.as_ref() == Some(&key.digest) {
+        return Ok(false);
+    }
+    known.looked_up = Some(key.digest.clone()?);
+    known.entry = found(rt, line, key.digest.clone()?, known.preprocessor.as_bytes())?;
+    if known.entry.is_none() {
+        known.entry = fetched(rt, line, host, key, known.preprocessor.as_bytes())?;
+    }
+    Ok(known.entry.is_some())
+}
+
+/// Asks the disk for the manifest that the session asked for, once, and where that has none other machines. False where they have none too, or
+/// none was asked for.
+fn look_up_manifest<P: Print + Files + AllocGlobal, I: Read>(
+    rt: &P,
+    line: &CommandLine,
+    host: &mut Host<I>,
+    asked: Option<&EntryKey>,
+    known: &mut Known,
+) -> Result<bool, HostError>
+    ensures { host.new.compiled ≡ host.old.compiled }
+{
+    let Some(key) = asked else {
+        return Ok(false);
+    };
+    let name = name_of_manifest(rt.alloc(), line.zone.as_str(), key)?;
+    if known.look_up_manifest(rt, line, name)? {
+        return Ok(true);
+    }
+    if !known.lacks_manifest() {
+        return Ok(false);
+    }
+    match fetched_manifest(rt, line, host, key, known.name_to_note())? {
+        Some(manifest) => known.take_manifest(rt, line, manifest),
+        None => Ok(false),
+    }
+}
+
+/// Finds out what the text is: by a manifest, or by the preprocessor. False where it was printed already.
+fn find_text<P: Print + Files<File = File> + AllocGlobal, I: Read>(
+    rt: &P,
+    line: &CommandLine,
+    host: &mut Host<I>,
+    hint: &str,
+    asked: Option<&EntryKey>,
+    known: &mut Known,
+) -> Result<bool, HostError>
+    requires { host.old.compiled ≤ 1 }
+    ensures { host.new.compiled ≤ 1 }
+{
+    if look_up_manifest(rt, line, host, asked, known)? {
+        return Ok(true);
+    }
+    if !known.record(rt, line, host, None)? {
+        return Ok(false);
+    }
+    if asked.is_some() {
+        known.follow_text(rt, line)?;
+        load_result(rt, line, hint, known)?;
+    }
+    Ok(true)
+}
+
+/// Finds out what was made: by an entry, or by the compiler. False where that ran already.
+fn find_outputs<P: Print + Files<File = File> + AllocGlobal, I: Read>(
+    rt: &P,
+    line: &CommandLine,
+    host: &mut Host<I>,
+    key: Option<&StoreKey>,
+    known: &mut Known,
+) -> Result<bool, HostError>
+    requires { host.old.compiled ≤ 1 }
+    ensures { host.new.compiled ≤ 1 }
+{
+    if look_up(rt, line, host, key, known)? || known.drop_manifest() {
+        return Ok(true);
+    }
+    known.record(rt, line, host, key)
+}
+
+/// Finds out what a fault says is lacking. False where nothing is.
+pub(crate) fn find_out<P: Print + Files<File = File> + AllocGlobal, I: Read>(
+    rt: &P,
+    line: &CommandLine,
+    host: &mut Host<I>,
+    hint: &str,
+    fault: &Fault,
+    answered: &SessionAnswer<Blake2b256>,
+    known: &mut Known,
+) -> Result<bool, HostError>
+    requires { host.old.compiled ≤ 1 }
+    ensures { host.new.compiled ≤ 1 }
+{
+    match fault {
+        Fault::Read(path) => known.load(rt, path.clone()?),
+        Fault::Tool(Step::Compile) => {
+            let key = answered.session.objects().asked();
+            find_outputs(rt, line, host, key, known)
+        }
+        Fault::Tool(_) => {
+            let asked = answered.session.entries().asked();
+            find_text(rt, line, host, hint, asked, known)
+        }
+        _ => Ok(false),
+    }
+}
+
+/// Loads what was kept under the digest that this command line had last.
+fn load_result<R: Files + AllocGlobal>(
+    rt: &R,
+    line: &CommandLine,
+    hint: &str,
+    known: &mut Known,
+) -> Result<(), HostError> {
+    let Some(had) = hint_at(rt, line, hint)? else {
+        return Ok(());
+    };
+    let digest = had.digest.clone()?;
+    known.entry = kept_under(rt, line, digest, known.preprocessor.as_bytes())?;
+    known.hint = Some(had);
+    Ok(())
+}
+
+/// Loads ahead what this command line had last: what was kept, and in direct mode, where no text was printed yet, the manifest before it.
+/// Without that the text comes first.
+pub(crate) fn load_ahead<R: Files + AllocGlobal>(
+    rt: &R,
+    line: &CommandLine,
+    hint: &str,
+    known: &mut Known,
+) -> Result<(), HostError> {
+    if known.zone.is_none() || known.tool.text.is_some() {
+        return load_result(rt, line, hint, known);
+    }
+    let Some(had) = hint_at(rt, line, hint)? else {
+        return Ok(());
+    };
+    let manifest_name = String::from_str(rt.alloc(), had.manifest_name.as_str())?;
+    if known.look_up_manifest(rt, line, manifest_name)? {
+        known.entry = kept_under(rt, line, had.digest.clone()?, &[])?;
+    }
+    known.hint = Some(had);
+    Ok(())
+}
