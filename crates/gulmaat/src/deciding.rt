@@ -225,7 +225,10 @@ fn attempt<P: Print + Files<File = File> + AllocGlobal, I: Read>(
     ensures { host.new.compiled ≤ 1 }
 {
     let (answered, messages) = answer_by(rt.alloc(), request, known)?;
-    act_on(rt, line, host, hint, &answered, messages.as_ref(), known)
+    let end = act_on(rt, line, host, hint, &answered, messages.as_ref(), known);
+    drop(answered);
+    drop(messages);
+    end
 }
 
 /// Asks the session about the request until it answers, each time with more that is known.

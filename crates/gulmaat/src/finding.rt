@@ -4,6 +4,7 @@ ghost use Rattle.std.specs.Prelude.{◌≡◌, ◌≤◌};
 
 use blake2::Blake2b256;
 use cache_files::manifest_files::name_of_manifest;
+use cache_files::results::Kept;
 use ckeys_records::fault::Fault;
 use ckeys_records::step::Step;
 use entry_keys::entry_key::EntryKey;
@@ -17,8 +18,16 @@ use remote_storage::results::fetched;
 use replay::kept_session::SessionAnswer;
 use std::fs::File;
 use std::io::Read;
+use std::mem;
 use std::rt::Files;
 use wrap_base::store_key::StoreKey;
+
+/// Takes what is kept of a call, in the place of what was taken before. Whether there is something.
+fn take_kept(kept: Option<Kept>, known: &mut Known) -> bool {
+    let is_there = kept.is_some();
+    drop(mem::replace(&mut known.entry, kept));
+    is_there
+}
 
 /// Asks the disk for the key that the store was asked for, once, and where that has nothing other machines. False where they have nothing too.
 fn look_up<P: Print + Files + AllocGlobal, I: Read>(
@@ -37,11 +46,12 @@ fn look_up<P: Print + Files + AllocGlobal, I: Read>(
         return Ok(false);
     }
     known.looked_up = Some(key.digest.clone()?);
-    known.entry = found(rt, line, key.digest.clone()?, known.preprocessor.as_bytes())?;
-    if known.entry.is_none() {
-        known.entry = fetched(rt, line, host, key, known.preprocessor.as_bytes())?;
+    let kept = found(rt, line, key.digest.clone()?, known.preprocessor.as_bytes())?;
+    if take_kept(kept, known) {
+        return Ok(true);
     }
-    Ok(known.entry.is_some())
+    let fetched = fetched(rt, line, host, key, known.preprocessor.as_bytes())?;
+    Ok(take_kept(fetched, known))
 }
 
 /// Asks the disk for the manifest that the session asked for, once, and where that has none other machines. False where they have none too, or
@@ -151,7 +161,8 @@ fn load_result<R: Files + AllocGlobal>(
         return Ok(());
     };
     let digest = had.digest.clone()?;
-    known.entry = kept_under(rt, line, digest, known.preprocessor.as_bytes())?;
+    let kept = kept_under(rt, line, digest, known.preprocessor.as_bytes())?;
+    take_kept(kept, known);
     known.hint = Some(had);
     Ok(())
 }
@@ -172,7 +183,8 @@ pub(crate) fn load_ahead<R: Files + AllocGlobal>(
     };
     let manifest_name = String::from_str(rt.alloc(), had.manifest_name.as_str())?;
     if known.look_up_manifest(rt, line, manifest_name)? {
-        known.entry = kept_under(rt, line, had.digest.clone()?, &[])?;
+        let kept = kept_under(rt, line, had.digest.clone()?, &[])?;
+        take_kept(kept, known);
     }
     known.hint = Some(had);
     Ok(())

@@ -143,6 +143,20 @@ fn tell_audit<R: Eprint>(rt: &R, audit: &Audit) {
     };
 }
 
+/// What the host reads of what a call came to. What comparing showed is printed, where a user asked for that.
+fn code_of<R: Eprint>(rt: &R, line: &CommandLine, end: &Result<End, HostError>) -> ExitCode {
+    let Ok(end) = end else {
+        return ExitCode::from(PASS);
+    };
+    if line.settings.tells_audit() {
+        tell_audit(rt, &end.audit);
+    }
+    match end.what {
+        What::Done(_, _) => ExitCode::from(DONE),
+        What::Pass(_) => ExitCode::from(PASS),
+    }
+}
+
 /// Decides on the command line that the host asks about, and counts what it came to.
 fn talk<R>(rt: &R) -> ExitCode
 where
@@ -157,14 +171,8 @@ where
     }
     let end = decide(rt, &line, &mut host);
     let _ = note(rt, &line, &end, &host.tally);
-    let Ok(end) = end else {
-        return ExitCode::from(PASS);
-    };
-    if line.settings.tells_audit() {
-        tell_audit(rt, &end.audit);
-    }
-    match end.what {
-        What::Done(_, _) => ExitCode::from(DONE),
-        What::Pass(_) => ExitCode::from(PASS),
-    }
+    let code = code_of(rt, &line, &end);
+    drop(end);
+    drop(line);
+    code
 }
