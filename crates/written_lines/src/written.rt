@@ -219,9 +219,7 @@ impl<'s> Place<'s> {
         };
         let lines = file.lines(left, to);
         let is_more = match self.shown {
-            Some(shown) => {
-                goes_on(shown) || matches!(behind_spaces(lines), [b'(', ..])
-            }
+            Some(shown) => { goes_on(shown) || matches!(behind_spaces(lines), [b'(', ..]) }
             None => false,
         };
         if is_more {
