@@ -74,14 +74,6 @@ impl Audited {
     }
 }
 
-/// A copy of bytes, where there are some.
-fn copy_of(contents: &Option<OsBytes>) -> Result<Option<OsBytes>, AllocError> {
-    match contents {
-        Some(contents) => Ok(Some(contents.clone()?)),
-        None => Ok(None),
-    }
-}
-
 /// Copies of a hit that is kept under that digest.
 fn audited_of(
     alloc: Global,
@@ -95,7 +87,7 @@ fn audited_of(
         outputs: copies_of(alloc, given.outputs)?,
         printed: messages.printed.clone()?,
         errors: messages.errors.clone()?,
-        dependencies: copy_of(&messages.dependencies)?,
+        dependencies: messages.dependencies.clone()?,
     })
 }
 

@@ -18,7 +18,6 @@ use host_protocol::host::{Ended, Host};
 use host_protocol::host_error::HostError;
 use known_options::dependencies::Dependencies;
 use known_options::text_words::text_words;
-use made_outputs::outputs::{lock_paths, made_since, states_of};
 use os_files::files::Files as CallFiles;
 use os_files::listed::Listed;
 use os_files::os_bytes::OsBytes;

@@ -25,14 +25,6 @@ pub(crate) struct AuditedCrate {
     dep_info: Option<OsBytes>,
 }
 
-/// A copy of what is there.
-fn again(bytes: Option<&OsBytes>) -> Result<Option<OsBytes>, HostError> {
-    match bytes {
-        Some(bytes) => Ok(Some(bytes.clone()?)),
-        None => Ok(None),
-    }
-}
-
 impl AuditedCrate {
     /// What differs first between the hit and what rustc made and printed.
     fn difference(
@@ -78,7 +70,7 @@ impl KnownCrate {
             digest: key.digest.clone()?,
             outputs: copies_of(alloc, outputs)?,
             errors,
-            dep_info: again(dep_info)?,
+            dep_info: dep_info.cloned()?,
         })
     }
 
