@@ -1,7 +1,7 @@
 //! Words of commands: cut by the tree of a compiler's flags or by its tables one after the other, parsed, or copied.
 
 use crate::words::{Tally, copy};
-use cmdlines::gcc::Gcc;
+use cmdlines::kinds::Gcc;
 use cmdlines_base::argument_error::ArgParseError;
 use cmdlines_base::compiler_arguments::CompilerArguments;
 use cmdlines_base::table::{ArgInfo, SearchableArgInfo};

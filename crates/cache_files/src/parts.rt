@@ -64,7 +64,7 @@ fn variables_of(
 }
 
 /// A name that was kept.
-fn name_of(kept: &KeptName) -> Result<OutputName, AllocError>
+fn output_name(kept: &KeptName) -> Result<OutputName, AllocError>
     ensures { IfOk result (λ output. output ≡ name_in kept.now) }
 {
     let name = kept.name.clone()?;
@@ -73,12 +73,12 @@ fn name_of(kept: &KeptName) -> Result<OutputName, AllocError>
 }
 
 /// The names that were kept.
-fn names_of(alloc: Global, kept: &[KeptName]) -> Result<Listed<OutputName>, AllocError>
+fn output_names(alloc: Global, kept: &[KeptName]) -> Result<Listed<OutputName>, AllocError>
     ensures { IfOk result (λ names. names ≡ map name_in kept.now) }
 {
     let mut names = Vec::with_capacity(alloc, kept.len())?;
     for output in kept {
-        names.push(name_of(output)?)?;
+        names.push(output_name(output)?)?;
     }
     Ok(Listed::from_vec(names))
 }
@@ -121,6 +121,6 @@ pub fn parts_of(alloc: Global, kept: &KeptParts) -> Result<CParts, AllocError>
         extra_hashes: kept.extra_hashes.clone()?,
         assembler: kept.assembler.clone()?,
         text: kept.text.clone()?,
-        names: names_of(alloc, kept.names.as_slice())?,
+        names: output_names(alloc, kept.names.as_slice())?,
     })
 }

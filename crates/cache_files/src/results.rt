@@ -130,7 +130,7 @@ fn shape_of(alloc: Global, kept: &KeptShape) -> Result<CShape, HostError>
 }
 
 /// The names that were kept.
-fn names_of(alloc: Global, kept: Listed<KeptName>) -> Result<Listed<OutputName>, HostError>
+fn output_names(alloc: Global, kept: Listed<KeptName>) -> Result<Listed<OutputName>, HostError>
     ensures names { IfOk result (λ names. names ≡ map name_in kept) }
     ensures err { IfErr result (λ stop. stop ≡ HostError.Memory) }
 {
@@ -178,7 +178,7 @@ pub fn kept_of(alloc: Global, entry: KeptResult) -> Result<Kept, HostError>
         messages,
     } = entry;
     let shape = Shape::C(shape_of(alloc, &shape)?);
-    let names = names_of(alloc, names)?;
+    let names = output_names(alloc, names)?;
     let pairs = pairs_of(alloc, outputs)?;
     let family = Family::C;
     let key = StoreKey {

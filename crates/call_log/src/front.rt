@@ -1,7 +1,7 @@
 //! The members of a line that are known before its call has ended.
 
+use crate::facts::CallFacts;
 use crate::named::named_files;
-use crate::told::Told;
 use host_protocol::command_line::CommandLine;
 use json_texts::{push_bytes, push_name, push_text};
 use os_files::os_bytes::OsBytes;
@@ -42,7 +42,7 @@ pub fn front(
     line: &CommandLine,
     what: &str,
     reason: &str,
-    told: &Told,
+    facts: &CallFacts,
 ) -> Result<String, AllocError> {
     let mut json = String::from_str(alloc, "{\"v\":1")?;
     push_said(&mut json, "what", what)?;
@@ -54,9 +54,9 @@ pub fn front(
     push_path(&mut json, "input", named.input)?;
     push_path(&mut json, "output", named.output)?;
     push_said(&mut json, "reason", reason)?;
-    push_said(&mut json, "why", told.why.as_deref().unwrap_or(""))?;
-    let bytes = told.bytes;
-    let time = told.compile_time;
+    push_said(&mut json, "why", facts.why.as_deref().unwrap_or(""))?;
+    let bytes = facts.bytes;
+    let time = facts.compile_time;
     write!(json, ",\"bytes\":{bytes},\"compile_time\":{time}")?;
     Ok(json)
 }

@@ -1,6 +1,6 @@
 //! The front of a line of a log: a call as one object of JSON, up to what only the host knows of it.
 #![tactic(auto)]
 
+pub mod facts;
 pub mod front;
 pub mod named;
-pub mod told;

@@ -1,7 +1,7 @@
 //! Calls on words of commands: options are looked up in a table and in a tree, and what is read of words is asked.
 
 use crate::{Stop, say_ready};
-use cmdlines::hazards;
+use cmdlines::uncached_words;
 use cmdlines_base::argument::{ArgDisposition, Argument, NormalizedDisposition};
 use cmdlines_base::byte_tree::ByteTree;
 use cmdlines_base::color_mode::ColorMode;
@@ -78,7 +78,7 @@ fn stands_apart(argument: &Argument<OsBytes>) -> bool {
 pub(crate) fn empty_value<R: Eprint + AllocGlobal>(rt: &R) -> Result<bool, Stop> {
     let request = request(rt.alloc())?;
     say_ready(rt);
-    Ok(hazards::empty_value(&request))
+    Ok(uncached_words::empty_value(&request))
 }
 
 /// What `-I '' -c foo.c` comes to.
@@ -110,5 +110,5 @@ fn request(alloc: Global) -> Result<ParsedArguments, AllocError> {
 pub(crate) fn file_of_words<R: Eprint + AllocGlobal>(rt: &R) -> Result<bool, Stop> {
     let command = words(rt.alloc(), "-c @a.rsp")?;
     say_ready(rt);
-    Ok(hazards::opens_file(command.as_slice(), CCompilerKind::Gcc))
+    Ok(uncached_words::opens_file(command.as_slice(), CCompilerKind::Gcc))
 }

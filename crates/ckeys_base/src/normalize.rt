@@ -16,7 +16,7 @@ use std::alloc::{AllocError, Global};
 pub fn normalize_path(alloc: Global, path: &[u8]) -> Result<OsBytes, AllocError>
     ensures { IfOk result (λ normal. normal ≡ normal_path path.now) }
 {
-    let names = names_of(alloc, path)?;
+    let names = normal_names(alloc, path)?;
     let mut bytes = Vec::with_capacity(alloc, path.len())?;
     if path.starts_with(b"/") {
         bytes.push(b'/')?;
@@ -26,7 +26,7 @@ pub fn normalize_path(alloc: Global, path: &[u8]) -> Result<OsBytes, AllocError>
 }
 
 /// The names that stay of a path.
-fn names_of<'a>(alloc: Global, path: &'a [u8]) -> Result<Vec<&'a [u8]>, AllocError>
+fn normal_names<'a>(alloc: Global, path: &'a [u8]) -> Result<Vec<&'a [u8]>, AllocError>
     ensures { IfOk result (λ names. map (λ name. name.now) names.items ≡ spec.names_of path.now) }
 {
     let components = components(alloc, path)?;

@@ -119,11 +119,11 @@ fn strip<'a>(
     if first == text.len() {
         return Ok(CowSlice::Borrowed(text));
     }
-    Ok(CowSlice::Owned(joined(alloc, kind, text, folders, first)?))
+    Ok(CowSlice::Owned(join_kept(alloc, kind, text, folders, first)?))
 }
 
 /// The parts that stay, in one, where the first folder goes at that place.
-fn joined(
+fn join_kept(
     alloc: Global,
     kind: Kind,
     text: &[u8],

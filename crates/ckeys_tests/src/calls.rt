@@ -12,7 +12,7 @@ use ckeys_records::config::KeyConfig;
 use ckeys_records::fault::Fault;
 use ckeys_records::preprocessor::Preprocessor;
 use ckeys_records::shape::CShape;
-use cmdlines::gcc::Gcc;
+use cmdlines::kinds::Gcc;
 use cmdlines_tables::language::Language;
 use os_files::files::Files;
 use os_files::os_bytes::OsBytes;
@@ -54,7 +54,10 @@ fn key_by<F: Files>(
 }
 
 /// The key, or the fault as text.
-fn told(alloc: Global, answer: Result<(String, CShape, bool), Fault>) -> Result<String, Fail> {
+fn key_or_fault(
+    alloc: Global,
+    answer: Result<(String, CShape, bool), Fault>,
+) -> Result<String, Fail> {
     match answer {
         Ok((key, _, _)) => Ok(key),
         Err(fault) => Ok(format!(in alloc; "{fault}")?),
@@ -70,7 +73,7 @@ fn key_of<F: Files>(
 ) -> Result<String, Fail> {
     let dir = OsBytes::from_slice(alloc, b"/w")?;
     let config = KeyConfig::new(alloc, &[], Zone::utc(), false)?;
-    told(alloc, key_by(alloc, hasher, &dir, &config, files, tool))
+    key_or_fault(alloc, key_by(alloc, hasher, &dir, &config, files, tool))
 }
 
 /// The key of this line of gcc in `/w` on these files, or the fault as text.
@@ -150,8 +153,8 @@ fn a_missing_file_is_looked_for_once(rt: HostRuntime) -> Result<(), Fail> {
         failed: 0,
     };
     let mut tool = PrintTool::new(alloc, b"int x;")?;
-    let told = key_on(alloc, "-c foo.c -fplugin=p.so", &mut files, &mut tool)?;
-    is_that(told.as_str(), "read /w/p.so", "the fault")?;
+    let text = key_on(alloc, "-c foo.c -fplugin=p.so", &mut files, &mut tool)?;
+    is_that(text.as_str(), "read /w/p.so", "the fault")?;
     assert_eq!(rt; files.calls, 1);
     Ok(())
 }

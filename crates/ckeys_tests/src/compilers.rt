@@ -4,7 +4,7 @@ use crate::keys::{digest_of, digest_of_all};
 use ckeys::compiler::CCompiler;
 use ckeys::compiler_impl::CCompilerImpl;
 use ckeys_records::fault::Fault;
-use cmdlines::gcc::Gcc;
+use cmdlines::kinds::Gcc;
 use cmdlines_base::compiler_arguments::CompilerArguments;
 use cmdlines_requests::parsed::ParsedArguments;
 use os_files::files::Files;

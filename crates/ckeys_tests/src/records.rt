@@ -11,7 +11,7 @@ use ckeys_records::config::KeyConfig;
 use ckeys_records::fault::Fault;
 use ckeys_records::preprocessor::Preprocessor;
 use ckeys_records::shape::CShape;
-use cmdlines::gcc::Gcc;
+use cmdlines::kinds::Gcc;
 use cmdlines_requests::parsed::ParsedArguments;
 use os_files::memory_files::MemoryFiles;
 use os_files::os_bytes::OsBytes;

@@ -2,21 +2,18 @@
 //! a parse names.
 #![tactic(auto)]
 
-pub mod clang;
 mod closing;
 pub mod command;
-pub mod diab;
 mod engine;
 pub mod facts;
 pub mod found;
 pub mod gcc;
-pub mod hazards;
+pub mod kinds;
 pub mod laws;
 pub mod lists;
 pub mod msvc;
-pub mod tasking_vx;
+pub mod uncached_words;
 
-pub use clang::Clang;
 pub use cmdlines_base::argument::{ArgDisposition, Argument, Delimiter, NormalizedDisposition};
 pub use cmdlines_base::argument_error::{
     ArgParseError, ArgParseResult, ArgToStringError, ArgToStringResult,
@@ -38,10 +35,7 @@ pub use cmdlines_tables::kind::ArgKind;
 pub use cmdlines_tables::language::{Language, language_to_clang_arg, language_to_gcc_arg};
 pub use cmdlines_tables::value::ArgData;
 pub use command::CommandError;
-pub use diab::Diab;
-pub use gcc::Gcc;
-pub use hazards::{empty_value, opens_file};
-pub use msvc::Msvc;
+pub use kinds::{Clang, Diab, Gcc, Msvc, TaskingVX};
 pub use os_files::file_time::FileTime;
 pub use os_files::files::{FileFail, Files, Metadata};
 pub use os_files::listed::Listed;
@@ -55,4 +49,4 @@ pub use response_files::words::ExpandedWords;
 pub use response_texts::decoding::decode_response_text;
 pub use response_texts::gnu::split_gnu_response_file_args;
 pub use response_texts::msvc::SplitMsvcResponseFileArgs;
-pub use tasking_vx::TaskingVX;
+pub use uncached_words::{empty_value, opens_file};

@@ -16,7 +16,7 @@ use os_files::os_bytes::OsBytes;
 use std::alloc::{AllocError, Global};
 
 /// A flag with a value after it; where the value is empty the delimiter is dropped.
-fn joined(
+fn flag_with_value(
     alloc: Global,
     flag: &[u8],
     delimiter: Delimiter,
@@ -53,10 +53,10 @@ impl<'a, T: IntoArg> Piece<'a, T> {
             Piece::Word(word) => OsBytes::from_slice(alloc, word),
             Piece::Value(value) => value.into_arg_os_string(alloc),
             Piece::Joined(flag, delimiter, value) => match value.lent_word() {
-                Some(word) => joined(alloc, flag.as_bytes(), *delimiter, word),
+                Some(word) => flag_with_value(alloc, flag.as_bytes(), *delimiter, word),
                 None => {
                     let word = value.into_arg_os_string(alloc)?;
-                    joined(alloc, flag.as_bytes(), *delimiter, word.as_bytes())
+                    flag_with_value(alloc, flag.as_bytes(), *delimiter, word.as_bytes())
                 }
             },
         }
@@ -78,7 +78,12 @@ impl<'a, T: IntoArg> Piece<'a, T> {
             Piece::Value(value) => value.into_arg_string(alloc, path_transformer),
             Piece::Joined(flag, delimiter, value) => {
                 let text = value.into_arg_string(alloc, path_transformer)?;
-                match into_text(joined(alloc, flag.as_bytes(), *delimiter, text.as_bytes())?) {
+                match into_text(flag_with_value(
+                    alloc,
+                    flag.as_bytes(),
+                    *delimiter,
+                    text.as_bytes(),
+                )?) {
                     Ok(joined) => Ok(joined),
                     Err(word) => Err(ArgToStringError::InvalidUnicode(word)),
                 }

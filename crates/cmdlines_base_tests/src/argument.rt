@@ -87,7 +87,7 @@ fn a_loose_word_stays(rt: HostRuntime) -> Result<(), Fail> {
 }
 
 /// What is seen of an argument: its first word, its flag and its value.
-fn told(alloc: Global, argument: &Argument<OsBytes>) -> Result<String, Fail> {
+fn argument_text(alloc: Global, argument: &Argument<OsBytes>) -> Result<String, Fail> {
     let first = argument.to_os_string(alloc)?;
     let flag = argument.flag_str().unwrap_or("no flag");
     let text = match argument.get_data() {
@@ -102,9 +102,12 @@ fn word(alloc: Global, text: &str) -> Result<OsBytes, AllocError> {
 }
 
 /// Likewise of one that is handed over.
-fn told_of(alloc: Global, argument: Result<Argument<OsBytes>, AllocError>) -> Result<String, Fail> {
+fn owned_argument_text(
+    alloc: Global,
+    argument: Result<Argument<OsBytes>, AllocError>,
+) -> Result<String, Fail> {
     let argument = argument?;
-    let text = told(alloc, &argument);
+    let text = argument_text(alloc, &argument);
     drop(argument);
     text
 }
@@ -121,17 +124,17 @@ fn unknown(alloc: Global) -> Result<Argument<OsBytes>, AllocError> {
 fn parts_are_looked_at(rt: HostRuntime) -> Result<(), Fail> {
     let alloc = rt.alloc();
     is_that(
-        told_of(alloc, with_value(alloc, ArgDisposition::Separated))?.as_str(),
+        owned_argument_text(alloc, with_value(alloc, ArgDisposition::Separated))?.as_str(),
         "-I; -I; inc",
         "an option",
     )?;
     is_that(
-        told_of(alloc, flag(alloc))?.as_str(),
+        owned_argument_text(alloc, flag(alloc))?.as_str(),
         "-c; -c; inc",
         "a flag",
     )?;
     is_that(
-        told_of(alloc, unknown(alloc))?.as_str(),
+        owned_argument_text(alloc, unknown(alloc))?.as_str(),
         "-u; no flag; no value",
         "an unknown flag",
     )

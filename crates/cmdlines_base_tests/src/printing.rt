@@ -197,7 +197,7 @@ fn a_word_that_is_no_text_is_refused(rt: HostRuntime) -> Result<(), Fail> {
 }
 
 /// The texts of a path after a delimiter that is no text.
-fn joined(alloc: Global) -> Result<String, AllocError> {
+fn texts_after_odd_delimiter(alloc: Global) -> Result<String, AllocError> {
     let argument = path(alloc, "-I", ArgDisposition::Concatenated(Some(200)))?;
     let text = texts_of(
         alloc,
@@ -211,7 +211,7 @@ fn joined(alloc: Global) -> Result<String, AllocError> {
 /// No table has such a delimiter, but an argument may.
 #[test]
 fn a_delimiter_that_is_no_text_is_refused(rt: HostRuntime) -> Result<(), Fail> {
-    let text = joined(rt.alloc())?;
+    let text = texts_after_odd_delimiter(rt.alloc())?;
     is_that(
         text.as_str(),
         r#"an argument is not UTF-8: "-I\xc8s""#,

@@ -8,7 +8,7 @@ use std::test::Fail;
 use test_kit::texts::is_that;
 
 /// What comes before and after the separator, as text.
-fn told(alloc: Global, parts: &(String, Option<String>)) -> Result<String, AllocError> {
+fn parts_text(alloc: Global, parts: &(String, Option<String>)) -> Result<String, AllocError> {
     let before = parts.0.as_str();
     match &parts.1 {
         Some(behind) => format!(in alloc; "<{before}> and <{behind}>"),
@@ -22,7 +22,7 @@ fn split(alloc: Global, word: &str, separator: &str) -> Result<String, Fail> {
     let Ok(parts) = split_os_string_arg(alloc, bytes, separator) else {
         return Err("not split".into());
     };
-    Ok(told(alloc, &parts)?)
+    Ok(parts_text(alloc, &parts)?)
 }
 
 /// Words, separators, and what comes before and after them.

@@ -1,13 +1,9 @@
 //! Each other public call once, and printed texts.
 
 use crate::written::{bare, parsed_by_clang};
-use cmdlines::clang::ClangKind;
 use cmdlines::command::CommandError;
-use cmdlines::diab::DiabKind;
 use cmdlines::found::{FoundCompiler, HasKind};
-use cmdlines::gcc::GccKind;
-use cmdlines::msvc::MsvcKind;
-use cmdlines::tasking_vx::TaskingVXKind;
+use cmdlines::kinds::{ClangKind, DiabKind, GccKind, MsvcKind, TaskingVXKind};
 use cmdlines_base::value::ArgumentValue;
 use cmdlines_requests::parsed::ParsedArguments;
 use cmdlines_tables::compiler::CCompilerKind;

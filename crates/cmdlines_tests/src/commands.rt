@@ -1,11 +1,9 @@
 //! The commands of a request.
 
 use crate::written::{bare, parsed_by_clang, parsed_by_gcc, without_outputs};
-use cmdlines::clang::ClangKind;
 use cmdlines::command::CommandError;
 use cmdlines::found::HasKind;
-use cmdlines::gcc::GccKind;
-use cmdlines::msvc::MsvcKind;
+use cmdlines::kinds::{ClangKind, GccKind, MsvcKind};
 use cmdlines_base::command::SingleCompileCommand;
 use cmdlines_requests::command::Cacheable;
 use cmdlines_requests::parsed::ParsedArguments;

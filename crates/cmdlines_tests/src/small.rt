@@ -1,8 +1,7 @@
 //! The small calls on what a command line asks for.
 
 use crate::written::{asked_of, bare, parsed_by_clang, parsed_by_gcc, without_outputs};
-use cmdlines::clang::ClangKind;
-use cmdlines::gcc::{Gcc, GccKind};
+use cmdlines::kinds::{ClangKind, Gcc, GccKind};
 use cmdlines::laws::{inputs_are_safe, requests_have_an_object};
 use cmdlines_requests::parsed::ParsedArguments;
 use cmdlines_tables::laws::arguments_are_their_items;

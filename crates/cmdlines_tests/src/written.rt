@@ -3,9 +3,8 @@
 //! The proof of a function grows with what it drops by itself, field by field, at each of its ends. So requests, compilers and commands are
 //! lent, each function holds one at most, and it hands that over to `drop`, which is one call.
 
-use cmdlines::clang::ClangKind;
 use cmdlines::found::{FoundCompiler, HasKind};
-use cmdlines::gcc::GccKind;
+use cmdlines::kinds::{ClangKind, GccKind};
 use cmdlines_base::compiler_arguments::CompilerArguments;
 use cmdlines_requests::parsed::ParsedArguments;
 use os_files::listed::Listed;

@@ -276,7 +276,7 @@ fn is_script<R: Files + AllocGlobal>(rt: &R, path: &str) -> bool {
 }
 
 /// What the driver says that it takes, runs and reads. It is asked once in each of its states.
-fn names_of<P: Print + Files + AllocGlobal, I: Read>(
+fn driver_names<P: Print + Files + AllocGlobal, I: Read>(
     rt: &P,
     line: &CommandLine,
     host: &mut Host<I>,
@@ -377,7 +377,7 @@ pub fn driver_of<P: Print + Files + AllocGlobal, I: Read>(
     requires { host.old.compiled ≡ 0 }
     ensures { host.new.compiled ≡ 0 }
 {
-    let mut names = names_of(rt, line, host, kind)?.into_vec().into_iter();
+    let mut names = driver_names(rt, line, host, kind)?.into_vec().into_iter();
     let takes_color = match names.next() {
         Some(word) => !word.as_bytes().is_empty(),
         None => false,

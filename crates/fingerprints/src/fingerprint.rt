@@ -45,7 +45,7 @@ use wrap_base::compiler::{AnyC, Named};
 use wrap_base::reason::Reason;
 use wrap_base::request::Request;
 use wrap_base::tool::Tool;
-use wrap_keys::keys::{names_of, place_of};
+use wrap_keys::keys::{output_names, place_of};
 use wrap_keys::rust_verdict::{RustVerdict, judge_rust};
 use wrap_keys::verdict::{Verdict, judge};
 
@@ -87,7 +87,7 @@ fn c_parts(
     let executable = OsBytes::from_slice(alloc, digest)?;
     let words = stripped(alloc, common, arch, folders)?;
     let assembler = assembler_of(alloc, compiler)?;
-    let names = names_of(alloc, outputs)?;
+    let names = output_names(alloc, outputs)?;
     let variables = cached_variables(alloc, request.env.as_slice())?;
     Ok(CParts {
         compiler: executable,
@@ -151,7 +151,7 @@ fn by_compilation(alloc: Global, compilation: RustCompilation) -> Result<Fingerp
     ensures { IfOk result
         (λ made. made ≡ Rustc compilation.parts (names_of compilation.outputs)) }
 {
-    match names_of(alloc, compilation.outputs()) {
+    match output_names(alloc, compilation.outputs()) {
         Ok(names) => Ok(Fingerprint::Rustc(compilation.parts, names)),
         Err(error) => {
             drop(compilation);

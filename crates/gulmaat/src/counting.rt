@@ -1,8 +1,8 @@
 //! What a call came to is counted, and reported in a line of the log where one is kept.
 
 use crate::deciding::{End, What};
+use call_log::facts::CallFacts;
 use call_log::front::front;
-use call_log::told::Told;
 use host_protocol::command_line::CommandLine;
 use host_protocol::host::{Tally, tell_line};
 use host_protocol::host_error::HostError;
@@ -135,12 +135,12 @@ fn tell_call<R: Print + AllocGlobal>(
     end: &Result<End, HostError>,
 ) -> Result<(), HostError> {
     let alloc = rt.alloc();
-    let nothing = Told::nothing();
-    let told = match end {
-        Ok(end) => &end.told,
+    let nothing = CallFacts::nothing();
+    let facts = match end {
+        Ok(end) => &end.facts,
         Err(_) => &nothing,
     };
-    let front = front(alloc, line, counter, reason, told)?;
+    let front = front(alloc, line, counter, reason, facts)?;
     tell_line(
         rt,
         alloc,

@@ -3,11 +3,11 @@
 ghost use Rattle.std.specs.Prelude.{◌≡◌, ◌≤◌};
 
 use crate::finding::{find_out, load_ahead};
-use crate::finishing::finish;
+use crate::finishing::keep_or_give;
 use blake2::Blake2b256;
 use cache_files::results::Kept;
 use cache_format::kept_result::KeptMessages;
-use call_log::told::Told;
+use call_log::facts::CallFacts;
 use call_requests::call::{Call, call_of};
 use call_requests::passing::reason_against;
 use ckeys_records::config::ConfigError;
@@ -55,7 +55,7 @@ pub struct End {
     pub what: What,
     pub audit: Audit,
     /// What a log says of it beside that.
-    pub told: Told,
+    pub facts: CallFacts,
 }
 
 impl End {
@@ -64,7 +64,7 @@ impl End {
         End {
             what: What::Pass(reason),
             audit: Audit::None,
-            told: Told::nothing(),
+            facts: CallFacts::nothing(),
         }
     }
 
@@ -75,9 +75,9 @@ impl End {
             RustcWhat::Done(how) => What::Done(how, None),
             RustcWhat::Pass(reason) => What::Pass(reason),
         };
-        let mut told = Told::nothing();
-        told.why = why;
-        End { what, audit, told }
+        let mut facts = CallFacts::nothing();
+        facts.why = why;
+        End { what, audit, facts }
     }
 }
 
@@ -173,7 +173,7 @@ fn act_on_outputs<P: Print + Files<File = File> + AllocGlobal, I: Read>(
         _ => turn_of(rt, line, hint, key, given, known)?,
     };
     match turn {
-        Turn::Give => Ok(Some(finish(rt, line, host, hint, answered, given, known)?)),
+        Turn::Give => Ok(Some(keep_or_give(rt, line, host, hint, answered, given, known)?)),
         Turn::Ask => Ok(None),
         Turn::Pass => Ok(Some(pass(rt.alloc(), "pass: output is no plain file")?)),
     }
@@ -290,14 +290,14 @@ fn end_audit<R: Files<File = File> + AllocGlobal>(
     known: &Known,
     end: End,
 ) -> Result<End, HostError> {
-    let End { what, audit, told } = end;
+    let End { what, audit, facts } = end;
     let audit = match &what {
         What::Pass(_) if known.audited.is_some() => {
             known.differs(rt, line, String::from_str(rt.alloc(), "status")?)?
         }
         _ => audit,
     };
-    Ok(End { what, audit, told })
+    Ok(End { what, audit, facts })
 }
 
 /// Keeps of what the key of a request was made, where it was compiled, and gives what differed. What it takes is known, so that nothing runs.
@@ -348,7 +348,7 @@ fn ask_and_note<P: Print + Files<File = File> + AllocGlobal, I: Read>(
     // What was made is there, whatever becomes of this.
     let why = note_made(rt, line, request, &end, known).unwrap_or(None);
     let mut end = end_audit(rt, line, known, end?)?;
-    end.told.why = why;
+    end.facts.why = why;
     Ok(end)
 }
 

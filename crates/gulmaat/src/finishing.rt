@@ -6,7 +6,7 @@ use crate::deciding::{End, What};
 use blake2::Blake2b256;
 use cache_dir::folder::Kind;
 use cache_dir::making_room::make_room;
-use call_log::told::Told;
+use call_log::facts::CallFacts;
 use entry_keys::entry_key::EntryKey;
 use host_protocol::command_line::CommandLine;
 use host_protocol::fields::into_text;
@@ -39,12 +39,12 @@ fn paths_of(alloc: Global, outputs: &[Output]) -> Result<Listed<OsBytes>, HostEr
 }
 
 /// What a log says of outputs, and of the time of a compile.
-fn told_of(outputs: &[Output], known: &Known) -> Told {
+fn facts_of(outputs: &[Output], known: &Known) -> CallFacts {
     let mut bytes = 0u64;
     for output in outputs {
         bytes = bytes.saturating_add(output.contents.as_bytes().len() as u64);
     }
-    Told {
+    CallFacts {
         why: None,
         bytes,
         compile_time: known.compile_time(),
@@ -185,7 +185,7 @@ fn give_kept<R: Files<File = File> + AllocGlobal>(
 
 /// Keeps outputs that were made afresh, and gives those that were kept, each with what was printed beside them. What was made in the place of
 /// a hit is compared with that, and isn't kept.
-pub fn finish<P: Print + Files<File = File> + AllocGlobal, I: Read>(
+pub fn keep_or_give<P: Print + Files<File = File> + AllocGlobal, I: Read>(
     rt: &P,
     line: &CommandLine,
     host: &mut Host<I>,
@@ -197,7 +197,7 @@ pub fn finish<P: Print + Files<File = File> + AllocGlobal, I: Read>(
     ensures { host.new.compiled ≡ host.old.compiled }
 {
     let Some(key) = answered.session.objects().asked() else {
-        return finish_without_key(rt, line, given, known);
+        return give_without_key(rt, line, given, known);
     };
     let audit = known.compare(rt, line, key, given.outputs)?;
     // What the compiler prints for this isn't a message of the call.
@@ -219,12 +219,12 @@ pub fn finish<P: Print + Files<File = File> + AllocGlobal, I: Read>(
         (_, _) => given.how,
     };
     let what = What::Done(how, known.unwatched);
-    let told = told_of(given.outputs, known);
-    Ok(End { what, audit, told })
+    let facts = facts_of(given.outputs, known);
+    Ok(End { what, audit, facts })
 }
 
 /// Gives outputs of which it isn't known under which key they were kept.
-fn finish_without_key<R: Files<File = File> + AllocGlobal>(
+fn give_without_key<R: Files<File = File> + AllocGlobal>(
     rt: &R,
     line: &CommandLine,
     given: &Given<'_>,
@@ -236,6 +236,6 @@ fn finish_without_key<R: Files<File = File> + AllocGlobal>(
     Ok(End {
         what: What::Done(given.how, known.unwatched),
         audit: Audit::None,
-        told: told_of(given.outputs, known),
+        facts: facts_of(given.outputs, known),
     })
 }

@@ -67,7 +67,7 @@ where
             match words.split_first() {
                 Some((word, command)) if word.as_str() == "--why" => ended(
                     rt,
-                    &told(rt, &caller, compiler.as_str(), command),
+                    &say_why(rt, &caller, compiler.as_str(), command),
                 ),
                 _ => ended(rt, &do_options(rt, &caller, words)),
             }
@@ -78,7 +78,7 @@ where
 
 /// Says what differed at the last call of this command, of which the first word is dropped for the compiler's file; that is empty where no
 /// command is there.
-fn told<R: Print + Files + AllocGlobal>(
+fn say_why<R: Print + Files + AllocGlobal>(
     rt: &R,
     caller: &Caller<'_>,
     compiler: &str,

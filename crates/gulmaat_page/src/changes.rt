@@ -11,7 +11,7 @@ use std::collections::BTreeMap;
 /// Calls that came from one kind to another, for one reason.
 #[derive(Drop)]
 pub struct Change {
-    pub told: String,
+    pub description: String,
     pub count: u64,
     /// How long they took in the second build.
     pub time: u64,
@@ -43,7 +43,12 @@ fn calls_by_output(
 }
 
 /// What is reported of a call that came to another kind.
-fn told_of(alloc: Global, build: &Build, from: Kind, call: &Call) -> Result<String, AllocError> {
+fn description_of(
+    alloc: Global,
+    build: &Build,
+    from: Kind,
+    call: &Call,
+) -> Result<String, AllocError> {
     let (earlier, now) = (from.name(), call.kind.name());
     let explained = explanation_of(&build.texts, call);
     if call.kind == Kind::Miss {
@@ -59,8 +64,12 @@ fn told_of(alloc: Global, build: &Build, from: Kind, call: &Call) -> Result<Stri
 /// The changes as they were found, those that took longest first.
 fn sorted(alloc: Global, found: BTreeMap<String, (u64, u64)>) -> Result<Vec<Change>, AllocError> {
     let mut changes = Vec::new(alloc);
-    for (told, (count, time)) in found {
-        changes.push(Change { told, count, time })?;
+    for (description, (count, time)) in found {
+        changes.push(Change {
+            description,
+            count,
+            time,
+        })?;
     }
     changes.sort_by(|one, other| other.time.cmp(&one.time))?;
     Ok(changes)
@@ -81,8 +90,8 @@ pub fn changes_between(alloc: Global, one: &Build, other: &Build) -> Result<Chan
             continue;
         }
         changed = changed.saturating_add(1);
-        let told = told_of(alloc, other, before.kind, call)?;
-        let sums = found.entry(told)?.or_insert((0, 0));
+        let description = description_of(alloc, other, before.kind, call)?;
+        let sums = found.entry(description)?.or_insert((0, 0));
         sums.0 = sums.0.saturating_add(1);
         sums.1 = sums.1.saturating_add(call.time());
     }

@@ -80,8 +80,12 @@ pub fn compare(alloc: Global, one: &Build, other: &Build) -> Result<String, Allo
         "Of {common} calls of both, {changed} came to another thing:\n"
     )?;
     for change in changes.changes.iter().take(SHOWN) {
-        let (count, time, told) = (change.count, Time(change.time), change.told.as_str());
-        write!(text, "  {count} in {time}: {told}\n")?;
+        let (count, time, description) = (
+            change.count,
+            Time(change.time),
+            change.description.as_str(),
+        );
+        write!(text, "  {count} in {time}: {description}\n")?;
     }
     let more = changes.changes.len().saturating_sub(SHOWN);
     if more > 0 {

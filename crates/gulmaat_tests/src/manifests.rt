@@ -4,7 +4,7 @@ use byte_formats::fields::{put_framed, put_number};
 use include_records::key_text::KeyText;
 use include_records::record::PreprocessorCacheEntry;
 use os_files::listed::Listed;
-use searched_folders::manifests::{joined, result_holds, with_list, without};
+use searched_folders::manifests::{result_holds, with_list, with_results_of, without};
 use std::alloc::{AllocError, Global};
 use std::rt::Files;
 use std::test::Fail;
@@ -133,7 +133,7 @@ fn results_come_back(rt: HostRuntime) -> Result<(), Fail> {
     for (letters, others, want) in JOINED.iter() {
         let record = record_of(rt.alloc(), letters)?;
         let other = record_of(rt.alloc(), others)?;
-        let whole = joined(rt.alloc(), &record, &other)?;
+        let whole = with_results_of(rt.alloc(), &record, &other)?;
         is_that(letters_of(rt.alloc(), &whole)?.as_str(), want, "joined")?;
     }
     Ok(())

@@ -6,9 +6,9 @@ use std::alloc::{AllocError, Global};
 use std::fmt::Display;
 use wrap_base::answer::{Answer, How, Output};
 
-/// What an answer says.
+/// What an answer says, as texts.
 #[derive(Drop)]
-pub(crate) struct Told {
+pub(crate) struct AnswerTexts {
     /// Where outputs came from, or that the request passes, or that there is a fault.
     pub(crate) word: &'static str,
     /// The name and length of each output, or why the request passes or fails.
@@ -17,9 +17,9 @@ pub(crate) struct Told {
     pub(crate) whole: String,
 }
 
-impl Told {
+impl AnswerTexts {
     /// Whether both have the same outputs, or the same reason.
-    pub(crate) fn agrees(&self, other: &Told) -> bool {
+    pub(crate) fn agrees(&self, other: &AnswerTexts) -> bool {
         self.whole.as_str() == other.whole.as_str()
     }
 
@@ -43,8 +43,8 @@ fn of_reason<D: Display>(
     alloc: Global,
     word: &'static str,
     reason: &D,
-) -> Result<Told, AllocError> {
-    Ok(Told {
+) -> Result<AnswerTexts, AllocError> {
+    Ok(AnswerTexts {
         word,
         brief: format!(in alloc; " {reason}")?,
         whole: format!(in alloc; "{reason}")?,
@@ -94,8 +94,8 @@ fn of_outputs(
     how: How,
     map: &[Output],
     dep_info: Option<&OsBytes>,
-) -> Result<Told, AllocError> {
-    Ok(Told {
+) -> Result<AnswerTexts, AllocError> {
+    Ok(AnswerTexts {
         word: word_of(how),
         brief: brief_of(alloc, map, dep_info)?,
         whole: whole_of(alloc, map, dep_info)?,
@@ -103,7 +103,10 @@ fn of_outputs(
 }
 
 /// What this answer says.
-pub(crate) fn told_of(alloc: Global, answer: &Result<Answer, Fault>) -> Result<Told, AllocError> {
+pub(crate) fn answer_texts(
+    alloc: Global,
+    answer: &Result<Answer, Fault>,
+) -> Result<AnswerTexts, AllocError> {
     match answer {
         Ok(Answer::Pass(reason)) => of_reason(alloc, "pass", reason),
         Ok(Answer::Outputs { map, how, dep_info }) => {

@@ -1,12 +1,12 @@
 //! Two runs of a scenario, in one of which one allocation may be refused.
 
-use crate::answers::{Told, push_unless};
+use crate::answers::{AnswerTexts, push_unless};
 use crate::refusals::push_unless_kept;
 use crate::runs::{NONE_FAILS, Run, Stop, Turn, plain_run, push_answers};
 use std::alloc::{AllocError, Global};
 
 /// What the request is answered at last.
-fn last_of(turn: &Turn) -> &Told {
+fn last_of(turn: &Turn) -> &AnswerTexts {
     match &turn.again {
         Some(again) => again,
         None => &turn.answer,

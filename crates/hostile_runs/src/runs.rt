@@ -1,6 +1,6 @@
 //! Runs of a scenario in one session: texts and numbers come of them.
 
-use crate::answers::{Told, told_of};
+use crate::answers::{AnswerTexts, answer_texts};
 use crate::stores::{Seen, Watched, seen_of};
 use ckeys::{EntryKey, PreprocessorCacheEntry};
 use ckeys_records::config::KeyConfig;
@@ -88,11 +88,11 @@ pub(crate) struct Turn {
     /// The state before it, and after its first answer.
     pub(crate) before: State,
     pub(crate) after: State,
-    pub(crate) answer: Told,
+    pub(crate) answer: AnswerTexts,
     /// Where an I/O call failed, the fault that is due for it.
     pub(crate) due: Option<String>,
     /// What it was answered when it was served again, after such a failure or after it ran out of memory.
-    pub(crate) again: Option<Told>,
+    pub(crate) again: Option<AnswerTexts>,
     /// How many calls of the files come before the one that fails in a later request.
     files_left: u64,
 }
@@ -118,9 +118,9 @@ fn served<
     request: &Request,
     files: &mut F,
     tool: &mut T,
-) -> Result<Told, AllocError> {
+) -> Result<AnswerTexts, AllocError> {
     let answer = session.serve(request, files, tool);
-    told_of(alloc, &answer)
+    answer_texts(alloc, &answer)
 }
 
 /// The state of the session and the tool.
@@ -206,10 +206,10 @@ fn call_turn<
     let ScenarioCall {
         request,
         files,
-        told,
+        crate_texts,
         forget: _,
     } = call;
-    tool.tool.tell(told);
+    tool.tool.tell(crate_texts);
     let mut files = FailFiles::new(files, files_left);
     let turn = turn_of(alloc, session, &request, &mut files, tool);
     drop(request);

@@ -24,6 +24,6 @@ mod time_macro_finder;
 #[cfg(test)]
 mod timestamps;
 #[cfg(test)]
-mod told;
-#[cfg(test)]
 mod walk;
+#[cfg(test)]
+mod walk_report;

@@ -62,7 +62,7 @@ fn record_of<F: Files>(
 }
 
 /// The key that a look-up returns, and `none` where it returns none.
-fn told<F: Files>(
+fn looked_up_key<F: Files>(
     alloc: Global,
     entry: &PreprocessorCacheEntry,
     moment: i64,
@@ -148,7 +148,7 @@ fn each_file_is_looked_at_once(rt: HostRuntime) -> Result<(), Fail> {
         .insert(OsBytes::from_slice(alloc, b"/w/c.h")?, changed)?;
     files.calls = 0;
     is_that(
-        told(alloc, &entry, MOMENT, &mut files)?.as_str(),
+        looked_up_key(alloc, &entry, MOMENT, &mut files)?.as_str(),
         "one",
         "the first",
     )?;
@@ -177,14 +177,14 @@ fn files_are_found_again(rt: HostRuntime) -> Result<(), Fail> {
     for (contents, second, moment, key) in LOOKED_UP.iter() {
         let mut now = files_with(alloc, &[("a.h", *contents, 0), ("d.h", DATED, *second)])?;
         is_that(
-            told(alloc, &entry, *moment, &mut now)?.as_str(),
+            looked_up_key(alloc, &entry, *moment, &mut now)?.as_str(),
             key,
             "both files",
         )?;
     }
     let mut gone = files_with(alloc, &[("d.h", DATED, 8)])?;
     is_that(
-        told(alloc, &entry, MOMENT, &mut gone)?.as_str(),
+        looked_up_key(alloc, &entry, MOMENT, &mut gone)?.as_str(),
         "none",
         "one file",
     )
@@ -202,17 +202,17 @@ fn the_greatest_key_is_told(rt: HostRuntime) -> Result<(), Fail> {
     record_of(alloc, &mut entry, "a", &[], &mut files)?;
     let mut gone = MemoryFiles::new(alloc);
     is_that(
-        told(alloc, &entry, MOMENT, &mut files)?.as_str(),
+        looked_up_key(alloc, &entry, MOMENT, &mut files)?.as_str(),
         "c",
         "as it was",
     )?;
     is_that(
-        told(alloc, &entry, MOMENT, &mut changed)?.as_str(),
+        looked_up_key(alloc, &entry, MOMENT, &mut changed)?.as_str(),
         "q",
         "changed",
     )?;
     is_that(
-        told(alloc, &entry, MOMENT, &mut gone)?.as_str(),
+        looked_up_key(alloc, &entry, MOMENT, &mut gone)?.as_str(),
         "a",
         "gone",
     )

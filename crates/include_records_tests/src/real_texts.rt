@@ -1,6 +1,6 @@
 //! Texts as gcc 12.2 prints them by `-E`, and the files that it lists for them by `-M`.
 
-use crate::told::told;
+use crate::walk_report::walk_report;
 use std::test::Fail;
 
 /// Of a source that includes `vector`. Most of the headers are left out with all that is between them, but for each form of a marker one
@@ -35,7 +35,7 @@ const VECTOR_NAMES: &[u8] = b"/usr/include/stdc-predef.h\n/usr/include/c++/12/ve
 
 #[test]
 fn names_the_headers_of_a_vector(rt: HostRuntime) -> Result<(), Fail> {
-    let (lines, calls) = told(rt.alloc(), VECTOR, b"v.cc", VECTOR_FILES)?;
+    let (lines, calls) = walk_report(rt.alloc(), VECTOR, b"v.cc", VECTOR_FILES)?;
     assert_eq!(rt; lines.as_slice(), VECTOR_NAMES);
     // One for each name, however often it comes.
     assert_eq!(rt; calls, 5);
@@ -62,7 +62,7 @@ const ODD_NAMES: &[u8] = b"/usr/include/stdc-predef.h\nwe\"ird \\dir/h.h\nwe\"ir
 
 #[test]
 fn names_the_headers_of_an_odd_folder(rt: HostRuntime) -> Result<(), Fail> {
-    let (lines, calls) = told(rt.alloc(), ODD_FOLDER, b"we\"ird \\dir/a.c", ODD_FILES)?;
+    let (lines, calls) = walk_report(rt.alloc(), ODD_FOLDER, b"we\"ird \\dir/a.c", ODD_FILES)?;
     assert_eq!(rt; lines.as_slice(), ODD_NAMES);
     assert_eq!(rt; calls, 4);
     Ok(())

@@ -1,6 +1,6 @@
 //! Lines for which a text is refused, plain ones, markers, and I/O errors.
 
-use crate::told::{BROKEN, told};
+use crate::walk_report::{BROKEN, walk_report};
 use marker_walk::walk::walk;
 use os_files::memory_files::MemoryFiles;
 use os_files::os_bytes::OsBytes;
@@ -25,7 +25,7 @@ const REFUSED: [&[u8]; 10] = [
 #[test]
 fn refuses_what_it_cannot_tell(rt: HostRuntime) -> Result<(), Fail> {
     for text in REFUSED.iter() {
-        let (lines, _) = told(rt.alloc(), text, b"a.c", b"")?;
+        let (lines, _) = walk_report(rt.alloc(), text, b"a.c", b"")?;
         assert_eq!(rt;
             lines.as_slice(),
             b"refused".as_slice(),
@@ -53,7 +53,7 @@ const PLAIN: [&[u8]; 10] = [
 #[test]
 fn passes_plain_lines_over(rt: HostRuntime) -> Result<(), Fail> {
     for text in PLAIN.iter() {
-        let (lines, _) = told(rt.alloc(), text, b"a.c", b"/w/x.h\n/w/a.c")?;
+        let (lines, _) = walk_report(rt.alloc(), text, b"a.c", b"/w/x.h\n/w/a.c")?;
         assert_eq!(rt; lines.as_slice(), b"".as_slice(), "{}", text.escape_ascii());
     }
     Ok(())
@@ -71,7 +71,7 @@ const MARKERS: [&[u8]; 5] = [
 #[test]
 fn reads_markers_with_anything_behind(rt: HostRuntime) -> Result<(), Fail> {
     for text in MARKERS.iter() {
-        let (lines, calls) = told(rt.alloc(), text, b"a.c", b"/w/x.h")?;
+        let (lines, calls) = walk_report(rt.alloc(), text, b"a.c", b"/w/x.h")?;
         assert_eq!(rt;
             lines.as_slice(),
             b"x.h\n".as_slice(),
@@ -89,7 +89,7 @@ fn a_name_that_comes_again_costs_no_call(rt: HostRuntime) -> Result<(), Fail> {
     let again =
         b"# 1 \"x.h\" 1\n# 1 \"gone.h\" 1\n# 3 \"x.h\" 2\n# 1 \"gone.h\" 1\n# 9 \"x.h\" 2\n";
     for text in [once.as_slice(), again.as_slice()] {
-        let (lines, calls) = told(rt.alloc(), text, b"a.c", b"/w/x.h")?;
+        let (lines, calls) = walk_report(rt.alloc(), text, b"a.c", b"/w/x.h")?;
         assert_eq!(rt; lines.as_slice(), b"x.h\n".as_slice());
         assert_eq!(rt; calls, 2);
     }

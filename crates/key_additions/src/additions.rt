@@ -91,12 +91,17 @@ fn has_name(rows: &[Row], name: &OsBytes) -> bool {
 }
 
 /// A name, and what each of two lists has for it.
-fn told(alloc: Global, name: &OsBytes, here: &str, there: &str) -> Result<String, HostError> {
+fn both_values(
+    alloc: Global,
+    name: &OsBytes,
+    here: &str,
+    there: &str,
+) -> Result<String, HostError> {
     Ok(format!(in alloc; "{name}: {here}, earlier {there}")?)
 }
 
 /// What is said of the first rows that aren't the same in two lists.
-fn told_of(
+fn row_difference(
     alloc: Global,
     here: Option<&Row>,
     there: Option<&Row>,
@@ -106,13 +111,13 @@ fn told_of(
         (Some(one), Some(other)) if one.0 == other.0 => {
             let value = format!(in alloc; "{}", one.1)?;
             let other = format!(in alloc; "{}", other.1)?;
-            Ok(Some(told(alloc, &one.0, value.as_str(), other.as_str())?))
+            Ok(Some(both_values(alloc, &one.0, value.as_str(), other.as_str())?))
         }
         (Some(one), None) => new_row(alloc, one),
         (Some(one), Some(_)) if !has_name(earlier, &one.0) => new_row(alloc, one),
         (_, Some(other)) => {
             let value = format!(in alloc; "{}", other.1)?;
-            Ok(Some(told(alloc, &other.0, "none", value.as_str())?))
+            Ok(Some(both_values(alloc, &other.0, "none", value.as_str())?))
         }
         (None, None) => Ok(None),
     }
@@ -121,7 +126,7 @@ fn told_of(
 /// What is said of a row that wasn't there earlier.
 fn new_row(alloc: Global, row: &Row) -> Result<Option<String>, HostError> {
     let value = format!(in alloc; "{}", row.1)?;
-    Ok(Some(told(alloc, &row.0, value.as_str(), "none")?))
+    Ok(Some(both_values(alloc, &row.0, value.as_str(), "none")?))
 }
 
 /// The first row in which the values of two lists of variables differ, as it is in each; nothing where there is none.
@@ -135,5 +140,5 @@ pub fn difference(
     let pairs = one.as_slice().iter().zip(other.as_slice().iter());
     let ahead = pairs.take_while(|pair| pair.0 == pair.1).count();
     let here = one.as_slice().get(ahead);
-    told_of(alloc, here, other.as_slice().get(ahead), other.as_slice())
+    row_difference(alloc, here, other.as_slice().get(ahead), other.as_slice())
 }

@@ -17,7 +17,7 @@ use include_records::record::PreprocessorCacheEntry;
 use os_files::os_bytes::OsBytes;
 use replay::watched_records::pair_again;
 use searched_folders::asking::said_of;
-use searched_folders::manifests::{joined, result_holds, with_list, without};
+use searched_folders::manifests::{result_holds, with_list, with_results_of, without};
 use searched_folders::texts::{Source, list_of};
 use searched_folders::unwatched::Unwatched;
 use source_files::loading::{load_all, settled_before};
@@ -257,7 +257,7 @@ impl Known {
     ) -> Result<(), HostError> {
         let alloc = rt.alloc();
         let whole = match &self.record.whole {
-            Some(whole) => joined(alloc, &newest.1, whole)?,
+            Some(whole) => with_results_of(alloc, &newest.1, whole)?,
             None => newest.1.clone()?,
         };
         let dir = line.dir.as_bytes();

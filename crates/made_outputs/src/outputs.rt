@@ -44,7 +44,7 @@ fn real_path<R: Files + AllocGlobal>(
 }
 
 /// The name of the lock of a path. None of a device's.
-fn name_of<R: Files + AllocGlobal>(
+fn lock_name<R: Files + AllocGlobal>(
     rt: &R,
     line: &CommandLine,
     path: &OsBytes,
@@ -59,7 +59,7 @@ fn name_of<R: Files + AllocGlobal>(
 }
 
 /// The names of the locks of outputs' paths and of a dependency file's, in their order.
-fn names_of<R: Files + AllocGlobal>(
+fn lock_names<R: Files + AllocGlobal>(
     rt: &R,
     line: &CommandLine,
     paths: &[OsBytes],
@@ -67,7 +67,7 @@ fn names_of<R: Files + AllocGlobal>(
 ) -> Result<BTreeSet<String>, HostError> {
     let mut names = BTreeSet::new(rt.alloc());
     for path in paths.iter().chain(dependency_file) {
-        if let Some(name) = name_of(rt, line, path)? {
+        if let Some(name) = lock_name(rt, line, path)? {
             names.insert(name)?;
         }
     }
@@ -119,7 +119,7 @@ pub fn lock_paths<R: Files<File = File> + AllocGlobal>(
     }
     let kept = line.folder.path.as_str();
     let folder = format!(in rt.alloc(); "{kept}/locks")?;
-    for name in names_of(rt, line, paths, dependency_file)? {
+    for name in lock_names(rt, line, paths, dependency_file)? {
         files.push(locked(rt, line, folder.as_str(), name.as_str())?)?;
     }
     Ok(Locks { files })

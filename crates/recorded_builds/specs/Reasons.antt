@@ -13,7 +13,7 @@ use Rattle.recorded_builds.specs.Beware.{AreOnce, is_among, is_named, is_option}
 use Rattle.recorded_builds.specs.Outcomes.{Outcome, by_c, by_rustc, unknown, outcome_in}
 use Rattle.recorded_builds.specs.Verdicts.{verdict_of}
 use Rattle.recorded_builds.specs.declared.entry.Entry.{Entry}
-use Rattle.recorded_builds.specs.declared.told.Told.{Told}
+use Rattle.recorded_builds.specs.declared.entry_report.EntryReport.{EntryReport}
 
 -- a reason, with more text or none
 abbrev pub reason_with : Bytes → Option Bytes → Bytes
@@ -48,12 +48,12 @@ abbrev pub holds_option : Bytes → Outcome → Bool
 holds_option option outcome = list_any (is_option option) (words_looked_at outcome)
 
 -- all this is reported for what the words of that executable come to
-pub record Tells (executable : Bytes) (outcome : Outcome) (told : Told) : Type 0 where
-  pub decided : outcome_in told.decided ≡ outcome
-  pub reason : option_map string_bytes told.reason ≡ reason_for executable outcome
-  pub blocker : option_map string_bytes told.blocker ≡ blocker_in outcome
-  pub held : (option : Bytes) → is_among option told.beware.items ≡ holds_option option outcome
-  pub once : AreOnce told.beware.items
+pub record Tells (executable : Bytes) (outcome : Outcome) (report : EntryReport) : Type 0 where
+  pub decided : outcome_in report.decided ≡ outcome
+  pub reason : option_map string_bytes report.reason ≡ reason_for executable outcome
+  pub blocker : option_map string_bytes report.blocker ≡ blocker_in outcome
+  pub held : (option : Bytes) → is_among option report.beware.items ≡ holds_option option outcome
+  pub once : AreOnce report.beware.items
 
 -- The same of an entry, whose words the files decide.
 abbrev pub is_passed_for : Tree → Bytes → Entry → Bool

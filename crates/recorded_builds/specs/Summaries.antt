@@ -10,7 +10,7 @@ use Rattle.recorded_builds.specs.Reasons.{holds, is_blocked_by, is_passed_for}
 use Rattle.recorded_builds.specs.Tallies.{HasRow, HaveNamesApart, Row, has_more, numbers_in}
 use Rattle.recorded_builds.specs.declared.entry.Entry.{Entry}
 use Rattle.recorded_builds.specs.declared.summary.Summary.{Summary}
-use Rattle.recorded_builds.specs.declared.telling.Telling.{Telling}
+use Rattle.recorded_builds.specs.declared.reported_entries.ReportedEntries.{ReportedEntries}
 
 -- the numbers of the entries that pass the test, where the first of all has that number
 abbrev pub numbers_where : (Entry → Bool) → ℕ → List Entry → List ℕ
@@ -36,12 +36,12 @@ pub record IsSummaryOf (tree : Tree) (entries : List Entry) (summary : Summary) 
 
 -- What was noted of these entries, reported in this order with these files: how many they are, how many
 -- are kept, and the numbers of those that have each reason or option.
-pub record HasTold (tree : Tree) (entries : List Entry) (telling : Telling) : Type 0 where
-  pub count : telling.count ≡ length entries
-  pub kept : telling.noted.kept ≡ length (filter is_kept (map (verdict_of tree) entries))
+pub record HasTold (tree : Tree) (entries : List Entry) (reported : ReportedEntries) : Type 0 where
+  pub count : reported.count ≡ length entries
+  pub kept : reported.noted.kept ≡ length (filter is_kept (map (verdict_of tree) entries))
   pub reasons : (name : Bytes)
-      → numbers_in telling.noted.reasons name ≡ numbers_where (is_passed_for tree name) 1 entries
+      → numbers_in reported.noted.reasons name ≡ numbers_where (is_passed_for tree name) 1 entries
   pub blockers : (name : Bytes)
-      → numbers_in telling.noted.blockers name ≡ numbers_where (is_blocked_by tree name) 1 entries
+      → numbers_in reported.noted.blockers name ≡ numbers_where (is_blocked_by tree name) 1 entries
   pub beware : (name : Bytes)
-      → numbers_in telling.noted.beware name ≡ numbers_where (holds tree name) 1 entries
+      → numbers_in reported.noted.beware name ≡ numbers_where (holds tree name) 1 entries

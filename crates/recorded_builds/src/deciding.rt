@@ -8,11 +8,7 @@ ghost use Rattle.recorded_builds.specs.Outcomes.{outcome_in, outcome_of};
 
 use crate::entry::Entry;
 use crate::executables::EntryCompiler;
-use cmdlines::clang::Clang;
-use cmdlines::diab::Diab;
-use cmdlines::gcc::Gcc;
-use cmdlines::msvc::Msvc;
-use cmdlines::tasking_vx::TaskingVX;
+use cmdlines::kinds::{Clang, Diab, Gcc, Msvc, TaskingVX};
 use cmdlines_base::compiler_arguments::CompilerArguments;
 use cmdlines_requests::parsed::ParsedArguments;
 use cmdlines_tables::compiler::CCompilerKind;

@@ -4,11 +4,11 @@
 pub mod beware;
 pub mod deciding;
 pub mod entry;
+pub mod entry_report;
 pub mod executables;
 pub mod reasons;
+pub mod reported_entries;
 pub mod snapshot;
 pub mod summary;
 pub mod tally;
-pub mod telling;
-pub mod told;
 pub mod verdict;

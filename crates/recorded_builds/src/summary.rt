@@ -7,8 +7,8 @@ ghost use Rattle.recorded_builds.specs.Outcomes.{is_kept, outcome_in};
 ghost use Rattle.recorded_builds.specs.Tallies.{AreRowsOf, numbers_in};
 
 use crate::deciding::Decided;
+use crate::entry_report::EntryReport;
 use crate::tally::{Row, Tally};
-use crate::told::Told;
 use cmdlines_base::compiler_arguments::CompilerArguments;
 use std::alloc::{AllocError, Global};
 
@@ -96,27 +96,34 @@ impl Noted {
     }
 
     /// Notes what is reported for the entry of this number.
-    pub(crate) fn note(&mut self, alloc: Global, number: u64, told: Told) -> Result<(), AllocError>
+    pub(crate) fn note(
+        &mut self,
+        alloc: Global,
+        number: u64,
+        report: EntryReport,
+    ) -> Result<(), AllocError>
         requires room { self.old.kept + 1 < 2 ^ 64 }
-        requires once { AreOnce told.beware.items }
+        requires once { AreOnce report.beware.items }
         ensures kept { OnOk result (self.new.kept
-            ≡ self.old.kept + (if is_kept (outcome_in told.decided) then 1 else 0)) }
+            ≡ self.old.kept + (if is_kept (outcome_in report.decided) then 1 else 0)) }
         ensures reasons { OnOk result ((name : _) → numbers_in self.new.reasons name
             ≡ numbers_in self.old.reasons name
-            ++ (if is_named name (option_map string_bytes told.reason) then number ∷ [] else [])) }
+            ++ (if is_named name (option_map string_bytes report.reason)
+            then number ∷ [] else [])) }
         ensures blockers { OnOk result ((name : _) → numbers_in self.new.blockers name
             ≡ numbers_in self.old.blockers name
-            ++ (if is_named name (option_map string_bytes told.blocker) then number ∷ [] else [])) }
+            ++ (if is_named name (option_map string_bytes report.blocker)
+            then number ∷ [] else [])) }
         ensures beware { OnOk result ((name : _) → numbers_in self.new.beware name
             ≡ numbers_in self.old.beware name
-            ++ (if is_among name told.beware.items then number ∷ [] else [])) }
+            ++ (if is_among name report.beware.items then number ∷ [] else [])) }
     {
-        let Told {
+        let EntryReport {
             decided,
             reason,
             blocker,
             beware,
-        } = told;
+        } = report;
         self.kept = kept_with(self.kept, &decided);
         drop(decided);
         self.note_texts(alloc, number, reason, blocker, beware.as_slice())

@@ -19,7 +19,7 @@ use crate::entry::Entry;
 use crate::executables::EntryCompiler;
 use cmdlines::command::CommandError;
 use cmdlines::found::{FoundCompiler, HasKind};
-use cmdlines::hazards::{empty_value, opens_file};
+use cmdlines::uncached_words::{empty_value, opens_file};
 use cmdlines_base::compiler_arguments::CompilerArguments;
 use cmdlines_requests::parsed::ParsedArguments;
 use cmdlines_tables::compiler::CCompilerKind;

@@ -113,7 +113,7 @@ fn files(alloc: Global) -> Result<SnapshotFiles, Fail> {
 }
 
 /// What it printed, asked by these words in `/w`.
-fn told(alloc: Global, line: &str, text: &str) -> Result<RecordedAnswer, AllocError> {
+fn recorded_answer(alloc: Global, line: &str, text: &str) -> Result<RecordedAnswer, AllocError> {
     let words = Listed::from_vec(words(alloc, line)?);
     let dir = bytes_of(alloc, "/w")?;
     let text = bytes_of(alloc, text)?;
@@ -146,8 +146,8 @@ fn made(alloc: Global) -> Result<RecordedCrate, AllocError> {
 
 /// Records all of the first request, with these words on names.
 fn record(alloc: Global, on_names: &str, rustc: &mut RecordedRustc) -> Result<(), AllocError> {
-    rustc.dep_info = Some(told(alloc, ON_DEPENDENCIES, DEPENDENCIES)?);
-    rustc.file_names = Some(told(alloc, on_names, "libfoo.rlib\n")?);
+    rustc.dep_info = Some(recorded_answer(alloc, ON_DEPENDENCIES, DEPENDENCIES)?);
+    rustc.file_names = Some(recorded_answer(alloc, on_names, "libfoo.rlib\n")?);
     rustc.outputs = Some(made(alloc)?);
     let path = bytes_of(alloc, "/w/lib/libz.a")?;
     let digest = bytes_of(alloc, OF_NOTHING)?;
@@ -179,17 +179,17 @@ enum Change {
 }
 
 /// Has an answer be of another folder, where there is one.
-fn move_answer(alloc: Global, told: &mut Option<RecordedAnswer>) -> Result<(), AllocError> {
-    if let Some(told) = told {
-        told.dir = bytes_of(alloc, "/v")?;
+fn move_answer(alloc: Global, answer: &mut Option<RecordedAnswer>) -> Result<(), AllocError> {
+    if let Some(answer) = answer {
+        answer.dir = bytes_of(alloc, "/v")?;
     }
     Ok(())
 }
 
 /// Has an answer be of one word more.
-fn add_word(alloc: Global, told: &mut Option<RecordedAnswer>) -> Result<(), AllocError> {
-    if let Some(told) = told {
-        told.words.push(bytes_of(alloc, "-v")?)?;
+fn add_word(alloc: Global, answer: &mut Option<RecordedAnswer>) -> Result<(), AllocError> {
+    if let Some(answer) = answer {
+        answer.words.push(bytes_of(alloc, "-v")?)?;
     }
     Ok(())
 }

@@ -12,10 +12,10 @@ use cmdlines_base::compiler_arguments::CompilerArguments;
 use os_files::os_bytes::OsBytes;
 use recorded_builds::deciding::{Compilers, Decided};
 use recorded_builds::entry::Entry;
+use recorded_builds::entry_report::EntryReport;
+use recorded_builds::reported_entries::{Lines, ReportedEntries};
 use recorded_builds::snapshot::Asked;
 use recorded_builds::summary::Summary;
-use recorded_builds::telling::{Lines, Telling};
-use recorded_builds::told::Told;
 use std::alloc::{AllocError, Global};
 use std::fmt::Write;
 
@@ -83,7 +83,7 @@ impl<'a> Lines for ReportLines<'a> {
         &mut self,
         number: u64,
         _entry: &Entry,
-        told: &Told,
+        report: &EntryReport,
         files: &Asked,
     ) -> Result<(), AllocError> {
         if !files.read.is_empty() || !files.looked_for.is_empty() {
@@ -91,17 +91,17 @@ impl<'a> Lines for ReportLines<'a> {
         }
         let text = &mut self.text;
         let mut line = String::new(self.alloc);
-        match &told.reason {
+        match &report.reason {
             Some(reason) => write!(line, "{number} pass {reason}")?,
             None => {
                 write!(line, "{number} keeps ")?;
-                write_kept(&mut line, &told.decided, self.shape.detail)?;
+                write_kept(&mut line, &report.decided, self.shape.detail)?;
             }
         }
-        write_marks(&mut line, files.read.as_slice(), told.beware.as_slice())?;
+        write_marks(&mut line, files.read.as_slice(), report.beware.as_slice())?;
         push_line(text, line.as_str())?;
         if self.shape.commands {
-            write_commands(self.alloc, text, self.compilers, &told.decided)?;
+            write_commands(self.alloc, text, self.compilers, &report.decided)?;
         }
         Ok(())
     }
@@ -125,7 +125,7 @@ fn write_summary(alloc: Global, text: &mut String, summary: &Summary) -> Result<
 #[derive(Drop)]
 struct Report<'a> {
     files: Asked,
-    telling: Telling,
+    reported: ReportedEntries,
     lines: ReportLines<'a>,
 }
 
@@ -134,7 +134,7 @@ impl<'a> Report<'a> {
     fn new(alloc: Global, compilers: &'a Compilers, shape: Shape, files: Asked) -> Report<'a> {
         Report {
             files,
-            telling: Telling::new(alloc),
+            reported: ReportedEntries::new(alloc),
             lines: ReportLines {
                 alloc,
                 compilers,
@@ -147,8 +147,12 @@ impl<'a> Report<'a> {
 
     /// Its text.
     fn into_text(self) -> Result<String, AllocError> {
-        let Report { telling, lines, .. } = self;
-        let summary = telling.into_summary(lines.alloc)?;
+        let Report {
+            reported,
+            lines,
+            ..
+        } = self;
+        let summary = reported.into_summary(lines.alloc)?;
         let ReportLines {
             alloc,
             mut text,
@@ -163,12 +167,12 @@ impl<'a> TakesEntries for Report<'a> {
     fn take(&mut self, entry: &Entry) -> Result<(), ReportFault>
         // The entry is reported after those before it, with the same files.
         ensures told { OnOk result ((entries : _)
-            → HasTold self.old.files.files entries self.old.telling
-            → HasTold self.old.files.files (entries ++ entry.now ∷ []) self.new.telling) }
+            → HasTold self.old.files.files entries self.old.reported
+            → HasTold self.old.files.files (entries ++ entry.now ∷ []) self.new.reported) }
         ensures tree { self.new.files.files ≡ self.old.files.files }
     {
         let (alloc, compilers) = (self.lines.alloc, self.lines.compilers);
-        self.telling
+        self.reported
             .tell(alloc, compilers, entry, &mut self.files, &mut self.lines)?;
         Ok(())
     }

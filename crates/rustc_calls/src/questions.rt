@@ -128,7 +128,7 @@ fn bind_sources(alloc: Global, text: &[u8], request: &mut Request) -> Result<(),
 }
 
 /// Paths as they are from the folder of the call.
-fn joined(
+fn join_paths(
     alloc: Global,
     line: &CommandLine,
     paths: &[OsBytes],
@@ -267,7 +267,7 @@ impl KnownCrate {
         requires { host.old.compiled ≡ 0 }
         ensures { host.new.compiled ≤ 1 }
     {
-        let paths = joined(rt.alloc(), line, paths)?;
+        let paths = join_paths(rt.alloc(), line, paths)?;
         let _locks = self.lock(rt, line, paths.as_slice())?;
         let before = states_of(rt, paths.as_slice())?;
         let ended = host.compile(rt, rt.alloc(), line.words.as_slice())?;

@@ -137,9 +137,14 @@ fn row_in<'a>(rows: &'a [Row], name: &OsBytes) -> Option<&'a Row> {
 }
 
 /// What is said of a row that is another one here than there.
-fn told(alloc: Global, row: &Row, here: &[Row], there: &[Row]) -> Result<OsBytes, HostError> {
+fn row_difference(
+    alloc: Global,
+    row: &Row,
+    here: &[Row],
+    there: &[Row],
+) -> Result<OsBytes, HostError> {
     let name = &row.0;
-    let told = match is_told(row) {
+    let text = match is_told(row) {
         false => format!(in alloc; "{name}")?,
         true => {
             let one = value_of(alloc, row_in(here, name))?;
@@ -147,7 +152,7 @@ fn told(alloc: Global, row: &Row, here: &[Row], there: &[Row]) -> Result<OsBytes
             format!(in alloc; "{name}: {}, earlier {}", one.as_str(), other.as_str())?
         }
     };
-    Ok(OsBytes::from_vec(told.into_bytes()))
+    Ok(OsBytes::from_vec(text.into_bytes()))
 }
 
 /// The first row in which two lists differ; an empty text where they are alike.
@@ -156,9 +161,9 @@ fn difference(alloc: Global, here: &[Row], there: &[Row]) -> Result<OsBytes, Hos
     let ahead = pairs.take_while(|pair| pair.0 == pair.1).count();
     match (here.get(ahead), there.get(ahead)) {
         (Some(row), Some(other)) if row.0 != other.0 && row_in(here, &other.0).is_none() => {
-            told(alloc, other, here, there)
+            row_difference(alloc, other, here, there)
         }
-        (Some(row), _) | (None, Some(row)) => told(alloc, row, here, there),
+        (Some(row), _) | (None, Some(row)) => row_difference(alloc, row, here, there),
         (None, None) => Ok(OsBytes::from_slice(alloc, b"nothing differs")?),
     }
 }

@@ -61,7 +61,7 @@ fn names_in(alloc: Global, rule: &[u8]) -> Result<Vec<OsBytes>, AllocError>
 }
 
 /// The names as read from the directory.
-fn joined(alloc: Global, dir: &[u8], names: &[OsBytes]) -> Result<Vec<OsBytes>, AllocError>
+fn join_names(alloc: Global, dir: &[u8], names: &[OsBytes]) -> Result<Vec<OsBytes>, AllocError>
     ensures { IfOk result (λ paths. paths.items ≡ map (join dir.now) names.now) }
 {
     let mut paths = Vec::with_capacity(alloc, names.len())?;
@@ -92,5 +92,5 @@ pub fn parse_dep_info(alloc: Global, text: &str, dir: &[u8]) -> Result<Listed<Os
 {
     let rule = rule_of(text).ok_or(TextFault::NoRule)?;
     let names = names_in(alloc, rule)?;
-    Ok(in_order(joined(alloc, dir, names.as_slice())?))
+    Ok(in_order(join_names(alloc, dir, names.as_slice())?))
 }

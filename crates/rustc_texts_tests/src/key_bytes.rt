@@ -67,8 +67,13 @@ fn are_of(alloc: Global, parts: &Parts, bytes: &[u8], shape: &RShape) -> Result<
     Ok(written.as_slice() == bytes && parts.shape(alloc)? == *shape)
 }
 
-/// What is said of pieces that were read of these bytes under that shape.
-fn told(alloc: Global, parts: &Parts, bytes: &[u8], shape: &RShape) -> Result<String, AllocError> {
+/// The pieces that were read of these bytes under that shape, unless others are written of them.
+fn checked_pieces(
+    alloc: Global,
+    parts: &Parts,
+    bytes: &[u8],
+    shape: &RShape,
+) -> Result<String, AllocError> {
     if are_of(alloc, parts, bytes, shape)? {
         return pieces(alloc, parts);
     }
@@ -79,7 +84,7 @@ fn told(alloc: Global, parts: &Parts, bytes: &[u8], shape: &RShape) -> Result<St
 fn read(alloc: Global, bytes: &[u8], counts: Counts) -> Result<String, AllocError> {
     let shape = shape_of(alloc, counts)?;
     match read_key_bytes(alloc, bytes, &shape)? {
-        Some(parts) => told(alloc, &parts, bytes, &shape),
+        Some(parts) => checked_pieces(alloc, &parts, bytes, &shape),
         None => String::from_str(alloc, "none"),
     }
 }

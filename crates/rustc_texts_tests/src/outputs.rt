@@ -12,7 +12,7 @@ use test_kit::rows::words;
 use test_kit::texts::is_that;
 
 /// The names that a request writes which asks for these kinds, by rustc's answer.
-fn names_of(alloc: Global, emit: &str, text: &str) -> Result<String, AllocError> {
+fn barred_output_names(alloc: Global, emit: &str, text: &str) -> Result<String, AllocError> {
     let kinds = words(alloc, emit)?;
     let names = output_names(alloc, kinds.as_slice(), text)?;
     barred(alloc, names.as_slice())
@@ -39,7 +39,7 @@ const NAMES: [(&str, &str, &str); 6] = [
 #[test]
 fn names_are_told(rt: HostRuntime) -> Result<(), Fail> {
     for (emit, text, want) in NAMES.iter() {
-        let names = names_of(rt.alloc(), emit, text)?;
+        let names = barred_output_names(rt.alloc(), emit, text)?;
         is_that(names.as_str(), want, text)?;
     }
     Ok(())

@@ -7,8 +7,8 @@ ghost use Rattle.rustc_texts.specs.Words.{compile_words};
 ghost use Rattle.rustc_options.specs.Asks.{asks_in};
 ghost use Rattle.rustkeys.specs.Questions.{compile_env_of};
 
+use crate::ordered_lists::compile_env_of;
 use crate::place::RustPlace;
-use crate::sorting::compile_env_of;
 use cmdlines_base::command::SingleCompileCommand;
 use cmdlines_requests::command::{Cacheable, command_at};
 use os_files::listed::Listed;

@@ -19,7 +19,7 @@ use os_files::path::join;
 use std::alloc::{AllocError, Global};
 
 /// The paths as read from the directory.
-pub(crate) fn joined(
+pub(crate) fn join_paths(
     alloc: Global,
     dir: &OsBytes,
     paths: &[OsBytes],
@@ -102,7 +102,7 @@ pub(crate) fn needed_in<H: HashState, F: Files>(
     ensures steady { OnOk result (F.failed files.new ≡ F.failed files.old) }
     ensures still { HasOwnFault result → F.failed files.new ≡ F.failed files.old }
 {
-    let paths = joined(alloc, dir, names)?;
+    let paths = join_paths(alloc, dir, names)?;
     needed_digests::<H, F>(alloc, paths.as_slice(), files)
 }
 

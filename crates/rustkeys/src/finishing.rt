@@ -20,8 +20,8 @@ ghost use Rattle.rustkeys.specs.Records.{digest_text, parts_of};
 
 use crate::collecting::Collected;
 use crate::compilation::{RustCompilation, compile_of, copied};
+use crate::ordered_lists::{counted_in, env_deps_in};
 use crate::place::{KnownRust, RustPlace};
-use crate::sorting::{counted_in, env_deps_in};
 use ckeys_base::digest::Digest;
 use ckeys_base::hash_state::HashState;
 use cmdlines_base::command::SingleCompileCommand;
@@ -213,8 +213,8 @@ fn keyed<H: HashState>(
     }
 }
 
-/// All of it.
-pub(crate) fn finish<H: HashState>(
+/// The compile of a request, its key, the shape of that, and the text on dependencies.
+pub(crate) fn keyed_compilation<H: HashState>(
     alloc: Global,
     known: &KnownRust,
     place: &RustPlace,

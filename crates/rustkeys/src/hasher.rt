@@ -22,7 +22,7 @@ ghost use Rattle.rustkeys.specs.Runs.{AtMostFor, AtMostTwice, ticked_for};
 
 use crate::answers::RustcAnswers;
 use crate::compilation::RustCompilation;
-use crate::finishing::finish;
+use crate::finishing::keyed_compilation;
 use crate::place::{KnownRust, RustPlace};
 use ckeys_base::hash_state::HashState;
 use ckeys_records::fault::Fault;
@@ -179,6 +179,6 @@ impl<'a> RustHasher<'a> {
         let known = known(self.compiler);
         let place = self.place(dir, env);
         let found = place.collect::<H, F, A>(alloc, files, answers)?;
-        Ok(finish::<H>(alloc, &known, &place, found)?)
+        Ok(keyed_compilation::<H>(alloc, &known, &place, found)?)
     }
 }

@@ -11,8 +11,8 @@ mod digests;
 mod finishing;
 pub mod hasher;
 pub mod laws;
+mod ordered_lists;
 pub mod place;
-mod sorting;
 
 pub use answers::RustcAnswers;
 pub use compilation::RustCompilation;

@@ -14,7 +14,7 @@ ghost use Rattle.rustkeys_base.specs.Parsing.{asks, closing, emitted, has_kind, 
 
 use crate::deciding::{Refusal, refused};
 use crate::facts::Facts;
-use crate::libraries::{joined, libraries_in};
+use crate::libraries::{join_paths, libraries_in};
 use cmdlines_base::argument::Argument;
 use cmdlines_base::color_mode::ColorMode;
 use cmdlines_base::compiler_arguments::CompilerArguments;
@@ -194,7 +194,7 @@ fn libraries_for<F: Files>(
     ensures steady { OnOk result (F.failed files.new ≡ F.failed files.old) }
     ensures memory { IsErrOf result ParseFault.Memory → F.failed files.new ≡ F.failed files.old }
 {
-    let folders = joined(alloc, dir, facts.static_paths.as_slice())?;
+    let folders = join_paths(alloc, dir, facts.static_paths.as_slice())?;
     let names = facts.static_libraries.as_slice();
     libraries_in(alloc, folders.as_slice(), names, files)
 }
@@ -234,7 +234,7 @@ fn made_for<F: Files>(
     ensures memory { IsErrOf result ParseFault.Memory → F.failed files.new ≡ F.failed files.old }
 {
     let staticlibs = libraries_for(alloc, dir, facts, files)?;
-    let crate_link_paths = joined(alloc, dir, facts.crate_paths.as_slice())?;
+    let crate_link_paths = join_paths(alloc, dir, facts.crate_paths.as_slice())?;
     let (dep_info, profile, gcno) = names_for(alloc, facts, kinds.as_slice())?;
     Ok(Made {
         crate_link_paths,

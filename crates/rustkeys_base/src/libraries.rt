@@ -16,7 +16,7 @@ use response_files::fault::ParseFault;
 use std::alloc::{AllocError, Global};
 
 /// Paths in that directory.
-pub(crate) fn joined(
+pub(crate) fn join_paths(
     alloc: Global,
     dir: &OsBytes,
     paths: &[OsBytes],
@@ -115,7 +115,7 @@ fn library_in<F: Files>(
     let names = library_names(alloc, name)?;
     let mut rest = folders;
     while let Some((folder, more)) = rest.split_first() {
-        let paths = joined(alloc, folder, names.as_slice())?;
+        let paths = join_paths(alloc, folder, names.as_slice())?;
         if let Some(path) = first_there(alloc, paths.as_slice(), files)? {
             return Ok(Some(path));
         }

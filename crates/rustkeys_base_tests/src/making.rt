@@ -52,7 +52,7 @@ fn digests_in(alloc: Global, rust: &Rust) -> Result<String, AllocError> {
 }
 
 /// The digests, or why there is no compiler.
-fn told(alloc: Global, made: Result<Rust, RustFault>) -> Result<String, Fail> {
+fn digests_or_fault(alloc: Global, made: Result<Rust, RustFault>) -> Result<String, Fail> {
     match made {
         Ok(rust) => Ok(digests_in(alloc, &rust)?),
         Err(RustFault::Memory) => Err(RustFault::Memory.into()),
@@ -69,17 +69,17 @@ fn files(alloc: Global) -> Result<MemoryFiles, AllocError> {
 }
 
 /// What is reported for a compiler of that version, with the libraries of a line.
-fn told_of(alloc: Global, version: &str, line: &str) -> Result<String, Fail> {
+fn digests_of_version(alloc: Global, version: &str, line: &str) -> Result<String, Fail> {
     let mut files = files(alloc)?;
     let made = rust(alloc, version, words(alloc, line)?, &mut files);
-    told(alloc, made)
+    digests_or_fault(alloc, made)
 }
 
 #[test]
 fn toolchains_are_told_in_the_order_of_paths(rt: HostRuntime) -> Result<(), Fail> {
     digests_are_formed::<Sha256>();
     let alloc = rt.alloc();
-    let text = told_of(alloc, VERSION, "/s/a-b.so /s/a/b.so")?;
+    let text = digests_of_version(alloc, VERSION, "/s/a-b.so /s/a/b.so")?;
     let want = format!(in alloc; "|{OF_NOTHING}|{OF_ABC}|{OF_NOTHING}")?;
     is_that(text.as_str(), want.as_str(), "toolchain")
 }
@@ -99,7 +99,7 @@ const REFUSED: [(&str, &str, &str); 4] = [
 #[test]
 fn compilers_are_refused(rt: HostRuntime) -> Result<(), Fail> {
     for (version, line, want) in REFUSED.iter() {
-        let text = told_of(rt.alloc(), version, line)?;
+        let text = digests_of_version(rt.alloc(), version, line)?;
         is_that(text.as_str(), want, version)?;
     }
     Ok(())
@@ -110,6 +110,6 @@ fn devices_may_fail(rt: HostRuntime) -> Result<(), Fail> {
     let mut files = FailFiles::new(files(rt.alloc())?, 1);
     let libraries = words(rt.alloc(), "/s/a-b.so /s/a/b.so")?;
     let made = rust(rt.alloc(), VERSION, libraries, &mut files);
-    let text = told(rt.alloc(), made)?;
+    let text = digests_or_fault(rt.alloc(), made)?;
     is_that(text.as_str(), "cannot read /s/a-b.so", "device")
 }

@@ -166,7 +166,10 @@ pub(crate) fn asked<F: Files>(
 }
 
 /// The key, or the fault.
-pub(crate) fn told(alloc: Global, made: &Result<Made, Fault>) -> Result<String, AllocError> {
+pub(crate) fn key_or_fault(
+    alloc: Global,
+    made: &Result<Made, Fault>,
+) -> Result<String, AllocError> {
     match made {
         Ok((_, key, _, _)) => key.clone(),
         Err(fault) => format!(in alloc; "fault {fault}"),
@@ -182,14 +185,14 @@ pub(crate) fn made(asked: Result<Made, Fault>) -> Result<Made, Fail> {
 }
 
 /// The key of a line's request on these files, or the fault.
-pub(crate) fn told_on<F: Files>(
+pub(crate) fn key_or_fault_on<F: Files>(
     alloc: Global,
     line: &str,
     files: &mut F,
     tool: &mut AnswerTool,
 ) -> Result<String, Fail> {
     let made = asked(alloc, line, files, tool)?;
-    let text = told(alloc, &made);
+    let text = key_or_fault(alloc, &made);
     drop(made);
     Ok(text?)
 }

@@ -1,7 +1,7 @@
 //! Why requests have no key.
 
 use crate::answer_tool::{AnswerTool, RustTexts};
-use crate::asking::{DEPENDENCIES, FIRST, all_files, told_on, tool};
+use crate::asking::{DEPENDENCIES, FIRST, all_files, key_or_fault_on, tool};
 use std::alloc::Global;
 use std::test::Fail;
 use test_kit::texts::is_that;
@@ -46,7 +46,7 @@ const ROWS: [(&str, &[u8], &[u8], &str); 10] = [
 fn told_with(alloc: Global, more: &str, tool: &mut AnswerTool) -> Result<String, Fail> {
     let line = format!(in alloc; "{FIRST}{more}")?;
     let mut files = all_files(alloc)?;
-    told_on(alloc, line.as_str(), &mut files, tool)
+    key_or_fault_on(alloc, line.as_str(), &mut files, tool)
 }
 
 #[test]

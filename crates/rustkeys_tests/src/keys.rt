@@ -3,7 +3,7 @@
 use crate::answer_tool::AnswerTool;
 use crate::asking::{
     DEPENDENCIES, FIRST, Made, OF_NOTHING, SECOND, SOURCE, all_files, asked, asked_at,
-    digest_of_all, made, parsed, rust_with, told, told_on, tool,
+    digest_of_all, key_or_fault, key_or_fault_on, made, parsed, rust_with, tool,
 };
 use cmdlines_base::argument::{ArgDisposition, Argument};
 use os_files::listed::Listed;
@@ -25,7 +25,7 @@ use test_kit::texts::is_that;
 fn key_of(alloc: Global, line: &str) -> Result<String, Fail> {
     let mut files = all_files(alloc)?;
     let mut tool = tool(alloc, DEPENDENCIES, b"libfoo.rlib\n", b"")?;
-    told_on(alloc, line, &mut files, &mut tool)
+    key_or_fault_on(alloc, line, &mut files, &mut tool)
 }
 
 /// The digest of what is hashed of the first request.
@@ -209,7 +209,7 @@ fn key_by(
 ) -> Result<String, Fail> {
     let env = variables(alloc)?;
     let made = asked_at(alloc, hasher, "/t", env.as_slice(), files, tool);
-    let text = told(alloc, &made);
+    let text = key_or_fault(alloc, &made);
     drop(made);
     Ok(text?)
 }

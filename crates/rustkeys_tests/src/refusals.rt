@@ -2,7 +2,7 @@
 
 use crate::answer_tool::{AnswerTool, RustTexts};
 use crate::asking::{
-    DEPENDENCIES, FIRST, OF_NOTHING, WITH_CRATES, WITH_LIBRARY, all_files, told_on, tool,
+    DEPENDENCIES, FIRST, OF_NOTHING, WITH_CRATES, WITH_LIBRARY, all_files, key_or_fault_on, tool,
 };
 use std::alloc::{AllocError, Global};
 use std::fmt::Write;
@@ -19,7 +19,7 @@ fn texts(alloc: Global) -> Result<RustTexts, AllocError> {
 fn fault_of_tool(alloc: Global, line: &str, calls_left: u64) -> Result<Option<String>, Fail> {
     let mut files = all_files(alloc)?;
     let mut tool = AnswerTool::new(texts(alloc)?, calls_left);
-    let text = told_on(alloc, line, &mut files, &mut tool)?;
+    let text = key_or_fault_on(alloc, line, &mut files, &mut tool)?;
     Ok(tool.failed_step.is_some().then_some(text))
 }
 
@@ -54,7 +54,7 @@ fn each_step_is_refused(rt: HostRuntime) -> Result<(), Fail> {
 fn fault_of_files(alloc: Global, line: &str, calls_left: u64) -> Result<Option<String>, Fail> {
     let mut files = FailFiles::new(all_files(alloc)?, calls_left);
     let mut tool = tool(alloc, DEPENDENCIES, b"libfoo.rlib\n", OF_NOTHING.as_bytes())?;
-    let text = told_on(alloc, line, &mut files, &mut tool)?;
+    let text = key_or_fault_on(alloc, line, &mut files, &mut tool)?;
     Ok(files.failed_name.is_some().then_some(text))
 }
 

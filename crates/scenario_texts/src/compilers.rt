@@ -38,14 +38,14 @@ impl From<RustFault> for ScenarioFault {
 
 /// What a request's members say of its C compiler beside the kind. Its version isn't known.
 #[derive(Drop)]
-struct Told {
+struct DescribedCompiler {
     plusplus: bool,
     assembler: Option<String>,
     executable: OsBytes,
     digest: String,
 }
 
-impl Told {
+impl DescribedCompiler {
     /// The compiler of a kind of which this is given.
     fn found<K: HasKind>(self, alloc: Global) -> Result<CCompiler<FoundCompiler<K>>, AllocError> {
         let compiler = FoundCompiler::new(alloc, self.plusplus, None, self.assembler)?;
@@ -78,18 +78,18 @@ fn read_c_compiler(
     let digest = read_text(alloc, members.remove("digest"), DEFAULT_DIGEST)?;
     let plusplus = read_truth(members.remove("plusplus"))?;
     let assembler = read_assembler(members.remove("assembler"))?;
-    let told = Told {
+    let described = DescribedCompiler {
         plusplus,
         assembler,
         executable,
         digest,
     };
     match name {
-        "gcc" => Ok(Compiler::Gcc(told.found(alloc)?)),
-        "clang" => Ok(Compiler::Clang(told.found(alloc)?)),
-        "diab" => Ok(Compiler::Diab(told.found(alloc)?)),
-        "msvc" => Ok(Compiler::Msvc(told.found(alloc)?)),
-        "taskingvx" => Ok(Compiler::TaskingVX(told.found(alloc)?)),
+        "gcc" => Ok(Compiler::Gcc(described.found(alloc)?)),
+        "clang" => Ok(Compiler::Clang(described.found(alloc)?)),
+        "diab" => Ok(Compiler::Diab(described.found(alloc)?)),
+        "msvc" => Ok(Compiler::Msvc(described.found(alloc)?)),
+        "taskingvx" => Ok(Compiler::TaskingVX(described.found(alloc)?)),
         _ => Err(ScenarioFault::Unreadable),
     }
 }

@@ -87,7 +87,7 @@ pub struct ScenarioCall {
     /// The files that it finds, and no others.
     pub files: MemoryFiles,
     /// What rustc reports of its crate. Empty for a C compiler.
-    pub told: CrateTexts,
+    pub crate_texts: CrateTexts,
     /// Whether all that both stores hold is dropped before the request.
     pub forget: bool,
 }
@@ -212,12 +212,12 @@ fn read_call(alloc: Global, value: Value) -> Result<ScenarioCall, ScenarioFault>
     let mut members = into_object(value)?;
     let name = into_text(required(members.remove("compiler"))?)?;
     let forget = read_truth(members.remove("forget"))?;
-    let told = read_crate(alloc, name.as_str(), &mut members)?;
+    let crate_texts = read_crate(alloc, name.as_str(), &mut members)?;
     let mut files = read_files(alloc, members.remove("files"))?;
     Ok(ScenarioCall {
         request: read_request(alloc, name.as_str(), &mut members, &mut files)?,
         files,
-        told,
+        crate_texts,
         forget,
     })
 }

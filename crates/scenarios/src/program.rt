@@ -287,10 +287,10 @@ fn answered<O: Store<StoreKey, Pairs> + Drop, T: RetoldTool>(
     let ScenarioCall {
         request,
         mut files,
-        told,
+        crate_texts,
         forget,
     } = call;
-    tool.tell(told);
+    tool.tell(crate_texts);
     if forget {
         session.forget_all();
     }

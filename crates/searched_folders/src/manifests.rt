@@ -127,7 +127,7 @@ pub fn without(
 }
 
 /// The manifest with the results of another one that it doesn't have.
-pub fn joined(
+pub fn with_results_of(
     alloc: Global,
     entry: &PreprocessorCacheEntry,
     other: &PreprocessorCacheEntry,

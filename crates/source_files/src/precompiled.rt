@@ -72,7 +72,7 @@ fn folders_of<'a>(
 }
 
 /// The names by which a header of that path may have been asked for: its last parts, so many at most.
-fn names_of(alloc: Global, path: &[u8]) -> Result<Vec<&[u8]>, HostError> {
+fn header_names(alloc: Global, path: &[u8]) -> Result<Vec<&[u8]>, HostError> {
     let mut names = Vec::new(alloc);
     let slashes = path.iter().enumerate().rev().filter(|pair| *pair.1 == b'/');
     for (at, _) in slashes.take(PARTS) {
@@ -136,7 +136,7 @@ pub fn has_precompiled<R: Files + AllocGlobal>(
     if is_precompiled(rt, path.as_bytes())? {
         return Ok(true);
     }
-    let names = names_of(rt.alloc(), path.as_bytes())?;
+    let names = header_names(rt.alloc(), path.as_bytes())?;
     for folder in folders_of(rt.alloc(), line, input.path.as_bytes())? {
         if has_in(rt, line, folder, names.as_slice())? {
             return Ok(true);

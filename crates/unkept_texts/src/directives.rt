@@ -60,7 +60,7 @@ fn other_string(text: &[u8]) -> Option<&[u8]> {
 }
 
 /// The text, past the quotes between two adjacent strings.
-fn joined(text: &[u8]) -> &[u8] {
+fn behind_seams(text: &[u8]) -> &[u8] {
     let mut rest = text;
     for _ in text {
         let Some(behind) = rest.strip_prefix(b"\"") else {
@@ -114,7 +114,7 @@ fn escaped(text: &[u8]) -> Option<(u8, &[u8])> {
 
 /// The next byte that an assembler reads, and what comes after it.
 fn next_byte(text: &[u8]) -> Option<(u8, &[u8])> {
-    let (first, rest) = joined(text).split_first()?;
+    let (first, rest) = behind_seams(text).split_first()?;
     match *first {
         b'\\' => escaped(rest),
         byte => Some((byte, rest)),

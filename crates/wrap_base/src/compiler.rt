@@ -6,12 +6,8 @@ ghost use Rattle.wrap_base.specs.Commands.{digest_of, executable_of, kind_of, na
 use ckeys::compiler::CCompiler;
 use ckeys::compiler_impl::CCompilerImpl;
 use ckeys::hasher::CCompilerHasher;
-use cmdlines::clang::Clang;
 use cmdlines::command::CommandError;
-use cmdlines::diab::Diab;
-use cmdlines::gcc::Gcc;
-use cmdlines::msvc::Msvc;
-use cmdlines::tasking_vx::TaskingVX;
+use cmdlines::kinds::{Clang, Diab, Gcc, Msvc, TaskingVX};
 use cmdlines_base::command::SingleCompileCommand;
 use cmdlines_base::compiler_arguments::CompilerArguments;
 use cmdlines_requests::command::Cacheable;

@@ -13,7 +13,7 @@ use std::alloc::{AllocError, Global};
 use wrap_base::request::Request;
 
 /// The names of outputs, with their marks.
-pub fn names_of(
+pub fn output_names(
     alloc: Global,
     outputs: &[(OsBytes, ArtifactDescriptor)],
 ) -> Result<Listed<OutputName>, AllocError>

@@ -19,7 +19,7 @@ use ckeys::compiler_impl::CCompilerImpl;
 use ckeys_records::fault::Fault;
 use ckeys_records::word_end::hold_word_end;
 use cmdlines::command::CommandError;
-use cmdlines::hazards::{empty_value, opens_file};
+use cmdlines::uncached_words::{empty_value, opens_file};
 use cmdlines_base::command::SingleCompileCommand;
 use cmdlines_base::compiler_arguments::CompilerArguments;
 use cmdlines_requests::parsed::ParsedArguments;

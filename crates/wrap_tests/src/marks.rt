@@ -34,31 +34,35 @@ fn with_names(alloc: Global, names: Listed<OutputName>) -> Fingerprint {
 }
 
 /// How the first differs from the earlier one.
-fn told(alloc: Global, one: &Fingerprint, earlier: &Fingerprint) -> Result<String, AllocError> {
+fn difference_text(
+    alloc: Global,
+    one: &Fingerprint,
+    earlier: &Fingerprint,
+) -> Result<String, AllocError> {
     let difference = Difference { one, earlier };
     format!(in alloc; "{difference}")
 }
 
 /// How a fingerprint with these outputs differs from one with those. Each is handed over to `drop`, since a function that drops such a
 /// value by itself is proved slowly.
-fn told_of_names(
+fn difference_of_names(
     alloc: Global,
     names: Listed<OutputName>,
     earlier: Listed<OutputName>,
 ) -> Result<String, AllocError> {
     let one = with_names(alloc, names);
     let earlier = with_names(alloc, earlier);
-    let told = told(alloc, &one, &earlier);
+    let text = difference_text(alloc, &one, &earlier);
     drop(one);
     drop(earlier);
-    told
+    text
 }
 
 #[test]
 fn marks_count(rt: HostRuntime) -> Result<(), Fail> {
     let marked = object(rt.alloc(), true)?;
     let plain = object(rt.alloc(), false)?;
-    let text = told_of_names(rt.alloc(), marked, plain)?;
+    let text = difference_of_names(rt.alloc(), marked, plain)?;
     is_that(
         text.as_str(),
         "output 1: obj (optional), earlier obj",

@@ -5,7 +5,7 @@
 
 use ckeys::compiler::CCompiler;
 use ckeys_records::fault::Fault;
-use cmdlines::gcc::Gcc;
+use cmdlines::kinds::Gcc;
 use os_files::files::Files;
 use os_files::listed::Listed;
 use os_files::os_bytes::OsBytes;

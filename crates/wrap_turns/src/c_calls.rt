@@ -10,7 +10,7 @@ ghost use Rattle.wrap_keys.specs.Answers.{EarlyCause, GoesOn, OnPass, Says, Says
 ghost use Rattle.wrap_keys.specs.Asking.{AskedTurn, EntriesTurn, RecordsAreTrue, shelves_of};
 ghost use Rattle.wrap_base.specs.Commands.{by_c, found_of};
 
-use crate::finish::finish;
+use crate::answering::answer_prepared;
 use crate::prepared::prepare;
 use ckeys::{EntryKey, PreprocessorCacheEntry};
 use ckeys_base::hash_state::HashState;
@@ -91,7 +91,14 @@ pub fn c_turn<
                 tool,
             ) {
                 Ok(prepared) => {
-                    let answer = finish(alloc, config.max_kept, objects, prepared, files, tool);
+                    let answer = answer_prepared(
+                        alloc,
+                        config.max_kept,
+                        objects,
+                        prepared,
+                        files,
+                        tool,
+                    );
                     drop(plan);
                     answer
                 }

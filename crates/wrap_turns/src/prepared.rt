@@ -29,7 +29,7 @@ use wrap_base::compiler::AnyC;
 use wrap_base::request::Request;
 use wrap_base::store_key::{Family, Shape, StoreKey};
 use wrap_base::tool::Tool;
-use wrap_keys::keys::{names_of, place_of};
+use wrap_keys::keys::{output_names, place_of};
 use wrap_keys::verdict::Plan;
 
 /// A request with its key, the outputs that it wants, and the command that makes them.
@@ -112,7 +112,7 @@ pub fn prepare<'a, H: HashState, E: Store<EntryKey, PreprocessorCacheEntry>, F: 
         alloc, &place, entries, files, tool,
     )?;
     let outputs = plan.parsed.outputs.as_slice();
-    let names = names_of(alloc, outputs)?;
+    let names = output_names(alloc, outputs)?;
     let key = StoreKey {
         family: Family::C,
         shape: Shape::C(shape),

@@ -18,7 +18,7 @@ ghost use Rattle.wrap_turns.specs.RustPrepared.{IsRustPrepared};
 ghost use Rattle.wrap_keys.specs.RustVerdicts.{is_text, rust_verdict_of};
 ghost use Rattle.wrap_keys.specs.Turn.{KeyedTurn, StoreTurn};
 
-use crate::finish::finish;
+use crate::answering::answer_prepared;
 use crate::prepared::Prepared;
 use ckeys_base::hash_state::HashState;
 use ckeys_base::store::Store;
@@ -34,7 +34,7 @@ use wrap_base::answer::Answer;
 use wrap_base::request::Request;
 use wrap_base::store_key::{Family, Pairs, Shape, StoreKey};
 use wrap_base::tool::Tool;
-use wrap_keys::keys::names_of;
+use wrap_keys::keys::output_names;
 use wrap_keys::rust_verdict::{RustVerdict, judge_rust};
 
 /// A request to rustc with its key: the compile that it represents, and the text on dependencies where it asks for one.
@@ -88,7 +88,7 @@ fn rust_prepare<H: HashState, F: Files, T: Tool>(
         files,
         tool,
     )?;
-    let Ok(names) = names_of(alloc, compilation.outputs()) else {
+    let Ok(names) = output_names(alloc, compilation.outputs()) else {
         drop(compilation);
         return Err(Fault::Memory);
     };
@@ -151,7 +151,7 @@ fn rust_answer<H: HashState, O: Store<StoreKey, Pairs>, F: Files, T: Tool>(
         moment: request.moment,
         dep_info,
     };
-    let answer = finish(alloc, max_kept, objects, prepared, files, tool);
+    let answer = answer_prepared(alloc, max_kept, objects, prepared, files, tool);
     drop(compilation);
     answer
 }

@@ -81,18 +81,18 @@ fn digest_of_lines(
     take_lines(text, &sources, &mut written)?;
     let mut digest = sources.digest_of(false);
     digest.update(written.bytes());
-    finish(alloc, digest)
+    digest_text(alloc, digest)
 }
 
 /// The text of a digest.
-fn finish(alloc: Global, digest: Digest<Blake2b256>) -> Result<OsBytes, HostError> {
+fn digest_text(alloc: Global, digest: Digest<Blake2b256>) -> Result<OsBytes, HostError> {
     let text = digest.finish(alloc)?;
     Ok(OsBytes::from_slice(alloc, text.as_bytes())?)
 }
 
 /// The digest of the contents of all files that a text names, in the order in which it does.
 pub fn digest_of_contents(alloc: Global, sources: &Sources<'_>) -> Result<OsBytes, HostError> {
-    finish(alloc, sources.digest_of(true))
+    digest_text(alloc, sources.digest_of(true))
 }
 
 /// The digest of what is asked of the sources of a text; an empty one where nothing is.

@@ -20,14 +20,14 @@ returns-then-first-text-clause-borrowed c = λ starts is. (
   λ _. tt,
 )
 
-pub returns-in_err-joined-clause-one : goal.returns-in_err-joined-clause-one
-returns-in_err-joined-clause-one c = has_exactly_one (places_of c.args.kind) c.args.folders.now c.args.text.now
+pub returns-in_err-join_kept-clause-one : goal.returns-in_err-join_kept-clause-one
+returns-in_err-join_kept-clause-one c = has_exactly_one (places_of c.args.kind) c.args.folders.now c.args.text.now
 
 pub returns-clause-one : goal.returns-clause-one
 returns-clause-one c = has_exactly_one (places_of c.args.kind) c.args.folders.now c.args.text.now
 
 pub returns-clause-left : goal.returns-clause-left
-returns-clause-left c = λ starts is. c.in_ok-joined.ensures ∙ left-by_any (places_of c.args.kind) c.args.folders.now c.args.text.now starts is
+returns-clause-left c = λ starts is. c.in_ok-join_kept.ensures ∙ left-by_any (places_of c.args.kind) c.args.folders.now c.args.text.now starts is
 
 pub returns-clause-borrowed : goal.returns-clause-borrowed
 returns-clause-borrowed c = λ starts is.
@@ -37,8 +37,8 @@ returns-clause-borrowed c = λ starts is.
           (λ k lt. c.next_place-first.ensures.none_before k (omega arith) lt) (c.next_place-first.ensures.found at) starts is empty,
     )
 
-pub returns-in_err-joined-clause-memory : goal.returns-in_err-joined-clause-memory
-returns-in_err-joined-clause-memory c = λ none.
+pub returns-in_err-join_kept-clause-memory : goal.returns-in_err-join_kept-clause-memory
+returns-in_err-join_kept-clause-memory c = λ none.
     let at : c.next_place-first.result < length c.args.text.now = omega arith in
     absurd (some-goes (places_of c.args.kind) c.args.folders.now c.args.text.now c.next_place-first.result at
     (λ k lt. c.next_place-first.ensures.none_before k (omega arith) lt) (c.next_place-first.ensures.found at) [] none refl)

@@ -116,13 +116,13 @@ returns-in-Ok-clause-says g c =
     let w = work_at (meaning c.args.tool.now) own in
     let p : PrintedCall = printed_call (meaning c.args.tool.now) own in
     let k = c.in-Ok.ensures in
-    let on_old = FailsOn tree g.F.Files.failed g.F.Files.fails_on c.args.files.now c.finish-answer.new.files in
-    let device = FailsIn meaning g.T.Preprocessor.failed g.T.Preprocessor.fails_in c.args.tool.now c.finish-answer.new.tool in
-    let later_in = FailsIn meaning g.T.Preprocessor.failed g.T.Preprocessor.fails_in c.prepare.new.tool c.finish-answer.new.tool in
-    let later : (step : Step) → later_in step → device step = fails_in_later meaning g.T.Preprocessor.failed g.T.Preprocessor.fails_in c.args.tool.now c.prepare.new.tool c.finish-answer.new.tool c.prepare.ensures.meaning k.steady.0 in
-    let result = c.finish-answer.result in
+    let on_old = FailsOn tree g.F.Files.failed g.F.Files.fails_on c.args.files.now c.answer_prepared-answer.new.files in
+    let device = FailsIn meaning g.T.Preprocessor.failed g.T.Preprocessor.fails_in c.args.tool.now c.answer_prepared-answer.new.tool in
+    let later_in = FailsIn meaning g.T.Preprocessor.failed g.T.Preprocessor.fails_in c.prepare.new.tool c.answer_prepared-answer.new.tool in
+    let later : (step : Step) → later_in step → device step = fails_in_later meaning g.T.Preprocessor.failed g.T.Preprocessor.fails_in c.args.tool.now c.prepare.new.tool c.answer_prepared-answer.new.tool c.prepare.ensures.meaning k.steady.0 in
+    let result = c.answer_prepared-answer.result in
     of_asked (λ a. SaysBy GoesOn a on_old device result) (meaning c.args.tool.now) _ _ c.args.config.now.keys found request parsed _ c.in_ok-reason.ensures.tree decided
-    (finished_says (GoesOn w) w on_old device later_in later (goes_on digest_of w p refl _ _ _ k.from k.fine) result (c.finish-answer.ensures.says digest_of w k.prepared))
+    (finished_says (GoesOn w) w on_old device later_in later (goes_on digest_of w p refl _ _ _ k.from k.fine) result (c.answer_prepared-answer.ensures.says digest_of w k.prepared))
 
 pub returns-in-Ok-clause-goes_on : goal.returns-in-Ok-clause-goes_on
 returns-in-Ok-clause-goes_on g c =
@@ -137,23 +137,23 @@ returns-in-Ok-clause-goes_on g c =
     let w = work_at (meaning c.args.tool.now) own in
     let p : PrintedCall = printed_call (meaning c.args.tool.now) own in
     let k = c.in-Ok.ensures in
-    let on_old = FailsOn tree g.F.Files.failed g.F.Files.fails_on c.args.files.now c.finish-answer.new.files in
-    let device = FailsIn meaning g.T.Preprocessor.failed g.T.Preprocessor.fails_in c.args.tool.now c.finish-answer.new.tool in
-    let later_in = FailsIn meaning g.T.Preprocessor.failed g.T.Preprocessor.fails_in c.prepare.new.tool c.finish-answer.new.tool in
-    let later : (step : Step) → later_in step → device step = fails_in_later meaning g.T.Preprocessor.failed g.T.Preprocessor.fails_in c.args.tool.now c.prepare.new.tool c.finish-answer.new.tool c.prepare.ensures.meaning k.steady.0 in
-    let result = c.finish-answer.result in
+    let on_old = FailsOn tree g.F.Files.failed g.F.Files.fails_on c.args.files.now c.answer_prepared-answer.new.files in
+    let device = FailsIn meaning g.T.Preprocessor.failed g.T.Preprocessor.fails_in c.args.tool.now c.answer_prepared-answer.new.tool in
+    let later_in = FailsIn meaning g.T.Preprocessor.failed g.T.Preprocessor.fails_in c.prepare.new.tool c.answer_prepared-answer.new.tool in
+    let later : (step : Step) → later_in step → device step = fails_in_later meaning g.T.Preprocessor.failed g.T.Preprocessor.fails_in c.args.tool.now c.prepare.new.tool c.answer_prepared-answer.new.tool c.prepare.ensures.meaning k.steady.0 in
+    let result = c.answer_prepared-answer.result in
     let held = (g.E.Store.shelf c.args.entries.now).held in
     of_asked (λ a. RecordsAreTrue digest_of a held → Says a on_old device result) (meaning c.args.tool.now) _ _ c.args.config.now.keys found request parsed _ c.in_ok-reason.ensures.tree decided
-    (λ are_true. finished_says (w.fault ≡ None) w on_old device later_in later (own_goes_on digest_of w p refl held _ _ k.from k.fine are_true) result (c.finish-answer.ensures.says digest_of w k.prepared))
+    (λ are_true. finished_says (w.fault ≡ None) w on_old device later_in later (own_goes_on digest_of w p refl held _ _ k.from k.fine are_true) result (c.answer_prepared-answer.ensures.says digest_of w k.prepared))
 
 pub returns-in-Ok-clause-quiet : goal.returns-in-Ok-clause-quiet
 returns-in-Ok-clause-quiet g c =
     let tool = g.T.Preprocessor in
     let old = c.args.tool.now in
-    let new = c.finish-answer.new.tool in
+    let new = c.answer_prepared-answer.new.tool in
     let w = work_at (tool.meaning old) (call_at (found_of c.args.compiler) c.args.request.now (g.F.Files.tree c.judge.new.files) c.args.config.now.keys c.in-Asks.plan.parsed) in
-    finished_unpassed ((tool.preprocessed new ≡ tool.preprocessed old) × (tool.compiled new ≡ tool.compiled old) × (tool.failed new ≡ tool.failed old)) w _ c.finish-answer.result
-    (c.finish-answer.ensures.says g.H.HashState.digest_of w c.in-Ok.ensures.prepared)
+    finished_unpassed ((tool.preprocessed new ≡ tool.preprocessed old) × (tool.compiled new ≡ tool.compiled old) × (tool.failed new ≡ tool.failed old)) w _ c.answer_prepared-answer.result
+    (c.answer_prepared-answer.ensures.says g.H.HashState.digest_of w c.in-Ok.ensures.prepared)
 
 pub returns-in-Ok-clause-asked : goal.returns-in-Ok-clause-asked
 returns-in-Ok-clause-asked g c =
@@ -171,20 +171,20 @@ returns-in-Ok-clause-asked g c =
     let from = c.in-Ok.prepared.from_record in
     let key = c.in-Ok.prepared.key.digest in
     let old = shelves_of (g.E.Store.shelf c.args.entries.now) (g.O.Store.shelf c.args.objects.now) in
-    let new = shelves_of (g.E.Store.shelf c.prepare.new.entries) (g.O.Store.shelf c.finish-answer.new.objects) in
+    let new = shelves_of (g.E.Store.shelf c.prepare.new.entries) (g.O.Store.shelf c.answer_prepared-answer.new.objects) in
     let ran : ℕ → Type 0 = λ after. RanForKey w.rec from (g.T.Preprocessor.preprocessed c.args.tool.now) after in
-    let runs : ran (g.T.Preprocessor.preprocessed c.finish-answer.new.tool) = subst ran (sym c.finish-answer.ensures.preprocesses) (c.prepare.ensures.idle, k.runs) in
-    let early : StopsEarly w (g.T.Preprocessor.preprocessed c.args.tool.now) (g.T.Preprocessor.preprocessed c.finish-answer.new.tool) = subst (StopsEarly w (g.T.Preprocessor.preprocessed c.args.tool.now)) (sym c.finish-answer.ensures.preprocesses) c.prepare.ensures.early in
-    let turned : ℕ → Type 0 = λ compiled. KeyedTurn digest_of c.args.config.now.max_kept key (worked w) old.objects new.objects compiled (g.T.Preprocessor.compiled c.finish-answer.new.tool) c.finish-answer.result in
-    let turn : turned (g.T.Preprocessor.compiled c.args.tool.now) = subst turned c.prepare.ensures.compiles (c.finish-answer.ensures.turn digest_of w k.prepared) in
-    of_asked (λ a. AskedTurn digest_of c.args.config.now.max_kept a old new (g.T.Preprocessor.preprocessed c.args.tool.now) (g.T.Preprocessor.preprocessed c.finish-answer.new.tool) (g.T.Preprocessor.compiled c.args.tool.now) (g.T.Preprocessor.compiled c.finish-answer.new.tool) c.finish-answer.result) (meaning c.args.tool.now) _ _ c.args.config.now.keys found request parsed _ c.in_ok-reason.ensures.tree decided
-    (asked_finished digest_of c.args.config.now.max_kept w old new _ _ _ _ from key k.from (text_fine w p refl from k.fine) runs early k.recorded _ _ (c.finish-answer.ensures.says digest_of w k.prepared) c.finish-answer.ensures.how turn)
+    let runs : ran (g.T.Preprocessor.preprocessed c.answer_prepared-answer.new.tool) = subst ran (sym c.answer_prepared-answer.ensures.preprocesses) (c.prepare.ensures.idle, k.runs) in
+    let early : StopsEarly w (g.T.Preprocessor.preprocessed c.args.tool.now) (g.T.Preprocessor.preprocessed c.answer_prepared-answer.new.tool) = subst (StopsEarly w (g.T.Preprocessor.preprocessed c.args.tool.now)) (sym c.answer_prepared-answer.ensures.preprocesses) c.prepare.ensures.early in
+    let turned : ℕ → Type 0 = λ compiled. KeyedTurn digest_of c.args.config.now.max_kept key (worked w) old.objects new.objects compiled (g.T.Preprocessor.compiled c.answer_prepared-answer.new.tool) c.answer_prepared-answer.result in
+    let turn : turned (g.T.Preprocessor.compiled c.args.tool.now) = subst turned c.prepare.ensures.compiles (c.answer_prepared-answer.ensures.turn digest_of w k.prepared) in
+    of_asked (λ a. AskedTurn digest_of c.args.config.now.max_kept a old new (g.T.Preprocessor.preprocessed c.args.tool.now) (g.T.Preprocessor.preprocessed c.answer_prepared-answer.new.tool) (g.T.Preprocessor.compiled c.args.tool.now) (g.T.Preprocessor.compiled c.answer_prepared-answer.new.tool) c.answer_prepared-answer.result) (meaning c.args.tool.now) _ _ c.args.config.now.keys found request parsed _ c.in_ok-reason.ensures.tree decided
+    (asked_finished digest_of c.args.config.now.max_kept w old new _ _ _ _ from key k.from (text_fine w p refl from k.fine) runs early k.recorded _ _ (c.answer_prepared-answer.ensures.says digest_of w k.prepared) c.answer_prepared-answer.ensures.how turn)
 
 pub returns-in-Ok-clause-steady : goal.returns-in-Ok-clause-steady
 returns-in-Ok-clause-steady g c =
     let prepared = c.in-Ok.ensures.steady in
-    steady_later g.T.Preprocessor g.F.Files c.args.tool.now c.prepare.new.tool c.finish-answer.new.tool c.args.files.now c.prepare.new.files c.finish-answer.new.files
-    (prepared.0, prepared.1 ∙ c.in_ok-reason.ensures.steady) c.finish-answer.result c.finish-answer.ensures.steady
+    steady_later g.T.Preprocessor g.F.Files c.args.tool.now c.prepare.new.tool c.answer_prepared-answer.new.tool c.args.files.now c.prepare.new.files c.answer_prepared-answer.new.files
+    (prepared.0, prepared.1 ∙ c.in_ok-reason.ensures.steady) c.answer_prepared-answer.result c.answer_prepared-answer.ensures.steady
 
 pub returns-in_err-reason-clause-passed : goal.returns-in_err-reason-clause-passed
 returns-in_err-reason-clause-passed g c =
@@ -210,5 +210,5 @@ returns-in-Ok-clause-passed g c =
     let parsed = c.in-Asks.plan.parsed in
     let decided : asks parsed ≡ verdict_of found.kind (words_at found request (tree c.args.files.now)) = rw c.in-Asks.is at c.in_ok-reason.ensures.verdict in
     let asked : Bytes → Type 0 = IsAskedEarly (by_c found) request (tree c.args.files.now) in
-    let result = c.finish-answer.result in
+    let result = c.answer_prepared-answer.result in
     of_asked (λ a. IfErr result (λ f. OfPassed a (EarlyCause asked f))) (g.T.Preprocessor.meaning c.args.tool.now) _ _ c.args.config.now.keys found request parsed _ c.in_ok-reason.ensures.tree decided (not_passed result)

@@ -1,0 +1,11 @@
+use Rattle.std.specs.Prelude.{filter}
+use Rattle.os_files.specs.Bytes.{Bytes}
+use Rattle.rustc_parts.specs.Orders.{pair_cmp}
+use Rattle.rustc_texts.specs.Variables.{compiles_with}
+use Rattle.rustkeys.proofs.SortLemmas.{in_order_is}
+use Rattle.rustkeys.proofs.ordered_lists.compile_env_of.Goals as goal
+
+pub returns : goal.returns
+returns c =
+    let order = c.variables_have_one_order.ensures in
+    in_order_is pair_cmp order.pairs order.pairs_tie (filter (λ (pair : Bytes × Bytes). compiles_with pair.0) c.args.env.now) c.compile_env.result c.compile_env.ensures.same c.compile_env.ensures.sorted

@@ -1,7 +1,0 @@
-use Rattle.std.proofs.Common.{◌≡◌, map, take}
-use Rattle.os_files.specs.Path.{join}
-use Rattle.rustkeys_base.proofs.libraries.joined.Given as goal
-
--- a path for each so far
-abbrev pub invariant-loop-path : goal.invariant-loop-path
-invariant-loop-path l = l.list.items ≡ map (join l.dir) (take l.path-index l.paths)
