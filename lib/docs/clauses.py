@@ -113,13 +113,14 @@ def owner_of(head):
 
 
 def exports(crate):
-    """The names of public modules and of what a crate's head hands on."""
-    names = set()
-    for path in (TOP / "crates" / crate / "src").glob("**/*.rt"):
-        text = read(path)
+    """The names of public modules and of their types, and of what a crate's head hands on."""
+    names, texts = set(), {path.stem: read(path) for path in (TOP / "crates" / crate / "src").glob("**/*.rt")}
+    for text in texts.values():
         names.update(re.findall(r"^pub mod (\w+)", text, re.M))
         for found in re.findall(r"^pub use ([^;]*);", text, re.M):
             names.update(re.findall(r"\w+", found.rpartition("::")[2]))
+    for module in names & texts.keys():
+        names.update(re.findall(r"^pub (?:struct|enum) (\w+)", texts[module], re.M))
     return names
 
 

@@ -8,7 +8,7 @@ pub mod call;
 pub mod groups;
 pub mod kind;
 pub mod lanes;
-pub mod line;
+mod line;
 pub mod log;
 pub mod ninja;
 pub mod sums;

@@ -6,6 +6,6 @@ pub mod error;
 pub mod file_digests;
 pub mod folder;
 pub mod limit;
-pub mod listing;
+mod listing;
 pub mod making_room;
-pub mod sizes;
+mod sizes;

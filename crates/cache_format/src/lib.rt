@@ -2,10 +2,10 @@
 //! its bytes, so that what is read is what was written.
 #![tactic(auto)]
 
-pub mod codes;
+mod codes;
 pub mod kept_crate;
 pub mod kept_manifest;
 pub mod kept_parts;
 pub mod kept_result;
-pub mod layout;
+mod layout;
 pub mod sealed;

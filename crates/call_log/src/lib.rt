@@ -3,4 +3,4 @@
 
 pub mod facts;
 pub mod front;
-pub mod named;
+mod named;

@@ -2,10 +2,10 @@
 //! layers below that a caller of a key uses. Words, compilers and files are handed on by `cmdlines`.
 #![tactic(auto)]
 
-pub mod call_list;
+mod call_list;
 pub mod compiler;
 pub mod compiler_impl;
-pub mod contents;
+mod contents;
 mod entry;
 pub mod hasher;
 mod known;
@@ -38,6 +38,7 @@ pub use cmdlines_tables::compiler::CCompilerKind;
 pub use cmdlines_tables::language::Language;
 pub use compiler::CCompiler;
 pub use compiler_impl::CCompilerImpl;
+pub use contents::KeyContents;
 pub use entry_keys::entry_key::EntryKey;
 pub use entry_keys::sights::preprocessor_cache_entry_hash_key;
 pub use hasher::CCompilerHasher;

@@ -5,12 +5,12 @@
 mod closing;
 pub mod command;
 mod engine;
-pub mod facts;
+mod facts;
 pub mod found;
 pub mod gcc;
 pub mod kinds;
 pub mod laws;
-pub mod lists;
+mod lists;
 pub mod msvc;
 pub mod uncached_words;
 

@@ -4,4 +4,4 @@
 mod clang_files;
 pub mod compilers;
 pub mod native;
-pub mod parts;
+mod parts;

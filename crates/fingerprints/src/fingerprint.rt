@@ -24,8 +24,8 @@ ghost use Rattle.fingerprints.specs.Telling.{OnReason, Tells};
 
 use crate::c_parts::CParts;
 use crate::pieces::{assembler_of, cached_variables, stripped};
+use ckeys::KeyContents;
 use ckeys::compiler_impl::CCompilerImpl;
-use ckeys::contents::KeyContents;
 use ckeys_base::hash_state::HashState;
 use ckeys_records::config::KeyConfig;
 use ckeys_records::fault::Fault;

@@ -4,7 +4,7 @@
 
 pub mod dependencies;
 pub mod placed;
-pub mod tables;
+mod tables;
 pub mod text_words;
 pub mod variables;
 pub mod words;

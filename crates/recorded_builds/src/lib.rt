@@ -11,4 +11,4 @@ pub mod reported_entries;
 pub mod snapshot;
 pub mod summary;
 pub mod tally;
-pub mod verdict;
+mod verdict;

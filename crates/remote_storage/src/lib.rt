@@ -2,7 +2,7 @@
 //! and answer what it likes: what isn't sealed is as if nothing came.
 #![tactic(auto)]
 
-pub mod asking;
+mod asking;
 mod failures;
 pub mod manifests;
 pub mod results;

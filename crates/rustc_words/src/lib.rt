@@ -2,5 +2,5 @@
 //! and the compiler, and nothing else is written. docs/WRAPPER.md says why others are passed through.
 #![tactic(auto)]
 
-pub mod tables;
+mod tables;
 pub mod words;

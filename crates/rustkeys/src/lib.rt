@@ -12,7 +12,7 @@ mod finishing;
 pub mod hasher;
 pub mod laws;
 mod ordered_lists;
-pub mod place;
+mod place;
 
 pub use answers::RustcAnswers;
 pub use compilation::RustCompilation;

@@ -3,7 +3,7 @@
 
 pub mod error;
 pub mod key;
-pub mod lines;
+mod lines;
 pub mod places;
 pub mod reading;
 pub mod settings;

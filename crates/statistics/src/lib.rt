@@ -7,4 +7,4 @@ pub mod counts;
 pub mod error;
 pub mod file;
 pub mod names;
-pub mod record;
+mod record;

@@ -2,12 +2,12 @@
 //! its settings, and links by which it runs in place of compilers.
 #![tactic(auto)]
 
-pub mod asked;
-pub mod clearing;
+mod asked;
+mod clearing;
 pub mod doing;
-pub mod error;
+mod error;
 pub mod help;
-pub mod links;
-pub mod reading;
-pub mod settings_shown;
-pub mod statistics_shown;
+mod links;
+mod reading;
+mod settings_shown;
+mod statistics_shown;
