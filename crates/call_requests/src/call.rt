@@ -48,12 +48,12 @@ fn env_of(
             read.insert(name.clone()?, value.clone()?)?;
         }
     }
-    let mut told = Listed::new(alloc);
+    let mut variables = Listed::new(alloc);
     for (name, value) in read {
-        told.push((name, value))?;
+        variables.push((name, value))?;
     }
-    told.push(additions.variable(alloc)?)?;
-    Ok(told)
+    variables.push(additions.variable(alloc)?)?;
+    Ok(variables)
 }
 
 /// Whether a word names an input, a language or an option by which an object has the input's place in it, though no text shows that.

@@ -66,8 +66,8 @@ fn run_on<R: Print + Eprint + Input + AllocGlobal>(rt: &R) -> Result<(), Stop> {
         .read_to_string(&mut rows)
         .map_err(|error| input_stop(&error))?;
     for row in rows.as_str().lines() {
-        let told = if is_right(rt, row)? { "right" } else { "wrong" };
-        println!(rt; "{row}: {told}").map_err(|_error: io::Error| Stop::Output)?;
+        let word = if is_right(rt, row)? { "right" } else { "wrong" };
+        println!(rt; "{row}: {word}").map_err(|_error: io::Error| Stop::Output)?;
     }
     Ok(())
 }

@@ -78,13 +78,13 @@ fn difference_of(
 ) -> Result<String, HostError> {
     match (explain(one, earlier), one, earlier) {
         (Some(Part::Text), Fingerprint::C(parts), Fingerprint::C(others)) => {
-            let told = TextDifference::between(alloc, &parts.text, &others.text)?;
-            Ok(format!(in alloc; "{}: {told}", Part::Text)?)
+            let difference = TextDifference::between(alloc, &parts.text, &others.text)?;
+            Ok(format!(in alloc; "{}: {difference}", Part::Text)?)
         }
         (Some(Part::Variables), Fingerprint::C(parts), Fingerprint::C(others)) => {
             let variables = parts.variables.as_slice();
             match difference(alloc, variables, others.variables.as_slice())? {
-                Some(told) => Ok(told),
+                Some(difference) => Ok(difference),
                 None => Ok(format!(in alloc; "{}", Difference { one, earlier })?),
             }
         }
@@ -98,8 +98,8 @@ fn difference_in_bytes(
     one: &Fingerprint,
     earlier: &Fingerprint,
 ) -> Result<OsBytes, HostError> {
-    let told = difference_of(alloc, one, earlier)?;
-    Ok(OsBytes::from_vec(told.into_bytes()))
+    let text = difference_of(alloc, one, earlier)?;
+    Ok(OsBytes::from_vec(text.into_bytes()))
 }
 
 /// What differs from the request whose parts were kept.
@@ -109,9 +109,9 @@ fn difference_from(
     kept: &KeptParts,
 ) -> Result<OsBytes, HostError> {
     let earlier = Fingerprint::C(parts_of(alloc, kept)?);
-    let told = difference_in_bytes(alloc, one, &earlier);
+    let difference = difference_in_bytes(alloc, one, &earlier);
     drop(earlier);
-    told
+    difference
 }
 
 /// What differs from the request whose parts lie under that name; nothing where there was none.
@@ -161,9 +161,9 @@ fn note_parts<R: Files + AllocGlobal>(
     };
     let difference = difference_there(rt, folder, name, one)?;
     let kept = kept_parts(rt.alloc(), parts, difference)?;
-    let told = keep(rt, folder, name, &kept);
+    let difference = keep(rt, folder, name, &kept);
     drop(kept);
-    told
+    difference
 }
 
 /// Keeps of what the key of a request was made, by its fingerprint, which has its text in short from now on.
@@ -189,9 +189,9 @@ pub fn note_fingerprint<R: Files + AllocGlobal, F: CallFiles>(
     files: &mut F,
 ) -> Result<String, HostError> {
     let mut one = fingerprint;
-    let told = note_short(rt, line, request, &mut one, files);
+    let difference = note_short(rt, line, request, &mut one, files);
     drop(one);
-    told
+    difference
 }
 
 /// What words ask Gcc for. No file is opened.
@@ -264,10 +264,10 @@ fn tell_of<R: Print + AllocGlobal>(
     found: &Option<KeptParts>,
     object: Option<&OsBytes>,
 ) -> Result<(), HostError> {
-    let told = told_of(rt.alloc(), found)?;
+    let text = told_of(rt.alloc(), found)?;
     match object {
-        Some(path) => println!(rt; "{path}: {told}")?,
-        None => println!(rt; "{told}")?,
+        Some(path) => println!(rt; "{path}: {text}")?,
+        None => println!(rt; "{text}")?,
     }
     Ok(())
 }

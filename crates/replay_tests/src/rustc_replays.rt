@@ -312,19 +312,19 @@ fn ask(
 /// What an answer says, and what is lacking.
 fn text_of(
     alloc: Global,
-    told: &SessionAnswer<Sha256>,
+    answered: &SessionAnswer<Sha256>,
     tool: &ReplayTool,
 ) -> Result<String, AllocError> {
     let mut text = String::new(alloc);
-    push_answer(&mut text, &told.answer)?;
+    push_answer(&mut text, &answered.answer)?;
     push_wanted(&mut text, &tool.wanted)?;
     Ok(text)
 }
 
 /// What the first request is answered from what this tool recorded.
 fn told_by_tool(alloc: Global, tool: &mut ReplayTool) -> Result<String, Fail> {
-    let told = ask(alloc, FIRST, tool, None)?;
-    Ok(text_of(alloc, &told, tool)?)
+    let answered = ask(alloc, FIRST, tool, None)?;
+    Ok(text_of(alloc, &answered, tool)?)
 }
 
 /// What is recorded of the first request, changed so.
@@ -392,8 +392,8 @@ const LACKING: [(Change, &str, &str, &str); 11] = [
 fn what_is_lacking_is_told(rt: HostRuntime) -> Result<(), Fail> {
     for (change, fault, words, paths) in LACKING {
         let want = format!(in rt.alloc(); "fault {fault}: {words}{paths}")?;
-        let told = told_with(rt.alloc(), change)?;
-        is_that(told.as_str(), want.as_str(), fault)?;
+        let text = told_with(rt.alloc(), change)?;
+        is_that(text.as_str(), want.as_str(), fault)?;
     }
     Ok(())
 }
@@ -401,11 +401,11 @@ fn what_is_lacking_is_told(rt: HostRuntime) -> Result<(), Fail> {
 /// What the session's first request makes: its key, and its outputs by name.
 fn kept_of(
     alloc: Global,
-    told: &SessionAnswer<Sha256>,
+    answered: &SessionAnswer<Sha256>,
 ) -> Result<Option<(StoreKey, Pairs)>, AllocError> {
     let (Ok(Answer::Outputs { map, .. }), Some(key)) = (
-        &told.answer,
-        told.session.objects().asked(),
+        &answered.answer,
+        answered.session.objects().asked(),
     ) else {
         return Ok(None);
     };
@@ -426,10 +426,10 @@ fn whole_tool(alloc: Global, on_names: &str) -> Result<ReplayTool, AllocError> {
 /// What is kept of the first request, once it was compiled.
 fn kept(alloc: Global) -> Result<Option<(StoreKey, Pairs)>, Fail> {
     let mut tool = whole_tool(alloc, ON_NAMES)?;
-    let told = ask(alloc, FIRST, &mut tool, None)?;
+    let answered = ask(alloc, FIRST, &mut tool, None)?;
     drop(tool);
-    let kept = kept_of(alloc, &told);
-    drop(told);
+    let kept = kept_of(alloc, &answered);
+    drop(answered);
     Ok(kept?)
 }
 
@@ -441,18 +441,18 @@ fn told_by(
     kept: Option<(StoreKey, Pairs)>,
 ) -> Result<String, Fail> {
     let mut tool = whole_tool(alloc, on_names)?;
-    let told = ask(alloc, line, &mut tool, kept)?;
-    let text = text_of(alloc, &told, &tool);
-    drop(told);
+    let answered = ask(alloc, line, &mut tool, kept)?;
+    let text = text_of(alloc, &answered, &tool);
+    drop(answered);
     drop(tool);
     Ok(text?)
 }
 
 #[test]
 fn recorded_answers_are_served(rt: HostRuntime) -> Result<(), Fail> {
-    let told = told_by(rt.alloc(), FIRST, ON_NAMES, None)?;
+    let text = told_by(rt.alloc(), FIRST, ON_NAMES, None)?;
     is_that(
-        told.as_str(),
+        text.as_str(),
         "Fresh libfoo.rlib out/libfoo.rlib library out/foo.d: foo.rs\n\nout/libfoo.rlib: foo.rs\n\nfoo.rs:\n",
         "first",
     )
@@ -461,9 +461,9 @@ fn recorded_answers_are_served(rt: HostRuntime) -> Result<(), Fail> {
 #[test]
 fn kept_outputs_are_served_without_a_compile(rt: HostRuntime) -> Result<(), Fail> {
     let kept = kept(rt.alloc())?;
-    let told = told_by(rt.alloc(), SECOND, SECOND_ON_NAMES, kept)?;
+    let text = told_by(rt.alloc(), SECOND, SECOND_ON_NAMES, kept)?;
     is_that(
-        told.as_str(),
+        text.as_str(),
         "Stored libfoo.rlib out2/libfoo.rlib library out2/foo.d: foo.rs\n\nout2/libfoo.rlib: foo.rs\n\nfoo.rs:\n",
         "second",
     )

@@ -100,11 +100,11 @@ fn parse<R: Files + AllocGlobal>(
 
 /// A pass for that reason, as the session reports it.
 fn pass(alloc: Global, reason: &str, more: Option<String>) -> Result<RustcEnd, HostError> {
-    let told = match more {
+    let reason = match more {
         Some(more) => format!(in alloc; "pass: {reason}: {}", more.as_str())?,
         None => format!(in alloc; "pass: {reason}")?,
     };
-    Ok(RustcEnd::pass(told))
+    Ok(RustcEnd::pass(reason))
 }
 
 /// The target that a word names.

@@ -132,7 +132,7 @@ fn may_keep<R: Files + AllocGlobal>(
     }
     match (dep_info, known.written_dep_info(rt)?) {
         (None, _) => Ok(true),
-        (Some(told), Some(written)) => Ok(told.as_bytes() == written.as_slice()),
+        (Some(kept), Some(written)) => Ok(kept.as_bytes() == written.as_slice()),
         (Some(_), None) => Ok(false),
     }
 }

@@ -25,8 +25,8 @@ use std::rt::Files;
 const OF_RUSTC: &[u8] = b"rustc";
 
 /// Whether variables that sources name have the values that a text gives.
-fn are_set_so(line: &CommandLine, told: &[EnvDep]) -> bool {
-    told.iter().all(|dep| {
+fn are_set_so(line: &CommandLine, variables: &[EnvDep]) -> bool {
+    variables.iter().all(|dep| {
         let pair = line.env.as_slice().iter().find(|pair| pair.0 == dep.name);
         match (pair, &dep.value) {
             (Some(pair), Some(value)) => pair.1 == *value,
@@ -77,8 +77,8 @@ fn sources_in<R: Files + AllocGlobal>(
     let Ok(sources) = parse_dep_info(alloc, text, line.dir.as_bytes()) else {
         return Ok(None);
     };
-    let told = parse_env_dep_info(alloc, text)?;
-    if !are_set_so(line, told.as_slice()) || !have_no_others(rt, sources.as_slice())? {
+    let variables = parse_env_dep_info(alloc, text)?;
+    if !are_set_so(line, variables.as_slice()) || !have_no_others(rt, sources.as_slice())? {
         return Ok(None);
     }
     Ok(Some(sources))
@@ -160,10 +160,10 @@ impl KnownCrate {
         text: &OsBytes,
     ) -> Result<(), HostError> {
         let alloc = rt.alloc();
-        let Ok(told) = str::from_utf8(text.as_bytes()) else {
+        let Ok(readable) = str::from_utf8(text.as_bytes()) else {
             return Ok(());
         };
-        let Ok(sources) = parse_dep_info(alloc, told, line.dir.as_bytes()) else {
+        let Ok(sources) = parse_dep_info(alloc, readable, line.dir.as_bytes()) else {
             return Ok(());
         };
         let before = settled_before(line.moment);

@@ -115,9 +115,9 @@ fn behind_target(text: &[u8]) -> &[u8] {
 }
 
 /// The variable that passes to the session what a crate is made of.
-fn sources_variable(alloc: Global, told: &[u8]) -> Result<(OsBytes, OsBytes), HostError> {
+fn sources_variable(alloc: Global, text: &[u8]) -> Result<(OsBytes, OsBytes), HostError> {
     let name = OsBytes::from_slice(alloc, SOURCES.as_bytes())?;
-    let digest = digest_of(alloc, told)?;
+    let digest = digest_of(alloc, text)?;
     Ok((name, OsBytes::from_vec(digest.into_bytes())))
 }
 

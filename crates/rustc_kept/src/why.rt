@@ -42,9 +42,9 @@ fn tell<R: Print + Files + AllocGlobal>(
     parsed: &ParsedArguments,
 ) -> Result<(), HostError> {
     let name = name_of_parts(rt.alloc(), dir.as_bytes(), parsed)?;
-    let told = told_of_parts(rt, kept, name.as_str())?;
+    let difference = told_of_parts(rt, kept, name.as_str())?;
     let made = &parsed.crate_name;
-    println!(rt; "{made}: {told}")?;
+    println!(rt; "{made}: {difference}")?;
     Ok(())
 }
 

@@ -67,8 +67,8 @@ fn other_types(alloc: Global, names: &[OsBytes]) -> Result<Option<Refusal>, Allo
         return Ok(None);
     }
     let names = joined_by_commas(alloc, names)?;
-    let told = format!(in alloc; "{names}")?;
-    Ok(Some(Refusal::CannotCache("crate-type", Some(told))))
+    let text = format!(in alloc; "{names}")?;
+    Ok(Some(Refusal::CannotCache("crate-type", Some(text))))
 }
 
 /// Options of code generation under which nothing is kept.

@@ -60,12 +60,13 @@ fn both(one: Outcome, other: Outcome) -> Outcome {
 /// Whether a key is that of a row, and all that comes with it is there.
 fn is_whole(made: &Made, row: &Row) -> bool {
     let outputs = made.0.outputs();
-    let told = match &made.3 {
+    let has_text = match &made.3 {
         Some(text) => text.as_bytes() == row.text,
         None => row.text.is_empty(),
     };
     let name = b"libfoo.rlib".as_slice();
-    told && made.1.as_str() == row.key
+    has_text
+        && made.1.as_str() == row.key
         && outputs.len() == 1
         && outputs.iter().all(|output| output.0.as_bytes() == name)
 }

@@ -133,8 +133,8 @@ const CALLS: [(bool, bool, i32, &[&str], &str); 4] = [
 fn calls_in_order(rt: HostRuntime) -> Result<(), Fail> {
     laws::<Sha256>();
     for (direct, gives, status, lines, expected) in CALLS.iter() {
-        let told = told_in_order(rt.alloc(), *direct, *gives, *status, lines)?;
-        is_that(told.as_str(), expected, "in order")?;
+        let text = told_in_order(rt.alloc(), *direct, *gives, *status, lines)?;
+        is_that(text.as_str(), expected, "in order")?;
     }
     Ok(())
 }

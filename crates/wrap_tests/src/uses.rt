@@ -50,20 +50,20 @@ const LINES: [&str; 3] = ["-c y.i", "-c y.i", "-c y.i -O2"];
 fn builds_make_each_step_once(rt: HostRuntime) -> Result<(), Fail> {
     let config = config(rt.alloc(), false)?;
     let mut calls = text_calls(rt.alloc(), true, 0, &LINES)?;
-    let told = told_of_build::<Sha256, _, _>(rt.alloc(), config, calls.as_mut_slice())?;
+    let text = told_of_build::<Sha256, _, _>(rt.alloc(), config, calls.as_mut_slice())?;
     let expected =
         "Fresh obj y.o # 1 \"/w/h.h\"\nA\n;Stored obj y.o # 1 \"/w/h.h\"\nA\n;Fresh obj y.o # 1 \"/w/h.h\"\nA\n; kept all: true";
-    is_that(told.as_str(), expected, "a build")
+    is_that(text.as_str(), expected, "a build")
 }
 
 #[test]
 fn calls_are_answered_where_one_pair_is_kept(rt: HostRuntime) -> Result<(), Fail> {
     let config = config(rt.alloc(), false)?;
     let mut calls = text_calls(rt.alloc(), true, 0, &LINES)?;
-    let told = told_within_one::<Sha256, _, _>(rt.alloc(), config, calls.as_mut_slice())?;
+    let text = told_within_one::<Sha256, _, _>(rt.alloc(), config, calls.as_mut_slice())?;
     let expected =
         "Fresh obj y.o # 1 \"/w/h.h\"\nA\n;Stored obj y.o # 1 \"/w/h.h\"\nA\n;Fresh obj y.o # 1 \"/w/h.h\"\nA\n;";
-    is_that(told.as_str(), expected, "one pair")
+    is_that(text.as_str(), expected, "one pair")
 }
 
 /// Adds what came of a step.
@@ -238,8 +238,8 @@ fn steps_and_misses(rt: HostRuntime) -> Result<(), Fail> {
         ),
     ];
     for (gives, earlier, lines, expected) in rows {
-        let told = steps_in_order(rt.alloc(), gives, earlier, lines)?;
-        is_that(told.as_str(), expected, "steps")?;
+        let text = steps_in_order(rt.alloc(), gives, earlier, lines)?;
+        is_that(text.as_str(), expected, "steps")?;
     }
     Ok(())
 }
