@@ -5,7 +5,7 @@ ghost use Rattle.os_files.specs.Bytes.{Bytes};
 ghost use Rattle.rustc_texts.specs.Outputs.{has_name, is_rlib, metadata_name, with_metadata, with_metadata_of};
 ghost use Rattle.rustc_texts.specs.Places.{TellsLast, is_none_of};
 
-use crate::told::{add_name, last_places, stands_from, tell, told_of, untell};
+use crate::name_sets::{add_name, insert_name, last_places, name_set, remove_name, stands_from};
 use os_files::os_bytes::OsBytes;
 use std::alloc::{AllocError, Global};
 use std::collections::BTreeMap;
@@ -63,11 +63,11 @@ fn beside(
     ensures { IfOk result
         (λ made. made.items ≡ fold (with_metadata_of true) names.items libraries.now) }
 {
-    let mut told = told_of(alloc, names.as_slice())?;
+    let mut known = name_set(alloc, names.as_slice())?;
     let mut names = names;
     for library in libraries {
         let name = metadata_name(alloc, library.as_bytes())?;
-        add_name(&mut names, &mut told, name)?;
+        add_name(&mut names, &mut known, name)?;
     }
     Ok(names)
 }
@@ -99,13 +99,13 @@ fn in_place(
     ensures { IfOk result
         (λ made. made.items ≡ fold (with_metadata_of false) names.items libraries.now) }
 {
-    let mut told = told_of(alloc, names.as_slice())?;
+    let mut known = name_set(alloc, names.as_slice())?;
     let last = last_places(alloc, libraries)?;
     let mut made = others(alloc, names, &last)?;
     for (place, library) in libraries.iter().enumerate() {
         let name = metadata_name(alloc, library.as_bytes())?;
-        let is_new = tell(&mut told, &name)?;
-        untell(&mut told, library);
+        let is_new = insert_name(&mut known, &name)?;
+        remove_name(&mut known, library);
         if is_new && !stands_from(&last, place, &name) {
             made.push(name)?;
         }

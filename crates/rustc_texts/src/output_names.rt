@@ -5,7 +5,7 @@ ghost use Rattle.std.specs.List.{list_all};
 ghost use Rattle.rustc_texts.specs.Outputs.{each_once, is_no_binary, is_of_crate, named, output_names, without_binaries, writes_no_binary};
 
 use crate::metadata::{is_rlib, with_metadata};
-use crate::told::add_name;
+use crate::name_sets::add_name;
 use os_files::listed::Listed;
 use os_files::os_bytes::OsBytes;
 use std::alloc::{AllocError, Global};
@@ -16,10 +16,10 @@ fn named(alloc: Global, text: &str) -> Result<Vec<OsBytes>, AllocError>
     ensures { IfOk result (λ names. names.items ≡ named text.now) }
 {
     let mut names = Vec::new(alloc);
-    let mut told = BTreeSet::new(alloc);
+    let mut known = BTreeSet::new(alloc);
     for line in text.lines() {
         let name = OsBytes::from_slice(alloc, line.as_bytes())?;
-        add_name(&mut names, &mut told, name)?;
+        add_name(&mut names, &mut known, name)?;
     }
     Ok(names)
 }

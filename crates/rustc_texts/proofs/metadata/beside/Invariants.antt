@@ -6,5 +6,5 @@ use Rattle.rustc_texts.proofs.metadata.beside.Given as goal
 abbrev pub invariant-loop-library : goal.invariant-loop-library
 invariant-loop-library l = record {
   names : l.names.items ≡ fold (with_metadata_of true) l.fn.names.items (take l.library-index l.libraries);
-  told : Tells l.told l.names.items;
+  told : Tells l.known l.names.items;
 }

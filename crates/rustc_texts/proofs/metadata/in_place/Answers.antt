@@ -30,7 +30,7 @@ loop-place-preserved c =
     let is_new = c.in_ok-is_new.ensures.is_new names c.loop-place.invariant.told in
     let keeps = ap (filter (is_none_of later)) step in
     record {
-      told = λ other. c.untell.ensures (with_name names name) (c.in_ok-is_new.ensures.told names c.loop-place.invariant.told) other ∙ ap (λ (l : List Bytes). has_name l other) step;
+      told = λ other. c.remove_name.ensures (with_name names name) (c.in_ok-is_new.ensures.told names c.loop-place.invariant.told) other ∙ ap (λ (l : List Bytes). has_name l other) step;
       last = c.loop-place.invariant.last;
       made = elim c.if-is_new.branch [
         | then-is_new+then-not-stands_from+in_ok-push w ↦

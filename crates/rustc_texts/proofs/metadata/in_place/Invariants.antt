@@ -9,7 +9,7 @@ abbrev pub invariant-loop-place : goal.invariant-loop-place
 invariant-loop-place l =
     let names : List Bytes = fold (with_metadata_of false) l.fn.names.items (take l.place l.libraries) in
     record {
-      told : Tells l.told names;
+      told : Tells l.known names;
       last : TellsLast l.last l.libraries;
       made : l.made.items ≡ filter (is_none_of (drop l.place l.libraries)) names;
     }

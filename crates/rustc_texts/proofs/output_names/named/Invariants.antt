@@ -6,5 +6,5 @@ use Rattle.rustc_texts.proofs.output_names.named.Given as goal
 abbrev pub invariant-loop-line : goal.invariant-loop-line
 invariant-loop-line l = record {
   names : l.names.items ≡ each_once (map (λ line. line.now) l.yielded);
-  told : Tells l.told l.names.items;
+  told : Tells l.known l.names.items;
 }

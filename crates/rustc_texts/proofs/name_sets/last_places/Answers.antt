@@ -10,7 +10,7 @@ use Rattle.os_files.specs.Bytes.{Bytes}
 use Rattle.rustc_texts.specs.Outputs.{has_name}
 use Rattle.rustc_texts.specs.Places.{is_from}
 use Rattle.rustc_texts.proofs.LastPlaces.{from-cond, has-from}
-use Rattle.rustc_texts.proofs.told.last_places.Goals as goal
+use Rattle.rustc_texts.proofs.name_sets.last_places.Goals as goal
 
 pub loop-place-preserved : goal.loop-place-preserved
 loop-place-preserved c = λ other from.

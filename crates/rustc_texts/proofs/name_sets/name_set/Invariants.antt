@@ -1,7 +1,7 @@
 use Rattle.std.proofs.Common.{take}
 use Rattle.rustc_texts.specs.Outputs.{Tells}
-use Rattle.rustc_texts.proofs.told.told_of.Given as goal
+use Rattle.rustc_texts.proofs.name_sets.name_set.Given as goal
 
 -- the set contains the names so far
 abbrev pub invariant-loop-name : goal.invariant-loop-name
-invariant-loop-name l = Tells l.told (take l.name-index l.names)
+invariant-loop-name l = Tells l.known (take l.name-index l.names)

@@ -10,45 +10,45 @@ use std::alloc::{AllocError, Global};
 use std::collections::{BTreeMap, BTreeSet};
 
 /// Adds a name to a set of names, and returns whether it's new there.
-pub(crate) fn tell(told: &mut BTreeSet<OsBytes>, name: &OsBytes) -> Result<bool, AllocError>
-    ensures told { (names : List Bytes) → Tells told.old names
-        → OnOk result (Tells told.new (with_name names name.now)) }
-    ensures is_new { (names : List Bytes) → Tells told.old names
+pub(crate) fn insert_name(known: &mut BTreeSet<OsBytes>, name: &OsBytes) -> Result<bool, AllocError>
+    ensures told { (names : List Bytes) → Tells known.old names
+        → OnOk result (Tells known.new (with_name names name.now)) }
+    ensures is_new { (names : List Bytes) → Tells known.old names
         → IfOk result (λ is_new. is_new ≡ not (has_name names name.now)) }
 {
-    Ok(told.insert(name.clone()?)?)
+    Ok(known.insert(name.clone()?)?)
 }
 
 /// Takes a name out of a set of names.
-pub(crate) fn untell(told: &mut BTreeSet<OsBytes>, name: &OsBytes)
-    ensures { (names : List Bytes) → Tells told.old names
-        → Tells told.new (without_name names name.now) }
+pub(crate) fn remove_name(known: &mut BTreeSet<OsBytes>, name: &OsBytes)
+    ensures { (names : List Bytes) → Tells known.old names
+        → Tells known.new (without_name names name.now) }
 {
-    told.remove(name);
+    known.remove(name);
 }
 
 /// The set of the names.
-pub(crate) fn told_of(alloc: Global, names: &[OsBytes]) -> Result<BTreeSet<OsBytes>, AllocError>
-    ensures { IfOk result (λ told. Tells told names.now) }
+pub(crate) fn name_set(alloc: Global, names: &[OsBytes]) -> Result<BTreeSet<OsBytes>, AllocError>
+    ensures { IfOk result (λ known. Tells known names.now) }
 {
-    let mut told = BTreeSet::new(alloc);
+    let mut known = BTreeSet::new(alloc);
     for name in names {
-        tell(&mut told, name)?;
+        insert_name(&mut known, name)?;
     }
-    Ok(told)
+    Ok(known)
 }
 
 /// Adds a name, unless it's there, which is looked up in a set of the names.
 pub(crate) fn add_name(
     names: &mut Vec<OsBytes>,
-    told: &mut BTreeSet<OsBytes>,
+    known: &mut BTreeSet<OsBytes>,
     name: OsBytes,
 ) -> Result<(), AllocError>
-    requires { Tells told.old names.old.items }
+    requires { Tells known.old names.old.items }
     ensures names { OnOk result (names.new.items ≡ with_name names.old.items name) }
-    ensures told { OnOk result (Tells told.new names.new.items) }
+    ensures told { OnOk result (Tells known.new names.new.items) }
 {
-    if tell(told, &name)? {
+    if insert_name(known, &name)? {
         names.push(name)?;
     }
     Ok(())
