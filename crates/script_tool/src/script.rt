@@ -29,7 +29,7 @@ pub struct ScriptTool {
     /// Whose folders its outputs don't show.
     pub config: KeyConfig,
     /// What rustc reports.
-    pub told: CrateTexts,
+    pub crate_texts: CrateTexts,
     /// By which its commands to C compilers are read.
     trees: Trees,
     /// What its compilers end with.
@@ -44,9 +44,14 @@ pub struct ScriptTool {
 
 impl ScriptTool {
     /// A tool that has not run yet, whose C compiler strips these folders and whose rustc reports this.
-    pub fn new(config: KeyConfig, told: CrateTexts, trees: Trees, statuses: Statuses) -> ScriptTool
+    pub fn new(
+        config: KeyConfig,
+        crate_texts: CrateTexts,
+        trees: Trees,
+        statuses: Statuses,
+    ) -> ScriptTool
         ensures config { result.config ≡ config }
-        ensures told { result.told ≡ told }
+        ensures told { result.crate_texts ≡ crate_texts }
         ensures preprocessed { result.preprocessed ≡ 0 }
         ensures compiled { result.compiled ≡ 0 }
         ensures failed { result.failed ≡ 0 }
@@ -54,7 +59,7 @@ impl ScriptTool {
     {
         ScriptTool {
             config,
-            told,
+            crate_texts,
             trees,
             statuses,
             preprocessed: 0,
@@ -73,7 +78,7 @@ impl ScriptTool {
         ensures steady { (result ≡ ToolFail.Device → ⊥)
             → (fault ≡ FileFail.Memory) × (self.new.failed ≡ self.old.failed) }
         ensures config { self.new.config ≡ self.old.config }
-        ensures told { self.new.told ≡ self.old.told }
+        ensures told { self.new.crate_texts ≡ self.old.crate_texts }
         ensures preprocessed { self.new.preprocessed ≡ self.old.preprocessed }
         ensures compiled { self.new.compiled ≡ self.old.compiled }
     {
@@ -108,7 +113,7 @@ impl ScriptTool {
         ensures steady { (IsErrOf result ToolFail.Device → ⊥)
             → (self.new.failed ≡ self.old.failed) × (F.failed files.new ≡ F.failed files.old) }
         ensures config { self.new.config ≡ self.old.config }
-        ensures told { self.new.told ≡ self.old.told }
+        ensures told { self.new.crate_texts ≡ self.old.crate_texts }
         ensures preprocessed { self.new.preprocessed ≡ self.old.preprocessed }
         ensures compiled { self.new.compiled ≡ self.old.compiled }
     {
@@ -122,17 +127,17 @@ impl ScriptTool {
 /// A tool whose rustc can be given other texts.
 pub trait RetoldTool: Tool {
     /// From now on its rustc reports these.
-    fn tell(&mut self, told: CrateTexts);
+    fn tell(&mut self, crate_texts: CrateTexts);
 }
 
 impl RetoldTool for ScriptTool {
-    fn tell(&mut self, told: CrateTexts) {
-        self.told = told;
+    fn tell(&mut self, crate_texts: CrateTexts) {
+        self.crate_texts = crate_texts;
     }
 }
 
 impl Preprocessor for ScriptTool {
-    ghost meaning = { λ t. scripted t.config.basedirs t.told };
+    ghost meaning = { λ t. scripted t.config.basedirs t.crate_texts };
 
     ghost preprocessed = { λ t. t.preprocessed };
 
@@ -175,7 +180,7 @@ impl RustcAnswers for ScriptTool {
         _files: &mut F,
     ) -> Result<Printed, ToolFail> {
         self.preprocessed = self.preprocessed.wrapping_add(1);
-        let text = self.told.dep_info.clone()?;
+        let text = self.crate_texts.dep_info.clone()?;
         Ok(Printed { status: 0, text })
     }
 
@@ -186,7 +191,7 @@ impl RustcAnswers for ScriptTool {
         _files: &mut F,
     ) -> Result<Printed, ToolFail> {
         self.preprocessed = self.preprocessed.wrapping_add(1);
-        let text = self.told.file_names.clone()?;
+        let text = self.crate_texts.file_names.clone()?;
         Ok(Printed { status: 0, text })
     }
 
@@ -197,7 +202,7 @@ impl RustcAnswers for ScriptTool {
         _files: &mut F,
     ) -> Result<OsBytes, ToolFail> {
         self.archived = self.archived.wrapping_add(1);
-        Ok(self.told.digest_of(alloc, path)?)
+        Ok(self.crate_texts.digest_of(alloc, path)?)
     }
 }
 
@@ -218,7 +223,7 @@ impl Tool for ScriptTool {
                 let folders = self.config.basedirs();
                 Ok(compiled(alloc, &self.statuses, text, folders, outputs)?)
             }
-            None => match crate_text(alloc, &self.told.dep_info, command, files) {
+            None => match crate_text(alloc, &self.crate_texts.dep_info, command, files) {
                 Ok(text) => Ok(compiled_crate(alloc, &self.statuses, text, outputs)?),
                 Err(fault) => Err(self.failure(Step::Compile, fault)),
             },
