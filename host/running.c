@@ -15,6 +15,10 @@
 
 extern char **environ;
 
+/* What the program has in place of the caller's variables, which it reads from its pipe: its memory comes in large pages where the kernel has
+ * them, of which fewer are to be fetched. */
+static char *const own_variables[] = {"GLIBC_TUNABLES=glibc.malloc.hugetlb=1", NULL};
+
 int text = -1, messages = -1, printed = -1, list = -1;
 volatile sig_atomic_t stopped;
 
@@ -147,7 +151,7 @@ static pid_t launch(const char *file, char **line, const int files[3], int is_pr
         give_back_signals();
         sigprocmask(SIG_SETMASK, &callers, NULL);
     }
-    execve(file, line, environ);
+    execve(file, line, is_program ? own_variables : environ);
     fault = errno;
     _exit(127);
 }

@@ -11,7 +11,7 @@ use os_files::file_time::FileTime;
 use os_files::path::join;
 use source_directives::directives::{Asked, Search};
 use std::alloc::Global;
-use std::collections::{BTreeMap, BTreeSet, HashSet};
+use std::collections::{BTreeMap, HashMap, HashSet};
 use std::fs;
 use std::rt::Files;
 
@@ -22,15 +22,17 @@ pub struct Watching<'d, 'a> {
     /// Until when something must have been changed so that it's certain to have been the same since the call began.
     before: FileTime,
     /// The folders in which something was looked for; nothing where there is none.
-    folders: BTreeMap<String, Option<Folder>>,
+    folders: HashMap<String, Option<Folder>>,
     /// What lies under the paths that were looked at.
-    looked_at: BTreeMap<String, Found>,
+    looked_at: HashMap<String, Found>,
     /// Files that must be as they are, with the digest of their contents, and folders, with an empty one.
     files: BTreeMap<String, (State, String)>,
     /// The paths of the files that the text names.
-    named: BTreeSet<String>,
+    named: HashSet<String>,
     /// The contents of those that are taken in once.
     once: HashSet<&'a [u8]>,
+    /// How long these are.
+    once_lengths: HashSet<usize>,
 }
 
 /// The path of a name in a folder, which may be one of the call's.
@@ -57,11 +59,12 @@ impl<'d, 'a> Watching<'d, 'a> {
         Watching {
             dir,
             before,
-            folders: BTreeMap::new(alloc),
-            looked_at: BTreeMap::new(alloc),
+            folders: HashMap::new(alloc),
+            looked_at: HashMap::new(alloc),
             files: BTreeMap::new(alloc),
-            named: BTreeSet::new(alloc),
+            named: HashSet::new(alloc),
             once: HashSet::new(alloc),
+            once_lengths: HashSet::new(alloc),
         }
     }
 
@@ -74,10 +77,19 @@ impl<'d, 'a> Watching<'d, 'a> {
         is_once: bool,
     ) -> Result<(), Unwatched> {
         let is_new = self.named.insert(String::from_str(alloc, path)?)?;
-        if is_new && is_once && !self.once.insert(contents)? {
-            return Err(Unwatched::Equal);
+        if !is_new || !is_once {
+            return Ok(());
         }
-        Ok(())
+        self.once_lengths.insert(contents.len())?;
+        match self.once.insert(contents)? {
+            true => Ok(()),
+            false => Err(Unwatched::Equal),
+        }
+    }
+
+    /// Whether a file that is taken in once has these contents. Those of most files needn't be hashed to know that none has them.
+    fn has_once(&self, contents: &[u8]) -> bool {
+        self.once_lengths.contains(&contents.len()) && (&self.once).contains(&contents)
     }
 
     /// Whether a folder of that path is there.
@@ -149,7 +161,7 @@ impl<'d, 'a> Watching<'d, 'a> {
             return Err(Unwatched::Changed);
         }
         let contents = read_whole(rt, path)?;
-        if (&self.once).contains(&contents.as_slice()) {
+        if self.has_once(contents.as_slice()) {
             return Err(Unwatched::Equal);
         }
         let digest = digest_of(rt.alloc(), contents.as_slice())?;
@@ -334,14 +346,23 @@ impl<'d, 'a> Watching<'d, 'a> {
         self.is_not_in(rt, beside, name)
     }
 
-    /// Adds the number of the folders that are there, then the folders.
-    fn put_folders(&self, out: &mut Vec<u8>) -> Result<(), Unwatched> {
-        let count = self.folders.values().filter(|it| it.is_some()).count();
-        put_number(out, count as u64)?;
+    /// The folders that are there, by their paths.
+    fn folders_there(&self, alloc: Global) -> Result<BTreeMap<&str, &Folder>, Unwatched> {
+        let mut there = BTreeMap::new(alloc);
         for (path, folder) in self.folders.iter() {
             if let Some(folder) = folder {
-                folder.put(path.as_str(), self.before, out)?;
+                there.insert(path.as_str(), folder)?;
             }
+        }
+        Ok(there)
+    }
+
+    /// Adds the number of the folders that are there, then the folders in the order of their paths.
+    fn put_folders(&self, alloc: Global, out: &mut Vec<u8>) -> Result<(), Unwatched> {
+        let there = self.folders_there(alloc)?;
+        put_number(out, there.len() as u64)?;
+        for (path, folder) in there.iter() {
+            folder.put(path, self.before, out)?;
         }
         Ok(())
     }
@@ -350,7 +371,7 @@ impl<'d, 'a> Watching<'d, 'a> {
     pub fn into_list(self, alloc: Global) -> Result<Vec<u8>, Unwatched> {
         let mut out = Vec::new(alloc);
         put_framed(&mut out, self.dir)?;
-        self.put_folders(&mut out)?;
+        self.put_folders(alloc, &mut out)?;
         put_number(&mut out, self.files.len() as u64)?;
         for (path, file) in self.files.iter() {
             put_framed(&mut out, path.as_bytes())?;
