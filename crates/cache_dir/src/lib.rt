@@ -6,6 +6,6 @@ pub mod error;
 pub mod file_digests;
 pub mod folder;
 pub mod limit;
-mod listing;
+pub mod listing;
 pub mod making_room;
 mod sizes;
