@@ -1,7 +1,7 @@
 //! What the words of a command say of its dependency file. The session isn't given that: what its contents depend on is bound to the key,
 //! and what the compile wrote is kept beside its messages.
 
-use crate::placed::PlacedWords;
+use crate::placed::{PlacedWords, is_among};
 use crate::text_words::dependency_file;
 use os_files::listed::Listed;
 use os_files::os_bytes::OsBytes;
@@ -9,6 +9,12 @@ use std::alloc::{AllocError, Global};
 
 /// Words that ask the preprocessor for a dependency file; its path follows in the same word.
 const FOR_PREPROCESSOR: [&str; 2] = ["-Wp,-MD,", "-Wp,-MMD,"];
+
+/// Words that ask for a dependency file.
+const ASKING: [&str; 2] = ["-MD", "-MMD"];
+
+/// What names its target, in the same word or the next one.
+const OF_TARGET: [&str; 2] = ["-MT", "-MQ"];
 
 /// The path of the dependency file in a word for the preprocessor, and what comes before it.
 pub fn for_preprocessor(word: &[u8]) -> Option<(&'static str, &[u8])> {
@@ -72,20 +78,34 @@ impl<'a> Said<'a> {
         option: &[u8],
         value: &'a [u8],
     ) -> Result<(), AllocError> {
-        match option {
-            b"-MF" => self.path = Some(value),
-            b"-MT" | b"-MQ" => {
-                self.said.push(again(alloc, option)?)?;
-                self.said.push(again(alloc, value)?)?;
-                self.has_target = true;
-            }
-            b"-o" => {
-                self.object = Some(value);
-                self.others.push(again(alloc, value)?)?;
-            }
-            _ => self.others.push(again(alloc, value)?)?,
+        if option == b"-MF".as_slice() {
+            self.path = Some(value);
+            return Ok(());
         }
-        Ok(())
+        if is_among(&OF_TARGET, option) {
+            self.has_target = true;
+            self.said.push(again(alloc, option)?)?;
+            return self.said.push(again(alloc, value)?);
+        }
+        if option == b"-o".as_slice() {
+            self.object = Some(value);
+        }
+        self.others.push(again(alloc, value)?)
+    }
+
+    /// Takes a word that asks for the file, or says something of it in itself. False where it is another one.
+    fn takes_whole(&mut self, word: &'a [u8]) -> bool {
+        let is_asking = is_among(&ASKING, word);
+        if is_asking {
+            self.asked = self.asked.saturating_add(1);
+        }
+        let has_target = OF_TARGET
+            .iter()
+            .any(|option| word.starts_with(option.as_bytes()));
+        if has_target {
+            self.has_target = true;
+        }
+        is_asking || has_target || word == b"-MP".as_slice()
     }
 
     /// Takes a word that is no value, and says whether it is one of those that say something of the dependency file.
@@ -96,20 +116,17 @@ impl<'a> Said<'a> {
             self.said.push(again(alloc, front.as_bytes())?)?;
             return Ok(true);
         }
-        match word {
-            b"-MD" | b"-MMD" => {
-                self.asked = self.asked.saturating_add(1);
-                self.said.push(again(alloc, word)?)?;
-            }
-            b"-MP" => self.said.push(again(alloc, word)?)?,
-            b"-MF" | b"-MT" | b"-MQ" => {}
-            [b'-', b'M', b'F', path @ ..] => self.path = Some(path),
-            [b'-', b'M', b'T' | b'Q', ..] => {
-                self.said.push(again(alloc, word)?)?;
-                self.has_target = true;
-            }
-            _ => return Ok(false),
+        if word == b"-MF".as_slice() || is_among(&OF_TARGET, word) {
+            return Ok(true);
         }
+        if let Some(path) = word.strip_prefix(b"-MF") {
+            self.path = Some(path);
+            return Ok(true);
+        }
+        if !self.takes_whole(word) {
+            return Ok(false);
+        }
+        self.said.push(again(alloc, word)?)?;
         Ok(true)
     }
 
@@ -119,14 +136,33 @@ impl<'a> Said<'a> {
             return Ok(());
         }
         self.others.push(again(alloc, word)?)?;
-        match word {
-            b"-o" => {}
-            [b'-', b'o', object @ ..] => self.object = Some(object),
-            b"-S" => self.said.push(again(alloc, word)?)?,
-            [b'-', ..] => {}
-            _ => self.input = Some(word),
+        if word == b"-S".as_slice() {
+            return self.said.push(again(alloc, word)?);
+        }
+        match word.strip_prefix(b"-o") {
+            Some([]) => {}
+            Some(object) => self.object = Some(object),
+            None if word.starts_with(b"-") => {}
+            None => self.input = Some(word),
         }
         Ok(())
+    }
+
+    /// Takes all words of a command.
+    fn take_words(&mut self, alloc: Global, words: &'a [OsBytes]) -> Result<(), AllocError> {
+        for placed in PlacedWords::of(words) {
+            let word = placed.word.as_bytes();
+            match placed.option {
+                Some(option) => self.take_value(alloc, option.as_bytes(), word)?,
+                None => self.take(alloc, word)?,
+            }
+        }
+        Ok(())
+    }
+
+    /// Whether a file is asked for.
+    fn is_asked(&self) -> bool {
+        self.asked != 0 || self.asked_preprocessor != 0
     }
 
     /// Whether it can't be determined to which of several files the dependencies go.
@@ -134,10 +170,20 @@ impl<'a> Said<'a> {
         self.asked_preprocessor > 1 || (self.asked_preprocessor == 1 && self.asked != 0)
     }
 
+    /// Takes the object as the target of a file that is asked for, where no word names one.
+    fn take_target(&mut self, alloc: Global) -> Result<(), AllocError> {
+        match self.object {
+            Some(object) if self.is_asked() && !self.has_target => {
+                self.said.push(again(alloc, object)?)
+            }
+            _ => Ok(()),
+        }
+    }
+
     /// The path of the dependency file: the one that a word names, or that of the object with another ending, or that of the input in the
     /// folder of the call.
     fn file(&self, alloc: Global) -> Result<Option<OsBytes>, AllocError> {
-        if self.asked == 0 && self.asked_preprocessor == 0 {
+        if !self.is_asked() {
             return Ok(None);
         }
         if let Some(path) = self.path {
@@ -166,26 +212,12 @@ pub fn dependencies_of(
     words: &[OsBytes],
 ) -> Result<Option<Dependencies>, AllocError> {
     let mut found = Said::new(alloc);
-    for placed in PlacedWords::of(words) {
-        let word = placed.word.as_bytes();
-        match placed.option {
-            Some(option) => found.take_value(alloc, option.as_bytes(), word)?,
-            None => found.take(alloc, word)?,
-        }
-    }
+    found.take_words(alloc, words)?;
     if found.is_unclear() {
         return Ok(None);
     }
+    found.take_target(alloc)?;
     let file = found.file(alloc)?;
-    let Said {
-        others,
-        mut said,
-        has_target,
-        object,
-        ..
-    } = found;
-    if let (Some(_), false, Some(object)) = (&file, has_target, object) {
-        said.push(again(alloc, object)?)?;
-    }
+    let Said { others, said, .. } = found;
     Ok(Some(Dependencies { others, said, file }))
 }

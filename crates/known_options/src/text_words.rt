@@ -103,6 +103,52 @@ pub(crate) fn dependency_file(alloc: Global, object: &[u8]) -> Result<Vec<u8>, A
     Ok(path)
 }
 
+/// Pushes what has a dependency file that is asked for written where the command writes it, and with its target, if the object's name gives
+/// these.
+fn push_dependencies(
+    alloc: Global,
+    words: &[OsBytes],
+    pushed: &mut Listed<OsBytes>,
+) -> Result<(), AllocError> {
+    let found = dependencies_in(words);
+    let (true, Some(object)) = (found.is_asked, found.object) else {
+        return Ok(());
+    };
+    if !found.is_named {
+        let path = dependency_file(alloc, object)?;
+        push(alloc, pushed, b"-MF")?;
+        push(alloc, pushed, path.as_slice())?;
+    }
+    if !found.has_target {
+        push(alloc, pushed, b"-MQ")?;
+        push(alloc, pushed, object)?;
+    }
+    Ok(())
+}
+
+/// Pushes what has a list of the files that are read written to that place.
+fn push_list(alloc: Global, list: &str, pushed: &mut Listed<OsBytes>) -> Result<(), AllocError> {
+    for word in ["-MD", "-MF", list, "-MT", "x"] {
+        push(alloc, pushed, word.as_bytes())?;
+    }
+    Ok(())
+}
+
+/// Pushes the words by which the compiler prints a text.
+fn push_all(
+    alloc: Global,
+    words: &[OsBytes],
+    list: Option<&str>,
+    pushed: &mut Listed<OsBytes>,
+) -> Result<(), AllocError> {
+    push_without_object(alloc, words, pushed)?;
+    push_dependencies(alloc, words, pushed)?;
+    if let Some(list) = list {
+        push_list(alloc, list, pushed)?;
+    }
+    push(alloc, pushed, b"-E")
+}
+
 /// The words by which the compiler prints the text of a command with these words, and writes a list of the files that it read to that place,
 /// where one is given. It writes the dependency file of that command, if the words ask for one: without the object's name it would give
 /// that another path and another target.
@@ -112,27 +158,6 @@ pub fn text_words(
     list: Option<&str>,
 ) -> Result<Listed<OsBytes>, AllocError> {
     let mut pushed = Listed::new(alloc);
-    push_without_object(alloc, words, &mut pushed)?;
-    let found = dependencies_in(words);
-    if let (true, Some(object)) = (found.is_asked, found.object) {
-        if !found.is_named {
-            push(alloc, &mut pushed, b"-MF")?;
-            push(
-                alloc,
-                &mut pushed,
-                dependency_file(alloc, object)?.as_slice(),
-            )?;
-        }
-        if !found.has_target {
-            push(alloc, &mut pushed, b"-MQ")?;
-            push(alloc, &mut pushed, object)?;
-        }
-    }
-    if let Some(list) = list {
-        for word in ["-MD", "-MF", list, "-MT", "x"] {
-            push(alloc, &mut pushed, word.as_bytes())?;
-        }
-    }
-    push(alloc, &mut pushed, b"-E")?;
+    push_all(alloc, words, list, &mut pushed)?;
     Ok(pushed)
 }

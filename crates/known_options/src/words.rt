@@ -98,13 +98,13 @@ fn is_named(names: &[u8], name: &[u8]) -> bool {
 
 /// Whether a value is as the table says: a number, any text, or names with commas between them.
 fn fits(said: &[u8], value: &[u8]) -> bool {
-    match said {
-        b"#" => is_number(value),
-        b"*" => true,
-        names => value
-            .split(|byte| *byte == b',')
-            .all(|name| is_named(names, name)),
+    if said == b"#".as_slice() {
+        return is_number(value);
     }
+    said == b"*".as_slice()
+        || value
+            .split(|byte| *byte == b',')
+            .all(|name| is_named(said, name))
 }
 
 /// Whether the table has that word up to its first `=`, and allows what comes after it.
@@ -156,11 +156,8 @@ fn is_level(level: &[u8]) -> bool {
 
 /// Whether it is the path of a file, and not of what another process reads.
 fn is_file(path: &[u8]) -> bool {
-    match path {
-        b"-" => false,
-        b"/dev/null" => true,
-        _ => !path.starts_with(b"/dev/") && !path.starts_with(b"/proc/"),
-    }
+    path == b"/dev/null".as_slice()
+        || path != b"-".as_slice() && !path.starts_with(b"/dev/") && !path.starts_with(b"/proc/")
 }
 
 /// Whether a word that begins with one of `FRONTS`, and may contain a path, is known.
@@ -202,12 +199,16 @@ fn is_known_value(alloc: Global, option: &[u8], value: &[u8]) -> Result<bool, Al
     if takes_any(option) {
         return Ok(!is_among(&NAME_OUTPUT, option) || is_file(value));
     }
-    match option {
-        b"-Xassembler" => is_listed(alloc, ASSEMBLER, value),
-        b"-Xclang" => is_listed(alloc, CLANG, value),
-        b"-mllvm" => is_valued(alloc, LLVM, value),
-        _ => Ok(is_parameter(value)),
+    if option == b"-Xassembler".as_slice() {
+        return is_listed(alloc, ASSEMBLER, value);
     }
+    if option == b"-Xclang".as_slice() {
+        return is_listed(alloc, CLANG, value);
+    }
+    if option == b"-mllvm".as_slice() {
+        return is_valued(alloc, LLVM, value);
+    }
+    Ok(is_parameter(value))
 }
 
 /// Whether a word is known in its place.

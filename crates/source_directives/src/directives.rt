@@ -48,6 +48,38 @@ pub(crate) const MARKS: [u8; 3] = [b'#', b'%', b'?'];
 /// A probe for what may be embedded.
 const EMBED_PROBE: &[u8] = b"__has_embed";
 
+/// What a directive does, if it may take in a file.
+#[derive(Clone, Copy)]
+enum Kind {
+    /// It includes one.
+    Include,
+    /// It includes one from the folders that come after its own.
+    IncludeNext,
+    /// It includes one that may be taken in once alone.
+    Import,
+    /// That depends on what comes after it.
+    Pragma,
+    /// It takes in one in a way that isn't followed.
+    Unfollowed,
+}
+
+/// The words of these directives.
+const KINDS: [(&str, Kind); 6] = [
+    ("include", Kind::Include),
+    ("include_next", Kind::IncludeNext),
+    ("import", Kind::Import),
+    ("pragma", Kind::Pragma),
+    ("embed", Kind::Unfollowed),
+    ("__include_macros", Kind::Unfollowed),
+];
+
+/// The pragmas that ask for a file, by their first word and their second one, where that counts.
+const FILE_PRAGMAS: [(&str, Option<&str>); 3] = [
+    ("GCC", Some("dependency")),
+    ("clang", Some("module")),
+    ("include_alias", None),
+];
+
 /// What a source in UTF-8 may begin with.
 const BYTE_ORDER_MARK: &[u8] = b"\xef\xbb\xbf";
 
@@ -174,13 +206,26 @@ pub(crate) fn stands_alone(line: &[u8], at: usize) -> bool {
     }
 }
 
+/// What a directive of that word does, if it may take in a file.
+fn kind_of(word: &[u8]) -> Option<Kind> {
+    let row = KINDS.iter().find(|row| row.0.as_bytes() == word)?;
+    Some(row.1)
+}
+
+/// Whether a pragma of these two words asks for a file.
+fn asks_for_file(word: &[u8], second: &[u8]) -> bool {
+    FILE_PRAGMAS.iter().any(|row| {
+        row.0.as_bytes() == word && row.1.is_none_or(|it| it.as_bytes() == second)
+    })
+}
+
 /// What comes after a probe, and whether the probe is a `_next` one. None where its name is a part of a longer word.
 fn behind_probe(behind: &[u8]) -> Option<(&[u8], bool)> {
     let (word, rest) = word_ahead(behind);
-    match word {
-        b"" | b"__" => Some((rest, false)),
-        b"_next" | b"_next__" => Some((rest, true)),
-        _ => None,
+    let word = word.strip_suffix(b"__").unwrap_or(word);
+    match word.is_empty() || word == b"_next".as_slice() {
+        true => Some((rest, !word.is_empty())),
+        false => None,
     }
 }
 
@@ -221,10 +266,7 @@ impl<'a> Directives<'a> {
         let (word, rest) = word_ahead(behind_spaces(operand));
         let (second, _) = word_ahead(behind_spaces(rest));
         self.is_once = self.is_once || word == b"once".as_slice();
-        match (word, second) {
-            (b"GCC", b"dependency") | (b"clang", b"module") | (b"include_alias", _) => false,
-            (_, _) => true,
-        }
+        !asks_for_file(word, second)
     }
 
     /// Takes a directive: what comes after its `#`. False where it can't be determined what it asks for.
@@ -234,17 +276,16 @@ impl<'a> Directives<'a> {
         if matches!(operand, [b'\\', ..]) || matches!(behind, [b'/', ..]) {
             return Ok(false);
         }
-        match word {
-            b"include" | b"include_next" => {
-                self.take_included(operand, word.ends_with(b"_next"))
-            }
-            b"import" => {
+        match kind_of(word) {
+            Some(Kind::Include) => self.take_included(operand, false),
+            Some(Kind::IncludeNext) => self.take_included(operand, true),
+            Some(Kind::Import) => {
                 self.is_once = true;
                 self.take_included(operand, false)
             }
-            b"pragma" => Ok(self.take_pragma(operand)),
-            b"embed" | b"__include_macros" => Ok(false),
-            _ => Ok(true),
+            Some(Kind::Pragma) => Ok(self.take_pragma(operand)),
+            Some(Kind::Unfollowed) => Ok(false),
+            None => Ok(true),
         }
     }
 
@@ -273,16 +314,26 @@ impl<'a> Directives<'a> {
     /// Takes the probes of that name in a source, except in the line that defines it. False where it can't be determined what one asks for.
     fn take_probes(&mut self, source: &'a [u8], probe: &[u8]) -> Result<bool, AllocError> {
         for at in memmem::find_iter(source, probe) {
-            if !stands_alone(source, at) {
-                continue;
-            }
-            let line = line_at(source, at);
-            let behind = source.get(at.saturating_add(probe.len())..).unwrap_or(&[]);
-            if !defines(line, probe) && !self.take_probe(line, line_ahead(behind))? {
+            if !self.take_probe_at(source, at, probe)? {
                 return Ok(false);
             }
         }
         Ok(true)
+    }
+
+    /// Takes the probe of that name at that place of a source, except in the line that defines it.
+    fn take_probe_at(
+        &mut self,
+        source: &'a [u8],
+        at: usize,
+        probe: &[u8],
+    ) -> Result<bool, AllocError> {
+        let line = line_at(source, at);
+        if !stands_alone(source, at) || defines(line, probe) {
+            return Ok(true);
+        }
+        let behind = source.get(at.saturating_add(probe.len())..).unwrap_or(&[]);
+        self.take_probe(line, line_ahead(behind))
     }
 
     /// Takes a directive, where one begins at the mark at that place of a source. False where it can't be determined what it asks for:
@@ -362,6 +413,26 @@ fn literal_ahead(behind: &[u8]) -> Option<Asked<'_>> {
     }
 }
 
+/// Adds what a macro stands for whose name comes at that place of a source, if it may be defined there.
+fn add_defined_at<'a>(
+    source: &'a [u8],
+    at: usize,
+    name: &[u8],
+    found: &mut Vec<Asked<'a>>,
+) -> Result<bool, AllocError> {
+    let front = source.get(..at).unwrap_or(&[]);
+    let behind = source.get(at.saturating_add(name.len())..).unwrap_or(&[]);
+    let is_longer = behind.first().is_some_and(|byte| is_letter(*byte));
+    if is_longer || !may_be_defined(front) {
+        return Ok(true);
+    }
+    let Some(asked) = literal_ahead(behind) else {
+        return Ok(false);
+    };
+    found.push(asked)?;
+    Ok(true)
+}
+
 /// Adds what a macro may stand for by its definitions in a source, live or not. False where one of them may be anything but a name in
 /// quotes or brackets.
 pub fn add_defined<'a>(
@@ -370,16 +441,9 @@ pub fn add_defined<'a>(
     found: &mut Vec<Asked<'a>>,
 ) -> Result<bool, AllocError> {
     for at in memmem::find_iter(source, name) {
-        let front = source.get(..at).unwrap_or(&[]);
-        let behind = source.get(at.saturating_add(name.len())..).unwrap_or(&[]);
-        let is_longer = behind.first().is_some_and(|byte| is_letter(*byte));
-        if is_longer || !may_be_defined(front) {
-            continue;
-        }
-        let Some(asked) = literal_ahead(behind) else {
+        if !add_defined_at(source, at, name, found)? {
             return Ok(false);
-        };
-        found.push(asked)?;
+        }
     }
     Ok(true)
 }
