@@ -2,7 +2,7 @@
 
 ghost use Rattle.std.specs.Prelude.{◌≡◌, ◌≤◌};
 
-use crate::finding::{find_out, load_ahead};
+use crate::finding::{find_out, lacking_by, load_ahead};
 use crate::finishing::keep_or_give;
 use blake2::Blake2b256;
 use cache_files::results::Kept;
@@ -81,6 +81,15 @@ impl End {
     }
 }
 
+/// What the session is asked about, again and again.
+#[derive(Clone, Copy)]
+pub(crate) struct AskedCall<'a> {
+    pub(crate) line: &'a CommandLine,
+    pub(crate) request: &'a Request,
+    /// The name of its hint.
+    pub(crate) hint: &'a str,
+}
+
 /// How often a request is tried, each time with more that is known.
 const ATTEMPTS: u32 = 64;
 
@@ -137,19 +146,18 @@ enum Turn {
 /// What becomes of kept outputs.
 fn turn_of<R: Files + AllocGlobal>(
     rt: &R,
-    line: &CommandLine,
-    hint: &str,
+    call: AskedCall<'_>,
     key: Option<&StoreKey>,
     given: &Given<'_>,
     known: &mut Known,
 ) -> Result<Turn, HostError> {
-    if !known.may_go_by_manifest(rt, line, key)? || !known.may_give(rt, key, given.messages)? {
+    if !known.may_go_by_manifest(rt, call.line, key)? || !known.may_give(rt, key, given.messages)? {
         return Ok(Turn::Ask);
     }
     if !have_plain_places(rt, given.outputs)? {
         return Ok(Turn::Pass);
     }
-    match known.is_to_audit(rt.alloc(), line, hint, key, given)? {
+    match known.is_to_audit(rt.alloc(), call.line, call.hint, key, given)? {
         true => Ok(Turn::Ask),
         false => Ok(Turn::Give),
     }
@@ -158,9 +166,8 @@ fn turn_of<R: Files + AllocGlobal>(
 /// Acts on outputs with which the session answered. None where more is known then.
 fn act_on_outputs<P: Print + Files<File = File> + AllocGlobal, I: Read>(
     rt: &P,
-    line: &CommandLine,
+    call: AskedCall<'_>,
     host: &mut Host<I>,
-    hint: &str,
     answered: &SessionAnswer<Blake2b256>,
     given: &Given<'_>,
     known: &mut Known,
@@ -170,10 +177,10 @@ fn act_on_outputs<P: Print + Files<File = File> + AllocGlobal, I: Read>(
     let key = answered.session.objects().asked();
     let turn = match given.how {
         How::Fresh => Turn::Give,
-        _ => turn_of(rt, line, hint, key, given, known)?,
+        _ => turn_of(rt, call, key, given, known)?,
     };
     match turn {
-        Turn::Give => Ok(Some(keep_or_give(rt, line, host, hint, answered, given, known)?)),
+        Turn::Give => Ok(Some(keep_or_give(rt, call, host, answered, given, known)?)),
         Turn::Ask => Ok(None),
         Turn::Pass => Ok(Some(pass(rt.alloc(), "pass: output is no plain file")?)),
     }
@@ -182,9 +189,8 @@ fn act_on_outputs<P: Print + Files<File = File> + AllocGlobal, I: Read>(
 /// Acts on what the session answered, and on what was printed beside the kept outputs that it had for it. None where more is known then.
 fn act_on<P: Print + Files<File = File> + AllocGlobal, I: Read>(
     rt: &P,
-    line: &CommandLine,
+    call: AskedCall<'_>,
     host: &mut Host<I>,
-    hint: &str,
     answered: &SessionAnswer<Blake2b256>,
     messages: Option<&KeptMessages>,
     known: &mut Known,
@@ -200,11 +206,11 @@ fn act_on<P: Print + Files<File = File> + AllocGlobal, I: Read>(
                 outputs: map.as_slice(),
                 messages,
             };
-            act_on_outputs(rt, line, host, hint, answered, &given, known)
+            act_on_outputs(rt, call, host, answered, &given, known)
         }
         Ok(Answer::Pass(reason)) => Ok(Some(End::pass(format!(in alloc; "pass: {reason}")?))),
         Err(fault) => {
-            if find_out(rt, line, host, hint, fault, answered, known)? {
+            if find_out(rt, call, host, lacking_by(fault, answered), known)? {
                 return Ok(None);
             }
             Ok(Some(End::pass(format!(in alloc; "fault: {fault}")?)))
@@ -215,29 +221,25 @@ fn act_on<P: Print + Files<File = File> + AllocGlobal, I: Read>(
 /// One attempt. None where more is known after it.
 fn attempt<P: Print + Files<File = File> + AllocGlobal, I: Read>(
     rt: &P,
-    line: &CommandLine,
+    call: AskedCall<'_>,
     host: &mut Host<I>,
-    request: &Request,
-    hint: &str,
     known: &mut Known,
 ) -> Result<Option<End>, HostError>
     requires { host.old.compiled ≤ 1 }
     ensures { host.new.compiled ≤ 1 }
 {
-    let (answered, messages) = answer_by(rt.alloc(), request, known)?;
-    let end = act_on(rt, line, host, hint, &answered, messages.as_ref(), known);
+    let (answered, messages) = answer_by(rt.alloc(), call.request, known)?;
+    let end = act_on(rt, call, host, &answered, messages.as_ref(), known);
     drop(answered);
     drop(messages);
     end
 }
 
-/// Asks the session about the request until it answers, each time with more that is known.
+/// Asks the session about a call until it answers, each time with more that is known.
 fn ask_until<P: Print + Files<File = File> + AllocGlobal, I: Read>(
     rt: &P,
-    line: &CommandLine,
+    call: AskedCall<'_>,
     host: &mut Host<I>,
-    request: &Request,
-    hint: &str,
     known: &mut Known,
 ) -> Result<End, HostError>
     requires { host.old.compiled ≤ 1 }
@@ -246,9 +248,9 @@ fn ask_until<P: Print + Files<File = File> + AllocGlobal, I: Read>(
 {
     for number in 0..ATTEMPTS {
         if number == 1 {
-            load_ahead(rt, line, hint, known)?;
+            load_ahead(rt, call, known)?;
         }
-        let end = attempt(rt, line, host, request, hint, known)?;
+        let end = attempt(rt, call, host, known)?;
         if let Some(end) = end {
             return Ok(end);
         }
@@ -303,8 +305,7 @@ fn end_audit<R: Files<File = File> + AllocGlobal>(
 /// Keeps of what the key of a request was made, where it was compiled, and gives what differed. What it takes is known, so that nothing runs.
 fn note_made<R: Files + AllocGlobal>(
     rt: &R,
-    line: &CommandLine,
-    request: &Request,
+    call: AskedCall<'_>,
     end: &Result<End, HostError>,
     known: &mut Known,
 ) -> Result<Option<String>, HostError> {
@@ -317,14 +318,14 @@ fn note_made<R: Files + AllocGlobal>(
     match request_fingerprint::<Blake2b256, _, _>(
         alloc,
         &config.keys,
-        request,
+        call.request,
         files,
         &mut known.tool,
     ) {
         Ok(Ok(fingerprint)) => Ok(Some(note_fingerprint(
             rt,
-            line,
-            request,
+            call.line,
+            call.request,
             fingerprint,
             &mut known.files,
         )?)),
@@ -332,22 +333,20 @@ fn note_made<R: Files + AllocGlobal>(
     }
 }
 
-/// Asks the session about the request until it answers, and notes what was compiled.
+/// Asks the session about a call until it answers, and notes what was compiled.
 fn ask_and_note<P: Print + Files<File = File> + AllocGlobal, I: Read>(
     rt: &P,
-    line: &CommandLine,
+    call: AskedCall<'_>,
     host: &mut Host<I>,
-    request: &Request,
-    hint: &str,
     known: &mut Known,
 ) -> Result<End, HostError>
     requires { host.old.compiled ≡ 0 }
     ensures once { host.new.compiled ≤ 1 }
 {
-    let end = ask_until(rt, line, host, request, hint, known);
+    let end = ask_until(rt, call, host, known);
     // What was made is there, whatever becomes of this.
-    let why = note_made(rt, line, request, &end, known).unwrap_or(None);
-    let mut end = end_audit(rt, line, known, end?)?;
+    let why = note_made(rt, call, &end, known).unwrap_or(None);
+    let mut end = end_audit(rt, call.line, known, end?)?;
     end.facts.why = why;
     Ok(end)
 }
@@ -377,8 +376,14 @@ fn ask_with<P: Print + Files<File = File> + AllocGlobal, I: Read>(
     requires { host.old.compiled ≡ 0 }
     ensures once { host.new.compiled ≤ 1 }
 {
-    let hint = hint_name(rt.alloc(), line)?;
-    ask_and_note(rt, line, host, request, hint.as_str(), known)
+    let name = hint_name(rt.alloc(), line)?;
+    let hint = name.as_str();
+    let call = AskedCall {
+        line,
+        request,
+        hint,
+    };
+    ask_and_note(rt, call, host, known)
 }
 
 /// Asks the session about a call of a compiler of that kind, of which nothing is known yet.

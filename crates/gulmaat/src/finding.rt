@@ -2,6 +2,7 @@
 
 ghost use Rattle.std.specs.Prelude.{◌≡◌, ◌≤◌};
 
+use crate::deciding::AskedCall;
 use blake2::Blake2b256;
 use cache_files::manifest_files::name_of_manifest;
 use cache_files::results::Kept;
@@ -13,6 +14,7 @@ use host_protocol::host::Host;
 use host_protocol::host_error::HostError;
 use known_calls::kept::{found, hint_at, kept_under};
 use known_calls::known::Known;
+use os_files::os_bytes::OsBytes;
 use remote_storage::manifests::fetched_manifest;
 use remote_storage::results::fetched;
 use replay::kept_session::SessionAnswer;
@@ -21,6 +23,32 @@ use std::io::Read;
 use std::mem;
 use std::rt::Files;
 use wrap_base::store_key::StoreKey;
+
+/// What a call lacks.
+#[derive(Clone, Copy)]
+pub(crate) enum Lacking<'a> {
+    /// The file of that path.
+    File(&'a OsBytes),
+    /// Its text, and the manifest under that key, where the session asked for one.
+    Text(Option<&'a EntryKey>),
+    /// Its outputs, which the session asked for under that key.
+    Outputs(Option<&'a StoreKey>),
+    /// Nothing that can be found out.
+    Nothing,
+}
+
+/// What a call lacks, as a fault with which the session answered says.
+pub(crate) fn lacking_by<'a>(
+    fault: &'a Fault,
+    answered: &'a SessionAnswer<Blake2b256>,
+) -> Lacking<'a> {
+    match fault {
+        Fault::Read(path) => Lacking::File(path),
+        Fault::Tool(Step::Compile) => Lacking::Outputs(answered.session.objects().asked()),
+        Fault::Tool(_) => Lacking::Text(answered.session.entries().asked()),
+        _ => Lacking::Nothing,
+    }
+}
 
 /// Takes what is kept of a call, in the place of what was taken before. Whether there is something.
 fn take_kept(kept: Option<Kept>, known: &mut Known) -> bool {
@@ -84,15 +112,15 @@ fn look_up_manifest<P: Print + Files + AllocGlobal, I: Read>(
 /// Finds out what the text is: by a manifest, or by the preprocessor. False where it was printed already.
 fn find_text<P: Print + Files<File = File> + AllocGlobal, I: Read>(
     rt: &P,
-    line: &CommandLine,
+    call: AskedCall<'_>,
     host: &mut Host<I>,
-    hint: &str,
     asked: Option<&EntryKey>,
     known: &mut Known,
 ) -> Result<bool, HostError>
     requires { host.old.compiled ≤ 1 }
     ensures { host.new.compiled ≤ 1 }
 {
+    let line = call.line;
     if look_up_manifest(rt, line, host, asked, known)? {
         return Ok(true);
     }
@@ -101,12 +129,12 @@ fn find_text<P: Print + Files<File = File> + AllocGlobal, I: Read>(
     }
     if asked.is_some() {
         known.follow_text(rt, line)?;
-        load_result(rt, line, hint, known)?;
+        load_result(rt, call, known)?;
     }
     Ok(true)
 }
 
-/// Finds out what was made: by an entry, or by the compiler. False where that ran already.
+/// Finds out what was made: by what is kept, or by the compiler. False where that ran already.
 fn find_outputs<P: Print + Files<File = File> + AllocGlobal, I: Read>(
     rt: &P,
     line: &CommandLine,
@@ -123,45 +151,36 @@ fn find_outputs<P: Print + Files<File = File> + AllocGlobal, I: Read>(
     known.record(rt, line, host, key)
 }
 
-/// Finds out what a fault says is lacking. False where nothing is.
+/// Finds out what a call lacks. False where it can't be found out.
 pub(crate) fn find_out<P: Print + Files<File = File> + AllocGlobal, I: Read>(
     rt: &P,
-    line: &CommandLine,
+    call: AskedCall<'_>,
     host: &mut Host<I>,
-    hint: &str,
-    fault: &Fault,
-    answered: &SessionAnswer<Blake2b256>,
+    lacking: Lacking<'_>,
     known: &mut Known,
 ) -> Result<bool, HostError>
     requires { host.old.compiled ≤ 1 }
     ensures { host.new.compiled ≤ 1 }
 {
-    match fault {
-        Fault::Read(path) => known.load(rt, path.clone()?),
-        Fault::Tool(Step::Compile) => {
-            let key = answered.session.objects().asked();
-            find_outputs(rt, line, host, key, known)
-        }
-        Fault::Tool(_) => {
-            let asked = answered.session.entries().asked();
-            find_text(rt, line, host, hint, asked, known)
-        }
-        _ => Ok(false),
+    match lacking {
+        Lacking::File(path) => known.load(rt, path.clone()?),
+        Lacking::Text(asked) => find_text(rt, call, host, asked, known),
+        Lacking::Outputs(key) => find_outputs(rt, call.line, host, key, known),
+        Lacking::Nothing => Ok(false),
     }
 }
 
 /// Loads what was kept under the digest that this command line had last.
 fn load_result<R: Files + AllocGlobal>(
     rt: &R,
-    line: &CommandLine,
-    hint: &str,
+    call: AskedCall<'_>,
     known: &mut Known,
 ) -> Result<(), HostError> {
-    let Some(had) = hint_at(rt, line, hint)? else {
+    let Some(had) = hint_at(rt, call.line, call.hint)? else {
         return Ok(());
     };
     let digest = had.digest.clone()?;
-    let kept = kept_under(rt, line, digest, known.preprocessor.as_bytes())?;
+    let kept = kept_under(rt, call.line, digest, known.preprocessor.as_bytes())?;
     take_kept(kept, known);
     known.hint = Some(had);
     Ok(())
@@ -171,19 +190,18 @@ fn load_result<R: Files + AllocGlobal>(
 /// Without that the text comes first.
 pub(crate) fn load_ahead<R: Files + AllocGlobal>(
     rt: &R,
-    line: &CommandLine,
-    hint: &str,
+    call: AskedCall<'_>,
     known: &mut Known,
 ) -> Result<(), HostError> {
     if known.zone.is_none() || known.tool.text.is_some() {
-        return load_result(rt, line, hint, known);
+        return load_result(rt, call, known);
     }
-    let Some(had) = hint_at(rt, line, hint)? else {
+    let Some(had) = hint_at(rt, call.line, call.hint)? else {
         return Ok(());
     };
     let manifest_name = String::from_str(rt.alloc(), had.manifest_name.as_str())?;
-    if known.look_up_manifest(rt, line, manifest_name)? {
-        let kept = kept_under(rt, line, had.digest.clone()?, &[])?;
+    if known.look_up_manifest(rt, call.line, manifest_name)? {
+        let kept = kept_under(rt, call.line, had.digest.clone()?, &[])?;
         take_kept(kept, known);
     }
     known.hint = Some(had);

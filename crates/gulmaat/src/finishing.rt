@@ -2,7 +2,7 @@
 
 ghost use Rattle.std.specs.Prelude.{◌≡◌};
 
-use crate::deciding::{End, What};
+use crate::deciding::{AskedCall, End, What};
 use blake2::Blake2b256;
 use cache_dir::folder::Kind;
 use cache_dir::making_room::make_room;
@@ -101,14 +101,14 @@ fn finish_manifest<R: Files + AllocGlobal>(
 /// Keeps the manifest and the hint of a call, and sees to it that the limit holds, once for all that the call put.
 fn note_call<R: Files + AllocGlobal>(
     rt: &R,
-    line: &CommandLine,
-    hint: &str,
+    call: AskedCall<'_>,
     answered: &SessionAnswer<Blake2b256>,
     key: &StoreKey,
     is_kept: bool,
     list: Option<&[u8]>,
     known: &Known,
 ) -> Result<(), HostError> {
+    let AskedCall { line, hint, .. } = call;
     let digest_name = into_text(key.digest.clone()?)?;
     let name = known.name_to_note();
     let mut names = Vec::new(rt.alloc());
@@ -185,17 +185,17 @@ fn give_kept<R: Files<File = File> + AllocGlobal>(
 
 /// Keeps outputs that were made afresh, and gives those that were kept, each with what was printed beside them. What was made in the place of
 /// a hit is compared with that, and isn't kept.
-pub fn keep_or_give<P: Print + Files<File = File> + AllocGlobal, I: Read>(
+pub(crate) fn keep_or_give<P: Print + Files<File = File> + AllocGlobal, I: Read>(
     rt: &P,
-    line: &CommandLine,
+    call: AskedCall<'_>,
     host: &mut Host<I>,
-    hint: &str,
     answered: &SessionAnswer<Blake2b256>,
     given: &Given<'_>,
     known: &mut Known,
 ) -> Result<End, HostError>
     ensures { host.new.compiled ≡ host.old.compiled }
 {
+    let line = call.line;
     let Some(key) = answered.session.objects().asked() else {
         return give_without_key(rt, line, given, known);
     };
@@ -211,7 +211,7 @@ pub fn keep_or_give<P: Print + Files<File = File> + AllocGlobal, I: Read>(
     // What was made is there, whatever becomes of this.
     if !matches!(audit, Audit::Differs(_)) {
         let list = list.as_deref();
-        let _ = note_call(rt, line, hint, answered, key, is_kept, list, known);
+        let _ = note_call(rt, call, answered, key, is_kept, list, known);
         let _ = share_call(rt, line, host, key, is_kept, list.is_some(), known);
     }
     let how = match (&audit, &known.audited) {
