@@ -11,10 +11,17 @@ use std::alloc::{AllocError, Global};
 const FOR_PREPROCESSOR: [&str; 2] = ["-Wp,-MD,", "-Wp,-MMD,"];
 
 /// Words that ask for a dependency file.
-const ASKING: [&str; 2] = ["-MD", "-MMD"];
+pub(crate) const ASKING: [&str; 2] = ["-MD", "-MMD"];
 
 /// What names its target, in the same word or the next one.
 const OF_TARGET: [&str; 2] = ["-MT", "-MQ"];
+
+/// Whether a word names the target, or takes the next one as its name.
+pub(crate) fn begins_with_target(word: &[u8]) -> bool {
+    OF_TARGET
+        .iter()
+        .any(|option| word.starts_with(option.as_bytes()))
+}
 
 /// The path of the dependency file in a word for the preprocessor, and what comes before it.
 pub fn for_preprocessor(word: &[u8]) -> Option<(&'static str, &[u8])> {
@@ -99,12 +106,8 @@ impl<'a> Said<'a> {
         if is_asking {
             self.asked = self.asked.saturating_add(1);
         }
-        let has_target = OF_TARGET
-            .iter()
-            .any(|option| word.starts_with(option.as_bytes()));
-        if has_target {
-            self.has_target = true;
-        }
+        let has_target = begins_with_target(word);
+        self.has_target = self.has_target || has_target;
         is_asking || has_target || word == b"-MP".as_slice()
     }
 

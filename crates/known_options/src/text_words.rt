@@ -1,6 +1,7 @@
 //! The words by which a compiler prints the text of a command: the caller's own, except for the object, followed by `-E`.
 
-use crate::placed::{Placed, PlacedWords};
+use crate::dependencies::{ASKING, begins_with_target};
+use crate::placed::{Placed, PlacedWords, is_among};
 use os_files::listed::Listed;
 use os_files::os_bytes::OsBytes;
 use std::alloc::{AllocError, Global};
@@ -24,11 +25,11 @@ impl<'a> Dependencies<'a> {
             self.object = Some(object);
         } else if placed.option.is_some() {
             // It says no more than its option.
-        } else if matches!(word, b"-MD" | b"-MMD") {
+        } else if is_among(&ASKING, word) {
             self.is_asked = true;
         } else if word.starts_with(b"-MF") {
             self.is_named = true;
-        } else if word.starts_with(b"-MT") || word.starts_with(b"-MQ") {
+        } else if begins_with_target(word) {
             self.has_target = true;
         }
     }

@@ -321,15 +321,19 @@ impl<'a> Directives<'a> {
         Ok(true)
     }
 
-    /// Takes the probe of that name at that place of a source, except in the line that defines it.
+    /// Takes the probe of that name at that place of a source, except in the line that defines it. False where it can't be determined what
+    /// it asks for.
     fn take_probe_at(
         &mut self,
         source: &'a [u8],
         at: usize,
         probe: &[u8],
     ) -> Result<bool, AllocError> {
+        if !stands_alone(source, at) {
+            return Ok(true);
+        }
         let line = line_at(source, at);
-        if !stands_alone(source, at) || defines(line, probe) {
+        if defines(line, probe) {
             return Ok(true);
         }
         let behind = source.get(at.saturating_add(probe.len())..).unwrap_or(&[]);
@@ -413,7 +417,8 @@ fn literal_ahead(behind: &[u8]) -> Option<Asked<'_>> {
     }
 }
 
-/// Adds what a macro stands for whose name comes at that place of a source, if it may be defined there.
+/// Adds what a macro stands for whose name comes at that place of a source, if it may be defined there. False where that may be anything but
+/// a name in quotes or brackets.
 fn add_defined_at<'a>(
     source: &'a [u8],
     at: usize,
