@@ -187,6 +187,16 @@ search_names() {
     printf '#define NAME <stdio.h>\n#if __has_include(NAME)\nint value = 1;\n#endif\n' >it.c
     settle
     search_none "$cc: a name that is computed, asked for" $cc
+    # What a file asks for that the text only names by a `#line` directive doesn't count: it isn't read.
+    printf '#include $name\n' >script
+    printf '#line 7 "script"\n#include "value.h"\nint value = VALUE;\n' >it.c
+    settle
+    search_case "$cc: a script that a line names" 'printf "#define VALUE 7\n" >early/value.h' "rm early/value.h" $cc -Iearly -Ilate
+    printf '#if 0\n#include $name\n#endif\n' >script
+    printf '#line 7 "script"\n#include "script"\nint value = 1;\n' >it.c
+    settle
+    search_none "$cc: a script that is included too" $cc
+    rm script
     printf '#define PASTE(a, b) a ## b\nint value = sizeof(PASTE(__DA, TE__));\n' >it.c
     settle
     search_none "$cc: a day that is pasted" $cc

@@ -1,5 +1,6 @@
 //! Tests of what gulmaat builds on, by example: what sources ask for, where compilers look, what is watched, states of files, lines as they were
-//! written, manifests, dependency files, variables, what is bound to keys, what is passed through, and where outputs are put.
+//! written, manifests, dependency files, variables, what is bound to keys, what is passed through, what isn't kept, and where outputs
+//! are put.
 #![tactic(auto)]
 
 #[cfg(test)]
@@ -24,6 +25,8 @@ mod places;
 mod searches;
 #[cfg(test)]
 mod states;
+#[cfg(test)]
+mod unkept;
 #[cfg(test)]
 mod variables;
 #[cfg(test)]

@@ -14,8 +14,10 @@ use host_protocol::command_line::CommandLine;
 use host_protocol::host::Host;
 use host_protocol::host_error::HostError;
 use include_records::record::PreprocessorCacheEntry;
+use os_files::file_time::FileTime;
 use os_files::os_bytes::OsBytes;
 use replay::watched_records::pair_again;
+use searched_folders::EnteredNames;
 use searched_folders::asking::said_of;
 use searched_folders::manifests::{result_holds, with_list, with_results_of, without};
 use searched_folders::texts::{Source, list_of};
@@ -201,8 +203,12 @@ impl Known {
         Ok(false)
     }
 
-    /// The regular files that the text names, of which the first is the input.
-    fn sources(&self, alloc: Global) -> Result<Vec<Source<'_>>, Unwatched> {
+    /// The regular files that the text names, of which the first is the input; where entered ones are given, only these of the others.
+    fn sources(
+        &self,
+        alloc: Global,
+        entered: Option<&EnteredNames<'_>>,
+    ) -> Result<Vec<Source<'_>>, Unwatched> {
         if !self.named.are_all {
             return Err(Unwatched::Computed);
         }
@@ -211,12 +217,39 @@ impl Known {
             let Ok(path) = str::from_utf8(file.path.as_bytes()) else {
                 return Err(Unwatched::Path);
             };
-            if let Some(contents) = file.contents() {
+            let counts = match entered {
+                Some(names) => sources.is_empty() || names.may_have(file.name.as_bytes()),
+                None => true,
+            };
+            if let (true, Some(contents)) = (counts, file.contents()) {
                 let contents = contents.as_bytes();
                 sources.push(Source { path, contents })?;
             }
         }
         Ok(sources)
+    }
+
+    /// What to watch of the text, by what the compiler says of where it looks. A file that only a `#line` directive names takes in nothing, so
+    /// where what a source asks for isn't clear, such files don't count.
+    fn list_by<R: Files + AllocGlobal>(
+        &self,
+        rt: &R,
+        line: &CommandLine,
+        said: &[u8],
+        before: FileTime,
+    ) -> Result<Vec<u8>, Unwatched> {
+        let sources = self.sources(rt.alloc(), None)?;
+        let list = list_of(rt, line, sources.as_slice(), said, before);
+        let (Err(Unwatched::Computed | Unwatched::Pasted), Some(text)) = (&list, &self.tool.text)
+        else {
+            return list;
+        };
+        let names = EnteredNames::of(rt.alloc(), text.printed.text.as_bytes())?;
+        let entered = self.sources(rt.alloc(), Some(&names))?;
+        match entered.len() == sources.len() {
+            true => list,
+            false => list_of(rt, line, entered.as_slice(), said, before),
+        }
     }
 
     /// What to watch of the text that was printed. The compiler runs where it didn't say yet where it looks.
@@ -241,9 +274,8 @@ impl Known {
         if !self.are_unchanged {
             return Err(Unwatched::Changed);
         }
-        let sources = self.sources(rt.alloc())?;
         let said = said_of(rt, line, host, language, before)?;
-        list_of(rt, line, sources.as_slice(), said.as_slice(), before)
+        self.list_by(rt, line, said.as_slice(), before)
     }
 
     /// Keeps a manifest that the session put, in which the text of this key has that list, with the results that were left out.

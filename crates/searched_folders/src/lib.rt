@@ -2,6 +2,7 @@
 #![tactic(auto)]
 
 pub mod asking;
+mod entered;
 pub mod manifests;
 pub mod search_list;
 pub mod shared_lists;
@@ -9,3 +10,5 @@ pub mod texts;
 pub mod unwatched;
 pub mod watch_list;
 pub mod watching;
+
+pub use entered::EnteredNames;

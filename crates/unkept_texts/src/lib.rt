@@ -2,6 +2,4 @@
 #![tactic(auto)]
 
 pub mod directives;
-#[cfg(test)]
-mod rows;
 pub mod times;

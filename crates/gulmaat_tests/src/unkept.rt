@@ -1,8 +1,8 @@
 //! Texts, and whether what is made of them is kept.
 
-use crate::directives::takes_files;
-use crate::times::tells_time;
 use std::test::Fail;
+use unkept_texts::directives::takes_files;
+use unkept_texts::times::tells_time;
 
 /// Texts that take in files.
 const DIRECTIVES: [&str; 24] = [
