@@ -1,20 +1,14 @@
 //! Words of commands: cut by the tree of a compiler's flags or by its tables one after the other, parsed, or copied.
 
 use crate::words::{Tally, copy};
-use cmdlines::kinds::Gcc;
-use cmdlines_base::argument_error::ArgParseError;
-use cmdlines_base::compiler_arguments::CompilerArguments;
-use cmdlines_base::table::{ArgInfo, SearchableArgInfo};
-use cmdlines_tables::compiler::CCompilerKind;
-use cmdlines_tables::compiler_tables::compiler_tree;
-use cmdlines_tables::cutting::arguments_of;
-use cmdlines_tables::embedded_tables::{diab_table, tasking_vx_table};
-use cmdlines_tables::msvc_table::{msvc_dash_table, msvc_slash_table};
-use cmdlines_tables::tables::{clang_table, gnu_table};
-use cmdlines_tables::value::ArgData;
-use os_files::memory_files::MemoryFiles;
-use os_files::os_bytes::OsBytes;
-use response_files::fault::ParseFault;
+use cmdlines::Gcc;
+use cmdlines_base::{ArgInfo, ArgParseError, CompilerArguments, SearchableArgInfo};
+use cmdlines_tables::{
+    ArgData, CCompilerKind, arguments_of, clang_table, compiler_tree, diab_table, gnu_table,
+    msvc_dash_table, msvc_slash_table, tasking_vx_table,
+};
+use os_files::{MemoryFiles, OsBytes};
+use response_files::ParseFault;
 use std::alloc::{AllocError, Global};
 
 /// The kind of compiler of that name.

@@ -1,10 +1,9 @@
 //! Keys of texts without folders, and digests of texts: as they are, and without folders by way of a copy.
 
-use ckeys_base::digest::Digest;
-use ckeys_base::strip::strip_basedirs;
-use ckeys_records::params::HashKeyParams;
+use ckeys_base::{Digest, strip_basedirs};
+use ckeys_records::HashKeyParams;
 use cmdlines_tables::language::Language;
-use os_files::os_bytes::OsBytes;
+use os_files::OsBytes;
 use sha2::Sha256;
 use std::alloc::{AllocError, Global};
 

@@ -4,18 +4,13 @@ ghost use Rattle.std.specs.Prelude.{◌≡◌, IfOk};
 ghost use Rattle.include_records.specs.Records.{includes_in};
 
 use crate::words::Tally;
-use ckeys_base::digest::Digest;
-use include_records::entry::IncludeEntry;
-use include_records::key_text::KeyText;
-use include_records::record::PreprocessorCacheEntry;
-use os_files::file_time::FileTime;
-use os_files::listed::Listed;
-use os_files::memory_files::{MemoryFile, MemoryFiles};
-use os_files::os_bytes::OsBytes;
-use response_files::fault::ParseFault;
+use ckeys_base::Digest;
+use include_records::{IncludeEntry, KeyText, PreprocessorCacheEntry};
+use os_files::{FileTime, Listed, MemoryFile, MemoryFiles, OsBytes};
+use response_files::ParseFault;
 use sha2::Sha256;
 use std::alloc::{AllocError, Global};
-use time_macros::zone::Zone;
+use time_macros::Zone;
 
 /// How many files each result names.
 const FILES: u32 = 100;

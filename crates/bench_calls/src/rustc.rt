@@ -1,14 +1,10 @@
 //! What is read and written for rustc: texts on dependencies, and the bytes of keys.
 
 use crate::words::Tally;
-use os_files::listed::Listed;
-use os_files::os_bytes::OsBytes;
+use os_files::{Listed, OsBytes};
 use rustc_parts::parts::{Parts, RShape};
-use rustc_parts::reading::read_key_bytes;
-use rustc_parts::writing::key_bytes;
-use rustc_texts::dep_info::parse_dep_info;
-use rustc_texts::fault::TextFault;
-use rustc_texts::rewriting::dep_info_with_targets;
+use rustc_parts::{key_bytes, read_key_bytes};
+use rustc_texts::{TextFault, dep_info_with_targets, parse_dep_info};
 use std::alloc::{AllocError, Global};
 
 /// Reads the sources of the text so often.

@@ -1,11 +1,11 @@
 //! Stores: look-ups that find, and look-ups that don't, each with the put that follows it.
 
 use crate::words::Tally;
-use bounded_store::lru_store::LruStore;
-use ckeys_base::store::Store;
+use bounded_store::LruStore;
+use ckeys_base::Store;
 use std::alloc::{AllocError, Global};
 use std::num::NonZeroUsize;
-use wrap_base::map_store::MapStore;
+use wrap_base::MapStore;
 
 /// Looks up so many keys from the first one on, and puts a pair under each that isn't held. It tallies what was found.
 fn turns<S: Store<u64, usize>>(store: &mut S, first: u64, count: u32) -> Tally {

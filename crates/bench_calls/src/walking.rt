@@ -5,15 +5,11 @@ ghost use Rattle.marker_walk.specs.Named.{named_files_of};
 ghost use Rattle.os_files.specs.Path.{join};
 
 use crate::words::Tally;
-use marker_walk::answer::Walk;
-use marker_walk::line::Mark;
-use marker_walk::markers::Markers;
 use marker_walk::walk::walk;
+use marker_walk::{Mark, Markers, Walk};
 use memchr::memchr;
-use os_files::file_time::FileTime;
-use os_files::memory_files::{MemoryFile, MemoryFiles};
-use os_files::os_bytes::OsBytes;
-use response_files::fault::ParseFault;
+use os_files::{FileTime, MemoryFile, MemoryFiles, OsBytes};
+use response_files::ParseFault;
 use std::alloc::{AllocError, Global};
 
 /// The folder of a walk, and the input in it.

@@ -6,15 +6,11 @@ ghost use Rattle.response_files.specs.declared.style.Style.TheVariants.{Gnu};
 ghost use Rattle.response_texts.specs.Decoding.{decoded};
 ghost use Rattle.response_texts.specs.Scanning.{gnu_arguments, msvc_arguments};
 
-use os_files::file_time::FileTime;
-use os_files::memory_files::{MemoryFile, MemoryFiles};
-use os_files::os_bytes::OsBytes;
-use response_files::expansion::expand;
-use response_files::fault::ParseFault;
-use response_files::style::Style;
-use response_texts::decoding::decode_response_text;
-use response_texts::gnu::split_gnu_response_file_args;
-use response_texts::msvc::SplitMsvcResponseFileArgs;
+use os_files::{FileTime, MemoryFile, MemoryFiles, OsBytes};
+use response_files::{ParseFault, Style, expand};
+use response_texts::{
+    SplitMsvcResponseFileArgs, decode_response_text, split_gnu_response_file_args,
+};
 use std::alloc::{AllocError, Global};
 
 /// What the line says of words, or of the texts of files: how many there are, and how many bytes they have together, modulo

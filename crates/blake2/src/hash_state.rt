@@ -5,7 +5,7 @@ ghost use Rattle.blake2.specs.DigestBytes.{AreBytes-blake2b-256, length-blake2b-
 ghost use Rattle.blake2.specs.Hashers.{Holds};
 
 use crate::Blake2b256;
-use ckeys_base::hash_state::HashState;
+use ckeys_base::HashState;
 use std::alloc::{AllocError, Global};
 
 /// BLAKE2b of RFC 7693 with a digest of 32 bytes.

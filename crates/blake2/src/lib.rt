@@ -17,7 +17,7 @@ ghost use Rattle.blake2.specs.Blake2b.{blake2b-256};
 use compress::{compress, first_bytes};
 
 mod compress;
-pub mod hash_state;
+mod hash_state;
 
 const BLOCK_LEN: usize = 128;
 

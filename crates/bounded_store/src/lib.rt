@@ -1,4 +1,6 @@
 //! A store of bounded size, which drops the pair that was least recently used.
 #![tactic(auto)]
 
-pub mod lru_store;
+mod lru_store;
+
+pub use lru_store::LruStore;

@@ -10,7 +10,7 @@ ghost use Rattle.ckeys_base.specs.Shelf.{Asks, Clears, IsEmpty, KeepsKeys, Puts}
 ghost use Rattle.bounded_store.specs.Lent.{StoreRests};
 ghost use Rattle.bounded_store.specs.LruStores.{HasRoomFor, MakesFirst, PutsFirst, capacity_of, count_of, shelf_of, uses_of};
 
-use ckeys_base::store::Store;
+use ckeys_base::Store;
 use lru::LruCache;
 use std::alloc::{AllocError, Global};
 use std::hash::Hash;

@@ -3,13 +3,23 @@
 //! Of what is here nothing is promised but that each function is safe and ends, whatever a log has in it.
 #![tactic(auto)]
 
-pub mod builds;
-pub mod call;
-pub mod groups;
-pub mod kind;
-pub mod lanes;
+mod builds;
+mod call;
+mod groups;
+mod kind;
+mod lanes;
 mod line;
-pub mod log;
-pub mod ninja;
-pub mod sums;
-pub mod texts;
+mod log;
+mod ninja;
+mod sums;
+mod texts;
+
+pub use builds::{beginnings, chosen};
+pub use call::{Call, Ran};
+pub use groups::{Group, groups_of, maker_of};
+pub use kind::Kind;
+pub use lanes::pack;
+pub use log::{Log, read_log};
+pub use ninja::other_commands;
+pub use sums::{Share, Sums};
+pub use texts::{TextId, Texts};

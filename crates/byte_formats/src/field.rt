@@ -11,8 +11,7 @@ ghost use Rattle.byte_formats.specs.FieldFormats.{counted_format, framed_format,
 
 use crate::fault::ReadFault;
 use crate::fields::{put_framed, put_number, put_signed, read_framed, read_number, read_signed};
-use os_files::listed::Listed;
-use os_files::os_bytes::OsBytes;
+use os_files::{Listed, OsBytes};
 use std::alloc::{AllocError, Global};
 
 /// A value that bytes spell: how it is read from the left, how it is spelled, and which values fit.

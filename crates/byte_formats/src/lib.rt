@@ -2,7 +2,15 @@
 //! their count, and choices by a byte.
 #![tactic(auto)]
 
-pub mod fault;
-pub mod field;
-pub mod fields;
-pub mod laws;
+mod fault;
+mod field;
+mod fields;
+mod laws;
+
+pub use fault::ReadFault;
+pub use field::{Field, put_all};
+pub use fields::{
+    put_framed, put_number, put_signed, read_framed, read_number, read_signed, read_taken,
+    read_text,
+};
+pub use laws::framed_parts_are_told;

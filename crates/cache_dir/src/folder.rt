@@ -1,8 +1,7 @@
 //! Whole files in the folder, by kind and name.
 
 use crate::error::CacheDirError;
-use disk_files::rights::{give_rights, make_folders};
-use disk_files::whole::read_whole;
+use disk_files::{give_rights, make_folders, read_whole};
 use std::alloc::Global;
 use std::cell::Cell;
 use std::fs;

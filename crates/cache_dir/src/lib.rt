@@ -2,10 +2,17 @@
 //! the least recently used ones make room, and digests of files that are read again only where they changed.
 #![tactic(auto)]
 
-pub mod error;
-pub mod file_digests;
-pub mod folder;
-pub mod limit;
-pub mod listing;
-pub mod making_room;
+mod error;
+mod file_digests;
+mod folder;
+mod limit;
+mod listing;
+mod making_room;
 mod sizes;
+
+pub use error::CacheDirError;
+pub use file_digests::{digest_of, state_of};
+pub use folder::{CacheDir, Kind};
+pub use limit::{room_within, takes};
+pub use listing::{KeptFile, count_that_fit, order_by_use};
+pub use making_room::{hold_limit, kept_in, make_room, remove_unused};

@@ -2,9 +2,13 @@
 //! of compiled calls were made, with their texts in short. A broken file is as one that isn't there.
 #![tactic(auto)]
 
-pub mod manifest_files;
+mod manifest_files;
 pub mod manifests;
-pub mod part_files;
-pub mod parts;
+mod part_files;
+mod parts;
 pub mod results;
 pub mod short_text;
+
+pub use manifest_files::{manifest_under, name_of_manifest, put_manifest};
+pub use part_files::{name_of_parts, parts_under, put_parts};
+pub use parts::{kept_parts, parts_of};

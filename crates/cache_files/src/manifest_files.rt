@@ -6,16 +6,13 @@ ghost use Rattle.cache_files.specs.Manifests.{row_of};
 
 use crate::manifests::{FoundManifest, found_in, kept_of};
 use blake2::Blake2b256;
-use byte_formats::fields::put_framed;
-use cache_dir::error::CacheDirError;
-use cache_dir::file_digests::digest_of;
-use cache_dir::folder::{CacheDir, Kind};
-use cache_format::kept_manifest::KeptManifest;
-use cache_format::sealed::{seal, unseal};
-use ckeys_base::hash_state::HashState;
+use byte_formats::put_framed;
+use cache_dir::{CacheDir, CacheDirError, Kind, digest_of};
+use cache_format::{KeptManifest, seal, unseal};
+use ckeys_base::HashState;
 use entry_keys::entry_key::EntryKey;
-use include_records::record::PreprocessorCacheEntry;
-use os_files::os_bytes::OsBytes;
+use include_records::PreprocessorCacheEntry;
+use os_files::OsBytes;
 use std::alloc::Global;
 use std::rt::Files;
 

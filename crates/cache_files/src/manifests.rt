@@ -5,15 +5,13 @@ ghost use Rattle.include_records.specs.Layout.{IsRecord, record_bytes};
 ghost use Rattle.include_records.specs.declared.entry.CachedResult.{CachedResult};
 ghost use Rattle.cache_files.specs.Manifests.{included, names_in};
 
-use cache_dir::error::CacheDirError;
-use cache_format::kept_manifest::KeptManifest;
+use cache_dir::CacheDirError;
+use cache_format::KeptManifest;
 use ckeys_base::error::Error;
 use entry_keys::entry_key::EntryKey;
-use include_records::entry::{CachedResult, IncludeEntry};
-use include_records::record::PreprocessorCacheEntry;
-use os_files::listed::Listed;
-use os_files::os_bytes::OsBytes;
-use rustc_options::sets::in_order;
+use include_records::{CachedResult, IncludeEntry, PreprocessorCacheEntry};
+use os_files::{Listed, OsBytes};
+use rustc_options::in_order;
 use std::alloc::{AllocError, Global};
 
 /// A manifest under its key, with the names of the files that its results name, each once, in the order of their bytes, and what to watch of

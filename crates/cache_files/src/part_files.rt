@@ -1,14 +1,11 @@
 //! Parts of calls that are put in the folder and read from it. A broken or missing file is as one that isn't there.
 
 use blake2::Blake2b256;
-use byte_formats::fields::put_framed;
-use cache_dir::error::CacheDirError;
-use cache_dir::file_digests::digest_of;
-use cache_dir::folder::{CacheDir, Kind};
-use cache_format::kept_parts::KeptParts;
-use cache_format::sealed::{seal, unseal};
-use cmdlines_base::command::ArtifactDescriptor;
-use os_files::os_bytes::OsBytes;
+use byte_formats::put_framed;
+use cache_dir::{CacheDir, CacheDirError, Kind, digest_of};
+use cache_format::{KeptParts, seal, unseal};
+use cmdlines_base::ArtifactDescriptor;
+use os_files::OsBytes;
 use std::alloc::{AllocError, Global};
 use std::rt::Files;
 

@@ -3,12 +3,10 @@
 ghost use Rattle.std.specs.Prelude.{◌≡◌, map, IfOk};
 ghost use Rattle.cache_files.specs.Parts.{kept_name, kept_variable, name_in, parts_in, variable_in};
 
-use cache_format::kept_parts::{KeptParts, KeptVariable};
-use cache_format::kept_result::KeptName;
+use cache_format::{KeptName, KeptParts, KeptVariable};
 use ckeys_records::output_name::OutputName;
-use fingerprints::c_parts::CParts;
-use os_files::listed::Listed;
-use os_files::os_bytes::OsBytes;
+use fingerprints::CParts;
+use os_files::{Listed, OsBytes};
 use std::alloc::{AllocError, Global};
 
 /// The variables as they are kept.

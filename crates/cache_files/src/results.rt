@@ -6,13 +6,13 @@ ghost use Rattle.cache_files.specs.Parts.{name_in};
 ghost use Rattle.wrap_base.specs.declared.store_key.Family.TheVariants as families;
 ghost use Rattle.wrap_base.specs.declared.store_key.Shape.TheVariants as shapes;
 
-use cache_format::kept_result::{KeptMessages, KeptName, KeptOutput, KeptResult, KeptShape};
+use cache_format::{KeptMessages, KeptName, KeptOutput, KeptResult, KeptShape};
 use ckeys_records::output_name::OutputName;
 use ckeys_records::shape::CShape;
-use host_protocol::host_error::HostError;
-use os_files::listed::Listed;
+use host_protocol::HostError;
+use os_files::Listed;
 use std::alloc::Global;
-use wrap_base::answer::Output;
+use wrap_base::Output;
 use wrap_base::store_key::{Family, Pairs, Shape, StoreKey};
 
 /// The shape as it is kept.

@@ -7,12 +7,10 @@
 //! same in short, if digests are distinct.
 
 use blake2::Blake2b256;
-use ckeys_base::digest::Digest;
-use marker_walk::line::Mark;
-use marker_walk::markers::Markers;
+use ckeys_base::Digest;
+use marker_walk::{Mark, Markers};
 use memchr::{memchr, memmem};
-use os_files::lossy::Lossy;
-use os_files::os_bytes::OsBytes;
+use os_files::{Lossy, OsBytes};
 use std::alloc::{AllocError, Global};
 use std::collections::{BTreeMap, HashMap, HashSet};
 use std::fmt;

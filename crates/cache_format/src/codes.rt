@@ -4,7 +4,7 @@ ghost use Rattle.std.specs.Prelude.{◌≡◌};
 ghost use Rattle.byte_formats.specs.Reading.{Gives};
 ghost use Rattle.cache_format.specs.Codes.{coded_at, flag_code, flag_of, language_code, language_of};
 
-use byte_formats::fault::ReadFault;
+use byte_formats::ReadFault;
 use cmdlines_tables::language::Language;
 
 fn flag_of(byte: u8) -> Option<bool>

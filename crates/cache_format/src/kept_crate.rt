@@ -3,10 +3,8 @@
 ghost use Rattle.cache_format.specs.KeptCrates.{CrateFits, crate_at, crate_bytes, crate_format};
 
 use crate::kept_result::KeptOutput;
-use byte_formats::fault::ReadFault;
-use byte_formats::field::Field;
-use os_files::listed::Listed;
-use os_files::os_bytes::OsBytes;
+use byte_formats::{Field, ReadFault};
+use os_files::{Listed, OsBytes};
 use std::alloc::{AllocError, Global};
 
 /// What rustc made of a crate, and printed beside it.

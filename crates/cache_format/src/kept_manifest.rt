@@ -2,9 +2,8 @@
 
 ghost use Rattle.cache_format.specs.KeptManifests.{KeptFits, kept_at, kept_bytes, kept_format};
 
-use byte_formats::fault::ReadFault;
-use byte_formats::field::Field;
-use os_files::os_bytes::OsBytes;
+use byte_formats::{Field, ReadFault};
+use os_files::OsBytes;
 use std::alloc::{AllocError, Global};
 
 /// An manifest, as its own bytes, under an entry key of calls in one zone.

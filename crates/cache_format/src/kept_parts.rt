@@ -4,11 +4,9 @@ ghost use Rattle.cache_format.specs.KeptParts.{PartsFit, VariableFits, fields_at
 
 use crate::codes::{flag_code, language_code, read_flag, read_language};
 use crate::kept_result::KeptName;
-use byte_formats::fault::ReadFault;
-use byte_formats::field::Field;
+use byte_formats::{Field, ReadFault};
 use cmdlines_tables::language::Language;
-use os_files::listed::Listed;
-use os_files::os_bytes::OsBytes;
+use os_files::{Listed, OsBytes};
 use std::alloc::{AllocError, Global};
 
 /// A variable that counts.

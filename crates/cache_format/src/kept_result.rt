@@ -1,8 +1,7 @@
 //! Entries: a key with all of its fields, and what was made under it.
 
 use cmdlines_tables::language::Language;
-use os_files::listed::Listed;
-use os_files::os_bytes::OsBytes;
+use os_files::{Listed, OsBytes};
 
 /// The name of an output that was asked for, and whether a compile may leave it out.
 #[derive(Drop)]

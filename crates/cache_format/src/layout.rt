@@ -7,10 +7,8 @@ ghost use Rattle.cache_format.specs.Layout.{EntryFits, MessagesFit, NameFits, Ou
 
 use crate::codes::{flag_code, language_code, read_flag, read_language};
 use crate::kept_result::{KeptMessages, KeptName, KeptOutput, KeptResult, KeptShape};
-use byte_formats::fault::ReadFault;
-use byte_formats::field::Field;
-use os_files::listed::Listed;
-use os_files::os_bytes::OsBytes;
+use byte_formats::{Field, ReadFault};
+use os_files::{Listed, OsBytes};
 use std::alloc::{AllocError, Global};
 
 /// Name and mark.

@@ -3,9 +3,15 @@
 #![tactic(auto)]
 
 mod codes;
-pub mod kept_crate;
-pub mod kept_manifest;
-pub mod kept_parts;
-pub mod kept_result;
+mod kept_crate;
+mod kept_manifest;
+mod kept_parts;
+mod kept_result;
 mod layout;
-pub mod sealed;
+mod sealed;
+
+pub use kept_crate::KeptCrate;
+pub use kept_manifest::KeptManifest;
+pub use kept_parts::{KeptParts, KeptVariable};
+pub use kept_result::{KeptMessages, KeptName, KeptOutput, KeptResult, KeptShape};
+pub use sealed::{Sealed, seal, unseal};

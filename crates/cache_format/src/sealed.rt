@@ -8,9 +8,8 @@ use crate::kept_crate::KeptCrate;
 use crate::kept_manifest::KeptManifest;
 use crate::kept_parts::KeptParts;
 use crate::kept_result::KeptResult;
-use byte_formats::fault::ReadFault;
-use byte_formats::field::Field;
-use ckeys_base::hash_state::HashState;
+use byte_formats::{Field, ReadFault};
+use ckeys_base::HashState;
 use std::alloc::{AllocError, Global};
 
 /// A value that lies in a file of its own.

@@ -2,9 +2,9 @@
 
 use crate::facts::CallFacts;
 use crate::named::named_files;
-use host_protocol::command_line::CommandLine;
+use host_protocol::CommandLine;
 use json_texts::{push_bytes, push_name, push_text};
-use os_files::os_bytes::OsBytes;
+use os_files::OsBytes;
 use std::alloc::{AllocError, Global};
 
 /// Writes a list of byte texts.

@@ -1,6 +1,6 @@
 //! Which input and which output words name, for people: by the usual options alone, and nothing rests on it.
 
-use os_files::os_bytes::OsBytes;
+use os_files::OsBytes;
 
 /// What words name.
 #[derive(Clone, Copy)]

@@ -3,23 +3,18 @@
 
 ghost use Rattle.std.specs.Prelude.{◌≡◌};
 
-use cmdlines_tables::compiler::CCompilerKind;
-use compiler_id::compilers::{KnownCompiler, add_surroundings, compiler_at};
-use compiler_id::native::native_of;
-use host_protocol::command_line::CommandLine;
-use host_protocol::host::Host;
-use host_protocol::host_error::HostError;
-use key_additions::additions::{Additions, VARIABLE};
-use known_options::dependencies::{Dependencies, dependencies_of};
-use known_options::variables::is_read;
-use os_files::listed::Listed;
-use os_files::os_bytes::OsBytes;
-use settings::key::Key;
+use cmdlines_tables::CCompilerKind;
+use compiler_id::{KnownCompiler, add_surroundings, compiler_at, native_of};
+use host_protocol::{CommandLine, Host, HostError};
+use key_additions::{Additions, VARIABLE};
+use known_options::{Dependencies, dependencies_of, is_read};
+use os_files::{Listed, OsBytes};
+use settings::Key;
 use std::alloc::Global;
 use std::collections::BTreeMap;
 use std::io::Read;
 use std::rt::Files;
-use wrap_base::request::Request;
+use wrap_base::Request;
 
 /// Name endings of inputs that are compiled as they are, or whose place an assembler records.
 const WITHOUT_FOLDER: [&str; 5] = [".i", ".ii", ".s", ".S", ".sx"];

@@ -1,15 +1,12 @@
 //! What is passed through before the session is asked, since neither the compiler's words nor its text would determine what was made.
 //! docs/WRAPPER.md says what each variable and option does.
 
-use host_protocol::command_line::CommandLine;
-use host_protocol::host_error::HostError;
-use known_options::dependencies::{dependencies_of, for_preprocessor};
-use known_options::placed::PlacedWords;
-use known_options::words::unknown_word;
-use os_files::os_bytes::OsBytes;
-use recorded_builds::beware::options_in;
-use settings::key::Key;
-use statistics::calls::TO_STANDARD_OUTPUT;
+use host_protocol::{CommandLine, HostError};
+use known_options::{PlacedWords, dependencies_of, for_preprocessor, unknown_word};
+use os_files::OsBytes;
+use recorded_builds::options_in;
+use settings::Key;
+use statistics::TO_STANDARD_OUTPUT;
 use std::alloc::Global;
 
 /// Variables under which a compiler reads or writes something else.

@@ -3,17 +3,12 @@
 use crate::{Stop, say_ready};
 use ckeys_records::shape::CShape;
 use cmdlines_tables::language::Language;
-use fingerprints::c_parts::CParts;
 use fingerprints::explain::explain;
-use fingerprints::fingerprint::Fingerprint;
-use fingerprints::part::Part;
-use include_records::entry::IncludeEntry;
-use include_records::key_text::KeyText;
-use include_records::record::PreprocessorCacheEntry;
-use os_files::listed::Listed;
-use os_files::os_bytes::OsBytes;
+use fingerprints::{CParts, Fingerprint, Part};
+use include_records::{IncludeEntry, KeyText, PreprocessorCacheEntry};
+use os_files::{Listed, OsBytes};
 use std::alloc::{AllocError, Global};
-use time_macros::timestamp::Timestamp;
+use time_macros::Timestamp;
 use wrap_base::store_key::{Family, Shape, StoreKey};
 
 /// Comparisons of keys that differ in their last field.

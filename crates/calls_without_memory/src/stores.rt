@@ -2,11 +2,11 @@
 
 use crate::keys::{key, two_keys};
 use crate::{Stop, say_ready};
-use bounded_store::lru_store::LruStore;
-use ckeys_base::store::Store;
+use bounded_store::LruStore;
+use ckeys_base::Store;
 use std::alloc::Global;
 use std::num::NonZeroUsize;
-use wrap_base::map_store::MapStore;
+use wrap_base::MapStore;
 use wrap_base::store_key::StoreKey;
 
 /// What is kept under the first of the two keys.

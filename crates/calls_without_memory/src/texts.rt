@@ -1,12 +1,11 @@
 //! Calls on bytes: they are digested, searched and stripped; and one call that takes memory.
 
 use crate::{Stop, say_ready};
-use ckeys_base::digest::Digest;
-use ckeys_base::strip::kept_slices;
-use os_files::os_bytes::OsBytes;
+use ckeys_base::{Digest, kept_slices};
+use os_files::OsBytes;
 use sha2::Sha256;
-use test_kit::rows::words;
-use time_macros::time_macro_finder::TimeMacroFinder;
+use test_kit::words;
+use time_macros::TimeMacroFinder;
 
 /// `update` of a digest, with more bytes than fill one block. What the bytes come to can't be determined without memory.
 pub(crate) fn digest<R: Eprint>(rt: &R) -> bool {

@@ -2,20 +2,16 @@
 
 use crate::{Stop, say_ready};
 use cmdlines::uncached_words;
-use cmdlines_base::argument::{ArgDisposition, Argument, NormalizedDisposition};
-use cmdlines_base::byte_tree::ByteTree;
-use cmdlines_base::color_mode::ColorMode;
-use cmdlines_base::table::{ArgInfo, SearchableArgInfo};
-use cmdlines_requests::parsed::{DependencyOptions, ParsedArguments};
-use cmdlines_tables::compiler::CCompilerKind;
-use cmdlines_tables::compiler_tables::compiler_tree;
+use cmdlines_base::{
+    ArgDisposition, ArgInfo, Argument, ByteTree, ColorMode, NormalizedDisposition,
+    SearchableArgInfo,
+};
+use cmdlines_requests::{DependencyOptions, ParsedArguments};
 use cmdlines_tables::language::Language;
-use cmdlines_tables::tables::gnu_table;
-use cmdlines_tables::value::ArgData;
-use os_files::listed::Listed;
-use os_files::os_bytes::OsBytes;
+use cmdlines_tables::{ArgData, CCompilerKind, compiler_tree, gnu_table};
+use os_files::{Listed, OsBytes};
 use std::alloc::{AllocError, Global};
-use test_kit::rows::words;
+use test_kit::words;
 
 /// `search` and `check` of a table.
 pub(crate) fn table<R: Eprint + AllocGlobal>(rt: &R) -> Result<bool, Stop> {

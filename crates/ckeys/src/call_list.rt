@@ -10,16 +10,12 @@ ghost use Rattle.ckeys.specs.HashCalls.{AreKeyed, AreOwnKeys, KeyRun, asking_amo
 use crate::compiler_impl::CCompilerImpl;
 use crate::hasher::CCompilerHasher;
 use crate::place::CallPlace;
-use ckeys_base::hash_state::HashState;
-use ckeys_base::store::Store;
-use ckeys_records::config::KeyConfig;
-use ckeys_records::fault::Fault;
-use ckeys_records::preprocessor::Preprocessor;
+use ckeys_base::{HashState, Store};
 use ckeys_records::shape::CShape;
+use ckeys_records::{Fault, KeyConfig, Preprocessor};
 use entry_keys::entry_key::EntryKey;
-use include_records::record::PreprocessorCacheEntry;
-use os_files::files::Files;
-use os_files::os_bytes::OsBytes;
+use include_records::PreprocessorCacheEntry;
+use os_files::{Files, OsBytes};
 use std::alloc::{AllocError, Global};
 
 /// A request, where and when it is asked, the files that are there then, and the tool that runs its preprocessor.

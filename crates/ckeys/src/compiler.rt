@@ -10,12 +10,10 @@ ghost use Rattle.ckeys.specs.Compilers.{compiler_digest_of, ExecutableCause, wit
 
 use crate::compiler_impl::CCompilerImpl;
 use crate::hasher::CCompilerHasher;
-use ckeys_base::digest::Digest;
-use ckeys_base::hash_state::HashState;
-use ckeys_records::fault::Fault;
-use cmdlines_requests::parsed::ParsedArguments;
-use os_files::files::{FileFail, Files};
-use os_files::os_bytes::OsBytes;
+use ckeys_base::{Digest, HashState};
+use ckeys_records::Fault;
+use cmdlines_requests::ParsedArguments;
+use os_files::{FileFail, Files, OsBytes};
 use std::alloc::{AllocError, Global};
 
 /// A C compiler, its executable and the digest that represents it in keys.

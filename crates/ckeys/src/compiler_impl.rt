@@ -15,19 +15,13 @@ ghost use Rattle.cmdlines_tables.specs.declared.compiler.CCompilerKind.{CCompile
 ghost use Rattle.ckeys_records.specs.Meaning.{AtMostOnce};
 ghost use Rattle.ckeys_records.specs.Meaning.{scene_with, made_of, asked_of};
 
-use ckeys_records::preprocessor::{Preprocessor, Printed, ToolFail};
-use ckeys_records::step::Step;
-use cmdlines::command::CommandError;
-use cmdlines::found::{FoundCompiler, HasKind};
-use cmdlines_base::command::SingleCompileCommand;
-use cmdlines_base::compiler_arguments::CompilerArguments;
-use cmdlines_requests::command::{Cacheable, command_at};
-use cmdlines_requests::parsed::ParsedArguments;
-use cmdlines_tables::compiler::CCompilerKind;
-use os_files::files::Files;
-use os_files::listed::Listed;
-use os_files::os_bytes::OsBytes;
-use response_files::fault::ParseFault;
+use ckeys_records::{Preprocessor, Printed, Step, ToolFail};
+use cmdlines::{CommandError, FoundCompiler, HasKind};
+use cmdlines_base::{CompilerArguments, SingleCompileCommand};
+use cmdlines_requests::{Cacheable, ParsedArguments, command_at};
+use cmdlines_tables::CCompilerKind;
+use os_files::{Files, Listed, OsBytes};
+use response_files::ParseFault;
 use std::alloc::{AllocError, Global};
 
 /// A C compiler: what is known of it, how it reads words, and the commands for it.

@@ -17,14 +17,9 @@ use crate::compiler_impl::CCompilerImpl;
 use crate::hasher::CCompilerHasher;
 use crate::needed::extra_hashes;
 use crate::place::CallPlace;
-use ckeys_base::hash_state::HashState;
-use ckeys_base::strip::strip_basedirs;
-use ckeys_records::fault::Fault;
-use ckeys_records::params::tell_lengths;
-use ckeys_records::preprocessor::Preprocessor;
-use os_files::files::Files;
-use os_files::listed::Listed;
-use os_files::os_bytes::OsBytes;
+use ckeys_base::{HashState, strip_basedirs};
+use ckeys_records::{Fault, Preprocessor, tell_lengths};
+use os_files::{Files, Listed, OsBytes};
 use std::alloc::{AllocError, Global};
 
 /// The digests of the files whose contents count, in order, and the text without the folders that don't count.

@@ -16,20 +16,14 @@ ghost use Rattle.ckeys.specs.Surroundings.{recorded_of};
 use crate::compiler_impl::CCompilerImpl;
 use crate::hasher::{CCompilerHasher, needs_c_preprocessing};
 use crate::place::CallPlace;
-use ckeys_base::hash_state::HashState;
-use ckeys_records::fault::Fault;
-use entry_keys::asker::Asker;
+use ckeys_base::HashState;
+use ckeys_records::Fault;
 use entry_keys::entry_key::{EntryKey, entry_key};
-use entry_keys::sights::SeenInput;
-use include_records::entry::IncludeEntry;
-use include_records::includes::includes_of;
-use include_records::moments::second_at;
-use marker_walk::answer::Walk;
+use entry_keys::{Asker, SeenInput};
+use include_records::{IncludeEntry, includes_of, second_at};
+use marker_walk::Walk;
 use marker_walk::walk::walk;
-use os_files::files::{FileFail, Files};
-use os_files::listed::Listed;
-use os_files::os_bytes::OsBytes;
-use os_files::path::join;
+use os_files::{FileFail, Files, Listed, OsBytes, join};
 use std::alloc::Global;
 
 /// An input: what it holds, and the second in which it was last changed.

@@ -26,20 +26,14 @@ use crate::known::Known;
 use crate::laws::records_are_true;
 use crate::needed::{extra_hashes, needed_contents};
 use crate::place::CallPlace;
-use ckeys_base::hash_state::HashState;
-use ckeys_base::store::Store;
-use ckeys_records::fault::Fault;
-use ckeys_records::params::{HashKeyParams, tell_lengths};
-use ckeys_records::preprocessor::{Preprocessor, ToolFail};
+use ckeys_base::{HashState, Store};
 use ckeys_records::shape::CShape;
-use ckeys_records::step::Step;
-use cmdlines_requests::parsed::ParsedArguments;
+use ckeys_records::{Fault, HashKeyParams, Preprocessor, Step, ToolFail, tell_lengths};
+use cmdlines_requests::ParsedArguments;
 use cmdlines_tables::language::Language;
 use entry_keys::entry_key::{EntryKey, entry_keys_are_their_fields};
-use include_records::key_text::KeyText;
-use include_records::record::PreprocessorCacheEntry;
-use os_files::files::Files;
-use os_files::os_bytes::OsBytes;
+use include_records::{KeyText, PreprocessorCacheEntry};
+use os_files::{Files, OsBytes};
 use std::alloc::{AllocError, Global};
 
 /// What a request asks for, and of which compiler.

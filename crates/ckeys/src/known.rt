@@ -1,7 +1,6 @@
 //! What an include record says of a call.
 
-use include_records::key_text::KeyText;
-use include_records::record::PreprocessorCacheEntry;
+use include_records::{KeyText, PreprocessorCacheEntry};
 
 /// The key of the call's text, or nothing; and then the record, for one more result.
 #[derive(Drop)]

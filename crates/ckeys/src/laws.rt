@@ -10,9 +10,8 @@ ghost use Rattle.entry_keys.specs.declared.entry_key.EntryKey.{EntryKey};
 ghost use Rattle.include_records.specs.Records.{Record};
 ghost use Rattle.ckeys_base.specs.Shelf.{Shelf};
 
-use ckeys_base::digest::texts_tell_digests;
-use ckeys_base::hash_state::HashState;
-use entry_keys::laws::entry_keys_tell_calls;
+use ckeys_base::{HashState, texts_tell_digests};
+use entry_keys::entry_keys_tell_calls;
 
 /// What the include records of earlier calls say is true of this call, where digests are distinct and texts are printed again; and
 /// each call leaves records of which that can be said again, with no premise.

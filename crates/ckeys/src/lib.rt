@@ -3,55 +3,45 @@
 #![tactic(auto)]
 
 mod call_list;
-pub mod compiler;
-pub mod compiler_impl;
+mod compiler;
+mod compiler_impl;
 mod contents;
 mod entry;
-pub mod hasher;
+mod hasher;
 mod known;
-pub mod laws;
+mod laws;
 mod needed;
-pub mod place;
+mod place;
 
 pub use call_list::{HashCall, hash_keys};
-pub use ckeys_base::digest::{Digest, HASH_BUFFER_SIZE};
-pub use ckeys_base::duration::fmt_duration_as_secs;
 pub use ckeys_base::error::Error;
-pub use ckeys_base::hash_state::HashState;
-pub use ckeys_base::hexadecimal::hex;
-pub use ckeys_base::normalize::{normalize_path, normalize_win_path};
-pub use ckeys_base::os_str_ext::OsStrExt;
-pub use ckeys_base::path_bytes::{decode_path, encode_path};
-pub use ckeys_base::store::Store;
-pub use ckeys_base::strip::{KeptSlices, kept_slices, strip_basedirs, strip_basedirs_from_arg};
-pub use ckeys_base::unescape::{UnescapeError, ascii_unescape_default};
-pub use ckeys_base::wrapper::resolve_compiler_avoiding_wrapper;
-pub use ckeys_records::config::{ConfigError, KeyConfig};
-pub use ckeys_records::fault::Fault;
-pub use ckeys_records::params::{CACHE_VERSION, HashKeyParams, hash_arguments};
-pub use ckeys_records::preprocessor::{Preprocessor, Printed, Ticks, ToolFail};
+pub use ckeys_base::{
+    Digest, HASH_BUFFER_SIZE, HashState, KeptSlices, OsStrExt, Store, UnescapeError,
+    ascii_unescape_default, decode_path, encode_path, fmt_duration_as_secs, hex, kept_slices,
+    normalize_path, normalize_win_path, resolve_compiler_avoiding_wrapper, strip_basedirs,
+    strip_basedirs_from_arg,
+};
 pub use ckeys_records::shape::CShape;
-pub use ckeys_records::step::Step;
-pub use cmdlines_base::command::ArtifactDescriptor;
-pub use cmdlines_requests::parsed::ParsedArguments;
-pub use cmdlines_tables::compiler::CCompilerKind;
+pub use ckeys_records::{
+    CACHE_VERSION, ConfigError, Fault, HashKeyParams, KeyConfig, Preprocessor, Printed, Step,
+    Ticks, ToolFail, hash_arguments,
+};
+pub use cmdlines_base::ArtifactDescriptor;
+pub use cmdlines_requests::ParsedArguments;
+pub use cmdlines_tables::CCompilerKind;
 pub use cmdlines_tables::language::Language;
 pub use compiler::CCompiler;
 pub use compiler_impl::CCompilerImpl;
 pub use contents::KeyContents;
 pub use entry_keys::entry_key::EntryKey;
-pub use entry_keys::sights::preprocessor_cache_entry_hash_key;
-pub use hasher::CCompilerHasher;
-pub use include_records::entry::IncludeEntry;
-pub use include_records::key_text::KeyText;
-pub use include_records::record::PreprocessorCacheEntry;
-pub use marker_walk::answer::Walk;
-pub use marker_walk::markers::Markers;
+pub use entry_keys::preprocessor_cache_entry_hash_key;
+pub use hasher::{CCompilerHasher, needs_c_preprocessing};
+pub use include_records::{IncludeEntry, KeyText, PreprocessorCacheEntry};
+pub use laws::{entry_premises_can_be_met, records_are_true};
 pub use marker_walk::walk::walk;
+pub use marker_walk::{Markers, Walk};
 pub use place::CallPlace;
-pub use time_macros::days::local_day;
-pub use time_macros::metadata_ctime_ext::MetadataCtimeExt;
-pub use time_macros::reader_time_macros::reader_sync_time_macros;
-pub use time_macros::time_macro_finder::TimeMacroFinder;
-pub use time_macros::timestamp::Timestamp;
-pub use time_macros::zone::{Zone, ZoneError};
+pub use time_macros::{
+    MetadataCtimeExt, TimeMacroFinder, Timestamp, Zone, ZoneError, local_day,
+    reader_sync_time_macros,
+};

@@ -8,13 +8,9 @@ ghost use Rattle.include_records.specs.Surroundings.{contents_in};
 ghost use Rattle.ckeys_records.specs.Causes.{HasOwnFault};
 ghost use Rattle.ckeys_records.specs.Faults.{FileCause, first_missing};
 
-use ckeys_base::digest::Digest;
-use ckeys_base::hash_state::HashState;
-use ckeys_records::fault::Fault;
-use os_files::files::{FileFail, Files};
-use os_files::listed::Listed;
-use os_files::os_bytes::OsBytes;
-use os_files::path::join;
+use ckeys_base::{Digest, HashState};
+use ckeys_records::Fault;
+use os_files::{FileFail, Files, Listed, OsBytes, join};
 use std::alloc::Global;
 
 /// The digest of a file that is needed, which is read from that directory.

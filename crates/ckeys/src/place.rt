@@ -3,9 +3,9 @@
 ghost use Rattle.std.specs.Prelude.{◌≡◌};
 ghost use Rattle.time_macros.specs.Days.{local_day};
 
-use ckeys_records::config::KeyConfig;
-use include_records::moments::day_of;
-use os_files::os_bytes::OsBytes;
+use ckeys_records::KeyConfig;
+use include_records::day_of;
+use os_files::OsBytes;
 
 /// The directory, the variables, the moment and the configuration.
 #[derive(Clone, Copy)]

@@ -7,8 +7,7 @@ ghost use Rattle.ckeys_base.specs.NormalPath.{normal_path, win_byte, followed_by
 ghost use Rattle.os_files.specs.Path.{part_of};
 ghost use Rattle.ckeys_base.specs.NormalPath as spec;
 
-use os_files::os_bytes::OsBytes;
-use os_files::path::{Component, components};
+use os_files::{Component, OsBytes, components};
 use std::alloc::{AllocError, Global};
 
 /// The path without `.`, and without each `..` and the component that it takes away: the one before

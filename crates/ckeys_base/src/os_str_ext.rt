@@ -3,7 +3,7 @@
 ghost use Rattle.std.specs.Prelude.{◌≡◌, ◌↔◌, ◌++◌, IsTrue, MatchOption};
 ghost use Rattle.os_files.specs.Bytes.{Bytes};
 
-use os_files::os_bytes::OsBytes;
+use os_files::OsBytes;
 
 /// A byte string and text before it.
 pub trait OsStrExt {

@@ -13,7 +13,7 @@ ghost use Rattle.ckeys_base.specs.Stripping.{IsStripping, HasExactlyOne, filled,
 mod places;
 mod slices;
 
-use os_files::os_bytes::OsBytes;
+use os_files::OsBytes;
 use places::Kind;
 pub use slices::KeptSlices;
 use slices::{next_place, next_start};

@@ -7,9 +7,7 @@ ghost use Rattle.os_files.specs.Views.{FilesFail};
 ghost use Rattle.ckeys_base.specs.Wrapper.{resolved, names_wrapper};
 ghost use Rattle.ckeys_base.specs.Wrapper as spec;
 
-use os_files::files::{FileFail, Files};
-use os_files::os_bytes::OsBytes;
-use os_files::path::{file_name, join};
+use os_files::{FileFail, Files, OsBytes, file_name, join};
 use std::alloc::{AllocError, Global};
 
 /// The executable, unless the file name of its canonical name is `sccache`. Then the first file of

@@ -1,10 +1,10 @@
 //! Digests of BLAKE2b that another program prints, however the bytes come.
 
 use blake2::Blake2b256;
-use ckeys_base::digest::{Digest, texts_tell_digests};
+use ckeys_base::{Digest, texts_tell_digests};
 use std::alloc::{AllocError, Global};
 use std::test::Fail;
-use test_kit::texts::is_that;
+use test_kit::is_that;
 
 /// The digest of `abc`, as `b2sum -l 256` prints it.
 const OF_ABC: &str = "bddd813c634239723171ef3fee98579b94964e3bb1cb3e427262c8c068d52319";

@@ -6,19 +6,16 @@ ghost use Rattle.sha2.specs.Sha512.{sha512};
 ghost use Rattle.sha2.proofs.Facts512.{length-sha512};
 ghost use Rattle.ckeys_base_tests.specs.WideBytes.{AreBytes-sha512};
 
-use ckeys_base::digest::{Digest, hash_buffer_size, texts_tell_digests};
 use ckeys_base::error::Error;
-use ckeys_base::hash_state::HashState;
-use os_files::file_time::FileTime;
-use os_files::memory_files::{MemoryFile, MemoryFiles};
-use os_files::os_bytes::OsBytes;
+use ckeys_base::{Digest, HashState, hash_buffer_size, texts_tell_digests};
+use os_files::{FileTime, MemoryFile, MemoryFiles, OsBytes};
 use sha2::{Sha256, Sha512};
 use std::alloc::{AllocError, Global};
 use std::fmt::Write;
 use std::io;
 use std::io::Read;
 use std::test::Fail;
-use test_kit::texts::is_that;
+use test_kit::is_that;
 
 /// The digest of nothing, the low half of each byte first.
 const OF_NOTHING: &str = "3e0b4c2489cfc141a9bf4f8c99f69b4272ea144e46b939c44a5999b187258b55";

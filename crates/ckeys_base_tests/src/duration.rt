@@ -1,6 +1,6 @@
 //! The printed text of a span of time.
 
-use ckeys_base::duration::fmt_duration_as_secs;
+use ckeys_base::fmt_duration_as_secs;
 use std::test::Fail;
 use std::time::Duration;
 

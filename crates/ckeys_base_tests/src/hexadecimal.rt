@@ -1,6 +1,6 @@
 //! The order of the halves of a byte, by a text that is written out by hand.
 
-use ckeys_base::hexadecimal::{hex, hex_tells_its_bytes};
+use ckeys_base::{hex, hex_tells_its_bytes};
 use std::test::Fail;
 
 #[test]

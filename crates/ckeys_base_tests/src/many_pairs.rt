@@ -1,7 +1,7 @@
 //! A store takes many pairs, and as large a limit as there is.
 
-use bounded_store::lru_store::LruStore;
-use ckeys_base::store::Store;
+use bounded_store::LruStore;
+use ckeys_base::Store;
 use std::num::NonZeroUsize;
 use std::test::Fail;
 

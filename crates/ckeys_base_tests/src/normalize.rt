@@ -1,8 +1,8 @@
 //! Whether the definitions of normal paths say what is meant, by examples.
 
-use ckeys_base::normalize::{normalize_path, normalize_win_path};
+use ckeys_base::{normalize_path, normalize_win_path};
 use std::test::Fail;
-use test_kit::texts::is_that;
+use test_kit::is_that;
 
 /// Paths, and their normal form.
 const NORMAL: [(&str, &str); 6] = [

@@ -1,7 +1,7 @@
 //! Words and text before them: each call once.
 
-use ckeys_base::os_str_ext::OsStrExt;
-use os_files::os_bytes::OsBytes;
+use ckeys_base::OsStrExt;
+use os_files::OsBytes;
 use std::test::Fail;
 
 #[test]

@@ -1,8 +1,8 @@
 //! A path goes to a writer and comes back, and one that has no room holds a beginning of it.
 
-use ckeys_base::path_bytes::{decode_path, encode_path};
+use ckeys_base::{decode_path, encode_path};
 use std::test::Fail;
-use test_kit::narrow_writer::NarrowWriter;
+use test_kit::NarrowWriter;
 
 #[test]
 fn paths_come_back(rt: HostRuntime) -> Result<(), Fail> {

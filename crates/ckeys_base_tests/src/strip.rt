@@ -1,7 +1,7 @@
 //! Whether the definitions of stripping say what is meant, by examples.
 
-use ckeys_base::strip::{strip_basedirs, strip_basedirs_from_arg, stripping_leaves_one_text};
-use os_files::os_bytes::OsBytes;
+use ckeys_base::{strip_basedirs, strip_basedirs_from_arg, stripping_leaves_one_text};
+use os_files::OsBytes;
 use std::alloc::{AllocError, Global};
 use std::borrow::CowSlice;
 use std::test::Fail;

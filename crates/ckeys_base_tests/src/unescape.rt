@@ -1,6 +1,6 @@
 //! Whether the definitions of escapes say what is meant, by examples.
 
-use ckeys_base::unescape::{UnescapeError, ascii_unescape_default};
+use ckeys_base::{UnescapeError, ascii_unescape_default};
 use std::test::Fail;
 
 #[test]

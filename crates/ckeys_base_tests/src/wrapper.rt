@@ -3,10 +3,8 @@
 ghost use Rattle.std.specs.Prelude.{◌≡◌, ◌&&◌, codes};
 ghost use Rattle.std.specs.Str.{bytes_eq};
 
-use ckeys_base::wrapper::resolve_compiler_avoiding_wrapper;
-use os_files::file_time::FileTime;
-use os_files::files::{FileFail, Files, Metadata};
-use os_files::os_bytes::OsBytes;
+use ckeys_base::resolve_compiler_avoiding_wrapper;
+use os_files::{FileFail, FileTime, Files, Metadata, OsBytes};
 use std::alloc::Global;
 use std::test::Fail;
 

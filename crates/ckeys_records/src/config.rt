@@ -3,12 +3,11 @@
 ghost use Rattle.std.specs.Prelude.{◌≡◌, false, true, None, find, map, IfOk, IfErr, OnOk};
 ghost use Rattle.ckeys_records.specs.Folders.{is_bad, without_slashes, settings_with, ConfigCause, FolderCause};
 
-use os_files::listed::Listed;
-use os_files::os_bytes::OsBytes;
+use os_files::{Listed, OsBytes};
 use std::alloc::{AllocError, Global};
 use std::marker::Model;
 use thiserror::Error;
-use time_macros::zone::Zone;
+use time_macros::Zone;
 
 /// Why there is no configuration.
 #[derive(Clone, Debug, Drop, Error, PartialEq, Eq)]

@@ -3,8 +3,8 @@
 ghost use Rattle.std.specs.Prelude.{◌≡◌};
 
 use crate::step::Step;
-use os_files::os_bytes::OsBytes;
-use response_files::fault::ParseFault;
+use os_files::OsBytes;
+use response_files::ParseFault;
 use std::alloc::{AllocError, AllocFailed};
 use thiserror::Error;
 

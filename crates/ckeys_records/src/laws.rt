@@ -9,8 +9,7 @@ ghost use Rattle.ckeys_records.specs.Material.{material_of, shape_of};
 ghost use Rattle.ckeys_records.specs.Keys.{AreDistinct, key_of, record_shape};
 ghost use Rattle.ckeys_records.specs.Params.{Handed, parts_handed};
 
-use ckeys_base::digest::texts_tell_digests;
-use ckeys_base::hash_state::HashState;
+use ckeys_base::{HashState, texts_tell_digests};
 
 /// The hashed bytes determine the parts, together with the shape: equal bytes and shapes are of equal parts, whose words
 /// lack the byte 255 and whose variables have lengths below 2^64.

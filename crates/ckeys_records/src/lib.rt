@@ -2,12 +2,20 @@
 //! key with the shape that the bytes alone don't determine, and what can go wrong on the way, in which step.
 #![tactic(auto)]
 
-pub mod config;
-pub mod fault;
-pub mod laws;
+mod config;
+mod fault;
+mod laws;
 pub mod output_name;
-pub mod params;
-pub mod preprocessor;
+mod params;
+mod preprocessor;
 pub mod shape;
-pub mod step;
-pub mod word_end;
+mod step;
+mod word_end;
+
+pub use config::{ConfigError, KeyConfig};
+pub use fault::Fault;
+pub use laws::{folders_in_texts_do_not_count, keys_tell_records, materials_tell_parts};
+pub use params::{CACHE_VERSION, HashKeyParams, hash_arguments, is_cached, tell_lengths};
+pub use preprocessor::{Preprocessor, Printed, Ticks, ToolFail};
+pub use step::Step;
+pub use word_end::{hold_word_end, stripped_words_lack_the_end};

@@ -1,6 +1,6 @@
 //! The names of outputs.
 
-use os_files::os_bytes::OsBytes;
+use os_files::OsBytes;
 
 /// An output that is asked for: its name, and whether a compile may leave it out.
 #[derive(Clone, Debug, Drop, PartialEq, Eq, PartialOrd, Ord, Hash)]

@@ -12,12 +12,9 @@ ghost use Rattle.ckeys_records.specs.Records.{FitsLength};
 ghost use Rattle.ckeys_records.specs.Params.{handed_alone, handed_of, parts_handed, is_cached, stripped_words, IsFed};
 
 use crate::shape::CShape;
-use ckeys_base::digest::Digest;
-use ckeys_base::hash_state::HashState;
-use ckeys_base::strip::{kept_slices, strip_basedirs_from_arg};
+use ckeys_base::{Digest, HashState, kept_slices, strip_basedirs_from_arg};
 use cmdlines_tables::language::Language;
-use os_files::listed::Listed;
-use os_files::os_bytes::OsBytes;
+use os_files::{Listed, OsBytes};
 use std::alloc::{AllocError, Global};
 
 /// The version of the layout of what is hashed.

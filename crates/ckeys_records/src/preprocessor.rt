@@ -6,10 +6,9 @@ ghost use Rattle.ckeys_records.specs.Meaning.{Meaning, scene_of, made_of, asked_
 ghost use Rattle.ckeys_records.specs.declared.step.Step.{Step};
 
 use crate::step::Step;
-use cmdlines_base::command::SingleCompileCommand;
-use cmdlines_tables::compiler::CCompilerKind;
-use os_files::files::Files;
-use os_files::os_bytes::OsBytes;
+use cmdlines_base::SingleCompileCommand;
+use cmdlines_tables::CCompilerKind;
+use os_files::{Files, OsBytes};
 use std::alloc::{AllocError, Global};
 use thiserror::Error;
 

@@ -1,7 +1,7 @@
 //! What the hashed bytes of a request don't determine.
 
 use cmdlines_tables::language::Language;
-use os_files::listed::Listed;
+use os_files::Listed;
 
 /// The language, how long the digests are, and how many words and variables there are. The text's length is no part of
 /// it, so equal texts that came of different ones have equal shapes.

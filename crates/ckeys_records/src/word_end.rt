@@ -6,8 +6,8 @@ ghost use Rattle.os_files.specs.Bytes.{Bytes};
 ghost use Rattle.ckeys_records.specs.Params.{stripped_words};
 ghost use Rattle.ckeys_records.specs.Records.{LacksEnd, hold_end, holds_end};
 
-use ckeys_base::strip::stripping_adds_no_byte;
-use os_files::os_bytes::OsBytes;
+use ckeys_base::stripping_adds_no_byte;
+use os_files::OsBytes;
 
 /// Whether the word holds the byte 255.
 fn holds_word_end(word: &[u8]) -> bool

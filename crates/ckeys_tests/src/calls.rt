@@ -3,27 +3,21 @@
 use crate::compilers::{gcc, parsed};
 use crate::keys::digest_of;
 use crate::print_tool::PrintTool;
-use bounded_store::lru_store::LruStore;
-use ckeys::compiler::CCompiler;
-use ckeys::hasher::{CCompilerHasher, needs_c_preprocessing};
-use ckeys::place::CallPlace;
-use ckeys::{EntryKey, PreprocessorCacheEntry};
-use ckeys_records::config::KeyConfig;
-use ckeys_records::fault::Fault;
-use ckeys_records::preprocessor::Preprocessor;
+use bounded_store::LruStore;
+use ckeys::{
+    CCompiler, CCompilerHasher, CallPlace, EntryKey, PreprocessorCacheEntry, needs_c_preprocessing,
+};
 use ckeys_records::shape::CShape;
-use cmdlines::kinds::Gcc;
+use ckeys_records::{Fault, KeyConfig, Preprocessor};
+use cmdlines::Gcc;
 use cmdlines_tables::language::Language;
-use os_files::files::Files;
-use os_files::os_bytes::OsBytes;
+use os_files::{Files, OsBytes};
 use sha2::Sha256;
 use std::alloc::{AllocError, Global};
 use std::num::NonZeroUsize;
 use std::test::Fail;
-use test_kit::rows::files_of;
-use test_kit::texts::is_that;
-use test_kit::watched_files::WatchedFiles;
-use time_macros::zone::Zone;
+use test_kit::{WatchedFiles, files_of, is_that};
+use time_macros::Zone;
 
 /// The include records of earlier calls.
 pub(crate) type Records = LruStore<EntryKey, PreprocessorCacheEntry>;

@@ -1,20 +1,16 @@
 //! Compilers that are found, their digests, and what each has to offer.
 
 use crate::keys::{digest_of, digest_of_all};
-use ckeys::compiler::CCompiler;
-use ckeys::compiler_impl::CCompilerImpl;
-use ckeys_records::fault::Fault;
-use cmdlines::kinds::Gcc;
-use cmdlines_base::compiler_arguments::CompilerArguments;
-use cmdlines_requests::parsed::ParsedArguments;
-use os_files::files::Files;
-use os_files::memory_files::MemoryFiles;
-use os_files::os_bytes::OsBytes;
+use ckeys::{CCompiler, CCompilerImpl};
+use ckeys_records::Fault;
+use cmdlines::Gcc;
+use cmdlines_base::CompilerArguments;
+use cmdlines_requests::ParsedArguments;
+use os_files::{Files, MemoryFiles, OsBytes};
 use sha2::Sha256;
 use std::alloc::{AllocError, Global};
 use std::test::Fail;
-use test_kit::broken_files::BrokenFiles;
-use test_kit::rows::{files_of, words};
+use test_kit::{BrokenFiles, files_of, words};
 
 /// A copy of the text, where there is one.
 fn copied(alloc: Global, text: Option<&str>) -> Result<Option<String>, AllocError> {

@@ -1,12 +1,12 @@
 //! What is fixed for all keys: folders that don't count, and which can't be such; the zone; and whether include records are kept.
 
-use ckeys_records::config::{ConfigError, KeyConfig};
-use include_records::moments::day_of;
-use os_files::os_bytes::OsBytes;
+use ckeys_records::{ConfigError, KeyConfig};
+use include_records::day_of;
+use os_files::OsBytes;
 use std::alloc::Global;
 use std::test::Fail;
-use test_kit::rows::words;
-use time_macros::zone::Zone;
+use test_kit::words;
+use time_macros::Zone;
 
 #[test]
 fn folders_lose_slashes_at_their_ends(rt: HostRuntime) -> Result<(), Fail> {

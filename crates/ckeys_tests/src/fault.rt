@@ -1,11 +1,10 @@
 //! Faults as they are printed.
 
-use ckeys_records::fault::Fault;
-use ckeys_records::step::Step;
-use os_files::os_bytes::OsBytes;
+use ckeys_records::{Fault, Step};
+use os_files::OsBytes;
 use std::alloc::{AllocError, Global};
 use std::test::Fail;
-use test_kit::texts::is_that;
+use test_kit::is_that;
 
 /// Faults that hold no word, and what is printed of each.
 const PLAIN: [(Fault, &str); 10] = [

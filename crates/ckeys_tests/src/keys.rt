@@ -1,16 +1,18 @@
 //! Which requests have one key, and which have two.
 
-use ckeys::laws::{entry_premises_can_be_met, records_are_true};
-use ckeys_base::digest::Digest;
-use ckeys_records::laws::{folders_in_texts_do_not_count, keys_tell_records, materials_tell_parts};
-use ckeys_records::params::{HashKeyParams, hash_arguments};
+use ckeys::{entry_premises_can_be_met, records_are_true};
+use ckeys_base::Digest;
 use ckeys_records::shape::CShape;
+use ckeys_records::{
+    HashKeyParams, folders_in_texts_do_not_count, hash_arguments, keys_tell_records,
+    materials_tell_parts,
+};
 use cmdlines_tables::language::Language;
-use os_files::os_bytes::OsBytes;
+use os_files::OsBytes;
 use sha2::Sha256;
 use std::alloc::{AllocError, Global};
 use std::test::Fail;
-use test_kit::rows::words;
+use test_kit::words;
 
 /// The digest of these bytes.
 pub(crate) fn digest_of(alloc: Global, bytes: &[u8]) -> Result<String, AllocError> {
@@ -133,10 +135,7 @@ fn laws_are_called(rt: HostRuntime) -> Result<(), Fail> {
     folders_in_texts_do_not_count();
     records_are_true::<Sha256>();
     entry_premises_can_be_met();
-    assert_eq!(rt;
-        ckeys_records::params::CACHE_VERSION.as_slice(),
-        b"11".as_slice()
-    );
+    assert_eq!(rt; ckeys_records::CACHE_VERSION.as_slice(), b"11".as_slice());
     Ok(())
 }
 

@@ -7,7 +7,7 @@ mod calls;
 mod compilers;
 #[cfg(test)]
 mod config;
-pub mod door;
+mod door;
 #[cfg(test)]
 mod fault;
 #[cfg(test)]

@@ -3,11 +3,10 @@
 ghost use Rattle.std.specs.Prelude.{pos, Some, [], ◌∷◌};
 ghost use Rattle.ckeys_records.specs.Meaning.{made_of};
 
-use ckeys_records::preprocessor::{Preprocessor, Printed, Ticks, ToolFail};
-use cmdlines_base::command::SingleCompileCommand;
-use cmdlines_tables::compiler::CCompilerKind;
-use os_files::files::Files;
-use os_files::os_bytes::OsBytes;
+use ckeys_records::{Preprocessor, Printed, Ticks, ToolFail};
+use cmdlines_base::SingleCompileCommand;
+use cmdlines_tables::CCompilerKind;
+use os_files::{Files, OsBytes};
 use std::alloc::{AllocError, Global};
 
 /// For tests: whatever the command, it prints this text and ends with 0.

@@ -8,7 +8,7 @@ use cmdlines::{FileFail, Listed, OsBytes};
 use std::alloc::{AllocError, Global};
 use std::fmt::Debug;
 use std::test::Fail;
-use test_kit::texts::{holds, is_that};
+use test_kit::{holds, is_that};
 
 /// Asserts that a value equals its copy, differs from another one, and is printed so.
 fn is_a_value<T: Clone + Debug + Drop + Eq>(

@@ -6,15 +6,11 @@ ghost use Rattle.cmdlines.specs.Parsing.{decision_of, refused, closing, with_inp
 
 use crate::facts::Facts;
 use crate::lists::{Input, Lists};
-use cmdlines_base::color_mode::ColorMode;
-use cmdlines_base::command::ArtifactDescriptor;
-use cmdlines_base::compiler_arguments::CompilerArguments;
-use cmdlines_requests::parsed::ParsedArguments;
-use cmdlines_tables::compiler::CCompilerKind;
+use cmdlines_base::{ArtifactDescriptor, ColorMode, CompilerArguments};
+use cmdlines_requests::ParsedArguments;
+use cmdlines_tables::CCompilerKind;
 use cmdlines_tables::language::Language;
-use os_files::listed::Listed;
-use os_files::os_bytes::OsBytes;
-use os_files::path::{extension, file_name, with_extension};
+use os_files::{Listed, OsBytes, extension, file_name, with_extension};
 use std::alloc::{AllocError, Global};
 
 /// Refused for this reason, with no more text.

@@ -8,18 +8,13 @@ ghost use Rattle.cmdlines.specs.Commands.{object_path, front_words, behind_words
 ghost use Rattle.cmdlines_requests.specs.Small.{command_at};
 ghost use Rattle.cmdlines.specs.ReadBack.{ReadsAsCompile, ReadsAsPreprocess};
 
-use cmdlines_base::command::SingleCompileCommand;
-use cmdlines_base::cutting::words_have_one_reading;
-use cmdlines_base::reading_back::{items_read_again, items_read_together};
-use cmdlines_requests::command::{Cacheable, command_at};
-use cmdlines_requests::parsed::ParsedArguments;
-use cmdlines_tables::compiler::CCompilerKind;
+use cmdlines_base::{
+    SingleCompileCommand, items_read_again, items_read_together, words_have_one_reading,
+};
+use cmdlines_requests::{Cacheable, ParsedArguments, command_at};
 use cmdlines_tables::language::{Language, language_to_gcc_arg};
-use cmdlines_tables::laws::own_words_are_read;
-use cmdlines_tables::value::ArgData;
-use os_files::listed::Listed;
-use os_files::os_bytes::OsBytes;
-use os_files::path::with_extension;
+use cmdlines_tables::{ArgData, CCompilerKind, own_words_are_read};
+use os_files::{Listed, OsBytes, with_extension};
 use std::alloc::{AllocError, Global};
 use thiserror::Error;
 

@@ -10,17 +10,11 @@ ghost use Rattle.cmdlines.specs.Wanted.{is_hard, is_hard_word, may_name_folder, 
 use crate::closing::{close, refused};
 use crate::facts::Facts;
 use crate::lists::Lists;
-use cmdlines_base::argument::Argument;
-use cmdlines_base::argument_error::ArgParseError;
-use cmdlines_base::compiler_arguments::CompilerArguments;
-use cmdlines_base::table::SearchableArgInfo;
-use cmdlines_requests::parsed::ParsedArguments;
-use cmdlines_tables::compiler::CCompilerKind;
-use cmdlines_tables::cutting::arguments_of;
+use cmdlines_base::{ArgParseError, Argument, CompilerArguments, SearchableArgInfo};
+use cmdlines_requests::ParsedArguments;
 use cmdlines_tables::kind::ArgKind;
-use cmdlines_tables::laws::arguments_are_their_items;
-use cmdlines_tables::value::ArgData;
-use os_files::os_bytes::OsBytes;
+use cmdlines_tables::{ArgData, CCompilerKind, arguments_are_their_items, arguments_of};
+use os_files::OsBytes;
 use std::alloc::{AllocError, Global};
 
 /// Whether a word for Clang's front end is about modules or precompiled headers, or loads a plugin.

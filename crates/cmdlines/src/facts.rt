@@ -10,13 +10,11 @@ ghost use Rattle.cmdlines_base.specs.Choices.{when, sooner};
 ghost use Rattle.cmdlines.specs.Noting.{noted, noted_word};
 ghost use Rattle.cmdlines_tables.specs.Kinds.{blocks_preprocessor_cache};
 
-use cmdlines_base::argument::{ArgDisposition, Argument};
-use cmdlines_base::color_mode::ColorMode;
-use cmdlines_base::table::{ArgInfo, SearchableArgInfo};
-use cmdlines_requests::parsed::DependencyOptions;
+use cmdlines_base::{ArgDisposition, ArgInfo, Argument, ColorMode, SearchableArgInfo};
+use cmdlines_requests::DependencyOptions;
+use cmdlines_tables::ArgData;
 use cmdlines_tables::kind::ArgKind;
-use cmdlines_tables::value::ArgData;
-use os_files::os_bytes::OsBytes;
+use os_files::OsBytes;
 use std::alloc::{AllocError, Global};
 
 /// What the arguments say beside the lists.

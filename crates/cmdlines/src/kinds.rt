@@ -3,7 +3,7 @@
 ghost use Rattle.cmdlines_tables.specs.declared.compiler.CCompilerKind.TheVariants.{Clang, Diab, Gcc, Msvc, TaskingVX};
 
 use crate::found::{FoundCompiler, HasKind};
-use cmdlines_tables::compiler::CCompilerKind;
+use cmdlines_tables::CCompilerKind;
 
 /// The kind of Clang.
 #[derive(Drop)]

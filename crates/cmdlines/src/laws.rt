@@ -9,10 +9,8 @@ ghost use Rattle.cmdlines.specs.ReadBack.{ReadsAsCompile, ReadsAsPreprocess};
 ghost use Rattle.cmdlines_requests.specs.declared.parsed.ParsedArguments.{ParsedArguments};
 ghost use Rattle.cmdlines_tables.specs.declared.compiler.CCompilerKind.{CCompilerKind};
 
-use cmdlines_base::cutting::words_have_one_reading;
-use cmdlines_base::reading_back::{items_read_again, items_read_together};
-use cmdlines_tables::laws::{only_msvc_gives_inputs_by_options, own_words_are_read};
-use cmdlines_tables::value::ArgData;
+use cmdlines_base::{items_read_again, items_read_together, words_have_one_reading};
+use cmdlines_tables::{ArgData, only_msvc_gives_inputs_by_options, own_words_are_read};
 
 /// Whatever words ask for, its input can be placed where it's written: it is loose, or comes after double dashes that end the
 /// options. Only an input that an option of Msvc gave need not.

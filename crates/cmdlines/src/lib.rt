@@ -3,50 +3,41 @@
 #![tactic(auto)]
 
 mod closing;
-pub mod command;
+mod command;
 mod engine;
 mod facts;
-pub mod found;
+mod found;
 pub mod gcc;
-pub mod kinds;
-pub mod laws;
+mod kinds;
+mod laws;
 mod lists;
 pub mod msvc;
 pub mod uncached_words;
 
-pub use cmdlines_base::argument::{ArgDisposition, Argument, Delimiter, NormalizedDisposition};
-pub use cmdlines_base::argument_error::{
-    ArgParseError, ArgParseResult, ArgToStringError, ArgToStringResult,
+pub use cmdlines_base::{
+    ArgDisposition, ArgInfo, ArgParseError, ArgParseResult, ArgToStringError, ArgToStringResult,
+    ArgsIter, Argument, ArgumentValue, ArtifactDescriptor, ByteTree, ColorMode, CompilerArguments,
+    Delimiter, FromArg, IntoArg, Iter, IterStrings, NormalizedDisposition, SearchableArgInfo,
+    SingleCompileCommand, Table, split_os_string_arg,
 };
-pub use cmdlines_base::byte_tree::ByteTree;
-pub use cmdlines_base::color_mode::ColorMode;
-pub use cmdlines_base::command::{ArtifactDescriptor, SingleCompileCommand};
-pub use cmdlines_base::compiler_arguments::CompilerArguments;
-pub use cmdlines_base::cutting::ArgsIter;
-pub use cmdlines_base::printing::{Iter, IterStrings};
-pub use cmdlines_base::splitting::split_os_string_arg;
-pub use cmdlines_base::table::{ArgInfo, SearchableArgInfo, Table};
-pub use cmdlines_base::value::{ArgumentValue, FromArg, IntoArg};
-pub use cmdlines_requests::command::Cacheable;
-pub use cmdlines_requests::parsed::{DependencyOptions, ParsedArguments};
-pub use cmdlines_tables::compiler::CCompilerKind;
-pub use cmdlines_tables::compiler_tables::compiler_tree;
+pub use cmdlines_requests::{Cacheable, DependencyOptions, ParsedArguments};
 pub use cmdlines_tables::kind::ArgKind;
 pub use cmdlines_tables::language::{Language, language_to_clang_arg, language_to_gcc_arg};
-pub use cmdlines_tables::value::ArgData;
+pub use cmdlines_tables::{ArgData, CCompilerKind, compiler_tree};
 pub use command::CommandError;
-pub use kinds::{Clang, Diab, Gcc, Msvc, TaskingVX};
-pub use os_files::file_time::FileTime;
-pub use os_files::files::{FileFail, Files, Metadata};
-pub use os_files::listed::Listed;
-pub use os_files::memory_files::{MemoryFile, MemoryFiles};
-pub use os_files::os_bytes::OsBytes;
-pub use response_files::diab::{DiabFiles, ExpandAtArgs};
-pub use response_files::fault::ParseFault;
+pub use found::{FoundCompiler, HasKind};
+pub use kinds::{
+    Clang, ClangKind, Diab, DiabKind, Gcc, GccKind, Msvc, MsvcKind, TaskingVX, TaskingVXKind,
+};
+pub use laws::{
+    commands_read_as_wanted, inputs_are_safe, requests_have_a_known_language,
+    requests_have_an_object,
+};
+pub use os_files::{FileFail, FileTime, Files, Listed, MemoryFile, MemoryFiles, Metadata, OsBytes};
 pub use response_files::gcc::GnuFiles;
 pub use response_files::msvc::MsvcFiles;
-pub use response_files::words::ExpandedWords;
-pub use response_texts::decoding::decode_response_text;
-pub use response_texts::gnu::split_gnu_response_file_args;
-pub use response_texts::msvc::SplitMsvcResponseFileArgs;
+pub use response_files::{DiabFiles, ExpandAtArgs, ExpandedWords, ParseFault};
+pub use response_texts::{
+    SplitMsvcResponseFileArgs, decode_response_text, split_gnu_response_file_args,
+};
 pub use uncached_words::{empty_value, opens_file};

@@ -4,9 +4,9 @@
 ghost use Rattle.std.specs.Prelude.{◌≡◌};
 ghost use Rattle.cmdlines.specs.Hazards.{names_file, opens_file};
 
-use cmdlines_requests::parsed::ParsedArguments;
-use cmdlines_tables::compiler::CCompilerKind;
-use os_files::os_bytes::OsBytes;
+use cmdlines_requests::ParsedArguments;
+use cmdlines_tables::CCompilerKind;
+use os_files::OsBytes;
 
 /// Whether an option whose value may be joined or separate was read with an empty value. It takes no memory.
 pub fn empty_value(parsed: &ParsedArguments) -> bool

@@ -1,7 +1,6 @@
 //! Commands, and the outputs that are asked for.
 
-use os_files::listed::Listed;
-use os_files::os_bytes::OsBytes;
+use os_files::{Listed, OsBytes};
 
 /// What is run: an executable with its words, in a directory, under an environment.
 #[derive(Clone, Debug, Drop, PartialEq, Eq)]

@@ -13,7 +13,7 @@ use crate::argument::{ArgDisposition, Argument, Delimiter};
 use crate::argument_error::{ArgParseError, ArgParseResult};
 use crate::table::{ArgInfo, SearchableArgInfo, behind};
 use crate::value::ArgumentValue;
-use os_files::os_bytes::OsBytes;
+use os_files::OsBytes;
 use std::alloc::{AllocError, Global};
 use std::marker::PhantomData;
 

@@ -7,7 +7,7 @@ ghost use Rattle.cmdlines_base.specs.Refusal.{Refusal, IsErrorOf};
 ghost use Rattle.cmdlines_base.specs.Texts.{WordText, PathText, ValueText};
 
 use crate::argument_error::{ArgParseError, ArgParseResult, ArgToStringError, ArgToStringResult};
-use os_files::os_bytes::OsBytes;
+use os_files::OsBytes;
 use std::alloc::{AllocError, Global};
 
 /// A value that is made of a word.

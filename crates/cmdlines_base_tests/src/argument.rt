@@ -1,11 +1,11 @@
 //! Each function once.
 
 use crate::handed::{are_equal, copy_of};
-use cmdlines_base::argument::{ArgDisposition, Argument, NormalizedDisposition};
-use os_files::os_bytes::OsBytes;
+use cmdlines_base::{ArgDisposition, Argument, NormalizedDisposition};
+use os_files::OsBytes;
 use std::alloc::{AllocError, Global};
 use std::test::Fail;
-use test_kit::texts::is_that;
+use test_kit::is_that;
 
 fn with_value(alloc: Global, disposition: ArgDisposition) -> Result<Argument<OsBytes>, AllocError> {
     let value = OsBytes::from_slice(alloc, b"inc")?;

@@ -1,8 +1,8 @@
 //! Printed errors.
 
 use crate::handed::is_printed;
-use cmdlines_base::argument_error::{ArgParseError, ArgToStringError};
-use os_files::os_bytes::OsBytes;
+use cmdlines_base::{ArgParseError, ArgToStringError};
+use os_files::OsBytes;
 use std::alloc::{AllocError, Global};
 use std::test::Fail;
 

@@ -2,14 +2,13 @@
 
 use crate::examples::{ALL, TEXT, Value, table, words};
 use crate::handed::is_shown;
-use cmdlines_base::argument::{ArgDisposition, Argument};
-use cmdlines_base::argument_error::ArgParseError;
-use cmdlines_base::cutting::ArgsIter;
-use cmdlines_base::table::{ArgInfo, SearchableArgInfo, Table};
+use cmdlines_base::{
+    ArgDisposition, ArgInfo, ArgParseError, ArgsIter, Argument, SearchableArgInfo, Table,
+};
 use std::alloc::{AllocError, Global};
 use std::fmt::Write;
 use std::test::Fail;
-use test_kit::texts::{holds, is_that};
+use test_kit::{holds, is_that};
 
 fn write_argument(text: &mut String, argument: &Argument<Value>) -> Result<(), AllocError> {
     match argument {

@@ -5,11 +5,11 @@ ghost use Rattle.std.proofs.Common.{ap};
 ghost use Rattle.std.specs.Str.{is_utf8};
 ghost use Rattle.cmdlines_base.specs.Refusal.{because, unless_text};
 
-use cmdlines_base::argument::ArgDisposition;
-use cmdlines_base::argument_error::{ArgParseError, ArgParseResult, ArgToStringResult};
-use cmdlines_base::table::{ArgInfo, Table};
-use cmdlines_base::value::{ArgumentValue, IntoArg, path_to_string, word_to_string};
-use os_files::os_bytes::OsBytes;
+use cmdlines_base::{
+    ArgDisposition, ArgInfo, ArgParseError, ArgParseResult, ArgToStringResult, ArgumentValue,
+    IntoArg, Table, path_to_string, word_to_string,
+};
+use os_files::OsBytes;
 use std::alloc::{AllocError, Global};
 use std::test::Fail;
 

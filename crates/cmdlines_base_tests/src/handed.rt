@@ -6,7 +6,7 @@
 use std::alloc::{AllocError, Global};
 use std::fmt::{Debug, Display};
 use std::test::Fail;
-use test_kit::texts::{holds, is_that, prints};
+use test_kit::{holds, is_that, prints};
 
 /// Asserts that a value is printed so.
 pub(crate) fn is_printed<T: Display + Drop>(

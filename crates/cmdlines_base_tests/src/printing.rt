@@ -1,15 +1,12 @@
 //! Words cut and printed again, and texts by closures.
 
 use crate::examples::{Value, table, words};
-use cmdlines_base::argument::{ArgDisposition, Argument};
-use cmdlines_base::argument_error::ArgParseError;
-use cmdlines_base::cutting::ArgsIter;
-use cmdlines_base::table::Table;
-use os_files::os_bytes::OsBytes;
+use cmdlines_base::{ArgDisposition, ArgParseError, ArgsIter, Argument, Table};
+use os_files::OsBytes;
 use std::alloc::{AllocError, Global};
 use std::fmt::Write;
 use std::test::Fail;
-use test_kit::texts::is_that;
+use test_kit::is_that;
 
 /// The words that an argument prints, each after a space.
 fn printed(alloc: Global, argument: &Argument<Value>) -> Result<String, AllocError> {

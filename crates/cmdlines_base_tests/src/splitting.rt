@@ -1,11 +1,11 @@
 //! Words cut in two, by example.
 
 use crate::handed::is_shown;
-use cmdlines_base::splitting::split_os_string_arg;
-use os_files::os_bytes::OsBytes;
+use cmdlines_base::split_os_string_arg;
+use os_files::OsBytes;
 use std::alloc::{AllocError, Global};
 use std::test::Fail;
-use test_kit::texts::is_that;
+use test_kit::is_that;
 
 /// What comes before and after the separator, as text.
 fn parts_text(alloc: Global, parts: &(String, Option<String>)) -> Result<String, AllocError> {

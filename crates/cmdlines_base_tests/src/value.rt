@@ -1,12 +1,11 @@
 //! Each call through its bound, at the types of the crate.
 
 use crate::handed::is_shown;
-use cmdlines_base::argument_error::{ArgParseResult, ArgToStringResult};
-use cmdlines_base::value::{ArgumentValue, FromArg, IntoArg};
-use os_files::os_bytes::OsBytes;
+use cmdlines_base::{ArgParseResult, ArgToStringResult, ArgumentValue, FromArg, IntoArg};
+use os_files::OsBytes;
 use std::alloc::{AllocError, Global};
 use std::test::Fail;
-use test_kit::texts::is_that;
+use test_kit::is_that;
 
 /// The word that a value of a word prints.
 fn printed_again<T: FromArg + IntoArg>(alloc: Global, word: &str) -> Result<String, Fail> {

@@ -3,9 +3,8 @@
 ghost use Rattle.std.specs.Prelude.{◌≡◌, IfOk};
 ghost use Rattle.cmdlines_requests.specs.Small.{command_at};
 
-use cmdlines_base::command::SingleCompileCommand;
-use os_files::listed::Listed;
-use os_files::os_bytes::OsBytes;
+use cmdlines_base::SingleCompileCommand;
+use os_files::{Listed, OsBytes};
 use std::alloc::{AllocError, Global};
 
 /// Whether the outputs of a command may be kept.

@@ -2,5 +2,8 @@
 //! them, what writes their commands and what makes their keys speak of.
 #![tactic(auto)]
 
-pub mod command;
-pub mod parsed;
+mod command;
+mod parsed;
+
+pub use command::{Cacheable, command_at};
+pub use parsed::{DependencyOptions, ParsedArguments};

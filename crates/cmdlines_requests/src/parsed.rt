@@ -5,13 +5,9 @@ ghost use Rattle.std.specs.List.{list_any};
 ghost use Rattle.std.specs.Option.{option_copied};
 ghost use Rattle.cmdlines_requests.specs.Small.{object_name, output_named, object_file_name, pretty_name, archs_of, arch_flag, differs_from};
 
-use cmdlines_base::color_mode::ColorMode;
-use cmdlines_base::command::ArtifactDescriptor;
+use cmdlines_base::{ArtifactDescriptor, ColorMode};
 use cmdlines_tables::language::Language;
-use os_files::listed::Listed;
-use os_files::lossy::Lossy;
-use os_files::os_bytes::OsBytes;
-use os_files::path::file_name;
+use os_files::{Listed, Lossy, OsBytes, file_name};
 use std::alloc::{AllocError, Global};
 use std::collections::BTreeSet;
 

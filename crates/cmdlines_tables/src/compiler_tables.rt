@@ -8,7 +8,7 @@ use crate::embedded_tables::{diab_table, tasking_vx_table};
 use crate::msvc_table::{msvc_dash_table, msvc_slash_table};
 use crate::tables::{clang_table, gnu_table};
 use crate::value::ArgData;
-use cmdlines_base::byte_tree::ByteTree;
+use cmdlines_base::ByteTree;
 use std::alloc::{AllocError, Global};
 
 /// The tree of a compiler's flags: of its one table, or of both.

@@ -1,13 +1,25 @@
 //! The options of the C compilers: what each is for, the tables of each compiler, and the languages.
 #![tactic(auto)]
 
-pub mod compiler;
-pub mod compiler_tables;
-pub mod cutting;
-pub mod embedded_tables;
+mod compiler;
+mod compiler_tables;
+mod cutting;
+mod embedded_tables;
 pub mod kind;
 pub mod language;
-pub mod laws;
-pub mod msvc_table;
-pub mod tables;
-pub mod value;
+mod laws;
+mod msvc_table;
+mod tables;
+mod value;
+
+pub use compiler::CCompilerKind;
+pub use compiler_tables::compiler_tree;
+pub use cutting::arguments_of;
+pub use embedded_tables::{diab_table, tasking_vx_table};
+pub use laws::{
+    arguments_are_their_items, only_msvc_gives_inputs_by_options, options_are_counted,
+    own_words_are_read, tables_share_no_flag,
+};
+pub use msvc_table::{msvc_dash_table, msvc_slash_table};
+pub use tables::{clang_table, gnu_table};
+pub use value::ArgData;

@@ -5,8 +5,7 @@ ghost use Rattle.cmdlines_tables.specs.MsvcTable.{msvc_dash_entries, msvc_slash_
 
 use crate::kind::ArgKind;
 use crate::value::ArgData;
-use cmdlines_base::argument::ArgDisposition;
-use cmdlines_base::table::{ArgInfo, Table};
+use cmdlines_base::{ArgDisposition, ArgInfo, Table};
 use std::alloc::{AllocError, Global};
 
 /// The options of Msvc after a dash.

@@ -6,8 +6,7 @@ ghost use Rattle.cmdlines_tables.specs.Tables.{gnu_entries, clang_entries};
 
 use crate::kind::ArgKind;
 use crate::value::ArgData;
-use cmdlines_base::argument::ArgDisposition;
-use cmdlines_base::table::{ArgInfo, Table};
+use cmdlines_base::{ArgDisposition, ArgInfo, Table};
 use std::alloc::{AllocError, Global};
 
 /// The options of Gcc, which Clang has too.

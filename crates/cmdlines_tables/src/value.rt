@@ -4,9 +4,8 @@ ghost use Rattle.std.specs.Prelude.{◌≡◌};
 ghost use Rattle.cmdlines_tables.specs.Values.{kind_in, word_in};
 
 use crate::kind::ArgKind;
-use cmdlines_base::argument_error::{ArgParseResult, ArgToStringResult};
-use cmdlines_base::value::{ArgumentValue, IntoArg, word_to_string};
-use os_files::os_bytes::OsBytes;
+use cmdlines_base::{ArgParseResult, ArgToStringResult, ArgumentValue, IntoArg, word_to_string};
+use os_files::OsBytes;
 use std::alloc::{AllocError, Global};
 
 /// The value of an argument: its kind, and its word where it takes one.

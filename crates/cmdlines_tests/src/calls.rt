@@ -1,18 +1,18 @@
 //! Each other public call once, and printed texts.
 
 use crate::written::{bare, parsed_by_clang};
-use cmdlines::command::CommandError;
-use cmdlines::found::{FoundCompiler, HasKind};
-use cmdlines::kinds::{ClangKind, DiabKind, GccKind, MsvcKind, TaskingVXKind};
-use cmdlines_base::value::ArgumentValue;
-use cmdlines_requests::parsed::ParsedArguments;
-use cmdlines_tables::compiler::CCompilerKind;
-use os_files::os_bytes::OsBytes;
-use response_files::fault::ParseFault;
+use cmdlines::{
+    ClangKind, CommandError, DiabKind, FoundCompiler, GccKind, HasKind, MsvcKind, TaskingVXKind,
+};
+use cmdlines_base::ArgumentValue;
+use cmdlines_requests::ParsedArguments;
+use cmdlines_tables::CCompilerKind;
+use os_files::OsBytes;
+use response_files::ParseFault;
 use std::alloc::{AllocError, Global};
 use std::fmt::Display;
 use std::test::Fail;
-use test_kit::texts::{holds, prints};
+use test_kit::{holds, prints};
 
 /// Whether a compiler reports that it compiles C++ by itself, this version and the digest of this assembler.
 fn tells<K: HasKind>(

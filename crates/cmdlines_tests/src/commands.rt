@@ -1,16 +1,13 @@
 //! The commands of a request.
 
 use crate::written::{bare, parsed_by_clang, parsed_by_gcc, without_outputs};
-use cmdlines::command::CommandError;
-use cmdlines::found::HasKind;
-use cmdlines::kinds::{ClangKind, GccKind, MsvcKind};
-use cmdlines_base::command::SingleCompileCommand;
-use cmdlines_requests::command::Cacheable;
-use cmdlines_requests::parsed::ParsedArguments;
-use os_files::os_bytes::OsBytes;
+use cmdlines::{ClangKind, CommandError, GccKind, HasKind, MsvcKind};
+use cmdlines_base::SingleCompileCommand;
+use cmdlines_requests::{Cacheable, ParsedArguments};
+use os_files::OsBytes;
 use std::alloc::{AllocError, Global};
 use std::test::Fail;
-use test_kit::texts::holds;
+use test_kit::holds;
 
 /// A variable of that name with that value.
 fn variable(alloc: Global, name: &str, value: &str) -> Result<(OsBytes, OsBytes), AllocError> {

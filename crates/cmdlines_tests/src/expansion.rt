@@ -1,16 +1,13 @@
 //! Words whose files are opened.
 
-use os_files::memory_files::MemoryFiles;
-use os_files::os_bytes::OsBytes;
-use response_files::diab::DiabFiles;
+use os_files::{MemoryFiles, OsBytes};
 use response_files::gcc::GnuFiles;
-use response_files::laws::{expansion_is_recursion, other_words_stay};
 use response_files::msvc::MsvcFiles;
-use response_files::words::{ExpandedWords, Opens};
+use response_files::{DiabFiles, ExpandedWords, Opens, expansion_is_recursion, other_words_stay};
 use std::alloc::{AllocError, Global};
 use std::process::Abort;
 use std::test::Fail;
-use test_kit::rows::{files_of, insert, words};
+use test_kit::{files_of, insert, words};
 
 /// The files of each row, in `/w`.
 fn all_files(alloc: Global) -> Result<MemoryFiles, AllocError> {

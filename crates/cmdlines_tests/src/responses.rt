@@ -1,12 +1,10 @@
 //! Response texts: their bytes as text, and their arguments by each grammar.
 
-use os_files::os_bytes::OsBytes;
-use response_texts::decoding::decode_response_text;
-use response_texts::gnu::split_gnu_response_file_args;
-use response_texts::laws::{
-    empty_quotes_are_an_argument, gnu_texts_have_one_reading, msvc_texts_have_one_reading,
+use os_files::OsBytes;
+use response_texts::{
+    SplitMsvcResponseFileArgs, decode_response_text, empty_quotes_are_an_argument,
+    gnu_texts_have_one_reading, msvc_texts_have_one_reading, split_gnu_response_file_args,
 };
-use response_texts::msvc::SplitMsvcResponseFileArgs;
 use std::alloc::{AllocError, Global};
 use std::process::Abort;
 use std::test::Fail;

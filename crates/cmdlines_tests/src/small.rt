@@ -1,16 +1,13 @@
 //! The small calls on what a command line asks for.
 
 use crate::written::{asked_of, bare, parsed_by_clang, parsed_by_gcc, without_outputs};
-use cmdlines::kinds::{ClangKind, Gcc, GccKind};
-use cmdlines::laws::{inputs_are_safe, requests_have_an_object};
-use cmdlines_requests::parsed::ParsedArguments;
-use cmdlines_tables::laws::arguments_are_their_items;
-use os_files::listed::Listed;
-use os_files::os_bytes::OsBytes;
+use cmdlines::{ClangKind, Gcc, GccKind, inputs_are_safe, requests_have_an_object};
+use cmdlines_requests::ParsedArguments;
+use cmdlines_tables::arguments_are_their_items;
+use os_files::{Listed, OsBytes};
 use std::alloc::{AllocError, Global};
 use std::test::Fail;
-use test_kit::rows::words;
-use test_kit::texts::{holds, is_that, write_words};
+use test_kit::{holds, is_that, words, write_words};
 
 /// Asserts how the name of the object of a request is shown.
 fn shows(alloc: Global, request: &ParsedArguments, name: &str, line: &str) -> Result<(), Fail> {

@@ -1,18 +1,13 @@
 //! The tables of options: values, steps of a search, laws. What is found of a word is shown by rows of command lines.
 
-use cmdlines_base::byte_tree::ByteTree;
-use cmdlines_base::table::{ArgInfo, SearchableArgInfo};
-use cmdlines_base::value::{ArgumentValue, IntoArg};
-use cmdlines_tables::compiler::CCompilerKind;
-use cmdlines_tables::compiler_tables::compiler_tree;
+use cmdlines_base::{ArgInfo, ArgumentValue, ByteTree, IntoArg, SearchableArgInfo};
 use cmdlines_tables::kind::ArgKind;
-use cmdlines_tables::laws::{
-    only_msvc_gives_inputs_by_options, options_are_counted, own_words_are_read,
-    tables_share_no_flag,
+use cmdlines_tables::{
+    ArgData, CCompilerKind, compiler_tree, only_msvc_gives_inputs_by_options, options_are_counted,
+    own_words_are_read, tables_share_no_flag,
 };
-use cmdlines_tables::value::ArgData;
 use std::test::Fail;
-use test_kit::texts::{holds, is_that};
+use test_kit::{holds, is_that};
 
 /// Compilers, words, the flags that are found of them, and how many steps that takes.
 const SEARCHED: [(CCompilerKind, &str, Option<&str>, usize); 4] = [

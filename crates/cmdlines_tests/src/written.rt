@@ -3,16 +3,13 @@
 //! The proof of a function grows with what it drops by itself, field by field, at each of its ends. So requests, compilers and commands are
 //! lent, each function holds one at most, and it hands that over to `drop`, which is one call.
 
-use cmdlines::found::{FoundCompiler, HasKind};
-use cmdlines::kinds::{ClangKind, GccKind};
-use cmdlines_base::compiler_arguments::CompilerArguments;
-use cmdlines_requests::parsed::ParsedArguments;
-use os_files::listed::Listed;
-use os_files::memory_files::MemoryFiles;
-use os_files::os_bytes::OsBytes;
+use cmdlines::{ClangKind, FoundCompiler, GccKind, HasKind};
+use cmdlines_base::CompilerArguments;
+use cmdlines_requests::ParsedArguments;
+use os_files::{Listed, MemoryFiles, OsBytes};
 use std::alloc::{AllocError, Global};
 use std::test::Fail;
-use test_kit::rows::words;
+use test_kit::words;
 
 /// A compiler of that kind, of which nothing more is known.
 pub(crate) fn bare<K: HasKind>(alloc: Global) -> Result<FoundCompiler<K>, AllocError> {

@@ -1,8 +1,7 @@
 //! What a Clang loads and reads beside its driver: its libraries, and the configuration files whose words come before those of each call.
 
 use crate::compilers::file_name;
-use host_protocol::command_line::CommandLine;
-use host_protocol::host_error::HostError;
+use host_protocol::{CommandLine, HostError};
 use memchr::memmem;
 use std::alloc::Global;
 use std::collections::BTreeSet;

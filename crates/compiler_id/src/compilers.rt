@@ -3,20 +3,18 @@
 ghost use Rattle.std.specs.Prelude.{◌≡◌};
 
 use crate::parts::{Driver, driver_of};
-use ckeys::compiler::CCompiler;
-use cmdlines::found::{FoundCompiler, HasKind};
-use cmdlines_tables::compiler::CCompilerKind;
-use host_protocol::command_line::CommandLine;
-use host_protocol::host::Host;
-use host_protocol::host_error::HostError;
-use key_additions::additions::Additions;
-use os_files::os_bytes::OsBytes;
-use recorded_builds::executables::{EntryCompiler, compiler_of};
+use ckeys::CCompiler;
+use cmdlines::{FoundCompiler, HasKind};
+use cmdlines_tables::CCompilerKind;
+use host_protocol::{CommandLine, Host, HostError};
+use key_additions::Additions;
+use os_files::OsBytes;
+use recorded_builds::{EntryCompiler, compiler_of};
 use std::alloc::Global;
 use std::fs;
 use std::io::Read;
 use std::rt::Files;
-use wrap_base::compiler::Compiler;
+use wrap_base::Compiler;
 
 /// The compiler that the file of this path is, with all links followed, where it is one that is supported here.
 pub fn kind_of<R: Files + AllocGlobal>(

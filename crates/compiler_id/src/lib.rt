@@ -2,6 +2,9 @@
 #![tactic(auto)]
 
 mod clang_files;
-pub mod compilers;
-pub mod native;
+mod compilers;
+mod native;
 mod parts;
+
+pub use compilers::{KnownCompiler, add_surroundings, compiler_at, kind_of};
+pub use native::native_of;

@@ -2,17 +2,11 @@
 
 ghost use Rattle.std.specs.Prelude.{◌≡◌};
 
-use byte_formats::fields::put_framed;
-use cache_dir::file_digests::{digest_of, state_of};
-use cache_dir::folder::Kind;
-use disk_files::whole::read_whole;
-use host_protocol::asking::{messages_of, push_words};
-use host_protocol::command_line::CommandLine;
-use host_protocol::digests::LETTERS;
-use host_protocol::host::Host;
-use host_protocol::host_error::HostError;
-use os_files::listed::Listed;
-use os_files::os_bytes::OsBytes;
+use byte_formats::put_framed;
+use cache_dir::{Kind, digest_of, state_of};
+use disk_files::read_whole;
+use host_protocol::{CommandLine, Host, HostError, LETTERS, messages_of, push_words};
+use os_files::{Listed, OsBytes};
 use std::io::Read;
 use std::rt::Files;
 

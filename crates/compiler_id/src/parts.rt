@@ -3,18 +3,12 @@
 ghost use Rattle.std.specs.Prelude.{◌≡◌};
 
 use crate::clang_files::{add_clang_files, names_configuration};
-use byte_formats::fields::{put_framed, put_number};
-use cache_dir::file_digests::state_of;
-use cache_dir::folder::Kind;
-use cmdlines_tables::compiler::CCompilerKind;
-use disk_files::whole::read_whole;
-use host_protocol::asking::{messages_of, words_of};
-use host_protocol::command_line::CommandLine;
-use host_protocol::fields::{Fields, into_text};
-use host_protocol::host::Host;
-use host_protocol::host_error::HostError;
-use os_files::listed::Listed;
-use os_files::os_bytes::OsBytes;
+use byte_formats::{put_framed, put_number};
+use cache_dir::{Kind, state_of};
+use cmdlines_tables::CCompilerKind;
+use disk_files::read_whole;
+use host_protocol::{CommandLine, Fields, Host, HostError, into_text, messages_of, words_of};
+use os_files::{Listed, OsBytes};
 use std::alloc::Global;
 use std::fs;
 use std::io::Read;

@@ -1,8 +1,7 @@
 //! What lies under a path of the disk, and in which state.
 
-use byte_formats::fault::ReadFault;
-use byte_formats::fields::{put_number, read_number};
-use os_files::file_time::FileTime;
+use byte_formats::{ReadFault, put_number, read_number};
+use os_files::FileTime;
 use std::alloc::AllocError;
 use std::fs::Metadata;
 use std::io::ErrorKind;

@@ -7,10 +7,10 @@ ghost use Rattle.entry_keys.specs.Framing.{flag};
 
 use crate::framed_digest::FramedDigest;
 use crate::framing::{framed_option, framed_outputs, framed_pairs, framed_words};
-use ckeys_base::hash_state::HashState;
-use cmdlines_requests::parsed::ParsedArguments;
-use cmdlines_tables::compiler::CCompilerKind;
-use os_files::os_bytes::OsBytes;
+use ckeys_base::HashState;
+use cmdlines_requests::ParsedArguments;
+use cmdlines_tables::CCompilerKind;
+use os_files::OsBytes;
 use std::alloc::{AllocError, Global};
 
 /// Who asks: the compiler as it was found, where it runs, and what its request says.

@@ -10,8 +10,8 @@ ghost use Rattle.entry_keys.specs.declared.entry_key.EntryKey.{EntryKey};
 
 use crate::asker::Asker;
 use crate::sights::{SeenInput, preprocessor_cache_entry_hash_key};
-use ckeys_base::hash_state::HashState;
-use os_files::os_bytes::OsBytes;
+use ckeys_base::HashState;
+use os_files::OsBytes;
 use std::alloc::{AllocError, Global};
 use std::hash::Hash;
 

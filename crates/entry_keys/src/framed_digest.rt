@@ -5,8 +5,7 @@ ghost use Rattle.os_files.specs.Bytes.{Bytes};
 ghost use Rattle.byte_formats.specs.Spelling.{FitsFrame, framed_all};
 ghost use Rattle.ckeys_base.specs.Hex.{hex_of};
 
-use ckeys_base::digest::Digest;
-use ckeys_base::hash_state::HashState;
+use ckeys_base::{Digest, HashState};
 use std::alloc::{AllocError, Global};
 use std::marker::Model;
 

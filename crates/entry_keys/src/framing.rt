@@ -5,9 +5,9 @@ ghost use Rattle.std.specs.Option.{option_map, option_to_list};
 ghost use Rattle.byte_formats.specs.Spelling.{framed_all};
 ghost use Rattle.entry_keys.specs.Framing.{FitFrames, pair_parts, paths_of};
 
-use byte_formats::fields::put_framed;
-use cmdlines_base::command::ArtifactDescriptor;
-use os_files::os_bytes::OsBytes;
+use byte_formats::put_framed;
+use cmdlines_base::ArtifactDescriptor;
+use os_files::OsBytes;
 use std::alloc::{AllocError, Global};
 
 /// Adds words, each after its length.

@@ -5,9 +5,8 @@ ghost use Rattle.entry_keys.specs.Identity.{Identity, IdentityFits, identity_mat
 ghost use Rattle.entry_keys.specs.Sights.{Sights, SightsFit, sight_material};
 ghost use Rattle.entry_keys.specs.Telling.{AreTold, entry_key_with};
 
-use byte_formats::laws::framed_parts_are_told;
-use ckeys_base::digest::texts_tell_digests;
-use ckeys_base::hash_state::HashState;
+use byte_formats::framed_parts_are_told;
+use ckeys_base::{HashState, texts_tell_digests};
 
 /// What is hashed determines who asks, and what the preprocessor would be given.
 pub fn materials_tell_calls()

@@ -10,11 +10,10 @@ ghost use Rattle.time_macros.specs.Seen.{HasSeen};
 use crate::asker::{Asker, flag};
 use crate::framed_digest::FramedDigest;
 use crate::framing::{framed_lists, framed_option, framed_pairs, framed_texts};
-use ckeys_base::digest::Digest;
-use ckeys_base::hash_state::HashState;
-use os_files::path::join;
+use ckeys_base::{Digest, HashState};
+use os_files::join;
 use std::alloc::{AllocError, Global};
-use time_macros::time_macro_finder::TimeMacroFinder;
+use time_macros::TimeMacroFinder;
 
 /// The input of a call, as it is when the call is made.
 #[derive(Clone, Copy)]

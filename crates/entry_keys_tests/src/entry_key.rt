@@ -3,8 +3,8 @@
 use entry_keys::entry_key::{
     EntryKey, entry_keys_are_ordered_by_their_fields, entry_keys_are_their_fields,
 };
-use entry_keys::laws::{entry_keys_tell_calls, materials_tell_calls};
-use os_files::os_bytes::OsBytes;
+use entry_keys::{entry_keys_tell_calls, materials_tell_calls};
+use os_files::OsBytes;
 use sha2::Sha256;
 use std::alloc::{AllocError, Global};
 use std::cmp::Ordering;

@@ -4,7 +4,7 @@ use crate::scene::Scene;
 use sha2::Sha256;
 use std::alloc::{AllocError, Global};
 use std::test::Fail;
-use test_kit::texts::is_that;
+use test_kit::is_that;
 
 /// The identity of `/usr/bin/gcc`, where `PATH` is `/bin` and the object goes to `foo.o`.
 const OF_GCC: &str = "8f9ee611f2b057ef69340bf27a52bdcac4f4c6045f8106019db8f21163f8a626";

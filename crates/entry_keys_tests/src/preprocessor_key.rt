@@ -1,12 +1,11 @@
 //! Preprocessor keys, as hashlib computes them of the framed parts, and inputs that have none.
 
 use crate::scene::Scene;
-use entry_keys::asker::Asker;
-use entry_keys::sights::{SeenInput, preprocessor_cache_entry_hash_key};
+use entry_keys::{Asker, SeenInput, preprocessor_cache_entry_hash_key};
 use sha2::Sha256;
 use std::alloc::{AllocError, Global};
 use std::test::Fail;
-use test_kit::texts::is_that;
+use test_kit::is_that;
 
 /// The key of an input that asks for neither day nor second.
 const OF_PLAIN: &str = "29233562820e4c8fbb484b31a5df1ecf8cb510420474d61ea5247f9cec9d5a58";

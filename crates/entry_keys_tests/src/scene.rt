@@ -1,13 +1,11 @@
 //! A call in `/w`, whose request has something in each of its lists.
 
-use cmdlines_base::color_mode::ColorMode;
-use cmdlines_base::command::ArtifactDescriptor;
-use cmdlines_requests::parsed::{DependencyOptions, ParsedArguments};
-use cmdlines_tables::compiler::CCompilerKind;
+use cmdlines_base::{ArtifactDescriptor, ColorMode};
+use cmdlines_requests::{DependencyOptions, ParsedArguments};
+use cmdlines_tables::CCompilerKind;
 use cmdlines_tables::language::Language;
-use entry_keys::asker::Asker;
-use os_files::listed::Listed;
-use os_files::os_bytes::OsBytes;
+use entry_keys::Asker;
+use os_files::{Listed, OsBytes};
 use std::alloc::{AllocError, Global};
 
 /// What an asker borrows.

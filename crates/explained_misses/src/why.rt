@@ -1,35 +1,25 @@
 //! What differed at the last call with the same outputs that was compiled from the one before it.
 
-use cache_dir::folder::CacheDir;
-use cache_dir::making_room::make_room;
-use cache_files::part_files::{name_of_parts, parts_under, put_parts};
-use cache_files::parts::{kept_parts, parts_of};
+use cache_dir::{CacheDir, make_room};
 use cache_files::short_text::{TextDifference, short_text};
-use cache_format::kept_parts::KeptParts;
-use ckeys::compiler_impl::CCompilerImpl;
-use cmdlines::kinds::{Clang, Gcc};
-use cmdlines_base::command::ArtifactDescriptor;
-use cmdlines_base::compiler_arguments::CompilerArguments;
-use cmdlines_requests::parsed::ParsedArguments;
-use cmdlines_tables::compiler::CCompilerKind;
-use compiler_id::compilers::kind_of;
-use fingerprints::difference::Difference;
+use cache_files::{kept_parts, name_of_parts, parts_of, parts_under, put_parts};
+use cache_format::KeptParts;
+use ckeys::CCompilerImpl;
+use cmdlines::{Clang, Gcc};
+use cmdlines_base::{ArtifactDescriptor, CompilerArguments};
+use cmdlines_requests::ParsedArguments;
+use cmdlines_tables::CCompilerKind;
+use compiler_id::kind_of;
 use fingerprints::explain::explain;
-use fingerprints::fingerprint::Fingerprint;
-use fingerprints::part::Part;
-use host_protocol::command_line::CommandLine;
-use host_protocol::host_error::HostError;
-use key_additions::additions::difference;
-use known_options::dependencies::dependencies_of;
-use os_files::files::Files as CallFiles;
-use os_files::listed::Listed;
-use os_files::os_bytes::OsBytes;
+use fingerprints::{Difference, Fingerprint, Part};
+use host_protocol::{CommandLine, HostError};
+use key_additions::difference;
+use known_options::dependencies_of;
+use os_files::{Files as CallFiles, Listed, OsBytes};
 use snapshot_files::SnapshotFiles;
 use std::alloc::Global;
 use std::rt::Files;
-use wrap_base::compiler::Named;
-use wrap_base::reason::Reason;
-use wrap_base::request::Request;
+use wrap_base::{Named, Reason, Request};
 
 /// What words ask a compiler for.
 type Asked = CompilerArguments<ParsedArguments>;

@@ -4,15 +4,13 @@ ghost use Rattle.std.specs.Prelude.{◌≡◌, ◌⊎◌, ◌+◌, ◌-◌, ◌%
 ghost use Rattle.os_files.specs.Bytes.{ticked};
 ghost use Rattle.ckeys_records.specs.Meaning.{StepTicks};
 
-use ckeys_records::preprocessor::{Preprocessor, Printed, Ticks, ToolFail};
-use ckeys_records::step::Step;
-use cmdlines_base::command::{ArtifactDescriptor, SingleCompileCommand};
-use cmdlines_tables::compiler::CCompilerKind;
-use os_files::files::Files;
-use os_files::os_bytes::OsBytes;
-use rustkeys::answers::RustcAnswers;
+use ckeys_records::{Preprocessor, Printed, Step, Ticks, ToolFail};
+use cmdlines_base::{ArtifactDescriptor, SingleCompileCommand};
+use cmdlines_tables::CCompilerKind;
+use os_files::{Files, OsBytes};
+use rustkeys::RustcAnswers;
 use std::alloc::Global;
-use wrap_base::tool::{Compiled, Tool};
+use wrap_base::{Compiled, Tool};
 
 /// For tests: a tool with an I/O error at one call, of whichever step. No later call fails here.
 #[derive(Drop)]

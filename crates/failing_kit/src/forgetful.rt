@@ -6,7 +6,7 @@ ghost use Rattle.std.proofs.Common.{rules};
 ghost use Rattle.ckeys_base.specs.Shelf.{Asks, KeepsKeys, Puts};
 ghost use Rattle.failing_kit.specs.Alone.{IsAlone};
 
-use ckeys_base::store::Store;
+use ckeys_base::Store;
 use std::alloc::Global;
 use std::collections::HashMap;
 use std::hash::Hash;

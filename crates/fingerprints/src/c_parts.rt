@@ -6,8 +6,7 @@ ghost use Rattle.fingerprints.specs.Explaining.{AgreeByC};
 use crate::part::Part;
 use ckeys_records::output_name::OutputName;
 use cmdlines_tables::language::Language;
-use os_files::listed::Listed;
-use os_files::os_bytes::OsBytes;
+use os_files::{Listed, OsBytes};
 
 /// The parts of a request to a C compiler, in the order in which two requests are compared. Digests are texts.
 #[derive(Clone, Debug, Drop, PartialEq, Eq)]

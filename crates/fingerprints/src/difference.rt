@@ -8,8 +8,7 @@ use crate::explain::explain;
 use crate::fingerprint::Fingerprint;
 use crate::part::Part;
 use ckeys_records::output_name::OutputName;
-use os_files::lossy::Lossy;
-use os_files::os_bytes::OsBytes;
+use os_files::{Lossy, OsBytes};
 use rustc_parts::parts::{EnvDep, Parts};
 use std::fmt;
 

@@ -24,30 +24,19 @@ ghost use Rattle.fingerprints.specs.Telling.{OnReason, Tells};
 
 use crate::c_parts::CParts;
 use crate::pieces::{assembler_of, cached_variables, stripped};
-use ckeys::KeyContents;
-use ckeys::compiler_impl::CCompilerImpl;
-use ckeys_base::hash_state::HashState;
-use ckeys_records::config::KeyConfig;
-use ckeys_records::fault::Fault;
+use ckeys::{CCompilerImpl, KeyContents};
+use ckeys_base::HashState;
 use ckeys_records::output_name::OutputName;
-use ckeys_records::word_end::stripped_words_lack_the_end;
-use cmdlines_requests::parsed::ParsedArguments;
-use os_files::files::Files;
-use os_files::listed::Listed;
-use os_files::os_bytes::OsBytes;
-use rustc_compiler::rust::Rust;
+use ckeys_records::{Fault, KeyConfig, stripped_words_lack_the_end};
+use cmdlines_requests::ParsedArguments;
+use os_files::{Files, Listed, OsBytes};
+use rustc_compiler::Rust;
 use rustc_options::parsed::ParsedArguments as RustArguments;
 use rustc_parts::parts::Parts;
-use rustkeys::compilation::RustCompilation;
-use rustkeys::hasher::RustHasher;
+use rustkeys::{RustCompilation, RustHasher};
 use std::alloc::{AllocError, Global};
-use wrap_base::compiler::{AnyC, Named};
-use wrap_base::reason::Reason;
-use wrap_base::request::Request;
-use wrap_base::tool::Tool;
-use wrap_keys::keys::{output_names, place_of};
-use wrap_keys::rust_verdict::{RustVerdict, judge_rust};
-use wrap_keys::verdict::{Verdict, judge};
+use wrap_base::{AnyC, Named, Reason, Request, Tool};
+use wrap_keys::{RustVerdict, Verdict, judge, judge_rust, output_names, place_of};
 
 /// Of what a request's key is made: the parts by its family, with digests in the place of files' contents.
 #[derive(Clone, Debug, Drop, PartialEq, Eq)]

@@ -6,8 +6,7 @@ ghost use Rattle.wrap_keys.specs.CallRecords.{AreDistinct};
 ghost use Rattle.wrap_keys.specs.StoreKeys.{SameRecord};
 ghost use Rattle.fingerprints.specs.Fingerprints.{fingerprint_of};
 
-use ckeys_base::digest::texts_tell_digests;
-use ckeys_base::hash_state::HashState;
+use ckeys_base::{HashState, texts_tell_digests};
 
 /// Under distinct digests the fingerprints of two calls are equal exactly if their records are, of whichever families, names of outputs
 /// with their marks included.

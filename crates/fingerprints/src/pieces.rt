@@ -4,13 +4,12 @@ ghost use Rattle.std.specs.Prelude.{◌≡◌, ◌++◌, filter, IfOk};
 ghost use Rattle.ckeys_records.specs.Params.{is_cached, stripped_words};
 ghost use Rattle.wrap_base.specs.Commands.{traits_of};
 
-use ckeys::compiler_impl::CCompilerImpl;
-use ckeys_base::strip::strip_basedirs_from_arg;
-use ckeys_records::params::is_cached;
-use os_files::listed::Listed;
-use os_files::os_bytes::OsBytes;
+use ckeys::CCompilerImpl;
+use ckeys_base::strip_basedirs_from_arg;
+use ckeys_records::is_cached;
+use os_files::{Listed, OsBytes};
 use std::alloc::{AllocError, Global};
-use wrap_base::compiler::AnyC;
+use wrap_base::AnyC;
 
 /// Words without the folders that don't count, after others.
 fn with_stripped(

@@ -1,23 +1,18 @@
 //! What a call came to is counted, and reported in a line of the log where one is kept.
 
 use crate::deciding::{End, What};
-use call_log::facts::CallFacts;
+use call_log::CallFacts;
 use call_log::front::front;
-use host_protocol::command_line::CommandLine;
-use host_protocol::host::{Tally, tell_line};
-use host_protocol::host_error::HostError;
-use made_outputs::differences::Audit;
-use made_outputs::logging::log;
-use rustc_id::rustc::is_named_rustc;
-use settings::key::Key;
-use statistics::calls::counters_of;
-use statistics::file::count;
-use statistics::names::{REMOTE, name_of};
+use host_protocol::{CommandLine, HostError, Tally, tell_line};
+use made_outputs::{Audit, log};
+use rustc_id::is_named_rustc;
+use settings::Key;
+use statistics::{REMOTE, count, counters_of, name_of};
 use std::alloc::Global;
 use std::fs::File;
 use std::rt::{Clock, Files};
 use std::time::SystemTime;
-use wrap_base::answer::How;
+use wrap_base::How;
 
 /// The counter of a call whose outputs are there.
 fn counter_of(line: &CommandLine, how: How) -> &'static str {

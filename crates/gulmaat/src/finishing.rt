@@ -4,30 +4,23 @@ ghost use Rattle.std.specs.Prelude.{◌≡◌};
 
 use crate::deciding::{AskedCall, End, What};
 use blake2::Blake2b256;
-use cache_dir::folder::Kind;
-use cache_dir::making_room::make_room;
-use call_log::facts::CallFacts;
+use cache_dir::{Kind, make_room};
+use call_log::CallFacts;
 use entry_keys::entry_key::EntryKey;
-use host_protocol::command_line::CommandLine;
-use host_protocol::fields::into_text;
-use host_protocol::host::Host;
-use host_protocol::host_error::HostError;
-use include_records::record::PreprocessorCacheEntry;
-use known_calls::kept::{keep, note_hint, renew};
-use known_calls::known::{Given, Known};
-use made_outputs::differences::Audit;
-use made_outputs::outputs::lock_paths;
-use os_files::listed::Listed;
-use os_files::os_bytes::OsBytes;
-use remote_storage::sharing::{Shared, share};
-use replay::kept_session::SessionAnswer;
-use source_files::outputs::{print_again, write_dependencies, write_outputs};
+use host_protocol::{CommandLine, Host, HostError, into_text};
+use include_records::PreprocessorCacheEntry;
+use known_calls::{Given, Known, keep, note_hint, renew};
+use made_outputs::{Audit, lock_paths};
+use os_files::{Listed, OsBytes};
+use remote_storage::{Shared, share};
+use replay::SessionAnswer;
+use source_files::{print_again, write_dependencies, write_outputs};
 use std::alloc::Global;
 use std::fs::File;
 use std::io::Read;
 use std::rt::Files;
-use wrap_base::answer::{How, Output};
 use wrap_base::store_key::StoreKey;
+use wrap_base::{How, Output};
 
 /// The paths of outputs.
 fn paths_of(alloc: Global, outputs: &[Output]) -> Result<Listed<OsBytes>, HostError> {

@@ -15,13 +15,11 @@ mod finishing;
 use counting::note;
 use deciding::{End, What, decide};
 use explained_misses::why::why;
-use host_protocol::command_line::CommandLine;
-use host_protocol::host::Host;
-use host_protocol::host_error::HostError;
-use made_outputs::differences::Audit;
-use rustc_id::rustc::is_named_rustc;
-use rustc_kept::why::why_of_rustc;
-use settings::reading::read_settings;
+use host_protocol::{CommandLine, Host, HostError};
+use made_outputs::Audit;
+use rustc_id::is_named_rustc;
+use rustc_kept::why_of_rustc;
+use settings::read_settings;
 use std::env;
 use std::fmt::Display;
 use std::fs::File;
@@ -29,8 +27,8 @@ use std::io::Read;
 use std::process::ExitCode;
 use std::rt::{Clock, Env, Files};
 use std::time::SystemTime;
-use user_options::doing::{Caller, do_options};
 use user_options::help::help;
+use user_options::{Caller, do_options};
 
 /// The status at which the outputs are there.
 const DONE: u8 = 11;

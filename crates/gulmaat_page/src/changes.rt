@@ -2,9 +2,7 @@
 
 use crate::commands::explanation_of;
 use crate::reading::Build;
-use build_log::call::Call;
-use build_log::groups::maker_of;
-use build_log::kind::Kind;
+use build_log::{Call, Kind, maker_of};
 use std::alloc::{AllocError, Global};
 use std::collections::BTreeMap;
 

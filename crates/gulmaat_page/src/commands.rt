@@ -1,7 +1,6 @@
 //! Commands of calls, as a shell reads them.
 
-use build_log::call::Call;
-use build_log::texts::Texts;
+use build_log::{Call, Texts};
 use std::alloc::{AllocError, Global};
 
 /// Whether a shell reads this letter as itself.

@@ -2,13 +2,7 @@
 
 use crate::asked::AskedLog;
 use crate::error::PageError;
-use build_log::builds::{beginnings, chosen};
-use build_log::call::Call;
-use build_log::lanes::pack;
-use build_log::log::read_log;
-use build_log::ninja::other_commands;
-use build_log::sums::Sums;
-use build_log::texts::Texts;
+use build_log::{Call, Sums, Texts, beginnings, chosen, other_commands, pack, read_log};
 use std::alloc::{AllocError, Global};
 use std::fs;
 use std::rt::Files;

@@ -1,11 +1,11 @@
 //! Rows that are bound to keys: their layout, and where two lists of them differ.
 
-use host_protocol::host_error::HostError;
-use key_additions::additions::{Additions, VARIABLE, difference};
-use os_files::os_bytes::OsBytes;
+use host_protocol::HostError;
+use key_additions::{Additions, VARIABLE, difference};
+use os_files::OsBytes;
 use std::alloc::Global;
 use std::test::Fail;
-use test_kit::texts::{holds, is_that};
+use test_kit::{holds, is_that};
 
 /// The bytes of two rows, `a` with `1` and `b` with nothing.
 const ROWS: [u8; 43] = [

@@ -1,12 +1,11 @@
 //! What words say of a dependency file, and by which words a compiler prints a text.
 
-use known_options::dependencies::dependencies_of;
+use known_options::dependencies_of;
 use known_options::text_words::text_words;
 use std::alloc::{AllocError, Global};
 use std::fmt::Write;
 use std::test::Fail;
-use test_kit::rows::words;
-use test_kit::texts::{is_that, write_list, write_words};
+use test_kit::{is_that, words, write_list, write_words};
 
 /// Words, and what they say: the others, what the file's contents hang on, and its path; `unclear` where several may be written.
 const LINES: [(&str, &str); 17] = [

@@ -1,13 +1,11 @@
 //! What sources ask for, and the times that they may paste. Names in quotes are shown in quotes, and those of `include_next` after `next`.
 
-use os_files::lossy::Lossy;
-use source_directives::directives::{Asked, Search, add_defined, directives_of};
-use source_directives::times::{pastes_time, tells_time};
+use os_files::Lossy;
+use source_directives::{Asked, Search, add_defined, directives_of, pastes_time, tells_time};
 use std::alloc::{AllocError, Global};
 use std::fmt::Write;
 use std::test::Fail;
-use test_kit::rows::words;
-use test_kit::texts::{holds, is_that};
+use test_kit::{holds, is_that, words};
 
 /// Sources, and what they ask for; `none` where that can't be determined.
 const SOURCES: [(&str, &str); 62] = [

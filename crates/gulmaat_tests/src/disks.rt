@@ -1,7 +1,7 @@
 //! Files and folders that tests make and change, by rows: each test has a folder of its own.
 
-use byte_formats::fields::{put_framed, put_number};
-use host_protocol::command_line::CommandLine;
+use byte_formats::{put_framed, put_number};
+use host_protocol::CommandLine;
 use std::alloc::{Alloc, AllocError, Global};
 use std::fs;
 use std::fs::Permissions;

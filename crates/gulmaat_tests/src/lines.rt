@@ -1,16 +1,13 @@
 //! Lines as they were written: which changes of a source change what is bound to a key beside its text.
 
 use crate::disks::{change, make_fresh};
-use os_files::os_bytes::OsBytes;
+use os_files::OsBytes;
 use std::alloc::Global;
 use std::fs;
 use std::rt::Files;
 use std::test::Fail;
-use test_kit::texts::holds;
-use written_lines::asked::Asked;
-use written_lines::lines::digest_asked;
-use written_lines::named::{NamedFile, NamedFiles};
-use written_lines::sources::Sources;
+use test_kit::holds;
+use written_lines::{Asked, NamedFile, NamedFiles, Sources, digest_asked};
 
 /// A source before and after a change, the text of both, and whether their lines are the same.
 const CHANGES: [(&str, &str, &str, bool); 12] = [

@@ -1,8 +1,8 @@
 //! Lists of files for Make.
 
-use source_files::lists::names_files_of;
+use source_files::names_files_of;
 use std::test::Fail;
-use test_kit::texts::holds;
+use test_kit::holds;
 
 /// A dependency file, a list of the files of a text, and whether that has all of the first one's.
 const FILES: [(&str, &str, bool); 9] = [

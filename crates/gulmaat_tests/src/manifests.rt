@@ -1,14 +1,13 @@
 //! Lists of what to watch beside a manifest, and manifests that lose results and get them back.
 
-use byte_formats::fields::{put_framed, put_number};
-use include_records::key_text::KeyText;
-use include_records::record::PreprocessorCacheEntry;
-use os_files::listed::Listed;
-use searched_folders::manifests::{result_holds, with_list, with_results_of, without};
+use byte_formats::{put_framed, put_number};
+use include_records::{KeyText, PreprocessorCacheEntry};
+use os_files::Listed;
+use searched_folders::{result_holds, with_list, with_results_of, without};
 use std::alloc::{AllocError, Global};
 use std::rt::Files;
 use std::test::Fail;
-use test_kit::texts::is_that;
+use test_kit::is_that;
 
 /// The key of a result that is named by a letter.
 fn key_of(alloc: Global, letter: &str) -> Result<KeyText, AllocError> {

@@ -1,9 +1,9 @@
 //! Words by which a call is passed through before the session is asked.
 
 use crate::disks::line_of;
-use call_requests::passing::reason_against;
+use call_requests::reason_against;
 use std::test::Fail;
-use test_kit::texts::is_that;
+use test_kit::is_that;
 
 /// Words, and the one that speaks against keeping; nothing where none does.
 const REASONS: [(&str, &str); 14] = [

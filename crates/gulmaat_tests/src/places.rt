@@ -1,14 +1,14 @@
 //! Where kept outputs are put: in the place of a plain file, or of nothing.
 
 use crate::disks::{change_all, make_fresh};
-use os_files::os_bytes::OsBytes;
-use source_files::outputs::{have_plain_places, write_outputs};
+use os_files::OsBytes;
+use source_files::{have_plain_places, write_outputs};
 use std::alloc::Global;
 use std::fs;
 use std::rt::Files;
 use std::test::Fail;
-use test_kit::texts::holds;
-use wrap_base::answer::Output;
+use test_kit::holds;
+use wrap_base::Output;
 
 /// Rows of what lies in the folder.
 type Rows = &'static [&'static str];

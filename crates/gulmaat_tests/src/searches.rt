@@ -1,10 +1,10 @@
 //! Where compilers say that they look: lines of GCC 12 and Clang 14, asked by `-E -v`.
 
-use searched_folders::search_list::SearchList;
+use searched_folders::SearchList;
 use std::alloc::{AllocError, Global};
 use std::fmt::Write;
 use std::test::Fail;
-use test_kit::texts::is_that;
+use test_kit::is_that;
 
 /// What compilers say, and what is read of it.
 const SAID: [(&str, &str); 7] = [

@@ -1,20 +1,19 @@
 //! States of files: tokens that stand for contents, outputs that were made, locks on their paths, and devices that are trusted.
 
 use crate::disks::{change, line_of, make_fresh};
-use byte_formats::fields::put_framed;
-use cache_dir::file_digests::digest_of;
-use disk_files::found::State;
-use host_protocol::command_line::CommandLine;
-use made_outputs::outputs::{lock_paths, made_since, states_of};
-use os_files::os_bytes::OsBytes;
-use source_files::mounts::devices_in;
-use source_files::tokens::Tokens;
+use byte_formats::put_framed;
+use cache_dir::digest_of;
+use disk_files::State;
+use host_protocol::CommandLine;
+use made_outputs::{lock_paths, made_since, states_of};
+use os_files::OsBytes;
+use source_files::{Tokens, devices_in};
 use std::alloc::Global;
 use std::fs;
 use std::fs::{File, OpenOptions};
 use std::rt::Files;
 use std::test::Fail;
-use test_kit::texts::holds;
+use test_kit::holds;
 
 /// The token that is noted of a file in its state now.
 fn tokens_of<R: Files + AllocGlobal>(rt: &R, place: &str) -> Result<Tokens, Fail> {

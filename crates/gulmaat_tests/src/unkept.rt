@@ -1,8 +1,7 @@
 //! Texts, and whether what is made of them is kept.
 
 use std::test::Fail;
-use unkept_texts::directives::takes_files;
-use unkept_texts::times::tells_time;
+use unkept_texts::{takes_files, tells_time};
 
 /// Texts that take in files.
 const DIRECTIVES: [&str; 24] = [

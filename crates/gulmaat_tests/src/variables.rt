@@ -1,8 +1,8 @@
 //! The variables that compilers read, by GCC's and Clang's manuals.
 
-use known_options::variables::is_read;
+use known_options::is_read;
 use std::test::Fail;
-use test_kit::texts::holds;
+use test_kit::holds;
 
 /// Those that they read.
 const READ: [&str; 24] = [

@@ -1,17 +1,13 @@
 //! What is watched of a text: each row changes a tree of folders, and says whether a compiler would find the same files as before.
 
 use crate::disks::{change, change_all, line_of, make_fresh};
-use os_files::file_time::FileTime;
-use os_files::os_bytes::OsBytes;
-use searched_folders::search_list::SearchList;
-use searched_folders::texts::{Source, list_of};
-use searched_folders::watch_list::holds as list_holds;
-use searched_folders::watching::Watching;
-use source_directives::directives::{Asked, Search};
+use os_files::{FileTime, OsBytes};
+use searched_folders::{SearchList, Source, Watching, holds as list_holds, list_of};
+use source_directives::{Asked, Search};
 use std::alloc::Global;
 use std::rt::Files;
 use std::test::Fail;
-use test_kit::texts::{holds, is_that};
+use test_kit::{holds, is_that};
 
 /// What a compiler says that looks in `a`, then in `b`, and leaves out `c`.
 const SAID: &str = "ignoring nonexistent directory \"c\"\n\

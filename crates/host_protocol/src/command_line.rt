@@ -2,12 +2,9 @@
 
 use crate::fields::Fields;
 use crate::host_error::HostError;
-use cache_dir::folder::CacheDir;
-use os_files::listed::Listed;
-use os_files::os_bytes::OsBytes;
-use settings::key::Key;
-use settings::places::Variables;
-use settings::settings::Settings;
+use cache_dir::CacheDir;
+use os_files::{Listed, OsBytes};
+use settings::{Key, Settings, Variables};
 use std::alloc::Global;
 use std::time::{SystemTime, UNIX_EPOCH};
 

@@ -1,9 +1,8 @@
 //! The fields of a message, one after the other.
 
 use crate::host_error::HostError;
-use byte_formats::fields::{read_framed, read_number};
-use os_files::listed::Listed;
-use os_files::os_bytes::OsBytes;
+use byte_formats::{read_framed, read_number};
+use os_files::{Listed, OsBytes};
 use std::alloc::Global;
 
 /// What is left of a message.

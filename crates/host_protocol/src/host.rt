@@ -4,8 +4,8 @@ ghost use Rattle.std.specs.Prelude.{◌≡◌};
 
 use crate::fields::Fields;
 use crate::host_error::HostError;
-use byte_formats::fields::{put_framed, put_number};
-use os_files::os_bytes::OsBytes;
+use byte_formats::{put_framed, put_number};
+use os_files::OsBytes;
 use std::alloc::Global;
 use std::io;
 use std::io::{Read, Write};

@@ -1,7 +1,7 @@
 //! Why no decision is made. The host runs the compiler then.
 
-use byte_formats::fault::ReadFault;
-use cache_dir::error::CacheDirError;
+use byte_formats::ReadFault;
+use cache_dir::CacheDirError;
 use std::alloc::{AllocError, AllocFailed};
 use std::{fmt, io};
 use thiserror::Error;

@@ -2,9 +2,16 @@
 //! to run, and why no decision is made.
 #![tactic(auto)]
 
-pub mod asking;
-pub mod command_line;
-pub mod digests;
-pub mod fields;
-pub mod host;
-pub mod host_error;
+mod asking;
+mod command_line;
+mod digests;
+mod fields;
+mod host;
+mod host_error;
+
+pub use asking::{Said, messages_of, push_words, words_of};
+pub use command_line::{CommandLine, LineVariables};
+pub use digests::LETTERS;
+pub use fields::{Fields, into_text, text_in};
+pub use host::{Ended, Host, Tally, tell_line};
+pub use host_error::HostError;

@@ -1,10 +1,10 @@
 //! What answers say.
 
-use ckeys_records::fault::Fault;
-use os_files::os_bytes::OsBytes;
+use ckeys_records::Fault;
+use os_files::OsBytes;
 use std::alloc::{AllocError, Global};
 use std::fmt::Display;
-use wrap_base::answer::{Answer, How, Output};
+use wrap_base::{Answer, How, Output};
 
 /// What an answer says, as texts.
 #[derive(Drop)]

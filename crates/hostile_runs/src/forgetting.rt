@@ -3,12 +3,12 @@
 use crate::answers::push_unless;
 use crate::runs::{NONE_FAILS, Run, Stop, Turn, run_over};
 use crate::stores::Seen;
-use bounded_store::lru_store::LruStore;
-use failing_kit::forgetful::{Forgetful, Order};
-use scenario_texts::scenario::read_scenario;
+use bounded_store::LruStore;
+use failing_kit::{Forgetful, Order};
+use scenario_texts::read_scenario;
 use std::alloc::{AllocError, Global};
 use std::num::NonZeroUsize;
-use wrap_base::map_store::MapStore;
+use wrap_base::MapStore;
 
 /// Which of the stores follows orders.
 #[derive(Clone, Copy)]

@@ -1,11 +1,10 @@
 //! What is read of bytes: include records, and what is hashed of requests to rustc.
 
 use crate::runs::Stop;
-use include_records::record::PreprocessorCacheEntry;
-use os_files::listed::Listed;
+use include_records::PreprocessorCacheEntry;
+use os_files::Listed;
 use rustc_parts::parts::{Parts, RShape};
-use rustc_parts::reading::read_key_bytes;
-use rustc_parts::writing::key_bytes;
+use rustc_parts::{key_bytes, read_key_bytes};
 use std::alloc::{AllocError, Global};
 
 /// Whether the record is written as these bytes; an empty text is the empty record.

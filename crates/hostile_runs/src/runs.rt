@@ -3,26 +3,20 @@
 use crate::answers::{AnswerTexts, answer_texts};
 use crate::stores::{Seen, Watched, seen_of};
 use ckeys::{EntryKey, PreprocessorCacheEntry};
-use ckeys_records::config::KeyConfig;
-use ckeys_records::preprocessor::{Preprocessor, Ticks};
-use ckeys_records::step::Step;
-use failing_kit::fail_tool::FailTool;
-use os_files::files::Files;
-use os_files::os_bytes::OsBytes;
-use scenario_texts::scenario::{Scenario, ScenarioCall, ScenarioFault, read_scenario};
-use script_tool::crate_texts::CrateTexts;
-use script_tool::script::{RetoldTool, ScriptTool};
-use script_tool::statuses::{StatusOf, Statuses, error_status, print_status};
-use script_tool::trees::Trees;
+use ckeys_records::{KeyConfig, Preprocessor, Step, Ticks};
+use failing_kit::FailTool;
+use os_files::{Files, OsBytes};
+use scenario_texts::{Scenario, ScenarioCall, ScenarioFault, read_scenario};
+use script_tool::{
+    CrateTexts, RetoldTool, ScriptTool, StatusOf, Statuses, Trees, error_status, print_status,
+};
 use sha2::Sha256;
 use std::alloc::{AllocError, AllocFailed, Global};
-use test_kit::fail_files::FailFiles;
+use test_kit::FailFiles;
 use thiserror::Error;
-use wrap::session::Session;
-use wrap_base::map_store::MapStore;
-use wrap_base::request::Request;
+use wrap::Session;
 use wrap_base::store_key::{Pairs, StoreKey};
-use wrap_base::tool::Tool;
+use wrap_base::{MapStore, Request, Tool};
 
 /// Why nothing is printed.
 #[derive(Debug, Drop, Error)]

@@ -1,10 +1,10 @@
 //! What is seen of stores.
 
-use bounded_store::lru_store::LruStore;
-use ckeys_base::store::Store;
-use failing_kit::forgetful::Forgetful;
+use bounded_store::LruStore;
+use ckeys_base::Store;
+use failing_kit::Forgetful;
 use std::hash::Hash;
-use wrap_base::map_store::MapStore;
+use wrap_base::MapStore;
 
 /// What is seen of a store.
 #[derive(Clone, Copy)]

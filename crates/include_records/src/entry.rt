@@ -1,8 +1,7 @@
 //! What is recorded of a file, and of a text.
 
 use crate::key_text::KeyText;
-use os_files::listed::Listed;
-use os_files::os_bytes::OsBytes;
+use os_files::{Listed, OsBytes};
 
 /// A file that a text named: its name, its size, the text of its digest; the day, as a count of days since 1970-01-01, where
 /// `__DATE__` occurs in it; and the second of its last change since the start of 1970 in UTC, where `__TIMESTAMP__` does.

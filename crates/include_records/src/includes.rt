@@ -11,15 +11,12 @@ ghost use Rattle.time_macros.specs.Macros as macros;
 use crate::entry::IncludeEntry;
 use crate::moments::{day_of, second_at};
 use crate::sighting::digest_of;
-use ckeys_base::hash_state::HashState;
-use os_files::files::{FileFail, Files};
-use os_files::listed::Listed;
-use os_files::os_bytes::OsBytes;
-use os_files::path::join;
-use response_files::fault::ParseFault;
+use ckeys_base::HashState;
+use os_files::{FileFail, Files, Listed, OsBytes, join};
+use response_files::ParseFault;
 use std::alloc::Global;
+use time_macros::Zone;
 use time_macros::holds::holds;
-use time_macros::zone::Zone;
 
 /// Whether `__DATE__` occurs in the contents.
 #[tactic(auto, unfolding(time_macros::specs::Macros::holds_date))]

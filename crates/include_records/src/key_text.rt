@@ -10,9 +10,7 @@ ghost use Rattle.byte_formats.specs.FieldFormats.{text_format};
 ghost use Rattle.byte_formats.specs.Reading.{text_at};
 ghost use Rattle.byte_formats.specs.Spelling.{IsText, framed};
 
-use byte_formats::fault::ReadFault;
-use byte_formats::field::Field;
-use byte_formats::fields::{put_framed, read_text};
+use byte_formats::{Field, ReadFault, put_framed, read_text};
 use std::alloc::{AllocError, Global};
 use std::cmp::Ordering;
 use std::fmt;

@@ -12,12 +12,9 @@ ghost use Rattle.include_records.specs.declared.entry.CachedResult.{CachedResult
 use crate::entry::{CachedResult, IncludeEntry};
 use crate::key_text::KeyText;
 use crate::record::PreprocessorCacheEntry;
-use byte_formats::fault::ReadFault;
-use byte_formats::field::{Field, put_all};
-use byte_formats::fields::put_number;
+use byte_formats::{Field, ReadFault, put_all, put_number};
 use ckeys_base::error::Error;
-use os_files::listed::Listed;
-use os_files::os_bytes::OsBytes;
+use os_files::{Listed, OsBytes};
 use std::alloc::{AllocError, Global};
 use std::io::Write;
 

@@ -1,12 +1,19 @@
 //! Include records: which files a preprocessed text named, what they held, and the key of that text.
 #![tactic(auto)]
 
-pub mod entry;
-pub mod includes;
-pub mod key_text;
-pub mod laws;
+mod entry;
+mod includes;
+mod key_text;
+mod laws;
 mod layout;
 mod look_up;
-pub mod moments;
-pub mod record;
+mod moments;
+mod record;
 mod sighting;
+
+pub use entry::{CachedResult, IncludeEntry};
+pub use includes::includes_of;
+pub use key_text::KeyText;
+pub use laws::include_lists_are_of_each_name;
+pub use moments::{day_of, second_at};
+pub use record::PreprocessorCacheEntry;

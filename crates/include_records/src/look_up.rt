@@ -12,12 +12,11 @@ use crate::key_text::KeyText;
 use crate::moments::day_of;
 use crate::record::PreprocessorCacheEntry;
 use crate::sighting::Sightings;
-use ckeys_base::hash_state::HashState;
-use os_files::files::Files;
-use os_files::os_bytes::OsBytes;
-use response_files::fault::ParseFault;
+use ckeys_base::HashState;
+use os_files::{Files, OsBytes};
+use response_files::ParseFault;
 use std::alloc::Global;
-use time_macros::zone::Zone;
+use time_macros::Zone;
 
 impl PreprocessorCacheEntry {
     /// The greatest key of those results whose files are as they were recorded, on these files from that directory, at a moment in

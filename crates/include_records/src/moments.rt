@@ -6,14 +6,12 @@ ghost use Rattle.response_files.specs.Causes.{CauseOf};
 ghost use Rattle.include_records.specs.Surroundings as spec;
 ghost use Rattle.time_macros.specs.Days.{local_day};
 
-use os_files::files::{FileFail, Files};
-use os_files::os_bytes::OsBytes;
-use response_files::fault::ParseFault;
+use os_files::{FileFail, Files, OsBytes};
+use response_files::ParseFault;
 use std::alloc::Global;
-use time_macros::days::local_day;
-use time_macros::zone::Zone;
+use time_macros::{Zone, local_day};
 
-/// The day that a clock in the zone shows at a moment, as `time_macros::days::local_day` gives it.
+/// The day that a clock in the zone shows at a moment, as `time_macros::local_day` gives it.
 pub fn day_of(moment: i64, zone: &Zone) -> Option<i64>
     ensures { result ≡ local_day zone.now moment }
 {

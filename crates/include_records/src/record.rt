@@ -7,7 +7,7 @@ ghost use Rattle.include_records.specs.Results as spec;
 
 use crate::entry::{CachedResult, IncludeEntry};
 use crate::key_text::KeyText;
-use os_files::listed::Listed;
+use os_files::Listed;
 use std::alloc::{AllocError, Global};
 use std::marker::Model;
 

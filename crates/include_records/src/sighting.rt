@@ -13,12 +13,9 @@ ghost use Rattle.include_records.specs.Surroundings as spec;
 use crate::entry::IncludeEntry;
 use crate::key_text::KeyText;
 use crate::moments::second_at;
-use ckeys_base::digest::Digest;
-use ckeys_base::hash_state::HashState;
-use os_files::files::{FileFail, Files};
-use os_files::os_bytes::OsBytes;
-use os_files::path::join;
-use response_files::fault::ParseFault;
+use ckeys_base::{Digest, HashState};
+use os_files::{FileFail, Files, OsBytes, join};
+use response_files::ParseFault;
 use std::alloc::{AllocError, Global};
 use std::collections::HashMap;
 

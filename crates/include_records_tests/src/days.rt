@@ -1,9 +1,7 @@
 //! The days of zones.
 
 use std::test::Fail;
-use time_macros::days::local_day;
-use time_macros::laws::days_hold_their_seconds;
-use time_macros::zone::{Zone, ZoneError};
+use time_macros::{Zone, ZoneError, days_hold_their_seconds, local_day};
 
 #[test]
 fn a_day_begins_by_the_clock_of_the_zone(rt: HostRuntime) -> Result<(), Fail> {

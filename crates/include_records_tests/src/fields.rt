@@ -1,14 +1,10 @@
 //! Fields of layouts.
 
-use byte_formats::fault::ReadFault;
-use byte_formats::field::{Field, put_all};
-use byte_formats::fields::{
-    put_framed, put_number, put_signed, read_framed, read_number, read_signed, read_taken,
-    read_text,
+use byte_formats::{
+    Field, ReadFault, framed_parts_are_told, put_all, put_framed, put_number, put_signed,
+    read_framed, read_number, read_signed, read_taken, read_text,
 };
-use byte_formats::laws::framed_parts_are_told;
-use os_files::listed::Listed;
-use os_files::os_bytes::OsBytes;
+use os_files::{Listed, OsBytes};
 use std::test::Fail;
 
 /// 258, -2, and `hi` after its length.

@@ -1,14 +1,11 @@
 //! The bytes of records.
 
 use ckeys_base::error::Error;
-use include_records::entry::IncludeEntry;
-use include_records::key_text::KeyText;
-use include_records::record::PreprocessorCacheEntry;
-use os_files::listed::Listed;
-use os_files::os_bytes::OsBytes;
+use include_records::{IncludeEntry, KeyText, PreprocessorCacheEntry};
+use os_files::{Listed, OsBytes};
 use std::alloc::Global;
 use std::test::Fail;
-use test_kit::narrow_writer::NarrowWriter;
+use test_kit::NarrowWriter;
 
 /// The result `k` without includes.
 const OF_K: &[u8] = b"\x01\x01\0\0\0\0\0\0\0\x01\0\0\0\0\0\0\0k\0\0\0\0\0\0\0\0";

@@ -1,22 +1,13 @@
 //! What records say of files.
 
-use include_records::entry::IncludeEntry;
-use include_records::includes::includes_of;
-use include_records::key_text::KeyText;
-use include_records::record::PreprocessorCacheEntry;
-use os_files::file_time::FileTime;
-use os_files::files::Files;
-use os_files::listed::Listed;
-use os_files::memory_files::{MemoryFile, MemoryFiles};
-use os_files::os_bytes::OsBytes;
-use response_files::fault::ParseFault;
+use include_records::{IncludeEntry, KeyText, PreprocessorCacheEntry, includes_of};
+use os_files::{FileTime, Files, Listed, MemoryFile, MemoryFiles, OsBytes};
+use response_files::ParseFault;
 use sha2::Sha256;
 use std::alloc::{AllocError, Global};
 use std::test::Fail;
-use test_kit::fail_files::FailFiles;
-use test_kit::texts::is_that;
-use test_kit::watched_files::WatchedFiles;
-use time_macros::zone::Zone;
+use test_kit::{FailFiles, WatchedFiles, is_that};
+use time_macros::Zone;
 
 /// 2023-11-14 22:13:20 in UTC, of day 19675; the next day began at 1700006400.
 const MOMENT: i64 = 1_700_000_000;

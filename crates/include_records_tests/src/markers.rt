@@ -1,9 +1,9 @@
 //! Markers and names, each call once.
 
-use marker_walk::laws::{lines_have_one_reading, names_are_given_once, texts_name_their_markers};
-use marker_walk::line::Mark;
-use marker_walk::markers::Markers;
-use marker_walk::names::unescaped;
+use marker_walk::{
+    Mark, Markers, lines_have_one_reading, names_are_given_once, texts_name_their_markers,
+    unescaped,
+};
 use std::test::Fail;
 
 #[test]

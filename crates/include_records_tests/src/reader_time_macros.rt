@@ -5,7 +5,7 @@ use sha2::Sha256;
 use std::io;
 use std::io::Read;
 use std::test::Fail;
-use time_macros::reader_time_macros::reader_sync_time_macros;
+use time_macros::reader_sync_time_macros;
 
 /// The digest of `__TIMESTAMP____DATE____TIME__`, as `sha256sum` prints it, the low half of each byte first.
 const OF_ALL_THREE: &str = "f49e855f60ba65b3b70391d5ed6e0b5b9ddd21de4b9b2474878d2c6473b38353";

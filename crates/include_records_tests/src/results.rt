@@ -1,10 +1,7 @@
 //! The bounds of records.
 
-use include_records::entry::IncludeEntry;
-use include_records::key_text::KeyText;
-use include_records::record::PreprocessorCacheEntry;
-use os_files::listed::Listed;
-use os_files::os_bytes::OsBytes;
+use include_records::{IncludeEntry, KeyText, PreprocessorCacheEntry};
+use os_files::{Listed, OsBytes};
 use std::alloc::{AllocError, Global};
 use std::test::Fail;
 

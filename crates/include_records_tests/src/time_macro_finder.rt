@@ -3,7 +3,7 @@
 ghost use Rattle.std.specs.Prelude.{◌<◌};
 
 use std::test::Fail;
-use time_macros::time_macro_finder::TimeMacroFinder;
+use time_macros::TimeMacroFinder;
 
 /// What a finder was shown in pieces of so many bytes.
 fn shown(bytes: &[u8], size: usize) -> TimeMacroFinder

@@ -1,12 +1,9 @@
 //! Moments of files.
 
-use os_files::file_time::FileTime;
-use os_files::files::Metadata;
+use os_files::{FileTime, Metadata};
 use std::cmp::Ordering;
 use std::test::Fail;
-use time_macros::laws::timestamps_are_their_nanoseconds;
-use time_macros::metadata_ctime_ext::MetadataCtimeExt;
-use time_macros::timestamp::Timestamp;
+use time_macros::{MetadataCtimeExt, Timestamp, timestamps_are_their_nanoseconds};
 
 #[test]
 fn moments_are_ordered_as_they_come(rt: HostRuntime) -> Result<(), Fail> {

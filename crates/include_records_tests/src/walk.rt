@@ -2,11 +2,10 @@
 
 use crate::walk_report::{BROKEN, walk_report};
 use marker_walk::walk::walk;
-use os_files::memory_files::MemoryFiles;
-use os_files::os_bytes::OsBytes;
-use response_files::fault::ParseFault;
+use os_files::{MemoryFiles, OsBytes};
+use response_files::ParseFault;
 use std::test::Fail;
-use test_kit::watched_files::WatchedFiles;
+use test_kit::WatchedFiles;
 
 /// Texts that are refused.
 const REFUSED: [&[u8]; 10] = [

@@ -1,13 +1,11 @@
 //! What a walk reports of a text, as bytes to compare.
 
-use marker_walk::answer::Walk;
+use marker_walk::Walk;
 use marker_walk::walk::walk;
-use os_files::file_time::FileTime;
-use os_files::memory_files::{MemoryFile, MemoryFiles};
-use os_files::os_bytes::OsBytes;
+use os_files::{FileTime, MemoryFile, MemoryFiles, OsBytes};
 use std::alloc::{AllocError, Global};
 use std::test::Fail;
-use test_kit::watched_files::WatchedFiles;
+use test_kit::WatchedFiles;
 
 /// The name of a file whose contents can't be read.
 pub(crate) const BROKEN: &[u8] = b"/w/broken.h";

@@ -1,11 +1,9 @@
 //! Rows of a name and a value, as the value of the variable that the session hashes for a user's own value, and in which row two such values
 //! differ first.
 
-use byte_formats::fields::{put_framed, put_number};
-use host_protocol::fields::Fields;
-use host_protocol::host_error::HostError;
-use os_files::listed::Listed;
-use os_files::os_bytes::OsBytes;
+use byte_formats::{put_framed, put_number};
+use host_protocol::{Fields, HostError};
+use os_files::{Listed, OsBytes};
 use std::alloc::Global;
 
 /// The variable that the session hashes for a user's own value.

@@ -2,4 +2,6 @@
 //! one variable.
 #![tactic(auto)]
 
-pub mod additions;
+mod additions;
+
+pub use additions::{Additions, VARIABLE, difference};

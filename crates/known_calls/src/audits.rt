@@ -1,20 +1,18 @@
 //! Hits that are compiled too, so that what is kept is compared with what the compiler makes: some of them, or all, as a user sets it.
 
 use crate::known::{Given, Known};
-use cache_dir::folder::Kind;
-use cache_format::kept_result::KeptMessages;
-use host_protocol::command_line::CommandLine;
-use host_protocol::fields::text_in;
-use host_protocol::host_error::HostError;
-use made_outputs::differences::{
+use cache_dir::Kind;
+use cache_format::KeptMessages;
+use host_protocol::{CommandLine, HostError, text_in};
+use made_outputs::{
     Audit, copies_of, difference_of_outputs, difference_of_texts, is_one_of, log_difference,
 };
-use os_files::os_bytes::OsBytes;
+use os_files::OsBytes;
 use std::alloc::{AllocError, Global};
 use std::fs::File;
 use std::rt::Files;
-use wrap_base::answer::{How, Output};
 use wrap_base::store_key::StoreKey;
+use wrap_base::{How, Output};
 
 /// A hit that is compiled too.
 #[derive(Drop)]

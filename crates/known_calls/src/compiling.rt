@@ -3,18 +3,16 @@
 ghost use Rattle.std.specs.Prelude.{◌≡◌, ◌≤◌};
 
 use crate::known::{Known, printed_at};
-use disk_files::found::State;
-use host_protocol::command_line::CommandLine;
-use host_protocol::host::{Ended, Host};
-use host_protocol::host_error::HostError;
-use made_outputs::outputs::{lock_paths, made_since, states_of};
-use os_files::os_bytes::OsBytes;
-use replay::replay_tool::Wanted;
+use disk_files::State;
+use host_protocol::{CommandLine, Ended, Host, HostError};
+use made_outputs::{lock_paths, made_since, states_of};
+use os_files::OsBytes;
+use replay::Wanted;
 use std::fs::File;
 use std::io::Read;
 use std::rt::Files;
+use wrap_base::Compiled;
 use wrap_base::store_key::StoreKey;
-use wrap_base::tool::Compiled;
 
 impl Known {
     /// Has the host compile by the caller's own words.

@@ -2,22 +2,16 @@
 //! file is a miss.
 
 use blake2::Blake2b256;
-use byte_formats::fields::put_framed;
-use cache_dir::file_digests::digest_of;
-use cache_dir::folder::Kind;
-use cache_dir::limit::takes;
+use byte_formats::put_framed;
+use cache_dir::{Kind, digest_of, takes};
 use cache_files::results::{Kept, entry_of, kept_of};
-use cache_format::kept_result::{KeptMessages, KeptResult};
-use cache_format::sealed::{seal, unseal};
-use host_protocol::command_line::CommandLine;
-use host_protocol::digests::LETTERS;
-use host_protocol::fields::into_text;
-use host_protocol::host_error::HostError;
-use os_files::os_bytes::OsBytes;
-use settings::key::Key;
+use cache_format::{KeptMessages, KeptResult, seal, unseal};
+use host_protocol::{CommandLine, HostError, LETTERS, into_text};
+use os_files::OsBytes;
+use settings::Key;
 use std::alloc::Global;
 use std::rt::Files;
-use wrap_base::answer::Output;
+use wrap_base::Output;
 use wrap_base::store_key::StoreKey;
 
 /// What a command line had last: the digest of its key, and the name of its manifest, where it had one. And how many microseconds its last

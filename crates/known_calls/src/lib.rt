@@ -3,6 +3,9 @@
 
 mod audits;
 mod compiling;
-pub mod kept;
-pub mod known;
+mod kept;
+mod known;
 mod manifests;
+
+pub use kept::{Hint, found, hint_at, hint_name, keep, kept_under, note_hint, renew};
+pub use known::{Given, Known};

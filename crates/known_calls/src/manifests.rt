@@ -3,26 +3,22 @@
 ghost use Rattle.std.specs.Prelude.{◌≡◌};
 
 use crate::known::Known;
-use byte_formats::fields::{put_framed, read_framed};
-use cache_dir::error::CacheDirError;
-use cache_files::manifest_files::{manifest_under, put_manifest};
+use byte_formats::{put_framed, read_framed};
+use cache_dir::CacheDirError;
 use cache_files::manifests::FoundManifest;
-use cmdlines_tables::compiler::CCompilerKind;
+use cache_files::{manifest_under, put_manifest};
+use cmdlines_tables::CCompilerKind;
 use cmdlines_tables::language::{language_to_clang_arg, language_to_gcc_arg};
 use entry_keys::entry_key::EntryKey;
-use host_protocol::command_line::CommandLine;
-use host_protocol::host::Host;
-use host_protocol::host_error::HostError;
-use include_records::record::PreprocessorCacheEntry;
-use os_files::file_time::FileTime;
-use os_files::os_bytes::OsBytes;
-use replay::watched_records::pair_again;
-use searched_folders::EnteredNames;
-use searched_folders::asking::said_of;
-use searched_folders::manifests::{result_holds, with_list, with_results_of, without};
-use searched_folders::texts::{Source, list_of};
-use searched_folders::unwatched::Unwatched;
-use source_files::loading::{load_all, settled_before};
+use host_protocol::{CommandLine, Host, HostError};
+use include_records::PreprocessorCacheEntry;
+use os_files::{FileTime, OsBytes};
+use replay::pair_again;
+use searched_folders::{
+    EnteredNames, Source, Unwatched, list_of, result_holds, said_of, with_list, with_results_of,
+    without,
+};
+use source_files::{load_all, settled_before};
 use std::alloc::Global;
 use std::io::Read;
 use std::rt::Files;

@@ -3,8 +3,7 @@
 
 use crate::placed::{PlacedWords, is_among};
 use crate::text_words::dependency_file;
-use os_files::listed::Listed;
-use os_files::os_bytes::OsBytes;
+use os_files::{Listed, OsBytes};
 use std::alloc::{AllocError, Global};
 
 /// Words that ask the preprocessor for a dependency file; its path follows in the same word.

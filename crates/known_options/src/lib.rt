@@ -2,9 +2,14 @@
 //! text of that command.
 #![tactic(auto)]
 
-pub mod dependencies;
-pub mod placed;
+mod dependencies;
+mod placed;
 mod tables;
 pub mod text_words;
-pub mod variables;
-pub mod words;
+mod variables;
+mod words;
+
+pub use dependencies::{Dependencies, dependencies_of, for_preprocessor};
+pub use placed::{Placed, PlacedWords};
+pub use variables::is_read;
+pub use words::unknown_word;

@@ -3,7 +3,7 @@
 ghost use Rattle.std.specs.Prelude.{length};
 ghost use Rattle.std.specs.Iterator.{at_most};
 
-use os_files::os_bytes::OsBytes;
+use os_files::OsBytes;
 
 /// Words that take the next one as their value, whatever that is.
 const TAKE_NEXT: [&str; 25] = [

@@ -2,8 +2,7 @@
 
 use crate::dependencies::{ASKING, begins_with_target};
 use crate::placed::{Placed, PlacedWords, is_among};
-use os_files::listed::Listed;
-use os_files::os_bytes::OsBytes;
+use os_files::{Listed, OsBytes};
 use std::alloc::{AllocError, Global};
 
 /// What the words of a command say of its dependency file.

@@ -4,7 +4,7 @@ use crate::dependencies::for_preprocessor;
 use crate::placed::{Placed, PlacedWords, is_among, takes_any, takes_next};
 use crate::tables::{ASSEMBLER, CLANG, LLVM, VALUED, WHOLE};
 use memchr::{memchr, memmem};
-use os_files::os_bytes::OsBytes;
+use os_files::OsBytes;
 use std::alloc::{AllocError, Global};
 
 /// What words begin with that only look as if they began as one of `FRONTS`.

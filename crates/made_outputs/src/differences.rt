@@ -1,14 +1,12 @@
 //! Whether hits are compiled too, and where what is kept differs from what the compiler made.
 
 use crate::logging::log;
-use host_protocol::command_line::CommandLine;
-use host_protocol::fields::text_in;
-use host_protocol::host_error::HostError;
-use os_files::os_bytes::OsBytes;
+use host_protocol::{CommandLine, HostError, text_in};
+use os_files::OsBytes;
 use std::alloc::{AllocError, Global};
 use std::fs::File;
 use std::rt::Files;
-use wrap_base::answer::Output;
+use wrap_base::Output;
 
 /// How many letters of a call's digest say whether it is compared.
 const LETTERS: usize = 8;

@@ -1,7 +1,6 @@
 //! Logs of calls: a line each.
 
-use host_protocol::command_line::CommandLine;
-use host_protocol::host_error::HostError;
+use host_protocol::{CommandLine, HostError};
 use std::fs::{File, OpenOptions};
 use std::io::Write;
 use std::rt::Files;

@@ -1,15 +1,10 @@
 //! Files while a compiler writes and reads them: locks on the paths of outputs, and which of these it made.
 
-use cache_dir::file_digests::digest_of;
-use disk_files::found::State;
-use disk_files::rights::{give_rights, make_folders};
-use host_protocol::command_line::CommandLine;
-use host_protocol::fields::into_text;
-use host_protocol::host_error::HostError;
-use os_files::listed::Listed;
-use os_files::os_bytes::OsBytes;
-use os_files::path::join;
-use source_files::outputs::regular;
+use cache_dir::digest_of;
+use disk_files::{State, give_rights, make_folders};
+use host_protocol::{CommandLine, HostError, into_text};
+use os_files::{Listed, OsBytes, join};
+use source_files::regular;
 use std::alloc::AllocError;
 use std::collections::BTreeSet;
 use std::fs::{File, OpenOptions};

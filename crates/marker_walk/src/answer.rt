@@ -1,7 +1,6 @@
 //! What a walk answers.
 
-use os_files::listed::Listed;
-use os_files::os_bytes::OsBytes;
+use os_files::{Listed, OsBytes};
 
 /// What a text says of the files that it was made of.
 #[derive(Clone, Debug, Drop, PartialEq, Eq)]

@@ -1,11 +1,9 @@
 //! Files of the tests with an I/O error at one call: each call fails in turn.
 
-use os_files::files::{FileFail, Files};
-use os_files::memory_files::MemoryFiles;
-use os_files::os_bytes::OsBytes;
+use os_files::{FileFail, Files, MemoryFiles, OsBytes};
 use std::alloc::Global;
 use std::test::Fail;
-use test_kit::fail_files::FailFiles;
+use test_kit::FailFiles;
 
 /// Why each of six calls gave no answer.
 fn fails<F: Files>(alloc: Global, files: &mut F, path: &OsBytes) -> [Option<FileFail>; 6] {

@@ -1,6 +1,6 @@
 //! Lists: each function once.
 
-use os_files::listed::Listed;
+use os_files::Listed;
 use std::test::Fail;
 
 #[test]

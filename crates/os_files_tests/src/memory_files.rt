@@ -1,9 +1,6 @@
 //! A run over a few files in memory.
 
-use os_files::file_time::FileTime;
-use os_files::files::{FileFail, Files, Metadata};
-use os_files::memory_files::{MemoryFile, MemoryFiles};
-use os_files::os_bytes::OsBytes;
+use os_files::{FileFail, FileTime, Files, MemoryFile, MemoryFiles, Metadata, OsBytes};
 use std::alloc::{AllocError, Global};
 use std::test::Fail;
 

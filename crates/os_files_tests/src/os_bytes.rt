@@ -1,6 +1,6 @@
 //! Byte strings: printed text, and each function once.
 
-use os_files::os_bytes::OsBytes;
+use os_files::OsBytes;
 use std::cmp::Ordering;
 use std::test::Fail;
 

@@ -1,6 +1,6 @@
 //! Whether the clauses of paths say what is meant, by examples worked out by hand.
 
-use os_files::path::{
+use os_files::{
     compare_paths, components, extension, file_name, join, paths_have_one_order, with_extension,
 };
 use std::cmp::Ordering;

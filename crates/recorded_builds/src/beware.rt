@@ -6,7 +6,7 @@ ghost use Rattle.std.specs.Option.{option_map};
 ghost use Rattle.std.specs.Str.{bytes_eq};
 ghost use Rattle.recorded_builds.specs.Beware.{AreOnce, begins_with, is_among, is_option, listed_option, naming, option_of};
 
-use os_files::os_bytes::OsBytes;
+use os_files::OsBytes;
 use std::alloc::{AllocError, Global};
 
 /// Options that are used alone.

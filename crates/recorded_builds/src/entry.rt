@@ -1,8 +1,7 @@
 //! A command line of a build.
 
 use crate::executables::EntryCompiler;
-use os_files::listed::Listed;
-use os_files::os_bytes::OsBytes;
+use os_files::{Listed, OsBytes};
 
 /// A command line of a build.
 #[derive(Drop)]

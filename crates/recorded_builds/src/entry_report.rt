@@ -10,9 +10,9 @@ ghost use Rattle.recorded_builds.specs.Reasons.{Tells, blocker_in, holds_option,
 use crate::beware::options_in;
 use crate::deciding::Decided;
 use crate::reasons::reason_of;
-use cmdlines_base::compiler_arguments::CompilerArguments;
-use cmdlines_tables::compiler::CCompilerKind;
-use os_files::os_bytes::OsBytes;
+use cmdlines_base::CompilerArguments;
+use cmdlines_tables::CCompilerKind;
+use os_files::OsBytes;
 use std::alloc::{AllocError, Global};
 
 /// What is reported for an entry.

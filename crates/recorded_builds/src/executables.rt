@@ -11,7 +11,7 @@
 //!
 //! Each may end in `.exe`. The file name is what comes after the last slash of either kind.
 
-use cmdlines_tables::compiler::CCompilerKind;
+use cmdlines_tables::CCompilerKind;
 
 /// A compiler whose words can be read.
 #[derive(Clone, Copy, Debug, PartialEq, Eq)]

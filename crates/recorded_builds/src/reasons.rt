@@ -6,8 +6,8 @@ ghost use Rattle.recorded_builds.specs.Outcomes.{is_passed, outcome_in};
 ghost use Rattle.recorded_builds.specs.Reasons.{reason_for, reason_with};
 
 use crate::deciding::Decided;
-use cmdlines_base::compiler_arguments::CompilerArguments;
-use os_files::os_bytes::OsBytes;
+use cmdlines_base::CompilerArguments;
+use os_files::OsBytes;
 use std::alloc::{AllocError, Global};
 
 /// A reason, with more text or none.

@@ -12,7 +12,7 @@ use crate::entry::Entry;
 use crate::entry_report::EntryReport;
 use crate::snapshot::Asked;
 use crate::summary::{Noted, Summary};
-use response_files::fault::ParseFault;
+use response_files::ParseFault;
 use std::alloc::{AllocError, Global};
 
 /// Where entries are reported.

@@ -2,9 +2,7 @@
 
 ghost use Rattle.std.specs.Prelude.{◌≡◌};
 
-use os_files::files::{FileFail, Files, Metadata};
-use os_files::memory_files::MemoryFiles;
-use os_files::os_bytes::OsBytes;
+use os_files::{FileFail, Files, MemoryFiles, Metadata, OsBytes};
 use std::alloc::{AllocError, Global};
 
 /// Files, with the names of those that were asked for and aren't there.

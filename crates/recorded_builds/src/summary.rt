@@ -9,7 +9,7 @@ ghost use Rattle.recorded_builds.specs.Tallies.{AreRowsOf, numbers_in};
 use crate::deciding::Decided;
 use crate::entry_report::EntryReport;
 use crate::tally::{Row, Tally};
-use cmdlines_base::compiler_arguments::CompilerArguments;
+use cmdlines_base::CompilerArguments;
 use std::alloc::{AllocError, Global};
 
 /// The summary of a recorded build.

@@ -17,17 +17,15 @@ ghost use Rattle.recorded_builds.specs.Verdicts.{are_text, commands_open_file, h
 use crate::deciding::{Compilers, Decided};
 use crate::entry::Entry;
 use crate::executables::EntryCompiler;
-use cmdlines::command::CommandError;
-use cmdlines::found::{FoundCompiler, HasKind};
 use cmdlines::uncached_words::{empty_value, opens_file};
-use cmdlines_base::compiler_arguments::CompilerArguments;
-use cmdlines_requests::parsed::ParsedArguments;
-use cmdlines_tables::compiler::CCompilerKind;
-use os_files::files::Files;
-use os_files::os_bytes::OsBytes;
-use response_files::fault::ParseFault;
+use cmdlines::{CommandError, FoundCompiler, HasKind};
+use cmdlines_base::CompilerArguments;
+use cmdlines_requests::ParsedArguments;
+use cmdlines_tables::CCompilerKind;
+use os_files::{Files, OsBytes};
+use response_files::ParseFault;
 use rustc_options::parsed as rust;
-use rustc_texts::words::compile_words;
+use rustc_texts::compile_words;
 use rustkeys_base::parse;
 use std::alloc::{AllocError, Global};
 

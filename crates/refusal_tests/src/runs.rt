@@ -1,6 +1,6 @@
 //! Runs of a scenario one after another: the one that meets the refused allocation says so, and the others are as if there had been none.
 
-use scenarios::program::{RunFault, run, run_explained};
+use scenarios::{RunFault, run, run_explained};
 use std::alloc::Global;
 
 /// How a run went.

@@ -3,15 +3,11 @@
 ghost use Rattle.std.specs.Prelude.{◌≡◌};
 
 use crate::failures::Failures;
-use cache_dir::limit::room_within;
-use disk_files::whole::read_whole;
-use host_protocol::command_line::CommandLine;
-use host_protocol::host::Host;
-use host_protocol::host_error::HostError;
-use os_files::listed::Listed;
-use os_files::os_bytes::OsBytes;
-use settings::key::Key;
-use settings::storage::{has_attribute, number_in};
+use cache_dir::room_within;
+use disk_files::read_whole;
+use host_protocol::{CommandLine, Host, HostError};
+use os_files::{Listed, OsBytes};
+use settings::{Key, has_attribute, number_in};
 use std::alloc::Global;
 use std::fs;
 use std::io::Read;

@@ -1,12 +1,10 @@
 //! A server that is out of reach isn't asked for a while: a file in the folder of what is kept says how often it failed in a row, and when last.
 
-use byte_formats::fields::{put_framed, put_number, read_framed, read_number};
-use cache_dir::file_digests::digest_of;
-use disk_files::rights::give_rights;
-use disk_files::whole::read_whole;
-use host_protocol::command_line::CommandLine;
-use host_protocol::host_error::HostError;
-use settings::key::Key;
+use byte_formats::{put_framed, put_number, read_framed, read_number};
+use cache_dir::digest_of;
+use disk_files::{give_rights, read_whole};
+use host_protocol::{CommandLine, HostError};
+use settings::Key;
 use std::alloc::Global;
 use std::fs;
 use std::rt::Files;

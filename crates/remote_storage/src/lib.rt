@@ -4,6 +4,10 @@
 
 mod asking;
 mod failures;
-pub mod manifests;
-pub mod results;
-pub mod sharing;
+mod manifests;
+mod results;
+mod sharing;
+
+pub use manifests::fetched_manifest;
+pub use results::fetched;
+pub use sharing::{Shared, share};

@@ -24,10 +24,9 @@ use crate::watched_records::WatchedRecords;
 use entry_keys::entry_key::entry_keys_are_their_fields;
 use snapshot_files::SnapshotFiles;
 use std::alloc::Global;
-use wrap::laws::records_of_earlier_calls_are_true;
 use wrap::{
     Answer, Config, EntryKey, Fault, Files, HashState, MapStore, Pairs, Preprocessor,
-    PreprocessorCacheEntry, Request, Session, Store, StoreKey,
+    PreprocessorCacheEntry, Request, Session, Store, StoreKey, records_of_earlier_calls_are_true,
 };
 use wrap_base::store_key::keys_are_their_fields;
 

@@ -3,10 +3,14 @@
 
 mod asked_store;
 mod commands;
-pub mod kept_session;
-pub mod replay_tool;
+mod kept_session;
+mod replay_tool;
 mod replayed;
-pub mod rustc_records;
-pub mod watched_records;
+mod rustc_records;
+mod watched_records;
 
 pub use asked_store::AskedStore;
+pub use kept_session::{Entries, Objects, SessionAnswer, answered, session_over};
+pub use replay_tool::{RecordedOutputs, RecordedText, ReplayTool, Wanted};
+pub use rustc_records::{RecordedAnswer, RecordedCrate, RecordedRustc};
+pub use watched_records::{WatchedRecords, pair_again};

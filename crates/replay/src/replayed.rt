@@ -13,10 +13,9 @@ ghost use Rattle.replay.specs.Recorded.{recorded};
 ghost use Rattle.replay.specs.Worlds.{GivesTo};
 
 use crate::replay_tool::ReplayTool;
-use wrap::laws::store_keys_tell_records;
 use wrap::{
     Answer, EntryKey, Fault, Files, HashState, Pairs, Preprocessor, PreprocessorCacheEntry,
-    Request, Session, Store, StoreKey,
+    Request, Session, Store, StoreKey, store_keys_tell_records,
 };
 
 /// Answers one request by recorded answers. A fault of the tool in a step comes with the command that it lacks.

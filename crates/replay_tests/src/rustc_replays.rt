@@ -3,34 +3,25 @@
 //! The proof of a function grows with what it drops by itself, field by field, at each of its ends. So each function here holds few large
 //! values, and hands them over to `drop`, which is one call.
 
-use ckeys_records::fault::Fault;
 use ckeys_records::output_name::OutputName;
-use ckeys_records::preprocessor::Printed;
-use os_files::file_time::FileTime;
-use os_files::files::Metadata;
-use os_files::listed::Listed;
-use os_files::memory_files::MemoryFiles;
-use os_files::os_bytes::OsBytes;
-use replay::kept_session::{Entries, Objects, SessionAnswer, answered, session_over};
-use replay::replay_tool::{ReplayTool, Wanted};
-use replay::rustc_records::{RecordedAnswer, RecordedCrate, RecordedRustc};
-use rustc_compiler::rust::Rust;
+use ckeys_records::{Fault, Printed};
+use os_files::{FileTime, Listed, MemoryFiles, Metadata, OsBytes};
+use replay::{
+    Entries, Objects, RecordedAnswer, RecordedCrate, RecordedRustc, ReplayTool, SessionAnswer,
+    Wanted, answered, session_over,
+};
+use rustc_compiler::Rust;
 use sha2::Sha256;
 use snapshot_files::{LoadedFile, SnapshotFiles};
 use std::alloc::{AllocError, Global};
 use std::collections::BTreeMap;
 use std::fmt::Write;
 use std::test::Fail;
-use test_kit::rows::words;
-use test_kit::texts::is_that;
-use time_macros::zone::Zone;
-use wrap::session::Session;
-use wrap_base::answer::{Answer, How, Output};
-use wrap_base::compiler::Compiler;
-use wrap_base::config::Config;
-use wrap_base::request::Request;
+use test_kit::{is_that, words};
+use time_macros::Zone;
+use wrap::Session;
 use wrap_base::store_key::{Pairs, StoreKey};
-use wrap_base::tool::Compiled;
+use wrap_base::{Answer, Compiled, Compiler, Config, How, Output, Request};
 
 /// A request for a library of a crate `foo`, with a static library and a text on dependencies.
 const FIRST: &str =

@@ -11,7 +11,7 @@ use crate::members::{Members, add_words_of};
 use crate::room::EntryRoom;
 use crate::skipping::skip_rest;
 use json::{MAX_DEPTH, Reader, Scratch, Token, is_valid};
-use recorded_builds::entry::Entry;
+use recorded_builds::Entry;
 use std::alloc::Global;
 
 /// What entries are for.

@@ -2,13 +2,8 @@
 
 use crate::database::{TakesEntries, read_database};
 use crate::fault::ReportFault;
-use os_files::file_time::FileTime;
-use os_files::memory_files::MemoryFile;
-use os_files::os_bytes::OsBytes;
-use recorded_builds::deciding::Compilers;
-use recorded_builds::entry::Entry;
-use recorded_builds::executables::EntryCompiler;
-use recorded_builds::snapshot::Asked;
+use os_files::{FileTime, MemoryFile, OsBytes};
+use recorded_builds::{Asked, Compilers, Entry, EntryCompiler};
 use std::alloc::Global;
 use std::io::{ErrorKind, Read};
 use std::rt::Files;

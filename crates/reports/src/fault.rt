@@ -1,7 +1,7 @@
 //! Why a report stopped.
 
 use json::Invalid;
-use response_files::fault::ParseFault;
+use response_files::ParseFault;
 use std::alloc::{AllocError, AllocFailed};
 use std::io;
 use std::io::ErrorKind;

@@ -6,7 +6,7 @@ mod disk;
 mod fault;
 mod lines;
 mod members;
-pub mod program;
+mod program;
 mod report;
 mod request_texts;
 mod room;
@@ -14,3 +14,5 @@ mod skipping;
 mod tally;
 mod texts;
 mod usage;
+
+pub use program::{ReportFault, run};

@@ -4,15 +4,9 @@ use crate::fault::ReportFault;
 use crate::request_texts::{Detail, write_compile, write_kept, write_preprocess};
 use crate::texts::push_line;
 use crate::usage::Shown;
-use os_files::file_time::FileTime;
-use os_files::listed::Listed;
-use os_files::memory_files::{MemoryFile, MemoryFiles};
-use os_files::os_bytes::OsBytes;
-use recorded_builds::deciding::Compilers;
-use recorded_builds::entry::Entry;
-use recorded_builds::executables::EntryCompiler;
-use recorded_builds::reasons::reason_of;
-use response_texts::gnu::split_gnu_response_file_args;
+use os_files::{FileTime, Listed, MemoryFile, MemoryFiles, OsBytes};
+use recorded_builds::{Compilers, Entry, EntryCompiler, reason_of};
+use response_texts::split_gnu_response_file_args;
 use std::alloc::{AllocError, Global};
 
 /// The folder in which each line is run.

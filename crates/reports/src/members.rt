@@ -4,7 +4,7 @@ use crate::fault::ReportFault;
 use crate::room::EntryRoom;
 use crate::skipping::skip_rest;
 use json::{MAX_DEPTH, Reader, Token};
-use response_texts::gnu::split_gnu_response_file_args;
+use response_texts::split_gnu_response_file_args;
 use std::alloc::{AllocError, Global};
 
 /// A member that is to be a text.

@@ -7,7 +7,7 @@ use crate::lines::text_of_lines;
 use crate::report::{Shape, report_with_files, report_without_files};
 use crate::request_texts::Detail;
 use crate::usage::{HELP, Usage, usage_of};
-use recorded_builds::deciding::Compilers;
+use recorded_builds::Compilers;
 use std::alloc::Global;
 use std::io::{Read, Write};
 use std::rt::Files;

@@ -8,14 +8,11 @@ use crate::fault::ReportFault;
 use crate::request_texts::{Detail, write_compile, write_kept, write_preprocess};
 use crate::tally::write_rows;
 use crate::texts::push_line;
-use cmdlines_base::compiler_arguments::CompilerArguments;
-use os_files::os_bytes::OsBytes;
-use recorded_builds::deciding::{Compilers, Decided};
-use recorded_builds::entry::Entry;
-use recorded_builds::entry_report::EntryReport;
-use recorded_builds::reported_entries::{Lines, ReportedEntries};
-use recorded_builds::snapshot::Asked;
-use recorded_builds::summary::Summary;
+use cmdlines_base::CompilerArguments;
+use os_files::OsBytes;
+use recorded_builds::{
+    Asked, Compilers, Decided, Entry, EntryReport, Lines, ReportedEntries, Summary,
+};
 use std::alloc::{AllocError, Global};
 use std::fmt::Write;
 

@@ -1,17 +1,13 @@
 //! What words that are kept ask for, as text.
 
 use crate::texts::{write_list, write_words};
-use cmdlines::found::{FoundCompiler, HasKind};
-use cmdlines_base::argument::Argument;
-use cmdlines_base::color_mode::ColorMode;
-use cmdlines_base::compiler_arguments::CompilerArguments;
-use cmdlines_requests::parsed::ParsedArguments;
-use cmdlines_tables::compiler::CCompilerKind;
-use os_files::listed::Listed;
-use os_files::os_bytes::OsBytes;
-use recorded_builds::deciding::{Compilers, Decided};
-use rustc_options::data::ArgData;
-use rustc_options::parsed as rust;
+use cmdlines::{FoundCompiler, HasKind};
+use cmdlines_base::{Argument, ColorMode, CompilerArguments};
+use cmdlines_requests::ParsedArguments;
+use cmdlines_tables::CCompilerKind;
+use os_files::{Listed, OsBytes};
+use recorded_builds::{Compilers, Decided};
+use rustc_options::{ArgData, parsed as rust};
 use std::alloc::{AllocError, Global};
 use std::fmt::Write;
 

@@ -2,10 +2,8 @@
 
 ghost use Rattle.std.specs.Prelude.{◌≡◌, OnOk};
 
-use os_files::listed::Listed;
-use os_files::os_bytes::OsBytes;
-use recorded_builds::entry::Entry;
-use recorded_builds::executables::{compiler_of, is_wrapper};
+use os_files::{Listed, OsBytes};
+use recorded_builds::{Entry, compiler_of, is_wrapper};
 use std::alloc::{AllocError, Global};
 use std::mem;
 

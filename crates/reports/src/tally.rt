@@ -1,7 +1,7 @@
 //! The rows of a summary as text.
 
 use crate::texts::push_line;
-use recorded_builds::tally::Row;
+use recorded_builds::Row;
 use std::alloc::{AllocError, Global};
 use std::fmt::Write;
 

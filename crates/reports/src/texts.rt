@@ -1,6 +1,6 @@
 //! Lines and lists of words as text.
 
-use os_files::os_bytes::OsBytes;
+use os_files::OsBytes;
 use std::alloc::AllocError;
 use std::fmt::Write;
 

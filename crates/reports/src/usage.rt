@@ -1,6 +1,6 @@
 //! The arguments of the program.
 
-use recorded_builds::executables::{EntryCompiler, compiler_called};
+use recorded_builds::{EntryCompiler, compiler_called};
 
 /// What `--help` prints.
 pub(crate) const HELP: &str =

@@ -13,9 +13,7 @@ use crate::fault::ParseFault;
 use crate::opening::{Opened, opened_by};
 use crate::style::Style;
 use crate::unread::{Part, Unread};
-use os_files::files::Files;
-use os_files::listed::Listed;
-use os_files::os_bytes::OsBytes;
+use os_files::{Files, Listed, OsBytes};
 use std::alloc::Global;
 
 /// Adds what the words of a file become, while it is open. The files that it opens are open while their words are read.

@@ -1,6 +1,6 @@
 //! Why words aren't expanded.
 
-use os_files::os_bytes::OsBytes;
+use os_files::OsBytes;
 use std::alloc::{AllocError, AllocFailed};
 use thiserror::Error;
 

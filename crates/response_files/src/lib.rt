@@ -2,13 +2,20 @@
 #![tactic(auto)]
 
 mod chain;
-pub mod diab;
-pub mod expansion;
-pub mod fault;
+mod diab;
+mod expansion;
+mod fault;
 pub mod gcc;
-pub mod laws;
+mod laws;
 pub mod msvc;
 mod opening;
-pub mod style;
+mod style;
 mod unread;
-pub mod words;
+mod words;
+
+pub use diab::{DiabFiles, ExpandAtArgs};
+pub use expansion::expand;
+pub use fault::ParseFault;
+pub use laws::{expansion_is_recursion, other_words_stay};
+pub use style::Style;
+pub use words::{ExpandedWords, Opens};

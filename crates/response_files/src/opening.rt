@@ -11,9 +11,7 @@ ghost use Rattle.response_files.specs.Styles.{path_of};
 use crate::chain::Chain;
 use crate::fault::ParseFault;
 use crate::style::Style;
-use os_files::files::{FileFail, Files};
-use os_files::listed::Listed;
-use os_files::os_bytes::OsBytes;
+use os_files::{FileFail, Files, Listed, OsBytes};
 use std::alloc::Global;
 
 /// A response file: its name, and its words.

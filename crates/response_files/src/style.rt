@@ -7,12 +7,10 @@ ghost use Rattle.response_texts.specs.Decoding.{decoded};
 ghost use Rattle.response_texts.specs.Scanning.{gnu_arguments, msvc_arguments};
 ghost use Rattle.response_files.specs.Styles.{behind, is_special, mark_of, names_file, path_of, words_of};
 
-use os_files::listed::Listed;
-use os_files::os_bytes::OsBytes;
-use os_files::path::join;
-use response_texts::decoding::decode_response_text;
-use response_texts::gnu::split_gnu_response_file_args;
-use response_texts::msvc::SplitMsvcResponseFileArgs;
+use os_files::{Listed, OsBytes, join};
+use response_texts::{
+    SplitMsvcResponseFileArgs, decode_response_text, split_gnu_response_file_args,
+};
 use std::alloc::{AllocError, Global};
 
 /// Whose way it is to name a response file and to cut its text.

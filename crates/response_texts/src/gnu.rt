@@ -9,7 +9,7 @@ ghost use Rattle.response_texts.specs.Gnu.{IsGnuText, is_quote, is_white};
 ghost use Rattle.response_texts.specs.Scanning.{arguments_with, begun_by, gnu_arguments, gnu_marks};
 
 use crate::laws::gnu_texts_have_one_reading;
-use os_files::os_bytes::OsBytes;
+use os_files::OsBytes;
 use std::alloc::{AllocError, Global};
 use std::mem;
 

@@ -6,7 +6,7 @@ ghost use Rattle.response_texts.specs.Msvc.{backslashes, is_separator};
 ghost use Rattle.response_texts.specs.Scanning.{Steps, msvc_arguments};
 ghost use Rattle.response_texts.specs.Left.{text_left};
 
-use os_files::os_bytes::OsBytes;
+use os_files::OsBytes;
 use std::alloc::{AllocError, Global};
 
 fn is_separator(byte: u8) -> bool

@@ -1,17 +1,12 @@
 //! What is bound to the key of a call beside what the session hashes of it.
 
-use cache_dir::file_digests::digest_of;
-use disk_files::whole::read_whole;
-use host_protocol::command_line::CommandLine;
-use host_protocol::fields::into_text;
-use host_protocol::host_error::HostError;
-use key_additions::additions::Additions;
+use cache_dir::digest_of;
+use disk_files::read_whole;
+use host_protocol::{CommandLine, HostError, into_text};
+use key_additions::Additions;
 use memchr::memmem;
-use os_files::files::Files as CallFiles;
-use os_files::listed::Listed;
-use os_files::os_bytes::OsBytes;
-use os_files::path::join;
-use rustc_id::parts::{archives_in, has_loaded};
+use os_files::{Files as CallFiles, Listed, OsBytes, join};
+use rustc_id::{archives_in, has_loaded};
 use snapshot_files::SnapshotFiles;
 use std::alloc::Global;
 use std::rt::Files;

@@ -1,5 +1,8 @@
 //! What a session is asked about a call of rustc: why it isn't asked at all, and what is bound to the key beside what it hashes itself.
 #![tactic(auto)]
 
-pub mod additions;
-pub mod passing;
+mod additions;
+mod passing;
+
+pub use additions::{additions_of, variable_of, variables_of};
+pub use passing::{has_json, reason_against};

@@ -1,24 +1,19 @@
 //! The end of a call of rustc: what was made is kept, and what was kept is given, with what was printed beside it.
 
 use crate::known::KnownCrate;
-use cache_dir::folder::Kind;
-use cache_dir::making_room::make_room;
-use host_protocol::command_line::CommandLine;
-use host_protocol::fields::text_in;
-use host_protocol::host_error::HostError;
-use made_outputs::outputs::lock_paths;
-use os_files::listed::Listed;
-use os_files::os_bytes::OsBytes;
-use os_files::path::join;
-use rustc_call_requests::passing::has_json;
-use rustc_kept::results::keep;
+use cache_dir::{Kind, make_room};
+use host_protocol::{CommandLine, HostError, text_in};
+use made_outputs::lock_paths;
+use os_files::{Listed, OsBytes, join};
+use rustc_call_requests::has_json;
+use rustc_kept::keep;
 use std::alloc::Global;
 use std::fs;
 use std::fs::File;
 use std::io::ErrorKind;
 use std::os::unix::fs::MetadataExt;
 use std::rt::Files;
-use wrap_base::answer::Output;
+use wrap_base::Output;
 use wrap_base::store_key::StoreKey;
 
 /// The rights to write.

@@ -1,24 +1,15 @@
 //! What is known of a call of rustc, more from attempt to attempt.
 
 use crate::audits::AuditedCrate;
-use disk_files::found::State;
-use host_protocol::command_line::CommandLine;
-use host_protocol::fields::text_in;
-use host_protocol::host_error::HostError;
-use os_files::file_time::FileTime;
-use os_files::files::{Files as CallFiles, Metadata};
-use os_files::listed::Listed;
-use os_files::os_bytes::OsBytes;
-use os_files::path::join;
-use replay::replay_tool::ReplayTool;
-use replay::rustc_records::RecordedRustc;
-use rustc_kept::parts::{PartRows, name_of_parts, note_parts};
-use rustc_kept::results::{FoundCrate, Wishes};
+use disk_files::State;
+use host_protocol::{CommandLine, HostError, text_in};
+use os_files::{FileTime, Files as CallFiles, Listed, Metadata, OsBytes, join};
+use replay::{RecordedRustc, ReplayTool};
+use rustc_kept::{FoundCrate, PartRows, Wishes, name_of_parts, note_parts};
 use rustc_options::parsed::ParsedArguments;
-use rustc_texts::words::{dep_info_words, kept_words};
+use rustc_texts::{dep_info_words, kept_words};
 use snapshot_files::{LoadedFile, SnapshotFiles};
-use source_files::outputs::regular;
-use source_files::tokens::{Tokens, token_of};
+use source_files::{Tokens, regular, token_of};
 use std::alloc::Global;
 use std::fs;
 use std::rt::Files;

@@ -3,8 +3,10 @@
 #![tactic(auto)]
 
 mod audits;
-pub mod deciding;
+mod deciding;
 mod finishing;
 mod known;
 mod manifests;
 mod questions;
+
+pub use deciding::{RustcEnd, RustcWhat, decide_on_rustc};

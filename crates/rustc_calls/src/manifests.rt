@@ -3,19 +3,14 @@
 
 use crate::known::KnownCrate;
 use blake2::Blake2b256;
-use cache_dir::folder::Kind;
-use cache_format::kept_manifest::KeptManifest;
-use cache_format::sealed::{seal, unseal};
-use host_protocol::command_line::CommandLine;
-use host_protocol::fields::text_in;
-use host_protocol::host_error::HostError;
-use os_files::listed::Listed;
-use os_files::os_bytes::OsBytes;
+use cache_dir::Kind;
+use cache_format::{KeptManifest, seal, unseal};
+use host_protocol::{CommandLine, HostError, text_in};
+use os_files::{Listed, OsBytes};
 use rustc_parts::parts::EnvDep;
-use rustc_texts::dep_info::parse_dep_info;
-use rustc_texts::env_deps::parse_env_dep_info;
-use settings::key::Key;
-use source_files::loading::settled_before;
+use rustc_texts::{parse_dep_info, parse_env_dep_info};
+use settings::Key;
+use source_files::settled_before;
 use std::alloc::Global;
 use std::collections::BTreeSet;
 use std::fs;

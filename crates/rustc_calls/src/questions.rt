@@ -4,33 +4,24 @@
 ghost use Rattle.std.specs.Prelude.{◌≡◌, ◌≤◌};
 
 use crate::known::KnownCrate;
-use byte_formats::fields::put_framed;
-use cache_dir::file_digests::digest_of;
-use cache_dir::folder::Kind;
-use ckeys_records::preprocessor::Printed;
-use disk_files::whole::read_whole;
-use host_protocol::command_line::CommandLine;
-use host_protocol::fields::{into_text, text_in};
-use host_protocol::host::Host;
-use host_protocol::host_error::HostError;
-use made_outputs::outputs::{Locks, lock_paths, made_since, states_of};
+use byte_formats::put_framed;
+use cache_dir::{Kind, digest_of};
+use ckeys_records::Printed;
+use disk_files::read_whole;
+use host_protocol::{CommandLine, Host, HostError, into_text, text_in};
+use made_outputs::{Locks, lock_paths, made_since, states_of};
 use memchr::memmem;
-use os_files::listed::Listed;
-use os_files::os_bytes::OsBytes;
-use os_files::path::join;
-use replay::replay_tool::Wanted;
-use replay::rustc_records::{RecordedAnswer, RecordedCrate};
-use rustc_id::asking::{printed_for, toolchain_word};
+use os_files::{Listed, OsBytes, join};
+use replay::{RecordedAnswer, RecordedCrate, Wanted};
+use rustc_id::{printed_for, toolchain_word};
 use rustc_options::parsed::ParsedArguments;
-use rustc_texts::words::dep_info_words;
+use rustc_texts::dep_info_words;
 use std::alloc::Global;
 use std::fs::File;
 use std::io::Read;
 use std::rt::Files;
-use wrap_base::compiler::Compiler;
-use wrap_base::request::Request;
 use wrap_base::store_key::StoreKey;
-use wrap_base::tool::Compiled;
+use wrap_base::{Compiled, Compiler, Request};
 
 /// The variable that passes to the session what a crate is made of.
 const SOURCES: &str = "CARGO_GULMAAT_SOURCES";

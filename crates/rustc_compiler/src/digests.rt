@@ -6,11 +6,8 @@ ghost use Rattle.ckeys_base.specs.FileDigests.{file_digest, file_digests};
 ghost use Rattle.rustc_compiler.specs.Causes.{CauseOf, FileCause};
 
 use crate::fault::RustFault;
-use ckeys_base::digest::Digest;
-use ckeys_base::hash_state::HashState;
-use os_files::files::{FileFail, Files};
-use os_files::listed::Listed;
-use os_files::os_bytes::OsBytes;
+use ckeys_base::{Digest, HashState};
+use os_files::{FileFail, Files, Listed, OsBytes};
 use std::alloc::Global;
 
 /// The digest of a file that is needed, as text.

@@ -1,6 +1,6 @@
 //! Why there is no compiler.
 
-use os_files::os_bytes::OsBytes;
+use os_files::OsBytes;
 use std::alloc::{AllocError, AllocFailed};
 use thiserror::Error;
 

@@ -5,8 +5,7 @@ ghost use Rattle.os_files.specs.Bytes.{Bytes};
 ghost use Rattle.ckeys_base.specs.Hex.{hex_of};
 ghost use Rattle.rustc_parts.specs.Formed.{IsDigest};
 
-use ckeys_base::digest::texts_tell_digests;
-use ckeys_base::hash_state::HashState;
+use ckeys_base::{HashState, texts_tell_digests};
 
 /// The text of a digest is digits, two for each of its bytes: it has the form that digests have in keys. A call of it does nothing.
 pub fn digests_are_formed<H: HashState>()

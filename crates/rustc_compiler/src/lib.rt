@@ -2,7 +2,11 @@
 #![tactic(auto)]
 
 mod digests;
-pub mod fault;
-pub mod laws;
-pub mod rust;
+mod fault;
+mod laws;
+mod rust;
 mod toolchain;
+
+pub use fault::RustFault;
+pub use laws::digests_are_formed;
+pub use rust::Rust;

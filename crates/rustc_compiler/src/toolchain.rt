@@ -5,9 +5,7 @@ ghost use Rattle.os_files.specs.Path.{path_cmp};
 ghost use Rattle.rustc_options.specs.Sorted.{sorted_by};
 ghost use Rattle.rustc_compiler.specs.Compiler.{has_host, tells_host, toolchain_files};
 
-use os_files::listed::Listed;
-use os_files::os_bytes::OsBytes;
-use os_files::path::{compare_paths, paths_have_one_order};
+use os_files::{Listed, OsBytes, compare_paths, paths_have_one_order};
 use std::alloc::AllocError;
 
 /// Whether a line gives the host.

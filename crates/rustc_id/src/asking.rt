@@ -2,13 +2,10 @@
 
 ghost use Rattle.std.specs.Prelude.{◌≡◌};
 
-use ckeys_records::preprocessor::Printed;
-use disk_files::whole::read_whole;
-use host_protocol::command_line::CommandLine;
-use host_protocol::host::Host;
-use host_protocol::host_error::HostError;
-use os_files::listed::Listed;
-use os_files::os_bytes::OsBytes;
+use ckeys_records::Printed;
+use disk_files::read_whole;
+use host_protocol::{CommandLine, Host, HostError};
+use os_files::{Listed, OsBytes};
 use std::io::Read;
 use std::rt::Files;
 use std::{fs, io};

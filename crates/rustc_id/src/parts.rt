@@ -1,6 +1,6 @@
 //! The files that a rustc runs and takes from its own folder. They may be replaced without it, so its digest is theirs too.
 
-use host_protocol::host_error::HostError;
+use host_protocol::HostError;
 use memchr::memmem;
 use std::alloc::Global;
 use std::collections::BTreeSet;

@@ -2,6 +2,10 @@
 #![tactic(auto)]
 
 mod messages;
-pub mod parts;
-pub mod results;
-pub mod why;
+mod parts;
+mod results;
+mod why;
+
+pub use parts::{PartRows, name_of_parts, note_parts};
+pub use results::{FoundCrate, Wishes, found, keep};
+pub use why::why_of_rustc;

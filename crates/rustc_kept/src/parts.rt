@@ -1,16 +1,11 @@
 //! Of what the key of a call was made, as rows of a name and a value, and in which row two calls with the same outputs differ first.
 
 use blake2::Blake2b256;
-use byte_formats::fields::{put_framed, put_number};
-use cache_dir::file_digests::digest_of;
-use cache_dir::folder::{CacheDir, Kind};
-use cache_dir::making_room::make_room;
-use cache_format::kept_manifest::KeptManifest;
-use cache_format::sealed::{seal, unseal};
-use host_protocol::fields::Fields;
-use host_protocol::host_error::HostError;
-use os_files::listed::Listed;
-use os_files::os_bytes::OsBytes;
+use byte_formats::{put_framed, put_number};
+use cache_dir::{CacheDir, Kind, digest_of, make_room};
+use cache_format::{KeptManifest, seal, unseal};
+use host_protocol::{Fields, HostError};
+use os_files::{Listed, OsBytes};
 use rustc_options::parsed::ParsedArguments;
 use std::alloc::Global;
 use std::rt::Files;

@@ -2,23 +2,16 @@
 
 use crate::messages::{are_notices, moved};
 use blake2::Blake2b256;
-use byte_formats::fields::{put_framed, put_number};
-use cache_dir::file_digests::digest_of;
-use cache_dir::folder::Kind;
-use cache_dir::limit::takes;
-use cache_format::kept_crate::KeptCrate;
-use cache_format::kept_result::KeptOutput;
-use cache_format::sealed::{seal, unseal};
-use host_protocol::command_line::CommandLine;
-use host_protocol::fields::text_in;
-use host_protocol::host_error::HostError;
-use os_files::listed::Listed;
-use os_files::os_bytes::OsBytes;
+use byte_formats::{put_framed, put_number};
+use cache_dir::{Kind, digest_of, takes};
+use cache_format::{KeptCrate, KeptOutput, seal, unseal};
+use host_protocol::{CommandLine, HostError, text_in};
+use os_files::{Listed, OsBytes};
 use rustc_parts::parts::RShape;
-use settings::key::Key;
+use settings::Key;
 use std::alloc::{AllocError, Global};
 use std::rt::Files;
-use wrap_base::answer::Output;
+use wrap_base::Output;
 use wrap_base::store_key::{Pairs, Shape, StoreKey};
 
 /// What a disk keeps under a key: outputs, and messages as they are for this call.

@@ -1,16 +1,15 @@
 //! Why a call of rustc was compiled, for `--why`.
 
 use crate::parts::{name_of_parts, told_of_parts};
-use cmdlines_base::compiler_arguments::CompilerArguments;
-use host_protocol::host_error::HostError;
-use os_files::listed::Listed;
-use os_files::os_bytes::OsBytes;
+use cmdlines_base::CompilerArguments;
+use host_protocol::HostError;
+use os_files::{Listed, OsBytes};
 use rustc_options::parsed::ParsedArguments;
 use rustkeys_base::parse::parse_arguments;
 use snapshot_files::SnapshotFiles;
 use std::alloc::Global;
 use std::rt::Files;
-use wrap_base::reason::Reason;
+use wrap_base::Reason;
 
 /// How many names words may ask about as they are parsed.
 const NAMES: u32 = 64;

@@ -4,9 +4,11 @@ use crate::kind::ArgKind;
 use crate::types::{
     ArgCodegen, ArgCrateTypes, ArgExtern, ArgLinkLibrary, ArgLinkPath, ArgTarget, ArgUnstable,
 };
-use cmdlines_base::argument_error::{ArgParseResult, ArgToStringResult};
-use cmdlines_base::value::{ArgumentValue, FromArg, IntoArg, path_to_string, word_to_string};
-use os_files::os_bytes::OsBytes;
+use cmdlines_base::{
+    ArgParseResult, ArgToStringResult, ArgumentValue, FromArg, IntoArg, path_to_string,
+    word_to_string,
+};
+use os_files::OsBytes;
 use std::alloc::{AllocError, Global};
 
 /// The value of an argument: what its option is for, and what its word says.

@@ -1,10 +1,8 @@
 //! What a request to rustc asks for.
 
 use crate::data::ArgData;
-use cmdlines_base::argument::Argument;
-use cmdlines_base::color_mode::ColorMode;
-use os_files::listed::Listed;
-use os_files::os_bytes::OsBytes;
+use cmdlines_base::{Argument, ColorMode};
+use os_files::{Listed, OsBytes};
 
 /// The types of crate that can be cached, and whether each is made.
 #[derive(Clone, Copy, Debug, PartialEq, Eq)]

@@ -6,8 +6,7 @@ ghost use Rattle.rustc_options.specs.Table.{rustc_entries};
 
 use crate::data::ArgData;
 use crate::kind::ArgKind;
-use cmdlines_base::argument::ArgDisposition;
-use cmdlines_base::table::{ArgInfo, Table};
+use cmdlines_base::{ArgDisposition, ArgInfo, Table};
 use std::alloc::{AllocError, Global};
 
 /// The options of rustc.

@@ -1,8 +1,13 @@
 //! The pieces of which the key of a request to rustc is made, and the bytes that are hashed of them, written and read.
 #![tactic(auto)]
 
-pub mod laws;
-pub mod order;
+mod laws;
+mod order;
 pub mod parts;
-pub mod reading;
-pub mod writing;
+mod reading;
+mod writing;
+
+pub use laws::{bytes_and_shape_tell_parts, variables_have_one_order};
+pub use order::{compare_env_deps, compare_pairs};
+pub use reading::read_key_bytes;
+pub use writing::key_bytes;

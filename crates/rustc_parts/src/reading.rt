@@ -13,10 +13,8 @@ ghost use Rattle.rustc_parts.specs.declared.parts.Parts.{Parts};
 use crate::order::is_sorted_by_names;
 use crate::parts::{EnvDep, Parts, RShape};
 use crate::writing::{CACHE_VERSION, END};
-use byte_formats::fault::ReadFault;
-use byte_formats::fields::{read_framed, read_taken};
-use os_files::listed::Listed;
-use os_files::os_bytes::OsBytes;
+use byte_formats::{ReadFault, read_framed, read_taken};
+use os_files::{Listed, OsBytes};
 use std::alloc::{AllocError, Global};
 
 /// How many digits a digest has.

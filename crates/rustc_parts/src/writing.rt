@@ -6,8 +6,8 @@ ghost use Rattle.byte_formats.specs.Spelling.{framed};
 ghost use Rattle.rustc_parts.specs.Material.{env_dep_bytes, files_bytes, joined, material_of, pair_bytes};
 
 use crate::parts::{EnvDep, Parts};
-use byte_formats::fields::put_framed;
-use os_files::os_bytes::OsBytes;
+use byte_formats::put_framed;
+use os_files::OsBytes;
 use std::alloc::{AllocError, Global};
 
 /// The version of this layout.

@@ -8,9 +8,7 @@ ghost use Rattle.rustc_texts.specs.DepInfo.{behind_colon, names_in, rule_of, sou
 ghost use Rattle.rustc_texts.specs.declared.fault.TextFault.TheVariants.{NoRule};
 
 use crate::fault::TextFault;
-use os_files::listed::Listed;
-use os_files::os_bytes::OsBytes;
-use os_files::path::{compare_paths, join, paths_have_one_order};
+use os_files::{Listed, OsBytes, compare_paths, join, paths_have_one_order};
 use std::alloc::{AllocError, Global};
 use std::mem;
 

@@ -6,7 +6,7 @@ ghost use Rattle.rustc_texts.specs.Outputs.{has_name, is_rlib, metadata_name, wi
 ghost use Rattle.rustc_texts.specs.Places.{TellsLast, is_none_of};
 
 use crate::name_sets::{add_name, insert_name, last_places, name_set, remove_name, stands_from};
-use os_files::os_bytes::OsBytes;
+use os_files::OsBytes;
 use std::alloc::{AllocError, Global};
 use std::collections::BTreeMap;
 

@@ -5,7 +5,7 @@ ghost use Rattle.os_files.specs.Bytes.{Bytes};
 ghost use Rattle.rustc_texts.specs.Outputs.{Tells, has_name, with_name, without_name};
 ghost use Rattle.rustc_texts.specs.Places.{TellsLast};
 
-use os_files::os_bytes::OsBytes;
+use os_files::OsBytes;
 use std::alloc::{AllocError, Global};
 use std::collections::{BTreeMap, BTreeSet};
 

@@ -6,10 +6,8 @@ ghost use Rattle.os_files.specs.Path.{join};
 ghost use Rattle.rustc_options.specs.Asks.{asks_in};
 ghost use Rattle.rustc_texts.specs.Outputs.{demanded, is_there, optional, optional_if, outputs_with, targets_with, with_optional};
 
-use cmdlines_base::command::ArtifactDescriptor;
-use os_files::listed::Listed;
-use os_files::os_bytes::OsBytes;
-use os_files::path::join;
+use cmdlines_base::ArtifactDescriptor;
+use os_files::{Listed, OsBytes, join};
 use rustc_options::parsed::ParsedArguments;
 use std::alloc::{AllocError, Global};
 

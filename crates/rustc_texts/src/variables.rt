@@ -5,10 +5,8 @@ ghost use Rattle.std.specs.List.Sorted.{IsSorted};
 ghost use Rattle.rustc_parts.specs.Orders.{pair_cmp};
 ghost use Rattle.rustc_texts.specs.Variables.{compiles_with, counts};
 
-use os_files::listed::Listed;
-use os_files::os_bytes::OsBytes;
-use rustc_parts::laws::variables_have_one_order;
-use rustc_parts::order::compare_pairs;
+use os_files::{Listed, OsBytes};
+use rustc_parts::{compare_pairs, variables_have_one_order};
 use std::alloc::{AllocError, Global};
 
 /// Whether a variable of this name counts in keys.

@@ -1,13 +1,11 @@
 //! Texts on dependencies, read and rewritten.
 
-use os_files::os_bytes::OsBytes;
-use rustc_texts::dep_info::parse_dep_info;
-use rustc_texts::fault::TextFault;
-use rustc_texts::rewriting::dep_info_with_targets;
+use os_files::OsBytes;
+use rustc_texts::{TextFault, dep_info_with_targets, parse_dep_info};
 use std::alloc::Global;
 use std::fmt::Write;
 use std::test::Fail;
-use test_kit::texts::is_that;
+use test_kit::is_that;
 
 /// What rustc 1.95 wrote of a crate of two modules, one with a space in its name, that includes a text, when it was asked for what
 /// the crate depends on.

@@ -1,9 +1,8 @@
 //! The variables that a text on dependencies lists.
 
-use os_files::listed::Listed;
-use os_files::os_bytes::OsBytes;
+use os_files::{Listed, OsBytes};
 use rustc_parts::parts::EnvDep;
-use rustc_texts::env_deps::parse_env_dep_info;
+use rustc_texts::parse_env_dep_info;
 use std::alloc::{AllocError, Global};
 use std::test::Fail;
 

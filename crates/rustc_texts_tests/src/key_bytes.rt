@@ -1,14 +1,13 @@
 //! The bytes of keys, and what they don't determine.
 
 use crate::requests::barred;
-use os_files::listed::Listed;
+use os_files::Listed;
 use rustc_parts::parts::{EnvDep, Parts, RShape};
-use rustc_parts::reading::read_key_bytes;
-use rustc_parts::writing::key_bytes;
+use rustc_parts::{key_bytes, read_key_bytes};
 use std::alloc::{AllocError, Global};
 use std::fmt::Write;
 use std::test::Fail;
-use test_kit::texts::is_that;
+use test_kit::is_that;
 
 /// A shape: the length of each word, how many sources and crates there are, and which variables are set.
 type Counts = (&'static [usize], usize, usize, &'static [bool]);

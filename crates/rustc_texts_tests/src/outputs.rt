@@ -1,15 +1,14 @@
 //! The names of what requests write, and where it goes.
 
 use crate::requests::{barred, parsed};
-use os_files::os_bytes::OsBytes;
+use os_files::OsBytes;
 use rustc_options::parsed::ParsedArguments;
 use rustc_texts::output_names::output_names;
 use rustc_texts::outputs::{Output, outputs, targets};
 use std::alloc::{AllocError, Global};
 use std::fmt::Write;
 use std::test::Fail;
-use test_kit::rows::words;
-use test_kit::texts::is_that;
+use test_kit::{is_that, words};
 
 /// The names that a request writes which asks for these kinds, by rustc's answer.
 fn barred_output_names(alloc: Global, emit: &str, text: &str) -> Result<String, AllocError> {

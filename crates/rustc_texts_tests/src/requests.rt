@@ -1,14 +1,13 @@
 //! Requests that tests make, and texts of their words.
 
-use cmdlines_base::compiler_arguments::CompilerArguments;
-use os_files::memory_files::MemoryFiles;
-use os_files::os_bytes::OsBytes;
+use cmdlines_base::CompilerArguments;
+use os_files::{MemoryFiles, OsBytes};
 use rustc_options::parsed::ParsedArguments;
 use rustkeys_base::parse::parse_arguments;
 use std::alloc::{AllocError, Global};
 use std::fmt::Write;
 use std::test::Fail;
-use test_kit::rows::words;
+use test_kit::words;
 
 /// What the words of a line ask for, in a folder with no files.
 pub(crate) fn parsed(alloc: Global, line: &str) -> Result<ParsedArguments, Fail> {

@@ -1,8 +1,7 @@
 //! The variables of a call.
 
-use os_files::listed::Listed;
-use os_files::os_bytes::OsBytes;
-use rustc_texts::variables::{compile_env, hashed_variables};
+use os_files::{Listed, OsBytes};
+use rustc_texts::{compile_env, hashed_variables};
 use std::alloc::{AllocError, Global};
 use std::test::Fail;
 

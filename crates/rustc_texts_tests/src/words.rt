@@ -2,11 +2,13 @@
 
 use crate::requests::{barred, parsed};
 use rustc_options::parsed::ParsedArguments;
-use rustc_texts::laws::{cfg_places_do_not_count, commands_open_nothing};
-use rustc_texts::words::{compile_words, dep_info_words, file_names_words, kept_words};
+use rustc_texts::{
+    cfg_places_do_not_count, commands_open_nothing, compile_words, dep_info_words,
+    file_names_words, kept_words,
+};
 use std::alloc::{AllocError, Global};
 use std::test::Fail;
-use test_kit::texts::is_that;
+use test_kit::is_that;
 
 /// A request for a library, in whose words an option is joined with its value.
 const PLAIN: &str =

@@ -3,4 +3,6 @@
 #![tactic(auto)]
 
 mod tables;
-pub mod words;
+mod words;
+
+pub use words::unknown_word;

@@ -1,7 +1,7 @@
 //! The first word of a command to rustc that isn't known.
 
 use crate::tables::{CODEGEN, FLAGS, FOLDER, GENERATION, LETTERS, SEARCHED, UNNAMED_FILES, VALUED};
-use os_files::os_bytes::OsBytes;
+use os_files::OsBytes;
 
 /// Whether a word is one of these.
 fn is_among(words: &[&str], word: &[u8]) -> bool {

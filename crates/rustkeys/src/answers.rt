@@ -4,11 +4,9 @@ ghost use Rattle.std.specs.Prelude.{◌≡◌, ◌⊎◌, ℕ, ℤ, pos, [], ◌
 ghost use Rattle.os_files.specs.Bytes.{ticked};
 ghost use Rattle.ckeys_records.specs.Meaning.{Scene, archive, made_of, scene_of, words};
 
-use ckeys_records::preprocessor::{Preprocessor, Printed, ToolFail};
-use ckeys_records::step::Step;
-use cmdlines_base::command::SingleCompileCommand;
-use os_files::files::Files;
-use os_files::os_bytes::OsBytes;
+use ckeys_records::{Preprocessor, Printed, Step, ToolFail};
+use cmdlines_base::SingleCompileCommand;
+use os_files::{Files, OsBytes};
 use std::alloc::Global;
 
 /// What rustc answers before a request has its key. Its answers don't depend on the moment.

@@ -13,12 +13,8 @@ ghost use Rattle.rustkeys.specs.Questions.{digest_at, digested};
 ghost use Rattle.rustkeys.specs.Runs.{AtMostFor, ticked_for};
 
 use crate::answers::RustcAnswers;
-use ckeys_records::fault::Fault;
-use ckeys_records::preprocessor::ToolFail;
-use ckeys_records::step::Step;
-use os_files::files::Files;
-use os_files::listed::Listed;
-use os_files::os_bytes::OsBytes;
+use ckeys_records::{Fault, Step, ToolFail};
+use os_files::{Files, Listed, OsBytes};
 use std::alloc::Global;
 
 /// Whether a byte is a digit of a digest.

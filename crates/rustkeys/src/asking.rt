@@ -13,13 +13,10 @@ ghost use Rattle.rustkeys.specs.Questions.{dep_info_of, file_names_of, question_
 
 use crate::answers::RustcAnswers;
 use crate::place::RustPlace;
-use ckeys_records::fault::Fault;
-use ckeys_records::preprocessor::{Printed, ToolFail};
-use ckeys_records::step::Step;
-use cmdlines_requests::command::command_at;
-use os_files::files::Files;
-use os_files::os_bytes::OsBytes;
-use rustc_texts::words::{dep_info_words, file_names_words};
+use ckeys_records::{Fault, Printed, Step, ToolFail};
+use cmdlines_requests::command_at;
+use os_files::{Files, OsBytes};
+use rustc_texts::{dep_info_words, file_names_words};
 use std::alloc::Global;
 
 /// The text of an answer, which is UTF-8.

@@ -20,11 +20,9 @@ use crate::archives::archive_digests;
 use crate::digests::{needed_digests, needed_in, needed_where_named};
 use crate::ordered_lists::sources_in;
 use crate::place::RustPlace;
-use ckeys_base::hash_state::HashState;
-use ckeys_records::fault::Fault;
-use os_files::files::Files;
-use os_files::listed::Listed;
-use os_files::os_bytes::OsBytes;
+use ckeys_base::HashState;
+use ckeys_records::Fault;
+use os_files::{Files, Listed, OsBytes};
 use std::alloc::Global;
 
 /// The text in which rustc reports what the crate depends on, and the digests of its sources.

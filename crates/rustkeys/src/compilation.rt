@@ -9,13 +9,12 @@ ghost use Rattle.rustkeys.specs.Questions.{compile_env_of};
 
 use crate::ordered_lists::compile_env_of;
 use crate::place::RustPlace;
-use cmdlines_base::command::SingleCompileCommand;
-use cmdlines_requests::command::{Cacheable, command_at};
-use os_files::listed::Listed;
-use os_files::os_bytes::OsBytes;
+use cmdlines_base::SingleCompileCommand;
+use cmdlines_requests::{Cacheable, command_at};
+use os_files::{Listed, OsBytes};
 use rustc_parts::parts::Parts;
+use rustc_texts::compile_words;
 use rustc_texts::outputs::{Output, outputs};
-use rustc_texts::words::compile_words;
 use std::alloc::{AllocError, Global};
 
 /// A compile of a request.

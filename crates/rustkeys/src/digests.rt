@@ -9,13 +9,9 @@ ghost use Rattle.ckeys_records.specs.Faults.{FileCause, first_missing};
 ghost use Rattle.include_records.specs.Surroundings.{contents_in};
 ghost use Rattle.rustkeys.specs.Records.{digest_text};
 
-use ckeys_base::digest::Digest;
-use ckeys_base::hash_state::HashState;
-use ckeys_records::fault::Fault;
-use os_files::files::{FileFail, Files};
-use os_files::listed::Listed;
-use os_files::os_bytes::OsBytes;
-use os_files::path::join;
+use ckeys_base::{Digest, HashState};
+use ckeys_records::Fault;
+use os_files::{FileFail, Files, Listed, OsBytes, join};
 use std::alloc::{AllocError, Global};
 
 /// The paths as read from the directory.

@@ -22,19 +22,15 @@ use crate::collecting::Collected;
 use crate::compilation::{RustCompilation, compile_of, copied};
 use crate::ordered_lists::{counted_in, env_deps_in};
 use crate::place::{KnownRust, RustPlace};
-use ckeys_base::digest::Digest;
-use ckeys_base::hash_state::HashState;
-use cmdlines_base::command::SingleCompileCommand;
-use os_files::listed::Listed;
-use os_files::os_bytes::OsBytes;
+use ckeys_base::{Digest, HashState};
+use cmdlines_base::SingleCompileCommand;
+use os_files::{Listed, OsBytes};
 use rustc_options::parsed::ParsedArguments;
+use rustc_parts::key_bytes;
 use rustc_parts::parts::{EnvDep, Parts, RShape};
-use rustc_parts::writing::key_bytes;
-use rustc_texts::fault::TextFault;
 use rustc_texts::output_names::output_names;
 use rustc_texts::outputs::{Output, targets};
-use rustc_texts::rewriting::dep_info_with_targets;
-use rustc_texts::words::kept_words;
+use rustc_texts::{TextFault, dep_info_with_targets, kept_words};
 use std::alloc::{AllocError, Global};
 
 /// The pieces of a key that are no digests of a request's files.

@@ -6,11 +6,10 @@ ghost use Rattle.rustkeys.specs.Calls.{RustCall, key_fault_of};
 ghost use Rattle.rustkeys.specs.Fresh.{ComesOfWords, dep_info_text_of, emits_dep_info};
 ghost use Rattle.rustkeys.specs.Records.{AreDistinct, IsTold, RustRecord, key_of, record_shape};
 
-use ckeys_base::digest::texts_tell_digests;
-use ckeys_base::hash_state::HashState;
-use rustc_compiler::laws::digests_are_formed;
-use rustc_options::laws::words_in_order_are_a_set;
-use rustc_parts::laws::bytes_and_shape_tell_parts;
+use ckeys_base::{HashState, texts_tell_digests};
+use rustc_compiler::digests_are_formed;
+use rustc_options::words_in_order_are_a_set;
+use rustc_parts::bytes_and_shape_tell_parts;
 
 /// Under distinct digests keys with their shapes are equal exactly if the records are, whose digests of toolchains and static
 /// libraries are digits and whose materials can be counted in 64 bits.

@@ -2,36 +2,32 @@
 //! names of the layers below that a caller of a key uses. Words and files are handed on by `cmdlines`, texts and faults by `ckeys`.
 #![tactic(auto)]
 
-pub mod answers;
+mod answers;
 mod archives;
 mod asking;
 mod collecting;
-pub mod compilation;
+mod compilation;
 mod digests;
 mod finishing;
-pub mod hasher;
-pub mod laws;
+mod hasher;
+mod laws;
 mod ordered_lists;
 mod place;
 
 pub use answers::RustcAnswers;
 pub use compilation::RustCompilation;
 pub use hasher::RustHasher;
-pub use rustc_compiler::fault::RustFault;
-pub use rustc_compiler::rust::Rust;
-pub use rustc_options::data::ArgData;
+pub use laws::{dep_info_is_told_where_emitted, rustc_keys_tell_records};
+pub use rustc_compiler::{Rust, RustFault};
 pub use rustc_options::parsed::{CrateTypes, ParsedArguments};
-pub use rustc_options::types::{
-    ArgCodegen, ArgCrateTypes, ArgExtern, ArgLinkLibrary, ArgLinkPath, ArgTarget, ArgUnstable,
+pub use rustc_options::{
+    ArgCodegen, ArgCrateTypes, ArgData, ArgExtern, ArgLinkLibrary, ArgLinkPath, ArgTarget,
+    ArgUnstable,
 };
 pub use rustc_parts::parts::{EnvDep, Parts, RShape};
-pub use rustc_parts::reading::read_key_bytes;
-pub use rustc_parts::writing::key_bytes;
-pub use rustc_texts::dep_info::parse_dep_info;
-pub use rustc_texts::env_deps::parse_env_dep_info;
-pub use rustc_texts::fault::TextFault;
-pub use rustc_texts::rewriting::dep_info_with_targets;
-pub use rustkeys_base::expansion::ExpandResponseFile;
-pub use rustkeys_base::notification::is_rmeta_artifact_notification;
+pub use rustc_parts::{key_bytes, read_key_bytes};
+pub use rustc_texts::{TextFault, dep_info_with_targets, parse_dep_info, parse_env_dep_info};
 pub use rustkeys_base::parse::parse_arguments;
-pub use rustkeys_base::response_text::split_rust_response_file_args;
+pub use rustkeys_base::{
+    ExpandResponseFile, is_rmeta_artifact_notification, split_rust_response_file_args,
+};

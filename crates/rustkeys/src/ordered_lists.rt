@@ -9,17 +9,11 @@ ghost use Rattle.ckeys_records.specs.Causes.{no_file, no_step};
 ghost use Rattle.rustkeys.specs.Questions.{compile_env_of, counted_in, env_deps_in, sources_in};
 ghost use Rattle.rustkeys.specs.Calls.{rule_fault_of};
 
-use ckeys_records::fault::Fault;
-use os_files::listed::Listed;
-use os_files::os_bytes::OsBytes;
-use os_files::path::paths_have_one_order;
-use rustc_parts::laws::variables_have_one_order;
-use rustc_parts::order::compare_env_deps;
+use ckeys_records::Fault;
+use os_files::{Listed, OsBytes, paths_have_one_order};
 use rustc_parts::parts::EnvDep;
-use rustc_texts::dep_info::parse_dep_info;
-use rustc_texts::env_deps::parse_env_dep_info;
-use rustc_texts::fault::TextFault;
-use rustc_texts::variables::{compile_env, hashed_variables};
+use rustc_parts::{compare_env_deps, variables_have_one_order};
+use rustc_texts::{TextFault, compile_env, hashed_variables, parse_dep_info, parse_env_dep_info};
 use std::alloc::{AllocError, Global};
 
 /// The sources that a text on dependencies names, in order. One that begins with no rule is reported as that, whatever memory there is.

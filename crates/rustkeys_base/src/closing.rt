@@ -15,17 +15,11 @@ ghost use Rattle.rustkeys_base.specs.Parsing.{asks, closing, emitted, has_kind, 
 use crate::deciding::{Refusal, refused};
 use crate::facts::Facts;
 use crate::libraries::{join_paths, libraries_in};
-use cmdlines_base::argument::Argument;
-use cmdlines_base::color_mode::ColorMode;
-use cmdlines_base::compiler_arguments::CompilerArguments;
-use os_files::files::Files;
-use os_files::listed::Listed;
-use os_files::os_bytes::OsBytes;
-use os_files::path::{compare_paths, paths_have_one_order};
-use response_files::fault::ParseFault;
-use rustc_options::data::ArgData;
+use cmdlines_base::{Argument, ColorMode, CompilerArguments};
+use os_files::{Files, Listed, OsBytes, compare_paths, paths_have_one_order};
+use response_files::ParseFault;
 use rustc_options::parsed::{CrateTypes, ParsedArguments};
-use rustc_options::sets::{between_commas, in_order};
+use rustc_options::{ArgData, between_commas, in_order};
 use std::alloc::{AllocError, Global};
 
 /// Whether one of the kinds is of that name.

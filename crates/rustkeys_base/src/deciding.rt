@@ -9,16 +9,11 @@ ghost use Rattle.rustkeys_base.specs.Saying.{token_in};
 ghost use Rattle.rustkeys_base.specs.Parsing.{AsksNothing, decision_of, decision_of_refusal, refused, second_input, other_types, codegen_decides, is_unsure, option_decides, decides};
 
 use crate::facts::Facts;
-use cmdlines_base::argument::Argument;
-use cmdlines_base::compiler_arguments::CompilerArguments;
-use os_files::files::{FileFail, Files};
-use os_files::os_bytes::OsBytes;
-use os_files::path::join;
-use response_files::fault::ParseFault;
-use rustc_options::data::ArgData;
+use cmdlines_base::{Argument, CompilerArguments};
+use os_files::{FileFail, Files, OsBytes, join};
+use response_files::ParseFault;
 use rustc_options::parsed::ParsedArguments;
-use rustc_options::sets::joined_by_commas;
-use rustc_options::types::{ArgOption, ArgTarget};
+use rustc_options::{ArgData, ArgOption, ArgTarget, joined_by_commas};
 use std::alloc::{AllocError, Global};
 use std::fmt::Write;
 

@@ -15,11 +15,8 @@ ghost use Rattle.rustkeys_base.specs.Expansion.{expanded_by_rustc, names_file, o
 ghost use Rattle.rustkeys_base.specs.Words.{items_left};
 
 use crate::response_text::split_rust_response_file_args;
-use os_files::files::{FileFail, Files};
-use os_files::listed::Listed;
-use os_files::os_bytes::OsBytes;
-use os_files::path::join;
-use response_files::fault::ParseFault;
+use os_files::{FileFail, Files, Listed, OsBytes, join};
+use response_files::ParseFault;
 use std::alloc::{AllocError, Global};
 use std::vec::IntoIter;
 

@@ -7,11 +7,9 @@ ghost use Rattle.rustc_options.specs.declared.data.ArgData.TheVariants.{CodeGen,
 ghost use Rattle.rustkeys_base.specs.Facts.{no_facts, facts_with};
 ghost use Rattle.rustkeys_base.specs.Saying.{token_in, says, is_on, holds_crates, holds_libraries};
 
-use cmdlines_base::argument::Argument;
-use os_files::listed::Listed;
-use os_files::os_bytes::OsBytes;
-use rustc_options::data::ArgData;
-use rustc_options::types::{ArgLinkLibrary, ArgLinkPath, ArgOption, ArgTarget};
+use cmdlines_base::Argument;
+use os_files::{Listed, OsBytes};
+use rustc_options::{ArgData, ArgLinkLibrary, ArgLinkPath, ArgOption, ArgTarget};
 use std::alloc::{AllocError, Global};
 
 /// What the arguments say.

@@ -3,10 +3,16 @@
 
 mod closing;
 mod deciding;
-pub mod expansion;
-pub mod facts;
-pub mod laws;
+mod expansion;
+mod facts;
+mod laws;
 mod libraries;
-pub mod notification;
+mod notification;
 pub mod parse;
-pub mod response_text;
+mod response_text;
+
+pub use expansion::{ExpandResponseFile, expand_rustc, files_of_words_open_once};
+pub use facts::Facts;
+pub use laws::first_that_decides_does;
+pub use notification::is_rmeta_artifact_notification;
+pub use response_text::split_rust_response_file_args;

@@ -8,11 +8,8 @@ ghost use Rattle.os_files.specs.Views.{FilesFail};
 ghost use Rattle.response_files.specs.Causes.{CauseOf};
 ghost use Rattle.rustkeys_base.specs.Requests.{library_names, library_in, library_paths};
 
-use os_files::files::{FileFail, Files};
-use os_files::listed::Listed;
-use os_files::os_bytes::OsBytes;
-use os_files::path::join;
-use response_files::fault::ParseFault;
+use os_files::{FileFail, Files, Listed, OsBytes, join};
+use response_files::ParseFault;
 use std::alloc::{AllocError, Global};
 
 /// Paths in that directory.

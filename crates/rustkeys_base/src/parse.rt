@@ -17,18 +17,13 @@ use crate::closing::close;
 use crate::deciding::{Refusal, decides, refused};
 use crate::expansion::expand_rustc;
 use crate::facts::Facts;
-use cmdlines_base::argument::{Argument, NormalizedDisposition};
-use cmdlines_base::argument_error::ArgParseError;
-use cmdlines_base::byte_tree::ByteTree;
-use cmdlines_base::compiler_arguments::CompilerArguments;
-use cmdlines_base::cutting::ArgsIter;
-use os_files::files::Files;
-use os_files::listed::Listed;
-use os_files::os_bytes::OsBytes;
-use response_files::fault::ParseFault;
-use rustc_options::data::ArgData;
+use cmdlines_base::{
+    ArgParseError, ArgsIter, Argument, ByteTree, CompilerArguments, NormalizedDisposition,
+};
+use os_files::{Files, Listed, OsBytes};
+use response_files::ParseFault;
 use rustc_options::parsed::ParsedArguments;
-use rustc_options::table::rustc_table;
+use rustc_options::{ArgData, rustc_table};
 use std::alloc::{AllocError, Global};
 
 /// The words of the request: a first word `rustc`, which a wrapper leaves there, is none of them.

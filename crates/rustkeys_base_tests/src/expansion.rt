@@ -1,16 +1,13 @@
 //! Response files.
 
 use crate::written::{WHOLE, answer};
-use os_files::files::Files;
-use os_files::os_bytes::OsBytes;
-use response_files::fault::ParseFault;
-use rustkeys_base::expansion::{ExpandResponseFile, files_of_words_open_once};
+use os_files::{Files, OsBytes};
+use response_files::ParseFault;
+use rustkeys_base::{ExpandResponseFile, files_of_words_open_once};
 use std::alloc::Global;
 use std::fmt::Write;
 use std::test::Fail;
-use test_kit::broken_files::BrokenFiles;
-use test_kit::rows::{files_of, words};
-use test_kit::texts::is_that;
+use test_kit::{BrokenFiles, files_of, is_that, words};
 
 /// The words that a line becomes, in brackets.
 fn expanded<F: Files>(alloc: Global, line: &str, files: &mut F) -> Result<String, Fail> {

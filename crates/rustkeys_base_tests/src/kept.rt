@@ -1,13 +1,13 @@
 //! The arguments that requests keep, and the words that these print.
 
 use crate::written::{WHOLE, arguments_of};
-use cmdlines_base::argument::Argument;
-use rustc_options::data::ArgData;
-use rustkeys_base::laws::first_that_decides_does;
+use cmdlines_base::Argument;
+use rustc_options::ArgData;
+use rustkeys_base::first_that_decides_does;
 use std::alloc::{AllocError, Global};
 use std::fmt::Write;
 use std::test::Fail;
-use test_kit::texts::is_that;
+use test_kit::is_that;
 
 /// Adds the texts of an argument, each before a `|`, where each path is `/there`.
 fn write_texts(

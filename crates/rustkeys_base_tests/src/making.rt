@@ -1,19 +1,12 @@
 //! Compilers that are made of what is known of them, with SHA-256, whose digests FIPS 180 prints.
 
-use os_files::files::Files;
-use os_files::listed::Listed;
-use os_files::memory_files::MemoryFiles;
-use os_files::os_bytes::OsBytes;
-use rustc_compiler::fault::RustFault;
-use rustc_compiler::laws::digests_are_formed;
-use rustc_compiler::rust::Rust;
+use os_files::{Files, Listed, MemoryFiles, OsBytes};
+use rustc_compiler::{Rust, RustFault, digests_are_formed};
 use sha2::Sha256;
 use std::alloc::{AllocError, Global};
 use std::fmt::Write;
 use std::test::Fail;
-use test_kit::fail_files::FailFiles;
-use test_kit::rows::{files_of, words};
-use test_kit::texts::is_that;
+use test_kit::{FailFiles, files_of, is_that, words};
 
 /// What rustc says of its version.
 const VERSION: &str =

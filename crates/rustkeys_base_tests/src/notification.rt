@@ -1,6 +1,6 @@
 //! rustc's notifications that it has written metadata.
 
-use rustkeys_base::notification::is_rmeta_artifact_notification;
+use rustkeys_base::is_rmeta_artifact_notification;
 use std::alloc::{AllocError, Global};
 use std::test::Fail;
 

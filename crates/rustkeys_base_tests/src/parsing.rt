@@ -1,13 +1,12 @@
 //! Requests to a compiler.
 
 use crate::making::rust;
-use cmdlines_base::compiler_arguments::CompilerArguments;
-use os_files::memory_files::MemoryFiles;
-use os_files::os_bytes::OsBytes;
-use rustc_compiler::rust::Rust;
+use cmdlines_base::CompilerArguments;
+use os_files::{MemoryFiles, OsBytes};
+use rustc_compiler::Rust;
 use std::alloc::Global;
 use std::test::Fail;
-use test_kit::rows::{files_of, words};
+use test_kit::{files_of, words};
 
 /// Words that ask for a library of a crate `foo`.
 const WHOLE: &str = "--emit link foo.rs --out-dir out --crate-name foo --crate-type lib";

@@ -1,13 +1,14 @@
 //! The texts of values, where each path is transformed.
 
-use cmdlines_base::argument_error::ArgToStringError;
-use cmdlines_base::value::{FromArg, IntoArg};
-use os_files::os_bytes::OsBytes;
-use rustc_options::laws::{words_are_printed_again, words_in_order_are_a_set};
-use rustc_options::types::{ArgCrateTypes, ArgExtern, ArgLinkPath, ArgOption, ArgTarget};
+use cmdlines_base::{ArgToStringError, FromArg, IntoArg};
+use os_files::OsBytes;
+use rustc_options::{
+    ArgCrateTypes, ArgExtern, ArgLinkPath, ArgOption, ArgTarget, words_are_printed_again,
+    words_in_order_are_a_set,
+};
 use std::alloc::{AllocError, Global};
 use std::test::Fail;
-use test_kit::texts::is_that;
+use test_kit::is_that;
 
 fn word(alloc: Global, text: &str) -> Result<OsBytes, AllocError> {
     OsBytes::from_slice(alloc, text.as_bytes())

@@ -1,18 +1,14 @@
 //! What words of rustc come to.
 
-use cmdlines_base::argument::Argument;
-use cmdlines_base::compiler_arguments::CompilerArguments;
-use os_files::files::Files;
-use os_files::listed::Listed;
-use os_files::memory_files::MemoryFiles;
-use os_files::os_bytes::OsBytes;
-use response_files::fault::ParseFault;
-use rustc_options::data::ArgData;
+use cmdlines_base::{Argument, CompilerArguments};
+use os_files::{Files, Listed, MemoryFiles, OsBytes};
+use response_files::ParseFault;
+use rustc_options::ArgData;
 use rustc_options::parsed::ParsedArguments;
 use rustkeys_base::parse::parse_arguments;
 use std::alloc::Global;
 use std::test::Fail;
-use test_kit::rows::words;
+use test_kit::words;
 
 /// What words come to.
 pub(crate) type Answer = CompilerArguments<ParsedArguments>;

@@ -4,13 +4,11 @@ ghost use Rattle.std.specs.Prelude.{◌≡◌, Some, OnOk, OnErr, IfErr};
 ghost use Rattle.os_files.specs.Bytes.{ticked};
 ghost use Rattle.rustkeys_tests.specs.Answering.{answering};
 
-use ckeys_records::preprocessor::{Preprocessor, Printed, Ticks, ToolFail};
-use ckeys_records::step::Step;
-use cmdlines_base::command::SingleCompileCommand;
-use cmdlines_tables::compiler::CCompilerKind;
-use os_files::files::Files;
-use os_files::os_bytes::OsBytes;
-use rustkeys::answers::RustcAnswers;
+use ckeys_records::{Preprocessor, Printed, Step, Ticks, ToolFail};
+use cmdlines_base::SingleCompileCommand;
+use cmdlines_tables::CCompilerKind;
+use os_files::{Files, OsBytes};
+use rustkeys::RustcAnswers;
 use std::alloc::{AllocError, Global};
 
 /// For tests: what rustc answers, whatever the command.

@@ -4,21 +4,18 @@
 //! holds one at most, and it hands that over to `drop`, which is one call.
 
 use crate::answer_tool::{AnswerTool, RustTexts};
-use ckeys_base::digest::Digest;
-use ckeys_records::fault::Fault;
-use cmdlines_base::compiler_arguments::CompilerArguments;
-use os_files::files::Files;
-use os_files::listed::Listed;
-use os_files::memory_files::MemoryFiles;
-use os_files::os_bytes::OsBytes;
-use response_files::fault::ParseFault;
-use rustkeys::compilation::RustCompilation;
-use rustkeys::hasher::RustHasher;
-use rustkeys::{ParsedArguments, RShape, Rust, RustFault, parse_arguments};
+use ckeys_base::Digest;
+use ckeys_records::Fault;
+use cmdlines_base::CompilerArguments;
+use os_files::{Files, Listed, MemoryFiles, OsBytes};
+use response_files::ParseFault;
+use rustkeys::{
+    ParsedArguments, RShape, Rust, RustCompilation, RustFault, RustHasher, parse_arguments,
+};
 use sha2::Sha256;
 use std::alloc::{AllocError, Global};
 use std::test::Fail;
-use test_kit::rows::{files_of, words};
+use test_kit::{files_of, words};
 
 /// A request for a library of a crate `foo`.
 pub(crate) const FIRST: &str =

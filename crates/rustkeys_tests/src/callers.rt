@@ -2,15 +2,13 @@
 
 use crate::asking::{DEPENDENCIES, FIRST, OF_NOTHING, all_files, asked, made, parsed, rust, tool};
 use crate::keys::made_of;
-use os_files::os_bytes::OsBytes;
+use os_files::OsBytes;
 use rustc_parts::parts::{Parts, RShape};
-use rustkeys::ParsedArguments;
-use rustkeys::compilation::RustCompilation;
-use rustkeys::hasher::RustHasher;
+use rustkeys::{ParsedArguments, RustCompilation, RustHasher};
 use std::alloc::{AllocError, Global};
 use std::test::Fail;
-use test_kit::texts::is_that;
-use wrap_uses::recorded_keys::{RecordedKey, pieces_of_key};
+use test_kit::is_that;
+use wrap_uses::{RecordedKey, pieces_of_key};
 
 /// A request with two static libraries.
 const WITH_LIBRARIES: &str =

@@ -4,7 +4,7 @@ use crate::answer_tool::{AnswerTool, RustTexts};
 use crate::asking::{DEPENDENCIES, FIRST, all_files, key_or_fault_on, tool};
 use std::alloc::Global;
 use std::test::Fail;
-use test_kit::texts::is_that;
+use test_kit::is_that;
 
 /// Words after the first request, what rustc says of dependencies and of names, and the fault.
 const ROWS: [(&str, &[u8], &[u8], &str); 10] = [

@@ -5,21 +5,15 @@ use crate::asking::{
     DEPENDENCIES, FIRST, Made, OF_NOTHING, SECOND, SOURCE, all_files, asked, asked_at,
     digest_of_all, key_or_fault, key_or_fault_on, made, parsed, rust_with, tool,
 };
-use cmdlines_base::argument::{ArgDisposition, Argument};
-use os_files::listed::Listed;
-use os_files::memory_files::MemoryFiles;
-use os_files::os_bytes::OsBytes;
-use rustc_options::data::ArgData;
-use rustkeys::compilation::RustCompilation;
-use rustkeys::hasher::RustHasher;
-use rustkeys::laws::rustc_keys_tell_records;
-use rustkeys::{ParsedArguments, Rust};
+use cmdlines_base::{ArgDisposition, Argument};
+use os_files::{Listed, MemoryFiles, OsBytes};
+use rustc_options::ArgData;
+use rustkeys::{ParsedArguments, Rust, RustCompilation, RustHasher, rustc_keys_tell_records};
 use sha2::Sha256;
 use std::alloc::{AllocError, Global};
 use std::fmt::Write;
 use std::test::Fail;
-use test_kit::rows::{files_of, words};
-use test_kit::texts::is_that;
+use test_kit::{files_of, is_that, words};
 
 /// The key of a line's request, where rustc names `foo.rs` and `libfoo.rlib`.
 fn key_of(alloc: Global, line: &str) -> Result<String, Fail> {

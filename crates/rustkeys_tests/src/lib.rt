@@ -7,7 +7,7 @@ mod answer_tool;
 mod asking;
 #[cfg(test)]
 mod callers;
-pub mod door;
+mod door;
 #[cfg(test)]
 mod faults;
 #[cfg(test)]

@@ -4,12 +4,10 @@ use crate::answer_tool::AnswerTool;
 use crate::asking::{
     DEPENDENCIES, FIRST, Made, OF_NOTHING, WITH_LIBRARY, all_files, asked_at, parse, rust, tool,
 };
-use ckeys_records::fault::Fault;
-use ckeys_records::preprocessor::{Preprocessor, Ticks};
-use cmdlines_base::compiler_arguments::CompilerArguments;
-use os_files::memory_files::MemoryFiles;
-use rustkeys::hasher::RustHasher;
-use rustkeys::{ParsedArguments, Rust, RustFault};
+use ckeys_records::{Fault, Preprocessor, Ticks};
+use cmdlines_base::CompilerArguments;
+use os_files::MemoryFiles;
+use rustkeys::{ParsedArguments, Rust, RustFault, RustHasher};
 use std::alloc::Global;
 use std::test::Fail;
 

@@ -7,8 +7,7 @@ use crate::asking::{
 use std::alloc::{AllocError, Global};
 use std::fmt::Write;
 use std::test::Fail;
-use test_kit::fail_files::FailFiles;
-use test_kit::texts::is_that;
+use test_kit::{FailFiles, is_that};
 
 /// The texts of the requests.
 fn texts(alloc: Global) -> Result<RustTexts, AllocError> {

@@ -6,7 +6,7 @@ use rustkeys::{ParsedArguments, Rust, RustCompilation, RustHasher};
 use std::alloc::{AllocError, Global};
 use std::fmt::Debug;
 use std::test::Fail;
-use test_kit::texts::{holds, is_that};
+use test_kit::{holds, is_that};
 
 /// A value as it is printed.
 fn printed<T: Debug>(alloc: Global, value: &T) -> Result<String, AllocError> {

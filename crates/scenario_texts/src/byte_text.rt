@@ -3,8 +3,7 @@
 use crate::members::{into_list, into_text};
 use crate::scenario::ScenarioFault;
 use hex::FromHexError;
-use os_files::listed::Listed;
-use os_files::os_bytes::OsBytes;
+use os_files::{Listed, OsBytes};
 use serde_json::{Map, Value};
 use std::alloc::Global;
 

@@ -3,17 +3,14 @@
 use crate::byte_text::{read_byte_text, read_texts};
 use crate::members::{into_text, read_text, read_truth};
 use crate::scenario::ScenarioFault;
-use ckeys::compiler::CCompiler;
-use cmdlines::found::{FoundCompiler, HasKind};
-use os_files::listed::Listed;
-use os_files::memory_files::MemoryFiles;
-use os_files::os_bytes::OsBytes;
-use rustc_compiler::fault::RustFault;
-use rustc_compiler::rust::Rust;
+use ckeys::CCompiler;
+use cmdlines::{FoundCompiler, HasKind};
+use os_files::{Listed, MemoryFiles, OsBytes};
+use rustc_compiler::{Rust, RustFault};
 use serde_json::{Map, Value};
 use sha2::Sha256;
 use std::alloc::{AllocError, Global};
-use wrap_base::compiler::Compiler;
+use wrap_base::Compiler;
 
 /// The name of rustc.
 pub(crate) const RUSTC: &str = "rustc";

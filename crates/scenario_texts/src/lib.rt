@@ -6,4 +6,6 @@ mod byte_text;
 mod compilers;
 mod crates;
 mod members;
-pub mod scenario;
+mod scenario;
+
+pub use scenario::{Scenario, ScenarioCall, ScenarioFault, read_scenario};

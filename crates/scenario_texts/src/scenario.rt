@@ -46,19 +46,15 @@ use crate::crates::read_crate;
 use crate::members::{
     into_list, into_object, into_text, read_capacity, read_limit, read_truth, read_whole, required,
 };
-use ckeys_records::config::{ConfigError, KeyConfig};
-use os_files::file_time::FileTime;
-use os_files::listed::Listed;
-use os_files::memory_files::{MemoryFile, MemoryFiles};
-use os_files::os_bytes::OsBytes;
-use script_tool::crate_texts::CrateTexts;
+use ckeys_records::{ConfigError, KeyConfig};
+use os_files::{FileTime, Listed, MemoryFile, MemoryFiles, OsBytes};
+use script_tool::CrateTexts;
 use serde_json::{Map, Value};
 use std::alloc::{AllocError, AllocFailed, Global};
 use std::num::NonZeroUsize;
 use thiserror::Error;
-use time_macros::zone::{Zone, ZoneError};
-use wrap_base::config::Config;
-use wrap_base::request::Request;
+use time_macros::{Zone, ZoneError};
+use wrap_base::{Config, Request};
 
 /// The directory of a request that names none.
 const DEFAULT_DIR: &[u8; 2] = b"/w";

@@ -1,13 +1,12 @@
 //! What is to be said of a request that was compiled: in which part, and where, it differs from the latest earlier one with the same
 //! outputs.
 
-use fingerprints::difference::Difference;
-use os_files::listed::Listed;
-use os_files::os_bytes::OsBytes;
+use fingerprints::Difference;
+use os_files::{Listed, OsBytes};
 use std::alloc::{AllocError, Global};
 use std::collections::HashMap;
 use wrap::{Answer, Fault, Fingerprint, How};
-use wrap_base::answer::Output;
+use wrap_base::Output;
 
 /// The outputs of a request: the name of each, and where it is wanted.
 type Wanted = Listed<(OsBytes, OsBytes)>;

@@ -2,4 +2,6 @@
 #![tactic(auto)]
 
 mod explaining;
-pub mod program;
+mod program;
+
+pub use program::{RunFault, run, run_explained};

@@ -4,30 +4,22 @@ ghost use Rattle.std.specs.Prelude.{◌≡◌, ◌⊎◌, ◌<◌, ◌↔◌, le
 ghost use Rattle.std.specs.Io.KnownBytes.{IsAtEnd};
 
 use crate::explaining::Explainer;
-use bounded_store::lru_store::LruStore;
+use bounded_store::LruStore;
 use ckeys::{EntryKey, PreprocessorCacheEntry, Store};
-use ckeys_records::fault::Fault;
-use ckeys_records::preprocessor::Preprocessor;
-use os_files::listed::Listed;
-use os_files::memory_files::MemoryFiles;
-use os_files::os_bytes::OsBytes;
-use scenario_texts::scenario::{Scenario, ScenarioCall, ScenarioFault, read_scenario};
-use script_tool::crate_texts::CrateTexts;
-use script_tool::script::{RetoldTool, ScriptTool};
-use script_tool::statuses::{StatusOf, Statuses, error_status, print_status};
-use script_tool::trees::Trees;
+use ckeys_records::{Fault, Preprocessor};
+use os_files::{Listed, MemoryFiles, OsBytes};
+use scenario_texts::{Scenario, ScenarioCall, ScenarioFault, read_scenario};
+use script_tool::{
+    CrateTexts, RetoldTool, ScriptTool, StatusOf, Statuses, Trees, error_status, print_status,
+};
 use sha2::Sha256;
 use std::alloc::{AllocError, AllocFailed, Global};
 use std::io;
 use std::io::{ErrorKind, Read, Write};
 use thiserror::Error;
-use wrap::Fingerprint;
-use wrap::session::Session;
-use wrap_base::answer::{Answer, How, Output};
-use wrap_base::map_store::MapStore;
-use wrap_base::request::Request;
+use wrap::{Fingerprint, Session};
 use wrap_base::store_key::{Pairs, StoreKey};
-use wrap_base::tool::Tool;
+use wrap_base::{Answer, How, MapStore, Output, Request, Tool};
 
 /// The include records.
 type Entries = MapStore<EntryKey, PreprocessorCacheEntry>;

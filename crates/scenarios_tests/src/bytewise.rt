@@ -1,6 +1,6 @@
 //! Runs over a device that reads and writes one byte at a time, and fails at one call.
 
-use scenarios::program::{RunFault, run};
+use scenarios::{RunFault, run};
 use std::alloc::Global;
 use std::io;
 use std::io::{ErrorKind, Read, Write};

@@ -1,6 +1,6 @@
 //! Each fault of a run.
 
-use scenarios::program::{RunFault, run};
+use scenarios::{RunFault, run};
 use std::alloc::{AllocError, Global};
 use std::io;
 use std::io::{ErrorKind, Read, Write};

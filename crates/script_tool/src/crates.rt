@@ -7,15 +7,11 @@ ghost use Rattle.script_tool.specs.ScriptedCrates.{compiled_crate, crate_text, j
 
 use crate::scripting::made_nothing;
 use crate::statuses::Statuses;
-use cmdlines_base::command::{ArtifactDescriptor, SingleCompileCommand};
-use os_files::files::{FileFail, Files};
-use os_files::listed::Listed;
-use os_files::os_bytes::OsBytes;
-use os_files::path::paths_have_one_order;
-use rustc_texts::dep_info::parse_dep_info;
-use rustc_texts::fault::TextFault;
+use cmdlines_base::{ArtifactDescriptor, SingleCompileCommand};
+use os_files::{FileFail, Files, Listed, OsBytes, paths_have_one_order};
+use rustc_texts::{TextFault, parse_dep_info};
 use std::alloc::{AllocError, Global};
-use wrap_base::tool::Compiled;
+use wrap_base::Compiled;
 
 /// The sources that a text on dependencies names, in order: none where it isn't UTF-8 or begins with no rule.
 fn told_sources(

@@ -1,11 +1,16 @@
 //! The scripted tool, which runs commands over a call's files in place of a compiler.
 #![tactic(auto)]
 
-pub mod crate_texts;
+mod crate_texts;
 mod crates;
 mod lines;
-pub mod script;
+mod script;
 mod scripting;
 mod source;
-pub mod statuses;
-pub mod trees;
+mod statuses;
+mod trees;
+
+pub use crate_texts::CrateTexts;
+pub use script::{RetoldTool, ScriptTool};
+pub use statuses::{StatusOf, Statuses, error_status, print_status};
+pub use trees::Trees;

@@ -4,7 +4,7 @@ ghost use Rattle.std.specs.Prelude.{◌≡◌, ◌<◌, ◌++◌, ◌∷◌, [],
 ghost use Rattle.std.specs.Option.{option_copied};
 ghost use Rattle.script_tool.specs.Lines.{lines, ahead_of, with_end, included};
 
-use cmdlines_base::table::behind;
+use cmdlines_base::behind;
 use memchr::memchr;
 use std::alloc::AllocError;
 

@@ -12,16 +12,13 @@ use crate::crates::{compiled_crate, crate_text};
 use crate::scripting::{compiled, printed, text_of};
 use crate::statuses::Statuses;
 use crate::trees::Trees;
-use ckeys_records::config::KeyConfig;
-use ckeys_records::preprocessor::{Preprocessor, Printed, Ticks, ToolFail};
-use ckeys_records::step::Step;
-use cmdlines_base::command::{ArtifactDescriptor, SingleCompileCommand};
-use cmdlines_tables::compiler::CCompilerKind;
-use os_files::files::{FileFail, Files};
-use os_files::os_bytes::OsBytes;
-use rustkeys::answers::RustcAnswers;
+use ckeys_records::{KeyConfig, Preprocessor, Printed, Step, Ticks, ToolFail};
+use cmdlines_base::{ArtifactDescriptor, SingleCompileCommand};
+use cmdlines_tables::CCompilerKind;
+use os_files::{FileFail, Files, OsBytes};
+use rustkeys::RustcAnswers;
 use std::alloc::Global;
-use wrap_base::tool::{Compiled, Tool};
+use wrap_base::{Compiled, Tool};
 
 /// A tool that counts how often its steps ran and how often an I/O error occurred in them.
 #[derive(Drop)]

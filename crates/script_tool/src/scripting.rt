@@ -13,18 +13,14 @@ use crate::lines::{included, push_with_end, split_line};
 use crate::source::{source_of, takes_as_it_stands};
 use crate::statuses::Statuses;
 use crate::trees::Trees;
-use ckeys_base::strip::strip_basedirs;
-use ckeys_records::preprocessor::Printed;
-use ckeys_records::step::Step;
-use cmdlines_base::command::{ArtifactDescriptor, SingleCompileCommand};
-use cmdlines_tables::compiler::CCompilerKind;
+use ckeys_base::strip_basedirs;
+use ckeys_records::{Printed, Step};
+use cmdlines_base::{ArtifactDescriptor, SingleCompileCommand};
+use cmdlines_tables::CCompilerKind;
 use memchr::memmem;
-use os_files::files::{FileFail, Files};
-use os_files::listed::Listed;
-use os_files::os_bytes::OsBytes;
-use os_files::path::join;
+use os_files::{FileFail, Files, Listed, OsBytes, join};
 use std::alloc::{AllocError, Global};
-use wrap_base::tool::Compiled;
+use wrap_base::Compiled;
 
 /// Adds the line that says which file the lines after it are from.
 fn push_marker(path: &[u8], text: &mut Vec<u8>) -> Result<(), AllocError>

@@ -9,18 +9,13 @@ ghost use Rattle.cmdlines_tables.specs.Values.{placed};
 ghost use Rattle.script_tool.specs.Scripted.{only, input_in, is_preprocessed, language_in, source_in, takes_as_it_stands};
 
 use crate::trees::Trees;
-use ckeys::hasher::needs_c_preprocessing;
-use ckeys_records::step::Step;
-use cmdlines_base::argument::Argument;
-use cmdlines_base::argument_error::ArgParseError;
-use cmdlines_base::table::SearchableArgInfo;
-use cmdlines_tables::compiler::CCompilerKind;
-use cmdlines_tables::cutting::arguments_of;
+use ckeys::needs_c_preprocessing;
+use ckeys_records::Step;
+use cmdlines_base::{ArgParseError, Argument, SearchableArgInfo};
 use cmdlines_tables::kind::ArgKind;
 use cmdlines_tables::language::Language;
-use cmdlines_tables::laws::arguments_are_their_items;
-use cmdlines_tables::value::ArgData;
-use os_files::os_bytes::OsBytes;
+use cmdlines_tables::{ArgData, CCompilerKind, arguments_are_their_items, arguments_of};
+use os_files::OsBytes;
 use std::alloc::{AllocError, Global};
 
 /// What a command compiles: its input, and the name of its language.

@@ -4,10 +4,8 @@ ghost use Rattle.std.specs.Prelude.{◌≡◌};
 ghost use Rattle.cmdlines_tables.specs.Tables.{tables_of};
 ghost use Rattle.cmdlines_tables.specs.declared.compiler.CCompilerKind.TheVariants.{Gcc, Clang, Diab, Msvc, TaskingVX};
 
-use cmdlines_base::byte_tree::ByteTree;
-use cmdlines_tables::compiler::CCompilerKind;
-use cmdlines_tables::compiler_tables::compiler_tree;
-use cmdlines_tables::value::ArgData;
+use cmdlines_base::ByteTree;
+use cmdlines_tables::{ArgData, CCompilerKind, compiler_tree};
 use std::alloc::{AllocError, Global};
 
 /// For each kind of C compiler the tree of its flags.

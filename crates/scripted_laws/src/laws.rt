@@ -14,9 +14,9 @@ ghost use Rattle.wrap_base.specs.Commands.{named_by};
 ghost use Rattle.wrap_base.specs.declared.call.Call.{Call};
 ghost use Rattle.wrap_base.specs.declared.request.Request.{Request};
 
-use cmdlines::laws::{commands_read_as_wanted, inputs_are_safe, requests_have_a_known_language};
-use os_files::files::Files;
-use wrap_base::tool::Tool;
+use cmdlines::{commands_read_as_wanted, inputs_are_safe, requests_have_a_known_language};
+use os_files::Files;
+use wrap_base::Tool;
 
 /// Over the scripted tool, whose folders are the configuration's, the fresh outcome of a call that has a record is made of
 /// that record alone, whatever rustc reports: so equal records have equal fresh outcomes, under one configuration or two, by one

@@ -1,4 +1,6 @@
 //! Laws of sessions over the scripted tool.
 #![tactic(auto)]
 
-pub mod laws;
+mod laws;
+
+pub use laws::{records_fix_scripted_outcomes, scripted_runs_meet_their_premise};

@@ -18,7 +18,10 @@ const ENTERS: &[u8] = b"\" 1";
 /// The name in a line, where that is a marker by which a file is entered.
 fn entered_in(line: &[u8]) -> Option<&[u8]> {
     let number = line.strip_prefix(b"# ")?;
-    let digits = number.iter().take_while(|byte| byte.is_ascii_digit()).count();
+    let digits = number
+        .iter()
+        .take_while(|byte| byte.is_ascii_digit())
+        .count();
     let quoted = number.get(digits..)?.strip_prefix(b" \"")?;
     quoted.get(..memmem::rfind(quoted, ENTERS)?)
 }

@@ -2,9 +2,8 @@
 //! A result may have a list for each of several folders in which calls were made.
 
 use crate::watch_list::{folder_of, holds};
-use byte_formats::fields::{put_framed, read_framed};
-use include_records::entry::CachedResult;
-use include_records::record::PreprocessorCacheEntry;
+use byte_formats::{put_framed, read_framed};
+use include_records::{CachedResult, PreprocessorCacheEntry};
 use std::alloc::{AllocError, Global};
 use std::collections::HashSet;
 use std::rt::Files;

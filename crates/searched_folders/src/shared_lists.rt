@@ -4,9 +4,9 @@
 use crate::manifests::rows_of;
 use crate::unwatched::Unwatched;
 use crate::watch_list::{FileRow, Hold, file_ahead, folder_ahead, holds, text_of};
-use byte_formats::fields::{put_framed, put_number, read_framed, read_number};
-use disk_files::found::State;
-use os_files::file_time::FileTime;
+use byte_formats::{put_framed, put_number, read_framed, read_number};
+use disk_files::State;
+use os_files::FileTime;
 use std::alloc::{AllocError, Global};
 use std::rt::Files;
 

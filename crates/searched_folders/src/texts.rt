@@ -3,16 +3,15 @@
 use crate::search_list::SearchList;
 use crate::unwatched::Unwatched;
 use crate::watching::Watching;
-use disk_files::found::folder_of;
-use host_protocol::command_line::CommandLine;
-use known_options::placed::{Placed, PlacedWords};
+use disk_files::folder_of;
+use host_protocol::CommandLine;
+use known_options::{Placed, PlacedWords};
 use memchr::memmem;
-use os_files::file_time::FileTime;
-use os_files::os_bytes::OsBytes;
-use source_directives::directives::{
-    Asked, Directives, Search, add_defined, add_probed, add_said, directives_of,
+use os_files::{FileTime, OsBytes};
+use source_directives::{
+    Asked, Directives, Search, add_defined, add_probed, add_said, directives_of, pastes_time,
+    tells_time,
 };
-use source_directives::times::{pastes_time, tells_time};
 use std::alloc::Global;
 use std::collections::HashSet;
 use std::rt::Files;

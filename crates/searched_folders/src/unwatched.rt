@@ -1,7 +1,7 @@
 //! Why a text has no list of what to watch: no manifest says then of what it is made.
 
-use byte_formats::fault::ReadFault;
-use cache_dir::error::CacheDirError;
+use byte_formats::ReadFault;
+use cache_dir::CacheDirError;
 use std::alloc::{AllocError, AllocFailed};
 use std::{fmt, io};
 use thiserror::Error;

@@ -5,12 +5,10 @@
 //! path, its state and the digest of its contents. docs/FORMATS.md has the layout.
 
 use crate::unwatched::Unwatched;
-use byte_formats::fault::ReadFault;
-use byte_formats::fields::{put_framed, put_number, read_framed, read_number};
-use cache_dir::file_digests::digest_of;
-use disk_files::found::{Found, State, found_at};
-use disk_files::whole::read_of_size;
-use os_files::file_time::FileTime;
+use byte_formats::{ReadFault, put_framed, put_number, read_framed, read_number};
+use cache_dir::digest_of;
+use disk_files::{Found, State, found_at, read_of_size};
+use os_files::FileTime;
 use std::alloc::AllocError;
 use std::fs;
 use std::rt::Files;

@@ -3,13 +3,11 @@
 use crate::search_list::SearchList;
 use crate::unwatched::Unwatched;
 use crate::watch_list::Folder;
-use byte_formats::fields::{put_framed, put_number};
-use cache_dir::file_digests::digest_of;
-use disk_files::found::{Found, State, found_at, is_nothing};
-use disk_files::whole::read_whole;
-use os_files::file_time::FileTime;
-use os_files::path::join;
-use source_directives::directives::{Asked, Search};
+use byte_formats::{put_framed, put_number};
+use cache_dir::digest_of;
+use disk_files::{Found, State, found_at, is_nothing, read_whole};
+use os_files::{FileTime, join};
+use source_directives::{Asked, Search};
 use std::alloc::Global;
 use std::collections::{BTreeMap, HashMap, HashSet};
 use std::fs;

@@ -1,11 +1,19 @@
 //! What a user sets for the program before a real compiler: keys with their values, by variables and files of lines `key = value`.
 #![tactic(auto)]
 
-pub mod error;
-pub mod key;
+mod error;
+mod key;
 mod lines;
-pub mod places;
-pub mod reading;
-pub mod settings;
-pub mod storage;
-pub mod values;
+mod places;
+mod reading;
+mod settings;
+mod storage;
+mod values;
+
+pub use error::SettingsError;
+pub use key::{Key, Kind};
+pub use places::{ListedVariables, OTHERS, Variables};
+pub use reading::{read_settings, set_in_file};
+pub use settings::{Setting, Settings, shown};
+pub use storage::{has_attribute, number_in};
+pub use values::{age_named, size_named, truth_named};

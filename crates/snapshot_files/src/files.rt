@@ -8,8 +8,7 @@ ghost use Rattle.os_files.specs.Tree.{node_at};
 ghost use Rattle.snapshot_files.specs.Known.{KnowsAlike, is_known};
 ghost use Rattle.snapshot_files.specs.Snapshots.{node_of, tree_of};
 
-use os_files::files::{FileFail, Files, Metadata};
-use os_files::os_bytes::OsBytes;
+use os_files::{FileFail, Files, Metadata, OsBytes};
 use std::alloc::{AllocError, Global};
 use std::collections::BTreeMap;
 

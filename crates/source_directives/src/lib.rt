@@ -2,6 +2,10 @@
 //! text.
 #![tactic(auto)]
 
-pub mod directives;
-pub mod numbers;
-pub mod times;
+mod directives;
+mod numbers;
+mod times;
+
+pub use directives::{Asked, Directives, Search, add_defined, add_probed, add_said, directives_of};
+pub use numbers::renumbers;
+pub use times::{pastes_time, tells_time};

@@ -2,7 +2,7 @@
 
 use crate::directives::{behind_spaces, stands_alone, word_ahead};
 use memchr::memmem;
-use os_files::os_bytes::OsBytes;
+use os_files::OsBytes;
 
 /// The macros that give a day or a time.
 const MACROS: [&[u8]; 3] = [b"__TIME__", b"__DATE__", b"__TIMESTAMP__"];

@@ -2,9 +2,16 @@
 //! that are written in its place.
 #![tactic(auto)]
 
-pub mod lists;
-pub mod loading;
-pub mod mounts;
-pub mod outputs;
-pub mod precompiled;
-pub mod tokens;
+mod lists;
+mod loading;
+mod mounts;
+mod outputs;
+mod precompiled;
+mod tokens;
+
+pub use lists::{digest_of_list, names_files_of};
+pub use loading::{load, load_all, load_named, settled_before};
+pub use mounts::devices_in;
+pub use outputs::{have_plain_places, print_again, regular, write_dependencies, write_outputs};
+pub use precompiled::has_precompiled;
+pub use tokens::{Tokens, token_of};

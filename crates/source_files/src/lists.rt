@@ -1,7 +1,7 @@
 //! Lists of files that a compiler writes for Make: the files that a text is made of.
 
-use cache_dir::file_digests::digest_of;
-use host_protocol::host_error::HostError;
+use cache_dir::digest_of;
+use host_protocol::HostError;
 use memchr::memmem;
 use std::alloc::{AllocError, Global};
 use std::collections::HashSet;

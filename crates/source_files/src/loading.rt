@@ -1,16 +1,10 @@
 //! Files that are loaded from the disk, and those that a text names.
 
 use crate::tokens::{Tokens, token_of};
-use disk_files::found::{is_before, time_of};
-use disk_files::whole::read_of_size;
-use host_protocol::command_line::CommandLine;
-use host_protocol::fields::into_text;
-use host_protocol::host_error::HostError;
+use disk_files::{is_before, read_of_size, time_of};
+use host_protocol::{CommandLine, HostError, into_text};
 use memchr::memmem;
-use os_files::file_time::FileTime;
-use os_files::files::{Files as CallFiles, Metadata};
-use os_files::os_bytes::OsBytes;
-use os_files::path::join;
+use os_files::{FileTime, Files as CallFiles, Metadata, OsBytes, join};
 use snapshot_files::{LoadedFile, SnapshotFiles};
 use std::alloc::Global;
 use std::fs;
@@ -18,7 +12,7 @@ use std::io::ErrorKind;
 use std::os::unix::fs::MetadataExt;
 use std::rt::Files;
 use std::time::{Duration, SystemTime, UNIX_EPOCH};
-use written_lines::named::{Lying, NamedFile, NamedFiles};
+use written_lines::{Lying, NamedFile, NamedFiles};
 
 /// How many milliseconds the times of files may lag behind the clock: they advance with a kernel's ticks.
 const TICK: u64 = 20;

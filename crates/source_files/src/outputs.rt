@@ -1,16 +1,14 @@
 //! Outputs that the compiler made, or that are written in its place.
 
-use cache_format::kept_result::KeptMessages;
-use disk_files::whole::read_of_size;
-use host_protocol::command_line::CommandLine;
-use host_protocol::fields::text_in;
-use host_protocol::host_error::HostError;
-use os_files::os_bytes::OsBytes;
+use cache_format::KeptMessages;
+use disk_files::read_of_size;
+use host_protocol::{CommandLine, HostError, text_in};
+use os_files::OsBytes;
 use std::fs;
 use std::io::ErrorKind;
 use std::os::unix::fs::MetadataExt;
 use std::rt::Files;
-use wrap_base::answer::Output;
+use wrap_base::Output;
 
 /// The contents of the regular file of that path, where it is one.
 pub fn regular<R: Files + AllocGlobal>(rt: &R, path: &str) -> Option<OsBytes> {

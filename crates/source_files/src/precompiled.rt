@@ -1,16 +1,14 @@
 //! Precompiled headers that a compiler may take in place of one that a text shows.
 
-use disk_files::found::folder_of;
-use host_protocol::command_line::CommandLine;
-use host_protocol::host_error::HostError;
-use known_options::placed::{Placed, PlacedWords};
-use os_files::os_bytes::OsBytes;
-use os_files::path::join;
+use disk_files::folder_of;
+use host_protocol::{CommandLine, HostError};
+use known_options::{Placed, PlacedWords};
+use os_files::{OsBytes, join};
 use std::alloc::Global;
 use std::collections::BTreeSet;
 use std::fs;
 use std::rt::Files;
-use written_lines::named::NamedFiles;
+use written_lines::NamedFiles;
 
 /// What the name of a precompiled header has after the name of its header.
 const ENDINGS: [&str; 2] = [".gch", ".pch"];

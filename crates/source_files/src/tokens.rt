@@ -3,12 +3,11 @@
 
 use crate::mounts::devices;
 use blake2::Blake2b256;
-use byte_formats::fields::{put_framed, read_framed};
-use ckeys_base::digest::Digest;
-use disk_files::found::State;
+use byte_formats::{put_framed, read_framed};
+use ckeys_base::Digest;
+use disk_files::State;
 use memchr::memmem;
-use os_files::file_time::FileTime;
-use os_files::os_bytes::OsBytes;
+use os_files::{FileTime, OsBytes};
 use std::alloc::{AllocError, Global};
 use std::collections::{BTreeMap, BTreeSet};
 use std::fs::Metadata;

@@ -1,7 +1,7 @@
 //! The counters of a call that was passed through, by its reason: `pass: ..`, `fault: ..` or `stop: ..` and what is said of it.
 
 use crate::names::{ERROR, UNCACHEABLE, name_of};
-use os_files::os_bytes::OsBytes;
+use os_files::OsBytes;
 use std::alloc::{AllocError, Global};
 
 /// Reasons by their beginning, with the counter of each.

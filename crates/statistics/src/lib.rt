@@ -2,9 +2,15 @@
 //! are folded, one for each name, once there are many.
 #![tactic(auto)]
 
-pub mod calls;
-pub mod counts;
-pub mod error;
-pub mod file;
-pub mod names;
+mod calls;
+mod counts;
+mod error;
+mod file;
+mod names;
 mod record;
+
+pub use calls::{TO_STANDARD_OUTPUT, counters_of};
+pub use counts::Counts;
+pub use error::StatisticsError;
+pub use file::{count, counts_at, updated_at, zero};
+pub use names::{HITS, MISSES, PASSED, REMOTE, ZEROED, is_error, is_passed, name_of};

@@ -42,10 +42,6 @@ pub const UNCACHEABLE: &str = "uncacheable_";
 /// What the names of failures on this side begin with.
 pub const ERROR: &str = "error_";
 
-/// What begins the names that say which option or variable it was, besides `unsupported_compiler_option` and
-/// `unsupported_environment_variable`.
-pub const DETAIL: [&str; 2] = ["option_", "variable_"];
-
 /// That front, followed by a name of lower-case letters and digits with `_` between them.
 pub fn name_of(alloc: Global, front: &str, text: &str) -> Result<String, AllocError> {
     let mut name = String::from_str(alloc, front)?;

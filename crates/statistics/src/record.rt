@@ -1,6 +1,6 @@
 //! A record of the file: a number, the length of a name, the name, and zeros that fill it up to 64 bytes.
 
-use byte_formats::fields::{put_framed, put_number, read_framed, read_number};
+use byte_formats::{put_framed, put_number, read_framed, read_number};
 use std::alloc::AllocError;
 
 /// How many bytes a record has.

@@ -3,8 +3,7 @@
 ghost use Rattle.std.specs.Prelude.{◌≡◌, []};
 ghost use Rattle.os_files.specs.Bytes.{ticked};
 
-use os_files::files::{FileFail, Files, Metadata};
-use os_files::os_bytes::OsBytes;
+use os_files::{FileFail, Files, Metadata, OsBytes};
 use std::alloc::Global;
 
 /// For tests: no files, and an I/O error at each call.

@@ -3,8 +3,7 @@
 ghost use Rattle.std.specs.Prelude.{◌≡◌, ◌⊎◌, ◌+◌, ◌-◌, ◌%◌, ◌^◌, None, Some, IsErrOf, OnOk};
 ghost use Rattle.os_files.specs.Bytes.{ticked};
 
-use os_files::files::{FileFail, Files, Metadata};
-use os_files::os_bytes::OsBytes;
+use os_files::{FileFail, Files, Metadata, OsBytes};
 use std::alloc::Global;
 
 /// For tests: files with an I/O error at one call, whatever that asks. No call after it fails here.

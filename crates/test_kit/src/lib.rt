@@ -2,9 +2,16 @@
 //! writer of little room, and texts that are compared.
 #![tactic(auto)]
 
-pub mod broken_files;
-pub mod fail_files;
-pub mod narrow_writer;
-pub mod rows;
-pub mod texts;
-pub mod watched_files;
+mod broken_files;
+mod fail_files;
+mod narrow_writer;
+mod rows;
+mod texts;
+mod watched_files;
+
+pub use broken_files::BrokenFiles;
+pub use fail_files::FailFiles;
+pub use narrow_writer::NarrowWriter;
+pub use rows::{files_of, insert, words};
+pub use texts::{holds, is_that, prints, write_list, write_words};
+pub use watched_files::WatchedFiles;

@@ -1,8 +1,6 @@
 //! Words of a line, and files of rows.
 
-use os_files::file_time::FileTime;
-use os_files::memory_files::{MemoryFile, MemoryFiles};
-use os_files::os_bytes::OsBytes;
+use os_files::{FileTime, MemoryFile, MemoryFiles, OsBytes};
 use std::alloc::{AllocError, Global};
 
 /// The words between spaces; an empty line has none.

@@ -2,7 +2,7 @@
 //!
 //! A test asks by these functions, which are proved once: each assertion by a macro is proved where it is written.
 
-use os_files::os_bytes::OsBytes;
+use os_files::OsBytes;
 use std::alloc::{AllocError, Global};
 use std::fmt::{Display, Write};
 use std::test::Fail;

@@ -3,9 +3,7 @@
 ghost use Rattle.std.specs.Prelude.{◌≡◌};
 ghost use Rattle.os_files.specs.Bytes.{ticked};
 
-use os_files::files::{FileFail, Files, Metadata};
-use os_files::memory_files::MemoryFiles;
-use os_files::os_bytes::OsBytes;
+use os_files::{FileFail, Files, MemoryFiles, Metadata, OsBytes};
 use std::alloc::Global;
 
 /// Files in memory, the number of the calls of them, and the name at which an I/O error occurs.

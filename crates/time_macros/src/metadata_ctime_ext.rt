@@ -5,7 +5,7 @@ ghost use Rattle.os_files.specs.declared.file_time.FileTime.{FileTime};
 ghost use Rattle.time_macros.specs.Moments.{timestamp_of};
 
 use crate::timestamp::Timestamp;
-use os_files::files::Metadata;
+use os_files::Metadata;
 
 /// Metadata that include when something itself was last changed.
 pub trait MetadataCtimeExt {

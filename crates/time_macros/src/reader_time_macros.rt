@@ -8,9 +8,8 @@ ghost use Rattle.ckeys_base.specs.Hex.{hex_of};
 ghost use Rattle.time_macros.specs.Seen.{HasSeen};
 
 use crate::time_macro_finder::TimeMacroFinder;
-use ckeys_base::digest::{Digest, HASH_BUFFER_SIZE};
 use ckeys_base::error::Error;
-use ckeys_base::hash_state::HashState;
+use ckeys_base::{Digest, HASH_BUFFER_SIZE, HashState};
 use std::alloc::{AllocError, Global};
 use std::io::Read;
 

@@ -1,4 +1,6 @@
 //! Laws of tokens, which a session over recorded answers has in the place of the contents of headers.
 #![tactic(auto)]
 
-pub mod laws;
+mod laws;
+
+pub use laws::tokens_stand_for_contents;

@@ -1,7 +1,7 @@
 //! What is kept is taken away.
 
 use crate::error::OptionError;
-use cache_dir::folder::Kind;
+use cache_dir::Kind;
 use std::io::ErrorKind;
 use std::rt::Files;
 use std::{fs, io};

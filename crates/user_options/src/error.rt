@@ -1,8 +1,8 @@
 //! Why what a user asked for wasn't done.
 
-use cache_dir::error::CacheDirError;
-use settings::error::SettingsError;
-use statistics::error::StatisticsError;
+use cache_dir::CacheDirError;
+use settings::SettingsError;
+use statistics::StatisticsError;
 use std::alloc::{AllocError, AllocFailed};
 use std::{fmt, io};
 

@@ -4,10 +4,12 @@
 
 mod asked;
 mod clearing;
-pub mod doing;
+mod doing;
 mod error;
 pub mod help;
 mod links;
 mod reading;
 mod settings_shown;
 mod statistics_shown;
+
+pub use doing::{Caller, Place, do_options};

@@ -1,10 +1,7 @@
 //! Settings, shown and set.
 
 use crate::error::OptionError;
-use settings::key::Key;
-use settings::places::Variables;
-use settings::reading::set_in_file;
-use settings::settings::{Settings, shown};
+use settings::{Key, Settings, Variables, set_in_file, shown};
 use std::alloc::Global;
 use std::rt::Files;
 

@@ -4,10 +4,10 @@ ghost use Rattle.std.specs.Prelude.{◌≡◌, ◌*◌, ◌/◌, IfSome};
 
 use crate::error::OptionError;
 use crate::help::line_of;
-use cache_dir::making_room::kept_in;
-use statistics::counts::Counts;
-use statistics::file::{counts_at, updated_at};
-use statistics::names::{HITS, MISSES, PASSED, REMOTE, ZEROED, is_error, is_passed};
+use cache_dir::kept_in;
+use statistics::{
+    Counts, HITS, MISSES, PASSED, REMOTE, ZEROED, counts_at, is_error, is_passed, updated_at,
+};
 use std::alloc::Global;
 use std::rt::Files;
 

@@ -33,12 +33,12 @@ ghost use Rattle.wrap_base.specs.declared.answer.Output.{Output};
 ghost use Rattle.wrap_base.specs.declared.store_key.StoreKey.{StoreKey};
 ghost use Rattle.wrap.specs.Example.{compile_of, telling_digest, two_compiles};
 
-use ckeys::laws::records_are_true;
-use ckeys_base::hash_state::HashState;
-use ckeys_records::laws::keys_tell_records;
-use fingerprints::laws::fingerprints_tell_records;
-use rustc_texts::laws::cfg_places_do_not_count;
-use rustkeys::laws::{dep_info_is_told_where_emitted, rustc_keys_tell_records};
+use ckeys::records_are_true;
+use ckeys_base::HashState;
+use ckeys_records::keys_tell_records;
+use fingerprints::fingerprints_tell_records;
+use rustc_texts::cfg_places_do_not_count;
+use rustkeys::{dep_info_is_told_where_emitted, rustc_keys_tell_records};
 
 /// Two runs of one list of calls, over stores that forget and refuse as they like, give equal outputs wherever both answer
 /// with outputs, and equal texts on dependencies beside them, whatever the limits are on what they keep.

@@ -19,25 +19,16 @@ ghost use Rattle.wrap_keys.specs.Whole.{AllAnswer, Each, IsAnswered, OneFresh, R
 ghost use Rattle.wrap.specs.Sessions.{held_by};
 
 use crate::laws::call_keys_tell_records;
-use ckeys::laws::records_are_true;
-use ckeys::{EntryKey, PreprocessorCacheEntry};
-use ckeys_base::hash_state::HashState;
-use ckeys_base::store::Store;
-use ckeys_records::fault::Fault;
-use fingerprints::fingerprint::{Fingerprint, request_fingerprint};
-use os_files::files::Files;
+use ckeys::{EntryKey, PreprocessorCacheEntry, records_are_true};
+use ckeys_base::{HashState, Store};
+use ckeys_records::Fault;
+use fingerprints::{Fingerprint, request_fingerprint};
+use os_files::Files;
 use std::alloc::{AllocError, Global};
 use std::marker::{Model, PhantomData};
-use wrap_base::answer::Answer;
-use wrap_base::call::Call;
-use wrap_base::compiler::Named;
-use wrap_base::config::Config;
-use wrap_base::reason::Reason;
-use wrap_base::request::Request;
 use wrap_base::store_key::{Pairs, StoreKey};
-use wrap_base::tool::Tool;
-use wrap_turns::c_calls::c_turn;
-use wrap_turns::rust_calls::rust_turn;
+use wrap_base::{Answer, Call, Config, Named, Reason, Request, Tool};
+use wrap_turns::{c_turn, rust_turn};
 
 /// Answers requests under one configuration, from a store of include records and one of what was compiled, by one hash
 /// function. Contracts see what the configuration fixes, and the stores.

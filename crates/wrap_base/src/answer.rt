@@ -1,8 +1,7 @@
 //! Answers.
 
 use crate::reason::Reason;
-use os_files::listed::Listed;
-use os_files::os_bytes::OsBytes;
+use os_files::{Listed, OsBytes};
 
 /// Where outputs came from.
 #[derive(Clone, Copy, Debug, PartialEq, Eq)]

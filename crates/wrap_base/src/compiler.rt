@@ -3,21 +3,14 @@
 ghost use Rattle.std.specs.Prelude.{◌≡◌};
 ghost use Rattle.wrap_base.specs.Commands.{digest_of, executable_of, kind_of, named_by, named_in, traits_of};
 
-use ckeys::compiler::CCompiler;
-use ckeys::compiler_impl::CCompilerImpl;
-use ckeys::hasher::CCompilerHasher;
-use cmdlines::command::CommandError;
-use cmdlines::kinds::{Clang, Diab, Gcc, Msvc, TaskingVX};
-use cmdlines_base::command::SingleCompileCommand;
-use cmdlines_base::compiler_arguments::CompilerArguments;
-use cmdlines_requests::command::Cacheable;
-use cmdlines_requests::parsed::ParsedArguments;
-use cmdlines_tables::compiler::CCompilerKind;
-use os_files::files::Files;
-use os_files::listed::Listed;
-use os_files::os_bytes::OsBytes;
-use response_files::fault::ParseFault;
-use rustc_compiler::rust::Rust;
+use ckeys::{CCompiler, CCompilerHasher, CCompilerImpl};
+use cmdlines::{Clang, CommandError, Diab, Gcc, Msvc, TaskingVX};
+use cmdlines_base::{CompilerArguments, SingleCompileCommand};
+use cmdlines_requests::{Cacheable, ParsedArguments};
+use cmdlines_tables::CCompilerKind;
+use os_files::{Files, Listed, OsBytes};
+use response_files::ParseFault;
+use rustc_compiler::Rust;
 use std::alloc::{AllocError, Global};
 
 /// Which compiler is asked.

@@ -1,12 +1,21 @@
 //! What a session is built on: requests and answers, tools, and what each of them means.
 #![tactic(auto)]
 
-pub mod answer;
-pub mod call;
-pub mod compiler;
-pub mod config;
-pub mod map_store;
-pub mod reason;
-pub mod request;
+mod answer;
+mod call;
+mod compiler;
+mod config;
+mod map_store;
+mod reason;
+mod request;
 pub mod store_key;
-pub mod tool;
+mod tool;
+
+pub use answer::{Answer, How, Output};
+pub use call::Call;
+pub use compiler::{AnyC, Compiler, Named};
+pub use config::Config;
+pub use map_store::MapStore;
+pub use reason::Reason;
+pub use request::Request;
+pub use tool::{Compiled, Tool};

@@ -10,7 +10,7 @@ ghost use Rattle.ckeys_base.specs.Shelf.{Asks, Clears, KeepsKeys, Puts};
 ghost use Rattle.wrap_base.specs.MapStores.{PutsAlone, asked_once, count_of, shelf_of};
 ghost use Rattle.wrap_base.specs.contracts.map_store.MapStore.{the_row};
 
-use ckeys_base::store::Store;
+use ckeys_base::Store;
 use std::alloc::Global;
 use std::collections::HashMap;
 use std::hash::Hash;

@@ -1,8 +1,7 @@
 //! Requests.
 
 use crate::compiler::Compiler;
-use os_files::listed::Listed;
-use os_files::os_bytes::OsBytes;
+use os_files::{Listed, OsBytes};
 
 /// A compiler's command line, as a build gives it.
 #[derive(Debug, Drop)]

@@ -10,8 +10,7 @@ ghost use Rattle.wrap_base.specs.declared.store_key.StoreKey.{StoreKey};
 
 use ckeys_records::output_name::OutputName;
 use ckeys_records::shape::CShape;
-use os_files::listed::Listed;
-use os_files::os_bytes::OsBytes;
+use os_files::{Listed, OsBytes};
 use rustc_parts::parts::RShape;
 use std::hash::Hash;
 

@@ -5,14 +5,11 @@ ghost use Rattle.os_files.specs.Bytes.{ticked};
 ghost use Rattle.ckeys_records.specs.Meaning.{scene_of, made_of, names_of};
 ghost use Rattle.wrap_base.specs.AskedBy.{asked_by};
 
-use ckeys_records::preprocessor::ToolFail;
-use ckeys_records::step::Step;
-use cmdlines_base::command::{ArtifactDescriptor, SingleCompileCommand};
-use cmdlines_tables::compiler::CCompilerKind;
-use os_files::files::Files;
-use os_files::listed::Listed;
-use os_files::os_bytes::OsBytes;
-use rustkeys::answers::RustcAnswers;
+use ckeys_records::{Step, ToolFail};
+use cmdlines_base::{ArtifactDescriptor, SingleCompileCommand};
+use cmdlines_tables::CCompilerKind;
+use os_files::{Files, Listed, OsBytes};
+use rustkeys::RustcAnswers;
 use std::alloc::Global;
 
 /// What a compiler made, and its status.

@@ -3,14 +3,13 @@
 ghost use Rattle.std.specs.Prelude.{◌≡◌, IfOk};
 ghost use Rattle.ckeys_records.specs.Meaning.{names_of};
 
-use ckeys::place::CallPlace;
-use ckeys_records::config::KeyConfig;
+use ckeys::CallPlace;
+use ckeys_records::KeyConfig;
 use ckeys_records::output_name::OutputName;
-use cmdlines_base::command::ArtifactDescriptor;
-use os_files::listed::Listed;
-use os_files::os_bytes::OsBytes;
+use cmdlines_base::ArtifactDescriptor;
+use os_files::{Listed, OsBytes};
 use std::alloc::{AllocError, Global};
-use wrap_base::request::Request;
+use wrap_base::Request;
 
 /// The names of outputs, with their marks.
 pub fn output_names(

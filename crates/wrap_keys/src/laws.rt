@@ -12,8 +12,8 @@ ghost use Rattle.wrap_keys.specs.Gathering.{gives};
 ghost use Rattle.wrap_keys.specs.Places.{AgreeAtEachPlace, AtEachPlace, calls_beside};
 ghost use Rattle.wrap_keys.specs.Whole.{Each, IsAnswered, SameOutputs, Served, Ticks, served};
 
-use os_files::files::Files;
-use wrap_base::tool::Tool;
+use os_files::Files;
+use wrap_base::Tool;
 
 /// A compile with status 0 gives each output that it made, by name and contents, in the order in which they are asked for, unless one
 /// that may not be left out wasn't made: then it gives the name of the first of these.

@@ -12,18 +12,15 @@ ghost use Rattle.wrap_keys.specs.RustPlans.{OnAsks, OpensNothing, judgement_of};
 ghost use Rattle.wrap_keys.specs.RustVerdicts.{is_text, is_text_variable, opens_words, rust_verdict_of, with_hazards};
 ghost use Rattle.ckeys_records.specs.Causes.{HasOwnFault};
 
-use ckeys_records::fault::Fault;
-use cmdlines_base::compiler_arguments::CompilerArguments;
-use os_files::files::Files;
-use os_files::os_bytes::OsBytes;
-use response_files::fault::ParseFault;
-use rustc_compiler::rust::Rust;
+use ckeys_records::Fault;
+use cmdlines_base::CompilerArguments;
+use os_files::{Files, OsBytes};
+use response_files::ParseFault;
+use rustc_compiler::Rust;
 use rustc_options::parsed::ParsedArguments;
-use rustc_texts::laws::commands_open_nothing;
-use rustc_texts::words::compile_words;
+use rustc_texts::{commands_open_nothing, compile_words};
 use std::alloc::{AllocError, Global};
-use wrap_base::reason::Reason;
-use wrap_base::request::Request;
+use wrap_base::{Reason, Request};
 
 /// What a request to rustc comes to by its words: it is passed through, or it asks for this.
 #[derive(Drop)]

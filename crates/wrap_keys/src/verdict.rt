@@ -15,22 +15,17 @@ ghost use Rattle.wrap_keys.specs.Plans.{judgement_of, IsPlanOf, IsReadAgain, IsR
 ghost use Rattle.ckeys_records.specs.Causes.{HasOwnFault};
 ghost use Rattle.ckeys_records.specs.Records.{hold_end};
 
-use ckeys::compiler_impl::CCompilerImpl;
-use ckeys_records::fault::Fault;
-use ckeys_records::word_end::hold_word_end;
-use cmdlines::command::CommandError;
+use ckeys::CCompilerImpl;
+use ckeys_records::{Fault, hold_word_end};
+use cmdlines::CommandError;
 use cmdlines::uncached_words::{empty_value, opens_file};
-use cmdlines_base::command::SingleCompileCommand;
-use cmdlines_base::compiler_arguments::CompilerArguments;
-use cmdlines_requests::parsed::ParsedArguments;
-use cmdlines_tables::compiler::CCompilerKind;
-use os_files::files::Files;
-use os_files::os_bytes::OsBytes;
-use response_files::fault::ParseFault;
+use cmdlines_base::{CompilerArguments, SingleCompileCommand};
+use cmdlines_requests::ParsedArguments;
+use cmdlines_tables::CCompilerKind;
+use os_files::{Files, OsBytes};
+use response_files::ParseFault;
 use std::alloc::{AllocError, Global};
-use wrap_base::compiler::AnyC;
-use wrap_base::reason::Reason;
-use wrap_base::request::Request;
+use wrap_base::{AnyC, Reason, Request};
 
 /// What is run for a request: what it asks for, and its compile command.
 #[derive(Drop)]

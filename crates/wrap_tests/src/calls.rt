@@ -1,24 +1,15 @@
 //! Calls of sessions and of callers through `wrap`'s own names, without clauses: who calls these loads none of what those promise.
 
 use ckeys::{EntryKey, PreprocessorCacheEntry};
-use ckeys_base::hash_state::HashState;
-use ckeys_base::store::Store;
-use ckeys_records::fault::Fault;
-use os_files::files::Files;
+use ckeys_base::{HashState, Store};
+use ckeys_records::Fault;
+use os_files::Files;
 use std::alloc::{AllocError, Global};
 use std::num::NonZeroUsize;
-use wrap::session::Session;
-use wrap::{Fingerprint, Part};
-use wrap_base::answer::Answer;
-use wrap_base::call::Call;
-use wrap_base::config::Config;
-use wrap_base::reason::Reason;
+use wrap::{Fingerprint, Part, Session};
 use wrap_base::store_key::{Pairs, StoreKey};
-use wrap_base::tool::Tool;
-use wrap_uses::build::{Build, run_steps};
-use wrap_uses::misses::why_missed;
-use wrap_uses::step::{Outcome, run_step};
-use wrap_uses::within::answer_within;
+use wrap_base::{Answer, Call, Config, Reason, Tool};
+use wrap_uses::{Build, Outcome, answer_within, run_step, run_steps, why_missed};
 
 /// A session over these stores.
 pub(crate) fn session_over<

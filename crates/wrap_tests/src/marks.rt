@@ -3,14 +3,11 @@
 
 use ckeys_records::output_name::OutputName;
 use cmdlines_tables::language::Language;
-use fingerprints::c_parts::CParts;
-use fingerprints::difference::Difference;
-use fingerprints::fingerprint::Fingerprint;
-use os_files::listed::Listed;
-use os_files::os_bytes::OsBytes;
+use fingerprints::{CParts, Difference, Fingerprint};
+use os_files::{Listed, OsBytes};
 use std::alloc::{AllocError, Global};
 use std::test::Fail;
-use test_kit::texts::is_that;
+use test_kit::is_that;
 
 /// One object, which a compile may leave out or not.
 fn object(alloc: Global, optional: bool) -> Result<Listed<OutputName>, AllocError> {

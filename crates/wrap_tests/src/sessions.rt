@@ -4,23 +4,18 @@ use crate::calls::{all_served, session_over};
 use crate::support::{all_told, config};
 use crate::text_tool::text_calls;
 use ckeys::{EntryKey, PreprocessorCacheEntry};
-use ckeys_base::hash_state::HashState;
-use ckeys_base::store::Store;
-use os_files::files::Files;
+use ckeys_base::{HashState, Store};
+use os_files::Files;
 use sha2::Sha256;
 use std::alloc::{AllocError, Global};
 use std::test::Fail;
-use test_kit::texts::is_that;
-use wrap::laws::{
-    premises_can_be_met, records_that_are_not_kept_change_nothing, store_keys_tell_records,
-    two_direct_runs_agree, two_runs_agree,
+use test_kit::is_that;
+use wrap::{
+    Session, premises_can_be_met, records_that_are_not_kept_change_nothing,
+    store_keys_tell_records, two_direct_runs_agree, two_runs_agree,
 };
-use wrap::session::Session;
-use wrap_base::call::Call;
-use wrap_base::config::Config;
-use wrap_base::map_store::MapStore;
 use wrap_base::store_key::{Pairs, StoreKey};
-use wrap_base::tool::Tool;
+use wrap_base::{Call, Config, MapStore, Tool};
 
 /// Laws, which cost nothing: what is seen here of some runs and keys holds of all.
 fn laws<H: HashState>() {

@@ -3,22 +3,15 @@
 //! The proof of a function grows with what it drops by itself, field by field, at each of its ends. So large values are held in lists, which
 //! are dropped by one call, or handed over to `drop`, and what only passes them on takes them as values of any type.
 
-use ckeys::compiler::CCompiler;
-use ckeys_records::fault::Fault;
-use cmdlines::kinds::Gcc;
-use os_files::files::Files;
-use os_files::listed::Listed;
-use os_files::os_bytes::OsBytes;
+use ckeys::CCompiler;
+use ckeys_records::Fault;
+use cmdlines::Gcc;
+use os_files::{Files, Listed, OsBytes};
 use std::alloc::{AllocError, Global};
 use std::test::Fail;
-use test_kit::rows::words;
-use time_macros::zone::Zone;
-use wrap_base::answer::{Answer, How, Output};
-use wrap_base::call::Call;
-use wrap_base::compiler::Compiler;
-use wrap_base::config::Config;
-use wrap_base::request::Request;
-use wrap_base::tool::Tool;
+use test_kit::words;
+use time_macros::Zone;
+use wrap_base::{Answer, Call, Compiler, Config, How, Output, Request, Tool};
 
 /// The configuration without folders and without a limit, in UTC. Include records are kept where `direct` says so.
 pub(crate) fn config(alloc: Global, direct: bool) -> Result<Config, Fail> {

@@ -5,18 +5,14 @@ ghost use Rattle.os_files.specs.Bytes.{ticked};
 ghost use Rattle.wrap_tests.specs.Giving.{giving};
 
 use crate::support::call_of;
-use ckeys_records::preprocessor::{Preprocessor, Printed, Ticks, ToolFail};
-use cmdlines_base::command::{ArtifactDescriptor, SingleCompileCommand};
-use cmdlines_tables::compiler::CCompilerKind;
-use os_files::files::Files;
-use os_files::listed::Listed;
-use os_files::memory_files::MemoryFiles;
-use os_files::os_bytes::OsBytes;
-use rustkeys::answers::RustcAnswers;
+use ckeys_records::{Preprocessor, Printed, Ticks, ToolFail};
+use cmdlines_base::{ArtifactDescriptor, SingleCompileCommand};
+use cmdlines_tables::CCompilerKind;
+use os_files::{Files, Listed, MemoryFiles, OsBytes};
+use rustkeys::RustcAnswers;
 use std::alloc::{AllocError, Global};
-use test_kit::rows::files_of;
-use wrap_base::call::Call;
-use wrap_base::tool::{Compiled, Tool};
+use test_kit::files_of;
+use wrap_base::{Call, Compiled, Tool};
 
 /// For tests: the preprocessor prints the text and ends with status 0, and a compile makes it as the first output; or a compile makes
 /// nothing, and nothing else can be asked.

@@ -4,21 +4,17 @@ use crate::calls::{Asked, Why, built, fingerprint, missed, session_over, stepped
 use crate::support::{all_told, config, push_outputs};
 use crate::text_tool::text_calls;
 use ckeys::{EntryKey, PreprocessorCacheEntry};
-use ckeys_base::hash_state::HashState;
-use ckeys_base::store::Store;
-use ckeys_records::fault::Fault;
-use os_files::files::Files;
+use ckeys_base::{HashState, Store};
+use ckeys_records::Fault;
+use os_files::Files;
 use sha2::Sha256;
 use std::alloc::{AllocError, Global};
 use std::test::Fail;
-use test_kit::texts::is_that;
-use wrap::session::Session;
-use wrap_base::call::Call;
-use wrap_base::config::Config;
-use wrap_base::map_store::MapStore;
+use test_kit::is_that;
+use wrap::Session;
 use wrap_base::store_key::{Pairs, StoreKey};
-use wrap_base::tool::Tool;
-use wrap_uses::step::Outcome;
+use wrap_base::{Call, Config, MapStore, Tool};
+use wrap_uses::Outcome;
 
 /// What a build of these calls answers, and whether all is kept.
 fn told_of_build<H: HashState, F: Files, T: Tool>(

@@ -4,7 +4,7 @@ use crate::support::request;
 use std::alloc::{AllocError, Global};
 use std::fmt::Debug;
 use std::test::Fail;
-use test_kit::texts::{holds, is_that};
+use test_kit::{holds, is_that};
 use wrap::{
     Answer, CParts, CShape, Compiled, EntryKey, Family, Fault, Fingerprint, How, Language, Listed,
     OsBytes, Output, OutputName, Reason, Shape, StoreKey,

@@ -16,13 +16,12 @@ use crate::compile::compiled_pairs;
 use crate::outputs::placed;
 use crate::prepared::Prepared;
 use crate::sizes::is_within;
-use ckeys_base::store::Store;
-use ckeys_records::fault::Fault;
-use os_files::files::Files;
+use ckeys_base::Store;
+use ckeys_records::Fault;
+use os_files::Files;
 use std::alloc::Global;
-use wrap_base::answer::{Answer, How};
 use wrap_base::store_key::{Pairs, StoreKey, keys_are_their_fields};
-use wrap_base::tool::Tool;
+use wrap_base::{Answer, How, Tool};
 
 /// How a hit is reported.
 fn kept_how(from_record: bool) -> How

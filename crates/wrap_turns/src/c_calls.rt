@@ -13,18 +13,13 @@ ghost use Rattle.wrap_base.specs.Commands.{by_c, found_of};
 use crate::answering::answer_prepared;
 use crate::prepared::prepare;
 use ckeys::{EntryKey, PreprocessorCacheEntry};
-use ckeys_base::hash_state::HashState;
-use ckeys_base::store::Store;
-use ckeys_records::fault::Fault;
-use os_files::files::Files;
+use ckeys_base::{HashState, Store};
+use ckeys_records::Fault;
+use os_files::Files;
 use std::alloc::Global;
-use wrap_base::answer::Answer;
-use wrap_base::compiler::AnyC;
-use wrap_base::config::Config;
-use wrap_base::request::Request;
 use wrap_base::store_key::{Pairs, StoreKey};
-use wrap_base::tool::Tool;
-use wrap_keys::verdict::{Verdict, judge};
+use wrap_base::{Answer, AnyC, Config, Request, Tool};
+use wrap_keys::{Verdict, judge};
 
 /// Answers a request to this C compiler: it is passed through, or it gets what the store holds under its key or what one compile
 /// makes, or there is a fault.

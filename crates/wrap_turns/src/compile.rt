@@ -8,16 +8,13 @@ ghost use Rattle.wrap_turns.specs.Prepared.{Makes};
 ghost use Rattle.wrap_turns.specs.Steps.{CompileCause, RanOnce};
 
 use crate::outputs::collected;
-use ckeys_records::fault::Fault;
-use ckeys_records::preprocessor::ToolFail;
-use ckeys_records::step::Step;
-use cmdlines_base::command::{ArtifactDescriptor, SingleCompileCommand};
-use cmdlines_tables::compiler::CCompilerKind;
-use os_files::files::Files;
-use os_files::os_bytes::OsBytes;
+use ckeys_records::{Fault, Step, ToolFail};
+use cmdlines_base::{ArtifactDescriptor, SingleCompileCommand};
+use cmdlines_tables::CCompilerKind;
+use os_files::{Files, OsBytes};
 use std::alloc::Global;
+use wrap_base::Tool;
 use wrap_base::store_key::Pairs;
-use wrap_base::tool::Tool;
 
 /// The outputs that the command makes, by name and contents.
 pub fn compiled_pairs<F: Files, T: Tool>(

@@ -2,9 +2,13 @@
 #![tactic(auto)]
 
 mod answering;
-pub mod c_calls;
+mod c_calls;
 mod compile;
 mod outputs;
-pub mod prepared;
-pub mod rust_calls;
+mod prepared;
+mod rust_calls;
 mod sizes;
+
+pub use c_calls::c_turn;
+pub use prepared::{Prepared, prepare};
+pub use rust_calls::{RustPrepared, rust_turn};

@@ -8,14 +8,13 @@ ghost use Rattle.wrap_keys.specs.Account.{collected, all, first_file, files_behi
 ghost use Rattle.wrap_turns.specs.PathMap.{HasPaths};
 ghost use Rattle.wrap_turns.specs.Steps.{CollectCause};
 
-use ckeys_records::fault::Fault;
-use cmdlines_base::command::ArtifactDescriptor;
-use os_files::listed::Listed;
-use os_files::os_bytes::OsBytes;
+use ckeys_records::Fault;
+use cmdlines_base::ArtifactDescriptor;
+use os_files::{Listed, OsBytes};
 use std::alloc::{AllocError, Global};
 use std::collections::BTreeMap;
 use std::vec::IntoIter;
-use wrap_base::answer::Output;
+use wrap_base::Output;
 use wrap_base::store_key::Pairs;
 
 /// Takes the next file, where there is one and it was made.

@@ -13,24 +13,16 @@ ghost use Rattle.wrap_keys.specs.Plans.{IsPlanOf};
 ghost use Rattle.wrap_turns.specs.Prepared.{IsPrepared};
 ghost use Rattle.wrap_base.specs.Commands.{found_of};
 
-use ckeys::compiler_impl::CCompilerImpl;
-use ckeys::{EntryKey, PreprocessorCacheEntry};
-use ckeys_base::hash_state::HashState;
-use ckeys_base::store::Store;
-use ckeys_records::config::KeyConfig;
-use ckeys_records::fault::Fault;
-use ckeys_records::word_end::stripped_words_lack_the_end;
-use cmdlines_base::command::{ArtifactDescriptor, SingleCompileCommand};
-use cmdlines_tables::compiler::CCompilerKind;
-use os_files::files::Files;
-use os_files::os_bytes::OsBytes;
+use ckeys::{CCompilerImpl, EntryKey, PreprocessorCacheEntry};
+use ckeys_base::{HashState, Store};
+use ckeys_records::{Fault, KeyConfig, stripped_words_lack_the_end};
+use cmdlines_base::{ArtifactDescriptor, SingleCompileCommand};
+use cmdlines_tables::CCompilerKind;
+use os_files::{Files, OsBytes};
 use std::alloc::Global;
-use wrap_base::compiler::AnyC;
-use wrap_base::request::Request;
 use wrap_base::store_key::{Family, Shape, StoreKey};
-use wrap_base::tool::Tool;
-use wrap_keys::keys::{output_names, place_of};
-use wrap_keys::verdict::Plan;
+use wrap_base::{AnyC, Request, Tool};
+use wrap_keys::{Plan, output_names, place_of};
 
 /// A request with its key, the outputs that it wants, and the command that makes them.
 #[derive(Drop)]

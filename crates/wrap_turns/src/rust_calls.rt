@@ -20,22 +20,16 @@ ghost use Rattle.wrap_keys.specs.Turn.{KeyedTurn, StoreTurn};
 
 use crate::answering::answer_prepared;
 use crate::prepared::Prepared;
-use ckeys_base::hash_state::HashState;
-use ckeys_base::store::Store;
-use ckeys_records::fault::Fault;
-use os_files::files::Files;
-use os_files::os_bytes::OsBytes;
-use rustc_compiler::rust::Rust;
+use ckeys_base::{HashState, Store};
+use ckeys_records::Fault;
+use os_files::{Files, OsBytes};
+use rustc_compiler::Rust;
 use rustc_options::parsed::ParsedArguments;
-use rustkeys::compilation::RustCompilation;
-use rustkeys::hasher::RustHasher;
+use rustkeys::{RustCompilation, RustHasher};
 use std::alloc::Global;
-use wrap_base::answer::Answer;
-use wrap_base::request::Request;
 use wrap_base::store_key::{Family, Pairs, Shape, StoreKey};
-use wrap_base::tool::Tool;
-use wrap_keys::keys::output_names;
-use wrap_keys::rust_verdict::{RustVerdict, judge_rust};
+use wrap_base::{Answer, Request, Tool};
+use wrap_keys::{RustVerdict, judge_rust, output_names};
 
 /// A request to rustc with its key: the compile that it represents, and the text on dependencies where it asks for one.
 #[derive(Drop)]

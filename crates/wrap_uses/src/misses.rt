@@ -5,10 +5,9 @@ ghost use Rattle.wrap.specs.Account.{Work, account_at};
 ghost use Rattle.wrap.specs.Fingerprints.{IsFingerprintOf};
 ghost use Rattle.wrap_uses.specs.Misses.{Explains};
 
-use wrap::laws::fingerprints_tell_store_keys;
 use wrap::{
     EntryKey, Fault, Files, Fingerprint, HashState, Pairs, Part, PreprocessorCacheEntry, Reason,
-    Request, Session, Store, StoreKey, Tool, explain,
+    Request, Session, Store, StoreKey, Tool, explain, fingerprints_tell_store_keys,
 };
 
 /// The first part in which a request differs from the one of that fingerprint, or why it is passed through. The stores aren't asked, and

@@ -3,9 +3,9 @@
 ghost use Rattle.std.specs.Prelude.{IfOk};
 ghost use Rattle.wrap_uses.specs.RecordedKeys.{IsReadAs};
 
-use os_files::os_bytes::OsBytes;
+use os_files::OsBytes;
 use rustc_parts::parts::{Parts, RShape};
-use rustc_parts::reading::read_key_bytes;
+use rustc_parts::read_key_bytes;
 use std::alloc::{AllocError, Global};
 
 /// A key as it was recorded: the bytes that were hashed, and what they don't determine.

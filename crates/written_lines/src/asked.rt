@@ -1,8 +1,8 @@
 //! What of its sources an object hangs on beside their text, by the words of the command.
 
-use cmdlines_tables::compiler::CCompilerKind;
+use cmdlines_tables::CCompilerKind;
 use memchr::memmem;
-use os_files::os_bytes::OsBytes;
+use os_files::OsBytes;
 
 /// What of the sources is bound to a key beside the text.
 #[derive(Clone, Copy, PartialEq, Eq)]

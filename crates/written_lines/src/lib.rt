@@ -1,8 +1,13 @@
 //! What a preprocessed text doesn't say of its sources: the lines as they were written, which debug information, checks and messages hang on.
 #![tactic(auto)]
 
-pub mod asked;
-pub mod lines;
-pub mod named;
-pub mod sources;
+mod asked;
+mod lines;
+mod named;
+mod sources;
 mod written;
+
+pub use asked::Asked;
+pub use lines::{digest_asked, digest_of_contents};
+pub use named::{Lying, NamedFile, NamedFiles};
+pub use sources::{Source, Sources};

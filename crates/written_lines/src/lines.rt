@@ -4,12 +4,11 @@ use crate::asked::Asked;
 use crate::sources::Sources;
 use crate::written::{Place, Written};
 use blake2::Blake2b256;
-use ckeys_base::digest::Digest;
-use host_protocol::host_error::HostError;
-use marker_walk::line::Mark;
-use marker_walk::markers::Markers;
+use ckeys_base::Digest;
+use host_protocol::HostError;
+use marker_walk::{Mark, Markers};
 use memchr::memchr_iter;
-use os_files::os_bytes::OsBytes;
+use os_files::OsBytes;
 use std::alloc::{AllocError, Global};
 
 /// The name of the marker that a line is, if it is one, with its number.

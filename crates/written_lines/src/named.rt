@@ -1,13 +1,9 @@
 //! The files that a text is made of, as its markers name them: what lay under their paths once the text had been printed.
 
-use disk_files::found::{State, is_nothing};
-use disk_files::whole::read_of_size;
-use marker_walk::line::Mark;
-use marker_walk::markers::Markers;
-use marker_walk::names::unescaped;
-use os_files::os_bytes::OsBytes;
-use os_files::path::join;
-use source_directives::numbers::renumbers;
+use disk_files::{State, is_nothing, read_of_size};
+use marker_walk::{Mark, Markers, unescaped};
+use os_files::{OsBytes, join};
+use source_directives::renumbers;
 use std::alloc::{AllocError, Global};
 use std::collections::HashSet;
 use std::fs;

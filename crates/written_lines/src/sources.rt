@@ -2,8 +2,8 @@
 
 use crate::named::{Lying, NamedFiles};
 use blake2::Blake2b256;
-use ckeys_base::digest::Digest;
-use host_protocol::host_error::HostError;
+use ckeys_base::Digest;
+use host_protocol::HostError;
 use memchr::memchr_iter;
 use std::alloc::{AllocError, Global};
 use std::collections::HashMap;

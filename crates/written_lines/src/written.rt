@@ -1,7 +1,7 @@
 //! A walk over a text beside the lines of its sources, which collects what the text doesn't say of them.
 
 use crate::sources::{Source, Sources};
-use byte_formats::fields::put_number;
+use byte_formats::put_number;
 use memchr::{memchr, memchr_iter, memmem};
 use std::alloc::{AllocError, Global};
 
