@@ -105,6 +105,26 @@ searches() {
     search_case "$cc: a file that goes" "mv one/value.h gone.h" "mv gone.h one/value.h" $cc -Ione -Itwo
     ln -s one turned
     search_case "$cc: a link that is turned" "ln -sfn two turned" "ln -sfn one turned" $cc -Iturned
+    # A folder that the compiler leaves out as one that it has already: it becomes one of its own, in which the next header lies.
+    printf '#define VALUE 3\n' >two/next.h
+    ln -s two twin
+    printf '#if __has_include_next(<next.h>)\n#include_next <next.h>\n#else\n#define VALUE 4\n#endif\n' >one/next.h
+    printf '#include <next.h>\nint value = VALUE;\n' >it.c
+    settle
+    search_case "$cc: a twin that becomes a folder" "rm twin; mkdir twin; $new twin/value.h" "rm -r twin; ln -s two twin" \
+        $cc -Ione -I./one -Itwo -Itwin
+    rm twin
+    search_tree
+    # In another checkout all folders are other ones, and all files.
+    search_call "$cc: before another checkout" $cc -Ione -I./one -Itwo -Ione
+    cp -a one copied
+    rm -r one
+    mv copied one
+    touch one/value.h
+    settle
+    mark
+    search_call "$cc: in another checkout" $cc -Ione -I./one -Itwo -Ione
+    is "$cc: a direct hit in another checkout" since 0 0 1
     ln -s ../nowhere.h early/value.h
     search_none "$cc: a link that leads nowhere" $cc -Iearly -Ilate
     printf '#define VALUE 9\n' >nowhere.h

@@ -27,9 +27,9 @@ impl Sealed for KeptResult {
 }
 
 impl Sealed for KeptManifest {
-    const VERSION: u8 = 4;
+    const VERSION: u8 = 5;
 
-    ghost VERSION = { 4 };
+    ghost VERSION = { 5 };
 }
 
 impl Sealed for KeptParts {

@@ -9,12 +9,12 @@ use std::rt::Files;
 use std::test::Fail;
 use test_kit::{holds, is_that};
 
-/// What a compiler says that looks in `a`, then in `b`, and leaves out `c`.
-const SAID: &str = "ignoring nonexistent directory \"c\"\n\
+/// What a compiler says that looks in `a`, then in `b`, and leaves out `c` and `d`.
+const SAID: &str = "ignoring nonexistent directory \"c\"\nignoring duplicate directory \"d\"\n\
     #include \"...\" search starts here:\n#include <...> search starts here:\n a\n b\nEnd of search list.\n";
 
-/// Folders, and a header in the second one.
-const TREE: [&str; 3] = ["folder a", "folder b", "write b/x.h one"];
+/// Folders, a header in the second one, and a link to that.
+const TREE: [&str; 4] = ["folder a", "folder b", "write b/x.h one", "link d b"];
 
 /// A list of what is watched where `<x.h>` is asked for in that folder; what was changed before that moment is settled.
 fn list_in<R: Files + AllocGlobal>(
@@ -82,6 +82,22 @@ const CONTENTS: [(&str, bool); 4] = [
     ("remove b/x.h", false),
 ];
 
+/// Changes of folders, and whether those that the compiler left out as equal ones are so still.
+const TWINS: [(&str, bool); 12] = [
+    ("", true),
+    ("remove d", false),
+    ("link d a", false),
+    ("remove d", false),
+    ("folder d", false),
+    ("unfold d", false),
+    ("link d b", true),
+    ("remove b/x.h", false),
+    ("unfold b", false),
+    ("folder b", false),
+    ("write b/x.h one", true),
+    ("write a/x.h earlier", false),
+];
+
 /// What is watched: in a folder, with a moment in seconds before which changes are settled, where the text names this file; and changes.
 struct Watch {
     folder: &'static str,
@@ -90,8 +106,8 @@ struct Watch {
     changes: &'static [(&'static str, bool)],
 }
 
-/// A text that names the header, whose changes don't count then, and one that names another file.
-const WATCHES: [Watch; 2] = [
+/// A text that names the header, whose changes don't count then, and those that name another file.
+const WATCHES: [Watch; 3] = [
     Watch {
         folder: "gulmaat_tests_names",
         before: 0,
@@ -103,6 +119,12 @@ const WATCHES: [Watch; 2] = [
         before: i64::MAX,
         named: "gulmaat_tests_files/none.h",
         changes: &CONTENTS,
+    },
+    Watch {
+        folder: "gulmaat_tests_twins",
+        before: i64::MAX,
+        named: "gulmaat_tests_twins/none.h",
+        changes: &TWINS,
     },
 ];
 

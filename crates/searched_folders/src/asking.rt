@@ -21,6 +21,9 @@ const FRONTS: [&[u8]; 6] = [b"-D", b"-U", b"-o", b"-M", b"-include", b"-imacros"
 /// Words that are used alone and say what is to be made.
 const STEPS: [&[u8]; 4] = [b"-c", b"-S", b"-E", b"-v"];
 
+/// The version of the layout of what is kept, which counts in its name.
+const VERSION: &[u8] = b"2";
+
 /// Whether a word that is no value says where files are looked for.
 fn says_where(word: &[u8]) -> bool {
     word.starts_with(b"-")
@@ -58,6 +61,7 @@ fn name_of<R: Files + AllocGlobal>(
     let mut paths = Vec::new(rt.alloc());
     paths.push(line.executable.clone()?)?;
     let mut row = Vec::new(rt.alloc());
+    put_framed(&mut row, VERSION)?;
     put_framed(&mut row, state_of(rt, paths.as_slice())?.as_bytes())?;
     put_framed(&mut row, line.dir.as_bytes())?;
     for word in words {

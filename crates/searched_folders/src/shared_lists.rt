@@ -3,7 +3,7 @@
 
 use crate::manifests::rows_of;
 use crate::unwatched::Unwatched;
-use crate::watch_list::{FileRow, Hold, file_ahead, folder_ahead, holds, text_of};
+use crate::watch_list::{FileRow, Looking, file_ahead, folder_ahead, holds, text_of};
 use byte_formats::{put_framed, put_number, read_framed, read_number};
 use disk_files::State;
 use os_files::FileTime;
@@ -13,17 +13,15 @@ use std::rt::Files;
 /// A state that no file and no folder has.
 const NO_STATE: [u8; 56] = [0; 56];
 
-/// Adds the first folder of these bytes without its state, and returns what comes after it. None where it must be the same folder as before.
-fn put_folder<'a>(bytes: &'a [u8], out: &mut Vec<u8>) -> Result<Option<&'a [u8]>, Unwatched> {
+/// Adds the first folder of these bytes without its state, and returns what comes after it.
+fn put_folder<'a>(bytes: &'a [u8], out: &mut Vec<u8>) -> Result<&'a [u8], Unwatched> {
     let (row, rest) = folder_ahead(bytes)?;
-    if row.hold == Hold::Same.code() {
-        return Ok(None);
-    }
     put_framed(out, row.path)?;
     out.extend_from_slice(&NO_STATE)?;
-    put_number(out, Hold::Names.code())?;
+    put_number(out, Looking::Always.code())?;
+    put_framed(out, row.twin)?;
     put_framed(out, row.names)?;
-    Ok(Some(rest))
+    Ok(rest)
 }
 
 /// Adds a file without its state.
@@ -33,67 +31,51 @@ fn put_without_state(row: FileRow<'_>, out: &mut Vec<u8>) -> Result<(), AllocErr
     put_framed(out, row.digest)
 }
 
-/// Adds the first file of these bytes without its state, and returns what comes after it. None where it is a folder, which must be in the state in
-/// which it was.
-fn put_file<'a>(bytes: &'a [u8], out: &mut Vec<u8>) -> Result<Option<&'a [u8]>, Unwatched> {
-    let (row, rest) = file_ahead(bytes)?;
-    if row.digest.is_empty() {
-        return Ok(None);
-    }
-    put_without_state(row, out)?;
-    Ok(Some(rest))
-}
-
-/// Adds the folders at the front of these bytes without their states, and gives what comes after them. None where one can't be added so.
-fn put_folders<'a>(bytes: &'a [u8], out: &mut Vec<u8>) -> Result<Option<&'a [u8]>, Unwatched> {
+/// Adds the folders at the front of these bytes without their states, and gives what comes after them.
+fn put_folders<'a>(bytes: &'a [u8], out: &mut Vec<u8>) -> Result<&'a [u8], Unwatched> {
     let (count, mut rest) = read_number(bytes)?;
     put_number(out, count)?;
     for _ in 0..count {
-        let Some(behind) = put_folder(rest, out)? else {
-            return Ok(None);
-        };
-        rest = behind;
+        rest = put_folder(rest, out)?;
     }
-    Ok(Some(rest))
+    Ok(rest)
 }
 
-/// Adds the files ahead in these bytes without their states. False where one can't go so.
-fn put_files(bytes: &[u8], out: &mut Vec<u8>) -> Result<bool, Unwatched> {
+/// Adds the files ahead in these bytes without their states.
+fn put_files(bytes: &[u8], out: &mut Vec<u8>) -> Result<(), Unwatched> {
     let (count, mut rest) = read_number(bytes)?;
     put_number(out, count)?;
     for _ in 0..count {
-        let Some(behind) = put_file(rest, out)? else {
-            return Ok(false);
-        };
+        let (row, behind) = file_ahead(rest)?;
+        put_without_state(row, out)?;
         rest = behind;
     }
-    Ok(rest.is_empty())
+    match rest.is_empty() {
+        true => Ok(()),
+        false => Err(Unwatched::Device),
+    }
 }
 
-/// The list without states. None where it can't do without one.
-fn without_states(alloc: Global, list: &[u8]) -> Result<Option<Vec<u8>>, Unwatched> {
+/// The list without states.
+fn without_states(alloc: Global, list: &[u8]) -> Result<Vec<u8>, Unwatched> {
     let mut out = Vec::new(alloc);
     let (dir, rest) = read_framed(list)?;
     put_framed(&mut out, dir)?;
-    let Some(rest) = put_folders(rest, &mut out)? else {
-        return Ok(None);
-    };
-    match put_files(rest, &mut out)? {
-        true => Ok(Some(out)),
-        false => Ok(None),
-    }
+    let rest = put_folders(rest, &mut out)?;
+    put_files(rest, &mut out)?;
+    Ok(out)
 }
 
-/// What a list is for others: none where it isn't well formed, or can't do without a state.
+/// What a list is for others: none where it isn't well formed.
 fn list_to_send(alloc: Global, list: &[u8]) -> Result<Option<Vec<u8>>, AllocError> {
     match without_states(alloc, list) {
-        Ok(list) => Ok(list),
+        Ok(list) => Ok(Some(list)),
         Err(Unwatched::Memory) => Err(AllocError),
         Err(_) => Ok(None),
     }
 }
 
-/// The lists as others may have them: without states, and without those lists that can't do without one. None where none is left.
+/// The lists as others may have them: without states, and without those that aren't well formed. None where none is left.
 pub fn lists_to_send(alloc: Global, lists: &[u8]) -> Result<Option<Vec<u8>>, AllocError> {
     let mut out = Vec::new(alloc);
     for row in rows_of(alloc, lists)? {
@@ -118,11 +100,7 @@ fn fill_folder<'a, R: Files>(
 ) -> Result<&'a [u8], Unwatched> {
     let (mut row, rest) = folder_ahead(bytes)?;
     row.state = State::at(rt, text_of(row.path)?)?;
-    let hold = match row.state.is_before(before) {
-        true => Hold::Settled,
-        false => Hold::Names,
-    };
-    row.hold = hold.code();
+    row.looking = Looking::of(row.state, before).code();
     row.put(out)?;
     Ok(rest)
 }

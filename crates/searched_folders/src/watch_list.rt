@@ -1,36 +1,42 @@
 //! What to watch of a text: where its compiler looked for files, and what lay there.
 //!
 //! Its bytes are the folder of the call, the folders in which something was looked for, and files, each list after its count. A folder
-//! has its path, its state, how it may be another one, and its names with what was there, all of them after their length; a file has its
-//! path, its state and the digest of its contents. docs/FORMATS.md has the layout.
+//! has its path, its state, when its names are looked at, its twin, and its names with what was there, all of them after their length; a
+//! file has its path, its state and the digest of its contents. docs/FORMATS.md has the layout.
 
 use crate::unwatched::Unwatched;
 use byte_formats::{ReadFault, put_framed, put_number, read_framed, read_number};
 use cache_dir::digest_of;
 use disk_files::{Found, State, found_at, read_of_size};
-use os_files::FileTime;
+use os_files::{FileTime, OsBytes};
 use std::alloc::AllocError;
+use std::collections::BTreeSet;
 use std::fs;
 use std::rt::Files;
 
-/// How a folder may be another one than it was.
+/// When the names of a folder are looked at.
 #[derive(Clone, Copy, PartialEq, Eq)]
-pub(crate) enum Hold {
-    /// Its names are looked at in each case: it was changed since the call began, or about then.
-    Names,
-    /// Its names are looked at where its state is another one.
+pub(crate) enum Looking {
+    /// In each case: it was changed since the call began, or about then.
+    Always,
+    /// Where its state is another one.
     Settled,
-    /// It must be the same one, and so for names: the compiler left it out as one that it has already.
-    Same,
 }
 
-impl Hold {
+impl Looking {
+    /// That of a folder in a state: settled where it was changed last before that moment.
+    pub(crate) fn of(state: State, before: FileTime) -> Looking {
+        match state.is_before(before) {
+            true => Looking::Settled,
+            false => Looking::Always,
+        }
+    }
+
     /// Its number in a layout.
     pub(crate) fn code(self) -> u64 {
         match self {
-            Hold::Names => 0,
-            Hold::Settled => 1,
-            Hold::Same => 2,
+            Looking::Always => 0,
+            Looking::Settled => 1,
         }
     }
 }
@@ -40,8 +46,10 @@ impl Hold {
 pub(crate) struct FolderRow<'a> {
     pub(crate) path: &'a [u8],
     pub(crate) state: State,
-    /// How it may be another one, by its number.
-    pub(crate) hold: u64,
+    /// When its names are looked at, by its number.
+    pub(crate) looking: u64,
+    /// The path of the folder that it must be the same as, since the compiler left it out as one that it has already; empty where it needn't.
+    pub(crate) twin: &'a [u8],
     /// Names with what was there.
     pub(crate) names: &'a [u8],
 }
@@ -51,7 +59,8 @@ impl FolderRow<'_> {
     pub(crate) fn put(&self, out: &mut Vec<u8>) -> Result<(), AllocError> {
         put_framed(out, self.path)?;
         self.state.put(out)?;
-        put_number(out, self.hold)?;
+        put_number(out, self.looking)?;
+        put_framed(out, self.twin)?;
         put_framed(out, self.names)
     }
 }
@@ -60,18 +69,20 @@ impl FolderRow<'_> {
 pub(crate) fn folder_ahead(bytes: &[u8]) -> Result<(FolderRow<'_>, &[u8]), ReadFault> {
     let (path, rest) = read_framed(bytes)?;
     let (state, rest) = State::read(rest)?;
-    let (hold, rest) = read_number(rest)?;
+    let (looking, rest) = read_number(rest)?;
+    let (twin, rest) = read_framed(rest)?;
     let (names, rest) = read_framed(rest)?;
     let row = FolderRow {
         path,
         state,
-        hold,
+        looking,
+        twin,
         names,
     };
     Ok((row, rest))
 }
 
-/// A file in a list, or a folder with an empty digest.
+/// A file in a list, or a folder with the digest of the names in it.
 #[derive(Clone, Copy)]
 pub(crate) struct FileRow<'a> {
     pub(crate) path: &'a [u8],
@@ -107,8 +118,8 @@ pub(crate) struct Folder {
     pub(crate) state: State,
     /// The names, each preceded by its length and followed by the number of what was there.
     pub(crate) names: Vec<u8>,
-    /// Whether the compiler left it out as one that it has already.
-    pub(crate) is_left_out: bool,
+    /// The path of the folder that it must be the same as; empty where it needn't.
+    pub(crate) twin: String,
 }
 
 impl Folder {
@@ -125,15 +136,11 @@ impl Folder {
         before: FileTime,
         out: &mut Vec<u8>,
     ) -> Result<(), AllocError> {
-        let hold = match (self.is_left_out, self.state.is_before(before)) {
-            (true, _) => Hold::Same,
-            (false, true) => Hold::Settled,
-            (false, false) => Hold::Names,
-        };
         let row = FolderRow {
             path: path.as_bytes(),
             state: self.state,
-            hold: hold.code(),
+            looking: Looking::of(self.state, before).code(),
+            twin: self.twin.as_bytes(),
             names: self.names.as_slice(),
         };
         row.put(out)
@@ -186,6 +193,14 @@ fn names_hold<R: Files + AllocGlobal>(
     Ok(true)
 }
 
+/// Whether a folder in that state is the same as its twin, where it has one.
+fn is_as_twin<R: Files>(rt: &R, row: FolderRow<'_>, now: State) -> Result<bool, Unwatched> {
+    match row.twin.is_empty() {
+        true => Ok(true),
+        false => Ok(now.is_same(State::at(rt, text_of(row.twin)?)?)),
+    }
+}
+
 /// Whether the folder at the front of these bytes is as it was, as far as something was looked for in it, and what comes after it.
 fn folder_holds<'a, R: Files + AllocGlobal>(
     rt: &R,
@@ -194,24 +209,35 @@ fn folder_holds<'a, R: Files + AllocGlobal>(
     let (row, rest) = folder_ahead(bytes)?;
     let path = text_of(row.path)?;
     let now = State::at(rt, path)?;
-    let may_be_another = row.hold != Hold::Same.code() || now.is_same(row.state);
-    let holds = (row.hold == Hold::Settled.code() && now == row.state)
-        || (may_be_another && names_hold(rt, path, row.names)?);
+    let is_unchanged = row.looking == Looking::Settled.code() && now == row.state;
+    let holds = is_as_twin(rt, row, now)? && (is_unchanged || names_hold(rt, path, row.names)?);
     Ok((holds, rest))
 }
 
-/// The digest of the contents of a file, as text; an empty one where it is a folder.
+/// The digest of the names in a folder, as text.
+fn names_in<R: Files + AllocGlobal>(rt: &R, path: &str) -> Result<String, Unwatched> {
+    let mut names = BTreeSet::new(rt.alloc());
+    for entry in fs::read_dir(&rt, path)? {
+        names.insert(OsBytes::from_slice(rt.alloc(), entry?.file_name().as_bytes())?)?;
+    }
+    let mut row = Vec::new(rt.alloc());
+    for name in names.iter() {
+        put_framed(&mut row, name.as_bytes())?;
+    }
+    Ok(digest_of(rt.alloc(), row.as_slice())?)
+}
+
+/// The digest of the contents of a file, as text, or that of the names in a folder.
 pub(crate) fn contents_at<R: Files + AllocGlobal>(rt: &R, path: &str) -> Result<String, Unwatched> {
     let found = fs::metadata(rt, path)?;
     if found.is_dir() {
-        return Ok(String::new(rt.alloc()));
+        return names_in(rt, path);
     }
     let contents = read_of_size(rt, path, found.len())?;
     Ok(digest_of(rt.alloc(), contents.as_slice())?)
 }
 
-/// Whether the file at the front of these bytes is as it was, and what comes after it. One in another state may have the same contents; a
-/// folder is another one then.
+/// Whether the file at the front of these bytes is as it was, and what comes after it. One in another state may have the same contents.
 fn file_holds<'a, R: Files + AllocGlobal>(
     rt: &R,
     bytes: &'a [u8],
@@ -219,7 +245,7 @@ fn file_holds<'a, R: Files + AllocGlobal>(
     let (row, rest) = file_ahead(bytes)?;
     let path = text_of(row.path)?;
     let holds = State::at(rt, path)? == row.state
-        || (!row.digest.is_empty() && contents_at(rt, path)?.as_bytes() == row.digest);
+        || contents_at(rt, path)?.as_bytes() == row.digest;
     Ok((holds, rest))
 }
 

@@ -2,7 +2,7 @@
 
 use crate::search_list::SearchList;
 use crate::unwatched::Unwatched;
-use crate::watch_list::Folder;
+use crate::watch_list::{Folder, contents_at};
 use byte_formats::{put_framed, put_number};
 use cache_dir::digest_of;
 use disk_files::{Found, State, found_at, is_nothing, read_whole};
@@ -23,7 +23,7 @@ pub struct Watching<'d, 'a> {
     folders: HashMap<String, Option<Folder>>,
     /// What lies under the paths that were looked at.
     looked_at: HashMap<String, Found>,
-    /// Files that must be as they are, with the digest of their contents, and folders, with an empty one.
+    /// Files that must be as they are, with the digest of their contents, and folders, with that of the names in them.
     files: BTreeMap<String, (State, String)>,
     /// The paths of the files that the text names.
     named: HashSet<String>,
@@ -99,7 +99,7 @@ impl<'d, 'a> Watching<'d, 'a> {
             Ok(metadata) if metadata.is_dir() => Some(Folder {
                 state: State::of(&metadata),
                 names: Vec::new(rt.alloc()),
-                is_left_out: false,
+                twin: String::new(rt.alloc()),
             }),
             Ok(_) => None,
             Err(error) if is_nothing(&error) && found_at(rt, path) == Some(Found::Nothing) => None,
@@ -238,17 +238,64 @@ impl<'d, 'a> Watching<'d, 'a> {
         Ok(is_there)
     }
 
-    /// Has a folder watched that the compiler leaves out, or that there is none.
+    /// The path of the folder among these that is the same as one in that state, if one of them is.
+    fn same_in<R: Files + AllocGlobal>(
+        &self,
+        rt: &R,
+        folders: &[&str],
+        state: State,
+    ) -> Result<Option<String>, Unwatched> {
+        for folder in folders {
+            let path = path_in(rt.alloc(), self.dir, folder.as_bytes(), b"")?;
+            let path = path.trim_end_matches('/');
+            match self.folders.get(path) {
+                Some(Some(found)) if found.state.is_same(state) => {
+                    return Ok(Some(String::from_str(rt.alloc(), path)?));
+                }
+                _ => {}
+            }
+        }
+        Ok(None)
+    }
+
+    /// The path of the folder in which the compiler looks that is the same as one in that state.
+    fn twin_of<R: Files + AllocGlobal>(
+        &self,
+        rt: &R,
+        list: &SearchList<'_>,
+        state: State,
+    ) -> Result<String, Unwatched> {
+        if let Some(twin) = self.same_in(rt, list.bracketed.as_slice(), state)? {
+            return Ok(twin);
+        }
+        match self.same_in(rt, list.quoted.as_slice(), state)? {
+            Some(twin) => Ok(twin),
+            None => Err(Unwatched::List),
+        }
+    }
+
+    /// Has a folder watched that the compiler leaves out: that there is none, or that it is the same as one in which the compiler looks.
     fn take_left_out<R: Files + AllocGlobal>(
         &mut self,
         rt: &R,
+        list: &SearchList<'_>,
         folder: &str,
     ) -> Result<(), Unwatched> {
         let path = path_in(rt.alloc(), self.dir, folder.as_bytes(), b"")?;
         let path = path.trim_end_matches('/');
-        self.take_folder(rt, path)?;
+        if !self.take_folder(rt, path)? {
+            return Ok(());
+        }
+        let state = match self.folders.get(path) {
+            Some(Some(found)) => found.state,
+            _ => return Err(Unwatched::List),
+        };
+        let twin = self.twin_of(rt, list, state)?;
+        if twin.as_str() == path {
+            return Ok(());
+        }
         if let Some(Some(folder)) = self.folders.get_mut(path) {
-            folder.is_left_out = true;
+            folder.twin = twin;
         }
         Ok(())
     }
@@ -277,7 +324,7 @@ impl<'d, 'a> Watching<'d, 'a> {
         self.take_searched(rt, list.quoted.as_slice())?;
         self.take_searched(rt, list.bracketed.as_slice())?;
         for folder in list.left_out.as_slice() {
-            self.take_left_out(rt, folder)?;
+            self.take_left_out(rt, list, folder)?;
         }
         self.take_installations(rt, list)
     }
@@ -291,7 +338,7 @@ impl<'d, 'a> Watching<'d, 'a> {
         for installation in list.installations.as_slice() {
             for folder in [above(installation), above(above(installation))] {
                 let state = State::at(rt, folder)?;
-                let digest = String::new(rt.alloc());
+                let digest = contents_at(rt, folder)?;
                 self.files
                     .insert(String::from_str(rt.alloc(), folder)?, (state, digest))?;
             }

@@ -45,6 +45,9 @@ pub const PROBE: &[u8] = b"__has_include";
 /// The bytes that the spellings of `#` begin with.
 pub(crate) const MARKS: [u8; 3] = [b'#', b'%', b'?'];
 
+/// Other spellings of `#`, and what one may begin with whose line goes on.
+const OTHER_MARKS: [&[u8]; 3] = [b"%:", b"%\\", b"??="];
+
 /// A probe for what may be embedded.
 const EMBED_PROBE: &[u8] = b"__has_embed";
 
@@ -346,14 +349,16 @@ impl<'a> Directives<'a> {
         let Some((front, found)) = source.split_at_checked(at) else {
             return Ok(true);
         };
-        match found {
-            [b'#', behind @ ..] if may_begin_directive(front) => {
-                self.take_directive(line_ahead(behind))
-            }
-            [b'%', b':' | b'\\', ..] | [b'?', b'?', b'=', ..] => Ok(!may_begin_directive(front)),
-            [b'?', b'?', b'/', ..] => Ok(false),
-            _ => Ok(true),
+        if let Some(behind) = found.strip_prefix(b"#") {
+            return match may_begin_directive(front) {
+                true => self.take_directive(line_ahead(behind)),
+                false => Ok(true),
+            };
         }
+        if OTHER_MARKS.iter().any(|mark| found.starts_with(mark)) {
+            return Ok(!may_begin_directive(front));
+        }
+        Ok(!found.starts_with(b"??/"))
     }
 
     /// Takes the directives of a source that begin with that mark. False where it can't be determined what one asks for.

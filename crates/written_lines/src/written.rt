@@ -64,10 +64,7 @@ fn falls_through(lines: &[u8]) -> bool {
 
 /// Whether a case or a label may begin in a line of a text, given without the spaces ahead of it: before one such a comment counts.
 fn may_be_label(line: &[u8]) -> bool {
-    match line {
-        [b'c', b'a', b's', b'e', ..] | [b'd', b'e', b'f', b'a', b'u', b'l', b't', ..] => true,
-        line => memchr(b':', line).is_some(),
-    }
+    line.starts_with(b"case") || line.starts_with(b"default") || memchr(b':', line).is_some()
 }
 
 /// The bytes after the first so many.
