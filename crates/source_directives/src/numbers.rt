@@ -19,7 +19,7 @@ fn may_number(source: &[u8], at: usize) -> bool {
     let Some((front, found)) = source.split_at_checked(at) else {
         return false;
     };
-    // A line goes on after a `%`, or is to go on there.
+    // Its line may go on after the first byte of a spelling.
     let goes_on = found.starts_with(b"%\\");
     let mut marks = SPELLINGS.iter();
     if goes_on || marks.any(|mark| found.strip_prefix(*mark).is_some_and(is_number)) {
