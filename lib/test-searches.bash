@@ -105,6 +105,21 @@ searches() {
     search_case "$cc: a file that goes" "mv one/value.h gone.h" "mv gone.h one/value.h" $cc -Ione -Itwo
     ln -s one turned
     search_case "$cc: a link that is turned" "ln -sfn two turned" "ln -sfn one turned" $cc -Iturned
+    # A header with a guard, and a link to it, which becomes a file of its own.
+    printf '#ifndef GUARD\n#define GUARD\n#endif\n' >one/guarded.h
+    ln -s ../one/guarded.h two/guarded.h
+    printf '#include "one/guarded.h"\n#include "two/guarded.h"\n#ifndef VALUE\n#define VALUE 1\n#endif\nint value = VALUE;\n' >it.c
+    settle
+    search_case "$cc: a link that becomes a file" "rm two/guarded.h; $new two/guarded.h" \
+        "rm two/guarded.h; ln -s ../one/guarded.h two/guarded.h" $cc
+    # A folder of headers of the system by a link: GCC has the shorter name of the folder that it leads to in its markers.
+    printf '#include <value.h>\nint value = VALUE;\n' >it.c
+    ln -s one a-link-that-has-a-name-of-more-bytes-than-the-folder-has
+    settle
+    search_case "$cc: a link to a folder of the system" "ln -sfn two a-link-that-has-a-name-of-more-bytes-than-the-folder-has" \
+        "ln -sfn one a-link-that-has-a-name-of-more-bytes-than-the-folder-has" \
+        $cc -isystem "$PWD/a-link-that-has-a-name-of-more-bytes-than-the-folder-has"
+    rm a-link-that-has-a-name-of-more-bytes-than-the-folder-has
     # A folder that the compiler leaves out as one that it has already: it becomes one of its own, in which the next header lies.
     printf '#define VALUE 3\n' >two/next.h
     ln -s two twin

@@ -16,12 +16,14 @@ const SAID: &str = "ignoring nonexistent directory \"c\"\nignoring duplicate dir
 /// Folders, a header in the second one, and a link to that.
 const TREE: [&str; 4] = ["folder a", "folder b", "write b/x.h one", "link d b"];
 
-/// A list of what is watched where `<x.h>` is asked for in that folder; what was changed before that moment is settled.
+/// A list of what is watched where `<x.h>` is asked for in that folder, of a text that names a file with these contents; what was changed
+/// before that moment is settled.
 fn list_in<R: Files + AllocGlobal>(
     rt: &R,
     folder: &str,
     before: FileTime,
     named: &str,
+    contents: &str,
 ) -> Result<Vec<u8>, Fail> {
     let alloc = rt.alloc();
     let Some(list) = SearchList::read(alloc, SAID.as_bytes())? else {
@@ -30,7 +32,7 @@ fn list_in<R: Files + AllocGlobal>(
     let mut watching = Watching::new(alloc, folder.as_bytes(), before);
     let name: &[u8] = b"x.h";
     let search = Search::Bracketed;
-    let taken = watching.take_named(alloc, named, b"one", false);
+    let taken = watching.take_named(alloc, named, contents.as_bytes(), false);
     let folders = watching.take_folders(rt, &list);
     let searched = watching.search(rt, &list, b"", Asked { name, search });
     let list = watching.into_list(alloc);
@@ -74,12 +76,21 @@ const NAMES: [(&str, bool); 15] = [
     ("write b/z.h new", true),
 ];
 
-/// Changes of a file that was found and that the text doesn't name, and whether it counts as the same.
+/// Changes of a file that was found and that the text doesn't name, beside one as long as it that the text names, and whether it counts as
+/// the same.
 const CONTENTS: [(&str, bool); 4] = [
     ("", true),
     ("write b/x.h another", false),
     ("write b/x.h one", true),
     ("remove b/x.h", false),
+];
+
+/// Changes of one that is as long as no file that the text names.
+const OTHERS: [(&str, bool); 4] = [
+    ("", true),
+    ("write b/x.h another", true),
+    ("remove b/x.h", false),
+    ("write b/x.h again", true),
 ];
 
 /// Changes of folders, and whether those that the compiler left out as equal ones are so still.
@@ -98,32 +109,44 @@ const TWINS: [(&str, bool); 12] = [
     ("write a/x.h earlier", false),
 ];
 
-/// What is watched: in a folder, with a moment in seconds before which changes are settled, where the text names this file; and changes.
+/// What is watched: in a folder, with a moment in seconds before which changes are settled, where the text names this file of these contents;
+/// and changes.
 struct Watch {
     folder: &'static str,
     before: i64,
     named: &'static str,
+    contents: &'static str,
     changes: &'static [(&'static str, bool)],
 }
 
 /// A text that names the header, whose changes don't count then, and those that name another file.
-const WATCHES: [Watch; 3] = [
+const WATCHES: [Watch; 4] = [
     Watch {
         folder: "gulmaat_tests_names",
         before: 0,
         named: "gulmaat_tests_names/b/x.h",
+        contents: "one",
         changes: &NAMES,
     },
     Watch {
         folder: "gulmaat_tests_files",
         before: i64::MAX,
         named: "gulmaat_tests_files/none.h",
+        contents: "one",
         changes: &CONTENTS,
+    },
+    Watch {
+        folder: "gulmaat_tests_others",
+        before: i64::MAX,
+        named: "gulmaat_tests_others/none.h",
+        contents: "longer",
+        changes: &OTHERS,
     },
     Watch {
         folder: "gulmaat_tests_twins",
         before: i64::MAX,
         named: "gulmaat_tests_twins/none.h",
+        contents: "one",
         changes: &TWINS,
     },
 ];
@@ -135,7 +158,7 @@ fn changes_are_watched(rt: HostRuntime) -> Result<(), Fail> {
         make_fresh(&rt, folder)?;
         change_all(&rt, folder, &TREE)?;
         let before = FileTime::from_seconds(watch.before);
-        let list = list_in(&rt, folder, before, watch.named)?;
+        let list = list_in(&rt, folder, before, watch.named, watch.contents)?;
         hold_as(&rt, folder, list.as_slice(), watch.changes)?;
         let found = list_holds(&rt, b"elsewhere", list.as_slice())?;
         holds(!found, "a call in another folder")?;

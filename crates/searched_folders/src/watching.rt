@@ -5,7 +5,7 @@ use crate::unwatched::Unwatched;
 use crate::watch_list::{Folder, contents_at};
 use byte_formats::{put_framed, put_number};
 use cache_dir::digest_of;
-use disk_files::{Found, State, found_at, is_nothing, read_whole};
+use disk_files::{Found, State, found_at, is_nothing, read_of_size};
 use os_files::{FileTime, join};
 use source_directives::{Asked, Search};
 use std::alloc::Global;
@@ -27,10 +27,10 @@ pub struct Watching<'d, 'a> {
     files: BTreeMap<String, (State, String)>,
     /// The paths of the files that the text names.
     named: HashSet<String>,
+    /// How long these are.
+    lengths: HashSet<usize>,
     /// The contents of those that are taken in once.
     once: HashSet<&'a [u8]>,
-    /// How long these are.
-    once_lengths: HashSet<usize>,
 }
 
 /// The path of a name in a folder, which may be one of the call's.
@@ -61,8 +61,8 @@ impl<'d, 'a> Watching<'d, 'a> {
             looked_at: HashMap::new(alloc),
             files: BTreeMap::new(alloc),
             named: HashSet::new(alloc),
+            lengths: HashSet::new(alloc),
             once: HashSet::new(alloc),
-            once_lengths: HashSet::new(alloc),
         }
     }
 
@@ -75,19 +75,16 @@ impl<'d, 'a> Watching<'d, 'a> {
         is_once: bool,
     ) -> Result<(), Unwatched> {
         let is_new = self.named.insert(String::from_str(alloc, path)?)?;
-        if !is_new || !is_once {
+        self.lengths.insert(contents.len())?;
+        if !is_new || !is_once || self.once.insert(contents)? {
             return Ok(());
         }
-        self.once_lengths.insert(contents.len())?;
-        match self.once.insert(contents)? {
-            true => Ok(()),
-            false => Err(Unwatched::Equal),
-        }
+        Err(Unwatched::Equal)
     }
 
-    /// Whether a file that is taken in once has these contents. Those of most files needn't be hashed to know that none has them.
-    fn has_once(&self, contents: &[u8]) -> bool {
-        self.once_lengths.contains(&contents.len()) && (&self.once).contains(&contents)
+    /// Whether a file that the text names has so many bytes.
+    fn has_length(&self, size: u64) -> bool {
+        usize::try_from(size).is_ok_and(|size| self.lengths.contains(&size))
     }
 
     /// Whether a folder of that path is there.
@@ -148,18 +145,22 @@ impl<'d, 'a> Watching<'d, 'a> {
         Ok(found)
     }
 
-    /// Takes a file that was found. One that the text doesn't name must be as it is from now on: the compiler skipped it, or asked only
-    /// whether it is there.
+    /// Takes a file that was found. One that the text doesn't name was only asked for, or in a line that isn't live; or it was skipped as
+    /// the same as one that the text names, or equal to it. So where it's as long as one of these, it must be as it is from now on.
     fn take_found<R: Files + AllocGlobal>(&mut self, rt: &R, path: &str) -> Result<(), Unwatched> {
         if self.named.contains(path) || self.files.contains_key(path) {
             return Ok(());
         }
-        let state = State::at(rt, path)?;
+        let found = fs::metadata(rt, path)?;
+        let state = State::of(&found);
         if !state.is_before(self.before) {
             return Err(Unwatched::Changed);
         }
-        let contents = read_whole(rt, path)?;
-        if self.has_once(contents.as_slice()) {
+        if !self.has_length(found.len()) {
+            return Ok(());
+        }
+        let contents = read_of_size(rt, path, found.len())?;
+        if (&self.once).contains(&contents.as_slice()) {
             return Err(Unwatched::Equal);
         }
         let digest = digest_of(rt.alloc(), contents.as_slice())?;
