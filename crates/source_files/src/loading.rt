@@ -226,19 +226,22 @@ fn load_regular<R: Files + AllocGlobal>(
     files: &mut SnapshotFiles,
     tokens: &mut Tokens,
 ) -> Result<bool, HostError> {
-    if embeds(contents) {
-        return Ok(false);
-    }
     let metadata = metadata_of(found, found.len());
     let is_settled = is_settled(&metadata, before);
     if tokens.has_whole(path) {
-        return Ok(is_settled || is_as_loaded(rt.alloc(), path, &metadata, contents, files));
+        let is_same = is_settled || is_as_loaded(rt.alloc(), path, &metadata, contents, files);
+        return Ok(is_same && !embeds(contents));
     }
     if !is_settled {
         return Ok(false);
     }
     let token = token_for(rt, path, found, contents, before, tokens)?;
-    take(path.clone()?, token, files)
+    let takes_in = match &token {
+        // A token has these words too.
+        OnDisk::File(held, _) => embeds(held),
+        OnDisk::NoFile | OnDisk::Unknown => false,
+    };
+    Ok(!takes_in && take(path.clone()?, token, files)?)
 }
 
 /// Loads a file that a text names. False where it can't be recorded.
