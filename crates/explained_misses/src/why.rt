@@ -17,6 +17,7 @@ use key_additions::difference;
 use known_options::dependencies_of;
 use os_files::{Files as CallFiles, Listed, OsBytes};
 use snapshot_files::SnapshotFiles;
+use source_files::opened_words;
 use std::alloc::Global;
 use std::rt::Files;
 use wrap_base::{Named, Reason, Request};
@@ -326,6 +327,15 @@ fn tell_command<R: Print + Files + AllocGlobal>(
 ) -> Result<(), HostError> {
     let dir = OsBytes::from_slice(rt.alloc(), dir.as_bytes())?;
     let words = words_in(rt.alloc(), words)?;
+    let words = match opened_words(rt, &dir, words.as_slice())? {
+        Some(opened) => opened,
+        None => words,
+    };
+    let mut all = words.as_slice().iter();
+    if let Some(word) = all.find(|word| word.as_bytes().starts_with(b"@")) {
+        println!(rt; "nothing is known: {word} isn't opened")?;
+        return Ok(());
+    }
     match dependencies_of(rt.alloc(), words.as_slice())? {
         Some(found) => tell_words(rt, kept, kind, &dir, found.others.as_slice()),
         None => tell_words(rt, kept, kind, &dir, words.as_slice()),
@@ -333,7 +343,7 @@ fn tell_command<R: Print + Files + AllocGlobal>(
 }
 
 /// Says in a line, of the last call in that folder with the outputs of this command that was compiled, what differed from the one before
-/// it. Response files aren't opened.
+/// it.
 pub fn why<R: Print + Files + AllocGlobal>(
     rt: &R,
     kept: &str,
@@ -341,10 +351,6 @@ pub fn why<R: Print + Files + AllocGlobal>(
     dir: &str,
     words: &[String],
 ) -> Result<(), HostError> {
-    if let Some(word) = words.iter().find(|word| word.as_str().starts_with("@")) {
-        println!(rt; "nothing is known: {word} isn't opened")?;
-        return Ok(());
-    }
     let Some(kind) = kind_of(rt, executable)? else {
         println!(rt; "pass: unknown compiler")?;
         return Ok(());

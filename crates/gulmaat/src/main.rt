@@ -20,6 +20,7 @@ use made_outputs::Audit;
 use rustc_id::is_named_rustc;
 use rustc_kept::why_of_rustc;
 use settings::read_settings;
+use source_files::opened_words;
 use std::env;
 use std::fmt::Display;
 use std::fs::File;
@@ -128,6 +129,19 @@ fn set_line<R: Eprint + Files + AllocGlobal>(rt: &R, line: &mut CommandLine) -> 
     }
 }
 
+/// Has the words of response files take the place of the words that name them. rustc reads such files in another way: its words stay.
+fn open_words<R: Files + AllocGlobal>(rt: &R, line: &mut CommandLine) -> Result<(), HostError> {
+    let words = line.words.as_slice();
+    let names_files = words.iter().any(|word| word.as_bytes().starts_with(b"@"));
+    if !names_files || is_named_rustc(line.executable.as_str()) {
+        return Ok(());
+    }
+    if let Some(opened) = opened_words(rt, &line.dir, words)? {
+        line.words = opened;
+    }
+    Ok(())
+}
+
 /// Says what comparing a hit with what the compiler makes showed.
 fn tell_audit<R: Eprint>(rt: &R, audit: &Audit) {
     let _ = match audit {
@@ -164,7 +178,7 @@ where
     let Ok(mut line) = line_from(rt, &mut host) else {
         return ExitCode::from(PASS);
     };
-    if !set_line(rt, &mut line) {
+    if !set_line(rt, &mut line) || open_words(rt, &mut line).is_err() {
         return ExitCode::from(PASS);
     }
     let end = decide(rt, &line, &mut host);

@@ -7,6 +7,7 @@ mod loading;
 mod mounts;
 mod outputs;
 mod precompiled;
+mod response_words;
 mod tokens;
 
 pub use lists::{digest_of_list, names_files_of};
@@ -14,4 +15,5 @@ pub use loading::{load, load_all, load_named, settled_before};
 pub use mounts::devices_in;
 pub use outputs::{have_plain_places, print_again, regular, write_dependencies, write_outputs};
 pub use precompiled::has_precompiled;
+pub use response_words::opened_words;
 pub use tokens::{Tokens, token_of};
