@@ -23,6 +23,7 @@ use std::alloc::Global;
 use std::io::Read;
 use std::rt::Files;
 use wrap_base::store_key::{Shape, StoreKey};
+use written_lines::NamedFile;
 
 /// The word by which a compiler of that kind takes a source of the language of what is compiled under this key.
 fn language_of(kind: CCompilerKind, key: &StoreKey) -> Option<&'static str> {
@@ -32,6 +33,20 @@ fn language_of(kind: CCompilerKind, key: &StoreKey) -> Option<&'static str> {
     match kind {
         CCompilerKind::Clang => language_to_clang_arg(shape.language),
         _ => language_to_gcc_arg(shape.language),
+    }
+}
+
+/// A file that a text names as a source, if it is a regular one that was read.
+fn source_of(file: &NamedFile) -> Result<Option<Source<'_>>, Unwatched> {
+    let Ok(path) = str::from_utf8(file.path.as_bytes()) else {
+        return Err(Unwatched::Path);
+    };
+    match file.contents() {
+        Some(contents) => {
+            let contents = contents.as_bytes();
+            Ok(Some(Source { path, contents }))
+        }
+        None => Ok(None),
     }
 }
 
@@ -199,34 +214,39 @@ impl Known {
         Ok(false)
     }
 
-    /// The regular files that the text names, of which the first is the input; where entered ones are given, only these of the others.
-    fn sources(
-        &self,
-        alloc: Global,
-        entered: Option<&EnteredNames<'_>>,
-    ) -> Result<Vec<Source<'_>>, Unwatched> {
+    /// The regular files that the text names, of which the first is the input.
+    fn sources(&self, alloc: Global) -> Result<Vec<Source<'_>>, Unwatched> {
         if !self.named.are_all {
             return Err(Unwatched::Computed);
         }
         let mut sources = Vec::new(alloc);
         for file in self.named.files.iter() {
-            let Ok(path) = str::from_utf8(file.path.as_bytes()) else {
-                return Err(Unwatched::Path);
-            };
-            let counts = match entered {
-                Some(names) => sources.is_empty() || names.may_have(file.name.as_bytes()),
-                None => true,
-            };
-            if let (true, Some(contents)) = (counts, file.contents()) {
-                let contents = contents.as_bytes();
-                sources.push(Source { path, contents })?;
+            if let Some(source) = source_of(file)? {
+                sources.push(source)?;
             }
         }
         Ok(sources)
     }
 
-    /// What to watch of the text, by what the compiler says of where it looks. A file that only a `#line` directive names takes in nothing, so
-    /// where what a source asks for isn't clear, such files don't count.
+    /// Those of them that the text takes in, or may take in: a file that only a `#line` directive names isn't read.
+    fn entered_sources(&self, alloc: Global, text: &[u8]) -> Result<Vec<Source<'_>>, Unwatched> {
+        let names = EnteredNames::of(alloc, text)?;
+        let mut sources = Vec::new(alloc);
+        let mut is_input = true;
+        for file in self.named.files.iter() {
+            if !is_input && !names.may_have(file.name.as_bytes()) {
+                continue;
+            }
+            is_input = false;
+            if let Some(source) = source_of(file)? {
+                sources.push(source)?;
+            }
+        }
+        Ok(sources)
+    }
+
+    /// What to watch of the text, by what the compiler says of where it looks. Where it isn't clear what a source asks for, files that the
+    /// text doesn't take in don't count.
     fn list_by<R: Files + AllocGlobal>(
         &self,
         rt: &R,
@@ -234,14 +254,14 @@ impl Known {
         said: &[u8],
         before: FileTime,
     ) -> Result<Vec<u8>, Unwatched> {
-        let sources = self.sources(rt.alloc(), None)?;
+        let sources = self.sources(rt.alloc())?;
         let list = list_of(rt, line, sources.as_slice(), said, before);
-        let (Err(Unwatched::Computed | Unwatched::Pasted), Some(text)) = (&list, &self.tool.text)
-        else {
-            return list;
+        let is_unclear = matches!(&list, Err(Unwatched::Computed | Unwatched::Pasted));
+        let text = match &self.tool.text {
+            Some(recorded) if is_unclear => recorded.printed.text.as_bytes(),
+            _ => return list,
         };
-        let names = EnteredNames::of(rt.alloc(), text.printed.text.as_bytes())?;
-        let entered = self.sources(rt.alloc(), Some(&names))?;
+        let entered = self.entered_sources(rt.alloc(), text)?;
         match entered.len() == sources.len() {
             true => list,
             false => list_of(rt, line, entered.as_slice(), said, before),
