@@ -2,3 +2,4 @@ pub mod RepeatedReads
 pub mod FramedParts
 pub mod Texts
 pub mod Fronts
+pub mod PartsInRow

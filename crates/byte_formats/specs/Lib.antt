@@ -2,3 +2,4 @@ pub mod Spelling
 pub mod Reading
 pub mod Formats
 pub mod FieldFormats
+pub mod Choices

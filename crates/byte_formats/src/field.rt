@@ -5,9 +5,10 @@ ghost use Rattle.std.specs.Io.{StartsWith};
 ghost use Rattle.std.specs.List.{flat_map, AllByRecursion};
 ghost use Rattle.os_files.specs.Bytes.{Bytes};
 ghost use Rattle.byte_formats.specs.Formats.{IsFormat};
-ghost use Rattle.byte_formats.specs.Reading.{Gives, Read, counted_at, framed_at, number_at, optional_at, signed_at, times_at};
-ghost use Rattle.byte_formats.specs.Spelling.{CountFits, FitsFrame, FitsNumber, FitsWord, IfFits, counted, framed, number, optional, signed};
-ghost use Rattle.byte_formats.specs.FieldFormats.{counted_format, framed_format, number_format, optional_format, signed_format};
+ghost use Rattle.byte_formats.specs.Reading.{Gives, Read, both_at, counted_at, framed_at, number_at, optional_at, signed_at, times_at};
+ghost use Rattle.byte_formats.specs.Spelling.{BothFit, CountFits, FitsFrame, FitsNumber, FitsWord, IfFits, both, counted, framed, number, optional, signed};
+ghost use Rattle.byte_formats.specs.Choices.{AnyFits, coded, coded_at, flag_code, flag_format, flag_of};
+ghost use Rattle.byte_formats.specs.FieldFormats.{both_format, counted_format, framed_format, number_format, optional_format, signed_format};
 
 use crate::fault::ReadFault;
 use crate::fields::{put_framed, put_number, put_signed, read_framed, read_number, read_signed};
@@ -55,6 +56,56 @@ impl Field for u64 {
 
     fn put(&self, out: &mut Vec<u8>) -> Result<(), AllocError> {
         put_number(out, *self)
+    }
+}
+
+/// A length, as a number.
+impl Field for usize {
+    ghost reads = { number_at };
+
+    ghost spells = { number };
+
+    ghost fits = { FitsNumber };
+
+    ghost is_format = { number_format };
+
+    fn read(_alloc: Global, bytes: &[u8]) -> Result<(usize, &[u8]), ReadFault> {
+        let (number, rest) = read_number(bytes)?;
+        match usize::try_from(number) {
+            Ok(length) => Ok((length, rest)),
+            Err(_) => Err(ReadFault::Unfit),
+        }
+    }
+
+    fn put(&self, out: &mut Vec<u8>) -> Result<(), AllocError> {
+        put_number(out, *self as u64)
+    }
+}
+
+/// A flag by the byte 0 or 1.
+impl Field for bool {
+    ghost reads = { coded_at flag_of };
+
+    ghost spells = { coded flag_code };
+
+    ghost fits = { AnyFits };
+
+    ghost is_format = { flag_format };
+
+    #[tactic(auto, unfolding(crate::specs::Choices::coded_at))]
+    fn read(_alloc: Global, bytes: &[u8]) -> Result<(bool, &[u8]), ReadFault> {
+        let Some((byte, rest)) = bytes.split_first() else {
+            return Err(ReadFault::Unfit);
+        };
+        match byte {
+            0 => Ok((false, rest)),
+            1 => Ok((true, rest)),
+            _ => Err(ReadFault::Unfit),
+        }
+    }
+
+    fn put(&self, out: &mut Vec<u8>) -> Result<(), AllocError> {
+        Ok(out.push(u8::from(*self))?)
     }
 }
 
@@ -159,6 +210,29 @@ pub fn put_all<T: Field>(out: &mut Vec<u8>, values: &[T]) -> Result<(), AllocErr
         value.put(out)?;
     }
     Ok(())
+}
+
+/// One value, and then the other.
+impl<A: Field, B: Field> Field for (A, B) {
+    ghost reads = { both_at A.reads B.reads };
+
+    ghost spells = { both A.spells B.spells };
+
+    ghost fits = { BothFit A.fits B.fits };
+
+    ghost is_format = { both_format A.reads B.reads A.spells B.spells A.fits B.fits A.is_format B.is_format };
+
+    #[tactic(auto, unfolding(crate::specs::Reading::both_at))]
+    fn read(alloc: Global, bytes: &[u8]) -> Result<((A, B), &[u8]), ReadFault> {
+        let (one, rest) = A::read(alloc, bytes)?;
+        let (other, rest) = B::read(alloc, rest)?;
+        Ok(((one, other), rest))
+    }
+
+    fn put(&self, out: &mut Vec<u8>) -> Result<(), AllocError> {
+        self.0.put(out)?;
+        self.1.put(out)
+    }
 }
 
 /// The values in a row after their count.

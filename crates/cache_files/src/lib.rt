@@ -2,6 +2,7 @@
 //! of compiled calls were made, with their texts in short. A broken file is as one that isn't there.
 #![tactic(auto)]
 
+mod copies;
 mod manifest_files;
 pub mod manifests;
 mod part_files;

@@ -1,2 +1,1 @@
-mod PartsInRow
 mod Sealing

@@ -1,4 +1,3 @@
-pub mod Codes
 pub mod Sealed
 pub mod Layout
 pub mod ResultFormats

@@ -2,7 +2,6 @@
 
 ghost use Rattle.cache_format.specs.KeptCrates.{CrateFits, crate_at, crate_bytes, crate_format};
 
-use crate::kept_result::KeptOutput;
 use byte_formats::{Field, ReadFault};
 use os_files::{Listed, OsBytes};
 use std::alloc::{AllocError, Global};
@@ -18,8 +17,8 @@ pub struct KeptCrate {
     pub width: OsBytes,
     /// What was printed on standard error.
     pub errors: OsBytes,
-    /// The outputs that were made.
-    pub outputs: Listed<KeptOutput>,
+    /// The outputs that were made, each by its name and its contents.
+    pub outputs: Listed<(OsBytes, OsBytes)>,
 }
 
 /// The digest of the key, the folder, the width, the messages and the outputs.
@@ -38,7 +37,7 @@ impl Field for KeptCrate {
         let (folder, rest) = OsBytes::read(alloc, rest)?;
         let (width, rest) = OsBytes::read(alloc, rest)?;
         let (errors, rest) = OsBytes::read(alloc, rest)?;
-        let (outputs, rest) = Listed::<KeptOutput>::read(alloc, rest)?;
+        let (outputs, rest) = Listed::<(OsBytes, OsBytes)>::read(alloc, rest)?;
         let kept = KeptCrate {
             key,
             folder,

@@ -1,32 +1,8 @@
 //! Entries: a key with all of its fields, and what was made under it.
 
-use cmdlines_tables::language::Language;
+use ckeys_records::output_name::OutputName;
+use ckeys_records::shape::CShape;
 use os_files::{Listed, OsBytes};
-
-/// The name of an output that was asked for, and whether a compile may leave it out.
-#[derive(Drop)]
-pub struct KeptName {
-    pub name: OsBytes,
-    pub optional: bool,
-}
-
-/// What the hashed bytes of a request don't determine.
-#[derive(Drop)]
-pub struct KeptShape {
-    pub language: Language,
-    pub compiler_digest: u64,
-    pub words: u64,
-    pub extra_hashes: Listed<u64>,
-    pub assembler_digest: Option<u64>,
-    pub variables: u64,
-}
-
-/// An output that was made: its name and contents.
-#[derive(Drop)]
-pub struct KeptOutput {
-    pub name: OsBytes,
-    pub contents: OsBytes,
-}
 
 /// What was printed and written beside outputs, byte for byte.
 #[derive(Drop)]
@@ -46,11 +22,11 @@ pub struct KeptMessages {
 /// What a compile of a C compiler made, under its whole key.
 #[derive(Drop)]
 pub struct KeptResult {
-    pub shape: KeptShape,
+    pub shape: CShape,
     /// The outputs that were asked for.
-    pub names: Listed<KeptName>,
+    pub names: Listed<OutputName>,
     pub digest: OsBytes,
-    /// The outputs that were made.
-    pub outputs: Listed<KeptOutput>,
+    /// The outputs that were made, each by its name and its contents.
+    pub outputs: Listed<(OsBytes, OsBytes)>,
     pub messages: KeptMessages,
 }

@@ -1,101 +1,14 @@
 //! The bytes of an entry's fields.
 
-ghost use Rattle.std.specs.Prelude.{◌≡◌};
-ghost use Rattle.byte_formats.specs.Reading.{Gives};
-ghost use Rattle.cache_format.specs.ResultFormats.{contents_format, messages_format, name_format, output_format, shape_format};
-ghost use Rattle.cache_format.specs.Layout.{EntryFits, MessagesFit, NameFits, OutputFits, ShapeFits, contents_at, contents_bytes, messages_at, messages_bytes, name_at, name_bytes, output_at, output_bytes, shape_at, shape_bytes};
+ghost use Rattle.cache_format.specs.ResultFormats.{contents_format, messages_format};
+ghost use Rattle.cache_format.specs.Layout.{EntryFits, MessagesFit, contents_at, contents_bytes, messages_at, messages_bytes};
 
-use crate::codes::{flag_code, language_code, read_flag, read_language};
-use crate::kept_result::{KeptMessages, KeptName, KeptOutput, KeptResult, KeptShape};
+use crate::kept_result::{KeptMessages, KeptResult};
 use byte_formats::{Field, ReadFault};
+use ckeys_records::output_name::OutputName;
+use ckeys_records::shape::CShape;
 use os_files::{Listed, OsBytes};
 use std::alloc::{AllocError, Global};
-
-/// Name and mark.
-impl Field for KeptName {
-    ghost reads = { name_at };
-
-    ghost spells = { name_bytes };
-
-    ghost fits = { NameFits };
-
-    ghost is_format = { name_format };
-
-    #[tactic(auto, unfolding(crate::specs::Layout::name_at, byte_formats::specs::Reading::both_at, byte_formats::specs::Reading::made_at))]
-    fn read(alloc: Global, bytes: &[u8]) -> Result<(KeptName, &[u8]), ReadFault> {
-        let (name, rest) = OsBytes::read(alloc, bytes)?;
-        let (optional, rest) = read_flag(rest)?;
-        Ok((KeptName { name, optional }, rest))
-    }
-
-    fn put(&self, out: &mut Vec<u8>) -> Result<(), AllocError> {
-        self.name.put(out)?;
-        Ok(out.push(flag_code(self.optional))?)
-    }
-}
-
-/// Name and contents.
-impl Field for KeptOutput {
-    ghost reads = { output_at };
-
-    ghost spells = { output_bytes };
-
-    ghost fits = { OutputFits };
-
-    ghost is_format = { output_format };
-
-    #[tactic(auto, unfolding(crate::specs::Layout::output_at, byte_formats::specs::Reading::both_at, byte_formats::specs::Reading::made_at))]
-    fn read(alloc: Global, bytes: &[u8]) -> Result<(KeptOutput, &[u8]), ReadFault> {
-        let (name, rest) = OsBytes::read(alloc, bytes)?;
-        let (contents, rest) = OsBytes::read(alloc, rest)?;
-        Ok((KeptOutput { name, contents }, rest))
-    }
-
-    fn put(&self, out: &mut Vec<u8>) -> Result<(), AllocError> {
-        self.name.put(out)?;
-        self.contents.put(out)
-    }
-}
-
-/// The language by its byte, the digest's length, the words, the digests of extra files, the assembler's, and the variables.
-impl Field for KeptShape {
-    ghost reads = { shape_at };
-
-    ghost spells = { shape_bytes };
-
-    ghost fits = { ShapeFits };
-
-    ghost is_format = { shape_format };
-
-    #[tactic(auto, unfolding(crate::specs::Layout::shape_at, byte_formats::specs::Reading::both_at, byte_formats::specs::Reading::made_at))]
-    fn read(alloc: Global, bytes: &[u8]) -> Result<(KeptShape, &[u8]), ReadFault> {
-        let (language, rest) = read_language(bytes)?;
-        let (compiler_digest, rest) = u64::read(alloc, rest)?;
-        let (words, rest) = u64::read(alloc, rest)?;
-        let (extra_hashes, rest) = Listed::<u64>::read(alloc, rest)?;
-        let (assembler_digest, rest) = Option::<u64>::read(alloc, rest)?;
-        let (variables, rest) = u64::read(alloc, rest)?;
-        let shape = KeptShape {
-            language,
-            compiler_digest,
-            words,
-            extra_hashes,
-            assembler_digest,
-            variables,
-        };
-        Ok((shape, rest))
-    }
-
-    fn put(&self, out: &mut Vec<u8>) -> Result<(), AllocError> {
-        out.push(language_code(self.language))?;
-        self.compiler_digest.put(out)?;
-        self.words.put(out)?;
-        self.extra_hashes.put(out)?;
-        self.assembler_digest.put(out)?;
-        self.variables.put(out)?;
-        Ok(())
-    }
-}
 
 /// The preprocessor's messages, what the compile printed on its standard output and its standard error, its dependency file, and the digest
 /// of the sources.
@@ -147,10 +60,10 @@ impl Field for KeptResult {
 
     #[tactic(auto, unfolding(crate::specs::Layout::contents_at, byte_formats::specs::Reading::both_at, byte_formats::specs::Reading::made_at))]
     fn read(alloc: Global, bytes: &[u8]) -> Result<(KeptResult, &[u8]), ReadFault> {
-        let (shape, rest) = KeptShape::read(alloc, bytes)?;
-        let (names, rest) = Listed::<KeptName>::read(alloc, rest)?;
+        let (shape, rest) = CShape::read(alloc, bytes)?;
+        let (names, rest) = Listed::<OutputName>::read(alloc, rest)?;
         let (digest, rest) = OsBytes::read(alloc, rest)?;
-        let (outputs, rest) = Listed::<KeptOutput>::read(alloc, rest)?;
+        let (outputs, rest) = Listed::<(OsBytes, OsBytes)>::read(alloc, rest)?;
         let (messages, rest) = KeptMessages::read(alloc, rest)?;
         let entry = KeptResult {
             shape,

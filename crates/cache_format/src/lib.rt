@@ -2,7 +2,6 @@
 //! its bytes, so that what is read is what was written.
 #![tactic(auto)]
 
-mod codes;
 mod kept_crate;
 mod kept_manifest;
 mod kept_parts;
@@ -12,6 +11,6 @@ mod sealed;
 
 pub use kept_crate::KeptCrate;
 pub use kept_manifest::KeptManifest;
-pub use kept_parts::{KeptParts, KeptVariable};
-pub use kept_result::{KeptMessages, KeptName, KeptOutput, KeptResult, KeptShape};
+pub use kept_parts::KeptParts;
+pub use kept_result::{KeptMessages, KeptResult};
 pub use sealed::{Sealed, seal, unseal};

@@ -7,3 +7,4 @@ pub mod Causes
 pub mod Faults
 pub mod Folders
 pub mod Views
+pub mod Formats

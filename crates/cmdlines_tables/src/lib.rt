@@ -7,6 +7,7 @@ mod cutting;
 mod embedded_tables;
 pub mod kind;
 pub mod language;
+mod language_byte;
 mod laws;
 mod msvc_table;
 mod tables;

@@ -97,9 +97,9 @@ fn difference_in_bytes(
 fn difference_from(
     alloc: Global,
     one: &Fingerprint,
-    kept: &KeptParts,
+    kept: KeptParts,
 ) -> Result<OsBytes, HostError> {
-    let earlier = Fingerprint::C(parts_of(alloc, kept)?);
+    let earlier = Fingerprint::C(parts_of(kept));
     let difference = difference_in_bytes(alloc, one, &earlier);
     drop(earlier);
     difference
@@ -113,7 +113,7 @@ fn difference_there<R: Files + AllocGlobal>(
     one: &Fingerprint,
 ) -> Result<OsBytes, HostError> {
     match parts_under(rt, folder, name)? {
-        Some(kept) => difference_from(rt.alloc(), one, &kept),
+        Some(kept) => difference_from(rt.alloc(), one, kept),
         None => Ok(OsBytes::empty(rt.alloc())),
     }
 }

@@ -65,7 +65,7 @@ pub fn found<R: Files + AllocGlobal>(
         drop(entry);
         return Ok(None);
     }
-    Ok(Some(kept_of(rt.alloc(), entry)?))
+    Ok(Some(kept_of(entry)))
 }
 
 /// What this command line had last. A hint that is none is a miss.

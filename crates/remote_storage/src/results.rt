@@ -102,7 +102,7 @@ fn take_kept<I>(
         return Ok(None);
     }
     host.tally.hits = host.tally.hits.saturating_add(1);
-    Ok(Some(kept_of(alloc, entry)?))
+    Ok(Some(kept_of(entry)))
 }
 
 /// Takes what came under a key. What isn't sealed, or is of another key, is as if the server had failed.

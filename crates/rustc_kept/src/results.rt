@@ -4,7 +4,7 @@ use crate::messages::{are_notices, moved};
 use blake2::Blake2b256;
 use byte_formats::{put_framed, put_number};
 use cache_dir::{Kind, digest_of, takes};
-use cache_format::{KeptCrate, KeptOutput, seal, unseal};
+use cache_format::{KeptCrate, seal, unseal};
 use host_protocol::{CommandLine, HostError, text_in};
 use os_files::{Listed, OsBytes};
 use rustc_parts::parts::RShape;
@@ -68,16 +68,6 @@ fn digest_of_key(alloc: Global, key: &StoreKey) -> Result<String, HostError> {
     Ok(digest_of(alloc, row.as_slice())?)
 }
 
-/// The outputs that were kept, as a session has them.
-fn pairs_of(alloc: Global, outputs: Listed<KeptOutput>) -> Result<Pairs, AllocError> {
-    let mut pairs = Listed::new(alloc);
-    for output in outputs.into_vec() {
-        let KeptOutput { name, contents } = output;
-        pairs.push((name, contents))?;
-    }
-    Ok(pairs)
-}
-
 /// What lies under a key.
 fn kept_under<R: Files + AllocGlobal>(
     rt: &R,
@@ -106,24 +96,13 @@ fn errors_of(
     Ok(moved(alloc, kept.errors.as_bytes(), folder, wishes.folder)?)
 }
 
-/// The outputs under their key.
-fn pair_of(
-    alloc: Global,
-    key: &StoreKey,
-    outputs: Listed<KeptOutput>,
-) -> Result<(StoreKey, Pairs), AllocError> {
-    let pairs = pairs_of(alloc, outputs)?;
-    Ok((key.clone()?, pairs))
-}
-
 /// The outputs under their key, with these messages.
 fn found_with(
-    alloc: Global,
     key: &StoreKey,
-    outputs: Listed<KeptOutput>,
+    outputs: Pairs,
     errors: Vec<u8>,
 ) -> Result<Option<FoundCrate>, HostError> {
-    let pair = pair_of(alloc, key, outputs)?;
+    let pair = (key.clone()?, outputs);
     Ok(Some(FoundCrate { pair, errors }))
 }
 
@@ -141,19 +120,18 @@ pub fn found<R: Files + AllocGlobal>(
         return Ok(None);
     };
     match errors_of(rt.alloc(), &kept, key, wishes) {
-        Ok(Some(errors)) => found_with(rt.alloc(), key, kept.outputs, errors),
+        Ok(Some(errors)) => found_with(key, kept.outputs, errors),
         Ok(None) => Ok(None),
         Err(stop) => Err(stop),
     }
 }
 
 /// Outputs as they are kept.
-fn kept_outputs(alloc: Global, outputs: &[Output]) -> Result<Listed<KeptOutput>, AllocError> {
+fn kept_outputs(alloc: Global, outputs: &[Output]) -> Result<Pairs, AllocError> {
     let mut kept = Listed::new(alloc);
     for output in outputs {
         let name = output.name.clone()?;
-        let contents = output.contents.clone()?;
-        kept.push(KeptOutput { name, contents })?;
+        kept.push((name, output.contents.clone()?))?;
     }
     Ok(kept)
 }
