@@ -4,11 +4,10 @@ ghost use Rattle.std.specs.Prelude.{◌≡◌, ◌⊎◌, ◌+◌, ◌-◌, ◌%
 ghost use Rattle.os_files.specs.Bytes.{ticked};
 ghost use Rattle.ckeys_records.specs.Meaning.{StepTicks};
 
-use ckeys_records::{Preprocessor, Printed, Step, Ticks, ToolFail};
+use ckeys_records::{Preprocessor, Printed, RustcAnswers, Step, Ticks, ToolFail};
 use cmdlines_base::{ArtifactDescriptor, SingleCompileCommand};
 use cmdlines_tables::CCompilerKind;
 use os_files::{Files, OsBytes};
-use rustkeys::RustcAnswers;
 use std::alloc::Global;
 use wrap_base::{Compiled, Tool};
 

@@ -9,8 +9,8 @@ ghost use Rattle.replay.specs.Recorded.{Wants, compiled_for, crate_of, digest_fo
 
 use crate::commands::{copies, have_names, is_of, made_again, one_word, paths_of, same_words};
 use crate::rustc_records::{RecordedAnswer, RecordedCrate, RecordedRustc};
+use ckeys_records::RustcAnswers;
 use ckeys_records::output_name::OutputName;
-use rustkeys::RustcAnswers;
 use std::alloc::Global;
 use wrap::{
     ArtifactDescriptor, CCompilerKind, Compiled, Files, Listed, OsBytes, Preprocessor, Printed,

@@ -12,8 +12,7 @@ ghost use Rattle.rustkeys.specs.Calls.{digest_fault_of};
 ghost use Rattle.rustkeys.specs.Questions.{digest_at, digested};
 ghost use Rattle.rustkeys.specs.Runs.{AtMostFor, ticked_for};
 
-use crate::answers::RustcAnswers;
-use ckeys_records::{Fault, Step, ToolFail};
+use ckeys_records::{Fault, RustcAnswers, Step, ToolFail};
 use os_files::{Files, Listed, OsBytes};
 use std::alloc::Global;
 

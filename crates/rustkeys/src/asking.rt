@@ -11,9 +11,8 @@ ghost use Rattle.ckeys_records.specs.Views.{AreSteady, ToolFails};
 ghost use Rattle.rustkeys.specs.Calls.{answer_fault_of, utf8_fault_of};
 ghost use Rattle.rustkeys.specs.Questions.{dep_info_of, file_names_of, question_of};
 
-use crate::answers::RustcAnswers;
 use crate::place::RustPlace;
-use ckeys_records::{Fault, Printed, Step, ToolFail};
+use ckeys_records::{Fault, Printed, RustcAnswers, Step, ToolFail};
 use cmdlines_requests::command_at;
 use os_files::{Files, OsBytes};
 use rustc_texts::{dep_info_words, file_names_words};

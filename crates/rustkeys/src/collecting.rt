@@ -15,13 +15,12 @@ ghost use Rattle.rustkeys.specs.Questions.{answers_of, dep_info_of, digested, qu
 ghost use Rattle.rustkeys.specs.Collected.{AreFilesOf, IsCollected, file_digests};
 ghost use Rattle.rustkeys.specs.Runs.{AtMostFor, AtMostTwice, ticked_for};
 
-use crate::answers::RustcAnswers;
 use crate::archives::archive_digests;
 use crate::digests::{needed_digests, needed_in, needed_where_named};
 use crate::ordered_lists::sources_in;
 use crate::place::RustPlace;
 use ckeys_base::HashState;
-use ckeys_records::Fault;
+use ckeys_records::{Fault, RustcAnswers};
 use os_files::{Files, Listed, OsBytes};
 use std::alloc::Global;
 

@@ -20,12 +20,11 @@ ghost use Rattle.rustkeys.specs.Questions.{compile_env_of, dep_info_of, question
 ghost use Rattle.rustkeys.specs.Records.{IsTold, key_of, parts_of, record_shape};
 ghost use Rattle.rustkeys.specs.Runs.{AtMostFor, AtMostTwice, ticked_for};
 
-use crate::answers::RustcAnswers;
 use crate::compilation::RustCompilation;
 use crate::finishing::keyed_compilation;
 use crate::place::{KnownRust, RustPlace};
 use ckeys_base::HashState;
-use ckeys_records::Fault;
+use ckeys_records::{Fault, RustcAnswers};
 use cmdlines_base::ColorMode;
 use cmdlines_tables::language::Language;
 use os_files::{Files, Lossy, OsBytes};

@@ -2,7 +2,6 @@
 //! names of the layers below that a caller of a key uses. Words and files are handed on by `cmdlines`, texts and faults by `ckeys`.
 #![tactic(auto)]
 
-mod answers;
 mod archives;
 mod asking;
 mod collecting;
@@ -14,7 +13,7 @@ mod laws;
 mod ordered_lists;
 mod place;
 
-pub use answers::RustcAnswers;
+pub use ckeys_records::RustcAnswers;
 pub use compilation::RustCompilation;
 pub use hasher::RustHasher;
 pub use laws::{dep_info_is_told_where_emitted, rustc_keys_tell_records};

@@ -12,11 +12,10 @@ use crate::crates::{compiled_crate, crate_text};
 use crate::scripting::{compiled, printed, text_of};
 use crate::statuses::Statuses;
 use crate::trees::Trees;
-use ckeys_records::{KeyConfig, Preprocessor, Printed, Step, Ticks, ToolFail};
+use ckeys_records::{KeyConfig, Preprocessor, Printed, RustcAnswers, Step, Ticks, ToolFail};
 use cmdlines_base::{ArtifactDescriptor, SingleCompileCommand};
 use cmdlines_tables::CCompilerKind;
 use os_files::{FileFail, Files, OsBytes};
-use rustkeys::RustcAnswers;
 use std::alloc::Global;
 use wrap_base::{Compiled, Tool};
 

@@ -10,7 +10,7 @@ pub use ckeys_base::{HashState, Store};
 pub use ckeys_records::output_name::OutputName;
 pub use ckeys_records::shape::CShape;
 pub use ckeys_records::{
-    ConfigError, Fault, KeyConfig, Preprocessor, Printed, Step, Ticks, ToolFail,
+    ConfigError, Fault, KeyConfig, Preprocessor, Printed, RustcAnswers, Step, Ticks, ToolFail,
 };
 pub use cmdlines::{Clang, Diab, Gcc, Msvc, TaskingVX};
 pub use cmdlines_base::{ArtifactDescriptor, SingleCompileCommand};
@@ -29,7 +29,6 @@ pub use laws::{
 pub use os_files::{FileFail, FileTime, Files, Listed, MemoryFile, MemoryFiles, Metadata, OsBytes};
 pub use rustc_compiler::{Rust, RustFault};
 pub use rustc_parts::parts::{EnvDep, Parts, RShape};
-pub use rustkeys::RustcAnswers;
 pub use session::Session;
 pub use time_macros::{Zone, ZoneError};
 pub use wrap_base::store_key::{Family, Pairs, Shape, StoreKey};

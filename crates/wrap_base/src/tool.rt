@@ -5,11 +5,10 @@ ghost use Rattle.os_files.specs.Bytes.{ticked};
 ghost use Rattle.ckeys_records.specs.Meaning.{scene_of, made_of, names_of};
 ghost use Rattle.wrap_base.specs.AskedBy.{asked_by};
 
-use ckeys_records::{Step, ToolFail};
+use ckeys_records::{RustcAnswers, Step, ToolFail};
 use cmdlines_base::{ArtifactDescriptor, SingleCompileCommand};
 use cmdlines_tables::CCompilerKind;
 use os_files::{Files, Listed, OsBytes};
-use rustkeys::RustcAnswers;
 use std::alloc::Global;
 
 /// What a compiler made, and its status.

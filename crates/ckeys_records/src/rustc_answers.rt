@@ -4,7 +4,8 @@ ghost use Rattle.std.specs.Prelude.{◌≡◌, ◌⊎◌, ℕ, ℤ, pos, [], ◌
 ghost use Rattle.os_files.specs.Bytes.{ticked};
 ghost use Rattle.ckeys_records.specs.Meaning.{Scene, archive, made_of, scene_of, words};
 
-use ckeys_records::{Preprocessor, Printed, Step, ToolFail};
+use crate::preprocessor::{Preprocessor, Printed, ToolFail};
+use crate::step::Step;
 use cmdlines_base::SingleCompileCommand;
 use os_files::{Files, OsBytes};
 use std::alloc::Global;
