@@ -1,4 +1,5 @@
 pub mod SameCalls
+pub mod Serving
 pub mod Sessions
 pub mod Example
 pub mod DirectExample

@@ -16,6 +16,7 @@ ghost use Rattle.wrap_keys.specs.StoreKeys.{Invariant, Premises};
 ghost use Rattle.wrap_keys.specs.Turn.{StoreTurn};
 ghost use Rattle.fingerprints.specs.Telling.{OnReason, Tells};
 ghost use Rattle.wrap_keys.specs.Whole.{AllAnswer, Each, IsAnswered, OneFresh, Run, SessionRun, accounts_at, served_at};
+ghost use Rattle.wrap.specs.Serving.{BeginTrue, IsTurn, KeepsHistory, account_of, call_of};
 ghost use Rattle.wrap.specs.Sessions.{held_by};
 
 use crate::laws::call_keys_tell_records;
@@ -144,106 +145,38 @@ impl<
         files: &mut F,
         tool: &mut T,
     ) -> Result<Answer, Fault>
-        // It is passed through exactly where the verdict says, unless memory was refused first; a fault has its cause.
-        ensures says { let a = account_at (T.meaning tool.old) (F.tree files.old) self.old.settings
-            request.now in
-            SaysBy GoesOn a (FilesFail F.Files files.old files.new)
-            (ToolFails T.Preprocessor tool.old tool.new) result }
+        // It is passed through exactly where the verdict says, unless memory was refused first; a fault has its cause; and what
+        // the files hold and what the compiler means are as they were.
+        ensures answered { IsAnswered self.old.settings F.Files T.Preprocessor
+            (call_of request.now files.old tool.old)
+            (call_of request.now files.new tool.new) result }
 
-        // Before a pass no file is asked for but those that the words ask for.
-        ensures passed { let a = account_at (T.meaning tool.old) (F.tree files.old)
-            self.old.settings request.now in
-            let asked = IsAskedEarly (named_by request.now.compiler) request.now (F.tree files.old) in
-            IfErr result (λ fault. OfPassed a (EarlyCause asked fault)) }
-
-        // A pass moves no tick.
-        ensures quiet { OnPass result
-            ((T.preprocessed tool.new ≡ T.preprocessed tool.old)
-            × (T.compiled tool.new ≡ T.compiled tool.old) × (T.failed tool.new ≡ T.failed tool.old)) }
-
-        // A request to rustc that isn't UTF-8 touches no file.
-        ensures untouched { is_rust_no_text (named_by request.now.compiler) request.now ≡ true
-            → files.new ≡ files.old }
-
-        // Under which key it asks the store of outputs, and what it does to that, whatever the records hold.
-        ensures asked { let a = account_at (T.meaning tool.old) (F.tree files.old) self.old.settings
-            request.now in
-            AskedTurn H.digest_of self.old.max_kept a
+        // Under which key it asks the store of outputs, what it does to both stores, and how often a compiler ran for it.
+        ensures turn { IsTurn self.old.settings F.Files T.Preprocessor H.digest_of self.old.max_kept
             (shelves_of (E.shelf self.old.entries) (O.shelf self.old.objects))
             (shelves_of (E.shelf self.new.entries) (O.shelf self.new.objects))
-            (T.preprocessed tool.old) (T.preprocessed tool.new) (T.compiled tool.old)
-            (T.compiled tool.new) result }
+            (call_of request.now files.old tool.old)
+            (call_of request.now files.new tool.new) result }
 
-        // What it does to the records, and to the preprocessor's tick.
-        ensures entries { let a = account_at (T.meaning tool.old) (F.tree files.old)
-            self.old.settings request.now in
-            EntriesTurn H.digest_of a (E.shelf self.old.entries) (E.shelf self.new.entries)
-            (T.preprocessed tool.old) (T.preprocessed tool.new) }
-
-        // Whatever list of earlier calls meets the invariant of the records, that list followed by this call meets it at the end.
-        ensures records { let a = account_at (T.meaning tool.old) (F.tree files.old)
-            self.old.settings request.now in
-            (earlier : List Account)
-            → EntryInvariant H.digest_of self.old.settings (direct_calls earlier)
-            (E.shelf self.old.entries).held
-            → EntryInvariant H.digest_of self.old.settings (direct_calls (earlier ++ a ∷ []))
-            (E.shelf self.new.entries).held }
-
-        // Then they are true of this call, where digests are distinct and texts are printed again; and so they are where none are kept.
-        ensures agree { let a = account_at (T.meaning tool.old) (F.tree files.old) self.old.settings
-            request.now in
-            (earlier : List Account)
-            → (self.old.settings.direct ≡ true
-            → EntryInvariant H.digest_of self.old.settings (direct_calls earlier)
-            (E.shelf self.old.entries).held
-            × EntryPremises H.digest_of (direct_calls (earlier ++ a ∷ [])))
-            → RecordsAreTrue H.digest_of a (E.shelf self.old.entries).held }
-
-        // Where they are, outputs mean that the call has no fault before the store is asked.
-        ensures goes_on { let a = account_at (T.meaning tool.old) (F.tree files.old)
-            self.old.settings request.now in
+        // Where the records are true of it, outputs mean that the call has no fault before the store is asked.
+        ensures goes_on { let a = account_of self.old.settings F.Files T.Preprocessor
+            (call_of request.now files.old tool.old) in
             RecordsAreTrue H.digest_of a (E.shelf self.old.entries).held
             → Says a (FilesFail F.Files files.old files.new)
             (ToolFails T.Preprocessor tool.old tool.new) result }
 
-        // Then, without out of memory and I/O errors, what is said before the compile is the account's alone.
-        ensures exact { let a = account_at (T.meaning tool.old) (F.tree files.old) self.old.settings
-            request.now in
-            RecordsAreTrue H.digest_of a (E.shelf self.old.entries).held
-            → (IsErrOf result Fault.Memory → ⊥) → F.failed files.new ≡ F.failed files.old
-            → T.failed tool.new ≡ T.failed tool.old → settled_by result ≡ settled a }
+        // Whatever calls were served before, the stores hold what is of those and of this one, and its outputs are fresh ones.
+        ensures history { let a = account_of self.old.settings F.Files T.Preprocessor
+            (call_of request.now files.old tool.old) in
+            KeepsHistory H.digest_of self.old.settings a
+            (shelves_of (E.shelf self.old.entries) (O.shelf self.old.objects))
+            (shelves_of (E.shelf self.new.entries) (O.shelf self.new.objects)) result }
 
-        // Then, what it does to the store of outputs under its own key, and what the answer says of the store and of the compiler's runs.
-        ensures store { let a = account_at (T.meaning tool.old) (F.tree files.old) self.old.settings
-            request.now in
-            RecordsAreTrue H.digest_of a (E.shelf self.old.entries).held
-            → StoreTurn H.digest_of self.old.max_kept a (O.shelf self.old.objects)
-            (O.shelf self.new.objects) (T.compiled tool.old) (T.compiled tool.new) result }
-
-        // Then, whatever list of earlier calls meets the invariant, that list followed by this call meets it at the end.
-        ensures invariant { let a = account_at (T.meaning tool.old) (F.tree files.old)
-            self.old.settings request.now in
-            RecordsAreTrue H.digest_of a (E.shelf self.old.entries).held → (earlier : List Account)
-            → Invariant H.digest_of earlier (O.shelf self.old.objects).held
-            → Invariant H.digest_of (earlier ++ a ∷ []) (O.shelf self.new.objects).held }
-
-        // Then, outputs are those that the compiler gives afresh.
-        ensures outputs { let a = account_at (T.meaning tool.old) (F.tree files.old)
-            self.old.settings request.now in
-            RecordsAreTrue H.digest_of a (E.shelf self.old.entries).held → (earlier : List Account)
-            → Invariant H.digest_of earlier (O.shelf self.old.objects).held
-            → Premises H.digest_of (earlier ++ a ∷ []) → Answers a result }
-
+        // A request to rustc that isn't UTF-8 touches no file.
+        ensures untouched { is_rust_no_text (named_by request.now.compiler) request.now ≡ true
+            → files.new ≡ files.old }
         ensures settings { (self.new.settings ≡ self.old.settings)
             × (self.new.max_kept ≡ self.old.max_kept) }
-        ensures meaning { T.meaning tool.new ≡ T.meaning tool.old }
-        ensures tree { F.tree files.new ≡ F.tree files.old }
-
-        // No I/O error occurred where there is an answer, nor where a fault reports none.
-        ensures steady { OnOk result
-            (AreSteady T.Preprocessor F.Files tool.old files.old tool.new files.new) }
-        ensures still { HasOwnFault result →
-            AreSteady T.Preprocessor F.Files tool.old files.old tool.new files.new }
     {
         call_keys_tell_records::<H>();
         records_are_true::<H>();
@@ -258,22 +191,20 @@ impl<
         ensures length { IfOk result (λ answers. length answers.items ≡ length calls.old) }
 
         // Each answer is one call's, in order, as `serve` says; and nothing else is done to the stores.
-        ensures run { IfOk result
-            (λ answers. SessionRun H.digest_of self.old.max_kept self.old.settings
+        ensures run { let served = served_at self.old.settings F.Files T.Preprocessor
+            calls.old calls.new in
+            IfOk result (λ answers. SessionRun H.digest_of self.old.max_kept self.old.settings
             (shelves_of (E.shelf self.old.entries) (O.shelf self.old.objects))
-            (served_at self.old.settings F.Files T.Preprocessor calls.old calls.new answers.items)
+            (served answers.items)
             (shelves_of (E.shelf self.new.entries) (O.shelf self.new.objects))) }
 
-        // Where no records are kept, or from an empty store of them where digests are distinct and texts are printed again, each call is one over the store of outputs alone, under its own key.
-        ensures own { (self.old.settings.direct ≡ true
-            → IsEmpty (E.shelf self.old.entries)
-            × EntryPremises H.digest_of
-            (direct_calls
-            (accounts_at self.old.settings F.Files T.Preprocessor calls.old)))
-            → IfOk result
-            (λ answers. Run H.digest_of self.old.max_kept (O.shelf self.old.objects)
-            (served_at self.old.settings F.Files T.Preprocessor calls.old calls.new answers.items)
-            (O.shelf self.new.objects)) }
+        // Where the records begin as true ones, each call is one over the store of outputs alone, under its own key.
+        ensures own { let served = served_at self.old.settings F.Files T.Preprocessor
+            calls.old calls.new in
+            BeginTrue self.old.settings F.Files T.Preprocessor H.digest_of
+            (E.shelf self.old.entries) calls.old
+            → IfOk result (λ answers. Run H.digest_of self.old.max_kept
+            (O.shelf self.old.objects) (served answers.items) (O.shelf self.new.objects)) }
 
         // Each is passed through exactly where the verdict says, and a fault has its cause, as `serve` says.
         ensures says { IfOk result
@@ -281,24 +212,21 @@ impl<
             calls.old calls.new answers.items) }
 
         // From empty stores all outputs are those that the compilers give afresh on each call's files.
-        ensures outputs { (self.old.settings.direct ≡ true → IsEmpty (E.shelf self.old.entries))
+        ensures outputs { let served = served_at self.old.settings F.Files T.Preprocessor
+            calls.old calls.new in
+            (self.old.settings.direct ≡ true → IsEmpty (E.shelf self.old.entries))
             → IsEmpty (O.shelf self.old.objects)
             → Premises H.digest_of
             (accounts_at self.old.settings F.Files T.Preprocessor calls.old)
-            → IfOk result
-            (λ answers. AllAnswer
-            (served_at self.old.settings F.Files T.Preprocessor calls.old calls.new answers.items)) }
+            → IfOk result (λ answers. AllAnswer (served answers.items)) }
 
         // With nothing forgotten or refused, equal records get at most one fresh answer, where their outputs are no larger than the limit.
-        ensures once { (self.old.settings.direct ≡ true
-            → IsEmpty (E.shelf self.old.entries)
-            × EntryPremises H.digest_of
-            (direct_calls
-            (accounts_at self.old.settings F.Files T.Preprocessor calls.old)))
+        ensures once { let served = served_at self.old.settings F.Files T.Preprocessor
+            calls.old calls.new in
+            BeginTrue self.old.settings F.Files T.Preprocessor H.digest_of
+            (E.shelf self.old.entries) calls.old
             → (O.shelf self.new.objects).kept ≡ true
-            → IfOk result
-            (λ answers. OneFresh self.old.max_kept
-            (served_at self.old.settings F.Files T.Preprocessor calls.old calls.new answers.items)) }
+            → IfOk result (λ answers. OneFresh self.old.max_kept (served answers.items)) }
 
         ensures settings { (self.new.settings ≡ self.old.settings)
             × (self.new.max_kept ≡ self.old.max_kept) }
