@@ -1,4 +1,4 @@
-//! Tests of what keys are built on, by example: digests, stripping, and the small calls.
+//! Tests of what keys are built on, by example: byte strings and paths, digests, stripping, stores and the small calls.
 #![tactic(auto)]
 
 #[cfg(test)]
@@ -6,20 +6,14 @@ mod blake2b;
 #[cfg(test)]
 mod digest;
 #[cfg(test)]
-mod duration;
-#[cfg(test)]
-mod hexadecimal;
-#[cfg(test)]
 mod many_pairs;
 #[cfg(test)]
-mod normalize;
+mod os_bytes;
 #[cfg(test)]
-mod os_str_ext;
-#[cfg(test)]
-mod path_bytes;
+mod path;
 #[cfg(test)]
 mod strip;
 #[cfg(test)]
-mod unescape;
+mod texts;
 #[cfg(test)]
 mod wrapper;

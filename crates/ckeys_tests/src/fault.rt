@@ -1,10 +1,10 @@
-//! Faults as they are printed.
+//! Faults and failures as they are printed.
 
-use ckeys_records::{Fault, Step};
-use os_files::OsBytes;
+use ckeys_records::{Fault, Step, ToolFail};
+use os_files::{FileFail, OsBytes};
 use std::alloc::{AllocError, Global};
 use std::test::Fail;
-use test_kit::is_that;
+use test_kit::prints;
 
 /// Faults that hold no word, and what is printed of each.
 const PLAIN: [(Fault, &str); 10] = [
@@ -20,29 +20,30 @@ const PLAIN: [(Fault, &str); 10] = [
     (Fault::AnswerNotUtf8(Step::FileNames), "answer file-names"),
 ];
 
-fn is_printed(alloc: Global, fault: &Fault, text: &str) -> Result<(), Fail> {
-    is_that(format!(in alloc; "{fault}")?.as_str(), text, "a fault")
-}
-
-fn word(alloc: Global, text: &str) -> Result<OsBytes, AllocError> {
-    OsBytes::from_slice(alloc, text.as_bytes())
+/// A word of a fault.
+fn word(alloc: Global) -> Result<OsBytes, AllocError> {
+    OsBytes::from_slice(alloc, b"/w/z")
 }
 
 #[test]
 fn faults_are_printed(rt: HostRuntime) -> Result<(), Fail> {
     let alloc = rt.alloc();
     for (fault, text) in PLAIN.iter() {
-        is_printed(alloc, fault, text)?;
+        prints(alloc, fault, text)?;
     }
-    is_printed(alloc, &Fault::Read(word(alloc, "/w/p.so")?), "read /w/p.so")?;
-    is_printed(
-        alloc,
-        &Fault::MissingOutput(word(alloc, "obj")?),
-        "missing obj",
-    )?;
-    is_printed(
-        alloc,
-        &Fault::BadDigest(word(alloc, "/w/libz.a")?),
-        "digest /w/libz.a",
-    )
+    Ok(())
+}
+
+#[test]
+fn words_of_faults_are_printed(rt: HostRuntime) -> Result<(), Fail> {
+    let alloc = rt.alloc();
+    prints(alloc, &Fault::Read(word(alloc)?), "read /w/z")?;
+    prints(alloc, &Fault::MissingOutput(word(alloc)?), "missing /w/z")?;
+    prints(alloc, &Fault::BadDigest(word(alloc)?), "digest /w/z")
+}
+
+#[test]
+fn failures_are_printed(rt: HostRuntime) -> Result<(), Fail> {
+    prints(rt.alloc(), &ToolFail::Device, "the tool's device failed")?;
+    prints(rt.alloc(), &FileFail::Device, "a device of files failed")
 }

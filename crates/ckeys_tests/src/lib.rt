@@ -1,10 +1,8 @@
-//! Tests of keys of C requests, by example.
+//! Tests of keys of C requests, by example: digests that hashlib computes of what is hashed, and printed texts.
 #![tactic(auto)]
 
 #[cfg(test)]
-mod calls;
-#[cfg(test)]
-mod compilers;
+mod call_list;
 #[cfg(test)]
 mod config;
 mod door;
@@ -14,7 +12,3 @@ mod fault;
 mod keys;
 #[cfg(test)]
 mod print_tool;
-#[cfg(test)]
-mod records;
-#[cfg(test)]
-mod values;

@@ -3,96 +3,96 @@
 use os_files::{MemoryFiles, OsBytes};
 use response_files::gcc::GnuFiles;
 use response_files::msvc::MsvcFiles;
-use response_files::{DiabFiles, ExpandedWords, Opens, expansion_is_recursion, other_words_stay};
+use response_files::{DiabFiles, ExpandedWords, Opens, ParseFault};
 use std::alloc::{AllocError, Global};
-use std::process::Abort;
+use std::fmt::Write;
 use std::test::Fail;
-use test_kit::{files_of, insert, words};
+use test_kit::{files_of, is_that, words};
 
-/// The files of each row, in `/w`.
-fn all_files(alloc: Global) -> Result<MemoryFiles, AllocError> {
-    let rows: [(&str, &[u8]); 8] = [
-        ("/w/a.rsp", b"-c @a.rsp foo.c"),
-        ("/w/b.rsp", b"@d.rsp -g"),
-        ("/w/c.rsp", b"-O2"),
-        ("/w/d.rsp", b"-c @b.rsp foo.c"),
-        ("/w/plain", b"-c foo.c"),
-        ("/w/quoted", b"-c \"foo.c\""),
-        ("/w/wide", b"\xff\xfe\x2d\x00\x63\x00"),
-        ("/o/e.rsp", b"@c.rsp 'a b'"),
-    ];
-    files_of(alloc, &rows)
+/// Files, and their contents.
+const FILES: [(&str, &[u8]); 8] = [
+    ("/w/a.rsp", b"-c @a.rsp foo.c"),
+    ("/w/b.rsp", b"@d.rsp -g"),
+    ("/w/c.rsp", b"-O2"),
+    ("/w/d.rsp", b"-c @b.rsp foo.c"),
+    ("/w/plain", b"-c foo.c"),
+    ("/w/quoted", b"-c \"foo.c\""),
+    ("/w/wide", b"\xff\xfe\x2d\x00\x63\x00"),
+    ("/o/e.rsp", b"@c.rsp 'a b'"),
+];
+
+/// Adds a word in brackets, or why there is none.
+fn write_item(text: &mut String, item: Result<OsBytes, ParseFault>) -> Result<(), AllocError> {
+    match item {
+        Ok(word) => write!(text, "[{word}]"),
+        Err(fault) => write!(text, "{fault}"),
+    }
 }
 
-/// What this line becomes in `/w`, its words in brackets.
-fn expanded<S: Opens>(alloc: Global, line: &str, files: &mut MemoryFiles) -> Result<String, Fail> {
-    let dir = OsBytes::from_slice(alloc, b"/w")?;
-    let list = words(alloc, line)?;
+/// What these words become in a folder, in brackets.
+fn expanded<S: Opens>(
+    alloc: Global,
+    dir: &OsBytes,
+    words: &[OsBytes],
+    files: &mut MemoryFiles,
+) -> Result<String, AllocError> {
     let mut text = String::new(alloc);
-    for item in ExpandedWords::<S>::new(alloc, &dir, list.as_slice(), files) {
-        match item {
-            Ok(word) => write!(text, "[{word}]")?,
-            Err(fault) => write!(text, "{fault}")?,
-        }
+    for item in ExpandedWords::<S>::new(alloc, dir, words, files) {
+        write_item(&mut text, item)?;
     }
     Ok(text)
 }
 
+/// What a line becomes in `/w`.
+fn line_becomes<S: Opens>(
+    alloc: Global,
+    line: &str,
+    files: &mut MemoryFiles,
+) -> Result<String, AllocError> {
+    let dir = OsBytes::from_slice(alloc, b"/w")?;
+    let list = words(alloc, line)?;
+    expanded::<S>(alloc, &dir, list.as_slice(), files)
+}
+
 /// Each row: a line, and what it becomes.
 fn each_becomes<S: Opens>(
-    rt: &impl Abort,
     alloc: Global,
+    files: &mut MemoryFiles,
     rows: &[(&str, &str)],
 ) -> Result<(), Fail> {
-    let mut files = all_files(alloc)?;
-    for (line, expected) in rows.iter() {
-        let text = expanded::<S>(alloc, line, &mut files)?;
-        assert_eq!(rt; text.as_bytes(), expected.as_bytes(), "{line}");
+    for (line, want) in rows.iter() {
+        is_that(line_becomes::<S>(alloc, line, files)?.as_str(), want, line)?;
     }
     Ok(())
 }
 
-#[test]
-fn gnu_files_are_opened(rt: HostRuntime) -> Result<(), Fail> {
-    expansion_is_recursion();
-    other_words_stay();
-    let rows = [
-        ("@a.rsp", "[-c][@a.rsp][foo.c]"),
-        ("@b.rsp", "[-c][@b.rsp][foo.c][-g]"),
-        ("-c @c.rsp @c.rsp foo.c", "[-c][-O2][-O2][foo.c]"),
-        ("@none @c.rsp", "[@none][-O2]"),
-        ("@/o/e.rsp", "[-O2][a b]"),
-        ("-@plain", "[-@plain]"),
-    ];
-    each_becomes::<GnuFiles>(&rt, rt.alloc(), &rows)
+const BY_GNU: [(&str, &str); 6] = [
+    ("@a.rsp", "[-c][@a.rsp][foo.c]"),
+    ("@b.rsp", "[-c][@b.rsp][foo.c][-g]"),
+    ("-c @c.rsp @c.rsp foo.c", "[-c][-O2][-O2][foo.c]"),
+    ("@none @c.rsp", "[@none][-O2]"),
+    ("@/o/e.rsp", "[-O2][a b]"),
+    ("-@plain", "[-@plain]"),
+];
+
+const BY_MSVC: [(&str, &str); 2] = [("@wide", "[-c]"), ("@/o/e.rsp", "[-O2]['a][b']")];
+
+const BY_DIAB: [(&str, &str); 2] = [
+    ("-@plain @plain", "[-c][foo.c][@plain]"),
+    ("-@quoted", "[-@quoted]"),
+];
+
+/// All rows, each by its compiler.
+fn all_become(alloc: Global, files: &mut MemoryFiles) -> Result<(), Fail> {
+    each_becomes::<GnuFiles>(alloc, files, &BY_GNU)?;
+    each_becomes::<MsvcFiles>(alloc, files, &BY_MSVC)?;
+    each_becomes::<DiabFiles>(alloc, files, &BY_DIAB)
 }
 
 #[test]
-fn msvc_files_are_opened(rt: HostRuntime) -> Result<(), Fail> {
-    let rows = [("@wide", "[-c]"), ("@/o/e.rsp", "[-O2]['a][b']")];
-    each_becomes::<MsvcFiles>(&rt, rt.alloc(), &rows)
-}
-
-#[test]
-fn diab_files_are_opened(rt: HostRuntime) -> Result<(), Fail> {
-    let rows = [
-        ("-@plain @plain", "[-c][foo.c][@plain]"),
-        ("-@quoted", "[-@quoted]"),
-    ];
-    each_becomes::<DiabFiles>(&rt, rt.alloc(), &rows)
-}
-
-#[test]
-fn a_long_chain_is_opened(rt: HostRuntime) -> Result<(), Fail> {
-    let alloc = rt.alloc();
-    let mut files = MemoryFiles::new(alloc);
-    for number in 0u32..2000 {
-        let path = format!(in alloc; "/w/{number}")?;
-        let next = number + 1;
-        let contents = format!(in alloc; "@{next}")?;
-        insert(alloc, &mut files, path.as_str(), contents.as_bytes())?;
-    }
-    let text = expanded::<GnuFiles>(alloc, "@0", &mut files)?;
-    assert_eq!(rt; text.as_str(), "[@2000]");
-    Ok(())
+fn files_are_opened(rt: HostRuntime) -> Result<(), Fail> {
+    let mut files = files_of(rt.alloc(), &FILES)?;
+    let all = all_become(rt.alloc(), &mut files);
+    drop(files);
+    all
 }

@@ -1,18 +1,17 @@
-//! Tests of command lines of what rows of data cannot show: small calls, tables, laws, and printed faults.
+//! Tests of command lines for what rows of data cannot show: how a table cuts words, values as words and as texts, response files and their
+//! texts, what is asked of a request, and faults as they are printed.
 #![tactic(auto)]
 
 #[cfg(test)]
-mod calls;
-#[cfg(test)]
-mod commands;
+mod cutting;
 pub mod door;
 #[cfg(test)]
 mod expansion;
 #[cfg(test)]
+mod faults;
+#[cfg(test)]
+mod requests;
+#[cfg(test)]
 mod responses;
 #[cfg(test)]
-mod small;
-#[cfg(test)]
-mod tables;
-#[cfg(test)]
-mod written;
+mod values;

@@ -2,75 +2,75 @@
 
 use os_files::OsBytes;
 use response_texts::{
-    SplitMsvcResponseFileArgs, decode_response_text, empty_quotes_are_an_argument,
-    gnu_texts_have_one_reading, msvc_texts_have_one_reading, split_gnu_response_file_args,
+    SplitMsvcResponseFileArgs, decode_response_text, split_gnu_response_file_args,
 };
 use std::alloc::{AllocError, Global};
-use std::process::Abort;
+use std::fmt::Write;
 use std::test::Fail;
+use test_kit::is_that;
 
-/// All arguments by the MSVC grammar.
-fn msvc_arguments(alloc: Global, text: &[u8]) -> Result<Vec<OsBytes>, AllocError> {
-    let mut arguments = Vec::new(alloc);
-    for argument in SplitMsvcResponseFileArgs::new(alloc, text) {
-        arguments.push(argument?)?;
+/// Words, each in brackets.
+fn bracketed(alloc: Global, words: &[OsBytes]) -> Result<String, AllocError> {
+    let mut text = String::new(alloc);
+    for word in words {
+        write!(text, "[{word}]")?;
     }
-    Ok(arguments)
+    Ok(text)
 }
 
-/// The arguments are these.
-fn are(rt: &impl Abort, text: &str, arguments: &[OsBytes], expected: &[&str]) {
-    assert_eq!(rt; arguments.len(), expected.len(), "{text}");
-    for (argument, wanted) in arguments.iter().zip(expected.iter()) {
-        assert_eq!(rt; argument.as_bytes(), wanted.as_bytes(), "{text}");
-    }
+/// The arguments by the GNU grammar, each in brackets.
+fn by_gnu(alloc: Global, text: &str) -> Result<String, AllocError> {
+    let arguments = split_gnu_response_file_args(alloc, text.as_bytes())?;
+    bracketed(alloc, arguments.as_slice())
 }
 
 /// Texts, and their arguments by the GNU grammar.
-const GNU: [(&str, &[&str]); 9] = [
-    (r#"a"b"c"#, &["abc"]),
-    ("-c @a.rsp foo.c", &["-c", "@a.rsp", "foo.c"]),
-    ("", &[]),
-    (" \t\n\x0b\x0c\r ", &[]),
-    (r#""" ''"#, &[]),
-    (r#"'a "b' "c 'd""#, &[r#"a "b"#, "c 'd"]),
-    (r"a\ b '\'' \", &["a b", "'"]),
-    (r#"x "open run"#, &["x", "open run"]),
-    (r"\a\\b", &[r"a\b"]),
+const GNU: [(&str, &str); 9] = [
+    (r#"a"b"c"#, "[abc]"),
+    ("-c @a.rsp foo.c", "[-c][@a.rsp][foo.c]"),
+    ("", ""),
+    (" \t\n\x0b\x0c\r ", ""),
+    (r#""" ''"#, ""),
+    (r#"'a "b' "c 'd""#, r#"[a "b][c 'd]"#),
+    (r"a\ b '\'' \", "[a b][']"),
+    (r#"x "open run"#, "[x][open run]"),
+    (r"\a\\b", r"[a\b]"),
 ];
 
 #[test]
 fn gnu_arguments(rt: HostRuntime) -> Result<(), Fail> {
-    let alloc = rt.alloc();
-    gnu_texts_have_one_reading();
-    for (text, expected) in GNU.iter() {
-        let arguments = split_gnu_response_file_args(alloc, text.as_bytes())?;
-        are(&rt, text, arguments.as_slice(), expected);
+    for (text, want) in GNU.iter() {
+        is_that(by_gnu(rt.alloc(), text)?.as_str(), want, text)?;
     }
     Ok(())
 }
 
+/// The arguments by the MSVC grammar, each in brackets.
+fn by_msvc(alloc: Global, text: &str) -> Result<String, AllocError> {
+    let mut found = String::new(alloc);
+    for argument in SplitMsvcResponseFileArgs::new(alloc, text.as_bytes()) {
+        write!(found, "[{}]", argument?)?;
+    }
+    Ok(found)
+}
+
 /// Texts, and their arguments by the MSVC grammar.
-const MSVC: [(&str, &[&str]); 9] = [
-    (r#"a\\"b c" "" x\"y"#, &[r"a\b c", "", r#"x"y"#]),
-    ("", &[]),
-    (" \t\r\n", &[]),
-    ("a\x0bb", &["a\x0bb"]),
-    (r"\\server\share x\", &[r"\\server\share", r"x\"]),
-    (r#"a "b"#, &["a", "b"]),
-    (r#"a ""#, &["a", ""]),
-    (r#"a\\\"b"#, &[r#"a\"b"#]),
-    ("'a b'", &["'a", "b'"]),
+const MSVC: [(&str, &str); 9] = [
+    (r#"a\\"b c" "" x\"y"#, r#"[a\b c][][x"y]"#),
+    ("", ""),
+    (" \t\r\n", ""),
+    ("a\x0bb", "[a\x0bb]"),
+    (r"\\server\share x\", r"[\\server\share][x\]"),
+    (r#"a "b"#, "[a][b]"),
+    (r#"a ""#, "[a][]"),
+    (r#"a\\\"b"#, r#"[a\"b]"#),
+    ("'a b'", "['a][b']"),
 ];
 
 #[test]
-fn msvc_arguments_by_example(rt: HostRuntime) -> Result<(), Fail> {
-    let alloc = rt.alloc();
-    msvc_texts_have_one_reading();
-    empty_quotes_are_an_argument();
-    for (text, expected) in MSVC.iter() {
-        let arguments = msvc_arguments(alloc, text.as_bytes())?;
-        are(&rt, text, arguments.as_slice(), expected);
+fn msvc_arguments(rt: HostRuntime) -> Result<(), Fail> {
+    for (text, want) in MSVC.iter() {
+        is_that(by_msvc(rt.alloc(), text)?.as_str(), want, text)?;
     }
     Ok(())
 }
@@ -94,25 +94,9 @@ const DECODED: [(&[u8], &str); 13] = [
 
 #[test]
 fn texts_of_bytes(rt: HostRuntime) -> Result<(), Fail> {
-    let alloc = rt.alloc();
-    for (bytes, expected) in DECODED.iter() {
-        let text = decode_response_text(alloc, bytes)?;
-        assert_eq!(rt; text.as_str(), *expected);
-    }
-    Ok(())
-}
-
-#[test]
-fn msvc_bytes_in_utf_16(rt: HostRuntime) -> Result<(), Fail> {
-    let alloc = rt.alloc();
-    let rows: [(&[u8], &str); 2] = [
-        (b"\xff\xfe\x2d\x00\x63\x00", "-c"),
-        (b"\xff\xfe\x2d", "\u{FFFD}"),
-    ];
-    for (bytes, expected) in rows {
-        let text = decode_response_text(alloc, bytes)?;
-        let arguments = msvc_arguments(alloc, text.as_bytes())?;
-        are(&rt, expected, arguments.as_slice(), &[expected]);
+    for (bytes, want) in DECODED.iter() {
+        let text = decode_response_text(rt.alloc(), bytes)?;
+        is_that(text.as_str(), want, want)?;
     }
     Ok(())
 }

@@ -1,7 +1,7 @@
 //! What words say of a dependency file, and by which words a compiler prints a text.
 
-use known_options::dependencies_of;
 use known_options::text_words::text_words;
+use known_options::{Dependencies, dependencies_of};
 use std::alloc::{AllocError, Global};
 use std::fmt::Write;
 use std::test::Fail;
@@ -52,18 +52,27 @@ const LINES: [(&str, &str); 17] = [
     ("-MF x.d -c a.c", " -c a.c"),
 ];
 
+/// Adds what words say.
+fn write_found(text: &mut String, found: &Dependencies) -> Result<(), AllocError> {
+    write_words(text, found.others.as_slice())?;
+    write_list(text, "said", found.said.as_slice())?;
+    match &found.file {
+        Some(file) => write!(text, "; file {file}"),
+        None => Ok(()),
+    }
+}
+
 /// What words say, as text.
 fn text_of(alloc: Global, line: &str) -> Result<String, AllocError> {
+    let list = words(alloc, line)?;
+    let found = dependencies_of(alloc, list.as_slice())?;
     let mut text = String::new(alloc);
-    let Some(found) = dependencies_of(alloc, words(alloc, line)?.as_slice())? else {
-        text.push_str("unclear")?;
-        return Ok(text);
+    let wrote = match &found {
+        Some(found) => write_found(&mut text, found),
+        None => text.push_str("unclear"),
     };
-    write_words(&mut text, found.others.as_slice())?;
-    write_list(&mut text, "said", found.said.as_slice())?;
-    if let Some(file) = &found.file {
-        write!(text, "; file {file}")?;
-    }
+    drop(found);
+    wrote?;
     Ok(text)
 }
 
@@ -100,22 +109,21 @@ const TEXTS: [(&str, &str, &str); 4] = [
     ),
 ];
 
+/// The words by which the text of a command is printed, with a list or without.
+fn text_words_of(alloc: Global, line: &str, list: Option<&str>) -> Result<String, AllocError> {
+    let command = words(alloc, line)?;
+    let printing = text_words(alloc, command.as_slice(), list)?;
+    let mut text = String::new(alloc);
+    write_words(&mut text, printing.as_slice())?;
+    Ok(text)
+}
+
 #[test]
 fn texts_are_printed_by_words(rt: HostRuntime) -> Result<(), Fail> {
-    let alloc = rt.alloc();
     for (line, plain, listed) in TEXTS.iter() {
-        let list = words(alloc, line)?;
-        let mut text = String::new(alloc);
-        write_words(
-            &mut text,
-            text_words(alloc, list.as_slice(), None)?.as_slice(),
-        )?;
+        let text = text_words_of(rt.alloc(), line, None)?;
         is_that(text.as_str(), plain, line)?;
-        let mut text = String::new(alloc);
-        write_words(
-            &mut text,
-            text_words(alloc, list.as_slice(), Some("list"))?.as_slice(),
-        )?;
+        let text = text_words_of(rt.alloc(), line, Some("list"))?;
         is_that(text.as_str(), listed, line)?;
     }
     Ok(())

@@ -1,7 +1,9 @@
 //! What sources ask for, and the times that they may paste. Names in quotes are shown in quotes, and those of `include_next` after `next`.
 
 use os_files::Lossy;
-use source_directives::{Asked, Search, add_defined, directives_of, pastes_time, tells_time};
+use source_directives::{
+    Asked, Directives, Search, add_defined, directives_of, pastes_time, tells_time,
+};
 use std::alloc::{AllocError, Global};
 use std::fmt::Write;
 use std::test::Fail;
@@ -91,25 +93,40 @@ fn write_asked(text: &mut String, asked: Asked<'_>) -> Result<(), AllocError> {
     }
 }
 
+/// Adds all of these.
+fn write_all(text: &mut String, all: &[Asked<'_>]) -> Result<(), AllocError> {
+    for asked in all {
+        write_asked(text, *asked)?;
+    }
+    Ok(())
+}
+
+/// Adds names, each after a word.
+fn write_names(text: &mut String, word: &str, names: &[&[u8]]) -> Result<(), AllocError> {
+    for bytes in names {
+        write!(text, " {word} {}", Lossy { bytes })?;
+    }
+    Ok(())
+}
+
+/// Adds what a source asks for.
+fn write_found(text: &mut String, found: &Directives<'_>) -> Result<(), AllocError> {
+    write_all(text, found.asked.as_slice())?;
+    write_names(text, "asks", found.probes.as_slice())?;
+    write_names(text, "takes", found.computed.as_slice())?;
+    text.push_str(if found.is_once { " once" } else { "" })
+}
+
 /// What a source asks for, as text.
 fn text_of(alloc: Global, source: &str) -> Result<String, AllocError> {
+    let found = directives_of(alloc, source.as_bytes())?;
     let mut text = String::new(alloc);
-    let Some(found) = directives_of(alloc, source.as_bytes())? else {
-        text.push_str("none")?;
-        return Ok(text);
+    let wrote = match &found {
+        Some(found) => write_found(&mut text, found),
+        None => text.push_str("none"),
     };
-    for asked in found.asked.as_slice() {
-        write_asked(&mut text, *asked)?;
-    }
-    for bytes in found.probes.as_slice() {
-        write!(text, " asks {}", Lossy { bytes })?;
-    }
-    for bytes in found.computed.as_slice() {
-        write!(text, " takes {}", Lossy { bytes })?;
-    }
-    if found.is_once {
-        text.push_str(" once")?;
-    }
+    drop(found);
+    wrote?;
     Ok(text)
 }
 
@@ -146,13 +163,12 @@ const DEFINED: [(&str, &str); 17] = [
 /// What a macro stands for in a source, as text.
 fn text_of_defined(alloc: Global, source: &str) -> Result<String, AllocError> {
     let mut found = Vec::new(alloc);
+    let are_names = add_defined(source.as_bytes(), b"NAME", &mut found)?;
     let mut text = String::new(alloc);
-    if !add_defined(source.as_bytes(), b"NAME", &mut found)? {
+    if are_names {
+        write_all(&mut text, found.as_slice())?;
+    } else {
         text.push_str("none")?;
-        return Ok(text);
-    }
-    for asked in found.as_slice() {
-        write_asked(&mut text, *asked)?;
     }
     Ok(text)
 }
@@ -193,11 +209,6 @@ fn times_are_pasted(_rt: HostRuntime) -> Result<(), Fail> {
     for source in PASTED.iter() {
         holds(pastes_time(source.as_bytes()), source)?;
     }
-    Ok(())
-}
-
-#[test]
-fn others_are_whole(_rt: HostRuntime) -> Result<(), Fail> {
     for source in WHOLE.iter() {
         holds(!pastes_time(source.as_bytes()), source)?;
     }

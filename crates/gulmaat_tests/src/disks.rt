@@ -4,8 +4,6 @@ use byte_formats::{put_framed, put_number};
 use host_protocol::CommandLine;
 use std::alloc::{Alloc, AllocError, Global};
 use std::fs;
-use std::fs::Permissions;
-use std::os::unix::fs::PermissionsExt;
 use std::rt::Files;
 use std::test::Fail;
 use std::time::UNIX_EPOCH;
@@ -17,30 +15,32 @@ pub fn make_fresh<R: Files + Alloc>(rt: &R, folder: &str) -> Result<(), Fail> {
     Ok(())
 }
 
-/// Does in a folder what a row says: `folder PATH`, `write PATH TEXT`, `link PATH TO`, `twin PATH OF`, `deny PATH`, `remove PATH` or
-/// `unfold PATH`; nothing where it is empty.
-pub fn change<R: Files + AllocGlobal>(rt: &R, folder: &str, row: &str) -> Result<(), Fail> {
-    let mut words = row.split(' ');
-    let verb = words.next().unwrap_or("");
-    let path = words.next().unwrap_or("");
-    let path = format!(in rt.alloc(); "{folder}/{path}")?;
-    let path = path.as_str();
-    let text = words.next().unwrap_or("");
+/// Does at a path what a verb says, with that text.
+fn change_at<R: Files + AllocGlobal>(
+    rt: &R,
+    verb: &str,
+    path: &str,
+    text: &str,
+) -> Result<(), Fail> {
     match verb {
         "folder" => fs::create_dir(rt, path)?,
         "write" => fs::write(rt, path, text.as_bytes())?,
         "link" => std::os::unix::fs::symlink(rt, text, path)?,
-        "twin" => fs::hard_link(
-            rt,
-            format!(in rt.alloc(); "{folder}/{text}")?.as_str(),
-            path,
-        )?,
-        "deny" => fs::set_permissions(rt, path, Permissions::from_mode(0o444))?,
         "remove" => fs::remove_file(rt, path)?,
         "unfold" => fs::remove_dir(rt, path)?,
         _ => {}
     }
     Ok(())
+}
+
+/// Does in a folder what a row says: `folder PATH`, `write PATH TEXT`, `link PATH TO`, `remove PATH` or `unfold PATH`; nothing where it is empty.
+pub fn change<R: Files + AllocGlobal>(rt: &R, folder: &str, row: &str) -> Result<(), Fail> {
+    let mut words = row.split(' ');
+    let verb = words.next().unwrap_or("");
+    let path = words.next().unwrap_or("");
+    let text = words.next().unwrap_or("");
+    let path = format!(in rt.alloc(); "{folder}/{path}")?;
+    change_at(rt, verb, path.as_str(), text)
 }
 
 /// Does what all of these rows say.
@@ -51,12 +51,15 @@ pub fn change_all<R: Files + AllocGlobal>(rt: &R, folder: &str, rows: &[&str]) -
     Ok(())
 }
 
-/// The message by which a host asks about these words in a folder, where things are kept in its folder `kept`.
-fn message_of(alloc: Global, dir: &str, words: &str) -> Result<Vec<u8>, AllocError> {
-    let mut message = Vec::new(alloc);
-    let kept = format!(in alloc; "{dir}/kept")?;
+/// Adds the message by which a host asks about these words in a folder, where things are kept there.
+fn put_message(
+    message: &mut Vec<u8>,
+    kept: &str,
+    dir: &str,
+    words: &str,
+) -> Result<(), AllocError> {
     for field in [
-        kept.as_str(),
+        kept,
         "text",
         "errors",
         "printed",
@@ -65,15 +68,22 @@ fn message_of(alloc: Global, dir: &str, words: &str) -> Result<Vec<u8>, AllocErr
         "/usr/bin/gcc",
         dir,
     ] {
-        put_framed(&mut message, field.as_bytes())?;
+        put_framed(message, field.as_bytes())?;
     }
     let count = words.split(' ').count();
-    put_number(&mut message, count as u64)?;
+    put_number(message, count as u64)?;
     for word in words.split(' ') {
-        put_framed(&mut message, word.as_bytes())?;
+        put_framed(message, word.as_bytes())?;
     }
-    put_number(&mut message, 0)?;
-    put_framed(&mut message, b"UTC0")?;
+    put_number(message, 0)?;
+    put_framed(message, b"UTC0")
+}
+
+/// That message, where things are kept in the folder's own folder `kept`.
+fn message_of(alloc: Global, dir: &str, words: &str) -> Result<Vec<u8>, AllocError> {
+    let kept = format!(in alloc; "{dir}/kept")?;
+    let mut message = Vec::new(alloc);
+    put_message(&mut message, kept.as_str(), dir, words)?;
     Ok(message)
 }
 

@@ -1,6 +1,5 @@
 //! Tests of what gulmaat builds on, by example: what sources ask for, where compilers look, what is watched, states of files, lines as they were
-//! written, manifests, dependency files, variables, what is bound to keys, what is passed through, what isn't kept, and where outputs
-//! are put.
+//! written, manifests, dependency files, variables, what is bound to keys, what is passed through, and what isn't kept.
 #![tactic(auto)]
 
 #[cfg(test)]
@@ -19,8 +18,6 @@ mod lists;
 mod manifests;
 #[cfg(test)]
 mod passing;
-#[cfg(test)]
-mod places;
 #[cfg(test)]
 mod searches;
 #[cfg(test)]

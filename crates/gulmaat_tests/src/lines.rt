@@ -104,16 +104,27 @@ fn digest_of<R: Files + AllocGlobal>(
     digest_by(rt.alloc(), asked, text, &mut named)
 }
 
+/// Whether the same is asked of a source before and after a change.
+fn are_alike<R: Files + AllocGlobal>(
+    rt: &R,
+    asked: Asked,
+    before: &str,
+    after: &str,
+    text: &str,
+) -> Result<bool, Fail> {
+    let one = digest_of(rt, asked, before, text)?;
+    let other = digest_of(rt, asked, after, text)?;
+    Ok(one == other)
+}
+
 #[test]
 fn lines_are_as_written(rt: HostRuntime) -> Result<(), Fail> {
     make_fresh(&rt, "gulmaat_tests_lines")?;
     for (before, after, text, are_same) in CHANGES.iter() {
-        let one = digest_of(&rt, Asked::Lines, before, text)?;
-        let other = digest_of(&rt, Asked::Lines, after, text)?;
-        holds((one == other) == *are_same, after)?;
-        let whole = digest_of(&rt, Asked::Contents, before, text)?;
-        let changed = digest_of(&rt, Asked::Contents, after, text)?;
-        holds((whole == changed) == (before == after), before)?;
+        let found = are_alike(&rt, Asked::Lines, before, after, text)?;
+        holds(found == *are_same, after)?;
+        let found = are_alike(&rt, Asked::Contents, before, after, text)?;
+        holds(found == (before == after), before)?;
     }
     Ok(())
 }
@@ -147,8 +158,9 @@ fn are_paths(files: &[NamedFile], wanted: &[&str]) -> bool {
 fn texts_name_files(rt: HostRuntime) -> Result<(), Fail> {
     for (text, wanted) in NAMED.iter() {
         let named = NamedFiles::of(&rt, b"/d", text.as_bytes())?;
-        let files = named.files.as_slice();
-        holds(named.are_all && are_paths(files, wanted), text)?;
+        let are = named.are_all && are_paths(named.files.as_slice(), wanted);
+        drop(named);
+        holds(are, text)?;
     }
     Ok(())
 }
@@ -169,8 +181,11 @@ fn named_files_are_as_they_were_or_not(rt: HostRuntime) -> Result<(), Fail> {
         change(&rt, folder, "write a.h 1")?;
         let text = b"# 1 \"a.h\"\n# 1 \"none.h\"\n";
         let named = NamedFiles::of(&rt, folder.as_bytes(), text.as_slice())?;
-        change(&rt, folder, row)?;
-        holds(named.are_unchanged(&rt) == *are_unchanged, row)?;
+        let done = change(&rt, folder, row);
+        let found = named.are_unchanged(&rt);
+        drop(named);
+        done?;
+        holds(found == *are_unchanged, row)?;
     }
     Ok(())
 }

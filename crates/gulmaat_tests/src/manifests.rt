@@ -9,22 +9,22 @@ use std::rt::Files;
 use std::test::Fail;
 use test_kit::is_that;
 
-/// The key of a result that is named by a letter.
-fn key_of(alloc: Global, letter: &str) -> Result<KeyText, AllocError> {
-    Ok(KeyText::new(letter.repeat(alloc, 64)?))
-}
-
-/// A manifest with results of these letters.
+/// A manifest with results of these letters: the key of each is its letter 64 times.
 fn record_of(alloc: Global, letters: &[&str]) -> Result<PreprocessorCacheEntry, Fail> {
     let mut record = PreprocessorCacheEntry::new(alloc);
     for letter in letters {
-        record.add_result(key_of(alloc, letter)?, Listed::new(alloc))?;
+        let key = KeyText::new(letter.repeat(alloc, 64)?);
+        record.add_result(key, Listed::new(alloc))?;
     }
     Ok(record)
 }
 
 /// The letters of a manifest's results.
-fn letters_of(alloc: Global, record: &PreprocessorCacheEntry) -> Result<String, AllocError> {
+fn letters_of(
+    alloc: Global,
+    record: Result<PreprocessorCacheEntry, AllocError>,
+) -> Result<String, AllocError> {
+    let record = record?;
     let mut letters = String::new(alloc);
     for result in record.results() {
         letters.push_str(result.key.as_str().get(..1).unwrap_or(""))?;
@@ -49,19 +49,21 @@ fn more_lists(
     letter: &str,
     folder: &str,
 ) -> Result<Vec<u8>, Fail> {
-    let record = record_of(alloc, letters)?;
-    let key = key_of(alloc, letter)?;
+    let key = letter.repeat(alloc, 64)?;
     let list = list_for(alloc, folder)?;
-    let (dir, key) = (folder.as_bytes(), key.as_str().as_bytes());
-    Ok(with_list(alloc, lists, &record, dir, key, list.as_slice())?)
+    let record = record_of(alloc, letters)?;
+    let (dir, key) = (folder.as_bytes(), key.as_bytes());
+    let more = with_list(alloc, lists, &record, dir, key, list.as_slice());
+    drop(record);
+    Ok(more?)
 }
 
 /// Which results hold for a call in a folder, by their letters.
 fn holding<R: Files + AllocGlobal>(rt: &R, lists: &[u8], folder: &str) -> Result<String, Fail> {
     let mut letters = String::new(rt.alloc());
     for letter in ["a", "b"] {
-        let key = key_of(rt.alloc(), letter)?;
-        if result_holds(rt, folder.as_bytes(), lists, key.as_str().as_bytes())? {
+        let key = letter.repeat(rt.alloc(), 64)?;
+        if result_holds(rt, folder.as_bytes(), lists, key.as_bytes())? {
             letters.push_str(letter)?;
         }
     }
@@ -100,40 +102,35 @@ fn results_have_lists(rt: HostRuntime) -> Result<(), Fail> {
     Ok(())
 }
 
-/// Results, the one that goes, and those that are left.
-const LEFT: [(&[&str], &str, &str); 4] = [
-    (&[], "a", ""),
-    (&["a"], "a", ""),
-    (&["a", "b", "c"], "b", "ac"),
-    (&["a", "b"], "c", "ab"),
-];
-
-#[test]
-fn results_are_left_out(rt: HostRuntime) -> Result<(), Fail> {
-    for (letters, letter, want) in LEFT.iter() {
-        let record = record_of(rt.alloc(), letters)?;
-        let key = key_of(rt.alloc(), letter)?;
-        let rest = without(rt.alloc(), &record, key.as_str().as_bytes())?;
-        is_that(letters_of(rt.alloc(), &rest)?.as_str(), want, letter)?;
-    }
-    Ok(())
+/// The letters of the results of two manifests, without one of them.
+fn joined(alloc: Global, letters: &[&str], others: &[&str], letter: &str) -> Result<String, Fail> {
+    let key = letter.repeat(alloc, 64)?;
+    let record = record_of(alloc, letters)?;
+    let other = record_of(alloc, others)?;
+    let whole = with_results_of(alloc, &record, &other);
+    drop(record);
+    drop(other);
+    let whole = whole?;
+    let rest = without(alloc, &whole, key.as_bytes());
+    drop(whole);
+    Ok(letters_of(alloc, rest)?)
 }
 
-/// Results of two manifests, and those of both.
-const JOINED: [(&[&str], &[&str], &str); 4] = [
-    (&[], &[], ""),
-    (&["a"], &["b"], "ab"),
-    (&["b"], &["a", "b"], "ab"),
-    (&["c"], &["a", "b"], "abc"),
+/// Results of two manifests, one that goes, and those that are left.
+const JOINED: [(&[&str], &[&str], &str, &str); 6] = [
+    (&[], &[], "a", ""),
+    (&["a"], &["b"], "c", "ab"),
+    (&["b"], &["a", "b"], "c", "ab"),
+    (&["c"], &["a", "b"], "d", "abc"),
+    (&["a", "b"], &["c"], "b", "ac"),
+    (&["a"], &[], "a", ""),
 ];
 
 #[test]
-fn results_come_back(rt: HostRuntime) -> Result<(), Fail> {
-    for (letters, others, want) in JOINED.iter() {
-        let record = record_of(rt.alloc(), letters)?;
-        let other = record_of(rt.alloc(), others)?;
-        let whole = with_results_of(rt.alloc(), &record, &other)?;
-        is_that(letters_of(rt.alloc(), &whole)?.as_str(), want, "joined")?;
+fn results_come_back_and_go(rt: HostRuntime) -> Result<(), Fail> {
+    for (letters, others, letter, want) in JOINED.iter() {
+        let text = joined(rt.alloc(), letters, others, letter)?;
+        is_that(text.as_str(), want, letter)?;
     }
     Ok(())
 }

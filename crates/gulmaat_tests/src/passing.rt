@@ -2,6 +2,7 @@
 
 use crate::disks::line_of;
 use call_requests::reason_against;
+use std::alloc::Global;
 use std::test::Fail;
 use test_kit::is_that;
 
@@ -23,18 +24,22 @@ const REASONS: [(&str, &str); 14] = [
     ("-c a.c --param max-inline-insns-single=7", ""),
 ];
 
+/// The one that speaks against keeping.
+fn reason_of(alloc: Global, words: &str) -> Result<String, Fail> {
+    let line = line_of(alloc, "/d", words)?;
+    let reason = reason_against(alloc, &line);
+    drop(line);
+    match reason {
+        Ok(Some(reason)) => Ok(reason),
+        Ok(None) => Ok(String::new(alloc)),
+        Err(_) => Err("no memory".into()),
+    }
+}
+
 #[test]
 fn words_speak_against_keeping(rt: HostRuntime) -> Result<(), Fail> {
     for (words, wanted) in REASONS.iter() {
-        let line = line_of(rt.alloc(), "/d", words)?;
-        let Ok(reason) = reason_against(rt.alloc(), &line) else {
-            return Err("no memory".into());
-        };
-        let said = match &reason {
-            Some(reason) => reason.as_str(),
-            None => "",
-        };
-        is_that(said, wanted, words)?;
+        is_that(reason_of(rt.alloc(), words)?.as_str(), wanted, words)?;
     }
     Ok(())
 }

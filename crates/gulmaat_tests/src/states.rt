@@ -35,21 +35,26 @@ fn knows<R: Files + AllocGlobal>(rt: &R, tokens: &Tokens, place: &str) -> Result
     Ok(token.is_some_and(|token| token.as_bytes() == b"token".as_slice()))
 }
 
+/// Asserts that these tokens of `a.h` know it, and neither another file nor a changed one.
+fn know_a_state<R: Files + AllocGlobal>(rt: &R, tokens: &Tokens) -> Result<(), Fail> {
+    let place = "gulmaat_tests_tokens/a.h";
+    holds(knows(rt, tokens, place)?, "a file as it was")?;
+    let other = knows(rt, tokens, "gulmaat_tests_tokens/b.h")?;
+    holds(!other, "another file")?;
+    change(rt, "gulmaat_tests_tokens", "write a.h longer")?;
+    holds(!knows(rt, tokens, place)?, "a file that was changed")
+}
+
 #[test]
 fn tokens_are_of_a_state(rt: HostRuntime) -> Result<(), Fail> {
     let folder = "gulmaat_tests_tokens";
-    let place = "gulmaat_tests_tokens/a.h";
     make_fresh(&rt, folder)?;
     change(&rt, folder, "write a.h one")?;
     change(&rt, folder, "write b.h one")?;
-    let tokens = tokens_of(&rt, place)?;
-    holds(knows(&rt, &tokens, place)?, "a file as it was")?;
-    holds(
-        !knows(&rt, &tokens, "gulmaat_tests_tokens/b.h")?,
-        "another file",
-    )?;
-    change(&rt, folder, "write a.h longer")?;
-    holds(!knows(&rt, &tokens, place)?, "a file that was changed")
+    let tokens = tokens_of(&rt, "gulmaat_tests_tokens/a.h")?;
+    let know = know_a_state(&rt, &tokens);
+    drop(tokens);
+    know
 }
 
 /// A list of this path alone.
@@ -70,12 +75,13 @@ const MADE: [(&str, Option<&str>); 7] = [
     ("folder a.o", None),
 ];
 
-/// What was made at a path while that was done.
-fn made_while<R: Files + AllocGlobal>(
+/// Whether that was made at a path while that was done.
+fn is_made_while<R: Files + AllocGlobal>(
     rt: &R,
     folder: &str,
     row: &str,
-) -> Result<Option<OsBytes>, Fail> {
+    want: Option<&str>,
+) -> Result<bool, Fail> {
     let path = format!(in rt.alloc(); "{folder}/a.o")?;
     let paths = alone(rt.alloc(), path.as_str())?;
     let before = states_of(rt, paths.as_slice())?;
@@ -84,8 +90,8 @@ fn made_while<R: Files + AllocGlobal>(
         return Err("what was made can't be told".into());
     };
     match made.as_slice() {
-        [Some(contents)] => Ok(Some(contents.clone()?)),
-        _ => Ok(None),
+        [Some(contents)] => Ok(want.is_some_and(|want| contents.as_bytes() == want.as_bytes())),
+        _ => Ok(want.is_none()),
     }
 }
 
@@ -94,9 +100,7 @@ fn outputs_are_made(rt: HostRuntime) -> Result<(), Fail> {
     let folder = "gulmaat_tests_made";
     make_fresh(&rt, folder)?;
     for (row, want) in MADE.iter() {
-        let made = made_while(&rt, folder, row)?;
-        let made = made.as_ref().map(|made| made.as_bytes());
-        holds(made == want.map(|want| want.as_bytes()), row)?;
+        holds(is_made_while(&rt, folder, row, *want)?, row)?;
     }
     Ok(())
 }

@@ -1,6 +1,7 @@
 //! Texts, and whether what is made of them is kept.
 
 use std::test::Fail;
+use test_kit::holds;
 use unkept_texts::{takes_files, tells_time};
 
 /// Texts that take in files.
@@ -50,19 +51,10 @@ const MEMBERS: [&str; 12] = [
 #[test]
 fn directives_take_in_files(_rt: HostRuntime) -> Result<(), Fail> {
     for text in DIRECTIVES.iter() {
-        if !takes_files(text.as_bytes()) {
-            return Err(Fail::from(*text));
-        }
+        holds(takes_files(text.as_bytes()), text)?;
     }
-    Ok(())
-}
-
-#[test]
-fn members_and_paths_take_in_none(_rt: HostRuntime) -> Result<(), Fail> {
     for text in MEMBERS.iter() {
-        if takes_files(text.as_bytes()) {
-            return Err(Fail::from(*text));
-        }
+        holds(!takes_files(text.as_bytes()), text)?;
     }
     Ok(())
 }
@@ -96,19 +88,10 @@ const SAME: [(&str, i64, &str); 6] = [
 #[test]
 fn a_time_of_the_call_is_told(_rt: HostRuntime) -> Result<(), Fail> {
     for (text, moment, zone) in TOLD.iter() {
-        if !tells_time(text.as_bytes(), *moment, zone) {
-            return Err(Fail::from(*text));
-        }
+        holds(tells_time(text.as_bytes(), *moment, zone), text)?;
     }
-    Ok(())
-}
-
-#[test]
-fn other_times_are_the_texts_own(_rt: HostRuntime) -> Result<(), Fail> {
     for (text, moment, zone) in SAME.iter() {
-        if tells_time(text.as_bytes(), *moment, zone) {
-            return Err(Fail::from(*text));
-        }
+        holds(!tells_time(text.as_bytes(), *moment, zone), text)?;
     }
     Ok(())
 }

@@ -51,11 +51,6 @@ fn compilers_read_variables(_rt: HostRuntime) -> Result<(), Fail> {
     for name in READ.iter() {
         holds(is_read(name.as_bytes()), name)?;
     }
-    Ok(())
-}
-
-#[test]
-fn compilers_read_no_others(_rt: HostRuntime) -> Result<(), Fail> {
     for name in OTHERS.iter() {
         holds(!is_read(name.as_bytes()), name)?;
     }

@@ -1,11 +1,15 @@
 //! The bytes of records.
 
+use byte_formats::ReadFault;
 use ckeys_base::error::Error;
-use include_records::{IncludeEntry, KeyText, PreprocessorCacheEntry};
-use os_files::{Listed, OsBytes};
+use include_records::PreprocessorCacheEntry;
+use os_files::OsBytes;
 use std::alloc::Global;
 use std::test::Fail;
-use test_kit::NarrowWriter;
+use test_kit::{NarrowWriter, holds, is_that, prints};
+
+/// No results.
+const EMPTY: &[u8] = b"\x01\0\0\0\0\0\0\0\0";
 
 /// The result `k` without includes.
 const OF_K: &[u8] = b"\x01\x01\0\0\0\0\0\0\0\x01\0\0\0\0\0\0\0k\0\0\0\0\0\0\0\0";
@@ -14,99 +18,9 @@ const OF_K: &[u8] = b"\x01\x01\0\0\0\0\0\0\0\x01\0\0\0\0\0\0\0k\0\0\0\0\0\0\0\0"
 const OF_AN_INCLUDE: &[u8] =
     b"\x01\x01\0\0\0\0\0\0\0\x01\0\0\0\0\0\0\0a\x01\0\0\0\0\0\0\0\x03\0\0\0\0\0\0\0x.h\x03\0\0\0\0\0\0\0\x02\0\0\0\0\0\0\0ab\x01\xff\xff\xff\xff\xff\xff\xff\xff\0";
 
-/// The bytes of a record.
-fn bytes_of(alloc: Global, entry: &PreprocessorCacheEntry) -> Result<Vec<u8>, Fail> {
-    let mut out = Vec::new(alloc);
-    entry.serialize_to(&mut out)?;
-    Ok(out)
-}
-
-/// What is written again of what these bytes are read as.
-fn again(alloc: Global, bytes: &[u8]) -> Result<Vec<u8>, Fail> {
-    let entry = PreprocessorCacheEntry::read(alloc, bytes)?;
-    bytes_of(alloc, &entry.clone()?)
-}
-
-#[test]
-fn records_are_read_back(rt: HostRuntime) -> Result<(), Fail> {
-    let alloc = rt.alloc();
-    for bytes in [OF_K, OF_AN_INCLUDE, b"\x01\0\0\0\0\0\0\0\0"] {
-        assert_eq!(rt; again(alloc, bytes)?.as_slice(), bytes);
-    }
-    assert_eq!(rt;
-        again(alloc, b"")?.as_slice(),
-        b"\x01\0\0\0\0\0\0\0\0".as_slice()
-    );
-    Ok(())
-}
-
-#[test]
-fn an_include_is_written_field_by_field(rt: HostRuntime) -> Result<(), Fail> {
-    let alloc = rt.alloc();
-    let mut includes = Listed::new(alloc);
-    includes.push(IncludeEntry {
-        path: OsBytes::from_slice(alloc, b"x.h")?,
-        size: 3,
-        digest: KeyText::new(String::from_str(alloc, "ab")?),
-        day: Some(-1),
-        second: None,
-    })?;
-    let mut entry = PreprocessorCacheEntry::new(alloc);
-    entry.add_result(KeyText::new(String::from_str(alloc, "a")?), includes)?;
-    assert_eq!(rt; bytes_of(alloc, &entry)?.as_slice(), OF_AN_INCLUDE);
-    assert_eq!(rt; entry.number_of_entries(), 1);
-    Ok(())
-}
-
-#[test]
-fn other_bytes_are_refused(rt: HostRuntime) -> Result<(), Fail> {
-    let alloc = rt.alloc();
-    for len in 1..OF_K.len() {
-        let read = PreprocessorCacheEntry::read(alloc, &OF_K[..len]);
-        assert_eq!(rt; read.err(), Some(Error::Deserialization));
-    }
-    let mut longer = Vec::from_slice(alloc, OF_K)?;
-    longer.push(0)?;
-    let read = PreprocessorCacheEntry::read(alloc, &longer);
-    assert_eq!(rt; read.err(), Some(Error::Deserialization));
-    for first in [0, 2] {
-        longer[0] = first;
-        let read = PreprocessorCacheEntry::read(alloc, &longer);
-        assert_eq!(rt; read.err(), Some(Error::UnknownFormat(first)));
-    }
-    let text = format!(in alloc; "{}", Error::UnknownFormat(2))?;
-    assert_eq!(rt; text.as_str(), "the record has the unknown format 2");
-    Ok(())
-}
-
-/// A record that says that it has 2 ^ 60 results, and has none.
-const ENDLESS: &[u8] = b"\x01\0\0\0\0\0\0\0\x10";
-
-#[test]
-fn a_count_takes_no_memory(rt: HostRuntime) -> Result<(), Fail> {
-    let read = PreprocessorCacheEntry::read(rt.alloc(), ENDLESS);
-    assert_eq!(rt; read.err(), Some(Error::Deserialization));
-    Ok(())
-}
-
-#[test]
-fn a_long_record_is_written(rt: HostRuntime) -> Result<(), Fail> {
-    let alloc = rt.alloc();
-    let mut includes = Listed::new(alloc);
-    includes.push(IncludeEntry {
-        path: OsBytes::from_vec(vec![in alloc; b'a'; 1_048_577]?),
-        size: 3,
-        digest: KeyText::new(String::from_str(alloc, "ab")?),
-        day: None,
-        second: None,
-    })?;
-    let mut entry = PreprocessorCacheEntry::new(alloc);
-    entry.add_result(KeyText::new(String::from_str(alloc, "a")?), includes)?;
-    let bytes = bytes_of(alloc, &entry)?;
-    assert_eq!(rt; bytes.len(), 1_048_577 + OF_AN_INCLUDE.len() - 3 - 8);
-    assert_eq!(rt; again(alloc, &bytes)?.as_slice(), bytes.as_slice());
-    Ok(())
-}
+/// It without its last byte.
+const CUT_OFF: &[u8] =
+    b"\x01\x01\0\0\0\0\0\0\0\x01\0\0\0\0\0\0\0a\x01\0\0\0\0\0\0\0\x03\0\0\0\0\0\0\0x.h\x03\0\0\0\0\0\0\0\x02\0\0\0\0\0\0\0ab\x01\xff\xff\xff\xff\xff\xff\xff\xff";
 
 /// Two results whose keys are equal, and two whose keys fall.
 const DOUBLED: &[u8] =
@@ -115,20 +29,84 @@ const DOUBLED: &[u8] =
 const FALLING: &[u8] =
     b"\x01\x02\0\0\0\0\0\0\0\x01\0\0\0\0\0\0\0k\0\0\0\0\0\0\0\0\x01\0\0\0\0\0\0\0j\0\0\0\0\0\0\0\0";
 
+/// A record that says that it has 2 ^ 60 results, and has none. It is no record, and the count takes no memory.
+const ENDLESS: &[u8] = b"\x01\0\0\0\0\0\0\0\x10";
+
+/// What is printed of each of these.
+const NO_RECORD: &[u8] = b"the bytes are no record";
+
+/// Bytes, and what is written again of them, or what is printed.
+const ROWS: [(&[u8], &[u8]); 10] = [
+    (b"", EMPTY),
+    (EMPTY, EMPTY),
+    (OF_K, OF_K),
+    (OF_AN_INCLUDE, OF_AN_INCLUDE),
+    (CUT_OFF, NO_RECORD),
+    (b"\x01\0\0\0\0\0\0\0\0\0", NO_RECORD),
+    (DOUBLED, NO_RECORD),
+    (FALLING, NO_RECORD),
+    (ENDLESS, NO_RECORD),
+    (
+        b"\x02\0\0\0\0\0\0\0\0",
+        b"the record has the unknown format 2",
+    ),
+];
+
+/// What is written of a copy of this record.
+fn written(alloc: Global, entry: &PreprocessorCacheEntry) -> Result<OsBytes, Fail> {
+    let mut out = Vec::new(alloc);
+    entry.clone()?.serialize_to(&mut out)?;
+    Ok(OsBytes::from_vec(out))
+}
+
+/// What is written again of what these bytes are read as, or what is printed where they are no record.
+fn again(alloc: Global, bytes: &[u8]) -> Result<OsBytes, Fail> {
+    match PreprocessorCacheEntry::read(alloc, bytes) {
+        Ok(entry) => written(alloc, &entry),
+        Err(error) => Ok(OsBytes::from_vec(format!(in alloc; "{error}")?.into_bytes())),
+    }
+}
+
 #[test]
-fn keys_must_rise(rt: HostRuntime) -> Result<(), Fail> {
-    for bytes in [DOUBLED, FALLING] {
-        let read = PreprocessorCacheEntry::read(rt.alloc(), bytes);
-        assert_eq!(rt; read.err(), Some(Error::Deserialization));
+fn records_are_read_back(rt: HostRuntime) -> Result<(), Fail> {
+    for (bytes, want) in ROWS.iter() {
+        let told = again(rt.alloc(), bytes)?;
+        if told.as_bytes() != *want {
+            return Err(Fail::new(told));
+        }
     }
     Ok(())
 }
 
+/// What is said of the include.
+const READ: &str = "PreprocessorCacheEntry { results: [CachedResult { key: \"a\", \
+    includes: Listed { items: [IncludeEntry { path: \"x.h\", size: 3, digest: \"ab\", day: Some(-1), second: None }] } }], \
+    includes: 1 }";
+
+#[test]
+fn an_include_is_read_field_by_field(rt: HostRuntime) -> Result<(), Fail> {
+    let alloc = rt.alloc();
+    let entry = PreprocessorCacheEntry::read(alloc, OF_AN_INCLUDE)?;
+    let text = format!(in alloc; "{entry:?}")?;
+    is_that(text.as_str(), READ, "the include")
+}
+
 #[test]
 fn a_writer_that_fails_holds_a_beginning(rt: HostRuntime) -> Result<(), Fail> {
-    let entry = PreprocessorCacheEntry::new(rt.alloc());
     let mut narrow = NarrowWriter::new(rt.alloc(), 4);
-    assert_eq!(rt; entry.serialize_to(&mut narrow).err(), Some(Error::Io));
-    assert_eq!(rt; narrow.held.as_slice(), b"\x01\0\0\0".as_slice());
-    Ok(())
+    let written = PreprocessorCacheEntry::new(rt.alloc()).serialize_to(&mut narrow);
+    holds(matches!(written, Err(Error::Io)), "it is told")?;
+    holds(
+        narrow.held.as_slice() == &EMPTY[..4],
+        "it holds a beginning",
+    )
+}
+
+#[test]
+fn a_fault_of_a_field_is_printed(rt: HostRuntime) -> Result<(), Fail> {
+    prints(
+        rt.alloc(),
+        &ReadFault::Unfit,
+        "the bytes spell no such field",
+    )
 }

@@ -1,29 +1,20 @@
-//! Tests of include records: their bytes, their bounds, what they say of files, and the fields of layouts, by example.
+//! Tests of include records and of what they are kept under, by example: bytes and bounds of records, what they say of files, the files
+//! that a text names, days of zones, and entry keys as hashlib computes them.
 #![tactic(auto)]
 
 #[cfg(test)]
 mod days;
 #[cfg(test)]
-mod fields;
-#[cfg(test)]
-mod holds;
+mod entry_key;
 #[cfg(test)]
 mod layout;
 #[cfg(test)]
 mod look_ups;
 #[cfg(test)]
-mod markers;
-#[cfg(test)]
 mod reader_time_macros;
-#[cfg(test)]
-mod real_texts;
 #[cfg(test)]
 mod results;
 #[cfg(test)]
-mod time_macro_finder;
-#[cfg(test)]
-mod timestamps;
+mod scene;
 #[cfg(test)]
 mod walk;
-#[cfg(test)]
-mod walk_report;

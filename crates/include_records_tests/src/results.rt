@@ -4,6 +4,7 @@ use include_records::{IncludeEntry, KeyText, PreprocessorCacheEntry};
 use os_files::{Listed, OsBytes};
 use std::alloc::{AllocError, Global};
 use std::test::Fail;
+use test_kit::holds;
 
 /// So many includes.
 fn includes(alloc: Global, count: usize) -> Result<Listed<IncludeEntry>, AllocError> {
@@ -20,18 +21,17 @@ fn includes(alloc: Global, count: usize) -> Result<Listed<IncludeEntry>, AllocEr
     Ok(list)
 }
 
-/// Adds a result with so many includes, and returns how many the record has then.
-fn add(
+/// Adds a result with so many includes. The record has so many then.
+fn comes_to(
     alloc: Global,
     entry: &mut PreprocessorCacheEntry,
     key: &str,
     count: usize,
-) -> Result<usize, Fail> {
-    entry.add_result(
-        KeyText::new(String::from_str(alloc, key)?),
-        includes(alloc, count)?,
-    )?;
-    Ok(entry.number_of_entries())
+    number: usize,
+) -> Result<(), Fail> {
+    let list = includes(alloc, count)?;
+    entry.add_result(KeyText::new(String::from_str(alloc, key)?), list)?;
+    holds(entry.number_of_entries() == number, key)
 }
 
 #[test]
@@ -40,10 +40,9 @@ fn a_hundred_and_one_results_stand(rt: HostRuntime) -> Result<(), Fail> {
     let mut entry = PreprocessorCacheEntry::new(alloc);
     for number in 1usize..102 {
         let key = format!(in alloc; "key {number}")?;
-        assert_eq!(rt; add(alloc, &mut entry, key.as_str(), 1)?, number);
+        comes_to(alloc, &mut entry, key.as_str(), 1, number)?;
     }
-    assert_eq!(rt; add(alloc, &mut entry, "key 1", 3)?, 3);
-    Ok(())
+    comes_to(alloc, &mut entry, "key 1", 3, 3)
 }
 
 /// Keys of results that are added, how many includes each has, and how many the record has then.
@@ -63,14 +62,9 @@ const ADDED: [(&str, usize, usize); 11] = [
 
 #[test]
 fn ten_thousand_includes_stand(rt: HostRuntime) -> Result<(), Fail> {
-    let alloc = rt.alloc();
-    let mut entry = PreprocessorCacheEntry::new(alloc);
+    let mut entry = PreprocessorCacheEntry::new(rt.alloc());
     for (key, count, number) in ADDED.iter() {
-        assert_eq!(rt;
-            add(alloc, &mut entry, key, *count)?,
-            *number,
-            "{key} {count}"
-        );
+        comes_to(rt.alloc(), &mut entry, key, *count, *number)?;
     }
     Ok(())
 }

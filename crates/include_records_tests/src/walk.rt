@@ -1,114 +1,160 @@
-//! Lines for which a text is refused, plain ones, markers, and I/O errors.
+//! What walks over texts name: lines for which a text is refused, plain ones, markers, and texts as gcc 12.2 prints them by `-E`, with the
+//! files that it lists for them by `-M`.
 
-use crate::walk_report::{BROKEN, walk_report};
 use marker_walk::walk::walk;
-use os_files::{MemoryFiles, OsBytes};
-use response_files::ParseFault;
+use std::alloc::Global;
 use std::test::Fail;
-use test_kit::WatchedFiles;
+use test_kit::{WatchedFiles, files_of, holds, is_that};
 
-/// Texts that are refused.
-const REFUSED: [&[u8]; 10] = [
-    b"# 1 foo\n",
-    b"int x;\n# 1 \"a\\qb\"\n",
-    b"#line 1 \"a\\qb\"\n",
-    b"# 1 \"a",
-    b"# 1",
-    b"# 1\"a\"",
-    b"# 1 \"h\\303\\251.h\" 1\n",
-    b"__asm__(\".incbin \\\"x\\\"\");\n",
-    b"#pragma GCC pch_preprocess \"x.gch\"\n",
-    b"# 1 \"t.h\" 1\n",
+/// Of a source that includes `vector`. Most of the headers are left out with all that is between them, but for each form of a marker one
+/// is kept here.
+const VECTOR: &[u8] = b"# 0 \"v.cc\"\n# 0 \"<built-in>\"\n# 0 \"<command-line>\"\n\
+    # 1 \"/usr/include/stdc-predef.h\" 1 3 4\n# 0 \"<command-line>\" 2\n# 1 \"v.cc\"\n\
+    # 1 \"/usr/include/c++/12/vector\" 1 3\n# 58 \"/usr/include/c++/12/vector\" 3\n       \n\
+    # 59 \"/usr/include/c++/12/vector\" 3\n\n\
+    # 1 \"/usr/include/x86_64-linux-gnu/c++/12/bits/c++config.h\" 1 3\n\
+    # 296 \"/usr/include/x86_64-linux-gnu/c++/12/bits/c++config.h\" 3\nnamespace std\n{\n\
+    #pragma GCC visibility push(default)\n  typedef long unsigned int size_t;\n\
+    #pragma GCC visibility pop\n}\n# 1 \"/usr/include/features.h\" 1 3 4\n\
+    # 392 \"/usr/include/features.h\" 3 4\n\
+    # 1 \"/usr/include/x86_64-linux-gnu/bits/wordsize.h\" 1 3 4\n\
+    # 393 \"/usr/include/features.h\" 2 3 4\n\
+    # 656 \"/usr/include/x86_64-linux-gnu/c++/12/bits/c++config.h\" 2 3\n\
+    # 1 \"/usr/include/x86_64-linux-gnu/bits/wordsize.h\" 1 3 4\n\
+    # 657 \"/usr/include/x86_64-linux-gnu/c++/12/bits/c++config.h\" 2 3\n\
+    # 60 \"/usr/include/c++/12/vector\" 2 3\n\
+    #pragma GCC diagnostic ignored \"-Wctor-dtor-privacy\"\n  template<typename _Tp> class vector;\n\
+    # 2 \"v.cc\" 2\n\n# 2 \"v.cc\"\nint main() { return 0; }\n";
+
+/// Of a source in a folder whose name has a space, a quote and a backslash, whole but for the definitions in `stddef.h`.
+const ODD_FOLDER: &[u8] = b"# 0 \"we\\\"ird \\\\dir/a.c\"\n# 0 \"<built-in>\"\n\
+    # 0 \"<command-line>\"\n# 1 \"/usr/include/stdc-predef.h\" 1 3 4\n# 0 \"<command-line>\" 2\n\
+    # 1 \"we\\\"ird \\\\dir/a.c\"\n# 1 \"we\\\"ird \\\\dir/h.h\" 1\nint q;\n\
+    # 2 \"we\\\"ird \\\\dir/a.c\" 2\n# 1 \"we\\\"ird \\\\dir/s h.h\" 1\nint s;\n\
+    # 3 \"we\\\"ird \\\\dir/a.c\" 2\n\
+    # 1 \"/usr/lib/gcc/x86_64-linux-gnu/12/include/stddef.h\" 1 3 4\n\
+    # 145 \"/usr/lib/gcc/x86_64-linux-gnu/12/include/stddef.h\" 3 4\n\n\
+    typedef long int ptrdiff_t;\n# 4 \"we\\\"ird \\\\dir/a.c\" 2\n\
+    # 1 \"we\\\"ird \\\\dir/h.h\" 1\n\n# 1 \"we\\\"ird \\\\dir/h.h\"\nint q;\n\
+    # 5 \"we\\\"ird \\\\dir/a.c\" 2\nint main(void) { return 0; }\n";
+
+/// The files that are there, each empty but for one.
+const FILES: [(&str, &[u8]); 13] = [
+    ("/w/a.c", b""),
+    ("/w/x.h", b""),
+    ("/w/t.h", b"char *t = __TIME__;\n"),
+    ("/w/v.cc", b""),
+    ("/usr/include/stdc-predef.h", b""),
+    ("/usr/include/c++/12/vector", b""),
+    ("/usr/include/x86_64-linux-gnu/c++/12/bits/c++config.h", b""),
+    ("/usr/include/features.h", b""),
+    ("/usr/include/x86_64-linux-gnu/bits/wordsize.h", b""),
+    ("/w/we\"ird \\dir/a.c", b""),
+    ("/w/we\"ird \\dir/h.h", b""),
+    ("/w/we\"ird \\dir/s h.h", b""),
+    ("/usr/lib/gcc/x86_64-linux-gnu/12/include/stddef.h", b""),
 ];
 
-#[test]
-fn refuses_what_it_cannot_tell(rt: HostRuntime) -> Result<(), Fail> {
-    for text in REFUSED.iter() {
-        let (lines, _) = walk_report(rt.alloc(), text, b"a.c", b"")?;
-        assert_eq!(rt;
-            lines.as_slice(),
-            b"refused".as_slice(),
-            "{}",
-            text.escape_ascii()
-        );
-    }
-    Ok(())
-}
+/// What is answered where a text is refused, where it names no file, and where it names `x.h`.
+const REFUSED: &str = "Ok(Refused)";
 
-/// Texts that name no file to be recorded.
-const PLAIN: [&[u8]; 10] = [
-    b"",
-    b"#line 7\n",
-    b"#line 7 foo\n",
-    b"#1 \"x.h\"\n",
-    b" # 1 \"x.h\"\n",
-    b"#\t1 \"x.h\"\n",
-    b"# line 1 \"x.h\"\n",
-    b"#pragma GCC diagnostic push\n#ident \"x.h\"\n# foo\n",
-    b"# 1 \"<built-in>\"\n",
-    b"# 1 \"\"\n# 1 \"gone.h\"\n# 1 \"/w//\"\n# 1 \"a.c\" 2\n",
+const NONE: &str = "Ok(Names(Listed { items: [] }))";
+
+const ONE: &str = "Ok(Names(Listed { items: [\"x.h\"] }))";
+
+/// Inputs in `/w`, their texts, what a walk answers, and how many calls of files it makes: one for each name, however often it comes.
+const ROWS: [(&[u8], &[u8], &str, u64); 28] = [
+    (b"a.c", b"# 1 foo\n", REFUSED, 0),
+    (b"a.c", b"int x;\n# 1 \"a\\qb\"\n", REFUSED, 0),
+    (b"a.c", b"#line 1 \"a\\qb\"\n", REFUSED, 0),
+    (b"a.c", b"# 1 \"a", REFUSED, 0),
+    (b"a.c", b"# 1", REFUSED, 0),
+    (b"a.c", b"# 1\"a\"", REFUSED, 0),
+    (b"a.c", b"# 1 \"h\\303\\251.h\" 1\n", REFUSED, 0),
+    (b"a.c", b"__asm__(\".incbin \\\"x\\\"\");\n", REFUSED, 0),
+    (
+        b"a.c",
+        b"#pragma GCC pch_preprocess \"x.gch\"\n",
+        REFUSED,
+        0,
+    ),
+    (b"a.c", b"# 1 \"t.h\" 1\n", REFUSED, 1),
+    (b"a.c", b"", NONE, 0),
+    (b"a.c", b"#line 7\n", NONE, 0),
+    (b"a.c", b"#line 7 foo\n", NONE, 0),
+    (b"a.c", b"#1 \"x.h\"\n", NONE, 0),
+    (b"a.c", b" # 1 \"x.h\"\n", NONE, 0),
+    (b"a.c", b"#\t1 \"x.h\"\n", NONE, 0),
+    (b"a.c", b"# line 1 \"x.h\"\n", NONE, 0),
+    (
+        b"a.c",
+        b"#pragma GCC diagnostic push\n#ident \"x.h\"\n# foo\n",
+        NONE,
+        0,
+    ),
+    (
+        b"a.c",
+        b"# 1 \"<built-in>\"\n# 1 \"\"\n# 1 \"/w//\"\n# 1 \"a.c\" 2\n",
+        NONE,
+        2,
+    ),
+    (b"a.c", b"# 1 \"x.h\"", ONE, 1),
+    (b"a.c", b"# 1 \"x.h\" 1 3 4\r\n", ONE, 1),
+    (b"a.c", b"#  007   \"x.h\"\"y.h\n", ONE, 1),
+    (b"a.c", b"#line 1 \"x.h\"\r\n", ONE, 1),
+    (
+        b"a.c",
+        b"#line 2 \"x.h\" foo\nint x;\n#line 3 \"x.h\"",
+        ONE,
+        1,
+    ),
+    (
+        b"a.c",
+        b"# 1 \"x.h\" 1\n# 1 \"gone.h\" 1\n# 3 \"x.h\" 2\n# 1 \"gone.h\" 1\n# 9 \"x.h\" 2\n",
+        ONE,
+        2,
+    ),
+    // The third of these names can't be read, and the last one isn't asked for any more.
+    (
+        b"a.c",
+        b"# 1 \"x.h\" 1\n# 1 \"gone.h\" 1\n# 1 \"broken.h\" 1\n# 1 \"y.h\" 1\n",
+        "Err(Read(\"/w/broken.h\"))",
+        3,
+    ),
+    (
+        b"v.cc",
+        VECTOR,
+        "Ok(Names(Listed { items: [\"/usr/include/stdc-predef.h\", \"/usr/include/c++/12/vector\", \
+            \"/usr/include/x86_64-linux-gnu/c++/12/bits/c++config.h\", \"/usr/include/features.h\", \
+            \"/usr/include/x86_64-linux-gnu/bits/wordsize.h\"] }))",
+        5,
+    ),
+    (
+        b"we\"ird \\dir/a.c",
+        ODD_FOLDER,
+        r#"Ok(Names(Listed { items: ["/usr/include/stdc-predef.h", "we\"ird \\dir/h.h", "we\"ird \\dir/s h.h", "/usr/lib/gcc/x86_64-linux-gnu/12/include/stddef.h"] }))"#,
+        4,
+    ),
 ];
 
-#[test]
-fn passes_plain_lines_over(rt: HostRuntime) -> Result<(), Fail> {
-    for text in PLAIN.iter() {
-        let (lines, _) = walk_report(rt.alloc(), text, b"a.c", b"/w/x.h\n/w/a.c")?;
-        assert_eq!(rt; lines.as_slice(), b"".as_slice(), "{}", text.escape_ascii());
-    }
-    Ok(())
-}
-
-/// Texts whose markers name `x.h`.
-const MARKERS: [&[u8]; 5] = [
-    b"# 1 \"x.h\"",
-    b"# 1 \"x.h\" 1 3 4\r\n",
-    b"#  007   \"x.h\"\"y.h\n",
-    b"#line 1 \"x.h\"\r\n",
-    b"#line 2 \"x.h\" foo\nint x;\n#line 3 \"x.h\"",
-];
-
-#[test]
-fn reads_markers_with_anything_behind(rt: HostRuntime) -> Result<(), Fail> {
-    for text in MARKERS.iter() {
-        let (lines, calls) = walk_report(rt.alloc(), text, b"a.c", b"/w/x.h")?;
-        assert_eq!(rt;
-            lines.as_slice(),
-            b"x.h\n".as_slice(),
-            "{}",
-            text.escape_ascii()
-        );
-        assert_eq!(rt; calls, 1);
-    }
-    Ok(())
-}
-
-#[test]
-fn a_name_that_comes_again_costs_no_call(rt: HostRuntime) -> Result<(), Fail> {
-    let once = b"# 1 \"x.h\" 1\n# 1 \"gone.h\" 1\n";
-    let again =
-        b"# 1 \"x.h\" 1\n# 1 \"gone.h\" 1\n# 3 \"x.h\" 2\n# 1 \"gone.h\" 1\n# 9 \"x.h\" 2\n";
-    for text in [once.as_slice(), again.as_slice()] {
-        let (lines, calls) = walk_report(rt.alloc(), text, b"a.c", b"/w/x.h")?;
-        assert_eq!(rt; lines.as_slice(), b"x.h\n".as_slice());
-        assert_eq!(rt; calls, 2);
-    }
-    Ok(())
-}
-
-/// The third of these names can't be read, and the last one isn't asked for any more.
-#[test]
-fn says_where_the_device_failed(rt: HostRuntime) -> Result<(), Fail> {
-    let alloc = rt.alloc();
-    let text = b"# 1 \"x.h\" 1\n# 1 \"gone.h\" 1\n# 1 \"broken.h\" 1\n# 1 \"y.h\" 1\n";
+/// The walk over a text of that input in `/w` answers this, with so many calls of files.
+fn answers(alloc: Global, input: &[u8], text: &[u8], want: &str, calls: u64) -> Result<(), Fail> {
     let mut files = WatchedFiles {
-        files: MemoryFiles::new(alloc),
+        files: files_of(alloc, &FILES)?,
         calls: 0,
-        broken: BROKEN,
+        broken: b"/w/broken.h",
         failed: 0,
     };
-    let failed = walk(alloc, text, b"a.c", b"/w", &mut files).err();
-    let at_broken = ParseFault::Read(OsBytes::from_slice(alloc, BROKEN)?);
-    assert_eq!(rt; failed, Some(at_broken));
-    assert_eq!(rt; (files.calls, files.failed), (3, 1));
+    let found = walk(alloc, text, input, b"/w", &mut files);
+    let answer = format!(in alloc; "{found:?}")?;
+    is_that(answer.as_str(), want, want)?;
+    holds(files.calls == calls, want)
+}
+
+#[test]
+fn texts_name_their_files(rt: HostRuntime) -> Result<(), Fail> {
+    for (input, text, want, calls) in ROWS.iter() {
+        answers(rt.alloc(), input, text, want, *calls)?;
+    }
     Ok(())
 }

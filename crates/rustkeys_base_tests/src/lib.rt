@@ -1,17 +1,24 @@
-//! Tests of rustc's words for what rows of data cannot show: what is kept as values, response files, I/O errors, notifications.
+//! Tests of rustc's words, texts and keys for what rows of data cannot show: response files, I/O errors, notifications, texts where paths lie
+//! elsewhere, digests of toolchains, what rustc itself writes of dependencies, words of commands, names of outputs, variables, and bytes of keys.
 #![tactic(auto)]
 
+#[cfg(test)]
+mod dep_info;
 #[cfg(test)]
 mod expansion;
 #[cfg(test)]
 mod kept;
 #[cfg(test)]
+mod key_bytes;
+#[cfg(test)]
 mod making;
 #[cfg(test)]
 mod notification;
 #[cfg(test)]
-mod parsing;
+mod outputs;
 #[cfg(test)]
-mod texts;
+mod requests;
 #[cfg(test)]
-mod written;
+mod variables;
+#[cfg(test)]
+mod words;

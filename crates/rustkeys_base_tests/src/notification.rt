@@ -70,32 +70,19 @@ fn each_tells(alloc: Global, lines: &[&str], tells: bool) -> Result<(), Fail> {
     Ok(())
 }
 
-#[test]
-fn lines_that_tell(rt: HostRuntime) -> Result<(), Fail> {
-    each_tells(rt.alloc(), &TELLING, true)
-}
-
-#[test]
-fn lines_that_do_not(rt: HostRuntime) -> Result<(), Fail> {
-    each_tells(rt.alloc(), &OTHERS, false)
-}
-
 /// The object, with a list that nests so deep.
 fn nested(alloc: Global, depth: usize) -> Result<String, AllocError> {
-    let mut line = String::from_str(alloc, "{\"artifact\":\"a.rmeta\",\"n\":")?;
-    for _ in 0..depth {
-        line.push('[')?;
-    }
-    for _ in 0..depth {
-        line.push(']')?;
-    }
-    line.push('}')?;
-    Ok(line)
+    let opened = "[".repeat(alloc, depth)?;
+    let closed = "]".repeat(alloc, depth)?;
+    format!(in alloc; "{{\"artifact\":\"a.rmeta\",\"n\":{opened}{closed}}}")
 }
 
+/// JSON that nests too deep is refused.
 #[test]
-fn json_that_nests_too_deep_is_refused(rt: HostRuntime) -> Result<(), Fail> {
+fn lines_tell_of_metadata_or_do_not(rt: HostRuntime) -> Result<(), Fail> {
     let alloc = rt.alloc();
+    each_tells(alloc, &TELLING, true)?;
+    each_tells(alloc, &OTHERS, false)?;
     each_tells(alloc, &[nested(alloc, 126)?.as_str()], true)?;
     each_tells(alloc, &[nested(alloc, 127)?.as_str()], false)
 }

@@ -1,109 +1,55 @@
-//! For tests: a tool that answers with the texts that it was given, and may have an I/O error at one call.
+//! For tests: a tool that answers with the texts that it was given.
 
-ghost use Rattle.std.specs.Prelude.{◌≡◌, Some, OnOk, OnErr, IfErr};
-ghost use Rattle.os_files.specs.Bytes.{ticked};
+ghost use Rattle.std.specs.Prelude.{◌≡◌};
 ghost use Rattle.rustkeys_tests.specs.Answering.{answering};
 
-use ckeys_records::{Preprocessor, Printed, Step, Ticks, ToolFail};
+use ckeys_records::{Preprocessor, Printed, RustcAnswers, Ticks, ToolFail};
 use cmdlines_base::SingleCompileCommand;
 use cmdlines_tables::CCompilerKind;
 use os_files::{Files, OsBytes};
-use rustkeys::RustcAnswers;
-use std::alloc::{AllocError, Global};
+use std::alloc::Global;
 
 /// For tests: what rustc answers, whatever the command.
-#[derive(Drop)]
-pub(crate) struct RustTexts {
+#[derive(Clone, Copy)]
+pub(crate) struct Answers {
     /// With which it ends.
     pub(crate) status: i32,
-    pub(crate) dep_info: OsBytes,
-    pub(crate) file_names: OsBytes,
+    pub(crate) dep_info: &'static [u8],
+    pub(crate) file_names: &'static [u8],
     /// The digest of each static library.
-    pub(crate) digest: OsBytes,
+    pub(crate) digest: &'static [u8],
 }
 
-impl RustTexts {
-    /// It ends with 0, and gives these texts; the digest of a static library is this.
-    pub(crate) fn new(
-        alloc: Global,
-        dep_info: &[u8],
-        file_names: &[u8],
-        digest: &[u8],
-    ) -> Result<RustTexts, AllocError> {
-        let dep_info = OsBytes::from_slice(alloc, dep_info)?;
-        let file_names = OsBytes::from_slice(alloc, file_names)?;
-        let digest = OsBytes::from_slice(alloc, digest)?;
-        Ok(RustTexts {
-            status: 0,
-            dep_info,
-            file_names,
-            digest,
-        })
-    }
-}
-
-/// For tests: a tool of these answers, with an I/O error at one call, of whichever step. No later call fails.
+/// For tests: a tool of these answers, of which no call fails.
 #[derive(Drop)]
 pub(crate) struct AnswerTool {
-    texts: RustTexts,
-    /// How many calls come before the one that fails.
-    calls_left: u64,
-    /// The step of the failing call.
-    pub(crate) failed_step: Option<Step>,
-    preprocessed: u64,
-    /// How often the digest of a static library was asked for.
-    pub(crate) archived: u64,
-    failed: u64,
+    answers: Answers,
+    asked: u64,
+    archived: u64,
 }
 
 impl AnswerTool {
-    /// A tool of these answers, with an I/O error at the call after that many.
-    pub(crate) fn new(texts: RustTexts, calls_left: u64) -> AnswerTool {
+    /// A tool of these answers that has not run yet.
+    pub(crate) fn new(answers: Answers) -> AnswerTool {
         AnswerTool {
-            texts,
-            calls_left,
-            failed_step: None,
-            preprocessed: 0,
+            answers,
+            asked: 0,
             archived: 0,
-            failed: 0,
         }
-    }
-
-    /// Counts a call of that step, and fails at the one that is to fail.
-    fn count(&mut self, step: Step) -> Result<(), ToolFail>
-        ensures texts { self.new.texts ≡ self.old.texts }
-        ensures preprocessed { self.new.preprocessed ≡ self.old.preprocessed }
-        ensures archived { self.new.archived ≡ self.old.archived }
-        ensures steady { OnOk result (self.new.failed ≡ self.old.failed) }
-        ensures device { IfErr result (λ e. e ≡ ToolFail.Device) }
-        ensures failed { OnErr result (self.new.failed ≡ ticked self.old.failed) }
-        ensures step { OnErr result (self.new.failed_step ≡ Some step) }
-    {
-        if self.calls_left > 0 {
-            self.calls_left -= 1;
-            return Ok(());
-        }
-        if self.failed_step.is_some() {
-            return Ok(());
-        }
-        self.failed = self.failed.wrapping_add(1);
-        self.failed_step = Some(step);
-        Err(ToolFail::Device)
     }
 }
 
 impl Preprocessor for AnswerTool {
-    ghost meaning = { λ t.
-        answering t.texts.status t.texts.dep_info t.texts.file_names t.texts.digest };
+    ghost meaning = { λ t. answering t.answers.status t.answers.dep_info.now
+        t.answers.file_names.now t.answers.digest.now };
 
-    ghost preprocessed = { λ t. t.preprocessed };
+    ghost preprocessed = { λ t. t.asked };
 
     ghost compiled = { λ _. 0 };
 
-    ghost failed = { λ t. t.failed };
+    ghost failed = { λ _. 0 };
 
-    /// The step is remembered.
-    ghost fails_in = { λ t step u. u.failed_step ≡ Some step };
+    ghost fails_in = { λ t step u. Unit {0} };
 
     fn preprocess<F: Files>(
         &mut self,
@@ -113,8 +59,7 @@ impl Preprocessor for AnswerTool {
         _files: &mut F,
         _moment: i64,
     ) -> Result<Printed, ToolFail> {
-        self.preprocessed = self.preprocessed.wrapping_add(1);
-        self.count(Step::Preprocess)?;
+        self.asked = self.asked.wrapping_add(1);
         Ok(Printed {
             status: 1,
             text: OsBytes::empty(alloc),
@@ -123,9 +68,9 @@ impl Preprocessor for AnswerTool {
 
     fn ticks(&self) -> Ticks {
         Ticks {
-            preprocess: self.preprocessed,
+            preprocess: self.asked,
             compile: 0,
-            failure: self.failed,
+            failure: 0,
         }
     }
 }
@@ -135,42 +80,39 @@ impl RustcAnswers for AnswerTool {
 
     fn dep_info<F: Files>(
         &mut self,
-        _alloc: Global,
+        alloc: Global,
         _command: &SingleCompileCommand,
         _files: &mut F,
     ) -> Result<Printed, ToolFail> {
-        self.preprocessed = self.preprocessed.wrapping_add(1);
-        self.count(Step::DepInfo)?;
-        let text = self.texts.dep_info.clone()?;
+        self.asked = self.asked.wrapping_add(1);
+        let text = OsBytes::from_slice(alloc, self.answers.dep_info)?;
         Ok(Printed {
-            status: self.texts.status,
+            status: self.answers.status,
             text,
         })
     }
 
     fn file_names<F: Files>(
         &mut self,
-        _alloc: Global,
+        alloc: Global,
         _command: &SingleCompileCommand,
         _files: &mut F,
     ) -> Result<Printed, ToolFail> {
-        self.preprocessed = self.preprocessed.wrapping_add(1);
-        self.count(Step::FileNames)?;
-        let text = self.texts.file_names.clone()?;
+        self.asked = self.asked.wrapping_add(1);
+        let text = OsBytes::from_slice(alloc, self.answers.file_names)?;
         Ok(Printed {
-            status: self.texts.status,
+            status: self.answers.status,
             text,
         })
     }
 
     fn archive_digest<F: Files>(
         &mut self,
-        _alloc: Global,
+        alloc: Global,
         _path: &OsBytes,
         _files: &mut F,
     ) -> Result<OsBytes, ToolFail> {
         self.archived = self.archived.wrapping_add(1);
-        self.count(Step::ArchiveDigest)?;
-        Ok(self.texts.digest.clone()?)
+        Ok(OsBytes::from_slice(alloc, self.answers.digest)?)
     }
 }

@@ -1,195 +1,208 @@
-//! Requests to rustc, and what comes of their keys.
+//! Requests to a rustc with one library, and what is told of their keys.
 //!
 //! The proof of a function grows with what it drops by itself, field by field, at each of its ends. So large values are lent, each function
 //! holds one at most, and it hands that over to `drop`, which is one call.
 
-use crate::answer_tool::{AnswerTool, RustTexts};
-use ckeys_base::Digest;
+use crate::answer_tool::{AnswerTool, Answers};
 use ckeys_records::Fault;
 use cmdlines_base::CompilerArguments;
+use failing_kit::FailTool;
 use os_files::{Files, Listed, MemoryFiles, OsBytes};
-use response_files::ParseFault;
 use rustkeys::{
-    ParsedArguments, RShape, Rust, RustCompilation, RustFault, RustHasher, parse_arguments,
+    ParsedArguments, RShape, Rust, RustCompilation, RustFault, RustHasher, RustcAnswers,
+    parse_arguments,
 };
 use sha2::Sha256;
 use std::alloc::{AllocError, Global};
-use std::test::Fail;
-use test_kit::{files_of, words};
+use test_kit::{FailFiles, files_of, words};
 
 /// A request for a library of a crate `foo`.
 pub(crate) const FIRST: &str =
     "--emit link -C opt-level=1 foo.rs --out-dir out --crate-name foo --crate-type lib";
 
 /// It with a static library.
-pub(crate) const WITH_LIBRARY: &str =
+pub(crate) const LINKED: &str =
     "--emit link -C opt-level=1 foo.rs --out-dir out --crate-name foo --crate-type lib -L native=lib -l static=z";
 
 /// It with two crates that are named.
 pub(crate) const WITH_CRATES: &str =
     "--emit link -C opt-level=1 foo.rs --out-dir out --crate-name foo --crate-type lib --extern b=b.rlib --extern a=a.rlib";
 
-/// The first one in other words, into another folder.
-pub(crate) const SECOND: &str =
-    "--emit=link -Copt-level=1 foo.rs --out-dir=out2 --crate-name=foo --crate-type=lib";
-
-/// What the source holds.
-pub(crate) const SOURCE: &[u8] = b"pub fn f() {}\n";
-
 /// The digest of nothing, the low half of each byte first.
-pub(crate) const OF_NOTHING: &str =
-    "3e0b4c2489cfc141a9bf4f8c99f69b4272ea144e46b939c44a5999b187258b55";
+const OF_NOTHING: &[u8] = b"3e0b4c2489cfc141a9bf4f8c99f69b4272ea144e46b939c44a5999b187258b55";
 
-/// The files of each request.
-const FILES: [(&str, &[u8]); 5] = [
-    ("/w/foo.rs", SOURCE),
+/// What rustc answers of the dependencies of a source that names no other.
+pub(crate) const TEXT: &[u8] = b"deps.d: foo.rs\n\nfoo.rs:\n";
+
+/// What it answers for a library of such a source.
+pub(crate) const PLAIN: Answers = Answers {
+    status: 0,
+    dep_info: TEXT,
+    file_names: b"libfoo.rlib\n",
+    digest: OF_NOTHING,
+};
+
+/// The files of each request, and the compiler's library.
+const FILES: [(&str, &[u8]); 8] = [
+    ("/s/lib.so", b""),
+    ("/w/foo.rs", b"pub fn f() {}\n"),
+    ("/w/bar.rs", b""),
     ("/w/a.rlib", b"a"),
     ("/w/b.rlib", b"b"),
     ("/w/lib/libz.a", b""),
-    ("/w/lib/liby.a", b""),
+    ("/w/t.json", b"{}"),
+    ("/w/p", b"A"),
 ];
 
-/// What rustc says of what the crate depends on.
-pub(crate) const DEPENDENCIES: &[u8] = b"deps.d: foo.rs\n\nfoo.rs:\n";
+/// The variables of each call, of which two count.
+const VARIABLES: [(&str, &str); 5] = [
+    ("CARGO_PKG_NAME", "foo"),
+    ("FOO", "bar"),
+    ("CARGO_BLAH", "abc"),
+    ("CARGO_REGISTRIES_A_TOKEN", "i"),
+    ("CARGO_BUILD_JOBS", "i"),
+];
+
+fn variables(alloc: Global) -> Result<Vec<(OsBytes, OsBytes)>, AllocError> {
+    let mut list = Vec::new(alloc);
+    for (name, value) in VARIABLES.iter() {
+        let name = OsBytes::from_slice(alloc, name.as_bytes())?;
+        list.push((name, OsBytes::from_slice(alloc, value.as_bytes())?))?;
+    }
+    Ok(list)
+}
+
+/// What a request is asked by: its words, what rustc answers, and how many calls of the tool and of the files come before the one that fails.
+#[derive(Clone, Copy)]
+pub(crate) struct Asked {
+    pub(crate) line: &'static str,
+    pub(crate) answers: Answers,
+    pub(crate) tool_calls: u64,
+    pub(crate) file_calls: u64,
+}
+
+/// These words, where no call fails.
+pub(crate) fn steady(line: &'static str, answers: Answers) -> Asked {
+    Asked {
+        line,
+        answers,
+        tool_calls: u64::MAX,
+        file_calls: u64::MAX,
+    }
+}
 
 /// A key, and what comes with it.
-pub(crate) type Made = (RustCompilation, String, RShape, Option<OsBytes>);
+type Made = (RustCompilation, String, RShape, Option<OsBytes>);
 
-/// The files of each request.
-pub(crate) fn all_files(alloc: Global) -> Result<MemoryFiles, AllocError> {
+/// The key of a request in `/w`.
+fn made_by<F: Files, A: RustcAnswers>(
+    alloc: Global,
+    hasher: &RustHasher<'_>,
+    files: &mut F,
+    tool: &mut A,
+) -> Result<Made, Fault> {
+    let dir = OsBytes::from_slice(alloc, b"/w")?;
+    let env = variables(alloc)?;
+    hasher.generate_hash_key::<Sha256, F, A>(alloc, &dir, env.as_slice(), files, tool)
+}
+
+/// Likewise, on files and by a tool of its own.
+fn made(alloc: Global, hasher: &RustHasher<'_>, asked: &Asked) -> Result<Made, Fault> {
+    let mut files = FailFiles::new(all_files(alloc)?, asked.file_calls);
+    let mut tool = FailTool::new(AnswerTool::new(asked.answers), asked.tool_calls);
+    made_by(alloc, hasher, &mut files, &mut tool)
+}
+
+fn all_files(alloc: Global) -> Result<MemoryFiles, AllocError> {
     files_of(alloc, &FILES)
 }
 
-/// A tool that gives these texts, and of which no call fails.
-pub(crate) fn tool(
-    alloc: Global,
-    dep_info: &[u8],
-    file_names: &[u8],
-    digest: &[u8],
-) -> Result<AnswerTool, AllocError> {
-    let texts = RustTexts::new(alloc, dep_info, file_names, digest)?;
-    Ok(AnswerTool::new(texts, u64::MAX))
-}
-
-/// The digest of these pieces, one after the other.
-pub(crate) fn digest_of_all(alloc: Global, pieces: &[&[u8]]) -> Result<String, AllocError> {
-    let mut digest: Digest<Sha256> = Digest::new();
-    for piece in pieces {
-        digest.update(piece);
+/// The crate's name, the key, and the text on dependencies where one is asked for.
+fn text_of(alloc: Global, hasher: &RustHasher<'_>, made: &Made) -> Result<String, AllocError> {
+    let name = hasher.output_pretty(alloc)?;
+    let key = &made.1;
+    match &made.3 {
+        Some(text) => format!(in alloc; "{name} {key} {text}"),
+        None => format!(in alloc; "{name} {key}"),
     }
-    digest.finish(alloc)
 }
 
-/// A rustc with these libraries, and without an archive.
-pub(crate) fn rust_with(
+/// What is told of a request.
+fn told_by(alloc: Global, hasher: &RustHasher<'_>, asked: &Asked) -> Result<String, Fault> {
+    let made = made(alloc, hasher, asked)?;
+    let text = text_of(alloc, hasher, &made);
+    drop(made);
+    Ok(text?)
+}
+
+/// Likewise of what words come to.
+fn told_of_words(
     alloc: Global,
-    libraries: Vec<OsBytes>,
-    files: &mut MemoryFiles,
-) -> Result<Rust, RustFault> {
-    let executable = OsBytes::from_slice(alloc, b"rustc")?;
-    let version = OsBytes::from_slice(alloc, b"host: x")?;
-    let sysroot = OsBytes::from_slice(alloc, b"/s")?;
-    let libraries = Listed::from_vec(libraries);
-    Rust::new::<Sha256, MemoryFiles>(alloc, executable, version, sysroot, libraries, None, files)
-}
-
-/// A rustc without libraries.
-pub(crate) fn rust(alloc: Global) -> Result<Rust, RustFault> {
-    rust_with(alloc, Vec::new(alloc), &mut MemoryFiles::new(alloc))
-}
-
-/// What the words of a line come to, in `/w`.
-pub(crate) fn parse(
-    alloc: Global,
-    line: &str,
-    files: &mut MemoryFiles,
-) -> Result<CompilerArguments<ParsedArguments>, ParseFault> {
-    let dir = OsBytes::from_slice(alloc, b"/w")?;
-    let list = words(alloc, line)?;
-    parse_arguments(alloc, list.as_slice(), &dir, files)
-}
-
-/// What they ask for.
-pub(crate) fn parsed(alloc: Global, line: &str) -> Result<ParsedArguments, Fail> {
-    match parse(alloc, line, &mut all_files(alloc)?)? {
-        CompilerArguments::Ok(parsed) => Ok(parsed),
+    compiler: &Rust,
+    parsed: &CompilerArguments<ParsedArguments>,
+    asked: &Asked,
+) -> Result<String, Fault> {
+    match parsed {
+        CompilerArguments::Ok(parsed) => told_by(alloc, &RustHasher { compiler, parsed }, asked),
         CompilerArguments::NotCompilation | CompilerArguments::CannotCache(_, _) => {
-            Err("no request".into())
+            Ok(String::from_str(alloc, "no request")?)
         }
     }
 }
 
-/// What is answered of the key of a request to this rustc, in that directory, under these variables.
-pub(crate) fn asked_at<F: Files>(
-    alloc: Global,
-    hasher: &RustHasher<'_>,
-    dir: &str,
-    env: &[(OsBytes, OsBytes)],
-    files: &mut F,
-    tool: &mut AnswerTool,
-) -> Result<Made, Fault> {
-    let dir = OsBytes::from_slice(alloc, dir.as_bytes())?;
-    hasher.generate_hash_key::<Sha256, F, AnswerTool>(alloc, &dir, env, files, tool)
+/// What the words of a line come to, in `/w`.
+fn parsed(alloc: Global, line: &str) -> Result<CompilerArguments<ParsedArguments>, Fault> {
+    let dir = OsBytes::from_slice(alloc, b"/w")?;
+    let list = words(alloc, line)?;
+    let mut files = all_files(alloc)?;
+    Ok(parse_arguments(alloc, list.as_slice(), &dir, &mut files)?)
 }
 
-/// What is answered of the key of what is asked for, in `/w`.
-fn asked_of<F: Files>(
-    alloc: Global,
-    parsed: &ParsedArguments,
-    files: &mut F,
-    tool: &mut AnswerTool,
-) -> Result<Result<Made, Fault>, RustFault> {
-    let compiler = rust(alloc)?;
-    let hasher = RustHasher {
-        compiler: &compiler,
-        parsed,
-    };
-    let made = asked_at(alloc, &hasher, "/w", &[], files, tool);
-    drop(compiler);
-    Ok(made)
-}
-
-/// What is answered of the key of a line's request, in `/w`.
-pub(crate) fn asked<F: Files>(
-    alloc: Global,
-    line: &str,
-    files: &mut F,
-    tool: &mut AnswerTool,
-) -> Result<Result<Made, Fault>, Fail> {
-    let parsed = parsed(alloc, line)?;
-    let made = asked_of(alloc, &parsed, files, tool);
+/// What is told of a line's request to that compiler.
+fn told_of_line(alloc: Global, compiler: &Rust, asked: &Asked) -> Result<String, Fault> {
+    let parsed = parsed(alloc, asked.line)?;
+    let text = told_of_words(alloc, compiler, &parsed, asked);
     drop(parsed);
-    Ok(made?)
+    text
 }
 
-/// The key, or the fault.
-pub(crate) fn key_or_fault(
+/// A rustc with that list of libraries.
+fn rust_with(
     alloc: Global,
-    made: &Result<Made, Fault>,
-) -> Result<String, AllocError> {
-    match made {
-        Ok((_, key, _, _)) => key.clone(),
+    libraries: Listed<OsBytes>,
+    files: &mut MemoryFiles,
+) -> Result<Rust, RustFault> {
+    let version = OsBytes::from_slice(alloc, b"host: x")?;
+    let none = OsBytes::empty(alloc);
+    let sysroot = OsBytes::empty(alloc);
+    Rust::new::<Sha256, MemoryFiles>(alloc, none, version, sysroot, libraries, None, files)
+}
+
+/// A rustc with one library.
+fn rust(alloc: Global) -> Result<Rust, RustFault> {
+    let mut files = all_files(alloc)?;
+    let libraries = Listed::from_vec(words(alloc, "/s/lib.so")?);
+    rust_with(alloc, libraries, &mut files)
+}
+
+/// What is told of a request to it. That there is no such compiler is told as if memory was refused.
+fn told_once(alloc: Global, asked: &Asked) -> Result<String, Fault> {
+    let Ok(compiler) = rust(alloc) else {
+        return Err(Fault::Memory);
+    };
+    let text = told_of_line(alloc, &compiler, asked);
+    drop(compiler);
+    text
+}
+
+/// What is told of a request, or its fault. It is asked once more where memory was refused, which happens once at most.
+pub(crate) fn told(alloc: Global, asked: &Asked) -> Result<String, AllocError> {
+    let told = match told_once(alloc, asked) {
+        Err(Fault::Memory) => told_once(alloc, asked),
+        told => told,
+    };
+    match told {
+        Ok(text) => Ok(text),
         Err(fault) => format!(in alloc; "fault {fault}"),
     }
-}
-
-/// The key that was made; a fault fails the test.
-pub(crate) fn made(asked: Result<Made, Fault>) -> Result<Made, Fail> {
-    match asked {
-        Ok(made) => Ok(made),
-        Err(fault) => Err(Fail::new(fault)),
-    }
-}
-
-/// The key of a line's request on these files, or the fault.
-pub(crate) fn key_or_fault_on<F: Files>(
-    alloc: Global,
-    line: &str,
-    files: &mut F,
-    tool: &mut AnswerTool,
-) -> Result<String, Fail> {
-    let made = asked(alloc, line, files, tool)?;
-    let text = key_or_fault(alloc, &made);
-    drop(made);
-    Ok(text?)
 }

@@ -1,19 +1,14 @@
-//! Tests of sessions and of their callers: what is held, and what is run; and of the values that they hold.
+//! Tests of sessions over recorded answers, and of what is written over `wrap` alone: what is answered, what is run, and what is lacking; of
+//! a difference between fingerprints; and of a store of many pairs.
 #![tactic(auto)]
 
 #[cfg(test)]
-mod calls;
+mod builds;
 #[cfg(test)]
 mod map_store;
 #[cfg(test)]
 mod marks;
 #[cfg(test)]
-mod sessions;
+mod requests;
 #[cfg(test)]
-mod support;
-#[cfg(test)]
-mod text_tool;
-#[cfg(test)]
-mod uses;
-#[cfg(test)]
-mod values;
+mod steps;

@@ -1,6 +1,7 @@
 //! How a difference is reported that no row of `sccache_explain` shows: one in an output's mark alone. Only by its words does a request
 //! have an output that its compile may leave out, and where words differ that is reported.
 
+use crate::requests::one_output;
 use ckeys_records::output_name::OutputName;
 use cmdlines_tables::language::Language;
 use fingerprints::{CParts, Difference, Fingerprint};
@@ -9,14 +10,8 @@ use std::alloc::{AllocError, Global};
 use std::test::Fail;
 use test_kit::is_that;
 
-/// One object, which a compile may leave out or not.
-fn object(alloc: Global, optional: bool) -> Result<Listed<OutputName>, AllocError> {
-    let name = OsBytes::from_slice(alloc, b"obj")?;
-    Ok(Listed::from_vec(vec![in alloc; OutputName { name, optional }]?))
-}
-
-/// The fingerprint of a request with these outputs and of which nothing else counts.
-fn with_names(alloc: Global, names: Listed<OutputName>) -> Fingerprint {
+/// The fingerprint of a request to a C compiler with these outputs and of which nothing else counts.
+pub(crate) fn with_names(alloc: Global, names: Listed<OutputName>) -> Fingerprint {
     Fingerprint::C(CParts {
         compiler: OsBytes::empty(alloc),
         plusplus: false,
@@ -57,8 +52,8 @@ fn difference_of_names(
 
 #[test]
 fn marks_count(rt: HostRuntime) -> Result<(), Fail> {
-    let marked = object(rt.alloc(), true)?;
-    let plain = object(rt.alloc(), false)?;
+    let marked = one_output(rt.alloc(), "obj", true)?;
+    let plain = one_output(rt.alloc(), "obj", false)?;
     let text = difference_of_names(rt.alloc(), marked, plain)?;
     is_that(
         text.as_str(),
