@@ -34,7 +34,7 @@ fn within_one<F: Files, T: Tool>(
 }
 
 /// What a build of these calls answers, and whether all is kept.
-fn told_of_build<F: Files, T: Tool>(
+fn printed_build<F: Files, T: Tool>(
     alloc: Global,
     config: Config,
     calls: &mut [Call<F, T>],
@@ -45,7 +45,7 @@ fn told_of_build<F: Files, T: Tool>(
 }
 
 /// What they are answered where one pair is kept.
-fn told_within_one<F: Files, T: Tool>(
+fn printed_within_one<F: Files, T: Tool>(
     alloc: Global,
     config: Config,
     calls: &mut [Call<F, T>],
@@ -77,10 +77,10 @@ fn push_all_wanted(text: &mut String, calls: &[RecordedCall]) -> Result<(), Allo
 }
 
 /// What a build of calls answers, whether all is kept, and what they lacked.
-fn told(alloc: Global, rows: &[(&str, Recorded)]) -> Result<String, Fail> {
+fn printed(alloc: Global, rows: &[(&str, Recorded)]) -> Result<String, Fail> {
     let mut calls = calls(alloc, rows)?;
     let config = config(alloc)?;
-    let mut text = told_of_build(alloc, config, calls.as_mut_slice())?;
+    let mut text = printed_build(alloc, config, calls.as_mut_slice())?;
     push_all_wanted(&mut text, calls.as_slice())?;
     Ok(text)
 }
@@ -91,7 +91,7 @@ const SERVED: &str =
 
 #[test]
 fn two_requests_share_a_compile(rt: HostRuntime) -> Result<(), Fail> {
-    let text = told(rt.alloc(), &[(FIRST, OF_FIRST), (SECOND, OF_SECOND)])?;
+    let text = printed(rt.alloc(), &[(FIRST, OF_FIRST), (SECOND, OF_SECOND)])?;
     let want = format!(in rt.alloc(); "{SERVED} true")?;
     is_that(text.as_str(), want.as_str(), "a build")
 }
@@ -100,7 +100,7 @@ fn two_requests_share_a_compile(rt: HostRuntime) -> Result<(), Fail> {
 fn two_requests_share_it_where_one_pair_is_kept(rt: HostRuntime) -> Result<(), Fail> {
     let mut calls = calls(rt.alloc(), &[(FIRST, OF_FIRST), (SECOND, OF_SECOND)])?;
     let config = config(rt.alloc())?;
-    let text = told_within_one(rt.alloc(), config, calls.as_mut_slice())?;
+    let text = printed_within_one(rt.alloc(), config, calls.as_mut_slice())?;
     is_that(text.as_str(), SERVED, "one pair")
 }
 
@@ -205,7 +205,7 @@ const LACKING: [(Recorded, &str, &str, &str); 8] = [
 fn what_is_lacking_is_told(rt: HostRuntime) -> Result<(), Fail> {
     for (recorded, fault, words, paths) in LACKING.iter() {
         let want = format!(in rt.alloc(); "[Err({fault})] true lacks {words}{paths}")?;
-        let text = told(rt.alloc(), &[(FIRST, *recorded)])?;
+        let text = printed(rt.alloc(), &[(FIRST, *recorded)])?;
         is_that(text.as_str(), want.as_str(), *fault)?;
     }
     Ok(())
@@ -219,7 +219,7 @@ const UNMADE: Recorded = Recorded {
 
 #[test]
 fn an_output_that_is_not_made_is_missing(rt: HostRuntime) -> Result<(), Fail> {
-    let text = told(rt.alloc(), &[(FIRST, UNMADE)])?;
+    let text = printed(rt.alloc(), &[(FIRST, UNMADE)])?;
     is_that(
         text.as_str(),
         "[Err(MissingOutput(\"libfoo.rlib\"))] true",
