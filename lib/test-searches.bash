@@ -234,12 +234,7 @@ search_names() {
     rm script
     printf '#define PASTE(a, b) a ## b\nint value = sizeof(PASTE(__DA, TE__));\n' >it.c
     settle
-    # In the last hour of a day no text with a date is kept, so then it's tried in a zone where it is earlier.
-    if [ "$(date +%H)" = 23 ]; then
-        TZ=UTC+6 search_none "$cc: a day that is pasted" $cc
-    else
-        search_none "$cc: a day that is pasted" $cc
-    fi
+    TZ=$(noon_zone) search_none "$cc: a day that is pasted" $cc
     printf '#ifdef NOW\nint value = 1;\n#endif\n' >it.c
     settle
     search_none "$cc: a time in a word" $cc -DNOW=__TIME__

@@ -36,6 +36,8 @@ precompiled_ahead() {
 
 texts() {
     local cc=$1 dir=$work/texts-$1 directive
+    local -x TZ
+    TZ=$(noon_zone)
     mkdir -p "$dir/parts.include"
     cd "$dir" || return
     echo one >d.bin
