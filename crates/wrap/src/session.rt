@@ -1,19 +1,17 @@
 //! The session that answers requests.
 
-ghost use Rattle.std.specs.Prelude.{◌≡◌, true, false, List, [], ◌∷◌, ◌++◌, length, IfOk, IfErr, OnOk, OnErr, IsErrOf};
+ghost use Rattle.std.specs.Prelude.{◌≡◌, true, false, length, IfOk, IfErr, OnOk, OnErr};
 ghost use Rattle.os_files.specs.Views.{FilesFail};
 ghost use Rattle.ckeys_base.specs.Shelf.{Clears, IsEmpty};
-ghost use Rattle.ckeys.specs.Entries.{EntryInvariant, EntryPremises};
 ghost use Rattle.ckeys_records.specs.Causes.{HasOwnFault};
 ghost use Rattle.ckeys_records.specs.Views.{AreSteady, ToolFails};
-ghost use Rattle.wrap_keys.specs.Account.{Account, account_at, direct_calls};
-ghost use Rattle.wrap_keys.specs.Answers.{Answers, EarlyCause, GoesOn, OnPass, Says, SaysBy, settled, settled_by};
+ghost use Rattle.wrap_keys.specs.Account.{account_at};
+ghost use Rattle.wrap_keys.specs.Answers.{EarlyCause, GoesOn, OnPass, Says, SaysBy};
 ghost use Rattle.wrap_keys.specs.Asking.{AskedTurn, EntriesTurn, RecordsAreTrue, RunsOf, shelves_of};
 ghost use Rattle.wrap_keys.specs.Early.{IsAskedEarly, OfPassed};
 ghost use Rattle.wrap_base.specs.Commands.{named_by};
 ghost use Rattle.wrap_keys.specs.RustVerdicts.{is_rust_no_text};
-ghost use Rattle.wrap_keys.specs.StoreKeys.{Invariant, Premises};
-ghost use Rattle.wrap_keys.specs.Turn.{StoreTurn};
+ghost use Rattle.wrap_keys.specs.StoreKeys.{Premises};
 ghost use Rattle.fingerprints.specs.Telling.{OnReason, Tells};
 ghost use Rattle.wrap_keys.specs.Whole.{AllAnswer, Each, IsAnswered, OneFresh, Run, SessionRun, accounts_at, served_at};
 ghost use Rattle.wrap.specs.Serving.{BeginTrue, IsTurn, KeepsHistory, account_of, call_of};
