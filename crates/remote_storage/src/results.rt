@@ -89,20 +89,15 @@ fn keep_result<R: Files + AllocGlobal>(
 }
 
 /// Counts a result as a hit where the preprocessor printed these messages then.
-fn take_kept<I>(
-    alloc: Global,
-    host: &mut Host<I>,
-    entry: KeptResult,
-    messages: &[u8],
-) -> Result<Option<Kept>, HostError>
+fn take_kept<I>(host: &mut Host<I>, entry: KeptResult, messages: &[u8]) -> Option<Kept>
     ensures { host.new.compiled ≡ host.old.compiled }
 {
     if entry.messages.preprocessor.as_bytes() != messages {
         drop(entry);
-        return Ok(None);
+        return None;
     }
     host.tally.hits = host.tally.hits.saturating_add(1);
-    Ok(Some(kept_of(entry)))
+    Some(kept_of(entry))
 }
 
 /// Takes what came under a key. What isn't sealed, or is of another key, is as if the server had failed.
@@ -121,7 +116,7 @@ fn take_result<R: Files + AllocGlobal, I>(
         return Ok(None);
     };
     match keep_result(rt, line, key, bytes) {
-        Ok(()) => take_kept(rt.alloc(), host, entry, messages),
+        Ok(()) => Ok(take_kept(host, entry, messages)),
         Err(stop) => {
             drop(entry);
             Err(stop)
