@@ -1,6 +1,6 @@
 //! What a call came to is counted, and reported in a line of the log where one is kept.
 
-use crate::deciding::{End, What};
+use c_calls::{End, What};
 use call_log::CallFacts;
 use call_log::front::front;
 use host_protocol::{CommandLine, HostError, Tally, tell_line};

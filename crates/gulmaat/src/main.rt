@@ -9,11 +9,10 @@ ghost use Rattle.std.specs.Prelude.{◌≡◌};
 
 mod counting;
 mod deciding;
-mod finding;
-mod finishing;
 
+use c_calls::{End, What};
 use counting::note;
-use deciding::{End, What, decide};
+use deciding::decide;
 use explained_misses::why::why;
 use host_protocol::{CommandLine, Host, HostError};
 use made_outputs::Audit;

@@ -7,7 +7,7 @@ use disk_files::State;
 use host_protocol::{CommandLine, Ended, Host, HostError};
 use made_outputs::{lock_paths, made_since, states_of};
 use os_files::OsBytes;
-use replay::Wanted;
+use replay_base::Wanted;
 use std::fs::File;
 use std::io::Read;
 use std::rt::Files;

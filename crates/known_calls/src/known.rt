@@ -15,7 +15,7 @@ use host_protocol::{CommandLine, Ended, Host, HostError, text_in};
 use known_options::Dependencies;
 use known_options::text_words::text_words;
 use os_files::{Files as CallFiles, Listed, OsBytes};
-use replay::{RecordedOutputs, RecordedText, ReplayTool, Wanted};
+use replay_base::{RecordedOutputs, RecordedText, ReplayTool, Wanted};
 use searched_folders::Unwatched;
 use settings::Key;
 use snapshot_files::SnapshotFiles;

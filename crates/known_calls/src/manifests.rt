@@ -13,7 +13,6 @@ use entry_keys::entry_key::EntryKey;
 use host_protocol::{CommandLine, Host, HostError};
 use include_records::PreprocessorCacheEntry;
 use os_files::{FileTime, OsBytes};
-use replay::pair_again;
 use searched_folders::{
     EnteredNames, Source, Unwatched, list_of, result_holds, said_of, with_list, with_results_of,
     without,
@@ -105,7 +104,7 @@ impl Known {
     /// A copy of the manifest that is kept, where direct mode is on.
     pub fn manifest_again(&self) -> Result<Option<(EntryKey, PreprocessorCacheEntry)>, HostError> {
         match (&self.zone, &self.record.kept) {
-            (Some(_), Some((key, entry))) => Ok(Some(pair_again(key, entry)?)),
+            (Some(_), Some((key, entry))) => Ok(Some((key.clone()?, entry.clone()?))),
             (_, _) => Ok(None),
         }
     }

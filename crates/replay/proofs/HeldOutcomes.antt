@@ -12,7 +12,7 @@ use Rattle.wrap.specs.Account.{Account, worked, Work, Pairs, IsSuccess, collecte
 use Rattle.wrap.specs.CallRecords.{AreDistinct, IsHashedFor, IsTold}
 use Rattle.wrap.specs.StoreKeys.{HasRecord, Invariant, IsHashedIn, Premises, SameRecord, store_key_of}
 use Rattle.wrap_base.specs.declared.store_key.StoreKey.{StoreKey}
-use Rattle.replay.specs.Recorded.{unmade}
+use Rattle.replay_base.specs.Recorded.{unmade}
 
 -- a test that chose between an answer and a failure chose the answer, where that succeeded
 pub chosen : (b : Bool) (made other : Made) → (b ≡ true → made ≡ other) → (if b then made else unmade).status ≡ pos 0 → (if b then made else unmade) ≡ other

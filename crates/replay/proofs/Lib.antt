@@ -1,5 +1,3 @@
-mod Answering
-mod AskedAlike
 mod WorldSteps
 mod OneEntry
 mod HeldOutcomes

@@ -39,15 +39,15 @@ use Rattle.wrap_base.specs.declared.answer.How.TheVariants.{Direct, Stored, Fres
 use Rattle.wrap_base.specs.declared.request.Request.{Request}
 use Rattle.wrap_base.specs.declared.store_key.Family.TheVariants as families
 use Rattle.replay.specs.Beside.{TellsOwnDependencies}
-use Rattle.replay.specs.Recorded.{crate_for, crate_of, handed_as, handed_in, library_digest, made_as, on_dependencies, on_names, printed_as, recorded, told_for}
-use Rattle.replay.specs.SameAsked.{same_asked, same_list, same_name}
+use Rattle.replay_base.specs.Recorded.{crate_for, crate_of, handed_as, handed_in, library_digest, made_as, on_dependencies, on_names, printed_as, recorded, told_for}
+use Rattle.replay_base.specs.SameAsked.{same_asked, same_list, same_name}
 use Rattle.replay.specs.Worlds.{GivesOfRustc, compile_scene}
-use Rattle.replay.specs.declared.replay_tool.RecordedOutputs.{RecordedOutputs}
-use Rattle.replay.specs.declared.replay_tool.RecordedText.{RecordedText}
-use Rattle.replay.specs.declared.rustc_records.RecordedAnswer.{RecordedAnswer}
-use Rattle.replay.specs.declared.rustc_records.RecordedCrate.{RecordedCrate}
-use Rattle.replay.specs.declared.rustc_records.RecordedRustc.{RecordedRustc}
-use Rattle.replay.proofs.AskedAlike.{asked_is, bytes_is, names_are}
+use Rattle.replay_base.specs.declared.replay_tool.RecordedOutputs.{RecordedOutputs}
+use Rattle.replay_base.specs.declared.replay_tool.RecordedText.{RecordedText}
+use Rattle.replay_base.specs.declared.rustc_records.RecordedAnswer.{RecordedAnswer}
+use Rattle.replay_base.specs.declared.rustc_records.RecordedCrate.{RecordedCrate}
+use Rattle.replay_base.specs.declared.rustc_records.RecordedRustc.{RecordedRustc}
+use Rattle.replay_base.proofs.AskedAlike.{asked_is, bytes_is, names_are}
 use Rattle.replay.proofs.HeldOutcomes.{Tells, chosen, held_is, status_is}
 
 -- ---- what was reported was recorded, and is the world's

@@ -34,14 +34,14 @@ use Rattle.wrap_base.specs.declared.answer.Answer.TheVariants.{Pass, Outputs}
 use Rattle.wrap_base.specs.declared.answer.How.TheVariants.{Direct, Stored, Fresh}
 use Rattle.wrap_base.specs.declared.request.Request.{Request}
 use Rattle.wrap_base.specs.declared.store_key.StoreKey.{StoreKey}
-use Rattle.replay.specs.Recorded.{made_for, made_in, printed_for, printed_in, recorded}
-use Rattle.replay.specs.SameAsked.{same_asked, same_list, same_name}
+use Rattle.replay_base.specs.Recorded.{made_for, made_in, printed_for, printed_in, recorded}
+use Rattle.replay_base.specs.SameAsked.{same_asked, same_list, same_name}
 use Rattle.replay.specs.Worlds.{Gives, GivesNamed}
-use Rattle.replay.specs.declared.replay_tool.RecordedOutputs.{RecordedOutputs}
-use Rattle.replay.specs.declared.replay_tool.RecordedText.{RecordedText}
+use Rattle.replay_base.specs.declared.replay_tool.RecordedOutputs.{RecordedOutputs}
+use Rattle.replay_base.specs.declared.replay_tool.RecordedText.{RecordedText}
 use Rattle.replay.specs.Beside.{TellsOwnDependencies}
-use Rattle.replay.specs.declared.rustc_records.RecordedRustc.{RecordedRustc}
-use Rattle.replay.proofs.AskedAlike.{asked_is, names_are}
+use Rattle.replay_base.specs.declared.rustc_records.RecordedRustc.{RecordedRustc}
+use Rattle.replay_base.proofs.AskedAlike.{asked_is, names_are}
 use Rattle.replay.proofs.HeldOutcomes.{Tells, chosen, held_is, status_is}
 use Rattle.replay.proofs.RustWorlds.{rust_answers, rust_grows, rust_tells}
 

@@ -1,5 +1,4 @@
-pub mod SameAsked
-pub mod Recorded
 pub mod Worlds
 pub mod Kept
 pub mod Beside
+pub mod Tokens

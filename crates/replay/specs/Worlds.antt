@@ -8,12 +8,12 @@ use Rattle.rustkeys.specs.Questions.{compile_env_of}
 use Rattle.wrap.specs.Account.{scene_at}
 use Rattle.wrap_base.specs.Commands.{NamedBy, by_c, by_rustc, named_by}
 use Rattle.wrap_base.specs.declared.request.Request.{Request}
-use Rattle.replay.specs.Recorded.{crate_of, library_digest, handed_as, made_as, made_in, on_dependencies, on_names, printed_as, printed_in}
-use Rattle.replay.specs.declared.replay_tool.RecordedOutputs.{RecordedOutputs}
-use Rattle.replay.specs.declared.replay_tool.RecordedText.{RecordedText}
-use Rattle.replay.specs.declared.rustc_records.RecordedAnswer.{RecordedAnswer}
-use Rattle.replay.specs.declared.rustc_records.RecordedCrate.{RecordedCrate}
-use Rattle.replay.specs.declared.rustc_records.RecordedRustc.{RecordedRustc}
+use Rattle.replay_base.specs.Recorded.{crate_of, library_digest, handed_as, made_as, made_in, on_dependencies, on_names, printed_as, printed_in}
+use Rattle.replay_base.specs.declared.replay_tool.RecordedOutputs.{RecordedOutputs}
+use Rattle.replay_base.specs.declared.replay_tool.RecordedText.{RecordedText}
+use Rattle.replay_base.specs.declared.rustc_records.RecordedAnswer.{RecordedAnswer}
+use Rattle.replay_base.specs.declared.rustc_records.RecordedCrate.{RecordedCrate}
+use Rattle.replay_base.specs.declared.rustc_records.RecordedRustc.{RecordedRustc}
 
 -- A world gives the recorded answers: where and when this call runs, each is what it gives for what the compiler's tables read of the recorded words, and for outputs of the recorded names.
 pub record Gives (text : Option RecordedText) (outputs : Option RecordedOutputs) (scene : Scene) (world : Meaning) : Type 0 where

@@ -8,7 +8,7 @@ ghost use Rattle.entry_keys.specs.declared.entry_key.EntryKey.{EntryKey};
 ghost use Rattle.include_records.specs.Records.{Record};
 ghost use Rattle.replay.specs.Beside.{TellsOwnDependencies};
 ghost use Rattle.replay.specs.Kept.{Holds, IsOfEarlier, RecordIsOfEarlier};
-ghost use Rattle.replay.specs.Recorded.{recorded};
+ghost use Rattle.replay_base.specs.Recorded.{recorded};
 ghost use Rattle.replay.specs.Worlds.{GivesTo};
 ghost use Rattle.wrap.specs.Account.{Account, Pairs, account_at};
 ghost use Rattle.wrap.specs.Answers.{Answers, GoesOn, SaysBy};
@@ -18,10 +18,10 @@ ghost use Rattle.wrap_base.specs.MapStores.{shelf_of};
 ghost use Rattle.wrap_base.specs.declared.store_key.StoreKey.{StoreKey};
 
 use crate::asked_store::AskedStore;
-use crate::replay_tool::ReplayTool;
 use crate::replayed::replayed;
 use crate::watched_records::WatchedRecords;
 use entry_keys::entry_key::entry_keys_are_their_fields;
+use replay_base::ReplayTool;
 use snapshot_files::SnapshotFiles;
 use std::alloc::Global;
 use wrap::{

@@ -1,16 +1,14 @@
-//! A tool, files and stores that answer from what was recorded and remember what they lack, and a session's answers over them.
+//! A session's answers over recorded ones, with stores that remember what they were asked for; and laws of tokens, which such a session
+//! has in the place of the contents of headers.
 #![tactic(auto)]
 
 mod asked_store;
-mod commands;
 mod kept_session;
-mod replay_tool;
+mod laws;
 mod replayed;
-mod rustc_records;
 mod watched_records;
 
 pub use asked_store::AskedStore;
 pub use kept_session::{Entries, Objects, SessionAnswer, answered, session_over};
-pub use replay_tool::{RecordedOutputs, RecordedText, ReplayTool, Wanted};
-pub use rustc_records::{RecordedAnswer, RecordedCrate, RecordedRustc};
-pub use watched_records::{WatchedRecords, pair_again};
+pub use laws::tokens_stand_for_contents;
+pub use watched_records::WatchedRecords;

@@ -9,10 +9,10 @@ ghost use Rattle.wrap.specs.Answers.{Answers, GoesOn, SaysBy};
 ghost use Rattle.wrap.specs.Asking.{AskedTurn, RecordsAreTrue, shelves_of};
 ghost use Rattle.wrap.specs.StoreKeys.{Invariant, Premises};
 ghost use Rattle.replay.specs.Beside.{TellsOwnDependencies};
-ghost use Rattle.replay.specs.Recorded.{recorded};
+ghost use Rattle.replay_base.specs.Recorded.{recorded};
 ghost use Rattle.replay.specs.Worlds.{GivesTo};
 
-use crate::replay_tool::ReplayTool;
+use replay_base::ReplayTool;
 use wrap::{
     Answer, EntryKey, Fault, Files, HashState, Pairs, Preprocessor, PreprocessorCacheEntry,
     Request, Session, Store, StoreKey, store_keys_tell_records,

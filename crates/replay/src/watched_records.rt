@@ -19,7 +19,7 @@ pub struct WatchedRecords<E> {
 }
 
 /// A copy of a key and its record.
-pub fn pair_again(
+fn pair_again(
     key: &EntryKey,
     entry: &PreprocessorCacheEntry,
 ) -> Result<(EntryKey, PreprocessorCacheEntry), AllocError>

@@ -2,13 +2,12 @@
 
 ghost use Rattle.std.specs.Prelude.{◌≡◌, ◌≤◌};
 
-use crate::finishing::{give, have_places, keep_made, paths_of};
-use crate::known::KnownCrate;
 use blake2::Blake2b256;
 use ckeys_records::{ConfigError, Fault, Step};
 use cmdlines_base::CompilerArguments;
 use host_protocol::{CommandLine, Host, HostError, into_text};
 use key_additions::Additions;
+use known_crates::{KnownCrate, give, have_places, keep_made, paths_of};
 use made_outputs::Audit;
 use os_files::{Listed, OsBytes};
 use replay::{SessionAnswer, answered, session_over};

@@ -2,11 +2,6 @@
 //! say.
 #![tactic(auto)]
 
-mod audits;
 mod deciding;
-mod finishing;
-mod known;
-mod manifests;
-mod questions;
 
 pub use deciding::{RustcEnd, RustcWhat, decide_on_rustc};

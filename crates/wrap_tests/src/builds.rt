@@ -5,7 +5,7 @@ use crate::requests::{
     RecordedCall, SECOND, calls, config,
 };
 use os_files::Files;
-use replay::Wanted;
+use replay_base::Wanted;
 use sha2::Sha256;
 use std::alloc::{AllocError, Global};
 use std::num::NonZeroUsize;

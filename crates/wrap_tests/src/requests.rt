@@ -6,7 +6,7 @@
 use ckeys_records::Printed;
 use ckeys_records::output_name::OutputName;
 use os_files::{Files, Listed, MemoryFiles, OsBytes};
-use replay::{RecordedAnswer, RecordedCrate, RecordedRustc, ReplayTool};
+use replay_base::{RecordedAnswer, RecordedCrate, RecordedRustc, ReplayTool};
 use rustc_compiler::Rust;
 use sha2::Sha256;
 use std::alloc::{AllocError, Global};

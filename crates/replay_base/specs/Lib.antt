@@ -1,0 +1,2 @@
+pub mod SameAsked
+pub mod Recorded
