@@ -2,8 +2,8 @@
 
 use crate::facts::CallFacts;
 use crate::named::named_files;
+use build_log::{push_bytes, push_name, push_text};
 use host_protocol::CommandLine;
-use json_texts::{push_bytes, push_name, push_text};
 use os_files::OsBytes;
 use std::alloc::{AllocError, Global};
 

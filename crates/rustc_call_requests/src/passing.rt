@@ -1,9 +1,9 @@
 //! What is passed through before the session is asked: words and variables of which it isn't known what rustc makes by them, and messages that
 //! would be written for a terminal. docs/WRAPPER.md says what each does.
 
+use crate::words::unknown_word;
 use host_protocol::{CommandLine, HostError};
 use os_files::OsBytes;
-use rustc_words::unknown_word;
 use settings::Key;
 use std::fs;
 use std::rt::Files;

@@ -1,6 +1,6 @@
 //! A session that keeps no include records.
 
-use crate::runs::{Program, go_right};
+use super::runs::{Program, go_right};
 use std::test::Fail;
 
 /// A request that is compiled, with an included file, the same request again, and one that is passed through.

@@ -18,8 +18,8 @@ use Rattle.wrap.specs.Whole.{accounts_at}
 use Rattle.wrap_base.specs.Commands.{CFound, NamedBy, by_c, by_rustc, named_by, words_at}
 use Rattle.wrap_base.specs.declared.call.Call.{Call}
 use Rattle.wrap_base.specs.declared.request.Request.{Request}
-use Rattle.scripted_laws.specs.ScriptedCalls.{HasSafeSource, HasSafeSourceBy, HasSafeSourceFor, IsGivenBy, IsScripted, IsScriptedCall, made_of_record}
-use Rattle.scripted_laws.proofs.OutcomeLemmas.{MakeOfRecords}
+use Rattle.scenarios.specs.ScriptedCalls.{HasSafeSource, HasSafeSourceBy, HasSafeSourceFor, IsGivenBy, IsScripted, IsScriptedCall, made_of_record}
+use Rattle.scenarios.proofs.OutcomeLemmas.{MakeOfRecords}
 
 abbrev pub AreEqual : Type 0
 AreEqual = (one other : Settings) (a b : Work) → IsScripted one (worked a) → IsScripted other (worked b) → HasRecord a → HasRecord b → SameRecord a b → a.fresh ≡ b.fresh

@@ -1,6 +1,6 @@
 //! A session that keeps include records.
 
-use crate::runs::{Program, go_right};
+use super::runs::{Program, go_right};
 use std::test::Fail;
 
 /// Two requests that differ in the file that their source includes, each served twice.

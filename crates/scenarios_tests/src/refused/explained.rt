@@ -1,6 +1,6 @@
 //! Two requests that differ in their source, and why the second one is compiled.
 
-use crate::runs::{Program, go_right};
+use super::runs::{Program, go_right};
 use std::test::Fail;
 
 const SCENARIO: &str = r##"{"requests":[

@@ -1,6 +1,6 @@
 //! Requests to rustc, with a text on dependencies beside the outputs.
 
-use crate::runs::{Program, go_right};
+use super::runs::{Program, go_right};
 use std::test::Fail;
 
 /// A request that is compiled, with a static library, and the same into another folder.

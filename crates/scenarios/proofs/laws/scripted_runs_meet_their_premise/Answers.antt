@@ -1,6 +1,6 @@
 use Rattle.wrap.specs.Whole.{accounts_at}
-use Rattle.scripted_laws.proofs.RunLemmas.{calls_scripted, run_meets}
-use Rattle.scripted_laws.proofs.laws.scripted_runs_meet_their_premise.Goals as goal
+use Rattle.scenarios.proofs.RunLemmas.{calls_scripted, run_meets}
+use Rattle.scenarios.proofs.laws.scripted_runs_meet_their_premise.Goals as goal
 
 pub returns-clause-accounts : goal.returns-clause-accounts
 returns-clause-accounts g c = run_meets c.records_fix_scripted_outcomes.ensures.equal

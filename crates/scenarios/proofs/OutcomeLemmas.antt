@@ -36,9 +36,9 @@ use Rattle.wrap.specs.RustVerdicts as rust_verdicts
 use Rattle.wrap.specs.RustVerdicts.{RustJudgement, rust_verdict_of}
 use Rattle.wrap_base.specs.Commands.{CFound, NamedBy, by_c, by_rustc, named_by, words_at}
 use Rattle.wrap_base.specs.declared.request.Request.{Request}
-use Rattle.scripted_laws.specs.ScriptedCalls.{HasSafeSourceBy, HasSafeSourceFor, IsMadeOfRecord, IsScripted}
-use Rattle.scripted_laws.proofs.CrateLemmas.{crate_made, none_some, or_none}
-use Rattle.scripted_laws.proofs.SourceLemmas.{compile_input, compile_stands, preprocess_input}
+use Rattle.scenarios.specs.ScriptedCalls.{HasSafeSourceBy, HasSafeSourceFor, IsMadeOfRecord, IsScripted}
+use Rattle.scenarios.proofs.CrateLemmas.{crate_made, none_some, or_none}
+use Rattle.scenarios.proofs.SourceLemmas.{compile_input, compile_stands, preprocess_input}
 
 -- the compiler goes over the text of the record, where the preprocessor or the input gave one
 module _ (folders : List Bytes) (scene : Scene) (input : Bytes) (names : List OutputName) where

@@ -26,7 +26,7 @@ use Rattle.script_tool.specs.declared.crate_texts.CrateTexts.{CrateTexts}
 use Rattle.wrap.specs.Account.{rust_call_at, rust_work_at}
 use Rattle.wrap.specs.StoreKeys.{HasRecord}
 use Rattle.wrap_base.specs.declared.request.Request.{Request}
-use Rattle.scripted_laws.specs.ScriptedCalls.{IsMadeOfRecord}
+use Rattle.scenarios.specs.ScriptedCalls.{IsMadeOfRecord}
 
 pub none_some : {X : Type 0} (x : X) → Some x ≡ None → ⊥
 none_some x h = cc

@@ -1,5 +1,4 @@
 //! Texts and bytes as JSON has them, written so that a page may contain them too: no `<`, `>` or `&` is left in them.
-#![tactic(auto)]
 
 use std::alloc::AllocError;
 

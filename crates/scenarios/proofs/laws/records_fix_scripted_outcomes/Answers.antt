@@ -1,6 +1,6 @@
-use Rattle.scripted_laws.proofs.OutcomeLemmas.{records_made}
-use Rattle.scripted_laws.proofs.RunLemmas.{outcomes_equal, source_safe}
-use Rattle.scripted_laws.proofs.laws.records_fix_scripted_outcomes.Goals as goal
+use Rattle.scenarios.proofs.OutcomeLemmas.{records_made}
+use Rattle.scenarios.proofs.RunLemmas.{outcomes_equal, source_safe}
+use Rattle.scenarios.proofs.laws.records_fix_scripted_outcomes.Goals as goal
 
 pub returns-clause-made : goal.returns-clause-made
 returns-clause-made c = records_made c.commands_read_as_wanted.ensures.compile c.commands_read_as_wanted.ensures.preprocess c.requests_have_a_known_language.ensures

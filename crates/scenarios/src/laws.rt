@@ -6,7 +6,7 @@ ghost use Rattle.os_files.specs.Tree.{Tree};
 ghost use Rattle.ckeys.specs.Entries.{AreReprinted};
 ghost use Rattle.ckeys_records.specs.Folders.{Settings};
 ghost use Rattle.ckeys_records.specs.Keys.{Distinct};
-ghost use Rattle.scripted_laws.specs.ScriptedCalls.{HasSafeSource, IsGivenBy, IsMadeOfRecord, IsScripted, IsScriptedCall};
+ghost use Rattle.scenarios.specs.ScriptedCalls.{HasSafeSource, IsGivenBy, IsMadeOfRecord, IsScripted, IsScriptedCall};
 ghost use Rattle.wrap.specs.Account.{Account, Work, direct_calls, worked};
 ghost use Rattle.wrap.specs.StoreKeys.{HasRecord, IsHashedIn, Premises, SameRecord};
 ghost use Rattle.wrap.specs.Whole.{accounts_at};

@@ -1,0 +1,4 @@
+mod SourceLemmas
+mod CrateLemmas
+mod OutcomeLemmas
+mod RunLemmas

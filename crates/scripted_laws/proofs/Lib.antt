@@ -1,4 +1,0 @@
-pub mod SourceLemmas
-mod CrateLemmas
-pub mod OutcomeLemmas
-pub mod RunLemmas
