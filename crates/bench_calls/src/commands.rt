@@ -11,18 +11,6 @@ use os_files::{MemoryFiles, OsBytes};
 use response_files::ParseFault;
 use std::alloc::{AllocError, Global};
 
-/// The kind of compiler of that name.
-pub(crate) fn kind_named(name: &str) -> Option<CCompilerKind> {
-    match name {
-        "gcc" => Some(CCompilerKind::Gcc),
-        "clang" => Some(CCompilerKind::Clang),
-        "diab" => Some(CCompilerKind::Diab),
-        "msvc" => Some(CCompilerKind::Msvc),
-        "taskingvx" => Some(CCompilerKind::TaskingVX),
-        _ => None,
-    }
-}
-
 /// Tallies the flags of the arguments that the words are cut into: there are as many as arguments, and no bytes of one that has none.
 fn cut<S: SearchableArgInfo<ArgData>>(
     alloc: Global,

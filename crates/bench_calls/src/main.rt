@@ -17,7 +17,7 @@ mod stores;
 mod walking;
 mod words;
 
-use crate::commands::{kind_named, parses, table_cuttings, tree_cuttings, trees, word_copies};
+use crate::commands::{parses, table_cuttings, tree_cuttings, trees, word_copies};
 use crate::keys::{copy_digests, keys, text_digests};
 use crate::recorded::{file_digests, look_ups};
 use crate::rustc::{key_copies, key_readings, key_writings, rewritings, source_readings};
@@ -316,7 +316,7 @@ fn word_tally<R: Files + AllocGlobal>(
 
 /// The kind of compiler that the word names.
 fn kind_of(word: &String) -> Result<CCompilerKind, Fault> {
-    kind_named(word.as_str()).ok_or(Fault::Words)
+    CCompilerKind::from_name(word.as_str()).ok_or(Fault::Words)
 }
 
 /// The number that the word says.

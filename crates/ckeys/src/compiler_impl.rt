@@ -8,7 +8,7 @@ ghost use Rattle.response_files.specs.Causes.{CauseOf};
 ghost use Rattle.cmdlines.specs.Opening.{IsAskedByKind, opened_words};
 ghost use Rattle.cmdlines.specs.Commands.{object_path, HasObjectIn, preprocess_words, output_path, compile_words};
 ghost use Rattle.cmdlines_requests.specs.Small.{command_at};
-ghost use Rattle.cmdlines.specs.Compilers.{Traits, text_in};
+ghost use Rattle.cmdlines.specs.Compilers.{Traits, kind_in, text_in, traits_in};
 ghost use Rattle.cmdlines.specs.Parsing.{decision_of, parse_of, HasSafeInputIn};
 ghost use Rattle.cmdlines.specs.ReadBack.{ReadsAsCompile, ReadsAsPreprocess};
 ghost use Rattle.cmdlines_tables.specs.declared.compiler.CCompilerKind.{CCompilerKind};
@@ -16,7 +16,7 @@ ghost use Rattle.ckeys_records.specs.Meaning.{AtMostOnce};
 ghost use Rattle.ckeys_records.specs.Meaning.{scene_with, made_of, asked_of};
 
 use ckeys_records::{Preprocessor, Printed, Step, ToolFail};
-use cmdlines::{CommandError, FoundCompiler, HasKind};
+use cmdlines::{AnyFoundCompiler, CommandError, FoundCompiler, HasKind};
 use cmdlines_base::{CompilerArguments, SingleCompileCommand};
 use cmdlines_requests::{Cacheable, ParsedArguments, command_at};
 use cmdlines_tables::CCompilerKind;
@@ -133,6 +133,57 @@ pub trait CCompilerImpl {
         let words = self.preprocess_words(alloc, parsed)?;
         let command = command_at(alloc, executable, words, env, dir)?;
         tool.preprocess(alloc, self.kind(), &command, files, moment)
+    }
+}
+
+impl CCompilerImpl for AnyFoundCompiler {
+    ghost kind_of = { kind_in };
+
+    ghost traits = { traits_in };
+
+    fn kind(&self) -> CCompilerKind {
+        AnyFoundCompiler::kind(self)
+    }
+
+    fn plusplus(&self) -> bool {
+        AnyFoundCompiler::plusplus(self)
+    }
+
+    fn version(&self) -> Option<&str> {
+        AnyFoundCompiler::version(self)
+    }
+
+    fn assembler_digest(&self) -> Option<&str> {
+        AnyFoundCompiler::assembler_digest(self)
+    }
+
+    fn parse_arguments<F: Files>(
+        &self,
+        alloc: Global,
+        words: &[OsBytes],
+        dir: &OsBytes,
+        files: &mut F,
+    ) -> Result<CompilerArguments<ParsedArguments>, ParseFault> {
+        AnyFoundCompiler::parse_arguments(self, alloc, words, dir, files)
+    }
+
+    fn preprocess_words(
+        &self,
+        alloc: Global,
+        parsed: &ParsedArguments,
+    ) -> Result<Listed<OsBytes>, AllocError> {
+        AnyFoundCompiler::preprocess_words(self, alloc, parsed)
+    }
+
+    fn generate_compile_commands(
+        &self,
+        alloc: Global,
+        executable: &OsBytes,
+        parsed: &ParsedArguments,
+        dir: &OsBytes,
+        env: &[(OsBytes, OsBytes)],
+    ) -> Result<(SingleCompileCommand, Cacheable), CommandError> {
+        AnyFoundCompiler::generate_compile_commands(self, alloc, executable, parsed, dir, env)
     }
 }
 

@@ -2,20 +2,11 @@
 use Rattle.std.specs.Prelude.{List, Option, None, Some}
 use Rattle.os_files.specs.Bytes.{Bytes}
 use Rattle.os_files.specs.Tree.{Tree}
+use Rattle.cmdlines_tables.specs.CompilerFacts.{style_of}
 use Rattle.cmdlines_tables.specs.declared.compiler.CCompilerKind.{CCompilerKind}
-use Rattle.cmdlines_tables.specs.declared.compiler.CCompilerKind.TheVariants.{Gcc, Clang, Diab, Msvc, TaskingVX}
 use Rattle.response_files.specs.Asking.{IsAskedFor}
 use Rattle.response_files.specs.Expansion.{expanded}
 use Rattle.response_files.specs.declared.style.Style.{Style}
-use Rattle.response_files.specs.declared.style.Style.TheVariants as styles
-
--- how a compiler opens words: TaskingVX opens none
-abbrev pub style_of : CCompilerKind → Option Style
-style_of Gcc = Some styles.Gnu
-style_of Clang = Some styles.Gnu
-style_of Diab = Some styles.Diab
-style_of Msvc = Some styles.Msvc
-style_of TaskingVX = None
 
 -- the words, where it opens none
 abbrev pub opened_by : Option Style → Bytes → Tree → List Bytes → List Bytes

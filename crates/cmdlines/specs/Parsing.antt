@@ -10,11 +10,14 @@ use Rattle.cmdlines_base.specs.Reading.{Item, Reading, reading, raw, first_word,
 use Rattle.cmdlines_base.specs.Table.{Entry}
 use Rattle.cmdlines_base.specs.declared.command.ArtifactDescriptor.{ArtifactDescriptor}
 use Rattle.cmdlines_requests.specs.Small.{object_name}
+use Rattle.cmdlines_tables.specs.CompilerFacts.{spelling_of}
 use Rattle.cmdlines_tables.specs.Languages.{language_of_extension, language_named, knows}
 use Rattle.cmdlines_tables.specs.Tables.{entries_of, ends_options, reading_of}
 use Rattle.cmdlines_tables.specs.Kinds.{gives_input}
 use Rattle.cmdlines_tables.specs.declared.compiler.CCompilerKind.{CCompilerKind}
 use Rattle.cmdlines_tables.specs.declared.compiler.CCompilerKind.TheVariants.{Msvc}
+use Rattle.cmdlines_tables.specs.declared.compiler.Spelling.{Spelling}
+use Rattle.cmdlines_tables.specs.declared.compiler.Spelling.TheVariants as spellings
 use Rattle.cmdlines_base.specs.declared.color_mode.ColorMode.TheVariants.{Auto}
 use Rattle.cmdlines_tables.specs.declared.kind.ArgKind.{ArgKind}
 use Rattle.cmdlines_tables.specs.declared.language.Language.{Language}
@@ -56,13 +59,19 @@ abbrev pub known_language : CCompilerKind → Option Bytes → Bytes → Option 
 known_language kind name input = option_and_then (λ language. when (knows kind language) language) (language_for name input)
 
 -- The last output option, or else the input's file name, its extension replaced by that of objects. An empty one of Msvc is as none.
+abbrev pub object_extension_by : Spelling → Bytes
+object_extension_by spellings.Msvc = codes "obj"
+object_extension_by spelling = codes "o"
+
 abbrev pub object_extension : CCompilerKind → Bytes
-object_extension Msvc = codes "obj"
-object_extension kind = codes "o"
+object_extension kind = object_extension_by (spelling_of kind)
+
+abbrev pub output_in : Spelling → Bytes → Option Bytes
+output_in spellings.Msvc [] = None
+output_in spelling path = Some path
 
 abbrev pub output_named_by : CCompilerKind → Bytes → Option Bytes
-output_named_by Msvc [] = None
-output_named_by kind path = Some path
+output_named_by kind path = output_in (spelling_of kind) path
 
 abbrev pub output_beside : CCompilerKind → Bytes → Option Bytes
 output_beside kind input = option_map (λ name. with_extension name (object_extension kind)) (file_name input)

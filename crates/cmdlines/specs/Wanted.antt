@@ -9,8 +9,10 @@ use Rattle.cmdlines_base.specs.Printing.{is_empty_j, words_of}
 use Rattle.cmdlines_base.specs.Reading.{Item, raw, unknown, flag, valued, behind_dashes}
 use Rattle.cmdlines_base.specs.Table.{Entry, behind}
 use Rattle.cmdlines_tables.specs.Kinds.{list_of, is_same_list, blocks_preprocessor_cache, is_too_hard, is_front_end, is_compile, is_output, is_arch, is_diagnostics, is_extra_file, asks_dependencies, is_dependency_path, is_dependency_target, gives_input}
+use Rattle.cmdlines_tables.specs.CompilerFacts.{spelling_of}
 use Rattle.cmdlines_tables.specs.declared.compiler.CCompilerKind.{CCompilerKind}
-use Rattle.cmdlines_tables.specs.declared.compiler.CCompilerKind.TheVariants.{Gcc, Clang, Diab, Msvc, TaskingVX}
+use Rattle.cmdlines_tables.specs.declared.compiler.Spelling.{Spelling}
+use Rattle.cmdlines_tables.specs.declared.compiler.Spelling.TheVariants.{Gnu, Plain, Msvc}
 use Rattle.cmdlines_base.specs.declared.color_mode.ColorMode.{ColorMode}
 use Rattle.cmdlines_base.specs.declared.color_mode.ColorMode.TheVariants as modes
 use Rattle.cmdlines_tables.specs.declared.kind.ArgKind.{ArgKind}
@@ -129,12 +131,13 @@ is_hard_word word = bytes_eq word (codes "-load") || bytes_eq word (codes "-incl
 abbrev pub names_folder : Bytes → Bool
 names_folder word = ends_with nat_eq word (47 ∷ []) || ends_with nat_eq word (92 ∷ [])
 
+abbrev pub may_name_folder_by : Spelling → Bool
+may_name_folder_by Gnu = false
+may_name_folder_by Plain = false
+may_name_folder_by Msvc = true
+
 abbrev pub may_name_folder : CCompilerKind → Bool
-may_name_folder Gcc = false
-may_name_folder Clang = false
-may_name_folder Diab = false
-may_name_folder Msvc = true
-may_name_folder TaskingVX = false
+may_name_folder kind = may_name_folder_by (spelling_of kind)
 
 abbrev pub is_hard : CCompilerKind → Item ArgKind → Bool
 is_hard kind item = has_kind is_too_hard item || (has_kind is_front_end item && is_hard_word (word_of item)) || (may_name_folder kind && has_kind is_output item && names_folder (word_of item))

@@ -8,8 +8,8 @@ use crate::facts::Facts;
 use crate::lists::{Input, Lists};
 use cmdlines_base::{ArtifactDescriptor, ColorMode, CompilerArguments};
 use cmdlines_requests::ParsedArguments;
-use cmdlines_tables::CCompilerKind;
 use cmdlines_tables::language::Language;
+use cmdlines_tables::{CCompilerKind, Spelling};
 use os_files::{Listed, OsBytes, extension, file_name, with_extension};
 use std::alloc::{AllocError, Global};
 
@@ -54,12 +54,9 @@ fn known_language(kind: CCompilerKind, option: Option<&OsBytes>, input: &[u8]) -
 fn object_extension(kind: CCompilerKind) -> &'static str
     ensures { result.now ≡ object_extension kind }
 {
-    match kind {
-        CCompilerKind::Msvc => "obj",
-        CCompilerKind::Gcc
-        | CCompilerKind::Clang
-        | CCompilerKind::Diab
-        | CCompilerKind::TaskingVX => "o",
+    match kind.spelling() {
+        Spelling::Msvc => "obj",
+        Spelling::Gnu | Spelling::Plain => "o",
     }
 }
 
@@ -67,7 +64,7 @@ fn object_extension(kind: CCompilerKind) -> &'static str
 fn output_named_by(kind: CCompilerKind, path: OsBytes) -> Option<OsBytes>
     ensures { result ≡ output_named_by kind path }
 {
-    if kind == CCompilerKind::Msvc && path.as_bytes().is_empty() {
+    if kind.spelling() == Spelling::Msvc && path.as_bytes().is_empty() {
         None
     } else {
         Some(path)

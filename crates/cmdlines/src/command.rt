@@ -13,7 +13,7 @@ use cmdlines_base::{
 };
 use cmdlines_requests::{Cacheable, ParsedArguments, command_at};
 use cmdlines_tables::language::{Language, language_to_gcc_arg};
-use cmdlines_tables::{ArgData, CCompilerKind, own_words_are_read};
+use cmdlines_tables::{ArgData, CCompilerKind, Spelling, own_words_are_read};
 use os_files::{Listed, OsBytes, with_extension};
 use std::alloc::{AllocError, Global};
 use thiserror::Error;
@@ -57,7 +57,7 @@ fn push_all(words: &mut Listed<OsBytes>, more: &Listed<OsBytes>) -> Result<(), A
     Ok(())
 }
 
-/// Adds the words by which Gcc and Clang name the language, where they can.
+/// Adds the words by which Gcc and those like it name the language, where they can.
 fn push_language_name(
     alloc: Global,
     words: &mut Listed<OsBytes>,
@@ -81,13 +81,11 @@ fn push_language(
 ) -> Result<(), AllocError>
     ensures { OnOk result (words.new ≡ words.old ++ language_words kind language) }
 {
-    match (kind, language) {
-        (CCompilerKind::Gcc | CCompilerKind::Clang, _) => push_language_name(
-            alloc, words, language,
-        ),
-        (CCompilerKind::Msvc, Language::C) => push_word(alloc, words, b"-TC"),
-        (CCompilerKind::Msvc, Language::Cxx) => push_word(alloc, words, b"-TP"),
-        _ => Ok(()),
+    match (kind.spelling(), language) {
+        (Spelling::Gnu, _) => push_language_name(alloc, words, language),
+        (Spelling::Msvc, Language::C) => push_word(alloc, words, b"-TC"),
+        (Spelling::Msvc, Language::Cxx) => push_word(alloc, words, b"-TP"),
+        (Spelling::Plain | Spelling::Msvc, _) => Ok(()),
     }
 }
 
@@ -100,7 +98,7 @@ fn push_output(
 ) -> Result<(), AllocError>
     ensures { OnOk result (words.new ≡ words.old ++ output_words kind path.now) }
 {
-    if kind == CCompilerKind::Msvc {
+    if kind.spelling() == Spelling::Msvc {
         let mut word = Vec::from_slice(alloc, b"-Fo")?;
         word.extend_from_slice(path)?;
         words.push(OsBytes::from_vec(word))

@@ -13,7 +13,7 @@ use crate::lists::Lists;
 use cmdlines_base::{ArgParseError, Argument, CompilerArguments, SearchableArgInfo};
 use cmdlines_requests::ParsedArguments;
 use cmdlines_tables::kind::ArgKind;
-use cmdlines_tables::{ArgData, CCompilerKind, arguments_are_their_items, arguments_of};
+use cmdlines_tables::{ArgData, CCompilerKind, Spelling, arguments_are_their_items, arguments_of};
 use os_files::OsBytes;
 use std::alloc::{AllocError, Global};
 
@@ -31,7 +31,7 @@ fn is_hard_word(word: &[u8]) -> bool
 fn names_folder(kind: CCompilerKind, word: &[u8]) -> bool
     ensures { result ≡ may_name_folder kind && names_folder word.now }
 {
-    kind == CCompilerKind::Msvc && (word.ends_with(b"/") || word.ends_with(b"\\"))
+    kind.spelling() == Spelling::Msvc && (word.ends_with(b"/") || word.ends_with(b"\\"))
 }
 
 /// The flag of an option that is too hard for that compiler.

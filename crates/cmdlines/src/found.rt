@@ -1,26 +1,24 @@
-//! A C compiler as it is found: its words and the commands for it. All of them are read and written by one mechanism, over
-//! their tables and what differs between their kinds.
+//! A C compiler as it is found, of a kind that is known where the program is built. What it does is done by its kind as a value.
 
 ghost use Rattle.std.specs.Prelude.{◌≡◌, ◌↔◌, None, IfOk, IfErr, IsErrOf, OnOk};
 ghost use Rattle.std.specs.Option.{option_map};
 ghost use Rattle.os_files.specs.Views.{FilesFail};
 ghost use Rattle.response_files.specs.Causes.{CauseOf};
 ghost use Rattle.cmdlines_tables.specs.declared.compiler.CCompilerKind.{CCompilerKind};
-ghost use Rattle.cmdlines.specs.Opening.{IsAskedByKind, opened_words, style_of};
+ghost use Rattle.cmdlines.specs.Opening.{IsAskedByKind, opened_words};
 ghost use Rattle.cmdlines.specs.Commands.{object_path, HasObjectIn, preprocess_words, output_path, compile_words};
 ghost use Rattle.cmdlines_requests.specs.Small.{command_at};
 ghost use Rattle.cmdlines.specs.Compilers.{traits_of, text_in};
 ghost use Rattle.cmdlines.specs.Parsing.{decision_of, parse_of, HasSafeInputIn};
 ghost use Rattle.cmdlines.specs.ReadBack.{ReadsAsCompile, ReadsAsPreprocess};
 
-use crate::command::{CommandError, compile_command, preprocess_words_again};
-use crate::engine::parse;
-use crate::laws::{inputs_are_safe, requests_have_an_object};
-use cmdlines_base::{ByteTree, CompilerArguments, SingleCompileCommand};
+use crate::any_found::AnyFoundCompiler;
+use crate::command::CommandError;
+use cmdlines_base::{CompilerArguments, SingleCompileCommand};
 use cmdlines_requests::{Cacheable, ParsedArguments};
-use cmdlines_tables::{ArgData, CCompilerKind, compiler_tree};
+use cmdlines_tables::CCompilerKind;
 use os_files::{Files, Listed, OsBytes};
-use response_files::{ParseFault, Style, expand, other_words_stay};
+use response_files::ParseFault;
 use std::alloc::{AllocError, Global};
 use std::fmt;
 use std::marker::{Model, PhantomData};
@@ -33,50 +31,28 @@ pub trait HasKind {
         ensures { result ≡ kind };
 }
 
-/// A compiler of that kind as it is found: whether it compiles C++ by itself, its version, and the digest of its assembler,
-/// where these are known.
+/// A compiler of that kind as it is found.
 #[derive(Drop)]
 pub struct FoundCompiler<K: HasKind> {
-    plusplus: bool,
-    version: Option<String>,
-    assembler_digest: Option<String>,
-    tree: ByteTree<ArgData>,
+    found: AnyFoundCompiler,
     kind: PhantomData<K>,
 }
 
 impl<K: HasKind> Model for FoundCompiler<K> {
     ghost use Rattle.std.specs.Prelude.{◌≡◌};
-    ghost use Rattle.cmdlines.specs.Compilers.{Traits, traits_of};
-    ghost use Rattle.cmdlines_tables.specs.Tables.{tables_of};
+    ghost use Rattle.cmdlines.specs.Compilers.{Traits};
 
     ghost Value = { Traits };
 
-    ghost view = { λ a. traits_of a.plusplus a.version a.assembler_digest };
+    ghost view = { λ a. a.found.traits };
 
-    ghost invariant = { λ a. a.tree ≡ tables_of K.kind };
+    ghost invariant = { λ a. a.found.kind ≡ K.kind };
 }
 
 /// What is known of it, without its tables.
 impl<K: HasKind> fmt::Debug for FoundCompiler<K> {
     fn fmt<W: fmt::Write>(&self, f: &mut fmt::Formatter<W>) -> fmt::Result {
-        f.debug_struct("FoundCompiler")
-            .field("kind", &K::kind())
-            .field("plusplus", &self.plusplus)
-            .field("version", &self.version)
-            .field("assembler_digest", &self.assembler_digest)
-            .finish()
-    }
-}
-
-/// How a compiler opens words; None where it opens none.
-fn style_of(kind: CCompilerKind) -> Option<Style>
-    ensures { result ≡ style_of kind }
-{
-    match kind {
-        CCompilerKind::Gcc | CCompilerKind::Clang => Some(Style::Gnu),
-        CCompilerKind::Diab => Some(Style::Diab),
-        CCompilerKind::Msvc => Some(Style::Msvc),
-        CCompilerKind::TaskingVX => None,
+        self.found.fmt(f)
     }
 }
 
@@ -89,32 +65,36 @@ impl<K: HasKind> FoundCompiler<K> {
     ) -> Result<FoundCompiler<K>, AllocError>
         ensures { IfOk result (λ compiler. compiler ≡ traits_of plusplus version assembler_digest) }
     {
-        Ok(FoundCompiler {
-            plusplus,
-            version,
-            assembler_digest,
-            tree: compiler_tree(alloc, K::kind())?,
-            kind: PhantomData,
-        })
+        let found = AnyFoundCompiler::new(alloc, K::kind(), plusplus, version, assembler_digest)?;
+        let kind = PhantomData;
+        Ok(FoundCompiler { found, kind })
+    }
+
+    /// The same with its kind as a value.
+    pub fn found(&self) -> &AnyFoundCompiler
+        ensures kind { result.now.kind ≡ K.kind }
+        ensures traits { result.now.traits ≡ self.now }
+    {
+        &self.found
     }
 
     /// Whether it compiles C++ by itself, as `g++` does.
     pub fn plusplus(&self) -> bool
         ensures { result ≡ self.now.plusplus }
     {
-        self.plusplus
+        self.found.plusplus()
     }
 
     pub fn version(&self) -> Option<&str>
         ensures { option_map text_in result ≡ self.now.version }
     {
-        self.version.as_deref()
+        self.found.version()
     }
 
     pub fn assembler_digest(&self) -> Option<&str>
         ensures { option_map text_in result ≡ self.now.assembler_digest }
     {
-        self.assembler_digest.as_deref()
+        self.found.assembler_digest()
     }
 
     /// What these words come to, with the response files that they name opened from that directory; words that name none aren't
@@ -142,17 +122,7 @@ impl<K: HasKind> FoundCompiler<K> {
         ensures memory { IsErrOf result ParseFault.Memory →
             F.failed files.new ≡ F.failed files.old }
     {
-        // Laws, which cost nothing: what follows from them is said above.
-        inputs_are_safe();
-        requests_have_an_object();
-        other_words_stay();
-        match style_of(K::kind()) {
-            Some(style) if style.opens_any(words) => {
-                let opened = expand(alloc, style, dir, words, files)?;
-                Ok(parse(alloc, K::kind(), &self.tree, opened.as_slice())?)
-            }
-            _ => Ok(parse(alloc, K::kind(), &self.tree, words)?),
-        }
+        self.found.parse_arguments(alloc, words, dir, files)
     }
 
     /// The words of the preprocess command.
@@ -164,7 +134,7 @@ impl<K: HasKind> FoundCompiler<K> {
         ensures words { IfOk result (λ words. words ≡ preprocess_words K.kind parsed.now) }
         ensures again { IfOk result (λ words. ReadsAsPreprocess K.kind parsed.now words) }
     {
-        preprocess_words_again(alloc, K::kind(), parsed)
+        self.found.preprocess_words(alloc, parsed)
     }
 
     /// The compile command: this executable with the request's words, in that directory, under these variables.
@@ -184,6 +154,7 @@ impl<K: HasKind> FoundCompiler<K> {
         ensures missing { IsErrOf result CommandError.NoObjOutput ↔ (object_path parsed.now ≡ None) }
         ensures again { IfOk result (λ made. ReadsAsCompile K.kind parsed.now made.0.arguments) }
     {
-        compile_command(alloc, K::kind(), executable, parsed, dir, env)
+        self.found
+            .generate_compile_commands(alloc, executable, parsed, dir, env)
     }
 }

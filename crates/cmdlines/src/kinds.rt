@@ -1,9 +1,12 @@
-//! The kinds of C compilers that are known where the program is built, and each as it is found.
+//! The kinds of C compilers that are known where the program is built, each as it is found, and one of each.
 
+ghost use Rattle.std.specs.Prelude.{◌≡◌};
 ghost use Rattle.cmdlines_tables.specs.declared.compiler.CCompilerKind.TheVariants.{Clang, Diab, Gcc, Msvc, TaskingVX};
 
+use crate::any_found::AnyFoundCompiler;
 use crate::found::{FoundCompiler, HasKind};
 use cmdlines_tables::CCompilerKind;
+use std::alloc::{AllocError, Global};
 
 /// The kind of Clang.
 #[derive(Drop)]
@@ -79,3 +82,39 @@ impl HasKind for TaskingVXKind {
 
 /// TaskingVX as it is found.
 pub type TaskingVX = FoundCompiler<TaskingVXKind>;
+
+/// A compiler of each kind, of which nothing more is known.
+#[derive(Drop)]
+pub struct EachKind {
+    gcc: Gcc,
+    clang: Clang,
+    diab: Diab,
+    msvc: Msvc,
+    tasking_vx: TaskingVX,
+}
+
+impl EachKind {
+    /// Makes the tables of all of them.
+    pub fn new(alloc: Global) -> Result<EachKind, AllocError> {
+        Ok(EachKind {
+            gcc: Gcc::new(alloc, false, None, None)?,
+            clang: Clang::new(alloc, false, None, None)?,
+            diab: Diab::new(alloc, false, None, None)?,
+            msvc: Msvc::new(alloc, false, None, None)?,
+            tasking_vx: TaskingVX::new(alloc, false, None, None)?,
+        })
+    }
+
+    /// The one of that kind.
+    pub fn of(&self, kind: CCompilerKind) -> &AnyFoundCompiler
+        ensures { result.now.kind ≡ kind }
+    {
+        match kind {
+            CCompilerKind::Gcc => self.gcc.found(),
+            CCompilerKind::Clang => self.clang.found(),
+            CCompilerKind::Diab => self.diab.found(),
+            CCompilerKind::Msvc => self.msvc.found(),
+            CCompilerKind::TaskingVX => self.tasking_vx.found(),
+        }
+    }
+}

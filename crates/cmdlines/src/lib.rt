@@ -2,6 +2,7 @@
 //! a parse names.
 #![tactic(auto)]
 
+mod any_found;
 mod closing;
 mod command;
 mod engine;
@@ -14,6 +15,7 @@ mod lists;
 pub mod msvc;
 pub mod uncached_words;
 
+pub use any_found::AnyFoundCompiler;
 pub use cmdlines_base::{
     ArgDisposition, ArgInfo, ArgParseError, ArgParseResult, ArgToStringError, ArgToStringResult,
     ArgsIter, Argument, ArgumentValue, ArtifactDescriptor, ByteTree, ColorMode, CompilerArguments,
@@ -27,7 +29,8 @@ pub use cmdlines_tables::{ArgData, CCompilerKind, compiler_tree};
 pub use command::CommandError;
 pub use found::{FoundCompiler, HasKind};
 pub use kinds::{
-    Clang, ClangKind, Diab, DiabKind, Gcc, GccKind, Msvc, MsvcKind, TaskingVX, TaskingVXKind,
+    Clang, ClangKind, Diab, DiabKind, EachKind, Gcc, GccKind, Msvc, MsvcKind, TaskingVX,
+    TaskingVXKind,
 };
 pub use laws::{
     commands_read_as_wanted, inputs_are_safe, requests_have_a_known_language,

@@ -7,6 +7,7 @@ ghost use Rattle.cmdlines.specs.Hazards.{names_file, opens_file};
 use cmdlines_requests::ParsedArguments;
 use cmdlines_tables::CCompilerKind;
 use os_files::OsBytes;
+use response_files::Style;
 
 /// Whether an option whose value may be joined or separate was read with an empty value. It takes no memory.
 pub fn empty_value(parsed: &ParsedArguments) -> bool
@@ -19,12 +20,9 @@ pub fn empty_value(parsed: &ParsedArguments) -> bool
 fn names_file(kind: CCompilerKind, word: &[u8]) -> bool
     ensures { result ≡ names_file kind word.now }
 {
-    match kind {
-        CCompilerKind::Diab => word.starts_with(b"@") || word.starts_with(b"-@"),
-        CCompilerKind::Gcc
-        | CCompilerKind::Clang
-        | CCompilerKind::Msvc
-        | CCompilerKind::TaskingVX => word.starts_with(b"@"),
+    match kind.style() {
+        Some(Style::Diab) => word.starts_with(b"@") || word.starts_with(b"-@"),
+        _ => word.starts_with(b"@"),
     }
 }
 

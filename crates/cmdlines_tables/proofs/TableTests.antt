@@ -1,4 +1,4 @@
--- What is tested once over the whole tables.
+-- What is tested once over the whole tables, and over the names of compilers.
 use Rattle.std.proofs.Common.{◌≡◌, ◌∙◌, ap, sym, refl, Bool, true, false, not, length, Contains, List, [], ◌∷◌, ◌++◌}
 use Rattle.std.specs.List.{list_all, list_any}
 use Rattle.std.specs.Prelude.{None, Some, codes}
@@ -11,12 +11,14 @@ use Rattle.cmdlines_base.specs.Again.{is_clear, lets_dashes}
 use Rattle.cmdlines_base.specs.Reading.{Item, Start, flag, valued, first_word, whole, awaits}
 use Rattle.cmdlines_base.specs.Table.{Entry}
 use Rattle.cmdlines_base.specs.declared.argument.ArgDisposition.TheVariants.{CanBeConcatenated, Concatenated}
+use Rattle.cmdlines_tables.specs.CompilerFacts.{kind_name, kind_named}
 use Rattle.cmdlines_tables.specs.EmbeddedTables.{diab_entries, tasking_vx_entries}
 use Rattle.cmdlines_tables.specs.Kinds.{gives_input}
 use Rattle.cmdlines_tables.specs.Languages.{language_option}
 use Rattle.cmdlines_tables.specs.MsvcTable.{msvc_dash_entries, msvc_slash_entries}
 use Rattle.cmdlines_tables.specs.OwnWords.{OwnWords}
-use Rattle.cmdlines_tables.specs.Tables.{gnu_entries, clang_entries, entries_of, ends_options}
+use Rattle.cmdlines_tables.specs.GnuTable.{gnu_entries, clang_entries}
+use Rattle.cmdlines_tables.specs.Tables.{entries_of, ends_options}
 use Rattle.cmdlines_tables.specs.declared.compiler.CCompilerKind.{CCompilerKind}
 use Rattle.cmdlines_tables.specs.declared.compiler.CCompilerKind.TheVariants.{Gcc, Clang, Diab, Msvc, TaskingVX}
 use Rattle.cmdlines_tables.specs.declared.kind.ArgKind.{ArgKind}
@@ -178,6 +180,13 @@ own_words Clang = clang_words
 own_words Diab = diab_words
 own_words Msvc = msvc_words
 own_words TaskingVX = tasking_vx_words
+
+pub named_apart : (kind : CCompilerKind) → kind_named (kind_name kind) ≡ Some kind
+named_apart Gcc = refl
+named_apart Clang = refl
+named_apart Diab = refl
+named_apart Msvc = refl
+named_apart TaskingVX = refl
 
 has_other_flag : Entry ArgKind → Entry ArgKind → Bool
 has_other_flag d e = not (bytes_eq d.flag e.flag)

@@ -3,8 +3,10 @@ use Rattle.std.specs.Prelude.{Bool, true, false, List, [], ◌∷◌, Option, No
 use Rattle.std.specs.Option.{option_map}
 use Rattle.std.specs.Str.{bytes_eq}
 use Rattle.os_files.specs.Bytes.{Bytes}
+use Rattle.cmdlines_tables.specs.CompilerFacts.{spelling_of}
 use Rattle.cmdlines_tables.specs.declared.compiler.CCompilerKind.{CCompilerKind}
-use Rattle.cmdlines_tables.specs.declared.compiler.CCompilerKind.TheVariants.{Gcc, Clang}
+use Rattle.cmdlines_tables.specs.declared.compiler.Spelling.{Spelling}
+use Rattle.cmdlines_tables.specs.declared.compiler.Spelling.TheVariants.{Gnu}
 use Rattle.cmdlines_tables.specs.declared.language.Language.{Language}
 use Rattle.cmdlines_tables.specs.declared.language.Language.TheVariants.{C, Cxx, CPreprocessed, CxxPreprocessed, Assembler, AssemblerToPreprocess, Rust}
 
@@ -52,10 +54,12 @@ abbrev pub language_option : Language → Option Bytes
 language_option Rust = None
 language_option language = Some (name_of language)
 
--- Gcc and Clang know all languages, the others C and C++ alone.
+-- Gcc and those like it know all languages, the others C and C++ alone.
+abbrev pub knows_by : Spelling → Language → Bool
+knows_by Gnu language = true
+knows_by spelling C = true
+knows_by spelling Cxx = true
+knows_by spelling language = false
+
 abbrev pub knows : CCompilerKind → Language → Bool
-knows Gcc language = true
-knows Clang language = true
-knows kind C = true
-knows kind Cxx = true
-knows kind language = false
+knows kind language = knows_by (spelling_of kind) language

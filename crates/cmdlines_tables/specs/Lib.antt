@@ -2,6 +2,8 @@ pub mod Kinds
 pub mod Values
 pub mod Languages
 pub mod LanguageBytes
+pub mod GnuTable
+pub mod CompilerFacts
 pub mod Tables
 pub mod OwnWords
 pub mod MsvcTable

@@ -1,12 +1,14 @@
-//! The C compilers.
+//! The C compilers, and what differs between them. specs/CompilerFacts.antt says the same of each.
 
 ghost use Rattle.std.specs.Prelude.{◌≡◌};
 ghost use Rattle.std.specs.Option.{option_copied};
+ghost use Rattle.cmdlines_tables.specs.CompilerFacts.{kind_name, kind_named, spelling_of, style_of};
 ghost use Rattle.cmdlines_tables.specs.Languages.{knows};
 ghost use Rattle.cmdlines_tables.specs.Tables.{ends_options};
 ghost use Rattle.cmdlines_tables.specs.OwnWords.{color_word, writes_dependencies};
 
 use crate::language::Language;
+use response_files::Style;
 
 /// The C compilers whose command lines are read.
 #[derive(Clone, Copy, Debug, PartialEq, Eq)]
@@ -18,7 +20,73 @@ pub enum CCompilerKind {
     TaskingVX,
 }
 
+/// How a compiler writes the words that commands have of their own: the language, the output, and what dependency files lack.
+#[derive(Clone, Copy, Debug, PartialEq, Eq)]
+pub enum Spelling {
+    /// As Gcc: `-x` names any language, `-o` the output, `-MF` and `-MT` a dependency file and its target.
+    Gnu,
+    /// `-o` names the output; no option names a language, of which there are C and C++, nor a dependency file.
+    Plain,
+    /// As Msvc: `-TC` and `-TP` name C and C++, and `-Fo` the output in one word, which may be a folder.
+    Msvc,
+}
+
 impl CCompilerKind {
+    /// All of them.
+    pub const ALL: [CCompilerKind; 5] = [
+        CCompilerKind::Gcc,
+        CCompilerKind::Clang,
+        CCompilerKind::Diab,
+        CCompilerKind::Msvc,
+        CCompilerKind::TaskingVX,
+    ];
+
+    /// The name, as keys, scenarios and reports have it.
+    pub fn name(self) -> &'static str
+        ensures { result.now ≡ kind_name self }
+    {
+        match self {
+            CCompilerKind::Gcc => "gcc",
+            CCompilerKind::Clang => "clang",
+            CCompilerKind::Diab => "diab",
+            CCompilerKind::Msvc => "msvc",
+            CCompilerKind::TaskingVX => "taskingvx",
+        }
+    }
+
+    /// The compiler of that name.
+    pub fn from_name(name: &str) -> Option<CCompilerKind>
+        ensures { result ≡ kind_named name.now }
+    {
+        CCompilerKind::ALL
+            .iter()
+            .copied()
+            .find(|kind| kind.name() == name)
+    }
+
+    /// How it writes what commands have of their own.
+    pub fn spelling(self) -> Spelling
+        ensures { result ≡ spelling_of self }
+    {
+        match self {
+            CCompilerKind::Gcc | CCompilerKind::Clang => Spelling::Gnu,
+            CCompilerKind::Diab | CCompilerKind::TaskingVX => Spelling::Plain,
+            CCompilerKind::Msvc => Spelling::Msvc,
+        }
+    }
+
+    /// How it opens words that name response files; None where it opens none.
+    pub fn style(self) -> Option<Style>
+        ensures { result ≡ style_of self }
+    {
+        match self {
+            CCompilerKind::Gcc | CCompilerKind::Clang => Some(Style::Gnu),
+            CCompilerKind::Diab => Some(Style::Diab),
+            CCompilerKind::Msvc => Some(Style::Msvc),
+            CCompilerKind::TaskingVX => None,
+        }
+    }
+
     /// Whether `--` ends the options, so that all words after it are inputs.
     pub fn ends_options(self) -> bool
         ensures { result ≡ ends_options self }
@@ -47,19 +115,19 @@ impl CCompilerKind {
     pub fn writes_dependencies(self) -> bool
         ensures { result ≡ writes_dependencies self }
     {
-        match self {
-            CCompilerKind::Gcc | CCompilerKind::Clang => true,
-            CCompilerKind::Diab | CCompilerKind::Msvc | CCompilerKind::TaskingVX => false,
+        match self.spelling() {
+            Spelling::Gnu => true,
+            Spelling::Plain | Spelling::Msvc => false,
         }
     }
 
-    /// Whether it knows inputs in this language: Gcc and Clang know all, the others C and C++ alone.
+    /// Whether it knows inputs in this language: Gcc and those like it know all, the others C and C++ alone.
     pub fn knows(self, language: Language) -> bool
         ensures { result ≡ knows self language }
     {
-        match self {
-            CCompilerKind::Gcc | CCompilerKind::Clang => true,
-            CCompilerKind::Diab | CCompilerKind::Msvc | CCompilerKind::TaskingVX => {
+        match self.spelling() {
+            Spelling::Gnu => true,
+            Spelling::Plain | Spelling::Msvc => {
                 language == Language::C || language == Language::Cxx
             }
         }

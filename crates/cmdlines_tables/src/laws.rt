@@ -1,20 +1,27 @@
 //! Laws of the tables. No code calls them: whoever writes a command cites them.
 
-ghost use Rattle.std.specs.Prelude.{◌≡◌, Bool, true, Contains, length};
+ghost use Rattle.std.specs.Prelude.{◌≡◌, Bool, true, Some, Contains, length};
 ghost use Rattle.std.specs.List.{list_any};
 ghost use Rattle.cmdlines_base.specs.Reading.{Item, is_behind};
 ghost use Rattle.cmdlines_base.specs.Table.{Entry};
 ghost use Rattle.cmdlines_base.specs.Values.{IsOf, values_by};
 ghost use Rattle.cmdlines_base.specs.declared.argument.Argument.{Argument};
+ghost use Rattle.cmdlines_tables.specs.CompilerFacts.{kind_name, kind_named};
 ghost use Rattle.cmdlines_tables.specs.EmbeddedTables.{diab_entries, tasking_vx_entries};
 ghost use Rattle.cmdlines_tables.specs.Kinds.{gives_input};
 ghost use Rattle.cmdlines_tables.specs.MsvcTable.{msvc_dash_entries, msvc_slash_entries};
 ghost use Rattle.cmdlines_tables.specs.OwnWords.{OwnWords};
-ghost use Rattle.cmdlines_tables.specs.Tables.{gnu_entries, clang_entries, entries_of};
+ghost use Rattle.cmdlines_tables.specs.GnuTable.{gnu_entries, clang_entries};
+ghost use Rattle.cmdlines_tables.specs.Tables.{entries_of};
 ghost use Rattle.cmdlines_tables.specs.declared.compiler.CCompilerKind.{CCompilerKind};
 ghost use Rattle.cmdlines_tables.specs.Values.{IsFlag, IsValue, never, placed};
 ghost use Rattle.cmdlines_tables.specs.declared.kind.ArgKind.{ArgKind};
 ghost use Rattle.cmdlines_tables.specs.declared.value.ArgData.{ArgData};
+
+/// Each compiler is the one of its name: it is among all of them, and no other has that name.
+pub fn names_tell_kinds()
+    ensures { (kind : CCompilerKind) → kind_named (kind_name kind) ≡ Some kind }
+{}
 
 /// Each compiler reads the words that commands have of their own as what they are meant for, and its tables are clear,
 /// so that what was read is read again.

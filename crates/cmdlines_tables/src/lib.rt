@@ -13,13 +13,13 @@ mod msvc_table;
 mod tables;
 mod value;
 
-pub use compiler::CCompilerKind;
+pub use compiler::{CCompilerKind, Spelling};
 pub use compiler_tables::compiler_tree;
 pub use cutting::arguments_of;
 pub use embedded_tables::{diab_table, tasking_vx_table};
 pub use laws::{
-    arguments_are_their_items, only_msvc_gives_inputs_by_options, options_are_counted,
-    own_words_are_read, tables_share_no_flag,
+    arguments_are_their_items, names_tell_kinds, only_msvc_gives_inputs_by_options,
+    options_are_counted, own_words_are_read, tables_share_no_flag,
 };
 pub use msvc_table::{msvc_dash_table, msvc_slash_table};
 pub use tables::{clang_table, gnu_table};

@@ -2,7 +2,7 @@
 //! they are for.
 
 ghost use Rattle.std.specs.Prelude.{◌≡◌, IfOk};
-ghost use Rattle.cmdlines_tables.specs.Tables.{gnu_entries, clang_entries};
+ghost use Rattle.cmdlines_tables.specs.GnuTable.{gnu_entries, clang_entries};
 
 use crate::kind::ArgKind;
 use crate::value::ArgData;
@@ -10,7 +10,7 @@ use cmdlines_base::{ArgDisposition, ArgInfo, Table};
 use std::alloc::{AllocError, Global};
 
 /// The options of Gcc, which Clang has too.
-#[tactic(auto, unfolding(crate::specs::Tables::gnu_entries))]
+#[tactic(auto, unfolding(crate::specs::GnuTable::gnu_entries))]
 pub fn gnu_table(alloc: Global) -> Result<Table<ArgData>, AllocError>
     ensures { IfOk result (λ table. table ≡ gnu_entries) }
 {
@@ -87,7 +87,7 @@ pub fn gnu_table(alloc: Global) -> Result<Table<ArgData>, AllocError>
 }
 
 /// The options that Clang has beside those of Gcc.
-#[tactic(auto, unfolding(crate::specs::Tables::clang_entries))]
+#[tactic(auto, unfolding(crate::specs::GnuTable::clang_entries))]
 pub fn clang_table(alloc: Global) -> Result<Table<ArgData>, AllocError>
     ensures { IfOk result (λ table. table ≡ clang_entries) }
 {

@@ -3,8 +3,6 @@
 ghost use Rattle.std.specs.Prelude.{◌≡◌};
 
 use crate::parts::{Driver, driver_of};
-use ckeys::CCompiler;
-use cmdlines::{FoundCompiler, HasKind};
 use cmdlines_tables::CCompilerKind;
 use host_protocol::{CommandLine, Host, HostError};
 use key_additions::Additions;
@@ -14,7 +12,7 @@ use std::alloc::Global;
 use std::fs;
 use std::io::Read;
 use std::rt::Files;
-use wrap_base::Compiler;
+use wrap_base::{CDescription, Compiler};
 
 /// The compiler that the file of this path is, with all links followed, where it is one that is supported here.
 pub fn kind_of<R: Files + AllocGlobal>(
@@ -97,29 +95,21 @@ pub struct KnownCompiler {
     pub takes_color: bool,
 }
 
-/// The C compiler of a command line, with that digest.
-fn found_with<K: HasKind>(
-    alloc: Global,
-    line: &CommandLine,
-    digest: String,
-) -> Result<CCompiler<FoundCompiler<K>>, HostError> {
-    let executable = OsBytes::from_slice(alloc, line.executable.as_bytes())?;
-    let plusplus = is_plusplus(line.executable.as_str());
-    let compiler = FoundCompiler::new(alloc, plusplus, None, None)?;
-    Ok(CCompiler::with_digest(compiler, executable, digest))
-}
-
 /// The compiler of that kind, with that digest.
 fn compiler_with(
     alloc: Global,
     line: &CommandLine,
     kind: CCompilerKind,
-    digest: String,
+    executable_digest: String,
 ) -> Result<Compiler, HostError> {
-    match kind {
-        CCompilerKind::Clang => Ok(Compiler::Clang(found_with(alloc, line, digest)?)),
-        _ => Ok(Compiler::Gcc(found_with(alloc, line, digest)?)),
-    }
+    let described = CDescription {
+        plusplus: is_plusplus(line.executable.as_str()),
+        version: None,
+        assembler_digest: None,
+        executable: OsBytes::from_slice(alloc, line.executable.as_bytes())?,
+        executable_digest,
+    };
+    Ok(Compiler::of_kind(alloc, kind, described)?)
 }
 
 /// The compiler of that kind, with its digest.

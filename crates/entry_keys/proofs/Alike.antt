@@ -7,14 +7,14 @@ use Rattle.std.specs.Fmt.{decimal, signed_decimal}
 use Rattle.std.proofs.lemmas.Fmt.{decimal_injective, decimal_is_IsNumeral}
 use Rattle.std.proofs.lemmas.Str.Parse.{digit_from_value}
 use Rattle.os_files.specs.Bytes.{Bytes}
+use Rattle.cmdlines_tables.specs.CompilerFacts.{kind_name, kind_named}
 use Rattle.cmdlines_tables.specs.Languages.{name_of}
 use Rattle.cmdlines_tables.specs.declared.compiler.CCompilerKind.{CCompilerKind}
-use Rattle.cmdlines_tables.specs.declared.compiler.CCompilerKind.TheVariants.{Gcc, Clang, Diab, Msvc, TaskingVX}
 use Rattle.cmdlines_tables.specs.declared.language.Language.{Language}
 use Rattle.cmdlines_tables.specs.declared.language.Language.TheVariants.{C, Cxx, CPreprocessed, CxxPreprocessed, Assembler, AssemblerToPreprocess, Rust}
 use Rattle.byte_formats.specs.Spelling.{FitsWord, framed_all}
 use Rattle.entry_keys.specs.Framing.{FitFrames, Pairs, flag, pair_parts}
-use Rattle.entry_keys.specs.Identity.{Identity, IdentityFits, identity_material, identity_parts, kind_name}
+use Rattle.entry_keys.specs.Identity.{Identity, IdentityFits, identity_material, identity_parts}
 use Rattle.entry_keys.specs.Sights.{Sights, SightsFit, day_part, second_part, sight_material, sight_parts}
 
 -- framed parts are determined by their bytes
@@ -44,20 +44,14 @@ flag_alike false false h = refl
 flag_alike true false h = cc
 flag_alike false true h = cc
 
--- the names of kinds begin with different letters
-kind_at : ℕ → CCompilerKind
-kind_at b = if b == 103 then Gcc else (if b == 99 then Clang else (if b == 100 then Diab else (if b == 109 then Msvc else TaskingVX)))
+-- a name tells its kind
+abbrev pub NamesTell : Type 0
+NamesTell = (kind : CCompilerKind) → kind_named (kind_name kind) ≡ Some kind
 
-kind_round : (k : CCompilerKind) → kind_at (get_or (kind_name k) 0 0) ≡ k
-unfolding kind_at
-kind_round Gcc = refl
-kind_round Clang = refl
-kind_round Diab = refl
-kind_round Msvc = refl
-kind_round TaskingVX = refl
-
-kind_alike : (j k : CCompilerKind) → kind_name j ≡ kind_name k → j ≡ k
-kind_alike j k h = sym (kind_round j) ∙ ap (λ name. kind_at (get_or name 0 0)) h ∙ kind_round k
+kind_alike : NamesTell → (j k : CCompilerKind) → kind_name j ≡ kind_name k → j ≡ k
+kind_alike tell j k h =
+    let same : Some j ≡ Some k = sym (tell j) ∙ ap kind_named h ∙ tell k in
+    cc
 
 -- the names of languages have different lengths
 language_at : ℕ → Language
@@ -101,10 +95,10 @@ second_alike None (Some y) a b h = cc
 second_alike (Some x) None a b h = cc
 second_alike (Some x) (Some y) a b h = ap Some (signed_alike x y a b cc)
 
-module _ (told : Told) (one other : Identity) (f : IdentityFits one) (g : IdentityFits other) where
+module _ (tell : NamesTell) (told : Told) (one other : Identity) (f : IdentityFits one) (g : IdentityFits other) where
   identity_parts_alike : identity_parts one ≡ identity_parts other → one ≡ other
   identity_parts_alike e =
-      let kind = kind_alike one.kind other.kind (ap (λ l. get_or l 0 []) e) in
+      let kind = kind_alike tell one.kind other.kind (ap (λ l. get_or l 0 []) e) in
       let executable : one.executable ≡ other.executable = ap (λ l. get_or l 1 []) e in
       let plusplus = flag_alike one.plusplus other.plusplus (ap (λ l. get_or l 2 []) e) in
       let version = option_alike one.version other.version (told _ _ f.version g.version (ap (λ l. get_or l 3 []) e)) in

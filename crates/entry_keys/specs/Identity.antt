@@ -2,9 +2,9 @@
 use Rattle.std.specs.Prelude.{Bool, List, [], ◌∷◌, Option, codes}
 use Rattle.std.specs.Option.{option_map, option_to_list}
 use Rattle.os_files.specs.Bytes.{Bytes}
+use Rattle.cmdlines_tables.specs.CompilerFacts.{kind_name}
 use Rattle.cmdlines_tables.specs.Languages.{name_of}
 use Rattle.cmdlines_tables.specs.declared.compiler.CCompilerKind.{CCompilerKind}
-use Rattle.cmdlines_tables.specs.declared.compiler.CCompilerKind.TheVariants.{Gcc, Clang, Diab, Msvc, TaskingVX}
 use Rattle.cmdlines_tables.specs.declared.language.Language.{Language}
 use Rattle.byte_formats.specs.Spelling.{framed_all}
 use Rattle.entry_keys.specs.Framing.{FitFrames, Pairs, flag, pair_parts, paths_of}
@@ -52,13 +52,6 @@ identity_of asker = record {
   arch_args = asker.parsed.now.arch_args;
   extra_hash_files = asker.parsed.now.extra_hash_files;
 }
-
-abbrev pub kind_name : CCompilerKind → Bytes
-kind_name Gcc = codes "gcc"
-kind_name Clang = codes "clang"
-kind_name Diab = codes "diab"
-kind_name Msvc = codes "msvc"
-kind_name TaskingVX = codes "taskingvx"
 
 -- the parts that are hashed of who asks, in order
 abbrev pub identity_parts : Identity → List Bytes

@@ -2,7 +2,8 @@
 
 ghost use Rattle.std.specs.Prelude.{◌≡◌, IfOk, OnOk, string_bytes};
 ghost use Rattle.ckeys_base.specs.Hex.{hex_of};
-ghost use Rattle.entry_keys.specs.Identity.{IdentityFits, identity_material, identity_of, kind_name};
+ghost use Rattle.cmdlines_tables.specs.CompilerFacts.{kind_name};
+ghost use Rattle.entry_keys.specs.Identity.{IdentityFits, identity_material, identity_of};
 ghost use Rattle.entry_keys.specs.Framing.{flag};
 
 use crate::framed_digest::FramedDigest;
@@ -33,13 +34,7 @@ pub struct Asker<'a> {
 fn kind_name(kind: CCompilerKind) -> &'static [u8]
     ensures { result.now ≡ kind_name kind }
 {
-    match kind {
-        CCompilerKind::Gcc => b"gcc",
-        CCompilerKind::Clang => b"clang",
-        CCompilerKind::Diab => b"diab",
-        CCompilerKind::Msvc => b"msvc",
-        CCompilerKind::TaskingVX => b"taskingvx",
-    }
+    kind.name().as_bytes()
 }
 
 /// The byte 1 for yes, and 0 for no.

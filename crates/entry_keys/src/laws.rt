@@ -7,6 +7,7 @@ ghost use Rattle.entry_keys.specs.Telling.{AreTold, entry_key_with};
 
 use byte_formats::framed_parts_are_told;
 use ckeys_base::{HashState, texts_tell_digests};
+use cmdlines_tables::names_tell_kinds;
 
 /// What is hashed determines who asks, and what the preprocessor would be given.
 pub fn materials_tell_calls()
@@ -15,6 +16,7 @@ pub fn materials_tell_calls()
     ensures sights { (one other : Sights) → SightsFit one → SightsFit other
         → sight_material one ≡ sight_material other → one ≡ other }
 {
+    names_tell_kinds();
     framed_parts_are_told();
 }
 

@@ -4,8 +4,7 @@ use cache_dir::{CacheDir, make_room};
 use cache_files::short_text::{TextDifference, short_text};
 use cache_files::{kept_parts, name_of_parts, parts_of, parts_under, put_parts};
 use cache_format::KeptParts;
-use ckeys::CCompilerImpl;
-use cmdlines::{Clang, Gcc};
+use cmdlines::AnyFoundCompiler;
 use cmdlines_base::{ArtifactDescriptor, CompilerArguments};
 use cmdlines_requests::ParsedArguments;
 use cmdlines_tables::CCompilerKind;
@@ -26,9 +25,9 @@ use wrap_base::{Named, Reason, Request};
 type Asked = CompilerArguments<ParsedArguments>;
 
 /// What words ask this compiler for.
-fn asked_of<C: CCompilerImpl, F: CallFiles>(
+fn asked_of<F: CallFiles>(
     alloc: Global,
-    compiler: &C,
+    compiler: &AnyFoundCompiler,
     words: &[OsBytes],
     dir: &OsBytes,
     files: &mut F,
@@ -57,7 +56,7 @@ fn name_of_request<F: CallFiles>(
         return Err(HostError::Unreadable);
     };
     let words = request.words.as_slice();
-    let asked = asked_of(alloc, &compiler, words, &request.dir, files)?;
+    let asked = asked_of(alloc, compiler.found, words, &request.dir, files)?;
     name_of_asked(alloc, &request.dir, &asked)
 }
 
@@ -185,20 +184,6 @@ pub fn note_fingerprint<R: Files + AllocGlobal, F: CallFiles>(
     difference
 }
 
-/// What words ask Gcc for. No file is opened.
-fn asked_by_gcc(alloc: Global, words: &[OsBytes], dir: &OsBytes) -> Result<Asked, HostError> {
-    let gcc = Gcc::new(alloc, false, None, None)?;
-    let mut files = SnapshotFiles::new(alloc);
-    asked_of(alloc, &gcc, words, dir, &mut files)
-}
-
-/// Likewise Clang.
-fn asked_by_clang(alloc: Global, words: &[OsBytes], dir: &OsBytes) -> Result<Asked, HostError> {
-    let clang = Clang::new(alloc, false, None, None)?;
-    let mut files = SnapshotFiles::new(alloc);
-    asked_of(alloc, &clang, words, dir, &mut files)
-}
-
 /// What words ask a compiler of that kind for. No file is opened.
 fn asked_in(
     alloc: Global,
@@ -206,10 +191,9 @@ fn asked_in(
     words: &[OsBytes],
     dir: &OsBytes,
 ) -> Result<Asked, HostError> {
-    match kind {
-        CCompilerKind::Clang => asked_by_clang(alloc, words, dir),
-        _ => asked_by_gcc(alloc, words, dir),
-    }
+    let compiler = AnyFoundCompiler::new(alloc, kind, false, None, None)?;
+    let mut files = SnapshotFiles::new(alloc);
+    asked_of(alloc, &compiler, words, dir, &mut files)
 }
 
 /// The path of the object among outputs.

@@ -24,7 +24,7 @@ ghost use Rattle.fingerprints.specs.Telling.{OnReason, Tells};
 
 use crate::c_parts::CParts;
 use crate::pieces::{assembler_of, cached_variables, stripped};
-use ckeys::{CCompilerImpl, KeyContents};
+use ckeys::KeyContents;
 use ckeys_base::HashState;
 use ckeys_records::output_name::OutputName;
 use ckeys_records::{Fault, KeyConfig, stripped_words_lack_the_end};
@@ -68,7 +68,7 @@ fn c_parts(
           names = names_of parsed.now.outputs;
         }) }
 {
-    let digest = compiler.executable_digest().as_bytes();
+    let digest = compiler.executable_digest.as_bytes();
     let common = parsed.common_args.as_slice();
     let arch = parsed.arch_args.as_slice();
     let folders = config.basedirs();
@@ -80,7 +80,7 @@ fn c_parts(
     let variables = cached_variables(alloc, request.env.as_slice())?;
     Ok(CParts {
         compiler: executable,
-        plusplus: compiler.plusplus(),
+        plusplus: compiler.found.plusplus(),
         language: parsed.language,
         words,
         variables,

@@ -4,7 +4,6 @@ ghost use Rattle.std.specs.Prelude.{◌≡◌, ◌++◌, filter, IfOk};
 ghost use Rattle.ckeys_records.specs.Params.{is_cached, stripped_words};
 ghost use Rattle.wrap_base.specs.Commands.{traits_of};
 
-use ckeys::CCompilerImpl;
 use ckeys_base::strip_basedirs_from_arg;
 use ckeys_records::is_cached;
 use os_files::{Listed, OsBytes};
@@ -68,7 +67,7 @@ pub(crate) fn cached_variables(
 pub(crate) fn assembler_of(alloc: Global, compiler: AnyC<'_>) -> Result<Option<OsBytes>, AllocError>
     ensures { IfOk result (λ digest. digest ≡ (traits_of compiler.entry).assembler_digest) }
 {
-    match compiler.assembler_digest() {
+    match compiler.found.assembler_digest() {
         Some(digest) => Ok(Some(OsBytes::from_slice(alloc, digest.as_bytes())?)),
         None => Ok(None),
     }

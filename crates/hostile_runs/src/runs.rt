@@ -4,11 +4,12 @@ use crate::answers::{AnswerTexts, answer_texts};
 use crate::stores::{Seen, Watched, seen_of};
 use ckeys::{EntryKey, PreprocessorCacheEntry};
 use ckeys_records::{KeyConfig, Preprocessor, Step, Ticks};
+use cmdlines::EachKind;
 use failing_kit::FailTool;
 use os_files::{Files, OsBytes};
 use scenario_texts::{Scenario, ScenarioCall, ScenarioFault, read_scenario};
 use script_tool::{
-    CrateTexts, RetoldTool, ScriptTool, StatusOf, Statuses, Trees, error_status, print_status,
+    CrateTexts, RetoldTool, ScriptTool, StatusOf, Statuses, error_status, print_status,
 };
 use sha2::Sha256;
 use std::alloc::{AllocError, AllocFailed, Global};
@@ -256,8 +257,8 @@ fn run_by<E: Watched<EntryKey, PreprocessorCacheEntry>, O: Watched<StoreKey, Pai
     limits: Limits,
     session: &mut Session<Sha256, E, O>,
 ) -> Result<Run, AllocError> {
-    let trees = Trees::new(alloc)?;
-    let tool = ScriptTool::new(config, CrateTexts::empty(alloc), trees, statuses);
+    let compilers = EachKind::new(alloc)?;
+    let tool = ScriptTool::new(config, CrateTexts::empty(alloc), compilers, statuses);
     let mut tool = FailTool::new(tool, limits.tool);
     let run = turns_of(alloc, calls, limits.files, session, &mut tool);
     drop(tool);

@@ -7,7 +7,10 @@ use Rattle.std.specs.Str.Lossy.{utf8_lossy}
 use Rattle.os_files.specs.Bytes.{Bytes}
 use Rattle.os_files.specs.Tree.{Tree}
 use Rattle.cmdlines.specs.Parsing.{asks, not_compilation, cannot_cache}
-use Rattle.cmdlines_tables.specs.declared.compiler.CCompilerKind.TheVariants.{Clang, Gcc}
+use Rattle.cmdlines_requests.specs.declared.parsed.ParsedArguments.{ParsedArguments}
+use Rattle.cmdlines_tables.specs.CompilerFacts.{spelling_of}
+use Rattle.cmdlines_tables.specs.declared.compiler.Spelling.{Spelling}
+use Rattle.cmdlines_tables.specs.declared.compiler.Spelling.TheVariants.{Gnu}
 use Rattle.rustkeys_base.specs.Parsing as rust
 use Rattle.recorded_builds.specs.Beware.{AreOnce, is_among, is_named, is_option}
 use Rattle.recorded_builds.specs.Outcomes.{Outcome, by_c, by_rustc, unknown, outcome_in}
@@ -36,11 +39,14 @@ blocker_in (by_c kind (asks parsed)) =
     option_map utf8_lossy parsed.too_hard_for_preprocessor_cache_mode
 blocker_in _ = None
 
--- the words among which options to beware of are looked for: of what Gcc and Clang keep, those for
--- the preprocessor and those that are hashed
+-- the words among which options to beware of are looked for: of what Gcc and those like it keep,
+-- those for the preprocessor and those that are hashed
+abbrev pub words_looked_at_by : Spelling → ParsedArguments → List Bytes
+words_looked_at_by Gnu parsed = parsed.preprocessor_args ++ parsed.common_args
+words_looked_at_by spelling parsed = []
+
 abbrev pub words_looked_at : Outcome → List Bytes
-words_looked_at (by_c Gcc (asks parsed)) = parsed.preprocessor_args ++ parsed.common_args
-words_looked_at (by_c Clang (asks parsed)) = parsed.preprocessor_args ++ parsed.common_args
+words_looked_at (by_c kind (asks parsed)) = words_looked_at_by (spelling_of kind) parsed
 words_looked_at _ = []
 
 -- one of these words is that option

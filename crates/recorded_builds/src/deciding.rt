@@ -8,7 +8,7 @@ ghost use Rattle.recorded_builds.specs.Outcomes.{outcome_in, outcome_of};
 
 use crate::entry::Entry;
 use crate::executables::EntryCompiler;
-use cmdlines::{Clang, Diab, Gcc, Msvc, TaskingVX};
+use cmdlines::{AnyFoundCompiler, EachKind};
 use cmdlines_base::CompilerArguments;
 use cmdlines_requests::ParsedArguments;
 use cmdlines_tables::CCompilerKind;
@@ -31,67 +31,21 @@ pub enum Decided {
 /// The C compilers, of which nothing more is known.
 #[derive(Drop)]
 pub struct Compilers {
-    pub gcc: Gcc,
-    pub clang: Clang,
-    pub diab: Diab,
-    pub msvc: Msvc,
-    pub tasking_vx: TaskingVX,
-}
-
-/// Gcc and Clang, of which nothing more is known.
-fn gnu_compilers(alloc: Global) -> Result<(Gcc, Clang), AllocError> {
-    let gcc = Gcc::new(alloc, false, None, None)?;
-    match Clang::new(alloc, false, None, None) {
-        Ok(clang) => Ok((gcc, clang)),
-        Err(error) => {
-            drop(gcc);
-            Err(error)
-        }
-    }
-}
-
-/// Likewise Diab and Msvc.
-fn own_compilers(alloc: Global) -> Result<(Diab, Msvc), AllocError> {
-    let diab = Diab::new(alloc, false, None, None)?;
-    match Msvc::new(alloc, false, None, None) {
-        Ok(msvc) => Ok((diab, msvc)),
-        Err(error) => {
-            drop(diab);
-            Err(error)
-        }
-    }
-}
-
-/// Likewise all others than Gcc and Clang.
-fn other_compilers(alloc: Global) -> Result<(Diab, Msvc, TaskingVX), AllocError> {
-    let tasking_vx = TaskingVX::new(alloc, false, None, None)?;
-    match own_compilers(alloc) {
-        Ok((diab, msvc)) => Ok((diab, msvc, tasking_vx)),
-        Err(error) => {
-            drop(tasking_vx);
-            Err(error)
-        }
-    }
+    each: EachKind,
 }
 
 impl Compilers {
-    /// Makes the tables of all of them, some at a time: what is made before one that can't be is dropped.
+    /// Makes the tables of all of them.
     pub fn new(alloc: Global) -> Result<Compilers, AllocError> {
-        let (gcc, clang) = gnu_compilers(alloc)?;
-        match other_compilers(alloc) {
-            Ok((diab, msvc, tasking_vx)) => Ok(Compilers {
-                gcc,
-                clang,
-                diab,
-                msvc,
-                tasking_vx,
-            }),
-            Err(error) => {
-                drop(gcc);
-                drop(clang);
-                Err(error)
-            }
-        }
+        let each = EachKind::new(alloc)?;
+        Ok(Compilers { each })
+    }
+
+    /// The one of that kind.
+    pub fn of(&self, kind: CCompilerKind) -> &AnyFoundCompiler
+        ensures { result.now.kind ≡ kind }
+    {
+        self.each.of(kind)
     }
 
     /// What words come to by a compiler of that kind.
@@ -109,13 +63,7 @@ impl Compilers {
         ensures object { IfOk result (λ answer. HasObjectIn (decision_of answer)) }
         ensures tree { F.tree files.new ≡ F.tree files.old }
     {
-        match kind {
-            CCompilerKind::Gcc => self.gcc.parse_arguments(alloc, words, dir, files),
-            CCompilerKind::Clang => self.clang.parse_arguments(alloc, words, dir, files),
-            CCompilerKind::Diab => self.diab.parse_arguments(alloc, words, dir, files),
-            CCompilerKind::Msvc => self.msvc.parse_arguments(alloc, words, dir, files),
-            CCompilerKind::TaskingVX => self.tasking_vx.parse_arguments(alloc, words, dir, files),
-        }
+        self.of(kind).parse_arguments(alloc, words, dir, files)
     }
 
     /// What the words of an entry come to.

@@ -11,7 +11,7 @@ use crate::beware::options_in;
 use crate::deciding::Decided;
 use crate::reasons::reason_of;
 use cmdlines_base::CompilerArguments;
-use cmdlines_tables::CCompilerKind;
+use cmdlines_tables::Spelling;
 use os_files::OsBytes;
 use std::alloc::{AllocError, Global};
 
@@ -41,23 +41,21 @@ fn blocker_of(alloc: Global, decided: &Decided) -> Result<Option<String>, AllocE
     }
 }
 
-/// The options to beware of in what Gcc and Clang keep, each once.
+/// The options to beware of in what Gcc and those like it keep, each once.
 fn options_to_beware_of(alloc: Global, decided: &Decided) -> Result<Vec<&'static str>, AllocError>
     ensures once { IfOk result (λ found. AreOnce found.items) }
     ensures held { IfOk result (λ found. (option : _) →
         is_among option found.items ≡ holds_option option (outcome_in decided.now)) }
 {
     match decided {
-        Decided::C(CCompilerKind::Gcc, CompilerArguments::Ok(parsed)) => options_in(
-            alloc,
-            parsed.preprocessor_args.as_slice(),
-            parsed.common_args.as_slice(),
-        ),
-        Decided::C(CCompilerKind::Clang, CompilerArguments::Ok(parsed)) => options_in(
-            alloc,
-            parsed.preprocessor_args.as_slice(),
-            parsed.common_args.as_slice(),
-        ),
+        Decided::C(kind, CompilerArguments::Ok(parsed)) => match kind.spelling() {
+            Spelling::Gnu => options_in(
+                alloc,
+                parsed.preprocessor_args.as_slice(),
+                parsed.common_args.as_slice(),
+            ),
+            Spelling::Plain | Spelling::Msvc => Ok(Vec::new(alloc)),
+        },
         _ => Ok(Vec::new(alloc)),
     }
 }

@@ -11,7 +11,7 @@
 //!
 //! Each may end in `.exe`. The file name is what comes after the last slash of either kind.
 
-use cmdlines_tables::CCompilerKind;
+use cmdlines_tables::{CCompilerKind, Spelling};
 
 /// A compiler whose words can be read.
 #[derive(Clone, Copy, Debug, PartialEq, Eq)]
@@ -48,36 +48,36 @@ fn without_target_and_version(name: &[u8]) -> &[u8] {
     }
 }
 
+/// The file names of a compiler's executables.
+fn executables_of(kind: CCompilerKind) -> &'static [&'static [u8]] {
+    match kind {
+        CCompilerKind::Gcc => &[b"cc", b"gcc", b"c++", b"g++"],
+        CCompilerKind::Clang => &[b"clang", b"clang++"],
+        CCompilerKind::Diab => &[b"dcc"],
+        CCompilerKind::Msvc => &[b"cl"],
+        CCompilerKind::TaskingVX => &[b"cctc"],
+    }
+}
+
+/// Whether an executable of that file name is of that kind. The names of those like Gcc may have a target and a version about them.
+fn is_named(kind: CCompilerKind, name: &[u8]) -> bool {
+    match kind.spelling() {
+        Spelling::Gnu => executables_of(kind).contains(&without_target_and_version(name)),
+        Spelling::Plain | Spelling::Msvc => executables_of(kind).contains(&name),
+    }
+}
+
 /// The compiler that an executable of this path is, where its name shows it.
 pub fn compiler_of(executable: &[u8]) -> Option<EntryCompiler> {
     let name = without_exe(file_name(executable));
-    if name == b"cl".as_slice() {
-        return Some(EntryCompiler::C(CCompilerKind::Msvc));
-    }
-    if name == b"dcc".as_slice() {
-        return Some(EntryCompiler::C(CCompilerKind::Diab));
-    }
-    if name == b"cctc".as_slice() {
-        return Some(EntryCompiler::C(CCompilerKind::TaskingVX));
-    }
     if name == b"rustc".as_slice() {
         return Some(EntryCompiler::Rustc);
     }
-    let stem = without_target_and_version(name);
-    if [
-        b"cc".as_slice(),
-        b"gcc".as_slice(),
-        b"c++".as_slice(),
-        b"g++".as_slice(),
-    ]
-    .contains(&stem)
-    {
-        return Some(EntryCompiler::C(CCompilerKind::Gcc));
-    }
-    if stem == b"clang".as_slice() || stem == b"clang++".as_slice() {
-        return Some(EntryCompiler::C(CCompilerKind::Clang));
-    }
-    None
+    let kind = CCompilerKind::ALL
+        .iter()
+        .copied()
+        .find(|kind| is_named(*kind, name))?;
+    Some(EntryCompiler::C(kind))
 }
 
 /// Whether an executable of this path runs the compiler that the words after it name.
@@ -88,13 +88,8 @@ pub fn is_wrapper(executable: &[u8]) -> bool {
 
 /// The compiler of this name, as `--lines` takes it.
 pub fn compiler_called(name: &str) -> Option<EntryCompiler> {
-    match name {
-        "gcc" => Some(EntryCompiler::C(CCompilerKind::Gcc)),
-        "clang" => Some(EntryCompiler::C(CCompilerKind::Clang)),
-        "diab" => Some(EntryCompiler::C(CCompilerKind::Diab)),
-        "msvc" => Some(EntryCompiler::C(CCompilerKind::Msvc)),
-        "taskingvx" => Some(EntryCompiler::C(CCompilerKind::TaskingVX)),
-        "rustc" => Some(EntryCompiler::Rustc),
-        _ => None,
+    if name == "rustc" {
+        return Some(EntryCompiler::Rustc);
     }
+    Some(EntryCompiler::C(CCompilerKind::from_name(name)?))
 }

@@ -18,7 +18,7 @@ use crate::deciding::{Compilers, Decided};
 use crate::entry::Entry;
 use crate::executables::EntryCompiler;
 use cmdlines::uncached_words::{empty_value, opens_file};
-use cmdlines::{CommandError, FoundCompiler, HasKind};
+use cmdlines::{AnyFoundCompiler, CommandError};
 use cmdlines_base::CompilerArguments;
 use cmdlines_requests::ParsedArguments;
 use cmdlines_tables::CCompilerKind;
@@ -30,14 +30,14 @@ use rustkeys_base::parse;
 use std::alloc::{AllocError, Global};
 
 /// Whether a word of a command would make this compiler open a response file.
-fn opens_by<K: HasKind>(
+fn opens_by(
     alloc: Global,
-    compiler: &FoundCompiler<K>,
+    compiler: &AnyFoundCompiler,
     parsed: &ParsedArguments,
     dir: &OsBytes,
 ) -> Result<bool, AllocError>
     requires object { is_some (object_path parsed.now) ≡ true }
-    ensures { IfOk result (λ opens. opens ≡ commands_open_file K.kind parsed.now) }
+    ensures { IfOk result (λ opens. opens ≡ commands_open_file compiler.now.kind parsed.now) }
 {
     let preprocess = compiler.preprocess_words(alloc, parsed)?;
     let compile = match compiler.generate_compile_commands(alloc, dir, parsed, dir, &[]) {
@@ -45,7 +45,7 @@ fn opens_by<K: HasKind>(
         Err(CommandError::Memory) => return Err(AllocError),
         Err(CommandError::NoObjOutput) => unreachable!(),
     };
-    let kind = K::kind();
+    let kind = compiler.kind();
     Ok(opens_file(compile.arguments.as_slice(), kind) || opens_file(preprocess.as_slice(), kind))
 }
 
@@ -150,13 +150,7 @@ impl Compilers {
         requires object { is_some (object_path parsed.now) ≡ true }
         ensures { IfOk result (λ opens. opens ≡ commands_open_file kind parsed.now) }
     {
-        match kind {
-            CCompilerKind::Gcc => opens_by(alloc, &self.gcc, parsed, dir),
-            CCompilerKind::Clang => opens_by(alloc, &self.clang, parsed, dir),
-            CCompilerKind::Diab => opens_by(alloc, &self.diab, parsed, dir),
-            CCompilerKind::Msvc => opens_by(alloc, &self.msvc, parsed, dir),
-            CCompilerKind::TaskingVX => opens_by(alloc, &self.tasking_vx, parsed, dir),
-        }
+        opens_by(alloc, self.of(kind), parsed, dir)
     }
 
     /// What keeps a request from being kept that words ask for.

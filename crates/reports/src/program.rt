@@ -6,7 +6,7 @@ use crate::fault::fault_of;
 use crate::lines::text_of_lines;
 use crate::report::{Shape, report_with_files, report_without_files};
 use crate::request_texts::Detail;
-use crate::usage::{HELP, Usage, usage_of};
+use crate::usage::{Usage, help, usage_of};
 use recorded_builds::Compilers;
 use std::alloc::Global;
 use std::io::{Read, Write};
@@ -26,7 +26,8 @@ pub fn run<D: Files, R: Read, W: Write>(
         return Err(ReportFault::Arguments);
     };
     if usage == Usage::Help {
-        return write_text(writer, HELP);
+        let text = help(alloc)?;
+        return write_text(writer, text.as_str());
     }
     let input = whole_text(alloc, reader)?;
     let text = match usage {

@@ -1,10 +1,9 @@
 //! What words that are kept ask for, as text.
 
 use crate::texts::{write_list, write_words};
-use cmdlines::{FoundCompiler, HasKind};
+use cmdlines::AnyFoundCompiler;
 use cmdlines_base::{Argument, ColorMode, CompilerArguments};
 use cmdlines_requests::ParsedArguments;
-use cmdlines_tables::CCompilerKind;
 use os_files::{Listed, OsBytes};
 use recorded_builds::{Compilers, Decided};
 use rustc_options::{ArgData, parsed as rust};
@@ -139,48 +138,16 @@ pub(crate) fn write_kept(
     }
 }
 
-/// The words of the compile command of a compiler of that kind.
-fn compile_words_of<K: HasKind>(
+/// The words of the compile command of a request.
+fn compile_words(
     alloc: Global,
-    compiler: &FoundCompiler<K>,
+    compiler: &AnyFoundCompiler,
     parsed: &ParsedArguments,
 ) -> Result<Listed<OsBytes>, AllocError> {
     let none = OsBytes::empty(alloc);
     match compiler.generate_compile_commands(alloc, &none, parsed, &none, &[]) {
         Ok((command, _)) => Ok(command.arguments),
         Err(_) => Err(AllocError),
-    }
-}
-
-/// The words of the compile command of a request.
-fn compile_words(
-    alloc: Global,
-    compilers: &Compilers,
-    kind: CCompilerKind,
-    parsed: &ParsedArguments,
-) -> Result<Listed<OsBytes>, AllocError> {
-    match kind {
-        CCompilerKind::Gcc => compile_words_of(alloc, &compilers.gcc, parsed),
-        CCompilerKind::Clang => compile_words_of(alloc, &compilers.clang, parsed),
-        CCompilerKind::Diab => compile_words_of(alloc, &compilers.diab, parsed),
-        CCompilerKind::Msvc => compile_words_of(alloc, &compilers.msvc, parsed),
-        CCompilerKind::TaskingVX => compile_words_of(alloc, &compilers.tasking_vx, parsed),
-    }
-}
-
-/// The words of the preprocess command of a request.
-fn preprocess_words(
-    alloc: Global,
-    compilers: &Compilers,
-    kind: CCompilerKind,
-    parsed: &ParsedArguments,
-) -> Result<Listed<OsBytes>, AllocError> {
-    match kind {
-        CCompilerKind::Gcc => compilers.gcc.preprocess_words(alloc, parsed),
-        CCompilerKind::Clang => compilers.clang.preprocess_words(alloc, parsed),
-        CCompilerKind::Diab => compilers.diab.preprocess_words(alloc, parsed),
-        CCompilerKind::Msvc => compilers.msvc.preprocess_words(alloc, parsed),
-        CCompilerKind::TaskingVX => compilers.tasking_vx.preprocess_words(alloc, parsed),
     }
 }
 
@@ -224,7 +191,7 @@ pub(crate) fn write_compile(
 ) -> Result<(), AllocError> {
     match decided {
         Decided::C(kind, CompilerArguments::Ok(parsed)) => {
-            let words = compile_words(alloc, compilers, *kind, parsed)?;
+            let words = compile_words(alloc, compilers.of(*kind), parsed)?;
             write_words(text, words.as_slice())?;
         }
         Decided::Rustc(CompilerArguments::Ok(parsed)) => {
@@ -243,7 +210,7 @@ pub(crate) fn write_preprocess(
     decided: &Decided,
 ) -> Result<(), AllocError> {
     if let Decided::C(kind, CompilerArguments::Ok(parsed)) = decided {
-        let words = preprocess_words(alloc, compilers, *kind, parsed)?;
+        let words = compilers.of(*kind).preprocess_words(alloc, parsed)?;
         write_words(text, words.as_slice())?;
     }
     Ok(())

@@ -1,9 +1,11 @@
 //! The arguments of the program.
 
+use cmdlines_tables::CCompilerKind;
 use recorded_builds::{EntryCompiler, compiler_called};
+use std::alloc::{AllocError, Global};
 
-/// What `--help` prints.
-pub(crate) const HELP: &str =
+/// What `--help` prints before the names of the C compilers.
+const BEFORE_NAMES: &str =
     "Tells what a cache would keep of a recorded build, and why it would pass the rest through.
 
 usage: sccache-report [--lists] [--commands] < compile_commands.json
@@ -13,13 +15,28 @@ usage: sccache-report [--lists] [--commands] < compile_commands.json
 --lists       tell all that is read of a command line that is kept
 --commands    print the words of the commands that are run for it as well
 --lines       read one command line a line, without its executable, and print what each comes to, one line each:
-              COMPILER is gcc, clang, diab, msvc, taskingvx or rustc; a line '#file PATH LINE..' gives a file of these
+              COMPILER is ";
+
+/// What it prints after them.
+const AFTER_NAMES: &str =
+    "or rustc; a line '#file PATH LINE..' gives a file of these
               lines to all, and any other line that begins with # is passed over
 --compile     print the words of its compile command instead; of rustc the arguments that are kept
 --preprocess  print the words of its preprocess command instead
 
 The status is 0, and 2 where what is read is no database.
 ";
+
+/// What `--help` prints.
+pub(crate) fn help(alloc: Global) -> Result<String, AllocError> {
+    let mut text = String::from_str(alloc, BEFORE_NAMES)?;
+    for kind in CCompilerKind::ALL {
+        text.push_str(kind.name())?;
+        text.push_str(", ")?;
+    }
+    text.push_str(AFTER_NAMES)?;
+    Ok(text)
+}
 
 /// What is printed of each line.
 #[derive(Clone, Copy, Debug, PartialEq, Eq)]

@@ -3,14 +3,13 @@
 use crate::byte_text::{read_byte_text, read_texts};
 use crate::members::{into_text, read_text, read_truth};
 use crate::scenario::ScenarioFault;
-use ckeys::CCompiler;
-use cmdlines::{FoundCompiler, HasKind};
+use cmdlines_tables::CCompilerKind;
 use os_files::{Listed, MemoryFiles, OsBytes};
 use rustc_compiler::{Rust, RustFault};
 use serde_json::{Map, Value};
 use sha2::Sha256;
-use std::alloc::{AllocError, Global};
-use wrap_base::Compiler;
+use std::alloc::Global;
+use wrap_base::{CDescription, Compiler};
 
 /// The name of rustc.
 pub(crate) const RUSTC: &str = "rustc";
@@ -33,23 +32,6 @@ impl From<RustFault> for ScenarioFault {
     }
 }
 
-/// What a request's members say of its C compiler beside the kind. Its version isn't known.
-#[derive(Drop)]
-struct DescribedCompiler {
-    plusplus: bool,
-    assembler: Option<String>,
-    executable: OsBytes,
-    digest: String,
-}
-
-impl DescribedCompiler {
-    /// The compiler of a kind of which this is given.
-    fn found<K: HasKind>(self, alloc: Global) -> Result<CCompiler<FoundCompiler<K>>, AllocError> {
-        let compiler = FoundCompiler::new(alloc, self.plusplus, None, self.assembler)?;
-        Ok(CCompiler::with_digest(compiler, self.executable, self.digest))
-    }
-}
-
 /// The compiler of that name, as a request's members give it. The files are the request's own, among which are those of a toolchain.
 pub(crate) fn read_compiler(
     alloc: Global,
@@ -65,30 +47,27 @@ pub(crate) fn read_compiler(
     }
 }
 
-/// The C compiler of that name and executable.
+/// The C compiler of that name and executable. Its version isn't known.
 fn read_c_compiler(
     alloc: Global,
     name: &str,
     executable: OsBytes,
     members: &mut Map<String, Value>,
 ) -> Result<Compiler, ScenarioFault> {
-    let digest = read_text(alloc, members.remove("digest"), DEFAULT_DIGEST)?;
+    let executable_digest = read_text(alloc, members.remove("digest"), DEFAULT_DIGEST)?;
     let plusplus = read_truth(members.remove("plusplus"))?;
-    let assembler = read_assembler(members.remove("assembler"))?;
-    let described = DescribedCompiler {
-        plusplus,
-        assembler,
-        executable,
-        digest,
+    let assembler_digest = read_assembler(members.remove("assembler"))?;
+    let Some(kind) = CCompilerKind::from_name(name) else {
+        return Err(ScenarioFault::Unreadable);
     };
-    match name {
-        "gcc" => Ok(Compiler::Gcc(described.found(alloc)?)),
-        "clang" => Ok(Compiler::Clang(described.found(alloc)?)),
-        "diab" => Ok(Compiler::Diab(described.found(alloc)?)),
-        "msvc" => Ok(Compiler::Msvc(described.found(alloc)?)),
-        "taskingvx" => Ok(Compiler::TaskingVX(described.found(alloc)?)),
-        _ => Err(ScenarioFault::Unreadable),
-    }
+    let described = CDescription {
+        plusplus,
+        version: None,
+        assembler_digest,
+        executable,
+        executable_digest,
+    };
+    Ok(Compiler::of_kind(alloc, kind, described)?)
 }
 
 /// The rustc of that executable.

@@ -2,6 +2,7 @@
 use Rattle.std.proofs.Common.{◌≡◌, ◌⊎◌, Bool, true, false, cond, not, if◌then◌else◌, List, [], ◌∷◌, ◌++◌, map, Option, None, Some, refl, sym, ap, subst, ◌∙◌, inl, inr}
 use Rattle.std.specs.Prelude.{codes}
 use Rattle.std.specs.List.{flat_map}
+use Rattle.std.specs.Option.{option_map, option_to_list}
 use Rattle.std.proofs.lemmas.List.{append-nil}
 use Rattle.std.proofs.lemmas.List.Concat.{flat_map-append}
 use Rattle.os_files.specs.Bytes.{Bytes}
@@ -9,10 +10,13 @@ use Rattle.cmdlines_base.specs.Printing.{normal, normal_disposition}
 use Rattle.cmdlines_base.specs.Reading.{Item, raw, unknown, flag, valued, behind_dashes}
 use Rattle.cmdlines_base.specs.declared.argument.ArgDisposition.{ArgDisposition}
 use Rattle.cmdlines_tables.specs.Kinds.{is_same_list, list_of}
-use Rattle.cmdlines_tables.specs.OwnWords.{language_items, output_item}
+use Rattle.cmdlines_tables.specs.CompilerFacts.{ColorWord, by_flag, by_value, facts_about, spelling_of}
+use Rattle.cmdlines_tables.specs.Languages.{knows_by}
+use Rattle.cmdlines_tables.specs.OwnWords.{color_item_by, language_items, language_items_by, output_item, output_item_by}
 use Rattle.cmdlines_tables.specs.Tables.{reading_of}
 use Rattle.cmdlines_tables.specs.declared.compiler.CCompilerKind.{CCompilerKind}
-use Rattle.cmdlines_tables.specs.declared.compiler.CCompilerKind.TheVariants.{Gcc, Clang, Diab, Msvc, TaskingVX}
+use Rattle.cmdlines_tables.specs.declared.compiler.Spelling.{Spelling}
+use Rattle.cmdlines_tables.specs.declared.compiler.Spelling.TheVariants.{Gnu, Plain, Msvc}
 use Rattle.cmdlines_tables.specs.declared.kind.ArgKind.{ArgKind}
 use Rattle.cmdlines_tables.specs.declared.kind.ArgKind.TheVariants as kinds
 use Rattle.cmdlines_tables.specs.declared.kind.OptionList.{OptionList}
@@ -137,60 +141,59 @@ module _ (f : Item ArgKind → List Bytes) where
       by false is rest = rest
 
 -- the words that commands have of their own give no input
+language_by_none : (spelling : Spelling) (language : Language) → Gives input_in (language_items_by spelling language) []
+language_by_none Gnu C = record { is = refl }
+language_by_none Gnu Cxx = record { is = refl }
+language_by_none Gnu CPreprocessed = record { is = refl }
+language_by_none Gnu CxxPreprocessed = record { is = refl }
+language_by_none Gnu Assembler = record { is = refl }
+language_by_none Gnu AssemblerToPreprocess = record { is = refl }
+language_by_none Gnu Rust = record { is = refl }
+language_by_none Plain language = record { is = refl }
+language_by_none Msvc C = record { is = refl }
+language_by_none Msvc Cxx = record { is = refl }
+language_by_none Msvc CPreprocessed = record { is = refl }
+language_by_none Msvc CxxPreprocessed = record { is = refl }
+language_by_none Msvc Assembler = record { is = refl }
+language_by_none Msvc AssemblerToPreprocess = record { is = refl }
+language_by_none Msvc Rust = record { is = refl }
+
 own_language_none : (kind : CCompilerKind) (language : Language) → Gives input_in (language_items kind language) []
-own_language_none Gcc C = record { is = refl }
-own_language_none Gcc Cxx = record { is = refl }
-own_language_none Gcc CPreprocessed = record { is = refl }
-own_language_none Gcc CxxPreprocessed = record { is = refl }
-own_language_none Gcc Assembler = record { is = refl }
-own_language_none Gcc AssemblerToPreprocess = record { is = refl }
-own_language_none Gcc Rust = record { is = refl }
-own_language_none Clang C = record { is = refl }
-own_language_none Clang Cxx = record { is = refl }
-own_language_none Clang CPreprocessed = record { is = refl }
-own_language_none Clang CxxPreprocessed = record { is = refl }
-own_language_none Clang Assembler = record { is = refl }
-own_language_none Clang AssemblerToPreprocess = record { is = refl }
-own_language_none Clang Rust = record { is = refl }
-own_language_none Diab language = record { is = refl }
-own_language_none Msvc C = record { is = refl }
-own_language_none Msvc Cxx = record { is = refl }
-own_language_none Msvc CPreprocessed = record { is = refl }
-own_language_none Msvc CxxPreprocessed = record { is = refl }
-own_language_none Msvc Assembler = record { is = refl }
-own_language_none Msvc AssemblerToPreprocess = record { is = refl }
-own_language_none Msvc Rust = record { is = refl }
-own_language_none TaskingVX language = record { is = refl }
+own_language_none kind language = language_by_none (spelling_of kind) language
+
+input_output_by : (spelling : Spelling) (path : Bytes) → Gives input_in (output_item_by spelling path ∷ []) []
+input_output_by Gnu path = record { is = refl }
+input_output_by Plain path = record { is = refl }
+input_output_by Msvc path = record { is = refl }
 
 input_output_none : (kind : CCompilerKind) (path : Bytes) → Gives input_in (output_item kind path ∷ []) []
-input_output_none Gcc path = record { is = refl }
-input_output_none Clang path = record { is = refl }
-input_output_none Diab path = record { is = refl }
-input_output_none Msvc path = record { is = refl }
-input_output_none TaskingVX path = record { is = refl }
+input_output_none kind path = input_output_by (spelling_of kind) path
+
+input_color_by : (color : Option ColorWord) → Gives input_in (option_to_list (option_map color_item_by color)) []
+input_color_by None = record { is = refl }
+input_color_by (Some (by_flag name)) = record { is = refl }
+input_color_by (Some (by_value name value)) = record { is = refl }
 
 input_color_none : (kind : CCompilerKind) (has_option : Bool) → Gives input_in (color_items kind has_option) []
 input_color_none kind true = record { is = refl }
-input_color_none Gcc false = record { is = refl }
-input_color_none Clang false = record { is = refl }
-input_color_none Diab false = record { is = refl }
-input_color_none Msvc false = record { is = refl }
-input_color_none TaskingVX false = record { is = refl }
+input_color_none kind false = input_color_by (facts_about kind).color
+
+language_output_by : (spelling : Spelling) (path : Bytes) → Gives language_in (output_item_by spelling path ∷ []) []
+language_output_by Gnu path = record { is = refl }
+language_output_by Plain path = record { is = refl }
+language_output_by Msvc path = record { is = refl }
 
 language_output_none : (kind : CCompilerKind) (path : Bytes) → Gives language_in (output_item kind path ∷ []) []
-language_output_none Gcc path = record { is = refl }
-language_output_none Clang path = record { is = refl }
-language_output_none Diab path = record { is = refl }
-language_output_none Msvc path = record { is = refl }
-language_output_none TaskingVX path = record { is = refl }
+language_output_none kind path = language_output_by (spelling_of kind) path
+
+language_color_by : (color : Option ColorWord) → Gives language_in (option_to_list (option_map color_item_by color)) []
+language_color_by None = record { is = refl }
+language_color_by (Some (by_flag name)) = record { is = refl }
+language_color_by (Some (by_value name value)) = record { is = refl }
 
 language_color_none : (kind : CCompilerKind) (has_option : Bool) → Gives language_in (color_items kind has_option) []
 language_color_none kind true = record { is = refl }
-language_color_none Gcc false = record { is = refl }
-language_color_none Clang false = record { is = refl }
-language_color_none Diab false = record { is = refl }
-language_color_none Msvc false = record { is = refl }
-language_color_none TaskingVX false = record { is = refl }
+language_color_none kind false = language_color_by (facts_about kind).color
 
 when_none : (holds : Bool) (name : Bytes) (k : ArgKind) (value : Bytes) → Gives input_in (when_items holds name k value) []
 when_none false name k value = record { is = refl }
@@ -276,42 +279,31 @@ module _ (kind : CCompilerKind) (p : ParsedArguments) (items : List (Item ArgKin
   compile_language command path r = one_is language_in language_steady kind command (compile_items kind p path items) r ∙ ap only (compile_names path).is
 
 -- a compile takes its input as it is exactly if its language isn't preprocessed
+stands_by : (spelling : Spelling) (language : Language) → knows_by spelling language ≡ true → (language ≡ Rust → ⊥) → takes_as_it_stands Compile (only (flat_map language_in (language_items_by spelling language))) ≡ not (needs_preprocessing language)
+stands_by Gnu C knows other = refl
+stands_by Gnu Cxx knows other = refl
+stands_by Gnu CPreprocessed knows other = refl
+stands_by Gnu CxxPreprocessed knows other = refl
+stands_by Gnu Assembler knows other = refl
+stands_by Gnu AssemblerToPreprocess knows other = refl
+stands_by Gnu Rust knows other = absurd (other refl)
+stands_by Plain C knows other = refl
+stands_by Plain Cxx knows other = refl
+stands_by Plain CPreprocessed knows other = absurd (clash false refl knows)
+stands_by Plain CxxPreprocessed knows other = absurd (clash false refl knows)
+stands_by Plain Assembler knows other = absurd (clash false refl knows)
+stands_by Plain AssemblerToPreprocess knows other = absurd (clash false refl knows)
+stands_by Plain Rust knows other = absurd (other refl)
+stands_by Msvc C knows other = refl
+stands_by Msvc Cxx knows other = refl
+stands_by Msvc CPreprocessed knows other = absurd (clash false refl knows)
+stands_by Msvc CxxPreprocessed knows other = absurd (clash false refl knows)
+stands_by Msvc Assembler knows other = absurd (clash false refl knows)
+stands_by Msvc AssemblerToPreprocess knows other = absurd (clash false refl knows)
+stands_by Msvc Rust knows other = absurd (other refl)
+
 stands : (kind : CCompilerKind) (language : Language) → IsKnownTo kind language → takes_as_it_stands Compile (only (flat_map language_in (language_items kind language))) ≡ not (needs_preprocessing language)
-stands Gcc C known = refl
-stands Gcc Cxx known = refl
-stands Gcc CPreprocessed known = refl
-stands Gcc CxxPreprocessed known = refl
-stands Gcc Assembler known = refl
-stands Gcc AssemblerToPreprocess known = refl
-stands Gcc Rust known = absurd (known.1 refl)
-stands Clang C known = refl
-stands Clang Cxx known = refl
-stands Clang CPreprocessed known = refl
-stands Clang CxxPreprocessed known = refl
-stands Clang Assembler known = refl
-stands Clang AssemblerToPreprocess known = refl
-stands Clang Rust known = absurd (known.1 refl)
-stands Diab C known = refl
-stands Diab Cxx known = refl
-stands Diab CPreprocessed known = absurd (clash false refl known.0)
-stands Diab CxxPreprocessed known = absurd (clash false refl known.0)
-stands Diab Assembler known = absurd (clash false refl known.0)
-stands Diab AssemblerToPreprocess known = absurd (clash false refl known.0)
-stands Diab Rust known = absurd (known.1 refl)
-stands Msvc C known = refl
-stands Msvc Cxx known = refl
-stands Msvc CPreprocessed known = absurd (clash false refl known.0)
-stands Msvc CxxPreprocessed known = absurd (clash false refl known.0)
-stands Msvc Assembler known = absurd (clash false refl known.0)
-stands Msvc AssemblerToPreprocess known = absurd (clash false refl known.0)
-stands Msvc Rust known = absurd (known.1 refl)
-stands TaskingVX C known = refl
-stands TaskingVX Cxx known = refl
-stands TaskingVX CPreprocessed known = absurd (clash false refl known.0)
-stands TaskingVX CxxPreprocessed known = absurd (clash false refl known.0)
-stands TaskingVX Assembler known = absurd (clash false refl known.0)
-stands TaskingVX AssemblerToPreprocess known = absurd (clash false refl known.0)
-stands TaskingVX Rust known = absurd (known.1 refl)
+stands kind language known = stands_by (spelling_of kind) language known.0 known.1
 
 pub compile_stands : (kind : CCompilerKind) (p : ParsedArguments) (items : List (Item ArgKind)) (command : List Bytes) (path : Bytes) → ReadsAs kind command (compile_items kind p path items) → IsKnownTo kind p.language
     → takes_as_it_stands Compile (one_in language_in (reading_of kind command)) ≡ not (needs_preprocessing p.language)

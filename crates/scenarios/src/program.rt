@@ -7,10 +7,11 @@ use crate::explaining::Explainer;
 use bounded_store::LruStore;
 use ckeys::{EntryKey, PreprocessorCacheEntry, Store};
 use ckeys_records::{Fault, Preprocessor};
+use cmdlines::EachKind;
 use os_files::{Listed, MemoryFiles, OsBytes};
 use scenario_texts::{Scenario, ScenarioCall, ScenarioFault, read_scenario};
 use script_tool::{
-    CrateTexts, RetoldTool, ScriptTool, StatusOf, Statuses, Trees, error_status, print_status,
+    CrateTexts, RetoldTool, ScriptTool, StatusOf, Statuses, error_status, print_status,
 };
 use sha2::Sha256;
 use std::alloc::{AllocError, AllocFailed, Global};
@@ -190,14 +191,14 @@ fn serve_by<O: Store<StoreKey, Pairs> + Drop, W: Write>(
 ) -> Result<(), RunFault>
     ensures fault { IfErr result (λ f. (f ≡ RunFault.Output) ⊎ (f ≡ RunFault.Memory)) }
 {
-    let trees = Trees::new(alloc)?;
+    let compilers = EachKind::new(alloc)?;
     let Scenario {
         session_config,
         tool_config,
         capacity: _,
         calls,
     } = scenario;
-    let mut tool = ScriptTool::new(tool_config, CrateTexts::empty(alloc), trees, statuses);
+    let mut tool = ScriptTool::new(tool_config, CrateTexts::empty(alloc), compilers, statuses);
     let mut session = Session::new(alloc, session_config, MapStore::new(alloc), objects);
     let served = serve_in_order(alloc, calls, explainer, &mut session, &mut tool, writer);
     drop(session);

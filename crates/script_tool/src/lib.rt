@@ -8,9 +8,7 @@ mod script;
 mod scripting;
 mod source;
 mod statuses;
-mod trees;
 
 pub use crate_texts::CrateTexts;
 pub use script::{RetoldTool, ScriptTool};
 pub use statuses::{StatusOf, Statuses, error_status, print_status};
-pub use trees::Trees;

@@ -11,8 +11,8 @@ use crate::crate_texts::CrateTexts;
 use crate::crates::{compiled_crate, crate_text};
 use crate::scripting::{compiled, printed, text_of};
 use crate::statuses::Statuses;
-use crate::trees::Trees;
 use ckeys_records::{KeyConfig, Preprocessor, Printed, RustcAnswers, Step, Ticks, ToolFail};
+use cmdlines::EachKind;
 use cmdlines_base::{ArtifactDescriptor, SingleCompileCommand};
 use cmdlines_tables::CCompilerKind;
 use os_files::{FileFail, Files, OsBytes};
@@ -27,7 +27,7 @@ pub struct ScriptTool {
     /// What rustc reports.
     pub crate_texts: CrateTexts,
     /// By which its commands to C compilers are read.
-    trees: Trees,
+    compilers: EachKind,
     /// What its compilers end with.
     statuses: Statuses,
     pub preprocessed: u64,
@@ -43,7 +43,7 @@ impl ScriptTool {
     pub fn new(
         config: KeyConfig,
         crate_texts: CrateTexts,
-        trees: Trees,
+        compilers: EachKind,
         statuses: Statuses,
     ) -> ScriptTool
         ensures config { result.config ≡ config }
@@ -56,7 +56,7 @@ impl ScriptTool {
         ScriptTool {
             config,
             crate_texts,
-            trees,
+            compilers,
             statuses,
             preprocessed: 0,
             archived: 0,
@@ -113,7 +113,7 @@ impl ScriptTool {
         ensures preprocessed { self.new.preprocessed ≡ self.old.preprocessed }
         ensures compiled { self.new.compiled ≡ self.old.compiled }
     {
-        match text_of(alloc, &self.trees, step, kind, command, files) {
+        match text_of(alloc, &self.compilers, step, kind, command, files) {
             Ok(text) => Ok(text),
             Err(fault) => Err(self.failure(step, fault)),
         }

@@ -12,9 +12,9 @@ ghost use Rattle.script_tool.specs.Texts.{holds, whole};
 use crate::lines::{included, push_with_end, split_line};
 use crate::source::{source_of, takes_as_it_stands};
 use crate::statuses::Statuses;
-use crate::trees::Trees;
 use ckeys_base::strip_basedirs;
 use ckeys_records::{Printed, Step};
+use cmdlines::EachKind;
 use cmdlines_base::{ArtifactDescriptor, SingleCompileCommand};
 use cmdlines_tables::CCompilerKind;
 use memchr::memmem;
@@ -141,7 +141,7 @@ fn text_at<F: Files>(
 /// The text that a step goes over.
 pub fn text_of<F: Files>(
     alloc: Global,
-    trees: &Trees,
+    compilers: &EachKind,
     step: Step,
     kind: CCompilerKind,
     command: &SingleCompileCommand,
@@ -157,7 +157,7 @@ pub fn text_of<F: Files>(
         → F.failed files.new ≡ ticked (F.failed files.old) }
     ensures steady { (IsErrOf result FileFail.Device → ⊥) → F.failed files.new ≡ F.failed files.old }
 {
-    let source = source_of(alloc, trees, kind, command.arguments.as_slice())?;
+    let source = source_of(alloc, compilers, kind, command.arguments.as_slice())?;
     let Some(input) = &source.input else {
         return Ok(None);
     };

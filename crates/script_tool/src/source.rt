@@ -8,9 +8,9 @@ ghost use Rattle.cmdlines_tables.specs.Tables.{ends_options, reading_of};
 ghost use Rattle.cmdlines_tables.specs.Values.{placed};
 ghost use Rattle.script_tool.specs.Scripted.{only, input_in, is_preprocessed, language_in, source_in, takes_as_it_stands};
 
-use crate::trees::Trees;
 use ckeys::needs_c_preprocessing;
 use ckeys_records::Step;
+use cmdlines::EachKind;
 use cmdlines_base::{ArgParseError, Argument, SearchableArgInfo};
 use cmdlines_tables::kind::ArgKind;
 use cmdlines_tables::language::Language;
@@ -103,13 +103,13 @@ fn source_by<S: SearchableArgInfo<ArgData>>(
 /// What the words of a command to that compiler name.
 pub fn source_of(
     alloc: Global,
-    trees: &Trees,
+    compilers: &EachKind,
     kind: CCompilerKind,
     words: &[OsBytes],
 ) -> Result<Source, AllocError>
     ensures { IfOk result (λ source. source ≡ source_in (reading_of kind words.now)) }
 {
-    source_by(alloc, kind, words, trees.of(kind))
+    source_by(alloc, kind, words, compilers.of(kind).tree())
 }
 
 /// Whether inputs of the language of this name aren't preprocessed.

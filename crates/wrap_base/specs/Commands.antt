@@ -5,14 +5,16 @@ use Rattle.os_files.specs.Tree.{Tree}
 use Rattle.cmdlines.specs.Commands.{compile_words, output_path}
 use Rattle.cmdlines_requests.specs.Small.{command_at}
 use Rattle.cmdlines.specs.Compilers.{Traits}
+use Rattle.cmdlines.specs.Compilers as compilers
 use Rattle.cmdlines.specs.Opening.{opened_words}
 use Rattle.cmdlines_requests.specs.declared.parsed.ParsedArguments.{ParsedArguments}
+use Rattle.ckeys.specs.declared.compiler.CCompiler.{CCompiler}
 use Rattle.cmdlines_base.specs.declared.command.SingleCompileCommand.{SingleCompileCommand}
 use Rattle.cmdlines_tables.specs.declared.compiler.CCompilerKind.{CCompilerKind}
 use Rattle.cmdlines_tables.specs.declared.compiler.CCompilerKind.TheVariants as kinds
 use Rattle.rustc_compiler.specs.Compiler.{Rustc}
 use Rattle.wrap_base.specs.declared.compiler.AnyC.{AnyC}
-use Rattle.wrap_base.specs.declared.compiler.AnyC.TheVariants as lent
+use Rattle.wrap_base.specs.declared.compiler.CDescription.{CDescription}
 use Rattle.wrap_base.specs.declared.compiler.Compiler.{Compiler}
 use Rattle.wrap_base.specs.declared.compiler.Compiler.TheVariants.{Gcc, Clang, Diab, Msvc, TaskingVX, Rust}
 use Rattle.wrap_base.specs.declared.compiler.Named.{Named}
@@ -20,34 +22,18 @@ use Rattle.wrap_base.specs.declared.compiler.Named.TheVariants as families
 use Rattle.wrap_base.specs.declared.request.Request.{Request}
 
 abbrev pub kind_of : AnyC → CCompilerKind
-kind_of (lent.Gcc found) = kinds.Gcc
-kind_of (lent.Clang found) = kinds.Clang
-kind_of (lent.Diab found) = kinds.Diab
-kind_of (lent.Msvc found) = kinds.Msvc
-kind_of (lent.TaskingVX found) = kinds.TaskingVX
+kind_of compiler = compiler.found.now.kind
 
 -- what is known of it
 abbrev pub traits_of : AnyC → Traits
-traits_of (lent.Gcc found) = found.now.compiler
-traits_of (lent.Clang found) = found.now.compiler
-traits_of (lent.Diab found) = found.now.compiler
-traits_of (lent.Msvc found) = found.now.compiler
-traits_of (lent.TaskingVX found) = found.now.compiler
+traits_of compiler = compiler.found.now.traits
 
 abbrev pub executable_of : AnyC → Bytes
-executable_of (lent.Gcc found) = found.now.executable
-executable_of (lent.Clang found) = found.now.executable
-executable_of (lent.Diab found) = found.now.executable
-executable_of (lent.Msvc found) = found.now.executable
-executable_of (lent.TaskingVX found) = found.now.executable
+executable_of compiler = compiler.executable.now
 
 -- the digest that represents it
 abbrev pub digest_of : AnyC → Bytes
-digest_of (lent.Gcc found) = string_bytes found.now.executable_digest
-digest_of (lent.Clang found) = string_bytes found.now.executable_digest
-digest_of (lent.Diab found) = string_bytes found.now.executable_digest
-digest_of (lent.Msvc found) = string_bytes found.now.executable_digest
-digest_of (lent.TaskingVX found) = string_bytes found.now.executable_digest
+digest_of compiler = compiler.executable_digest.now
 
 -- a C compiler as plain values
 pub record CFound : Type 0 where
@@ -64,13 +50,21 @@ pub data NamedBy : Type 0 where
   by_c : CFound → NamedBy
   by_rustc : Rustc → NamedBy
 
+-- a compiler of that kind
+abbrev pub c_of : CCompilerKind → CCompiler Traits → NamedBy
+c_of kind found = by_c (record { kind = kind; traits = found.compiler; executable = found.executable; digest = string_bytes found.executable_digest })
+
+-- and one of which that is known
+abbrev pub c_described : CCompilerKind → CDescription → NamedBy
+c_described kind d = by_c (record { kind = kind; traits = compilers.traits_of d.plusplus d.version d.assembler_digest; executable = d.executable; digest = string_bytes d.executable_digest })
+
 -- the compiler of a request
 abbrev pub named_by : Compiler → NamedBy
-named_by (Gcc found) = by_c (record { kind = kinds.Gcc; traits = found.compiler; executable = found.executable; digest = string_bytes found.executable_digest })
-named_by (Clang found) = by_c (record { kind = kinds.Clang; traits = found.compiler; executable = found.executable; digest = string_bytes found.executable_digest })
-named_by (Diab found) = by_c (record { kind = kinds.Diab; traits = found.compiler; executable = found.executable; digest = string_bytes found.executable_digest })
-named_by (Msvc found) = by_c (record { kind = kinds.Msvc; traits = found.compiler; executable = found.executable; digest = string_bytes found.executable_digest })
-named_by (TaskingVX found) = by_c (record { kind = kinds.TaskingVX; traits = found.compiler; executable = found.executable; digest = string_bytes found.executable_digest })
+named_by (Gcc found) = c_of kinds.Gcc found
+named_by (Clang found) = c_of kinds.Clang found
+named_by (Diab found) = c_of kinds.Diab found
+named_by (Msvc found) = c_of kinds.Msvc found
+named_by (TaskingVX found) = c_of kinds.TaskingVX found
 named_by (Rust rust) = by_rustc rust
 
 abbrev pub named_in : Named → NamedBy

@@ -1,15 +1,13 @@
 //! The compiler of a request, whichever it is.
 
-ghost use Rattle.std.specs.Prelude.{◌≡◌};
-ghost use Rattle.wrap_base.specs.Commands.{digest_of, executable_of, kind_of, named_by, named_in, traits_of};
+ghost use Rattle.std.specs.Prelude.{◌≡◌, IfOk, string_bytes};
+ghost use Rattle.wrap_base.specs.Commands.{c_described, c_of, digest_of, executable_of, kind_of, named_by, named_in, traits_of};
 
-use ckeys::{CCompiler, CCompilerHasher, CCompilerImpl};
-use cmdlines::{Clang, CommandError, Diab, Gcc, Msvc, TaskingVX};
-use cmdlines_base::{CompilerArguments, SingleCompileCommand};
-use cmdlines_requests::{Cacheable, ParsedArguments};
+use ckeys::{CCompiler, CCompilerHasher};
+use cmdlines::{AnyFoundCompiler, Clang, Diab, FoundCompiler, Gcc, HasKind, Msvc, TaskingVX};
+use cmdlines_requests::ParsedArguments;
 use cmdlines_tables::CCompilerKind;
-use os_files::{Files, Listed, OsBytes};
-use response_files::ParseFault;
+use os_files::OsBytes;
 use rustc_compiler::Rust;
 use std::alloc::{AllocError, Global};
 
@@ -24,14 +22,13 @@ pub enum Compiler {
     Rust(Rust),
 }
 
-/// A C compiler that a request names, lent. It is a C compiler as each of them is.
+/// A C compiler that a request names, lent: of whichever kind, and how it is known.
 #[derive(Clone, Copy)]
-pub enum AnyC<'a> {
-    Gcc(&'a CCompiler<Gcc>),
-    Clang(&'a CCompiler<Clang>),
-    Diab(&'a CCompiler<Diab>),
-    Msvc(&'a CCompiler<Msvc>),
-    TaskingVX(&'a CCompiler<TaskingVX>),
+pub struct AnyC<'a> {
+    pub found: &'a AnyFoundCompiler,
+    pub executable: &'a OsBytes,
+    /// The digest that represents it in keys.
+    pub executable_digest: &'a str,
 }
 
 /// The compiler of a request by its family, lent.
@@ -41,173 +38,96 @@ pub enum Named<'a> {
     Rustc(&'a Rust),
 }
 
+/// The parts of a C compiler of a known kind, with that as a value.
+fn lent<K: HasKind>(compiler: &CCompiler<FoundCompiler<K>>) -> AnyC<'_>
+    ensures kind { kind_of result ≡ K.kind }
+    ensures traits { traits_of result ≡ compiler.now.compiler }
+    ensures executable { executable_of result ≡ compiler.now.executable }
+    ensures digest { digest_of result ≡ string_bytes compiler.now.executable_digest }
+{
+    AnyC {
+        found: compiler.compiler.found(),
+        executable: &compiler.executable,
+        executable_digest: compiler.executable_digest.as_str(),
+    }
+}
+
+/// What is known of a C compiler beside its kind.
+#[derive(Drop)]
+pub struct CDescription {
+    pub plusplus: bool,
+    pub version: Option<String>,
+    pub assembler_digest: Option<String>,
+    pub executable: OsBytes,
+    pub executable_digest: String,
+}
+
+impl CDescription {
+    /// The compiler of a kind that is known here.
+    fn found<K: HasKind>(self, alloc: Global) -> Result<CCompiler<FoundCompiler<K>>, AllocError>
+        ensures { IfOk result (λ made. c_of K.kind made ≡ c_described K.kind self) }
+    {
+        let CDescription {
+            plusplus,
+            version,
+            assembler_digest,
+            executable,
+            executable_digest,
+        } = self;
+        let compiler = FoundCompiler::new(alloc, plusplus, version, assembler_digest)?;
+        Ok(CCompiler::with_digest(compiler, executable, executable_digest))
+    }
+}
+
 impl Compiler {
+    /// The C compiler of that kind of which this is known.
+    pub fn of_kind(
+        alloc: Global,
+        kind: CCompilerKind,
+        described: CDescription,
+    ) -> Result<Compiler, AllocError>
+        ensures { IfOk result (λ made. named_by made ≡ c_described kind described) }
+    {
+        match kind {
+            CCompilerKind::Gcc => Ok(Compiler::Gcc(described.found(alloc)?)),
+            CCompilerKind::Clang => Ok(Compiler::Clang(described.found(alloc)?)),
+            CCompilerKind::Diab => Ok(Compiler::Diab(described.found(alloc)?)),
+            CCompilerKind::Msvc => Ok(Compiler::Msvc(described.found(alloc)?)),
+            CCompilerKind::TaskingVX => Ok(Compiler::TaskingVX(described.found(alloc)?)),
+        }
+    }
+
     /// The compiler by its family.
     pub fn named(&self) -> Named<'_>
         ensures { named_in result ≡ named_by self.now }
     {
         match self {
-            Compiler::Gcc(found) => Named::C(AnyC::Gcc(found)),
-            Compiler::Clang(found) => Named::C(AnyC::Clang(found)),
-            Compiler::Diab(found) => Named::C(AnyC::Diab(found)),
-            Compiler::Msvc(found) => Named::C(AnyC::Msvc(found)),
-            Compiler::TaskingVX(found) => Named::C(AnyC::TaskingVX(found)),
+            Compiler::Gcc(found) => Named::C(lent(found)),
+            Compiler::Clang(found) => Named::C(lent(found)),
+            Compiler::Diab(found) => Named::C(lent(found)),
+            Compiler::Msvc(found) => Named::C(lent(found)),
+            Compiler::TaskingVX(found) => Named::C(lent(found)),
             Compiler::Rust(rust) => Named::Rustc(rust),
         }
     }
 }
 
 impl<'c> AnyC<'c> {
-    pub fn executable(&self) -> &OsBytes
-        ensures { result.now ≡ executable_of self.now }
-    {
-        match self {
-            AnyC::Gcc(found) => &found.executable,
-            AnyC::Clang(found) => &found.executable,
-            AnyC::Diab(found) => &found.executable,
-            AnyC::Msvc(found) => &found.executable,
-            AnyC::TaskingVX(found) => &found.executable,
-        }
-    }
-
-    /// The digest that represents it in keys.
-    pub fn executable_digest(&self) -> &str
-        ensures { result.now ≡ digest_of self.now }
-    {
-        match self {
-            AnyC::Gcc(found) => found.executable_digest.as_str(),
-            AnyC::Clang(found) => found.executable_digest.as_str(),
-            AnyC::Diab(found) => found.executable_digest.as_str(),
-            AnyC::Msvc(found) => found.executable_digest.as_str(),
-            AnyC::TaskingVX(found) => found.executable_digest.as_str(),
-        }
-    }
-
     /// What makes the keys of requests to it that ask for this. It takes no memory.
-    pub fn hasher<'a>(&'a self, parsed: &'a ParsedArguments) -> CCompilerHasher<'a, AnyC<'c>>
-        ensures compiler { result.compiler.now ≡ self.now }
+    pub fn hasher<'a>(
+        &'a self,
+        parsed: &'a ParsedArguments,
+    ) -> CCompilerHasher<'a, AnyFoundCompiler>
+        ensures compiler { result.compiler.now ≡ self.now.found.now }
         ensures executable { result.executable.now ≡ executable_of self.now }
         ensures digest { result.executable_digest.now ≡ digest_of self.now }
         ensures parsed { result.parsed.now ≡ parsed.now }
     {
         CCompilerHasher {
-            compiler: self,
-            executable: self.executable(),
-            executable_digest: self.executable_digest(),
+            compiler: self.found,
+            executable: self.executable,
+            executable_digest: self.executable_digest,
             parsed,
-        }
-    }
-}
-
-impl<'c> CCompilerImpl for AnyC<'c> {
-    ghost kind_of = { kind_of };
-
-    ghost traits = { traits_of };
-
-    fn kind(&self) -> CCompilerKind {
-        match self {
-            AnyC::Gcc(found) => found.compiler.kind(),
-            AnyC::Clang(found) => found.compiler.kind(),
-            AnyC::Diab(found) => found.compiler.kind(),
-            AnyC::Msvc(found) => found.compiler.kind(),
-            AnyC::TaskingVX(found) => found.compiler.kind(),
-        }
-    }
-
-    fn plusplus(&self) -> bool {
-        match self {
-            AnyC::Gcc(found) => found.compiler.plusplus(),
-            AnyC::Clang(found) => found.compiler.plusplus(),
-            AnyC::Diab(found) => found.compiler.plusplus(),
-            AnyC::Msvc(found) => found.compiler.plusplus(),
-            AnyC::TaskingVX(found) => found.compiler.plusplus(),
-        }
-    }
-
-    fn version(&self) -> Option<&str> {
-        match self {
-            AnyC::Gcc(found) => found.compiler.version(),
-            AnyC::Clang(found) => found.compiler.version(),
-            AnyC::Diab(found) => found.compiler.version(),
-            AnyC::Msvc(found) => found.compiler.version(),
-            AnyC::TaskingVX(found) => found.compiler.version(),
-        }
-    }
-
-    fn assembler_digest(&self) -> Option<&str> {
-        match self {
-            AnyC::Gcc(found) => found.compiler.assembler_digest(),
-            AnyC::Clang(found) => found.compiler.assembler_digest(),
-            AnyC::Diab(found) => found.compiler.assembler_digest(),
-            AnyC::Msvc(found) => found.compiler.assembler_digest(),
-            AnyC::TaskingVX(found) => found.compiler.assembler_digest(),
-        }
-    }
-
-    fn parse_arguments<F: Files>(
-        &self,
-        alloc: Global,
-        words: &[OsBytes],
-        dir: &OsBytes,
-        files: &mut F,
-    ) -> Result<CompilerArguments<ParsedArguments>, ParseFault> {
-        match self {
-            AnyC::Gcc(found) => found.compiler.parse_arguments(alloc, words, dir, files),
-            AnyC::Clang(found) => found.compiler.parse_arguments(alloc, words, dir, files),
-            AnyC::Diab(found) => found.compiler.parse_arguments(alloc, words, dir, files),
-            AnyC::Msvc(found) => found.compiler.parse_arguments(alloc, words, dir, files),
-            AnyC::TaskingVX(found) => found.compiler.parse_arguments(alloc, words, dir, files),
-        }
-    }
-
-    fn preprocess_words(
-        &self,
-        alloc: Global,
-        parsed: &ParsedArguments,
-    ) -> Result<Listed<OsBytes>, AllocError> {
-        match self {
-            AnyC::Gcc(found) => found.compiler.preprocess_words(alloc, parsed),
-            AnyC::Clang(found) => found.compiler.preprocess_words(alloc, parsed),
-            AnyC::Diab(found) => found.compiler.preprocess_words(alloc, parsed),
-            AnyC::Msvc(found) => found.compiler.preprocess_words(alloc, parsed),
-            AnyC::TaskingVX(found) => found.compiler.preprocess_words(alloc, parsed),
-        }
-    }
-
-    fn generate_compile_commands(
-        &self,
-        alloc: Global,
-        executable: &OsBytes,
-        parsed: &ParsedArguments,
-        dir: &OsBytes,
-        env: &[(OsBytes, OsBytes)],
-    ) -> Result<(SingleCompileCommand, Cacheable), CommandError> {
-        match self {
-            AnyC::Gcc(found) => {
-                found
-                    .compiler
-                    .generate_compile_commands(alloc, executable, parsed, dir, env)
-            }
-            AnyC::Clang(found) => {
-                found
-                    .compiler
-                    .generate_compile_commands(alloc, executable, parsed, dir, env)
-            }
-            AnyC::Diab(found) => {
-                found
-                    .compiler
-                    .generate_compile_commands(alloc, executable, parsed, dir, env)
-            }
-            AnyC::Msvc(found) => {
-                found
-                    .compiler
-                    .generate_compile_commands(alloc, executable, parsed, dir, env)
-            }
-            AnyC::TaskingVX(found) => {
-                found
-                    .compiler
-                    .generate_compile_commands(alloc, executable, parsed, dir, env)
-            }
         }
     }
 }

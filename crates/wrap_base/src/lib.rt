@@ -13,7 +13,7 @@ mod tool;
 
 pub use answer::{Answer, How, Output};
 pub use call::Call;
-pub use compiler::{AnyC, Compiler, Named};
+pub use compiler::{AnyC, CDescription, Compiler, Named};
 pub use config::Config;
 pub use map_store::MapStore;
 pub use reason::Reason;

@@ -3,6 +3,7 @@ use Rattle.std.proofs.Common.{◌≡◌, ℕ, Result, Ok, Err, IfErr, IsErrAnd, 
 use Rattle.os_files.specs.Bytes.{Bytes}
 use Rattle.os_files.specs.Fails.{FailsOn}
 use Rattle.os_files.specs.Tree.{Tree}
+use Rattle.cmdlines.specs.Compilers.{Found, kind_in, traits_in}
 use Rattle.cmdlines_requests.specs.declared.parsed.ParsedArguments.{ParsedArguments}
 use Rattle.ckeys_records.specs.Folders.{Settings}
 use Rattle.ckeys.specs.Hashers.{call_by}
@@ -11,17 +12,17 @@ use Rattle.ckeys_records.specs.declared.fault.Fault.{Fault}
 use Rattle.ckeys.specs.declared.place.CallPlace.{CallPlace}
 use Rattle.ckeys.specs.declared.hasher.CCompilerHasher.{CCompilerHasher}
 use Rattle.wrap_keys.specs.Account.{call_at}
-use Rattle.wrap_base.specs.Commands.{kind_of, traits_of, executable_of, digest_of, found_of}
+use Rattle.wrap_base.specs.Commands.{executable_of, digest_of, found_of}
 use Rattle.wrap_base.specs.declared.compiler.AnyC.{AnyC}
 use Rattle.wrap_base.specs.declared.request.Request.{Request}
 
 -- the hasher of a C compiler makes the key of the request's call to it
-pub call_is : (named : AnyC) (request : Request) (tree : Tree) (settings : Settings) (p : ParsedArguments) (hasher : CCompilerHasher AnyC) (place : CallPlace)
-    → hasher.compiler.now ≡ named → hasher.executable.now ≡ executable_of named → hasher.executable_digest.now ≡ digest_of named → hasher.parsed.now ≡ p → place.dir.now ≡ request.dir → place.env.now ≡ request.env → place.moment ≡ request.moment → place.config.now ≡ settings
-    → call_by kind_of traits_of hasher place tree ≡ call_at (found_of named) request tree settings p
+pub call_is : (named : AnyC) (request : Request) (tree : Tree) (settings : Settings) (p : ParsedArguments) (hasher : CCompilerHasher Found) (place : CallPlace)
+    → hasher.compiler.now ≡ named.found.now → hasher.executable.now ≡ executable_of named → hasher.executable_digest.now ≡ digest_of named → hasher.parsed.now ≡ p → place.dir.now ≡ request.dir → place.env.now ≡ request.env → place.moment ≡ request.moment → place.config.now ≡ settings
+    → call_by kind_in traits_in hasher place tree ≡ call_at (found_of named) request tree settings p
 call_is named request tree settings p hasher place compiler executable digest parsed dir env moment config = λ i. record {
-  kind = kind_of (compiler i);
-  traits = traits_of (compiler i);
+  kind = kind_in (compiler i);
+  traits = traits_in (compiler i);
   compiler_digest = digest i;
   parsed = parsed i;
   scene = scene_with (executable i) (dir i) (env i) tree (moment i);

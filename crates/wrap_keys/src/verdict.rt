@@ -15,7 +15,6 @@ ghost use Rattle.wrap_keys.specs.Plans.{judgement_of, IsPlanOf, IsReadAgain, IsR
 ghost use Rattle.ckeys_records.specs.Causes.{HasOwnFault};
 ghost use Rattle.ckeys_records.specs.Records.{hold_end};
 
-use ckeys::CCompilerImpl;
 use ckeys_records::{Fault, hold_word_end};
 use cmdlines::CommandError;
 use cmdlines::uncached_words::{empty_value, opens_file};
@@ -54,9 +53,12 @@ fn compile_command(
     ensures again { IfOk result
         (λ compile. ReadsAsCompile (kind_of compiler.entry) parsed.now compile.arguments) }
 {
-    let executable = compiler.executable();
+    let executable = compiler.executable;
     let env = request.env.as_slice();
-    match compiler.generate_compile_commands(alloc, executable, parsed, &request.dir, env) {
+    match compiler
+        .found
+        .generate_compile_commands(alloc, executable, parsed, &request.dir, env)
+    {
         Ok((compile, _)) => Ok(compile),
         Err(CommandError::Memory) => Err(AllocError),
         Err(CommandError::NoObjOutput) => unreachable!(),
@@ -116,10 +118,10 @@ fn compile_or_reason(
     if empty_value(parsed) {
         return Ok(Err(Reason::EmptyValue));
     }
-    let preprocess = compiler.preprocess_words(alloc, parsed)?;
+    let preprocess = compiler.found.preprocess_words(alloc, parsed)?;
     let compile = compile_command(alloc, compiler, request, parsed)?;
     let words = compile.arguments.as_slice();
-    match reason_by(compiler.kind(), parsed, words, preprocess.as_slice()) {
+    match reason_by(compiler.found.kind(), parsed, words, preprocess.as_slice()) {
         None => Ok(Ok(compile)),
         Some(reason) => Ok(Err(reason)),
     }
@@ -190,7 +192,10 @@ pub fn judge<F: Files>(
     ensures still { HasOwnFault result → F.failed files.new ≡ F.failed files.old }
 {
     let words = request.words.as_slice();
-    match compiler.parse_arguments(alloc, words, &request.dir, files) {
+    match compiler
+        .found
+        .parse_arguments(alloc, words, &request.dir, files)
+    {
         Ok(CompilerArguments::Ok(parsed)) => Ok(after_hazards(alloc, compiler, request, parsed)?),
         Ok(CompilerArguments::NotCompilation) => Ok(Verdict::Passes(Reason::NotCompilation)),
         Ok(CompilerArguments::CannotCache(reason, more)) => {

@@ -13,7 +13,7 @@ ghost use Rattle.wrap_keys.specs.Plans.{IsPlanOf};
 ghost use Rattle.wrap_turns.specs.Prepared.{IsPrepared};
 ghost use Rattle.wrap_base.specs.Commands.{found_of};
 
-use ckeys::{CCompilerImpl, EntryKey, PreprocessorCacheEntry};
+use ckeys::{EntryKey, PreprocessorCacheEntry};
 use ckeys_base::{HashState, Store};
 use ckeys_records::{Fault, KeyConfig, stripped_words_lack_the_end};
 use cmdlines_base::{ArtifactDescriptor, SingleCompileCommand};
@@ -116,7 +116,7 @@ pub fn prepare<'a, H: HashState, E: Store<EntryKey, PreprocessorCacheEntry>, F: 
         from_record,
         outputs,
         command: &plan.compile,
-        kind: Some(compiler.kind()),
+        kind: Some(compiler.found.kind()),
         moment: request.moment,
         dep_info: None,
     })

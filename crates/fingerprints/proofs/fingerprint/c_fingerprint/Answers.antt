@@ -8,7 +8,8 @@ use Rattle.ckeys.specs.Hashers.{call_by}
 use Rattle.ckeys_records.specs.Meaning.{FailsIn, Variables, names_of}
 use Rattle.ckeys_records.specs.Params.{is_cached, stripped_words}
 use Rattle.ckeys_records.specs.Records.{FitsLength}
-use Rattle.wrap_base.specs.Commands.{digest_of as digest_in, found_of, kind_of, traits_of}
+use Rattle.cmdlines.specs.Compilers.{kind_in, traits_in}
+use Rattle.wrap_base.specs.Commands.{digest_of as digest_in, found_of, traits_of}
 use Rattle.wrap_keys.specs.Account.{call_at}
 use Rattle.wrap_keys.specs.Verdicts.{hashed_words}
 use Rattle.wrap_keys.proofs.KeyLemmas.{call_is, on_exit}
@@ -22,7 +23,7 @@ returns-in_err-made-clause-cause g c =
     let h = c.hasher-hasher.ensures in
     let p = c.place_of-place.ensures in
     let own : KeyCall = call_at (found_of c.args.compiler) c.args.request.now tree c.args.config.now c.args.parsed.now in
-    let call : call_by kind_of traits_of c.hasher-hasher.result c.place_of-place.result tree ≡ own = call_is c.args.compiler c.args.request.now tree c.args.config.now c.args.parsed.now c.hasher-hasher.result c.place_of-place.result h.compiler h.executable h.digest h.parsed p.dir p.env p.moment p.config in
+    let call : call_by kind_in traits_in c.hasher-hasher.result c.place_of-place.result tree ≡ own = call_is c.args.compiler c.args.request.now tree c.args.config.now c.args.parsed.now c.hasher-hasher.result c.place_of-place.result h.compiler h.executable h.digest h.parsed p.dir p.env p.moment p.config in
     let fault = c.in_err-made.field-0.0 in
     let on_file = FailsOn g.F.Files.tree g.F.Files.failed g.F.Files.fails_on c.args.files.now c.key_contents.new.files in
     let device_in = FailsIn g.T.Preprocessor.meaning g.T.Preprocessor.failed g.T.Preprocessor.fails_in c.args.tool.now c.key_contents.new.tool in
@@ -37,7 +38,7 @@ returns-clause-is g c =
     let h = c.hasher-hasher.ensures in
     let p = c.place_of-place.ensures in
     let own : KeyCall = call_at (found_of c.args.compiler) c.args.request.now tree c.args.config.now c.args.parsed.now in
-    let call : call_by kind_of traits_of c.hasher-hasher.result c.place_of-place.result tree ≡ own = call_is c.args.compiler c.args.request.now tree c.args.config.now c.args.parsed.now c.hasher-hasher.result c.place_of-place.result h.compiler h.executable h.digest h.parsed p.dir p.env p.moment p.config in
+    let call : call_by kind_in traits_in c.hasher-hasher.result c.place_of-place.result tree ≡ own = call_is c.args.compiler c.args.request.now tree c.args.config.now c.args.parsed.now c.hasher-hasher.result c.place_of-place.result h.compiler h.executable h.digest h.parsed p.dir p.env p.moment p.config in
     let made = c.in_ok-made.ensures in
     let parsed = c.args.parsed.now in
     let traits = traits_of c.args.compiler in
@@ -65,7 +66,7 @@ returns-in_err-made-clause-early g c =
     let h = c.hasher-hasher.ensures in
     let p = c.place_of-place.ensures in
     let own : KeyCall = call_at (found_of c.args.compiler) c.args.request.now tree c.args.config.now c.args.parsed.now in
-    let call : call_by kind_of traits_of c.hasher-hasher.result c.place_of-place.result tree ≡ own = call_is c.args.compiler c.args.request.now tree c.args.config.now c.args.parsed.now c.hasher-hasher.result c.place_of-place.result h.compiler h.executable h.digest h.parsed p.dir p.env p.moment p.config in
+    let call : call_by kind_in traits_in c.hasher-hasher.result c.place_of-place.result tree ≡ own = call_is c.args.compiler c.args.request.now tree c.args.config.now c.args.parsed.now c.hasher-hasher.result c.place_of-place.result h.compiler h.executable h.digest h.parsed p.dir p.env p.moment p.config in
     subst (λ (k : KeyCall). (early_fault_of k ≡ None → ⊥) → g.T.Preprocessor.preprocessed c.key_contents.new.tool ≡ g.T.Preprocessor.preprocessed c.args.tool.now) call c.key_contents.ensures.early
 
 pub returns-in_err-c_parts-clause-early : goal.returns-in_err-c_parts-clause-early
@@ -74,7 +75,7 @@ returns-in_err-c_parts-clause-early g c =
     let h = c.hasher-hasher.ensures in
     let p = c.place_of-place.ensures in
     let own : KeyCall = call_at (found_of c.args.compiler) c.args.request.now tree c.args.config.now c.args.parsed.now in
-    let call : call_by kind_of traits_of c.hasher-hasher.result c.place_of-place.result tree ≡ own = call_is c.args.compiler c.args.request.now tree c.args.config.now c.args.parsed.now c.hasher-hasher.result c.place_of-place.result h.compiler h.executable h.digest h.parsed p.dir p.env p.moment p.config in
+    let call : call_by kind_in traits_in c.hasher-hasher.result c.place_of-place.result tree ≡ own = call_is c.args.compiler c.args.request.now tree c.args.config.now c.args.parsed.now c.hasher-hasher.result c.place_of-place.result h.compiler h.executable h.digest h.parsed p.dir p.env p.moment p.config in
     subst (λ (k : KeyCall). (early_fault_of k ≡ None → ⊥) → g.T.Preprocessor.preprocessed c.key_contents.new.tool ≡ g.T.Preprocessor.preprocessed c.args.tool.now) call c.key_contents.ensures.early
 
 pub returns-clause-early : goal.returns-clause-early
@@ -83,5 +84,5 @@ returns-clause-early g c =
     let h = c.hasher-hasher.ensures in
     let p = c.place_of-place.ensures in
     let own : KeyCall = call_at (found_of c.args.compiler) c.args.request.now tree c.args.config.now c.args.parsed.now in
-    let call : call_by kind_of traits_of c.hasher-hasher.result c.place_of-place.result tree ≡ own = call_is c.args.compiler c.args.request.now tree c.args.config.now c.args.parsed.now c.hasher-hasher.result c.place_of-place.result h.compiler h.executable h.digest h.parsed p.dir p.env p.moment p.config in
+    let call : call_by kind_in traits_in c.hasher-hasher.result c.place_of-place.result tree ≡ own = call_is c.args.compiler c.args.request.now tree c.args.config.now c.args.parsed.now c.hasher-hasher.result c.place_of-place.result h.compiler h.executable h.digest h.parsed p.dir p.env p.moment p.config in
     subst (λ (k : KeyCall). (early_fault_of k ≡ None → ⊥) → g.T.Preprocessor.preprocessed c.key_contents.new.tool ≡ g.T.Preprocessor.preprocessed c.args.tool.now) call c.key_contents.ensures.early

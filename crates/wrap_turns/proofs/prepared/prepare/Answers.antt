@@ -14,7 +14,8 @@ use Rattle.ckeys_records.specs.Records.{FitsLength}
 use Rattle.wrap_keys.specs.Account.{call_at, work_at}
 use Rattle.wrap_keys.specs.Verdicts.{hashed_words}
 use Rattle.wrap_keys.proofs.KeyLemmas.{call_is, on_exit}
-use Rattle.wrap_base.specs.Commands.{found_of, kind_of, traits_of}
+use Rattle.cmdlines.specs.Compilers.{kind_in, traits_in}
+use Rattle.wrap_base.specs.Commands.{found_of}
 use Rattle.wrap_base.specs.declared.store_key.Family.TheVariants.{C}
 use Rattle.wrap_base.specs.declared.store_key.Shape.TheVariants as shapes
 use Rattle.wrap_turns.proofs.PrepareLemmas.{entries_by, key_from, recorded_by, unkeyed_exit, unkeyed_memory}
@@ -29,7 +30,7 @@ returns-in_err-digest-clause-cause g c =
     let h = c.hasher-hasher.ensures in
     let p = c.place_of-place.ensures in
     let own : KeyCall = call_at (found_of c.args.compiler) c.args.request.now tree c.args.config.now c.args.plan.now.parsed in
-    let call : call_by kind_of traits_of c.hasher-hasher.result c.place_of-place.result tree ≡ own = call_is c.args.compiler c.args.request.now tree c.args.config.now c.args.plan.now.parsed c.hasher-hasher.result c.place_of-place.result h.compiler h.executable h.digest h.parsed p.dir p.env p.moment p.config in
+    let call : call_by kind_in traits_in c.hasher-hasher.result c.place_of-place.result tree ≡ own = call_is c.args.compiler c.args.request.now tree c.args.config.now c.args.plan.now.parsed c.hasher-hasher.result c.place_of-place.result h.compiler h.executable h.digest h.parsed p.dir p.env p.moment p.config in
     let fault = c.in_err-digest.field-0.0 in
     let on_file = FailsOn g.F.Files.tree g.F.Files.failed g.F.Files.fails_on c.args.files.now c.generate_hash_key.new.files in
     let device_in = FailsIn g.T.Preprocessor.meaning g.T.Preprocessor.failed g.T.Preprocessor.fails_in c.args.tool.now c.generate_hash_key.new.tool in
@@ -44,7 +45,7 @@ returns-in_err-digest-clause-entries g c =
     let h = c.hasher-hasher.ensures in
     let p = c.place_of-place.ensures in
     let own : KeyCall = call_at (found_of c.args.compiler) c.args.request.now tree c.args.config.now c.args.plan.now.parsed in
-    let call : call_by kind_of traits_of c.hasher-hasher.result c.place_of-place.result tree ≡ own = call_is c.args.compiler c.args.request.now tree c.args.config.now c.args.plan.now.parsed c.hasher-hasher.result c.place_of-place.result h.compiler h.executable h.digest h.parsed p.dir p.env p.moment p.config in
+    let call : call_by kind_in traits_in c.hasher-hasher.result c.place_of-place.result tree ≡ own = call_is c.args.compiler c.args.request.now tree c.args.config.now c.args.plan.now.parsed c.hasher-hasher.result c.place_of-place.result h.compiler h.executable h.digest h.parsed p.dir p.env p.moment p.config in
     entries_by digest_of meaning _ own call _ _ _ _ c.generate_hash_key.ensures.entries
 
 pub returns-in_err-names-clause-entries : goal.returns-in_err-names-clause-entries
@@ -55,7 +56,7 @@ returns-in_err-names-clause-entries g c =
     let h = c.hasher-hasher.ensures in
     let p = c.place_of-place.ensures in
     let own : KeyCall = call_at (found_of c.args.compiler) c.args.request.now tree c.args.config.now c.args.plan.now.parsed in
-    let call : call_by kind_of traits_of c.hasher-hasher.result c.place_of-place.result tree ≡ own = call_is c.args.compiler c.args.request.now tree c.args.config.now c.args.plan.now.parsed c.hasher-hasher.result c.place_of-place.result h.compiler h.executable h.digest h.parsed p.dir p.env p.moment p.config in
+    let call : call_by kind_in traits_in c.hasher-hasher.result c.place_of-place.result tree ≡ own = call_is c.args.compiler c.args.request.now tree c.args.config.now c.args.plan.now.parsed c.hasher-hasher.result c.place_of-place.result h.compiler h.executable h.digest h.parsed p.dir p.env p.moment p.config in
     entries_by digest_of meaning _ own call _ _ _ _ c.generate_hash_key.ensures.entries
 
 pub returns-clause-entries : goal.returns-clause-entries
@@ -66,7 +67,7 @@ returns-clause-entries g c =
     let h = c.hasher-hasher.ensures in
     let p = c.place_of-place.ensures in
     let own : KeyCall = call_at (found_of c.args.compiler) c.args.request.now tree c.args.config.now c.args.plan.now.parsed in
-    let call : call_by kind_of traits_of c.hasher-hasher.result c.place_of-place.result tree ≡ own = call_is c.args.compiler c.args.request.now tree c.args.config.now c.args.plan.now.parsed c.hasher-hasher.result c.place_of-place.result h.compiler h.executable h.digest h.parsed p.dir p.env p.moment p.config in
+    let call : call_by kind_in traits_in c.hasher-hasher.result c.place_of-place.result tree ≡ own = call_is c.args.compiler c.args.request.now tree c.args.config.now c.args.plan.now.parsed c.hasher-hasher.result c.place_of-place.result h.compiler h.executable h.digest h.parsed p.dir p.env p.moment p.config in
     entries_by digest_of meaning _ own call _ _ _ _ c.generate_hash_key.ensures.entries
 
 pub returns-clause-from : goal.returns-clause-from
@@ -77,7 +78,7 @@ returns-clause-from g c =
     let h = c.hasher-hasher.ensures in
     let p = c.place_of-place.ensures in
     let own : KeyCall = call_at (found_of c.args.compiler) c.args.request.now tree c.args.config.now c.args.plan.now.parsed in
-    let call : call_by kind_of traits_of c.hasher-hasher.result c.place_of-place.result tree ≡ own = call_is c.args.compiler c.args.request.now tree c.args.config.now c.args.plan.now.parsed c.hasher-hasher.result c.place_of-place.result h.compiler h.executable h.digest h.parsed p.dir p.env p.moment p.config in
+    let call : call_by kind_in traits_in c.hasher-hasher.result c.place_of-place.result tree ≡ own = call_is c.args.compiler c.args.request.now tree c.args.config.now c.args.plan.now.parsed c.hasher-hasher.result c.place_of-place.result h.compiler h.executable h.digest h.parsed p.dir p.env p.moment p.config in
     let text : c.from_vec.result ≡ string_bytes c.in_ok-digest.digest = c.from_vec.ensures ∙ ap (λ (v : Vec ℕ Global). v.items) c.into_bytes.ensures.value in
     key_from digest_of meaning _ own call (g.E.Store.shelf c.args.entries.now).held c.in_ok-digest.from_record _ c.from_vec.result text c.in_ok-digest.ensures.key
 
@@ -88,7 +89,7 @@ returns-clause-fine g c =
     let h = c.hasher-hasher.ensures in
     let p = c.place_of-place.ensures in
     let own : KeyCall = call_at (found_of c.args.compiler) c.args.request.now tree c.args.config.now c.args.plan.now.parsed in
-    let call : call_by kind_of traits_of c.hasher-hasher.result c.place_of-place.result tree ≡ own = call_is c.args.compiler c.args.request.now tree c.args.config.now c.args.plan.now.parsed c.hasher-hasher.result c.place_of-place.result h.compiler h.executable h.digest h.parsed p.dir p.env p.moment p.config in
+    let call : call_by kind_in traits_in c.hasher-hasher.result c.place_of-place.result tree ≡ own = call_is c.args.compiler c.args.request.now tree c.args.config.now c.args.plan.now.parsed c.hasher-hasher.result c.place_of-place.result h.compiler h.executable h.digest h.parsed p.dir p.env p.moment p.config in
     subst (λ (k : KeyCall). KeyFine (printed_call meaning k) c.in_ok-digest.from_record) call c.in_ok-digest.ensures.fine
 
 pub returns-clause-recorded : goal.returns-clause-recorded
@@ -99,7 +100,7 @@ returns-clause-recorded g c =
     let h = c.hasher-hasher.ensures in
     let p = c.place_of-place.ensures in
     let own : KeyCall = call_at (found_of c.args.compiler) c.args.request.now tree c.args.config.now c.args.plan.now.parsed in
-    let call : call_by kind_of traits_of c.hasher-hasher.result c.place_of-place.result tree ≡ own = call_is c.args.compiler c.args.request.now tree c.args.config.now c.args.plan.now.parsed c.hasher-hasher.result c.place_of-place.result h.compiler h.executable h.digest h.parsed p.dir p.env p.moment p.config in
+    let call : call_by kind_in traits_in c.hasher-hasher.result c.place_of-place.result tree ≡ own = call_is c.args.compiler c.args.request.now tree c.args.config.now c.args.plan.now.parsed c.hasher-hasher.result c.place_of-place.result h.compiler h.executable h.digest h.parsed p.dir p.env p.moment p.config in
     let text : c.from_vec.result ≡ string_bytes c.in_ok-digest.digest = c.from_vec.ensures ∙ ap (λ (v : Vec ℕ Global). v.items) c.into_bytes.ensures.value in
     recorded_by digest_of meaning _ own call (g.E.Store.shelf c.args.entries.now) (g.E.Store.shelf c.generate_hash_key.new.entries) c.in_ok-digest.from_record _ c.from_vec.result text c.in_ok-digest.ensures.recorded
 
@@ -111,7 +112,7 @@ returns-clause-prepared g c =
     let h = c.hasher-hasher.ensures in
     let p = c.place_of-place.ensures in
     let own : KeyCall = call_at (found_of c.args.compiler) c.args.request.now tree c.args.config.now c.args.plan.now.parsed in
-    let call : call_by kind_of traits_of c.hasher-hasher.result c.place_of-place.result tree ≡ own = call_is c.args.compiler c.args.request.now tree c.args.config.now c.args.plan.now.parsed c.hasher-hasher.result c.place_of-place.result h.compiler h.executable h.digest h.parsed p.dir p.env p.moment p.config in
+    let call : call_by kind_in traits_in c.hasher-hasher.result c.place_of-place.result tree ≡ own = call_is c.args.compiler c.args.request.now tree c.args.config.now c.args.plan.now.parsed c.hasher-hasher.result c.place_of-place.result h.compiler h.executable h.digest h.parsed p.dir p.env p.moment p.config in
     let text : c.from_vec.result ≡ string_bytes c.in_ok-digest.digest = c.from_vec.ensures ∙ ap (λ (v : Vec ℕ Global). v.items) c.into_bytes.ensures.value in
     let w = work_at meaning own in
     let shape = c.in_ok-digest.ensures.shape ∙ ap (λ (k : KeyCall). keys.record_shape digest_of (record_of meaning k)) call in
@@ -135,7 +136,7 @@ returns-in_err-digest-clause-early g c =
     let h = c.hasher-hasher.ensures in
     let p = c.place_of-place.ensures in
     let own : KeyCall = call_at (found_of c.args.compiler) c.args.request.now tree c.args.config.now c.args.plan.now.parsed in
-    let call : call_by kind_of traits_of c.hasher-hasher.result c.place_of-place.result tree ≡ own = call_is c.args.compiler c.args.request.now tree c.args.config.now c.args.plan.now.parsed c.hasher-hasher.result c.place_of-place.result h.compiler h.executable h.digest h.parsed p.dir p.env p.moment p.config in
+    let call : call_by kind_in traits_in c.hasher-hasher.result c.place_of-place.result tree ≡ own = call_is c.args.compiler c.args.request.now tree c.args.config.now c.args.plan.now.parsed c.hasher-hasher.result c.place_of-place.result h.compiler h.executable h.digest h.parsed p.dir p.env p.moment p.config in
     subst (λ (k : KeyCall). (early_fault_of k ≡ None → ⊥) → g.T.Preprocessor.preprocessed c.generate_hash_key.new.tool ≡ g.T.Preprocessor.preprocessed c.args.tool.now) call c.generate_hash_key.ensures.early
 
 pub returns-in_err-names-clause-early : goal.returns-in_err-names-clause-early
@@ -144,7 +145,7 @@ returns-in_err-names-clause-early g c =
     let h = c.hasher-hasher.ensures in
     let p = c.place_of-place.ensures in
     let own : KeyCall = call_at (found_of c.args.compiler) c.args.request.now tree c.args.config.now c.args.plan.now.parsed in
-    let call : call_by kind_of traits_of c.hasher-hasher.result c.place_of-place.result tree ≡ own = call_is c.args.compiler c.args.request.now tree c.args.config.now c.args.plan.now.parsed c.hasher-hasher.result c.place_of-place.result h.compiler h.executable h.digest h.parsed p.dir p.env p.moment p.config in
+    let call : call_by kind_in traits_in c.hasher-hasher.result c.place_of-place.result tree ≡ own = call_is c.args.compiler c.args.request.now tree c.args.config.now c.args.plan.now.parsed c.hasher-hasher.result c.place_of-place.result h.compiler h.executable h.digest h.parsed p.dir p.env p.moment p.config in
     subst (λ (k : KeyCall). (early_fault_of k ≡ None → ⊥) → g.T.Preprocessor.preprocessed c.generate_hash_key.new.tool ≡ g.T.Preprocessor.preprocessed c.args.tool.now) call c.generate_hash_key.ensures.early
 
 pub returns-clause-early : goal.returns-clause-early
@@ -153,7 +154,7 @@ returns-clause-early g c =
     let h = c.hasher-hasher.ensures in
     let p = c.place_of-place.ensures in
     let own : KeyCall = call_at (found_of c.args.compiler) c.args.request.now tree c.args.config.now c.args.plan.now.parsed in
-    let call : call_by kind_of traits_of c.hasher-hasher.result c.place_of-place.result tree ≡ own = call_is c.args.compiler c.args.request.now tree c.args.config.now c.args.plan.now.parsed c.hasher-hasher.result c.place_of-place.result h.compiler h.executable h.digest h.parsed p.dir p.env p.moment p.config in
+    let call : call_by kind_in traits_in c.hasher-hasher.result c.place_of-place.result tree ≡ own = call_is c.args.compiler c.args.request.now tree c.args.config.now c.args.plan.now.parsed c.hasher-hasher.result c.place_of-place.result h.compiler h.executable h.digest h.parsed p.dir p.env p.moment p.config in
     subst (λ (k : KeyCall). (early_fault_of k ≡ None → ⊥) → g.T.Preprocessor.preprocessed c.generate_hash_key.new.tool ≡ g.T.Preprocessor.preprocessed c.args.tool.now) call c.generate_hash_key.ensures.early
 
 pub returns-in_err-digest-clause-unput : goal.returns-in_err-digest-clause-unput

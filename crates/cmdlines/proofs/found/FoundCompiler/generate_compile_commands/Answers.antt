@@ -1,4 +1,0 @@
-use Rattle.cmdlines.proofs.found.FoundCompiler.generate_compile_commands.Goals as goal
-
-pub returns-clause-again : goal.returns-clause-again
-returns-clause-again g c = rw c.kind.ensures at c.compile_command.ensures.again
