@@ -12,6 +12,8 @@ sys.dont_write_bytecode = True
 
 from clauses import LAST_FLOOR, PATH as CLAUSES, clauses  # noqa: E402
 from documents import Document, names_in  # noqa: E402
+from faults import PATH as FORMATS, faults  # noqa: E402
+from options import differences, untried  # noqa: E402
 from pictures import PICTURES, floors  # noqa: E402
 from sources import Sources, read  # noqa: E402
 
@@ -236,6 +238,20 @@ class Check:
         """docs/CLAUSES.md is as it would be written now."""
         self.is_so(self.documents[CLAUSES].text == clauses(), CLAUSES, "isn't what bin/clauses writes")
 
+    def faults(self):
+        """docs/FORMATS.md has each fault, as it would be written now."""
+        self.is_so(faults() in self.documents[FORMATS].text, FORMATS, "lacks the table of faults that bin/clauses writes")
+
+    def tables(self):
+        """docs/FORMATS.md has each option of the C compilers, with where it goes and how it takes a value, as the tables of the code have it; and
+        a command line that is tried has it."""
+        right, wrong = differences(self.documents[FORMATS])
+        self.passed += right
+        for line, what in wrong:
+            self.is_so(False, f"{FORMATS}:{line}", what)
+        for file, function, flag in untried():
+            self.is_so(False, "crates/sccache_report/cases", f"no command line has {flag} of {function} of {file}")
+
     def promises(self):
         """Names in backticks with a crate before them, as `wrap::serve`, or with its folder in brackets after them, are defined in that crate."""
         for path, document in self.documents.items():
@@ -275,7 +291,7 @@ class Check:
     def run(self):
         """All checks. Gives whether any failed."""
         for check in (self.paths, self.links, self.commands, self.names, self.variables, self.keys, self.options, self.crates, self.clauses,
-                      self.promises, self.trusted, self.pictures):
+                      self.faults, self.tables, self.promises, self.trusted, self.pictures):
             check()
         for row in self.exceptions.patterns:
             self.is_so(row in self.exceptions.used, "lib/docs/exceptions", f"nothing needs: {' '.join(row)}")

@@ -1,5 +1,5 @@
-"""Writes docs/CLAUSES.md from the sources: crate by crate the public functions, with what each is for and the labels of its clauses. bin/clauses
-has what it is for."""
+"""Writes docs/CLAUSES.md from the sources: crate by crate the public functions, with what each is for and the labels of its clauses; and the table
+of faults in docs/FORMATS.md. bin/clauses has what it is for."""
 
 import re
 import sys
@@ -8,6 +8,7 @@ from pathlib import Path
 
 sys.dont_write_bytecode = True
 
+from faults import PATH as FORMATS, with_faults  # noqa: E402
 from pictures import TOP, floors  # noqa: E402
 
 PATH = "docs/CLAUSES.md"
@@ -240,14 +241,16 @@ def clauses():
 
 
 def main():
-    """Writes the document, or with --check says whether it isn't as it would be written."""
-    place, text = TOP / PATH, clauses()
-    if "--check" not in sys.argv[1:]:
-        place.write_text(text, encoding="utf-8")
-    elif not place.is_file() or read(place) != text:
-        print(f"{PATH} isn't what bin/clauses writes")
-        return 1
-    return 0
+    """Writes both documents, or with --check says which isn't as it would be written."""
+    stale = 0
+    for path, text in ((PATH, clauses()), (FORMATS, with_faults(read(TOP / FORMATS)))):
+        place = TOP / path
+        if "--check" not in sys.argv[1:]:
+            place.write_text(text, encoding="utf-8")
+        elif not place.is_file() or read(place) != text:
+            print(f"{path} isn't what bin/clauses writes")
+            stale = 1
+    return stale
 
 
 if __name__ == "__main__":

@@ -4,8 +4,8 @@ use crate::names::{ERROR, UNCACHEABLE, name_of};
 use os_files::OsBytes;
 use std::alloc::{AllocError, Global};
 
-/// Reasons by their beginning, with the counter of each.
-const BEGINNINGS: [(&str, &str); 18] = [
+/// Reasons by their beginning, with the counter of each. A fault that isn't here has one by its first word.
+const BEGINNINGS: [(&str, &str); 19] = [
     ("pass: disabled", "disabled"),
     ("pass: multiple input files", "multiple_source_files"),
     ("pass: no input file", "no_input_file"),
@@ -22,6 +22,7 @@ const BEGINNINGS: [(&str, &str); 18] = [
     ("fault: memory", "error_memory"),
     ("fault: answer ", "error_answer_no_text"),
     ("fault: digest ", "error_bad_digest"),
+    ("fault: too many attempts", "error_too_many_attempts"),
     (
         "stop: the text takes in files",
         "unsupported_code_directive",
@@ -76,6 +77,14 @@ fn is_variable(text: &str) -> bool {
 fn front_of(text: &str) -> &str {
     match text.split_once(':') {
         Some((front, _)) => front,
+        None => text,
+    }
+}
+
+/// A text up to its first space: of a fault what it is, without the word that it holds.
+fn first_word(text: &str) -> &str {
+    match text.split_once(' ') {
+        Some((word, _)) => word,
         None => text,
     }
 }
@@ -144,6 +153,7 @@ fn push_counters(
     }
     match reason.split_once(": ") {
         Some(("pass", why)) => push_pass(alloc, why, words, counters),
+        Some(("fault", why)) => push_name(alloc, ERROR, first_word(why), counters),
         Some((_, why)) => push_name(alloc, ERROR, why, counters),
         None => push_name(alloc, ERROR, reason, counters),
     }
