@@ -313,6 +313,12 @@ spared true p h = by (int_eq p.printed.status (pos 0))
     by true = tt
     by false = tt
 
+-- a spared fault that isn't the preprocessor's is none
+pub spared_none : (fault : Option Fault) → IsSpared fault → ((status : ℤ) → fault ≡ Some (PreprocessFailed status) → ⊥) → fault ≡ None
+spared_none None h never = refl
+spared_none (Some (PreprocessFailed status)) h never = absurd (never status refl)
+spared_none (Some fault) h never = absurd h
+
 pub fine_is : (p : PrintedCall) (from : Bool) → has_entry_key p.call ≡ true → first_missing p.call.scene.files (extra_paths p.call) ≡ None → missing_input p.call ≡ None → TextFine p from → KeyFine p from
 fine_is p true entry h k fine = subst IsSpared (sym (first_is p h k)) (spared (needs_preprocessing p.call.parsed.language) p (is_preprocessed p.call entry))
 fine_is p false entry h k fine = first_is p h k ∙ fine

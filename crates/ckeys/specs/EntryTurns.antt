@@ -18,7 +18,7 @@ use Rattle.ckeys_records.specs.Keys.{key_of}
 use Rattle.ckeys.specs.declared.known.Known.{Known}
 use Rattle.ckeys.specs.declared.known.Known.TheVariants.{Found, Missed}
 use Rattle.ckeys_records.specs.declared.fault.Fault.{Fault}
-use Rattle.ckeys_records.specs.declared.fault.Fault.TheVariants.{Memory, Read, Tool, PreprocessFailed, CompileFailed, MissingOutput, NoRule, AnswerNotUtf8, BadDigest}
+use Rattle.ckeys_records.specs.declared.fault.Fault.TheVariants.{PreprocessFailed}
 use Rattle.ckeys_records.specs.declared.step.Step.{Step}
 use Rattle.ckeys_records.specs.declared.step.Step.TheVariants.{Preprocess, Compile, DepInfo, FileNames, ArchiveDigest}
 
@@ -30,15 +30,8 @@ KeyFrom digest_of p held false text_key = text_key ≡ key_of digest_of (record_
 -- the first fault, where a record gave the key: none, or that of the preprocessor, which didn't run
 abbrev pub IsSpared : Option Fault → Type 0
 IsSpared None = Unit {0}
-IsSpared (Some Memory) = ⊥
-IsSpared (Some (Read path)) = ⊥
-IsSpared (Some (Tool step)) = ⊥
 IsSpared (Some (PreprocessFailed status)) = Unit {0}
-IsSpared (Some (CompileFailed status)) = ⊥
-IsSpared (Some (MissingOutput name)) = ⊥
-IsSpared (Some NoRule) = ⊥
-IsSpared (Some (AnswerNotUtf8 step)) = ⊥
-IsSpared (Some (BadDigest path)) = ⊥
+IsSpared (Some fault) = ⊥
 
 abbrev pub KeyFine : PrintedCall → Bool → Type 0
 KeyFine p true = IsSpared (key_fault_by p)

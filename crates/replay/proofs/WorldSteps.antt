@@ -1,5 +1,5 @@
 -- From the recorded answers to a world that gives them.
-use Rattle.std.proofs.Common.{◌≡◌, ℕ, ℤ, pos, Bool, true, false, ◌&&◌, List, [], ◌∷◌, ◌++◌, Option, None, Some, Result, Ok, Err, inl, inr, refl, sym, ap, ◌∙◌, if◌then◌else◌}
+use Rattle.std.proofs.Common.{◌≡◌, ℕ, pos, Bool, true, false, ◌&&◌, List, [], ◌∷◌, ◌++◌, Option, None, Some, Result, Ok, Err, inl, inr, refl, sym, ap, ◌∙◌, if◌then◌else◌}
 use Rattle.std.specs.List.{Contains}
 use Rattle.std.specs.Ordering.{int_eq}
 use Rattle.std.proofs.lemmas.Bool.{and_parts}
@@ -17,7 +17,7 @@ use Rattle.ckeys.specs.EntryTurns.{IsSpared}
 use Rattle.ckeys_records.specs.Folders.{Settings}
 use Rattle.ckeys_records.specs.Meaning.{Asked, Made, Meaning, Scene, asked_of, names_of}
 use Rattle.ckeys_records.specs.declared.fault.Fault.{Fault}
-use Rattle.ckeys_records.specs.declared.fault.Fault.TheVariants.{Memory, Read, Tool, PreprocessFailed, CompileFailed, MissingOutput, NoRule, AnswerNotUtf8, BadDigest}
+use Rattle.ckeys_records.specs.declared.fault.Fault.TheVariants.{Read, PreprocessFailed}
 use Rattle.ckeys_records.specs.declared.output_name.OutputName.{OutputName}
 use Rattle.ckeys_records.specs.declared.step.Step.{Step}
 use Rattle.ckeys_records.specs.declared.step.Step.TheVariants.{Preprocess, Compile}
@@ -41,6 +41,7 @@ use Rattle.replay_base.specs.declared.replay_tool.RecordedOutputs.{RecordedOutpu
 use Rattle.replay_base.specs.declared.replay_tool.RecordedText.{RecordedText}
 use Rattle.replay.specs.Beside.{TellsOwnDependencies}
 use Rattle.replay_base.specs.declared.rustc_records.RecordedRustc.{RecordedRustc}
+use Rattle.ckeys.proofs.EntryLemmas.{spared_none}
 use Rattle.replay_base.proofs.AskedAlike.{asked_is, names_are}
 use Rattle.replay.proofs.HeldOutcomes.{Tells, chosen, held_is, status_is}
 use Rattle.replay.proofs.RustWorlds.{rust_answers, rust_grows, rust_tells}
@@ -117,19 +118,6 @@ spared c m n h =
     let needs = needs_preprocessing c.parsed.language in
     let one : Made → Option Fault = λ x. if needs then preprocess_fault_of x else own_fault c in
     spared_first (extra_fault c) (or_else (input_fault c) (one m)) (or_else (input_fault c) (one n)) (spared_first (input_fault c) (one m) (one n) (spared_text needs m n (own_fault c))) h
-
--- a spared fault that isn't the preprocessor's is none
-spared_none : (fault : Option Fault) → IsSpared fault → ((status : ℤ) → fault ≡ Some (PreprocessFailed status) → ⊥) → fault ≡ None
-spared_none None h never = refl
-spared_none (Some (PreprocessFailed status)) h never = absurd (never status refl)
-spared_none (Some Memory) h never = absurd h
-spared_none (Some (Read path)) h never = absurd h
-spared_none (Some (Tool step)) h never = absurd h
-spared_none (Some (CompileFailed status)) h never = absurd h
-spared_none (Some (MissingOutput name)) h never = absurd h
-spared_none (Some NoRule) h never = absurd h
-spared_none (Some (AnswerNotUtf8 step)) h never = absurd h
-spared_none (Some (BadDigest path)) h never = absurd h
 
 -- ---- what include records give
 

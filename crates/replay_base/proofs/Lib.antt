@@ -1,2 +1,2 @@
 mod Answering
-mod AskedAlike
+pub mod AskedAlike

@@ -1,10 +1,10 @@
 -- How often the preprocessor ran before there is a verdict, and before there is a key.
-use Rattle.std.proofs.Common.{◌≡◌, ℕ, Bool, false, Some, Result, Ok, Err, inl, inr, refl, IsErrAnd}
+use Rattle.std.proofs.Common.{◌≡◌, ℕ, Bool, false, Option, Some, None, Result, Ok, Err, inl, inr, refl, IsErrAnd}
 use Rattle.std.proofs.lemmas.Result.{err_from_is_err_and}
 use Rattle.os_files.specs.Bytes.{Bytes, ticked}
 use Rattle.ckeys.specs.EntryTurns.{KeyRuns, RunsUntil, RunsUntilKey, RunsUntilStep}
 use Rattle.ckeys_records.specs.declared.fault.Fault.{Fault}
-use Rattle.ckeys_records.specs.declared.fault.Fault.TheVariants.{Memory, Read, Tool, PreprocessFailed, CompileFailed, MissingOutput, NoRule, AnswerNotUtf8, BadDigest}
+use Rattle.ckeys_records.specs.Causes.{Cause, of_memory, of_file, of_tool, of_key, of_compile, IsCausedBy, cause_of, no_step, step_by, step_of}
 use Rattle.ckeys_records.specs.declared.step.Step.{Step}
 use Rattle.ckeys_records.specs.declared.step.Step.TheVariants.{Preprocess, Compile, DepInfo, FileNames, ArchiveDigest}
 use Rattle.rustkeys.specs.Runs.{AtMostTwice}
@@ -15,26 +15,15 @@ use Rattle.wrap_keys.specs.CallRecords.{CallRecord, of_c, of_rustc}
 
 -- before a fault of the key
 pub key_until : (from : Bool) (before after : ℕ) (fault : Fault) → RunsUntilKey before after fault → RunsUntil fault (KeyRuns from before after) before after
-key_until from before after Memory h = h
-key_until from before after (Read name) h = h
-key_until from before after (Tool Preprocess) h = h
-key_until from before after (Tool Compile) h = absurd h
-key_until from before after (Tool DepInfo) h = absurd h
-key_until from before after (Tool FileNames) h = absurd h
-key_until from before after (Tool ArchiveDigest) h = absurd h
-key_until from before after (PreprocessFailed status) h = h
-key_until from before after (CompileFailed status) h = absurd h
-key_until from before after (MissingOutput name) h = absurd h
-key_until from before after NoRule h = absurd h
-key_until from before after (AnswerNotUtf8 step) h = until_step step h
+key_until from before after fault h = by (step_of fault) h
   where
-    until_step : (s : Step) → RunsUntilStep (Some s) ⊥ before after → RunsUntilStep (Some s) (KeyRuns from before after) before after
-    until_step Preprocess h = h
-    until_step Compile h = absurd h
-    until_step DepInfo h = absurd h
-    until_step FileNames h = absurd h
-    until_step ArchiveDigest h = absurd h
-key_until from before after (BadDigest path) h = absurd h
+    by : (step : Option Step) → RunsUntilStep step ⊥ before after → RunsUntilStep step (KeyRuns from before after) before after
+    by None h = h
+    by (Some Preprocess) h = h
+    by (Some Compile) h = absurd h
+    by (Some DepInfo) h = absurd h
+    by (Some FileNames) h = absurd h
+    by (Some ArchiveDigest) h = absurd h
 
 -- nothing ran
 none_ran : (A : Type 0) (r : CallRecord) (n : ℕ) (fault : Fault) → RunsIn {A = A} false (Err fault) n n → RunsOfRecord {A = A} r false (Err fault) n n
@@ -48,15 +37,14 @@ none_early (of_rustc r) n = inl refl
 -- before there is a verdict
 pub early_runs : (A : Type 0) (a : Account) (on_file : Bytes → Type 0) (n : ℕ) (fault : Fault) → EarlyCause on_file fault → RunsOf {A = A} a false (Err fault) n n
 early_runs A (passed why) on_file n fault cause = refl
-early_runs A (worked w) on_file n Memory cause = (none_ran A w.rec n Memory (inl refl), λ some. none_early w.rec n)
-early_runs A (worked w) on_file n (Read name) cause = (none_ran A w.rec n (Read name) (inl refl), λ some. none_early w.rec n)
-early_runs A (worked w) on_file n (Tool step) cause = absurd cause
-early_runs A (worked w) on_file n (PreprocessFailed status) cause = cc
-early_runs A (worked w) on_file n (CompileFailed status) cause = cc
-early_runs A (worked w) on_file n (MissingOutput name) cause = cc
-early_runs A (worked w) on_file n NoRule cause = cc
-early_runs A (worked w) on_file n (AnswerNotUtf8 step) cause = cc
-early_runs A (worked w) on_file n (BadDigest path) cause = cc
+early_runs A (worked w) on_file n fault cause = (none_ran A w.rec n fault (by (cause_of fault) cause), λ some. none_early w.rec n)
+  where
+    by : (why : Cause) → IsCausedBy None on_file no_step fault why → RunsUntilStep (step_by why) (KeyRuns false n n) n n
+    by of_memory h = inl refl
+    by (of_file name) h = inl refl
+    by (of_tool step) h = absurd h
+    by (of_key step) h = cc
+    by of_compile h = cc
 
 pub early_ran : {A : Type 0} → (a : Account) (on_file : Bytes → Type 0) (n : ℕ) (fault : Fault) → EarlyCause on_file fault → (result : Result A Fault) → IsErrAnd result (λ f. f ≡ fault) → RunsOf a false result n n
 early_ran {A} a on_file n fault cause result err = let p = err_from_is_err_and result err in rw (p.1, p.2) (early_runs A a on_file n fault cause)

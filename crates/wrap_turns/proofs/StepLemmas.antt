@@ -12,9 +12,9 @@ use Rattle.ckeys_records.specs.Meaning.{Meaning, Made, made_of, names_of, scene_
 use Rattle.wrap_base.specs.Commands.{CFound, compile_command_of}
 use Rattle.wrap_base.specs.AskedBy.{asked_by}
 use Rattle.wrap_keys.specs.Account.{Work, call_at, work_at, Collected, missing, all, collected, missing_fault_of, Pairs, IsSuccess, compile_fault_of}
-use Rattle.ckeys_records.specs.Causes.{ByStage, no_file, no_step, stage_of}
+use Rattle.ckeys_records.specs.Causes.{Cause, of_memory, of_file, of_tool, of_key, of_compile, ByStage, IsCausedBy, cause_of, no_file, no_step, stage_by, stage_of}
 use Rattle.ckeys_records.specs.declared.fault.Fault.{Fault}
-use Rattle.ckeys_records.specs.declared.fault.Fault.TheVariants.{Memory, Read, Tool, PreprocessFailed, CompileFailed, MissingOutput, NoRule, AnswerNotUtf8, BadDigest}
+use Rattle.ckeys_records.specs.declared.fault.Fault.TheVariants.{CompileFailed, MissingOutput}
 use Rattle.wrap_base.specs.declared.request.Request.{Request}
 use Rattle.ckeys_records.specs.declared.step.Step.{Step}
 use Rattle.ckeys_records.specs.declared.step.Step.TheVariants.{Compile}
@@ -38,23 +38,24 @@ makes_then meaning tree kind command artifacts moment other w same makes = recor
   fresh = ap (λ t. meaning Compile (asked_by kind command.arguments) (names_of artifacts) (scene_of command tree t)) same ∙ makes.fresh;
 }
 
+-- an output that is missing is a fault of the compile
+missing_compiled : (c : Collected) (fault : Fault) → missing_fault_of c ≡ Some fault → cause_of fault ≡ of_compile
+missing_compiled (missing other) fault h =
+    let same : MissingOutput other ≡ fault = cc in
+    ap cause_of (sym same)
+missing_compiled (all pairs) fault h = cc
+
 -- outputs that can't be gathered are a fault of the compile
 collect_stage : (c : Collected) (fault : Fault) → CollectCause c fault → ByStage (stage_of fault) (Unit {0}) ⊥ (CollectCause c fault)
-collect_stage c Memory h = tt
-collect_stage c (Read name) (inl h) = absurd h
-collect_stage (missing other) (Read name) (inr h) = cc
-collect_stage (all pairs) (Read name) (inr h) = cc
-collect_stage c (Tool step) h = absurd h
-collect_stage (missing other) (PreprocessFailed status) h = cc
-collect_stage (all pairs) (PreprocessFailed status) h = cc
-collect_stage c (CompileFailed status) h = h
-collect_stage c (MissingOutput name) h = h
-collect_stage (missing other) NoRule h = cc
-collect_stage (all pairs) NoRule h = cc
-collect_stage (missing other) (AnswerNotUtf8 step) h = cc
-collect_stage (all pairs) (AnswerNotUtf8 step) h = cc
-collect_stage (missing other) (BadDigest path) h = cc
-collect_stage (all pairs) (BadDigest path) h = cc
+collect_stage c fault h = by (cause_of fault) refl h
+  where
+    by : (cause : Cause) → cause_of fault ≡ cause → IsCausedBy (missing_fault_of c) no_file no_step fault cause → ByStage (stage_by cause) (Unit {0}) ⊥ (IsCausedBy (missing_fault_of c) no_file no_step fault cause)
+    by of_memory e h = tt
+    by (of_file name) e (inl h) = absurd h
+    by (of_file name) e (inr h) = let compiled = missing_compiled c fault h in cc
+    by (of_tool step) e h = absurd h
+    by (of_key step) e h = let compiled = missing_compiled c fault h in cc
+    by of_compile e h = h
 
 -- so the compiler ran, where it had run before they were gathered
 pub collect_ran : (c : Collected) (before after : ℕ) → Once before after → (result : Result Pairs Fault) → IfErr result (CollectCause c) → RanOnce result before after

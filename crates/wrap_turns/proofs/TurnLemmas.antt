@@ -1,5 +1,5 @@
 -- How a call ends, by what the look-up and the put said.
-use Rattle.std.proofs.Common.{◌≡◌, ℕ, ℤ, List, if◌then◌else◌, Bool, true, false, Option, Some, None, IsSome, IsNone, Result, Ok, Err, OnOk, ◌⊎◌, inl, inr, refl, sym, ap, subst, ◌∙◌, IsErrAnd}
+use Rattle.std.proofs.Common.{◌≡◌, ℕ, List, if◌then◌else◌, Bool, true, false, Option, Some, None, IsSome, IsNone, Result, Ok, Err, OnOk, ◌⊎◌, inl, inr, refl, sym, ap, subst, ◌∙◌, IsErrAnd}
 use Rattle.std.proofs.lemmas.Bool.{true≢false}
 use Rattle.std.proofs.lemmas.Result.{err_from_is_err_and}
 use Rattle.os_files.specs.Bytes.{Bytes, ticked}
@@ -10,17 +10,17 @@ use Rattle.ckeys_base.specs.Shelf.{Shelf, Asks, Puts, Forgotten, Within}
 use Rattle.ckeys.specs.Calls.{PrintedCall, key_fault_by}
 use Rattle.ckeys_records.specs.Faults.{KeyCause}
 use Rattle.ckeys_records.specs.Folders.{Settings}
-use Rattle.ckeys_records.specs.Causes.{ByStage, HasOwnFault, no_file, no_step, stage_of}
+use Rattle.ckeys_records.specs.Causes.{Cause, of_memory, of_file, of_tool, of_key, of_compile, ByStage, HasOwnFault, IsCausedBy, cause_of, no_file, no_step, stage_by, stage_of, step_by}
 use Rattle.ckeys_records.specs.Views.{AreSteady, ToolView}
 use Rattle.ckeys.specs.Entries.{Held}
-use Rattle.ckeys.specs.EntryTurns.{IsPut, IsSpared, KeyFine, KeyRecorded, KeyRuns, PutsNone, RunsUntil}
+use Rattle.ckeys.specs.EntryTurns.{IsPut, IsSpared, KeyFine, KeyRecorded, KeyRuns, PutsNone, RunsUntil, RunsUntilStep}
 use Rattle.ckeys_records.specs.Meaning.{AtMostOnce}
 use Rattle.wrap_keys.specs.CallRecords.{CallRecord, IsTold, of_c, of_rustc}
 use Rattle.ckeys_records.specs.Meaning.{Meaning, FailsIn}
 use Rattle.entry_keys.specs.declared.entry_key.EntryKey.{EntryKey}
 use Rattle.include_records.specs.Records.{Record}
 use Rattle.ckeys_records.specs.declared.fault.Fault.{Fault}
-use Rattle.ckeys_records.specs.declared.fault.Fault.TheVariants.{Memory, Read, Tool, PreprocessFailed, CompileFailed, MissingOutput, NoRule, AnswerNotUtf8, BadDigest}
+use Rattle.ckeys_records.specs.declared.fault.Fault.TheVariants.{Memory}
 use Rattle.ckeys_records.specs.declared.step.Step.{Step}
 use Rattle.ckeys_records.specs.declared.step.Step.TheVariants.{Preprocess, Compile, DepInfo, FileNames, ArchiveDigest}
 use Rattle.wrap_keys.specs.Account.{Account, passed, worked, Work, Pairs, IsSuccess, account_by, call_at, compile_fault_of, direct_of, placed, work_at}
@@ -41,6 +41,7 @@ use Rattle.wrap_base.specs.declared.answer.Output.{Output}
 use Rattle.wrap_base.specs.declared.store_key.StoreKey.{StoreKey}
 use Rattle.wrap_turns.specs.Steps.{CompileCause, IsKept, RanOnce, kept_how}
 use Rattle.ckeys_records.proofs.CauseLemmas.{by_stage, caused_more, file_early}
+use Rattle.ckeys.proofs.EntryLemmas.{spared_none}
 use Rattle.wrap_keys.proofs.SizeLemmas.{size_placed}
 
 some_or_none : {A : Type 0} (o : Option A) → IsSome o ⊎ (o ≡ None)
@@ -244,18 +245,7 @@ steady_later tool files tool_old tool_mid tool_new files_old files_mid files_new
 -- a fault that reports no I/O error is one before it is handed on
 pub own_fault : {A : Type 0} → (B : Type 0) (result : Result A Fault) (fault : Fault) → IsErrAnd result (λ f. f ≡ fault) → HasOwnFault result → HasOwnFault {A = B} (Err fault)
 own_fault {A} B (Ok x) fault err h = absurd err
-own_fault {A} B (Err f) fault err h = subst (λ (e : Fault). HasOwnFault {A = B} (Err e)) err (by f h)
-  where
-    by : (f : Fault) → HasOwnFault {A = A} (Err f) → HasOwnFault {A = B} (Err f)
-    by Memory h = tt
-    by (Read name) h = absurd h
-    by (Tool step) h = absurd h
-    by (PreprocessFailed status) h = tt
-    by (CompileFailed status) h = tt
-    by (MissingOutput name) h = tt
-    by NoRule h = tt
-    by (AnswerNotUtf8 step) h = tt
-    by (BadDigest path) h = tt
+own_fault {A} B (Err f) fault err h = subst (λ (e : Fault). HasOwnFault {A = B} (Err e)) err h
 
 -- once the store is asked, memory can be refused
 pub memory_finishes : (w : Work) (device_in : Step → Type 0) (result : Result Answer Fault) → IsErrAnd result (λ f. f ≡ Memory) → SaysFinished w device_in result
@@ -365,20 +355,8 @@ module _ (digest_of : Bytes → Bytes) (w : Work) (p : PrintedCall) (fault_is : 
   pub own_goes_on : RecordsAreTrue digest_of (worked w) held → w.fault ≡ None
   own_goes_on are_true = by from is_key fine
     where
-      spared : (f : Option Fault) → IsSpared f → ((status : ℤ) → f ≡ Some (PreprocessFailed status) → ⊥) → f ≡ None
-      spared None s n = refl
-      spared (Some Memory) s n = absurd s
-      spared (Some (Read path)) s n = absurd s
-      spared (Some (Tool step)) s n = absurd s
-      spared (Some (PreprocessFailed status)) s n = absurd (n status refl)
-      spared (Some (CompileFailed status)) s n = absurd s
-      spared (Some (MissingOutput name)) s n = absurd s
-      spared (Some NoRule) s n = absurd s
-      spared (Some (AnswerNotUtf8 step)) s n = absurd s
-      spared (Some (BadDigest path)) s n = absurd s
-
       by : (b : Bool) → WorkKeyFrom digest_of w held b text_key → KeyFine p b → w.fault ≡ None
-      by true k h = spared w.fault (subst IsSpared (sym fault_is) h) (are_true text_key k).succeeds
+      by true k h = spared_none w.fault (subst IsSpared (sym fault_is) h) (are_true text_key k).succeeds
       by false k h = fault_is ∙ h
 
 -- a key's run of the preprocessor is one at most
@@ -388,19 +366,18 @@ runs_most false before after h = inr h
 
 -- before a fault of the compile
 pub compile_until : (w : Work) (device_in : Step → Type 0) (from : Bool) (before after : ℕ) (fault : Fault) → CompileCause w device_in fault → KeyRuns from before after → RunsUntil fault (KeyRuns from before after) before after
-compile_until w device_in from before after Memory cause h = runs_most from before after h
-compile_until w device_in from before after (Read name) cause h = absurd cause
-compile_until w device_in from before after (Tool Preprocess) cause h = absurd cause
-compile_until w device_in from before after (Tool Compile) cause h = h
-compile_until w device_in from before after (Tool DepInfo) cause h = absurd cause
-compile_until w device_in from before after (Tool FileNames) cause h = absurd cause
-compile_until w device_in from before after (Tool ArchiveDigest) cause h = absurd cause
-compile_until w device_in from before after (PreprocessFailed status) cause h = absurd cause
-compile_until w device_in from before after (CompileFailed status) cause h = h
-compile_until w device_in from before after (MissingOutput name) cause h = h
-compile_until w device_in from before after NoRule cause h = absurd cause
-compile_until w device_in from before after (AnswerNotUtf8 step) cause h = absurd cause
-compile_until w device_in from before after (BadDigest path) cause h = absurd cause
+compile_until w device_in from before after fault cause h = by (cause_of fault) cause
+  where
+    by : (why : Cause) → ByStage (stage_by why) (Unit {0}) ⊥ (IsCausedBy (compile_fault_of w) no_file device_in fault why) → RunsUntilStep (step_by why) (KeyRuns from before after) before after
+    by of_memory c = runs_most from before after h
+    by (of_file name) c = absurd c
+    by (of_tool Preprocess) c = absurd c
+    by (of_tool Compile) c = h
+    by (of_tool DepInfo) c = absurd c
+    by (of_tool FileNames) c = absurd c
+    by (of_tool ArchiveDigest) c = absurd c
+    by (of_key step) c = absurd c
+    by of_compile c = h
 
 -- a call that ends with a fault
 pub asked_fault : (digest_of : Bytes → Bytes) (max_kept : Option ℕ) (a : Account) (old new : Shelves) (printed printed_new compiled compiled_new : ℕ) (result : Result Answer Fault) (fault : Fault) → IsErrAnd result (λ f. f ≡ fault) → (Q : Type 0) → ByStage (stage_of fault) (Unit {0}) Q ⊥ → OnUnkeyed {A = Answer} (Err fault) (PutsNone old.entries new.entries) → (from : Bool) (text_key : Bytes) → AskedUnder digest_of a old.entries.held from text_key → RunsOf {A = Answer} a from (Err fault) printed printed_new → KeyedTurn digest_of max_kept text_key a old.objects new.objects compiled compiled_new result → AskedTurn digest_of max_kept a old new printed printed_new compiled compiled_new result
