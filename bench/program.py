@@ -1,4 +1,4 @@
-"""The program of `crates/bench_calls`: has it built where that is to be done, and times calls of it and of its peers."""
+"""The program of `crates/tests_bench_calls`: has it built where that is to be done, and times calls of it and of its peers."""
 
 import os
 import statistics
@@ -9,8 +9,8 @@ from pathlib import Path
 from timing import in_turn, run, stop
 
 TOP = Path(__file__).resolve().parent.parent
-CRATE = TOP / "crates" / "bench_calls"
-PROGRAM = CRATE / "out" / "bench_calls"
+CRATE = TOP / "crates" / "tests_bench_calls"
+PROGRAM = CRATE / "out" / "tests_bench_calls"
 
 # A call is the difference of a run with many repeats and a run with few, so start and reading count in neither.
 FEW, MANY = 1, 11

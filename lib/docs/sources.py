@@ -65,7 +65,7 @@ class Sources:
 
     def settings(self):
         """Each key of the settings with its variable and its usual value."""
-        text = self.text_of("crates/settings/src/key.rt")
+        text = self.text_of("crates/cache_settings/src/key.rt")
         bodies = dict(re.findall(r"pub fn (\w+)\(self\) -> &'static str \{\n(.*?)\n    \}\n", text, re.S))
         arms = {name: {} for name in ("name", "variable", "usual")}
         for function, found in arms.items():
@@ -85,7 +85,7 @@ class Sources:
     @functools.lru_cache(maxsize=None)
     def taken_options(self):
         """The options that the program, its host and the program of pages take."""
-        places = ["crates/user_options/src/asked.rt", "crates/gulmaat_page/src/asked.rt", "host/gulmaat.c"]
+        places = ["crates/cache_user_options/src/asked.rt", "crates/gulmaat_page/src/asked.rt", "host/gulmaat.c"]
         return set().union(*(re.findall(r'"(--?[a-zA-Z][\w-]*)"', self.text_of(it)) for it in places))
 
     def script_texts(self, script):

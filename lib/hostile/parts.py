@@ -251,7 +251,7 @@ class Databases(Part):
 class Bytes(Part):
     """The bytes of include records, or what is hashed of requests to rustc behind three lines with its shape."""
 
-    program = "hostile_runs"
+    program = "tests_hostile_runs"
     said = re.compile(rb"(?:a record of [0-9]+ files|the parts of a request|no parts|refused: [^\n]+)\n")
 
     def __init__(self, word):

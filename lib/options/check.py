@@ -1,6 +1,6 @@
 #!/usr/bin/env python3
-"""check.py: whether each option that the help texts of the machine's gcc and clang list is known to `known_options`, or stands among the
-exceptions with its reason; and those of its rustc to `rustc_call_requests`. Prints what is in neither, and what is in both. Compilers of other versions than the tables are of aren't looked at:
+"""check.py: whether each option that the help texts of the machine's gcc and clang list is known to `cache_known_options`, or stands among the
+exceptions with its reason; and those of its rustc to `cache_rustc_requests`. Prints what is in neither, and what is in both. Compilers of other versions than the tables are of aren't looked at:
 what is new in them isn't known, and so it is passed through. Its last line is 'N passed, M failed'.
 """
 import fnmatch
@@ -11,7 +11,7 @@ import subprocess
 import sys
 
 TOP = os.path.dirname(os.path.dirname(os.path.dirname(os.path.realpath(__file__))))
-SOURCES = f"{TOP}/crates/known_options/src"
+SOURCES = f"{TOP}/crates/cache_known_options/src"
 HELPS = {
     "gcc": [["--help=common"], ["--help=optimizers"], ["--help=c"], ["--help=c++"], ["--help=target"], ["--help=warnings"]],
     "clang": [["--help-hidden"]],
@@ -99,8 +99,8 @@ def listed_by_rustc():
 
 
 def known_of_rustc():
-    """The options that `rustc_call_requests` has. Of folders it has some kinds."""
-    lists = dict(re.findall(r"pub const (\w+): \[&str; \d+\] = \[(.*?)\];", text_of(f"{TOP}/crates/rustc_call_requests/src/tables.rt"), re.S))
+    """The options that `cache_rustc_requests` has. Of folders it has some kinds."""
+    lists = dict(re.findall(r"pub const (\w+): \[&str; \d+\] = \[(.*?)\];", text_of(f"{TOP}/crates/cache_rustc_requests/src/tables.rt"), re.S))
     names = {name: set(re.findall(r'"([^"]*)"', row)) for name, row in lists.items()}
     return names["FLAGS"] | names["VALUED"] | names["LETTERS"] | names["GENERATION"] | {f"-C {name}" for name in names["CODEGEN"]}
 

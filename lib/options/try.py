@@ -1,5 +1,5 @@
 #!/usr/bin/env python3
-"""try.py HOST [gcc|clang]..: calls each compiler with each word that `known_options` has, and with its `no-` form, by gulmaat's host and alone:
+"""try.py HOST [gcc|clang]..: calls each compiler with each word that `cache_known_options` has, and with its `no-` form, by gulmaat's host and alone:
 the status, the messages and the objects must be the same at a first call, at a second one, and after a change of the source. Words that the
 compiler doesn't take are left out, and those with which no two calls alone make the same. Its last line is 'N passed, M failed'.
 """

@@ -1,6 +1,6 @@
 //! Why something isn't in the folder, or couldn't be put there.
 
-use byte_formats::ReadFault;
+use base_formats::ReadFault;
 use ckeys_base::error::Error;
 use std::alloc::{AllocError, AllocFailed};
 use std::{fmt, io};

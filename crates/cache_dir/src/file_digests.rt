@@ -5,8 +5,8 @@ ghost use Rattle.ckeys_base.specs.Hex.{hex_of};
 
 use crate::error::CacheDirError;
 use crate::folder::{CacheDir, Kind};
-use blake2::Blake2b256;
-use byte_formats::{put_framed, put_number};
+use base_blake2::Blake2b256;
+use base_formats::{put_framed, put_number};
 use ckeys_base::{Digest, HashState};
 use std::alloc::Global;
 use std::fs;

@@ -1,7 +1,7 @@
 //! Whole files in the folder, by kind and name.
 
 use crate::error::CacheDirError;
-use disk_files::{give_rights, make_folders, read_whole};
+use cache_disk::{give_rights, make_folders, read_whole};
 use std::alloc::Global;
 use std::cell::Cell;
 use std::fs;

@@ -6,8 +6,8 @@ ghost use Rattle.cache_dir.specs.Together.{saturated};
 
 use crate::error::CacheDirError;
 use crate::listing::KeptFile;
-use byte_formats::{put_number, read_number};
-use disk_files::{give_rights, read_whole};
+use base_formats::{put_number, read_number};
+use cache_disk::{give_rights, read_whole};
 use std::alloc::Global;
 use std::fs;
 use std::fs::OpenOptions;

@@ -1,11 +1,11 @@
 -- Manifests: the names of their files, and of what their own file's name is the digest.
 use Rattle.std.specs.Prelude.{◌++◌, List, map}
 use Rattle.std.specs.List.{flat_map}
-use Rattle.os_files.specs.Bytes.{Bytes}
-use Rattle.byte_formats.specs.Spelling.{framed}
-use Rattle.entry_keys.specs.declared.entry_key.EntryKey.{EntryKey}
-use Rattle.include_records.specs.declared.entry.CachedResult.{CachedResult}
-use Rattle.include_records.specs.declared.entry.IncludeEntry.{IncludeEntry}
+use Rattle.base_files.specs.Bytes.{Bytes}
+use Rattle.base_formats.specs.Spelling.{framed}
+use Rattle.ckeys_entry_keys.specs.declared.entry_key.EntryKey.{EntryKey}
+use Rattle.ckeys_include_records.specs.declared.entry.CachedResult.{CachedResult}
+use Rattle.ckeys_include_records.specs.declared.entry.IncludeEntry.{IncludeEntry}
 use Rattle.rustc_options.specs.Sets.{in_order}
 
 abbrev pub included : List IncludeEntry → List Bytes

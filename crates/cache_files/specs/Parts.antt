@@ -1,5 +1,5 @@
 -- The parts of a call as they are kept, and as a session has them.
-use Rattle.fingerprints.specs.declared.c_parts.CParts.{CParts}
+use Rattle.wrap_fingerprints.specs.declared.c_parts.CParts.{CParts}
 use Rattle.cache_format.specs.declared.kept_parts.KeptParts.{KeptParts}
 
 -- the parts that are kept so

@@ -1,5 +1,5 @@
 -- Entries as they are kept, and as a session has them.
-use Rattle.os_files.specs.Bytes.{Bytes}
+use Rattle.base_files.specs.Bytes.{Bytes}
 use Rattle.cache_format.specs.declared.kept_result.KeptResult.{KeptResult}
 use Rattle.wrap_base.specs.declared.answer.Output.{Output}
 use Rattle.wrap_base.specs.declared.store_key.Family.TheVariants as families

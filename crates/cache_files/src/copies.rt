@@ -2,8 +2,8 @@
 
 ghost use Rattle.std.specs.Prelude.{◌≡◌, IfOk};
 
+use base_files::{Listed, OsBytes};
 use ckeys_records::output_name::OutputName;
-use os_files::{Listed, OsBytes};
 use std::alloc::{AllocError, Global};
 
 /// Another list of the same names.

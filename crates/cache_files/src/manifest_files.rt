@@ -5,14 +5,14 @@ ghost use Rattle.ckeys_base.specs.Hex.{hex_of};
 ghost use Rattle.cache_files.specs.Manifests.{row_of};
 
 use crate::manifests::{FoundManifest, found_in, kept_of};
-use blake2::Blake2b256;
-use byte_formats::put_framed;
+use base_blake2::Blake2b256;
+use base_files::OsBytes;
+use base_formats::put_framed;
 use cache_dir::{CacheDir, CacheDirError, Kind, digest_of};
 use cache_format::{KeptManifest, seal, unseal};
 use ckeys_base::HashState;
-use entry_keys::entry_key::EntryKey;
-use include_records::PreprocessorCacheEntry;
-use os_files::OsBytes;
+use ckeys_entry_keys::entry_key::EntryKey;
+use ckeys_include_records::PreprocessorCacheEntry;
 use std::alloc::Global;
 use std::rt::Files;
 

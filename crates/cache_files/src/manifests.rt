@@ -1,16 +1,16 @@
 //! What a kept manifest says.
 
 ghost use Rattle.std.specs.Prelude.{◌≡◌, ◌⊎◌, ◌++◌, List, [], IfOk, IfSome, IsSomeAnd, OnOk};
-ghost use Rattle.include_records.specs.Layout.{IsRecord, record_bytes};
-ghost use Rattle.include_records.specs.declared.entry.CachedResult.{CachedResult};
+ghost use Rattle.ckeys_include_records.specs.Layout.{IsRecord, record_bytes};
+ghost use Rattle.ckeys_include_records.specs.declared.entry.CachedResult.{CachedResult};
 ghost use Rattle.cache_files.specs.Manifests.{included, names_in};
 
+use base_files::{Listed, OsBytes};
 use cache_dir::CacheDirError;
 use cache_format::KeptManifest;
 use ckeys_base::error::Error;
-use entry_keys::entry_key::EntryKey;
-use include_records::{CachedResult, IncludeEntry, PreprocessorCacheEntry};
-use os_files::{Listed, OsBytes};
+use ckeys_entry_keys::entry_key::EntryKey;
+use ckeys_include_records::{CachedResult, IncludeEntry, PreprocessorCacheEntry};
 use rustc_options::in_order;
 use std::alloc::{AllocError, Global};
 

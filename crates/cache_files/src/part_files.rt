@@ -1,11 +1,11 @@
 //! Parts of calls that are put in the folder and read from it. A broken or missing file is as one that isn't there.
 
-use blake2::Blake2b256;
-use byte_formats::put_framed;
+use base_blake2::Blake2b256;
+use base_files::OsBytes;
+use base_formats::put_framed;
 use cache_dir::{CacheDir, CacheDirError, Kind, digest_of};
 use cache_format::{KeptParts, seal, unseal};
 use cmdlines_base::ArtifactDescriptor;
-use os_files::OsBytes;
 use std::alloc::{AllocError, Global};
 use std::rt::Files;
 

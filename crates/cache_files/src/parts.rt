@@ -4,10 +4,10 @@ ghost use Rattle.std.specs.Prelude.{◌≡◌, IfOk};
 ghost use Rattle.cache_files.specs.Parts.{parts_in};
 
 use crate::copies::{copied_names, copied_variables};
+use base_files::OsBytes;
 use cache_format::KeptParts;
-use fingerprints::CParts;
-use os_files::OsBytes;
 use std::alloc::{AllocError, Global};
+use wrap_fingerprints::CParts;
 
 /// The parts as they are kept, with what differed.
 pub fn kept_parts(

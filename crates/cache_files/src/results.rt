@@ -6,10 +6,10 @@ ghost use Rattle.wrap_base.specs.declared.store_key.Family.TheVariants as famili
 ghost use Rattle.wrap_base.specs.declared.store_key.Shape.TheVariants as shapes;
 
 use crate::copies::copied_names;
+use base_files::Listed;
 use cache_format::{KeptMessages, KeptResult};
+use cache_host::HostError;
 use ckeys_records::shape::CShape;
-use host_protocol::HostError;
-use os_files::Listed;
 use std::alloc::{AllocError, Global};
 use wrap_base::Output;
 use wrap_base::store_key::{Family, Pairs, Shape, StoreKey};

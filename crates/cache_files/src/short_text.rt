@@ -6,11 +6,11 @@
 //! last line has the digest of the names of all markers, one after another, and no space. So two texts are the same where they are the
 //! same in short, if digests are distinct.
 
-use blake2::Blake2b256;
+use base_blake2::Blake2b256;
+use base_files::{Lossy, OsBytes};
 use ckeys_base::Digest;
-use marker_walk::{Mark, Markers};
+use ckeys_marker_walk::{Mark, Markers};
 use memchr::{memchr, memmem};
-use os_files::{Lossy, OsBytes};
 use std::alloc::{AllocError, Global};
 use std::collections::{BTreeMap, HashMap, HashSet};
 use std::fmt;

@@ -4,10 +4,10 @@ use Rattle.std.specs.Cmp.Lexicographic.{pointwise}
 use Rattle.std.specs.Prelude.{Bool, not, nat_eq}
 use Rattle.std.proofs.lemmas.Bool.{and_from, and_parts, eqb-true, eq-eqb, not-false, not_from_true}
 use Rattle.std.proofs.lemmas.List.{append-nil, drop_at, length-append, nil_from_length, take-append-drop, take_at}
-use Rattle.os_files.specs.Bytes.{Bytes}
-use Rattle.byte_formats.specs.FieldFormats.{bind_some, if_some, some_is}
-use Rattle.byte_formats.specs.Formats.{IsBytes, IsFormat}
-use Rattle.byte_formats.specs.Reading.{Read}
+use Rattle.base_files.specs.Bytes.{Bytes}
+use Rattle.base_formats.specs.FieldFormats.{bind_some, if_some, some_is}
+use Rattle.base_formats.specs.Formats.{IsBytes, IsFormat}
+use Rattle.base_formats.specs.Reading.{Read}
 use Rattle.cache_format.specs.Sealed.{fields_at, sealed_bytes, versioned_bytes, whole_at}
 
 front_is_bytes : (n : ℕ) (bytes : Bytes) → IsBytes bytes → IsBytes (take n bytes)

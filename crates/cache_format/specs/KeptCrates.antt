@@ -1,10 +1,10 @@
 -- The bytes of what rustc made of a crate.
 use Rattle.std.proofs.Common.{List, refl}
-use Rattle.os_files.specs.Bytes.{Bytes}
-use Rattle.byte_formats.specs.FieldFormats.{both_format, counted_format, framed_format, made_format}
-use Rattle.byte_formats.specs.Formats.{IsFormat}
-use Rattle.byte_formats.specs.Reading.{Read, both_at, counted_at, framed_at, made_at}
-use Rattle.byte_formats.specs.Spelling.{BothFit, CountFits, FitsFrame, both, counted, framed}
+use Rattle.base_files.specs.Bytes.{Bytes}
+use Rattle.base_formats.specs.FieldFormats.{both_format, counted_format, framed_format, made_format}
+use Rattle.base_formats.specs.Formats.{IsFormat}
+use Rattle.base_formats.specs.Reading.{Read, both_at, counted_at, framed_at, made_at}
+use Rattle.base_formats.specs.Spelling.{BothFit, CountFits, FitsFrame, both, counted, framed}
 use Rattle.cache_format.specs.declared.kept_crate.KeptCrate.{KeptCrate}
 
 -- its fields, in order

@@ -1,10 +1,10 @@
 -- The bytes of an manifest with what it is kept under.
 use Rattle.std.proofs.Common.{refl}
-use Rattle.os_files.specs.Bytes.{Bytes}
-use Rattle.byte_formats.specs.FieldFormats.{both_format, framed_format, made_format}
-use Rattle.byte_formats.specs.Formats.{IsFormat}
-use Rattle.byte_formats.specs.Reading.{Read, both_at, framed_at, made_at}
-use Rattle.byte_formats.specs.Spelling.{BothFit, FitsFrame, both, framed}
+use Rattle.base_files.specs.Bytes.{Bytes}
+use Rattle.base_formats.specs.FieldFormats.{both_format, framed_format, made_format}
+use Rattle.base_formats.specs.Formats.{IsFormat}
+use Rattle.base_formats.specs.Reading.{Read, both_at, framed_at, made_at}
+use Rattle.base_formats.specs.Spelling.{BothFit, FitsFrame, both, framed}
 use Rattle.cache_format.specs.declared.kept_manifest.KeptManifest.{KeptManifest}
 
 -- its fields, in order

@@ -1,11 +1,11 @@
 -- The bytes of the parts of a call that was compiled, with what differed from the one before it.
 use Rattle.std.proofs.Common.{Bool, List, Option, refl}
-use Rattle.os_files.specs.Bytes.{Bytes}
-use Rattle.byte_formats.specs.FieldFormats.{both_format, counted_format, framed_format, made_format, optional_format}
-use Rattle.byte_formats.specs.Formats.{IsFormat}
-use Rattle.byte_formats.specs.Reading.{Read, both_at, counted_at, framed_at, made_at, optional_at}
-use Rattle.byte_formats.specs.Spelling.{BothFit, CountFits, FitsFrame, IfFits, both, counted, framed, optional}
-use Rattle.byte_formats.specs.Choices.{AnyFits, coded, coded_at, flag_code, flag_format, flag_of}
+use Rattle.base_files.specs.Bytes.{Bytes}
+use Rattle.base_formats.specs.FieldFormats.{both_format, counted_format, framed_format, made_format, optional_format}
+use Rattle.base_formats.specs.Formats.{IsFormat}
+use Rattle.base_formats.specs.Reading.{Read, both_at, counted_at, framed_at, made_at, optional_at}
+use Rattle.base_formats.specs.Spelling.{BothFit, CountFits, FitsFrame, IfFits, both, counted, framed, optional}
+use Rattle.base_formats.specs.Choices.{AnyFits, coded, coded_at, flag_code, flag_format, flag_of}
 use Rattle.cmdlines_tables.specs.LanguageBytes.{language_code, language_format, language_of}
 use Rattle.cmdlines_tables.specs.declared.language.Language.{Language}
 use Rattle.ckeys_records.specs.Formats.{NameFits, name_at, name_bytes, name_format}

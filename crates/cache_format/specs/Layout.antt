@@ -1,8 +1,8 @@
 -- The bytes of an entry.
 use Rattle.std.specs.Prelude.{List, Option}
-use Rattle.os_files.specs.Bytes.{Bytes}
-use Rattle.byte_formats.specs.Reading.{Read, both_at, counted_at, framed_at, made_at, optional_at}
-use Rattle.byte_formats.specs.Spelling.{BothFit, CountFits, FitsFrame, IfFits, both, counted, framed, optional}
+use Rattle.base_files.specs.Bytes.{Bytes}
+use Rattle.base_formats.specs.Reading.{Read, both_at, counted_at, framed_at, made_at, optional_at}
+use Rattle.base_formats.specs.Spelling.{BothFit, CountFits, FitsFrame, IfFits, both, counted, framed, optional}
 use Rattle.ckeys_records.specs.Formats.{NameFits, ShapeFits, name_at, name_bytes, shape_at, shape_bytes}
 use Rattle.ckeys_records.specs.declared.output_name.OutputName.{OutputName}
 use Rattle.ckeys_records.specs.declared.shape.CShape.{CShape}

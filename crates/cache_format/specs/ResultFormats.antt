@@ -1,7 +1,7 @@
 -- What is read of an entry's fields was written, and what was written is read.
 use Rattle.std.proofs.Common.{refl}
-use Rattle.byte_formats.specs.FieldFormats.{both_format, counted_format, framed_format, made_format, optional_format}
-use Rattle.byte_formats.specs.Formats.{IsFormat}
+use Rattle.base_formats.specs.FieldFormats.{both_format, counted_format, framed_format, made_format, optional_format}
+use Rattle.base_formats.specs.Formats.{IsFormat}
 use Rattle.ckeys_records.specs.Formats.{name_format, shape_format}
 use Rattle.cache_format.specs.Layout.{EntryFits, MessagesFit, contents_at, contents_bytes, entry_fields, entry_from, messages_at, messages_bytes, messages_fields, messages_from}
 

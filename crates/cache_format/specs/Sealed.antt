@@ -1,7 +1,7 @@
 -- Values preceded by the version of their layout, with the digest of all of that at their end.
 use Rattle.std.specs.Prelude.{ℕ, ◌==◌, ◌++◌, [], ◌∷◌, length, Option, None, Some, if◌then◌else◌}
-use Rattle.os_files.specs.Bytes.{Bytes}
-use Rattle.byte_formats.specs.Reading.{Read, ◌>>=◌}
+use Rattle.base_files.specs.Bytes.{Bytes}
+use Rattle.base_formats.specs.Reading.{Read, ◌>>=◌}
 
 -- the value whose bytes these are, with nothing after it
 unfoldable pub fields_at : {X : Type 0} → (Bytes → Read X) → Bytes → Option X

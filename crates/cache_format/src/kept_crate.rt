@@ -2,8 +2,8 @@
 
 ghost use Rattle.cache_format.specs.KeptCrates.{CrateFits, crate_at, crate_bytes, crate_format};
 
-use byte_formats::{Field, ReadFault};
-use os_files::{Listed, OsBytes};
+use base_files::{Listed, OsBytes};
+use base_formats::{Field, ReadFault};
 use std::alloc::{AllocError, Global};
 
 /// What rustc made of a crate, and printed beside it.
@@ -31,7 +31,7 @@ impl Field for KeptCrate {
 
     ghost is_format = { crate_format };
 
-    #[tactic(auto, unfolding(crate::specs::KeptCrates::crate_at, byte_formats::specs::Reading::both_at, byte_formats::specs::Reading::made_at))]
+    #[tactic(auto, unfolding(crate::specs::KeptCrates::crate_at, base_formats::specs::Reading::both_at, base_formats::specs::Reading::made_at))]
     fn read(alloc: Global, bytes: &[u8]) -> Result<(KeptCrate, &[u8]), ReadFault> {
         let (key, rest) = OsBytes::read(alloc, bytes)?;
         let (folder, rest) = OsBytes::read(alloc, rest)?;

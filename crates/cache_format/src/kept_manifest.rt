@@ -2,8 +2,8 @@
 
 ghost use Rattle.cache_format.specs.KeptManifests.{KeptFits, kept_at, kept_bytes, kept_format};
 
-use byte_formats::{Field, ReadFault};
-use os_files::OsBytes;
+use base_files::OsBytes;
+use base_formats::{Field, ReadFault};
 use std::alloc::{AllocError, Global};
 
 /// An manifest, as its own bytes, under an entry key of calls in one zone.
@@ -29,7 +29,7 @@ impl Field for KeptManifest {
 
     ghost is_format = { kept_format };
 
-    #[tactic(auto, unfolding(crate::specs::KeptManifests::kept_at, byte_formats::specs::Reading::both_at, byte_formats::specs::Reading::made_at))]
+    #[tactic(auto, unfolding(crate::specs::KeptManifests::kept_at, base_formats::specs::Reading::both_at, base_formats::specs::Reading::made_at))]
     fn read(alloc: Global, bytes: &[u8]) -> Result<(KeptManifest, &[u8]), ReadFault> {
         let (zone, rest) = OsBytes::read(alloc, bytes)?;
         let (identity, rest) = OsBytes::read(alloc, rest)?;

@@ -2,10 +2,10 @@
 
 ghost use Rattle.cache_format.specs.KeptParts.{PartsFit, fields_at, fields_bytes, fields_format};
 
-use byte_formats::{Field, ReadFault};
+use base_files::{Listed, OsBytes};
+use base_formats::{Field, ReadFault};
 use ckeys_records::output_name::OutputName;
 use cmdlines_tables::language::Language;
-use os_files::{Listed, OsBytes};
 use std::alloc::{AllocError, Global};
 
 /// The parts of a request to a C compiler, with its text in short. Digests are texts.
@@ -36,7 +36,7 @@ impl Field for KeptParts {
 
     ghost is_format = { fields_format };
 
-    #[tactic(auto, unfolding(crate::specs::KeptParts::fields_at, byte_formats::specs::Reading::both_at, byte_formats::specs::Reading::made_at))]
+    #[tactic(auto, unfolding(crate::specs::KeptParts::fields_at, base_formats::specs::Reading::both_at, base_formats::specs::Reading::made_at))]
     fn read(alloc: Global, bytes: &[u8]) -> Result<(KeptParts, &[u8]), ReadFault> {
         let (compiler, rest) = OsBytes::read(alloc, bytes)?;
         let (plusplus, rest) = bool::read(alloc, rest)?;

@@ -1,8 +1,8 @@
 //! Entries: a key with all of its fields, and what was made under it.
 
+use base_files::{Listed, OsBytes};
 use ckeys_records::output_name::OutputName;
 use ckeys_records::shape::CShape;
-use os_files::{Listed, OsBytes};
 
 /// What was printed and written beside outputs, byte for byte.
 #[derive(Drop)]

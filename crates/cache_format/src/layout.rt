@@ -4,10 +4,10 @@ ghost use Rattle.cache_format.specs.ResultFormats.{contents_format, messages_for
 ghost use Rattle.cache_format.specs.Layout.{EntryFits, MessagesFit, contents_at, contents_bytes, messages_at, messages_bytes};
 
 use crate::kept_result::{KeptMessages, KeptResult};
-use byte_formats::{Field, ReadFault};
+use base_files::{Listed, OsBytes};
+use base_formats::{Field, ReadFault};
 use ckeys_records::output_name::OutputName;
 use ckeys_records::shape::CShape;
-use os_files::{Listed, OsBytes};
 use std::alloc::{AllocError, Global};
 
 /// The preprocessor's messages, what the compile printed on its standard output and its standard error, its dependency file, and the digest
@@ -21,7 +21,7 @@ impl Field for KeptMessages {
 
     ghost is_format = { messages_format };
 
-    #[tactic(auto, unfolding(crate::specs::Layout::messages_at, byte_formats::specs::Reading::both_at, byte_formats::specs::Reading::made_at))]
+    #[tactic(auto, unfolding(crate::specs::Layout::messages_at, base_formats::specs::Reading::both_at, base_formats::specs::Reading::made_at))]
     fn read(alloc: Global, bytes: &[u8]) -> Result<(KeptMessages, &[u8]), ReadFault> {
         let (preprocessor, rest) = OsBytes::read(alloc, bytes)?;
         let (printed, rest) = OsBytes::read(alloc, rest)?;
@@ -58,7 +58,7 @@ impl Field for KeptResult {
 
     ghost is_format = { contents_format };
 
-    #[tactic(auto, unfolding(crate::specs::Layout::contents_at, byte_formats::specs::Reading::both_at, byte_formats::specs::Reading::made_at))]
+    #[tactic(auto, unfolding(crate::specs::Layout::contents_at, base_formats::specs::Reading::both_at, base_formats::specs::Reading::made_at))]
     fn read(alloc: Global, bytes: &[u8]) -> Result<(KeptResult, &[u8]), ReadFault> {
         let (shape, rest) = CShape::read(alloc, bytes)?;
         let (names, rest) = Listed::<OutputName>::read(alloc, rest)?;

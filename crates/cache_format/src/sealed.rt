@@ -1,14 +1,14 @@
 //! Whole values, preceded by the version of their layout and followed by the digest of their bytes.
 
 ghost use Rattle.std.specs.Prelude.{◌≡◌, ℕ, IfOk, IfSome, OnOk, Some};
-ghost use Rattle.byte_formats.specs.Reading.{Gives};
+ghost use Rattle.base_formats.specs.Reading.{Gives};
 ghost use Rattle.cache_format.specs.Sealed.{fields_at, sealed_bytes, whole_at};
 
 use crate::kept_crate::KeptCrate;
 use crate::kept_manifest::KeptManifest;
 use crate::kept_parts::KeptParts;
 use crate::kept_result::KeptResult;
-use byte_formats::{Field, ReadFault};
+use base_formats::{Field, ReadFault};
 use ckeys_base::HashState;
 use std::alloc::{AllocError, Global};
 

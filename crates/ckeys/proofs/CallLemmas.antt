@@ -1,12 +1,12 @@
 -- Why a call has no key.
 use Rattle.std.proofs.Common.{◌≡◌, inl, ℕ, Option, Some, None, Result, Ok, Err, IfErr, IsErrAnd, sym, subst, ◌∙◌}
 use Rattle.std.specs.Option.{option_map}
-use Rattle.os_files.specs.Bytes.{Bytes}
-use Rattle.os_files.specs.Fails.{FailsOn}
-use Rattle.os_files.specs.Tree.{Tree}
-use Rattle.response_files.specs.Causes.{CauseOf}
-use Rattle.response_files.specs.declared.fault.ParseFault.{ParseFault}
-use Rattle.response_files.specs.declared.fault.ParseFault.TheVariants as files_faults
+use Rattle.base_files.specs.Bytes.{Bytes}
+use Rattle.base_files.specs.Fails.{FailsOn}
+use Rattle.base_files.specs.Tree.{Tree}
+use Rattle.cmdlines_response_files.specs.Causes.{CauseOf}
+use Rattle.cmdlines_response_files.specs.declared.fault.ParseFault.{ParseFault}
+use Rattle.cmdlines_response_files.specs.declared.fault.ParseFault.TheVariants as files_faults
 use Rattle.ckeys_records.specs.Meaning.{Meaning}
 use Rattle.ckeys_records.specs.Causes.{no_step, stage_of}
 use Rattle.ckeys.specs.Calls.{KeyCall, extra_paths, missing_input, key_fault_of, text_fault_of}

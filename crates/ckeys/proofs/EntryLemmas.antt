@@ -9,18 +9,18 @@ use Rattle.std.specs.Ordering.{int_eq}
 use Rattle.std.proofs.lemmas.Bool.{and_from}
 use Rattle.std.proofs.lemmas.Bool.Decides.{Decides-eqb, Decides-int_eq}
 use Rattle.std.proofs.lemmas.Slice.Eq.{bytes_eq-Decides}
-use Rattle.os_files.specs.Bytes.{Bytes, ticked}
-use Rattle.os_files.specs.Tree.{contents_at}
+use Rattle.base_files.specs.Bytes.{Bytes, ticked}
+use Rattle.base_files.specs.Tree.{contents_at}
 use Rattle.ckeys_base.specs.Hex.{hex_of}
 use Rattle.ckeys_base.specs.Shelf.{Shelf, Asks, Puts, Within}
-use Rattle.time_macros.specs.Macros.{holds_date, holds_timestamp}
-use Rattle.include_records.specs.LookUps.{LooksUp}
-use Rattle.include_records.specs.Records.{Record, result_with}
-use Rattle.include_records.specs.Results.{with_result}
-use Rattle.include_records.specs.Surroundings.{Place, are_there, contents_in, dated, fits_contents, in_front, include_with, included, includes_of, is_the, lacks_day, path_at, second_at, stamped}
-use Rattle.include_records.specs.declared.entry.CachedResult.{CachedResult}
-use Rattle.include_records.specs.declared.entry.IncludeEntry.{IncludeEntry}
-use Rattle.entry_keys.specs.declared.entry_key.EntryKey.{EntryKey}
+use Rattle.ckeys_time_macros.specs.Macros.{holds_date, holds_timestamp}
+use Rattle.ckeys_include_records.specs.LookUps.{LooksUp}
+use Rattle.ckeys_include_records.specs.Records.{Record, result_with}
+use Rattle.ckeys_include_records.specs.Results.{with_result}
+use Rattle.ckeys_include_records.specs.Surroundings.{Place, are_there, contents_in, dated, fits_contents, in_front, include_with, included, includes_of, is_the, lacks_day, path_at, second_at, stamped}
+use Rattle.ckeys_include_records.specs.declared.entry.CachedResult.{CachedResult}
+use Rattle.ckeys_include_records.specs.declared.entry.IncludeEntry.{IncludeEntry}
+use Rattle.ckeys_entry_keys.specs.declared.entry_key.EntryKey.{EntryKey}
 use Rattle.ckeys.specs.Calls.{KeyCall, PrintedCall, early_fault_of, input_path, key_fault_by, needs_preprocessing, record_by, text_by, text_fault_by, extra_paths, missing_input}
 use Rattle.ckeys_records.specs.Faults.{preprocess_fault_of, read_fault_of, first_missing, or_else}
 use Rattle.ckeys_records.specs.Meaning.{text_in}

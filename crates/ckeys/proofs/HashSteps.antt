@@ -6,13 +6,13 @@ use Rattle.std.proofs.lemmas.List.{take_more, take_more_set, get_or-drop, get_or
 use Rattle.std.proofs.lemmas.List.Elements.{Contains-append_left}
 use Rattle.std.specs.Prelude.{IfOk, string_bytes}
 use Rattle.std.specs.List.{AllByRecursion, zip}
-use Rattle.os_files.specs.Bytes.{Bytes}
-use Rattle.os_files.specs.Tree.{Tree}
+use Rattle.base_files.specs.Bytes.{Bytes}
+use Rattle.base_files.specs.Tree.{Tree}
 use Rattle.cmdlines.specs.Compilers.{Traits}
 use Rattle.cmdlines_tables.specs.declared.compiler.CCompilerKind.{CCompilerKind}
 use Rattle.ckeys_base.specs.Shelf.{IsEmpty, Shelf}
-use Rattle.entry_keys.specs.declared.entry_key.EntryKey.{EntryKey}
-use Rattle.include_records.specs.Records.{Record}
+use Rattle.ckeys_entry_keys.specs.declared.entry_key.EntryKey.{EntryKey}
+use Rattle.ckeys_include_records.specs.Records.{Record}
 use Rattle.ckeys.specs.Calls.{PrintedCall, record_by}
 use Rattle.ckeys.specs.Entries.{EntryInvariant, EntryPremises, Held, asking}
 use Rattle.ckeys.specs.EntryTurns.{KeyFrom}

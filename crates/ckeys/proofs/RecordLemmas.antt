@@ -8,22 +8,22 @@ use Rattle.std.proofs.lemmas.Bool.{and_parts}
 use Rattle.std.proofs.lemmas.Bool.Decides.{Decides-int_eq}
 use Rattle.std.proofs.lemmas.Slice.Eq.{bytes_eq-Decides}
 use Rattle.std.proofs.lemmas.List.Elements.{Contains-append_left, Contains-push}
-use Rattle.os_files.specs.Bytes.{Bytes}
-use Rattle.os_files.specs.Path.{join}
-use Rattle.os_files.specs.Tree.{Tree, contents_at, is_file_at}
+use Rattle.base_files.specs.Bytes.{Bytes}
+use Rattle.base_files.specs.Path.{join}
+use Rattle.base_files.specs.Tree.{Tree, contents_at, is_file_at}
 use Rattle.ckeys_base.specs.FolderPlaces.{text_places}
 use Rattle.ckeys_base.specs.FromTheLeft.{stripped_of}
 use Rattle.ckeys_base.specs.Hex.{hex_of}
 use Rattle.ckeys_base.specs.Shelf.{Shelf}
-use Rattle.time_macros.specs.Macros.{holds_date, holds_timestamp}
-use Rattle.marker_walk.specs.Named.{accepted, is_named, marker_names, tells_time}
-use Rattle.include_records.specs.Records.{Record}
-use Rattle.include_records.specs.Surroundings.{Place, are_there, contents_in, dated, fits_contents, in_front, include_with, included, includes_of, is_the, lacks_day, path_at, second_at, stamped}
-use Rattle.include_records.specs.declared.entry.IncludeEntry.{IncludeEntry}
-use Rattle.entry_keys.specs.Identity.{Identity}
-use Rattle.entry_keys.specs.Sights.{Sights}
-use Rattle.entry_keys.specs.Telling.{AreTold, entry_key_with}
-use Rattle.entry_keys.specs.declared.entry_key.EntryKey.{EntryKey}
+use Rattle.ckeys_time_macros.specs.Macros.{holds_date, holds_timestamp}
+use Rattle.ckeys_marker_walk.specs.Named.{accepted, is_named, marker_names, tells_time}
+use Rattle.ckeys_include_records.specs.Records.{Record}
+use Rattle.ckeys_include_records.specs.Surroundings.{Place, are_there, contents_in, dated, fits_contents, in_front, include_with, included, includes_of, is_the, lacks_day, path_at, second_at, stamped}
+use Rattle.ckeys_include_records.specs.declared.entry.IncludeEntry.{IncludeEntry}
+use Rattle.ckeys_entry_keys.specs.Identity.{Identity}
+use Rattle.ckeys_entry_keys.specs.Sights.{Sights}
+use Rattle.ckeys_entry_keys.specs.Telling.{AreTold, entry_key_with}
+use Rattle.ckeys_entry_keys.specs.declared.entry_key.EntryKey.{EntryKey}
 use Rattle.ckeys.specs.Calls.{KeyCall, PrintedCall, extra_paths, input_path, needs_preprocessing, record_by, text_by}
 use Rattle.ckeys_records.specs.Meaning.{text_in}
 use Rattle.ckeys.specs.Entries.{AreTrue, EntryInvariant, EntryPremises, Held, IsFramed, IsHashedAmong, IsRecorded, IsTrue, SameIdentity, asking, entry_key_by, entry_key_of, extra_digests, good_text, has_entry_key, identity_by, is_told, sights_by}

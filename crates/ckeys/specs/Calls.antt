@@ -1,8 +1,8 @@
 -- A call of which a key is made: its record, and its first fault.
 use Rattle.std.specs.Prelude.{Bool, true, false, ◌&&◌, if◌then◌else◌, List, [], ◌∷◌, ◌++◌, map, filter, Option, None, is_none}
 use Rattle.std.specs.Option.{option_map}
-use Rattle.os_files.specs.Bytes.{Bytes}
-use Rattle.os_files.specs.Path.{join}
+use Rattle.base_files.specs.Bytes.{Bytes}
+use Rattle.base_files.specs.Path.{join}
 use Rattle.cmdlines.specs.Commands.{preprocess_words}
 use Rattle.cmdlines.specs.Compilers.{Traits}
 use Rattle.cmdlines_requests.specs.declared.parsed.ParsedArguments.{ParsedArguments}
@@ -11,7 +11,7 @@ use Rattle.cmdlines_tables.specs.declared.language.Language.{Language}
 use Rattle.cmdlines_tables.specs.declared.language.Language.TheVariants as languages
 use Rattle.ckeys_base.specs.FolderPlaces.{text_places}
 use Rattle.ckeys_base.specs.FromTheLeft.{stripped_of}
-use Rattle.include_records.specs.Surroundings.{contents_in}
+use Rattle.ckeys_include_records.specs.Surroundings.{contents_in}
 use Rattle.ckeys_records.specs.Faults.{first_missing, or_else, preprocess_fault_of, read_fault_of}
 use Rattle.ckeys_records.specs.Folders.{Settings}
 use Rattle.ckeys_records.specs.Meaning.{Scene, Made, Meaning, asked_of, text_in}

@@ -1,7 +1,7 @@
 -- The digest that represents a compiler.
 use Rattle.std.specs.Prelude.{◌≡◌, ◌++◌, [], ◌∷◌, Option, Some, None}
-use Rattle.os_files.specs.Bytes.{Bytes}
-use Rattle.os_files.specs.Tree.{Tree}
+use Rattle.base_files.specs.Bytes.{Bytes}
+use Rattle.base_files.specs.Tree.{Tree}
 use Rattle.ckeys_base.specs.Hex.{hex_of}
 use Rattle.ckeys_records.specs.Faults.{FileCause, first_missing}
 use Rattle.ckeys_records.specs.declared.fault.Fault.{Fault}

@@ -1,15 +1,15 @@
 -- One call of `generate_hash_key`: where its key comes from, and what it does to the store of include records.
 use Rattle.std.specs.Prelude.{◌≡◌, ◌⊎◌, ℕ, Bool, true, false, if◌then◌else◌, List, [], Option, None, Some, Result}
 use Rattle.std.specs.List.{Contains}
-use Rattle.os_files.specs.Bytes.{Bytes, ticked}
+use Rattle.base_files.specs.Bytes.{Bytes, ticked}
 use Rattle.ckeys_base.specs.Shelf.{Shelf, KeepsKeys, Puts, Within}
-use Rattle.include_records.specs.LookUps.{LooksUp}
-use Rattle.include_records.specs.Records.{Record, result_with}
-use Rattle.include_records.specs.Results.{HasMore, with_result}
-use Rattle.include_records.specs.Surroundings.{Place}
-use Rattle.include_records.specs.declared.entry.CachedResult.{CachedResult}
-use Rattle.include_records.specs.declared.entry.IncludeEntry.{IncludeEntry}
-use Rattle.entry_keys.specs.declared.entry_key.EntryKey.{EntryKey}
+use Rattle.ckeys_include_records.specs.LookUps.{LooksUp}
+use Rattle.ckeys_include_records.specs.Records.{Record, result_with}
+use Rattle.ckeys_include_records.specs.Results.{HasMore, with_result}
+use Rattle.ckeys_include_records.specs.Surroundings.{Place}
+use Rattle.ckeys_include_records.specs.declared.entry.CachedResult.{CachedResult}
+use Rattle.ckeys_include_records.specs.declared.entry.IncludeEntry.{IncludeEntry}
+use Rattle.ckeys_entry_keys.specs.declared.entry_key.EntryKey.{EntryKey}
 use Rattle.ckeys.specs.Calls.{PrintedCall, key_fault_by, record_by, text_fault_by}
 use Rattle.ckeys.specs.Entries.{Held, HasMatch, IsFramed, IsOwnResult, entry_key_of, good_text, has_entry_key, includes_by}
 use Rattle.ckeys_records.specs.Causes.{step_of}

@@ -2,11 +2,11 @@
 use Rattle.std.specs.Prelude.{◌≡◌, ℕ, Bool, true, false, List, [], ◌∷◌, ◌++◌, map, filter, String, string_bytes, Result, IfOk, IfErr, OnOk, OnErr}
 use Rattle.std.specs.List.{AllByRecursion, zip}
 use Rattle.std.specs.declared.alloc.Global.{Global}
-use Rattle.os_files.specs.Bytes.{Bytes}
-use Rattle.os_files.specs.Views.{FilesFail, FilesView}
+use Rattle.base_files.specs.Bytes.{Bytes}
+use Rattle.base_files.specs.Views.{FilesFail, FilesView}
 use Rattle.ckeys_base.specs.Shelf.{Shelf}
-use Rattle.include_records.specs.Records.{Record}
-use Rattle.entry_keys.specs.declared.entry_key.EntryKey.{EntryKey}
+use Rattle.ckeys_include_records.specs.Records.{Record}
+use Rattle.ckeys_entry_keys.specs.declared.entry_key.EntryKey.{EntryKey}
 use Rattle.ckeys.specs.Calls.{PrintedCall, key_fault_by, needs_preprocessing, printed_call, record_by}
 use Rattle.ckeys_records.specs.Causes.{HasOwnFault}
 use Rattle.ckeys_records.specs.Faults.{KeyCause}

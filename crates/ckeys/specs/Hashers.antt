@@ -1,12 +1,12 @@
 -- The call that a key is made of.
 use Rattle.std.specs.Prelude.{◌≡◌, ℤ, List}
-use Rattle.os_files.specs.Bytes.{Bytes}
-use Rattle.os_files.specs.Tree.{Tree}
+use Rattle.base_files.specs.Bytes.{Bytes}
+use Rattle.base_files.specs.Tree.{Tree}
 use Rattle.cmdlines.specs.Compilers.{Traits}
 use Rattle.cmdlines_tables.specs.declared.compiler.CCompilerKind.{CCompilerKind}
 use Rattle.ckeys_records.specs.Meaning.{Variables, scene_with}
-use Rattle.include_records.specs.Surroundings.{Place, place_with}
-use Rattle.time_macros.specs.Days.{local_day}
+use Rattle.ckeys_include_records.specs.Surroundings.{Place, place_with}
+use Rattle.ckeys_time_macros.specs.Days.{local_day}
 use Rattle.ckeys.specs.Calls.{KeyCall}
 use Rattle.ckeys.specs.Entries.{extra_digests}
 use Rattle.ckeys_records.specs.Folders.{Settings}

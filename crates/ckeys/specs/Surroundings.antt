@@ -1,14 +1,14 @@
 -- The files that the text of a call names, what is recorded of them, and when another call finds them as they were.
 use Rattle.std.specs.Prelude.{◌≡◌, true, List, map, Option, Some, option_and_then}
 use Rattle.std.specs.List.{Contains}
-use Rattle.os_files.specs.Bytes.{Bytes}
-use Rattle.os_files.specs.Path.{join}
-use Rattle.os_files.specs.Tree.{contents_at}
-use Rattle.time_macros.specs.Days.{local_day}
-use Rattle.time_macros.specs.Macros.{holds_date, holds_timestamp}
-use Rattle.marker_walk.specs.Named.{named_files_of}
-use Rattle.include_records.specs.Surroundings.{Place, place_with, contents_in, includes_of, second_at}
-use Rattle.include_records.specs.declared.entry.IncludeEntry.{IncludeEntry}
+use Rattle.base_files.specs.Bytes.{Bytes}
+use Rattle.base_files.specs.Path.{join}
+use Rattle.base_files.specs.Tree.{contents_at}
+use Rattle.ckeys_time_macros.specs.Days.{local_day}
+use Rattle.ckeys_time_macros.specs.Macros.{holds_date, holds_timestamp}
+use Rattle.ckeys_marker_walk.specs.Named.{named_files_of}
+use Rattle.ckeys_include_records.specs.Surroundings.{Place, place_with, contents_in, includes_of, second_at}
+use Rattle.ckeys_include_records.specs.declared.entry.IncludeEntry.{IncludeEntry}
 use Rattle.ckeys.specs.Calls.{KeyCall, extra_paths, input_path}
 
 -- where a call looks names up

@@ -10,12 +10,12 @@ ghost use Rattle.ckeys.specs.HashCalls.{AreKeyed, AreOwnKeys, KeyRun, asking_amo
 use crate::compiler_impl::CCompilerImpl;
 use crate::hasher::CCompilerHasher;
 use crate::place::CallPlace;
+use base_files::{Files, OsBytes};
 use ckeys_base::{HashState, Store};
+use ckeys_entry_keys::entry_key::EntryKey;
+use ckeys_include_records::PreprocessorCacheEntry;
 use ckeys_records::shape::CShape;
 use ckeys_records::{Fault, KeyConfig, Preprocessor};
-use entry_keys::entry_key::EntryKey;
-use include_records::PreprocessorCacheEntry;
-use os_files::{Files, OsBytes};
 use std::alloc::{AllocError, Global};
 
 /// A request, where and when it is asked, the files that are there then, and the tool that runs its preprocessor.

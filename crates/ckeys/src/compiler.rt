@@ -2,18 +2,18 @@
 
 ghost use Rattle.std.specs.Prelude.{◌≡◌, Some, IfOk, IfErr, IsErrOf, string_bytes};
 ghost use Rattle.std.specs.Option.{option_map};
-ghost use Rattle.os_files.specs.Bytes.{Bytes};
-ghost use Rattle.os_files.specs.Tree.{contents_at};
-ghost use Rattle.os_files.specs.Views.{FilesFail};
+ghost use Rattle.base_files.specs.Bytes.{Bytes};
+ghost use Rattle.base_files.specs.Tree.{contents_at};
+ghost use Rattle.base_files.specs.Views.{FilesFail};
 ghost use Rattle.cmdlines.specs.Compilers.{text_in};
 ghost use Rattle.ckeys.specs.Compilers.{compiler_digest_of, ExecutableCause, with_version};
 
 use crate::compiler_impl::CCompilerImpl;
 use crate::hasher::CCompilerHasher;
+use base_files::{FileFail, Files, OsBytes};
 use ckeys_base::{Digest, HashState};
 use ckeys_records::Fault;
 use cmdlines_requests::ParsedArguments;
-use os_files::{FileFail, Files, OsBytes};
 use std::alloc::{AllocError, Global};
 
 /// A C compiler, its executable and the digest that represents it in keys.

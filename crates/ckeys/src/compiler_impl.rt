@@ -2,9 +2,9 @@
 
 ghost use Rattle.std.specs.Prelude.{◌≡◌, ◌↔◌, ◌⊎◌, [], ◌∷◌, Some, None, IfOk, IfErr, IsErrOf, OnOk};
 ghost use Rattle.std.specs.Option.{option_map};
-ghost use Rattle.os_files.specs.Bytes.{ticked};
-ghost use Rattle.os_files.specs.Views.{FilesFail};
-ghost use Rattle.response_files.specs.Causes.{CauseOf};
+ghost use Rattle.base_files.specs.Bytes.{ticked};
+ghost use Rattle.base_files.specs.Views.{FilesFail};
+ghost use Rattle.cmdlines_response_files.specs.Causes.{CauseOf};
 ghost use Rattle.cmdlines.specs.Opening.{IsAskedByKind, opened_words};
 ghost use Rattle.cmdlines.specs.Commands.{object_path, HasObjectIn, preprocess_words, output_path, compile_words};
 ghost use Rattle.cmdlines_requests.specs.Small.{command_at};
@@ -15,13 +15,13 @@ ghost use Rattle.cmdlines_tables.specs.declared.compiler.CCompilerKind.{CCompile
 ghost use Rattle.ckeys_records.specs.Meaning.{AtMostOnce};
 ghost use Rattle.ckeys_records.specs.Meaning.{scene_with, made_of, asked_of};
 
+use base_files::{Files, Listed, OsBytes};
 use ckeys_records::{Preprocessor, Printed, Step, ToolFail};
 use cmdlines::{AnyFoundCompiler, CommandError, FoundCompiler, HasKind};
 use cmdlines_base::{CompilerArguments, SingleCompileCommand};
 use cmdlines_requests::{Cacheable, ParsedArguments, command_at};
+use cmdlines_response_files::ParseFault;
 use cmdlines_tables::CCompilerKind;
-use os_files::{Files, Listed, OsBytes};
-use response_files::ParseFault;
 use std::alloc::{AllocError, Global};
 
 /// A C compiler: what is known of it, how it reads words, and the commands for it.

@@ -2,8 +2,8 @@
 
 ghost use Rattle.std.specs.Prelude.{◌≡◌, false, true, None, filter, map, string_bytes, IfOk, IfErr, OnOk};
 ghost use Rattle.std.specs.List.{AllByRecursion};
-ghost use Rattle.os_files.specs.Bytes.{ticked};
-ghost use Rattle.os_files.specs.Views.{FilesFail};
+ghost use Rattle.base_files.specs.Bytes.{ticked};
+ghost use Rattle.base_files.specs.Views.{FilesFail};
 ghost use Rattle.ckeys.specs.Calls.{early_fault_of, key_fault_of, needs_preprocessing, record_of};
 ghost use Rattle.ckeys_records.specs.Causes.{HasOwnFault};
 ghost use Rattle.ckeys_records.specs.Faults.{KeyCause};
@@ -17,9 +17,9 @@ use crate::compiler_impl::CCompilerImpl;
 use crate::hasher::CCompilerHasher;
 use crate::needed::extra_hashes;
 use crate::place::CallPlace;
+use base_files::{Files, Listed, OsBytes};
 use ckeys_base::{HashState, strip_basedirs};
 use ckeys_records::{Fault, Preprocessor, tell_lengths};
-use os_files::{Files, Listed, OsBytes};
 use std::alloc::{AllocError, Global};
 
 /// The digests of the files whose contents count, in order, and the text without the folders that don't count.

@@ -1,11 +1,11 @@
 //! The entry key of a call, and what is recorded of its text.
 
 ghost use Rattle.std.specs.Prelude.{◌≡◌, ◌∷◌, [], Some, None, IfOk, IfErr, IfSome, OnOk, map, string_bytes};
-ghost use Rattle.os_files.specs.Path.{join};
-ghost use Rattle.os_files.specs.Tree.{Tree, contents_at};
-ghost use Rattle.os_files.specs.Views.{FilesFail};
-ghost use Rattle.entry_keys.specs.Identity.{identity_of};
-ghost use Rattle.include_records.specs.Surroundings as surroundings;
+ghost use Rattle.base_files.specs.Path.{join};
+ghost use Rattle.base_files.specs.Tree.{Tree, contents_at};
+ghost use Rattle.base_files.specs.Views.{FilesFail};
+ghost use Rattle.ckeys_entry_keys.specs.Identity.{identity_of};
+ghost use Rattle.ckeys_include_records.specs.Surroundings as surroundings;
 ghost use Rattle.ckeys.specs.Calls.{asks_records, missing_input};
 ghost use Rattle.ckeys_records.specs.Causes.{HasOwnFault};
 ghost use Rattle.ckeys_records.specs.Faults.{FileCause, first_missing};
@@ -16,14 +16,14 @@ ghost use Rattle.ckeys.specs.Surroundings.{recorded_of};
 use crate::compiler_impl::CCompilerImpl;
 use crate::hasher::{CCompilerHasher, needs_c_preprocessing};
 use crate::place::CallPlace;
+use base_files::{FileFail, Files, Listed, OsBytes, join};
 use ckeys_base::HashState;
+use ckeys_entry_keys::entry_key::{EntryKey, entry_key};
+use ckeys_entry_keys::{Asker, SeenInput};
+use ckeys_include_records::{IncludeEntry, includes_of, second_at};
+use ckeys_marker_walk::Walk;
+use ckeys_marker_walk::walk::walk;
 use ckeys_records::Fault;
-use entry_keys::entry_key::{EntryKey, entry_key};
-use entry_keys::{Asker, SeenInput};
-use include_records::{IncludeEntry, includes_of, second_at};
-use marker_walk::Walk;
-use marker_walk::walk::walk;
-use os_files::{FileFail, Files, Listed, OsBytes, join};
 use std::alloc::Global;
 
 /// An input: what it holds, and the second in which it was last changed.

@@ -2,11 +2,11 @@
 
 ghost use Rattle.std.specs.Prelude.{◌≡◌, false, true, List, ◌++◌, None, Some, filter, map, string_bytes, IfOk, IfErr, OnOk, OnErr};
 ghost use Rattle.std.specs.List.{AllByRecursion};
-ghost use Rattle.os_files.specs.Bytes.{Bytes, ticked};
+ghost use Rattle.base_files.specs.Bytes.{Bytes, ticked};
 ghost use Rattle.ckeys_records.specs.Causes.{HasOwnFault};
 ghost use Rattle.ckeys_base.specs.Shelf.{Asks};
-ghost use Rattle.os_files.specs.Path.{join};
-ghost use Rattle.os_files.specs.Views.{FilesFail};
+ghost use Rattle.base_files.specs.Path.{join};
+ghost use Rattle.base_files.specs.Views.{FilesFail};
 ghost use Rattle.ckeys.specs.Calls.{early_fault_of, key_fault_of, PrintedCall, needs_preprocessing, printed_call, record_by, record_of, text_fault_by, text_fault_of, text_of};
 ghost use Rattle.ckeys_records.specs.Faults.{FileCause, KeyCause};
 ghost use Rattle.ckeys.specs.Entries.{EntryInvariant, EntryPremises, IsFramed, asking, entry_key_of, has_entry_key};
@@ -26,14 +26,14 @@ use crate::known::Known;
 use crate::laws::records_are_true;
 use crate::needed::{extra_hashes, needed_contents};
 use crate::place::CallPlace;
+use base_files::{Files, OsBytes};
 use ckeys_base::{HashState, Store};
+use ckeys_entry_keys::entry_key::{EntryKey, entry_keys_are_their_fields};
+use ckeys_include_records::{KeyText, PreprocessorCacheEntry};
 use ckeys_records::shape::CShape;
 use ckeys_records::{Fault, HashKeyParams, Preprocessor, Step, ToolFail, tell_lengths};
 use cmdlines_requests::ParsedArguments;
 use cmdlines_tables::language::Language;
-use entry_keys::entry_key::{EntryKey, entry_keys_are_their_fields};
-use include_records::{KeyText, PreprocessorCacheEntry};
-use os_files::{Files, OsBytes};
 use std::alloc::{AllocError, Global};
 
 /// What a request asks for, and of which compiler.

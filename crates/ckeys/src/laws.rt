@@ -1,17 +1,17 @@
 //! Laws of keys over include records. Calls of them do nothing.
 
 ghost use Rattle.std.specs.Prelude.{◌≡◌, ℕ, List, [], ◌∷◌, ◌++◌};
-ghost use Rattle.os_files.specs.Bytes.{Bytes};
+ghost use Rattle.base_files.specs.Bytes.{Bytes};
 ghost use Rattle.ckeys.specs.Calls.{PrintedCall};
 ghost use Rattle.ckeys.specs.Entries.{AreTrue, EntryInvariant, EntryPremises, Held, asking};
 ghost use Rattle.ckeys.specs.EntryTurns.{EntryTurn};
 ghost use Rattle.ckeys_records.specs.Folders.{Settings};
-ghost use Rattle.entry_keys.specs.declared.entry_key.EntryKey.{EntryKey};
-ghost use Rattle.include_records.specs.Records.{Record};
+ghost use Rattle.ckeys_entry_keys.specs.declared.entry_key.EntryKey.{EntryKey};
+ghost use Rattle.ckeys_include_records.specs.Records.{Record};
 ghost use Rattle.ckeys_base.specs.Shelf.{Shelf};
 
 use ckeys_base::{HashState, texts_tell_digests};
-use entry_keys::entry_keys_tell_calls;
+use ckeys_entry_keys::entry_keys_tell_calls;
 
 /// What the include records of earlier calls say is true of this call, where digests are distinct and texts are printed again; and
 /// each call leaves records of which that can be said again, with no premise.

@@ -21,10 +21,19 @@ pub use ckeys_base::{
     normalize_path, normalize_win_path, resolve_compiler_avoiding_wrapper, strip_basedirs,
     strip_basedirs_from_arg,
 };
+pub use ckeys_entry_keys::entry_key::EntryKey;
+pub use ckeys_entry_keys::preprocessor_cache_entry_hash_key;
+pub use ckeys_include_records::{IncludeEntry, KeyText, PreprocessorCacheEntry};
+pub use ckeys_marker_walk::walk::walk;
+pub use ckeys_marker_walk::{Markers, Walk};
 pub use ckeys_records::shape::CShape;
 pub use ckeys_records::{
     CACHE_VERSION, ConfigError, Fault, HashKeyParams, KeyConfig, Preprocessor, Printed, Step,
     Ticks, ToolFail, hash_arguments,
+};
+pub use ckeys_time_macros::{
+    MetadataCtimeExt, TimeMacroFinder, Timestamp, Zone, ZoneError, local_day,
+    reader_sync_time_macros,
 };
 pub use cmdlines_base::ArtifactDescriptor;
 pub use cmdlines_requests::ParsedArguments;
@@ -33,15 +42,6 @@ pub use cmdlines_tables::language::Language;
 pub use compiler::CCompiler;
 pub use compiler_impl::CCompilerImpl;
 pub use contents::KeyContents;
-pub use entry_keys::entry_key::EntryKey;
-pub use entry_keys::preprocessor_cache_entry_hash_key;
 pub use hasher::{CCompilerHasher, needs_c_preprocessing};
-pub use include_records::{IncludeEntry, KeyText, PreprocessorCacheEntry};
 pub use laws::{entry_premises_can_be_met, records_are_true};
-pub use marker_walk::walk::walk;
-pub use marker_walk::{Markers, Walk};
 pub use place::CallPlace;
-pub use time_macros::{
-    MetadataCtimeExt, TimeMacroFinder, Timestamp, Zone, ZoneError, local_day,
-    reader_sync_time_macros,
-};

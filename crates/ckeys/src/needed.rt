@@ -1,16 +1,16 @@
 //! Files that a key needs: they are there, or there is no key.
 
 ghost use Rattle.std.specs.Prelude.{◌≡◌, None, [], ◌∷◌, map, string_bytes, IfOk, IfErr, OnOk};
-ghost use Rattle.os_files.specs.Path.{join};
-ghost use Rattle.os_files.specs.Views.{FilesFail};
+ghost use Rattle.base_files.specs.Path.{join};
+ghost use Rattle.base_files.specs.Views.{FilesFail};
 ghost use Rattle.ckeys_base.specs.Hex.{hex_of};
-ghost use Rattle.include_records.specs.Surroundings.{contents_in};
+ghost use Rattle.ckeys_include_records.specs.Surroundings.{contents_in};
 ghost use Rattle.ckeys_records.specs.Causes.{HasOwnFault};
 ghost use Rattle.ckeys_records.specs.Faults.{FileCause, first_missing};
 
+use base_files::{FileFail, Files, Listed, OsBytes, join};
 use ckeys_base::{Digest, HashState};
 use ckeys_records::Fault;
-use os_files::{FileFail, Files, Listed, OsBytes, join};
 use std::alloc::Global;
 
 /// The digest of a file that is needed, which is read from that directory.

@@ -1,11 +1,11 @@
 //! Where and when a request is asked.
 
 ghost use Rattle.std.specs.Prelude.{◌≡◌};
-ghost use Rattle.time_macros.specs.Days.{local_day};
+ghost use Rattle.ckeys_time_macros.specs.Days.{local_day};
 
+use base_files::OsBytes;
+use ckeys_include_records::day_of;
 use ckeys_records::KeyConfig;
-use include_records::day_of;
-use os_files::OsBytes;
 
 /// The directory, the variables, the moment and the configuration.
 #[derive(Clone, Copy)]

@@ -7,7 +7,7 @@ use Rattle.std.specs.Char.Escape.{escape_ascii, short_escape, hex_digit_at}
 use Rattle.std.proofs.lemmas.Bool.{and_parts, cases_eq, ne_eqb, eqb-true, lt-ltb}
 use Rattle.std.proofs.lemmas.List.{append-nil}
 use Rattle.std.proofs.lemmas.Str.{digit_value-digit_char}
-use Rattle.os_files.specs.Bytes.{Bytes}
+use Rattle.base_files.specs.Bytes.{Bytes}
 use Rattle.ckeys_base.specs.Escapes.{Spells, itself, by_letter, by_digits, IsReading, meaning}
 use Rattle.ckeys_base.specs.EscapeSteps.{first_spelled, behind_backslash, two_digits}
 

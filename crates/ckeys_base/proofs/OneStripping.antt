@@ -1,6 +1,6 @@
 -- The one stripping of a text, and what is left by it.
 use Rattle.std.proofs.Common.{◌≡◌, ℕ, ◌<◌, List, [], length, ap, sym, ◌∙◌, arith}
-use Rattle.os_files.specs.Bytes.{Bytes}
+use Rattle.base_files.specs.Bytes.{Bytes}
 use Rattle.ckeys_base.specs.FolderPlaces.{Places, longest}
 use Rattle.ckeys_base.specs.Stripping.{IsStripping, HasExactlyOne, left_by}
 use Rattle.ckeys_base.specs.FromTheLeft.{cuts, stripped_of}

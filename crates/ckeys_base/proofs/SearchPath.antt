@@ -6,8 +6,8 @@ use Rattle.std.specs.Str.{bytes_eq}
 use Rattle.std.specs.Borrow.{Bor}
 use Rattle.std.specs.Option.{option_map_or, option_and_then}
 use Rattle.std.proofs.lemmas.List.{drop_more}
-use Rattle.os_files.specs.Bytes.{Bytes}
-use Rattle.os_files.specs.Path.{join, file_name}
+use Rattle.base_files.specs.Bytes.{Bytes}
+use Rattle.base_files.specs.Path.{join, file_name}
 use Rattle.ckeys_base.specs.Wrapper.{Variables, value_of, folders_in, offers}
 
 -- the first of these variables has the name

@@ -5,7 +5,7 @@ use Rattle.std.proofs.lemmas.Bool.{and_parts, cases_lt, eq-eqb}
 use Rattle.std.proofs.lemmas.List.{get_or-drop}
 use Rattle.std.proofs.lemmas.Slice.Eq.{starts_is}
 use Rattle.std.proofs.lemmas.Bool.Decides.{Decides-eqb}
-use Rattle.os_files.specs.Bytes.{Bytes}
+use Rattle.base_files.specs.Bytes.{Bytes}
 use Rattle.memchr.specs.Find.{Passes, is_byte, Nowhere}
 use Rattle.ckeys_base.specs.FolderPlaces.{Places, counts, counted_len, longest}
 use Rattle.ckeys_base.specs.FromTheLeft.{all_begin_with_slash}

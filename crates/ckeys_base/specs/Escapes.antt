@@ -4,7 +4,7 @@ use Rattle.std.specs.List.{AllZip, concat}
 use Rattle.std.specs.Char.{digit_value, is_digit}
 use Rattle.std.specs.Char.Escape.{backslash}
 use Rattle.std.specs.Str.{byte}
-use Rattle.os_files.specs.Bytes.{Bytes}
+use Rattle.base_files.specs.Bytes.{Bytes}
 
 -- the byte that a backslash and this letter stand for
 abbrev pub meaning : ℕ → Option ℕ

@@ -2,7 +2,7 @@
 use Rattle.std.specs.Prelude.{◌≡◌, ◌<◌, List, [], ◌∷◌, ◌++◌, codes, length, Option, IfSome}
 use Rattle.std.specs.List.{All, FoldsTo, flat_map}
 use Rattle.std.specs.Fn.{Mut, CalledAt}
-use Rattle.os_files.specs.Bytes.{Bytes}
+use Rattle.base_files.specs.Bytes.{Bytes}
 use denote.Ref.{Bor}
 use Rattle.ckeys_base.specs.Hex.{hex_of}
 

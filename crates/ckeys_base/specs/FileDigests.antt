@@ -1,8 +1,8 @@
 -- The digests of files, as text.
 use Rattle.std.specs.Prelude.{List, [], ◌∷◌, Option, Some, option_and_then}
 use Rattle.std.specs.Option.{option_map}
-use Rattle.os_files.specs.Bytes.{Bytes}
-use Rattle.os_files.specs.Tree.{Tree, contents_at}
+use Rattle.base_files.specs.Bytes.{Bytes}
+use Rattle.base_files.specs.Tree.{Tree, contents_at}
 use Rattle.ckeys_base.specs.Hex.{hex_of}
 
 -- the digest of the contents of the regular file of that name

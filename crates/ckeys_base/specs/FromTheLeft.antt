@@ -1,7 +1,7 @@
 -- The one stripping of a text, as it is found from the left.
 use Rattle.std.specs.Prelude.{ℕ, zero, suc, ◌+◌, ◌-◌, ◌==◌, Bool, nat_eq, nat_lt, Option, Some, None, List, [], ◌∷◌, length, codes, if◌then◌else◌}
 use Rattle.std.specs.List.{starts_with, list_all}
-use Rattle.os_files.specs.Bytes.{Bytes}
+use Rattle.base_files.specs.Bytes.{Bytes}
 use Rattle.ckeys_base.specs.declared.strip.places.Kind.{Kind}
 use Rattle.ckeys_base.specs.declared.strip.places.Kind.TheVariants.{Text, Argument}
 use Rattle.ckeys_base.specs.FolderPlaces.{Places, text_places, argument_places, longest}

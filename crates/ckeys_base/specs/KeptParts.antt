@@ -1,6 +1,6 @@
 -- The slices that an iterator still gives.
 use Rattle.std.specs.Prelude.{ℕ, List, [], Option, None, Some}
-use Rattle.os_files.specs.Bytes.{Bytes}
+use Rattle.base_files.specs.Bytes.{Bytes}
 use Rattle.ckeys_base.specs.declared.strip.slices.KeptSlices.{KeptSlices}
 use Rattle.ckeys_base.specs.FolderPlaces.{longest}
 use Rattle.ckeys_base.specs.FromTheLeft.{places_of, kept_parts}

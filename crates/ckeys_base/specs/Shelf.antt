@@ -1,6 +1,6 @@
 -- What a store holds, and what its calls do to it.
 use Rattle.std.specs.Prelude.{◌≡◌, ◌⊎◌, ◌↔◌, ℕ, Option, Some, None, Bool, true, IsSome, IsNone, Result, IsOk, MatchResult}
-use Rattle.os_files.specs.Bytes.{ticked}
+use Rattle.base_files.specs.Bytes.{ticked}
 
 -- what can be seen of a store
 pub record Shelf (K V : Type 0) : Type 0 where

@@ -1,7 +1,7 @@
 -- What goes from a text of n bytes, where `width i` is how much goes at place i, or 0.
 use Rattle.std.specs.Prelude.{◌≡◌, ℕ, ◌+◌, ◌<◌, ◌≤◌, ◌⊎◌, Bool, false, true, List, [], ◌∷◌, drop, filter, slice_range}
 use Rattle.std.specs.List.{AllByRecursion, flat_map}
-use Rattle.os_files.specs.Bytes.{Bytes}
+use Rattle.base_files.specs.Bytes.{Bytes}
 
 -- each interval begins no earlier than `from`, and where the one before it ends or later
 abbrev pub AreApart : (ℕ → ℕ) → ℕ → List ℕ → Type 0

@@ -4,9 +4,9 @@ use Rattle.std.specs.List.{slice_split, find}
 use Rattle.std.specs.Map.{lookup}
 use Rattle.std.specs.Option.{option_map_or, option_and_then, unwrap_or}
 use Rattle.std.specs.Str.{byte, bytes_eq}
-use Rattle.os_files.specs.Bytes.{Bytes}
-use Rattle.os_files.specs.Path.{join, file_name}
-use Rattle.os_files.specs.Tree.{Tree, is_file_at, canonical_at}
+use Rattle.base_files.specs.Bytes.{Bytes}
+use Rattle.base_files.specs.Path.{join, file_name}
+use Rattle.base_files.specs.Tree.{Tree, is_file_at, canonical_at}
 
 -- the file name in a name is the wrapper's
 abbrev pub names_wrapper : Bytes → Bool

@@ -1,7 +1,7 @@
 //! Hash functions, as states that take bytes piece by piece.
 
 ghost use Rattle.std.specs.Prelude.{◌≡◌, ℕ, [], ◌++◌, IfOk, length, vec_len};
-ghost use Rattle.os_files.specs.Bytes.{Bytes};
+ghost use Rattle.base_files.specs.Bytes.{Bytes};
 ghost use Rattle.sha2.specs.Hashers.{Holds256};
 ghost use Rattle.sha2.specs.Sha256.{sha256};
 ghost use Rattle.sha2.proofs.Facts256.{length-sha256};

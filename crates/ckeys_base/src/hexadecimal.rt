@@ -1,7 +1,7 @@
 //! Hexadecimal text, the low half of each byte first.
 
 ghost use Rattle.std.specs.Prelude.{◌≡◌, ◌*◌, ◌<◌, IfOk, length, string_bytes};
-ghost use Rattle.os_files.specs.Bytes.{Bytes};
+ghost use Rattle.base_files.specs.Bytes.{Bytes};
 ghost use Rattle.ckeys_base.specs.Hex.{AreBytes, digit_of, hex_of};
 
 use std::alloc::{AllocError, Global};

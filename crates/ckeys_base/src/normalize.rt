@@ -4,10 +4,10 @@ ghost use Rattle.std.specs.Prelude.{◌≡◌, ◌++◌, IfOk, OnOk, map};
 ghost use Rattle.std.specs.List.{join_with_byte};
 ghost use Rattle.std.specs.Str.{byte};
 ghost use Rattle.ckeys_base.specs.NormalPath.{normal_path, win_byte, followed_by};
-ghost use Rattle.os_files.specs.Path.{part_of};
+ghost use Rattle.base_files.specs.Path.{part_of};
 ghost use Rattle.ckeys_base.specs.NormalPath as spec;
 
-use os_files::{Component, OsBytes, components};
+use base_files::{Component, OsBytes, components};
 use std::alloc::{AllocError, Global};
 
 /// The path without `.`, and without each `..` and the component that it takes away: the one before

@@ -1,9 +1,9 @@
 //! What words that need not be text begin with.
 
 ghost use Rattle.std.specs.Prelude.{◌≡◌, ◌↔◌, ◌++◌, IsTrue, MatchOption};
-ghost use Rattle.os_files.specs.Bytes.{Bytes};
+ghost use Rattle.base_files.specs.Bytes.{Bytes};
 
-use os_files::OsBytes;
+use base_files::OsBytes;
 
 /// A byte string and text before it.
 pub trait OsStrExt {

@@ -3,7 +3,7 @@
 ghost use Rattle.std.specs.Prelude.{◌≡◌, IfOk, OnOk};
 ghost use Rattle.std.specs.Io.KnownBytes.{Appends};
 
-use os_files::OsBytes;
+use base_files::OsBytes;
 use std::alloc::{AllocError, Global};
 use std::io::{self, Write};
 

@@ -3,7 +3,7 @@
 ghost use Rattle.std.specs.Prelude.{◌≡◌, ◌↔◌, ◌<◌, ◌≤◌, ℕ, Bool, false, List, [], IfOk, IsOk, length};
 ghost use Rattle.std.specs.List.{AllByRecursion, list_any};
 ghost use Rattle.std.specs.Cow.{cow_slice_items, IsBorrowedSlice};
-ghost use Rattle.os_files.specs.Bytes.{Bytes};
+ghost use Rattle.base_files.specs.Bytes.{Bytes};
 ghost use Rattle.ckeys_base.specs.FolderPlaces.{Places, text_places, argument_places, longest};
 ghost use Rattle.ckeys_base.specs.FromTheLeft.{places_of, stripped_of};
 ghost use Rattle.ckeys_base.specs.Feeding.{joined};
@@ -13,7 +13,7 @@ ghost use Rattle.ckeys_base.specs.Stripping.{IsStripping, HasExactlyOne, filled,
 mod places;
 mod slices;
 
-use os_files::OsBytes;
+use base_files::OsBytes;
 use places::Kind;
 pub use slices::KeptSlices;
 use slices::{next_place, next_start};

@@ -5,7 +5,7 @@ ghost use Rattle.std.specs.List.{AllByRecursion, flat_map};
 ghost use Rattle.std.specs.Option.{SomeIff, option_map};
 ghost use Rattle.std.specs.Char.{digit_value};
 ghost use Rattle.std.specs.Char.Escape.{escape_ascii};
-ghost use Rattle.os_files.specs.Bytes.{Bytes};
+ghost use Rattle.base_files.specs.Bytes.{Bytes};
 ghost use Rattle.ckeys_base.specs.Escapes.{IsReading, meaning};
 ghost use Rattle.ckeys_base.specs.EscapeSteps.{first_spelled, two_digits};
 

@@ -2,12 +2,12 @@
 
 ghost use Rattle.std.specs.Prelude.{◌≡◌, IfOk, IsErrOf, map};
 ghost use Rattle.std.specs.Option.{option_copied};
-ghost use Rattle.os_files.specs.Bytes.{Bytes};
-ghost use Rattle.os_files.specs.Views.{FilesFail};
+ghost use Rattle.base_files.specs.Bytes.{Bytes};
+ghost use Rattle.base_files.specs.Views.{FilesFail};
 ghost use Rattle.ckeys_base.specs.Wrapper.{resolved, names_wrapper};
 ghost use Rattle.ckeys_base.specs.Wrapper as spec;
 
-use os_files::{FileFail, Files, OsBytes, file_name, join};
+use base_files::{FileFail, Files, OsBytes, file_name, join};
 use std::alloc::{AllocError, Global};
 
 /// The executable, unless the file name of its canonical name is `sccache`. Then the first file of

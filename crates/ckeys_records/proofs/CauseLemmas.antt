@@ -1,7 +1,7 @@
 -- Causes of faults: what holds in each stage, and what follows from a cause.
 use Rattle.std.proofs.Common.{◌≡◌, inl, inr, refl, ap, ◌∙◌, Option, Some, None}
 use Rattle.std.specs.Option.{option_map}
-use Rattle.os_files.specs.Bytes.{Bytes}
+use Rattle.base_files.specs.Bytes.{Bytes}
 use Rattle.ckeys_records.specs.Faults.{FileCause}
 use Rattle.ckeys_records.specs.Causes.{Cause, of_memory, of_file, of_tool, of_key, of_compile, Stage, any_time, before_compile, in_compile, ByStage, IsCaused, IsCausedBy, cause_of, no_step, stage_by, stage_of}
 use Rattle.ckeys_records.specs.declared.fault.Fault.{Fault}

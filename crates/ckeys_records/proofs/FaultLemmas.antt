@@ -1,8 +1,8 @@
 -- Faults on their way to the answer of a call.
 use Rattle.std.proofs.Common.{◌≡◌, ℕ, Result, Ok, Err, IfErr, IsErrAnd, sym, subst, ◌∙◌}
-use Rattle.os_files.specs.Bytes.{Bytes}
-use Rattle.os_files.specs.Fails.{FailsOn}
-use Rattle.os_files.specs.Tree.{Tree}
+use Rattle.base_files.specs.Bytes.{Bytes}
+use Rattle.base_files.specs.Fails.{FailsOn}
+use Rattle.base_files.specs.Tree.{Tree}
 use Rattle.ckeys_records.specs.Meaning.{FailsIn, Meaning}
 use Rattle.ckeys_records.specs.declared.fault.Fault.{Fault}
 use Rattle.ckeys_records.specs.declared.step.Step.{Step}

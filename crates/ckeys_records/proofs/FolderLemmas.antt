@@ -1,8 +1,8 @@
 -- Folders without the slashes at their ends.
 use Rattle.std.proofs.Common.{◌≡◌, ℕ, Bool, true, false, ◌&&◌, [], ◌∷◌, ◌++◌, refl, ap, sym, ◌∙◌, cond}
 use Rattle.std.specs.List.{list_all}
-use Rattle.os_files.specs.Bytes.{Bytes}
-use Rattle.os_files.specs.Path.{is_slash}
+use Rattle.base_files.specs.Bytes.{Bytes}
+use Rattle.base_files.specs.Path.{is_slash}
 use Rattle.ckeys_records.specs.Folders.{without_slashes}
 
 and_false : (s : Bool) → (s && false) ≡ false

@@ -1,7 +1,7 @@
 -- Keys determine records where digests are distinct.
 use Rattle.std.proofs.Common.{◌≡◌, inl, inr, suc, List, [], ◌∷◌, map, refl, ap, arith}
 use Rattle.std.specs.List.{Contains}
-use Rattle.os_files.specs.Bytes.{Bytes}
+use Rattle.base_files.specs.Bytes.{Bytes}
 use Rattle.ckeys_base.specs.Hex.{hex_of}
 use Rattle.ckeys_records.specs.Records.{CRecord, HashedParts, parts_of, AreTold}
 use Rattle.ckeys_records.specs.Keys.{AreDistinct, key_of, record_material, record_shape}

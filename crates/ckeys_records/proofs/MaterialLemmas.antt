@@ -5,7 +5,7 @@ use Rattle.std.specs.Int.{w64, to_le_bytes, from_le_bytes}
 use Rattle.std.specs.List.{list_any, AllByRecursion}
 use Rattle.std.specs.Option.{option_map}
 use Rattle.std.proofs.lemmas.Nat.{from_le_bytes-to_le_bytes_8}
-use Rattle.os_files.specs.Bytes.{Bytes}
+use Rattle.base_files.specs.Bytes.{Bytes}
 use Rattle.cmdlines_tables.specs.Languages.{name_of}
 use Rattle.ckeys_records.specs.Records.{Variable, HashedParts, LacksEnd, FitsLength, AreTold}
 use Rattle.ckeys_records.specs.Material.{cache_version, framed, variable_bytes, words_bytes, joined, variables_bytes, plusplus_byte, material_of, shape_of}

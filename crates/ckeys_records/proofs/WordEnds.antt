@@ -1,7 +1,7 @@
 -- Words without the byte that ends them.
 use Rattle.std.proofs.Common.{◌≡◌, ℕ, Bool, true, false, ◌||◌, ◌==◌, List, [], ◌∷◌, refl}
 use Rattle.std.specs.List.{AllByRecursion, list_any}
-use Rattle.os_files.specs.Bytes.{Bytes}
+use Rattle.base_files.specs.Bytes.{Bytes}
 use Rattle.ckeys_base.specs.FolderPlaces.{Places, argument_places}
 use Rattle.ckeys_base.specs.FromTheLeft.{stripped_of}
 use Rattle.ckeys_records.specs.Params.{stripped_words}

@@ -2,10 +2,10 @@
 use Rattle.std.specs.Prelude.{pos, if◌then◌else◌, List, find, Option, None, Some, is_none}
 use Rattle.std.specs.Option.{option_map}
 use Rattle.std.specs.Ordering.{int_eq}
-use Rattle.os_files.specs.Bytes.{Bytes}
-use Rattle.os_files.specs.Tree.{Tree, contents_at}
-use Rattle.response_files.specs.declared.fault.ParseFault.{ParseFault}
-use Rattle.response_files.specs.declared.fault.ParseFault.TheVariants as files_faults
+use Rattle.base_files.specs.Bytes.{Bytes}
+use Rattle.base_files.specs.Tree.{Tree, contents_at}
+use Rattle.cmdlines_response_files.specs.declared.fault.ParseFault.{ParseFault}
+use Rattle.cmdlines_response_files.specs.declared.fault.ParseFault.TheVariants as files_faults
 use Rattle.ckeys_records.specs.Causes.{ByStage, IsCaused, no_step, stage_of}
 use Rattle.ckeys_records.specs.Meaning.{Made}
 use Rattle.ckeys_records.specs.declared.fault.Fault.{Fault}

@@ -1,9 +1,9 @@
 -- The folders that a configuration holds.
 use Rattle.std.specs.Prelude.{◌≡◌, Bool, true, not, ◌||◌, if◌then◌else◌, List, [], ◌∷◌, Option, Some}
 use Rattle.std.specs.List.{list_all}
-use Rattle.os_files.specs.Bytes.{Bytes}
-use Rattle.os_files.specs.Path.{is_absolute, is_slash}
-use Rattle.time_macros.specs.Days.{ZoneRule}
+use Rattle.base_files.specs.Bytes.{Bytes}
+use Rattle.base_files.specs.Path.{is_absolute, is_slash}
+use Rattle.ckeys_time_macros.specs.Days.{ZoneRule}
 use Rattle.ckeys_records.specs.declared.config.ConfigError.{ConfigError}
 use Rattle.ckeys_records.specs.declared.config.ConfigError.TheVariants.{Memory, BadFolder}
 

@@ -1,11 +1,11 @@
 -- The bytes in which the cache keeps the names of outputs and what the hashed bytes don't determine.
 use Rattle.std.proofs.Common.{ℕ, Bool, List, Option, refl}
-use Rattle.os_files.specs.Bytes.{Bytes}
-use Rattle.byte_formats.specs.Choices.{AnyFits, coded, coded_at, flag_code, flag_format, flag_of}
-use Rattle.byte_formats.specs.FieldFormats.{both_format, counted_format, framed_format, made_format, number_format, optional_format}
-use Rattle.byte_formats.specs.Formats.{IsFormat}
-use Rattle.byte_formats.specs.Reading.{Read, both_at, counted_at, framed_at, made_at, number_at, optional_at}
-use Rattle.byte_formats.specs.Spelling.{BothFit, CountFits, FitsFrame, FitsNumber, IfFits, both, counted, framed, number, optional}
+use Rattle.base_files.specs.Bytes.{Bytes}
+use Rattle.base_formats.specs.Choices.{AnyFits, coded, coded_at, flag_code, flag_format, flag_of}
+use Rattle.base_formats.specs.FieldFormats.{both_format, counted_format, framed_format, made_format, number_format, optional_format}
+use Rattle.base_formats.specs.Formats.{IsFormat}
+use Rattle.base_formats.specs.Reading.{Read, both_at, counted_at, framed_at, made_at, number_at, optional_at}
+use Rattle.base_formats.specs.Spelling.{BothFit, CountFits, FitsFrame, FitsNumber, IfFits, both, counted, framed, number, optional}
 use Rattle.cmdlines_tables.specs.LanguageBytes.{language_code, language_format, language_of}
 use Rattle.cmdlines_tables.specs.declared.language.Language.{Language}
 use Rattle.ckeys_records.specs.declared.output_name.OutputName.{OutputName}

@@ -1,7 +1,7 @@
 -- The key of a record, its shape, and which strings are hashed for it.
 use Rattle.std.specs.Prelude.{◌≡◌, ◌⊎◌}
 use Rattle.std.specs.List.{Contains}
-use Rattle.os_files.specs.Bytes.{Bytes}
+use Rattle.base_files.specs.Bytes.{Bytes}
 use Rattle.ckeys_base.specs.Hex.{hex_of}
 use Rattle.ckeys_records.specs.Records.{CRecord, parts_of}
 use Rattle.ckeys_records.specs.Material.{material_of, shape_of}

@@ -1,7 +1,7 @@
 -- What a tool means: one function of the step, what it is asked, the outputs asked for and the scene.
 use Rattle.std.specs.Prelude.{◌≡◌, ◌⊎◌, ℕ, ℤ, List, [], ◌∷◌, Option, None, Some, map}
-use Rattle.os_files.specs.Bytes.{Bytes, ticked}
-use Rattle.os_files.specs.Tree.{Tree}
+use Rattle.base_files.specs.Bytes.{Bytes, ticked}
+use Rattle.base_files.specs.Tree.{Tree}
 use Rattle.cmdlines_base.specs.Reading.{Reading}
 use Rattle.cmdlines_base.specs.declared.command.SingleCompileCommand.{SingleCompileCommand}
 use Rattle.cmdlines_base.specs.Artifacts.{Artifacts}

@@ -2,7 +2,7 @@
 use Rattle.std.specs.Prelude.{Bool, false, ◌||◌, List, [], ◌++◌, map, filter, string_bytes, codes, Option, None}
 use Rattle.std.specs.Option.{option_map}
 use Rattle.std.specs.Str.{bytes_eq}
-use Rattle.os_files.specs.Bytes.{Bytes}
+use Rattle.base_files.specs.Bytes.{Bytes}
 use Rattle.cmdlines_tables.specs.declared.language.Language.{Language}
 use Rattle.ckeys_base.specs.FolderPlaces.{text_places, argument_places}
 use Rattle.ckeys_base.specs.FromTheLeft.{stripped_of}

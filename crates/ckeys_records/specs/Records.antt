@@ -1,7 +1,7 @@
 -- What a key of a C request represents, and the parts that are hashed for it.
 use Rattle.std.specs.Prelude.{◌≡◌, ◌<◌, ◌^◌, Bool, false, ◌==◌, List, map, length, Option}
 use Rattle.std.specs.List.{AllByRecursion, list_any}
-use Rattle.os_files.specs.Bytes.{Bytes}
+use Rattle.base_files.specs.Bytes.{Bytes}
 use Rattle.ckeys_base.specs.Hex.{hex_of}
 use Rattle.cmdlines_tables.specs.declared.language.Language.{Language}
 

@@ -1,6 +1,6 @@
 -- What clauses see of a tool, as one value: its meaning, its ticks, and by which call it had an I/O error.
 use Rattle.std.specs.Prelude.{◌≡◌}
-use Rattle.os_files.specs.Views.{FilesView}
+use Rattle.base_files.specs.Views.{FilesView}
 use Rattle.ckeys_records.specs.Meaning.{FailsIn}
 use Rattle.ckeys_records.specs.declared.preprocessor.Preprocessor.{Ghosts}
 use Rattle.ckeys_records.specs.declared.step.Step.{Step}

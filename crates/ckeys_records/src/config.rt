@@ -3,11 +3,11 @@
 ghost use Rattle.std.specs.Prelude.{◌≡◌, false, true, None, find, map, IfOk, IfErr, OnOk};
 ghost use Rattle.ckeys_records.specs.Folders.{is_bad, without_slashes, settings_with, ConfigCause, FolderCause};
 
-use os_files::{Listed, OsBytes};
+use base_files::{Listed, OsBytes};
+use ckeys_time_macros::Zone;
 use std::alloc::{AllocError, Global};
 use std::marker::Model;
 use thiserror::Error;
-use time_macros::Zone;
 
 /// Why there is no configuration.
 #[derive(Clone, Debug, Drop, Error, PartialEq, Eq)]

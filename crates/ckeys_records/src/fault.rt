@@ -3,8 +3,8 @@
 ghost use Rattle.std.specs.Prelude.{◌≡◌};
 
 use crate::step::Step;
-use os_files::OsBytes;
-use response_files::ParseFault;
+use base_files::OsBytes;
+use cmdlines_response_files::ParseFault;
 use std::alloc::{AllocError, AllocFailed};
 use thiserror::Error;
 

@@ -1,7 +1,7 @@
 //! Laws of records and their keys. Calls of them do nothing.
 
 ghost use Rattle.std.specs.Prelude.{◌≡◌, ◌↔◌};
-ghost use Rattle.os_files.specs.Bytes.{Bytes};
+ghost use Rattle.base_files.specs.Bytes.{Bytes};
 ghost use Rattle.ckeys_base.specs.FolderPlaces.{text_places};
 ghost use Rattle.ckeys_base.specs.FromTheLeft.{stripped_of};
 ghost use Rattle.ckeys_records.specs.Records.{CRecord, HashedParts, AreTold};

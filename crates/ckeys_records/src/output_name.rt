@@ -2,8 +2,8 @@
 
 ghost use Rattle.ckeys_records.specs.Formats.{NameFits, name_at, name_bytes, name_format};
 
-use byte_formats::{Field, ReadFault};
-use os_files::OsBytes;
+use base_files::OsBytes;
+use base_formats::{Field, ReadFault};
 use std::alloc::{AllocError, Global};
 
 /// An output that is asked for: its name, and whether a compile may leave it out.
@@ -23,7 +23,7 @@ impl Field for OutputName {
 
     ghost is_format = { name_format };
 
-    #[tactic(auto, unfolding(crate::specs::Formats::name_at, byte_formats::specs::Reading::both_at, byte_formats::specs::Reading::made_at))]
+    #[tactic(auto, unfolding(crate::specs::Formats::name_at, base_formats::specs::Reading::both_at, base_formats::specs::Reading::made_at))]
     fn read(alloc: Global, bytes: &[u8]) -> Result<(OutputName, &[u8]), ReadFault> {
         let (name, rest) = OsBytes::read(alloc, bytes)?;
         let (optional, rest) = bool::read(alloc, rest)?;

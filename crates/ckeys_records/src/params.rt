@@ -3,7 +3,7 @@
 ghost use Rattle.std.specs.Prelude.{◌≡◌, ◌<◌, ◌^◌, [], ◌∷◌, map, filter, length, string_bytes, IfOk, OnOk};
 ghost use Rattle.std.specs.List.{AllByRecursion};
 ghost use Rattle.std.specs.Option.{option_map};
-ghost use Rattle.os_files.specs.Bytes.{Bytes};
+ghost use Rattle.base_files.specs.Bytes.{Bytes};
 ghost use Rattle.ckeys_base.specs.FolderPlaces.{text_places};
 ghost use Rattle.ckeys_base.specs.FromTheLeft.{stripped_of};
 ghost use Rattle.ckeys_base.specs.Hex.{hex_of};
@@ -12,9 +12,9 @@ ghost use Rattle.ckeys_records.specs.Records.{FitsLength};
 ghost use Rattle.ckeys_records.specs.Params.{handed_alone, handed_of, parts_handed, is_cached, stripped_words, IsFed};
 
 use crate::shape::CShape;
+use base_files::{Listed, OsBytes};
 use ckeys_base::{Digest, HashState, kept_slices, strip_basedirs_from_arg};
 use cmdlines_tables::language::Language;
-use os_files::{Listed, OsBytes};
 use std::alloc::{AllocError, Global};
 
 /// The version of the layout of what is hashed.

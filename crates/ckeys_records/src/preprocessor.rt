@@ -1,14 +1,14 @@
 //! Preprocessors.
 
 ghost use Rattle.std.specs.Prelude.{◌≡◌, ◌⊎◌, ℕ, [], ◌∷◌, Some, IfOk, IsErrOf};
-ghost use Rattle.os_files.specs.Bytes.{ticked};
+ghost use Rattle.base_files.specs.Bytes.{ticked};
 ghost use Rattle.ckeys_records.specs.Meaning.{Meaning, scene_of, made_of, asked_of};
 ghost use Rattle.ckeys_records.specs.declared.step.Step.{Step};
 
 use crate::step::Step;
+use base_files::{Files, OsBytes};
 use cmdlines_base::SingleCompileCommand;
 use cmdlines_tables::CCompilerKind;
-use os_files::{Files, OsBytes};
 use std::alloc::{AllocError, Global};
 use thiserror::Error;
 

@@ -1,13 +1,13 @@
 //! Tools that report what rustc depends on and what it writes.
 
 ghost use Rattle.std.specs.Prelude.{◌≡◌, ◌⊎◌, ℕ, ℤ, pos, [], ◌∷◌, Some, IfOk, IsErrOf};
-ghost use Rattle.os_files.specs.Bytes.{ticked};
+ghost use Rattle.base_files.specs.Bytes.{ticked};
 ghost use Rattle.ckeys_records.specs.Meaning.{Scene, archive, made_of, scene_of, words};
 
 use crate::preprocessor::{Preprocessor, Printed, ToolFail};
 use crate::step::Step;
+use base_files::{Files, OsBytes};
 use cmdlines_base::SingleCompileCommand;
-use os_files::{Files, OsBytes};
 use std::alloc::Global;
 
 /// What rustc answers before a request has its key. Its answers don't depend on the moment.

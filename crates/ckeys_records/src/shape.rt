@@ -2,9 +2,9 @@
 
 ghost use Rattle.ckeys_records.specs.Formats.{ShapeFits, shape_at, shape_bytes, shape_format};
 
-use byte_formats::{Field, ReadFault};
+use base_files::Listed;
+use base_formats::{Field, ReadFault};
 use cmdlines_tables::language::Language;
-use os_files::Listed;
 use std::alloc::{AllocError, Global};
 
 /// The language, how long the digests are, and how many words and variables there are. The text's length is no part of
@@ -29,7 +29,7 @@ impl Field for CShape {
 
     ghost is_format = { shape_format };
 
-    #[tactic(auto, unfolding(crate::specs::Formats::shape_at, byte_formats::specs::Reading::both_at, byte_formats::specs::Reading::made_at))]
+    #[tactic(auto, unfolding(crate::specs::Formats::shape_at, base_formats::specs::Reading::both_at, base_formats::specs::Reading::made_at))]
     fn read(alloc: Global, bytes: &[u8]) -> Result<(CShape, &[u8]), ReadFault> {
         let (language, rest) = Language::read(alloc, bytes)?;
         let (compiler_digest, rest) = usize::read(alloc, rest)?;

@@ -2,12 +2,12 @@
 
 ghost use Rattle.std.specs.Prelude.{◌≡◌, false, List};
 ghost use Rattle.std.specs.List.{AllByRecursion};
-ghost use Rattle.os_files.specs.Bytes.{Bytes};
+ghost use Rattle.base_files.specs.Bytes.{Bytes};
 ghost use Rattle.ckeys_records.specs.Params.{stripped_words};
 ghost use Rattle.ckeys_records.specs.Records.{LacksEnd, hold_end, holds_end};
 
+use base_files::OsBytes;
 use ckeys_base::stripping_adds_no_byte;
-use os_files::OsBytes;
 
 /// Whether the word holds the byte 255.
 fn holds_word_end(word: &[u8]) -> bool

@@ -6,7 +6,7 @@ use Rattle.std.proofs.lemmas.List.Elements.{filter-append}
 use Rattle.std.specs.Prelude.{find}
 use Rattle.std.specs.List.{flat_map, list_any}
 use Rattle.std.specs.Option.{option_to_list}
-use Rattle.os_files.specs.Bytes.{Bytes}
+use Rattle.base_files.specs.Bytes.{Bytes}
 use Rattle.cmdlines_base.specs.Cutting.{Place, reading_at}
 use Rattle.cmdlines_base.specs.Printing.{is_empty_j, words_of}
 use Rattle.cmdlines_base.specs.Reading.{Item, Reading, raw, unknown, flag, valued, behind_dashes, before, nothing}

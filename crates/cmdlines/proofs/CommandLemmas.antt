@@ -3,7 +3,7 @@ use Rattle.std.proofs.Common.{◌≡◌, List, [], ◌∷◌, ◌++◌, Option, 
 use Rattle.std.proofs.lemmas.List.{map-append}
 use Rattle.std.specs.List.{list_any}
 use Rattle.std.specs.Prelude.{codes}
-use Rattle.os_files.specs.Bytes.{Bytes}
+use Rattle.base_files.specs.Bytes.{Bytes}
 use Rattle.cmdlines_base.specs.Again.{lets_dashes, is_clear, ReadsAgain, AllReadAgain, AllReadAgainUnlessEmpty, ReadsTogether}
 use Rattle.cmdlines_base.specs.Printing.{is_empty_j, normal, words_of}
 use Rattle.cmdlines_base.specs.Reading.{Item, raw, unknown, flag, valued, behind_dashes, is_behind, Reading, reading, before, all_before, all_behind, first_word, whole, awaits, ends, Reads, alone, with_value, options_end}

@@ -3,7 +3,7 @@ use Rattle.std.proofs.Common.{◌≡◌, ◌⊎◌, Bool, true, false, cond, ◌
 use Rattle.std.specs.Prelude.{codes, find, unwrap_or, is_some, nat_lt}
 use Rattle.std.specs.List.{AllByRecursion, flat_map, list_any}
 use Rattle.std.specs.Option.{option_map, option_to_list}
-use Rattle.os_files.specs.Bytes.{Bytes}
+use Rattle.base_files.specs.Bytes.{Bytes}
 use Rattle.cmdlines_base.specs.Reading.{Item, raw, unknown, flag, valued, behind_dashes, Start, whole, awaits, ends, Reading, loose, start_as, start_either, first_by, first_word, is_double_dash, from_last, from_first, unfinished, reading}
 use Rattle.cmdlines_base.specs.Table.{Entry, behind, fits, longer, longest_fit}
 use Rattle.cmdlines_base.specs.declared.argument.ArgDisposition.{ArgDisposition}

@@ -4,8 +4,8 @@ use Rattle.std.specs.Prelude.{codes, find}
 use Rattle.std.specs.List.{AllByRecursion}
 use Rattle.std.specs.Option.{option_map, option_and_then}
 use Rattle.std.specs.Str.{bytes_eq}
-use Rattle.os_files.specs.Bytes.{Bytes}
-use Rattle.os_files.specs.Path.{extension}
+use Rattle.base_files.specs.Bytes.{Bytes}
+use Rattle.base_files.specs.Path.{extension}
 use Rattle.cmdlines_base.specs.Reading.{Item, Reading}
 use Rattle.cmdlines_tables.specs.Languages.{Meant, extensions, knows, language_named, language_of_extension, meant_by, named}
 use Rattle.cmdlines_tables.specs.Tables.{entries_of, reading_of}

@@ -1,8 +1,8 @@
 -- The commands that are run for a request, and what the compiler's tables read of them.
 use Rattle.std.specs.Prelude.{◌≡◌, Bool, true, false, not, ◌&&◌, List, [], ◌∷◌, ◌++◌, map, Option, None, Some, unwrap_or, is_some, codes}
 use Rattle.std.specs.Option.{option_map, option_to_list}
-use Rattle.os_files.specs.Bytes.{Bytes}
-use Rattle.os_files.specs.Path.{with_extension}
+use Rattle.base_files.specs.Bytes.{Bytes}
+use Rattle.base_files.specs.Path.{with_extension}
 use Rattle.cmdlines_base.specs.Printing.{normal}
 use Rattle.cmdlines_base.specs.Reading.{Item, raw, flag, behind_dashes}
 use Rattle.cmdlines_base.specs.declared.command.ArtifactDescriptor.{ArtifactDescriptor}

@@ -3,7 +3,7 @@ use Rattle.std.specs.Prelude.{Bool, ℕ, List, Option, String, string_bytes}
 use Rattle.std.specs.Borrow.{Bor}
 use Rattle.std.specs.Option.{option_map}
 use Rattle.std.specs.declared.alloc.Global.{Global}
-use Rattle.os_files.specs.Bytes.{Bytes}
+use Rattle.base_files.specs.Bytes.{Bytes}
 use Rattle.cmdlines_tables.specs.declared.compiler.CCompilerKind.{CCompilerKind}
 
 -- beside its kind: whether it compiles C++ by itself, its version, and the digest of its assembler

@@ -1,7 +1,7 @@
 -- What one option adds to the lists: its words to its list, and its word alone where it is an input or an architecture or names a file.
 use Rattle.std.specs.Prelude.{List, ◌++◌}
 use Rattle.std.specs.Option.{option_to_list}
-use Rattle.os_files.specs.Bytes.{Bytes}
+use Rattle.base_files.specs.Bytes.{Bytes}
 use Rattle.cmdlines_tables.specs.Kinds.{is_arch, is_extra_file}
 use Rattle.cmdlines_tables.specs.declared.kind.ArgKind.{ArgKind}
 use Rattle.cmdlines_tables.specs.declared.kind.OptionList.{OptionList}

@@ -1,12 +1,12 @@
 -- Words that make a compiler read more than its command.
 use Rattle.std.specs.Prelude.{Bool, false, ◌==◌, ◌&&◌, ◌||◌, List, [], ◌∷◌, Option, Some}
 use Rattle.std.specs.List.{list_any}
-use Rattle.os_files.specs.Bytes.{Bytes}
+use Rattle.base_files.specs.Bytes.{Bytes}
 use Rattle.cmdlines_base.specs.Reading.{begins_with_at}
 use Rattle.cmdlines_tables.specs.CompilerFacts.{style_of}
 use Rattle.cmdlines_tables.specs.declared.compiler.CCompilerKind.{CCompilerKind}
-use Rattle.response_files.specs.declared.style.Style.{Style}
-use Rattle.response_files.specs.declared.style.Style.TheVariants.{Diab}
+use Rattle.cmdlines_response_files.specs.declared.style.Style.{Style}
+use Rattle.cmdlines_response_files.specs.declared.style.Style.TheVariants.{Diab}
 
 -- it begins with `-@`: 45 is '-'
 abbrev pub begins_with_dash_at : Bytes → Bool

@@ -1,6 +1,6 @@
 -- What one option adds to the facts: a flag, what it is for, and its word.
 use Rattle.std.specs.Prelude.{◌||◌}
-use Rattle.os_files.specs.Bytes.{Bytes}
+use Rattle.base_files.specs.Bytes.{Bytes}
 use Rattle.cmdlines_tables.specs.Kinds.{is_compile, is_output, is_diagnostics, blocks_preprocessor_cache, asks_dependencies, is_dependency_path, is_dependency_target}
 use Rattle.cmdlines_tables.specs.declared.kind.ArgKind.{ArgKind}
 use Rattle.cmdlines.specs.Wanted.{color_by, language_by}

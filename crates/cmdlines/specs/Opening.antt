@@ -1,12 +1,12 @@
 -- The words of a request, with those that name files which its compiler opens replaced by the words of these files.
 use Rattle.std.specs.Prelude.{List, Option, None, Some}
-use Rattle.os_files.specs.Bytes.{Bytes}
-use Rattle.os_files.specs.Tree.{Tree}
+use Rattle.base_files.specs.Bytes.{Bytes}
+use Rattle.base_files.specs.Tree.{Tree}
 use Rattle.cmdlines_tables.specs.CompilerFacts.{style_of}
 use Rattle.cmdlines_tables.specs.declared.compiler.CCompilerKind.{CCompilerKind}
-use Rattle.response_files.specs.Asking.{IsAskedFor}
-use Rattle.response_files.specs.Expansion.{expanded}
-use Rattle.response_files.specs.declared.style.Style.{Style}
+use Rattle.cmdlines_response_files.specs.Asking.{IsAskedFor}
+use Rattle.cmdlines_response_files.specs.Expansion.{expanded}
+use Rattle.cmdlines_response_files.specs.declared.style.Style.{Style}
 
 -- the words, where it opens none
 abbrev pub opened_by : Option Style → Bytes → Tree → List Bytes → List Bytes

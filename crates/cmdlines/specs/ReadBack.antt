@@ -1,6 +1,6 @@
 -- A command is read again as what was wanted.
 use Rattle.std.specs.Prelude.{◌≡◌, false, List}
-use Rattle.os_files.specs.Bytes.{Bytes}
+use Rattle.base_files.specs.Bytes.{Bytes}
 use Rattle.cmdlines_base.specs.Reading.{Item}
 use Rattle.cmdlines_tables.specs.Tables.{reading_of}
 use Rattle.cmdlines_tables.specs.declared.compiler.CCompilerKind.{CCompilerKind}

@@ -3,8 +3,8 @@
 
 ghost use Rattle.std.specs.Prelude.{◌≡◌, ◌↔◌, None, IfOk, IfErr, IsErrOf, OnOk};
 ghost use Rattle.std.specs.Option.{option_map};
-ghost use Rattle.os_files.specs.Views.{FilesFail};
-ghost use Rattle.response_files.specs.Causes.{CauseOf};
+ghost use Rattle.base_files.specs.Views.{FilesFail};
+ghost use Rattle.cmdlines_response_files.specs.Causes.{CauseOf};
 ghost use Rattle.cmdlines.specs.Opening.{IsAskedByKind, opened_words};
 ghost use Rattle.cmdlines.specs.Commands.{object_path, HasObjectIn, preprocess_words, output_path, compile_words};
 ghost use Rattle.cmdlines_requests.specs.Small.{command_at};
@@ -16,11 +16,11 @@ ghost use Rattle.cmdlines.specs.ReadBack.{ReadsAsCompile, ReadsAsPreprocess};
 use crate::command::{CommandError, compile_command, preprocess_words_again};
 use crate::engine::parse;
 use crate::laws::{inputs_are_safe, requests_have_an_object};
+use base_files::{Files, Listed, OsBytes};
 use cmdlines_base::{ByteTree, CompilerArguments, SingleCompileCommand};
 use cmdlines_requests::{Cacheable, ParsedArguments};
+use cmdlines_response_files::{ParseFault, expand, other_words_stay};
 use cmdlines_tables::{ArgData, CCompilerKind, compiler_tree};
-use os_files::{Files, Listed, OsBytes};
-use response_files::{ParseFault, expand, other_words_stay};
 use std::alloc::{AllocError, Global};
 use std::fmt;
 use std::marker::Model;

@@ -6,11 +6,11 @@ ghost use Rattle.cmdlines.specs.Parsing.{decision_of, refused, closing, with_inp
 
 use crate::facts::Facts;
 use crate::lists::{Input, Lists};
+use base_files::{Listed, OsBytes, extension, file_name, with_extension};
 use cmdlines_base::{ArtifactDescriptor, ColorMode, CompilerArguments};
 use cmdlines_requests::ParsedArguments;
 use cmdlines_tables::language::Language;
 use cmdlines_tables::{CCompilerKind, Spelling};
-use os_files::{Listed, OsBytes, extension, file_name, with_extension};
 use std::alloc::{AllocError, Global};
 
 /// Refused for this reason, with no more text.

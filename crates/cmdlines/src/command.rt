@@ -8,13 +8,13 @@ ghost use Rattle.cmdlines.specs.Commands.{object_path, front_words, behind_words
 ghost use Rattle.cmdlines_requests.specs.Small.{command_at};
 ghost use Rattle.cmdlines.specs.ReadBack.{ReadsAsCompile, ReadsAsPreprocess};
 
+use base_files::{Listed, OsBytes, with_extension};
 use cmdlines_base::{
     SingleCompileCommand, items_read_again, items_read_together, words_have_one_reading,
 };
 use cmdlines_requests::{Cacheable, ParsedArguments, command_at};
 use cmdlines_tables::language::{Language, language_to_gcc_arg};
 use cmdlines_tables::{ArgData, CCompilerKind, Spelling, own_words_are_read};
-use os_files::{Listed, OsBytes, with_extension};
 use std::alloc::{AllocError, Global};
 use thiserror::Error;
 

@@ -10,11 +10,11 @@ ghost use Rattle.cmdlines.specs.Wanted.{is_hard, is_hard_word, may_name_folder, 
 use crate::closing::{close, refused};
 use crate::facts::Facts;
 use crate::lists::Lists;
+use base_files::OsBytes;
 use cmdlines_base::{ArgParseError, Argument, CompilerArguments, SearchableArgInfo};
 use cmdlines_requests::ParsedArguments;
 use cmdlines_tables::kind::ArgKind;
 use cmdlines_tables::{ArgData, CCompilerKind, Spelling, arguments_are_their_items, arguments_of};
-use os_files::OsBytes;
 use std::alloc::{AllocError, Global};
 
 /// Whether a word for Clang's front end is about modules or precompiled headers, or loads a plugin.

@@ -10,11 +10,11 @@ ghost use Rattle.cmdlines_base.specs.Choices.{when, sooner};
 ghost use Rattle.cmdlines.specs.Noting.{noted, noted_word};
 ghost use Rattle.cmdlines_tables.specs.Kinds.{blocks_preprocessor_cache};
 
+use base_files::OsBytes;
 use cmdlines_base::{ArgDisposition, ArgInfo, Argument, ColorMode, SearchableArgInfo};
 use cmdlines_requests::DependencyOptions;
 use cmdlines_tables::ArgData;
 use cmdlines_tables::kind::ArgKind;
-use os_files::OsBytes;
 use std::alloc::{AllocError, Global};
 
 /// What the arguments say beside the lists.

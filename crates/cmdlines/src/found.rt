@@ -2,8 +2,8 @@
 
 ghost use Rattle.std.specs.Prelude.{◌≡◌, ◌↔◌, None, IfOk, IfErr, IsErrOf, OnOk};
 ghost use Rattle.std.specs.Option.{option_map};
-ghost use Rattle.os_files.specs.Views.{FilesFail};
-ghost use Rattle.response_files.specs.Causes.{CauseOf};
+ghost use Rattle.base_files.specs.Views.{FilesFail};
+ghost use Rattle.cmdlines_response_files.specs.Causes.{CauseOf};
 ghost use Rattle.cmdlines_tables.specs.declared.compiler.CCompilerKind.{CCompilerKind};
 ghost use Rattle.cmdlines.specs.Opening.{IsAskedByKind, opened_words};
 ghost use Rattle.cmdlines.specs.Commands.{object_path, HasObjectIn, preprocess_words, output_path, compile_words};
@@ -14,11 +14,11 @@ ghost use Rattle.cmdlines.specs.ReadBack.{ReadsAsCompile, ReadsAsPreprocess};
 
 use crate::any_found::AnyFoundCompiler;
 use crate::command::CommandError;
+use base_files::{Files, Listed, OsBytes};
 use cmdlines_base::{CompilerArguments, SingleCompileCommand};
 use cmdlines_requests::{Cacheable, ParsedArguments};
+use cmdlines_response_files::ParseFault;
 use cmdlines_tables::CCompilerKind;
-use os_files::{Files, Listed, OsBytes};
-use response_files::ParseFault;
 use std::alloc::{AllocError, Global};
 use std::fmt;
 use std::marker::{Model, PhantomData};

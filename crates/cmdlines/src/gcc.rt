@@ -1,3 +1,3 @@
 //! The response files that Gcc and Clang open.
 
-pub use response_files::gcc::ExpandIncludeFile;
+pub use cmdlines_response_files::gcc::ExpandIncludeFile;

@@ -1,7 +1,7 @@
 //! Laws of what words ask for. Calls of them do nothing: whoever parses cites them.
 
 ghost use Rattle.std.specs.Prelude.{List};
-ghost use Rattle.os_files.specs.Bytes.{Bytes};
+ghost use Rattle.base_files.specs.Bytes.{Bytes};
 ghost use Rattle.cmdlines.specs.Commands.{HasObjectIn, compile_words, output_path, preprocess_words};
 ghost use Rattle.cmdlines.specs.KnownLanguages.{HasKnownLanguageIn};
 ghost use Rattle.cmdlines.specs.Parsing.{parse_of, HasSafeInputIn};

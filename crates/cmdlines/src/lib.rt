@@ -16,6 +16,9 @@ pub mod msvc;
 pub mod uncached_words;
 
 pub use any_found::AnyFoundCompiler;
+pub use base_files::{
+    FileFail, FileTime, Files, Listed, MemoryFile, MemoryFiles, Metadata, OsBytes,
+};
 pub use cmdlines_base::{
     ArgDisposition, ArgInfo, ArgParseError, ArgParseResult, ArgToStringError, ArgToStringResult,
     ArgsIter, Argument, ArgumentValue, ArtifactDescriptor, ByteTree, ColorMode, CompilerArguments,
@@ -23,6 +26,12 @@ pub use cmdlines_base::{
     SingleCompileCommand, Table, split_os_string_arg,
 };
 pub use cmdlines_requests::{Cacheable, DependencyOptions, ParsedArguments};
+pub use cmdlines_response_files::gcc::GnuFiles;
+pub use cmdlines_response_files::msvc::MsvcFiles;
+pub use cmdlines_response_files::{DiabFiles, ExpandAtArgs, ExpandedWords, ParseFault};
+pub use cmdlines_response_texts::{
+    SplitMsvcResponseFileArgs, decode_response_text, split_gnu_response_file_args,
+};
 pub use cmdlines_tables::kind::ArgKind;
 pub use cmdlines_tables::language::{Language, language_to_clang_arg, language_to_gcc_arg};
 pub use cmdlines_tables::{ArgData, CCompilerKind, compiler_tree};
@@ -35,12 +44,5 @@ pub use kinds::{
 pub use laws::{
     commands_read_as_wanted, inputs_are_safe, requests_have_a_known_language,
     requests_have_an_object,
-};
-pub use os_files::{FileFail, FileTime, Files, Listed, MemoryFile, MemoryFiles, Metadata, OsBytes};
-pub use response_files::gcc::GnuFiles;
-pub use response_files::msvc::MsvcFiles;
-pub use response_files::{DiabFiles, ExpandAtArgs, ExpandedWords, ParseFault};
-pub use response_texts::{
-    SplitMsvcResponseFileArgs, decode_response_text, split_gnu_response_file_args,
 };
 pub use uncached_words::{empty_value, opens_file};

@@ -7,10 +7,10 @@ ghost use Rattle.cmdlines_tables.specs.Values.{placed, word_in};
 ghost use Rattle.cmdlines.specs.Collecting.{no_lists, lists_with};
 ghost use Rattle.cmdlines.specs.Filling.{with_words, with_option_word};
 
+use base_files::{Listed, OsBytes};
 use cmdlines_base::{Argument, NormalizedDisposition};
 use cmdlines_tables::ArgData;
 use cmdlines_tables::kind::{ArgKind, OptionList};
-use os_files::{Listed, OsBytes};
 use std::alloc::{AllocError, Global};
 
 /// A word that is an input.

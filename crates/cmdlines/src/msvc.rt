@@ -1,3 +1,3 @@
 //! The response files that Msvc opens.
 
-pub use response_files::msvc::ExpandIncludeFile;
+pub use cmdlines_response_files::msvc::ExpandIncludeFile;

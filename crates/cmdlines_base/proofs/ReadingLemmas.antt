@@ -1,6 +1,6 @@
 -- Each list of words has exactly one reading.
 use Rattle.std.proofs.Common.{◌≡◌, Bool, List, [], ◌∷◌, refl, ap, sym, ◌∙◌}
-use Rattle.os_files.specs.Bytes.{Bytes}
+use Rattle.base_files.specs.Bytes.{Bytes}
 use Rattle.cmdlines_base.specs.Table.{Entry}
 use Rattle.cmdlines_base.specs.Reading.{Item, valued, Start, whole, awaits, ends, Reading, before, all_behind, first_word, from_last, from_first, reading, Reads, at_end, alone, with_value, lacking, options_end}
 

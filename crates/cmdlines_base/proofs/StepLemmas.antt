@@ -2,7 +2,7 @@
 use Rattle.std.proofs.Common.{◌≡◌, ℕ, List, [], ◌∷◌, ◌++◌, Option, None, Some, Bool, true, false, cond, ◌==◌, unwrap_or, inl, inr, refl, ap, sym, subst, ◌∙◌}
 use Rattle.std.proofs.lemmas.List.{append-nil}
 use Rattle.std.proofs.lemmas.Bool.Decides.{Decides-eqb}
-use Rattle.os_files.specs.Bytes.{Bytes}
+use Rattle.base_files.specs.Bytes.{Bytes}
 use Rattle.cmdlines_base.specs.Table.{Entry, behind, may_follow, delimiter_allows, longest_fit}
 use Rattle.cmdlines_base.specs.Reading.{Item, raw, unknown, flag, valued, behind_dashes, is_behind, Start, whole, awaits, ends, before, is_double_dash, loose, value_in, start_as, start_either, first_by, first_word, from_last, reading}
 use Rattle.cmdlines_base.specs.Cutting.{Place, is_seen, reading_by, reading_at, past, past_dashes, taken, IsWrittenAs}

@@ -1,7 +1,7 @@
 -- What a first word and the words after it make.
 use Rattle.std.proofs.Common.{◌≡◌, length, List, [], ◌∷◌, None, Some, Result, Ok, Err, IfErr, IsErrAnd, refl, ap, sym, subst, ◌∙◌, arith}
 use Rattle.std.specs.Borrow.{Bor}
-use Rattle.os_files.specs.Bytes.{Bytes}
+use Rattle.base_files.specs.Bytes.{Bytes}
 use Rattle.cmdlines_base.specs.Refusal.{Refusal, IsErrorOf}
 use Rattle.cmdlines_base.specs.Reading.{valued, Start, whole, awaits, ends}
 use Rattle.cmdlines_base.specs.Cutting.{taken}

@@ -1,7 +1,7 @@
 -- How written words are read again.
 use Rattle.std.specs.Prelude.{◌≡◌, Bool, true, false, not, ◌&&◌, ◌||◌, ◌==◌, List, [], ◌∷◌, ◌++◌, length, map, Option, None, Some, is_some, codes, Contains}
 use Rattle.std.specs.List.{list_all, AllByRecursion}
-use Rattle.os_files.specs.Bytes.{Bytes}
+use Rattle.base_files.specs.Bytes.{Bytes}
 use Rattle.cmdlines_base.specs.Table.{Entry, behind, longest_fit}
 use Rattle.cmdlines_base.specs.Printing.{is_j, is_empty_j, printed, normal, words_of}
 use Rattle.cmdlines_base.specs.Reading.{Item, is_behind, reading, before, all_before}

@@ -1,6 +1,6 @@
 -- What a compile leaves.
 use Rattle.std.specs.Prelude.{List}
-use Rattle.os_files.specs.Bytes.{Bytes}
+use Rattle.base_files.specs.Bytes.{Bytes}
 use Rattle.cmdlines_base.specs.declared.command.ArtifactDescriptor.{ArtifactDescriptor}
 
 -- outputs with where they go, in the order of their names

@@ -1,6 +1,6 @@
 -- Where a cutting of words is, and what it does from there.
 use Rattle.std.specs.Prelude.{◌≡◌, Bool, true, false, List, [], ◌∷◌, ◌++◌, Option, None, Some, if◌then◌else◌, ◌⊎◌}
-use Rattle.os_files.specs.Bytes.{Bytes}
+use Rattle.base_files.specs.Bytes.{Bytes}
 use Rattle.cmdlines_base.specs.Table.{Entry}
 use Rattle.cmdlines_base.specs.Reading.{Item, valued, Start, whole, awaits, ends, Reading, is_double_dash, all_behind, reading}
 use Rattle.cmdlines_base.specs.Printing.{printed}

@@ -1,6 +1,6 @@
 -- The nodes of a table, read byte by byte: entries whose flags begin alike are adjacent, since flags rise.
 use Rattle.std.specs.Prelude.{◌≡◌, ℕ, ◌≤◌, ◌<◌, List, ◌++◌, length, take, IsTrue, All, slice_index_or}
-use Rattle.os_files.specs.Bytes.{Bytes}
+use Rattle.base_files.specs.Bytes.{Bytes}
 use Rattle.cmdlines_base.specs.Table.{Entry, is_table}
 
 -- the flag begins as the word does, by that many bytes

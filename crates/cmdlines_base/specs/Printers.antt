@@ -1,6 +1,6 @@
 -- What printers of arguments have yet to give.
 use Rattle.std.specs.Prelude.{◌≡◌, List, [], ◌∷◌, map, Option, None, Some, Result, Ok, Err}
-use Rattle.os_files.specs.Bytes.{Bytes}
+use Rattle.base_files.specs.Bytes.{Bytes}
 use Rattle.cmdlines_base.specs.Pieces.{Part, part_word, parts_left}
 use Rattle.cmdlines_base.specs.declared.printing.Iter.{Iter}
 use Rattle.cmdlines_base.specs.declared.printing.IterStrings.{IterStrings}

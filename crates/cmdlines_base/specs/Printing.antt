@@ -6,7 +6,7 @@ use Rattle.cmdlines_base.specs.declared.argument.NormalizedDisposition.{Normaliz
 use Rattle.cmdlines_base.specs.declared.argument.NormalizedDisposition.TheVariants as wanted
 use Rattle.std.specs.List.{flat_map}
 use Rattle.std.specs.Option.{option_map_or}
-use Rattle.os_files.specs.Bytes.{Bytes}
+use Rattle.base_files.specs.Bytes.{Bytes}
 use Rattle.cmdlines_base.specs.Table.{Entry, longest_fit}
 use Rattle.cmdlines_base.specs.Reading.{Item, raw, unknown, flag, valued, behind_dashes}
 

@@ -1,6 +1,6 @@
 -- How far a tree of flags is walked for a word.
 use Rattle.std.specs.Prelude.{ℕ, suc, max, ◌==◌, if◌then◌else◌, List, [], ◌∷◌}
-use Rattle.os_files.specs.Bytes.{Bytes}
+use Rattle.base_files.specs.Bytes.{Bytes}
 use Rattle.cmdlines_base.specs.Table.{Entry}
 
 -- how many bytes a flag and a word begin alike with

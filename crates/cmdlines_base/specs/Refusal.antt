@@ -1,7 +1,7 @@
 -- Why a word makes no value, and which error says so.
 use Rattle.std.specs.Prelude.{◌≡◌, Option, None, Some, if◌then◌else◌}
 use Rattle.std.specs.Str.{is_utf8}
-use Rattle.os_files.specs.Bytes.{Bytes}
+use Rattle.base_files.specs.Bytes.{Bytes}
 use Rattle.cmdlines_base.specs.declared.argument_error.ArgParseError.{ArgParseError}
 use Rattle.cmdlines_base.specs.declared.argument_error.ArgParseError.TheVariants.{UnexpectedEndOfArgs, InvalidUnicode, Other, Memory}
 

@@ -4,7 +4,7 @@ use Rattle.std.specs.Borrow.{Bor}
 use Rattle.std.specs.Fn.{Mut, CalledAt}
 use Rattle.std.specs.Str.{is_utf8}
 use Rattle.std.specs.declared.alloc.Global.{Global}
-use Rattle.os_files.specs.Bytes.{Bytes}
+use Rattle.base_files.specs.Bytes.{Bytes}
 use Rattle.cmdlines_base.specs.Printing.{joined}
 use Rattle.cmdlines_base.specs.Pieces.{Part, bare, apart, behind}
 use Rattle.cmdlines_base.specs.declared.argument_error.ArgToStringError.{ArgToStringError}

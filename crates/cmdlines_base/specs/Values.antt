@@ -1,6 +1,6 @@
 -- Arguments with values of a type, and the items that they are of.
 use Rattle.std.specs.Prelude.{◌≡◌, Bool, true, List, [], ◌++◌, Option, None, Some, Result, Ok, Err}
-use Rattle.os_files.specs.Bytes.{Bytes}
+use Rattle.base_files.specs.Bytes.{Bytes}
 use Rattle.cmdlines_base.specs.Refusal.{Refusal, IsErrorOf}
 use Rattle.cmdlines_base.specs.Table.{Entry}
 use Rattle.cmdlines_base.specs.Reading.{Item, raw, unknown, flag, valued, behind_dashes, is_behind, Start, whole, awaits, ends, Reading, nothing, before}

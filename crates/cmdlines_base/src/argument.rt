@@ -6,7 +6,7 @@ ghost use Rattle.cmdlines_base.specs.Printing.{normalized_disposition};
 ghost use Rattle.cmdlines_base.specs.declared.argument.NormalizedDisposition.{NormalizedDisposition};
 ghost use Rattle.cmdlines_base.specs.Pieces.{normalized, stands_either_way, leading_word, flag_in, data_in};
 
-use os_files::OsBytes;
+use base_files::OsBytes;
 use std::alloc::{AllocError, Global};
 
 /// The byte between a flag and its value, where one is wanted.

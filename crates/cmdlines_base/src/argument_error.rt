@@ -2,7 +2,7 @@
 
 ghost use Rattle.std.specs.Prelude.{◌≡◌};
 
-use os_files::OsBytes;
+use base_files::OsBytes;
 use std::alloc::{AllocError, AllocFailed};
 use thiserror::Error;
 

@@ -1,6 +1,6 @@
 //! Commands, and the outputs that are asked for.
 
-use os_files::{Listed, OsBytes};
+use base_files::{Listed, OsBytes};
 
 /// What is run: an executable with its words, in a directory, under an environment.
 #[derive(Clone, Debug, Drop, PartialEq, Eq)]

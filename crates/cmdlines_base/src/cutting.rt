@@ -2,7 +2,7 @@
 
 ghost use Rattle.std.specs.Prelude.{◌≡◌, List, [], length, ◌≤◌, None, IfOk, OnOk, IfErr, Bool};
 ghost use Rattle.std.specs.Iterator.{at_most};
-ghost use Rattle.os_files.specs.Bytes.{Bytes};
+ghost use Rattle.base_files.specs.Bytes.{Bytes};
 ghost use Rattle.cmdlines_base.specs.Refusal.{IsErrorOf};
 ghost use Rattle.cmdlines_base.specs.Table.{Entry, entry_at, all_entries, longest_fit};
 ghost use Rattle.cmdlines_base.specs.Reading.{valued, loose, value_in, first_by, reading, Reading, Reads, is_double_dash};
@@ -13,7 +13,7 @@ use crate::argument::{ArgDisposition, Argument, Delimiter};
 use crate::argument_error::{ArgParseError, ArgParseResult};
 use crate::table::{ArgInfo, SearchableArgInfo, behind};
 use crate::value::ArgumentValue;
-use os_files::OsBytes;
+use base_files::OsBytes;
 use std::alloc::{AllocError, Global};
 use std::marker::PhantomData;
 

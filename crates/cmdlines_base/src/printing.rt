@@ -12,7 +12,7 @@ ghost use Rattle.cmdlines_base.specs.Printers.{words_left, GivesWord, texts_left
 use crate::argument::{ArgDisposition, Argument, Delimiter};
 use crate::argument_error::{ArgToStringError, ArgToStringResult};
 use crate::value::{ArgumentValue, IntoArg, into_text, word_to_string};
-use os_files::OsBytes;
+use base_files::OsBytes;
 use std::alloc::{AllocError, Global};
 
 /// A flag with a value after it; where the value is empty the delimiter is dropped.

@@ -1,7 +1,7 @@
 //! Laws of words that are written and cut again. No code calls them: whoever writes a command cites them.
 
 ghost use Rattle.std.specs.Prelude.{◌≡◌, List, Bool, true};
-ghost use Rattle.os_files.specs.Bytes.{Bytes};
+ghost use Rattle.base_files.specs.Bytes.{Bytes};
 ghost use Rattle.cmdlines_base.specs.Table.{Entry};
 ghost use Rattle.cmdlines_base.specs.Reading.{Item, reading};
 ghost use Rattle.cmdlines_base.specs.Again.{is_clear, lets_dashes, AllReadAgain, AllReadAgainUnlessEmpty, ReadsTogether};

@@ -5,7 +5,7 @@ ghost use Rattle.std.specs.Str.{is_utf8};
 ghost use Rattle.cmdlines_base.specs.Splitting.{IsSplit, IsNoText};
 
 use crate::argument_error::{ArgParseError, ArgParseResult};
-use os_files::OsBytes;
+use base_files::OsBytes;
 use std::alloc::Global;
 
 /// What comes before the first separator and what comes after it, and `None` for the second where there is no

@@ -6,7 +6,7 @@ ghost use Rattle.std.specs.List.Sorted.{IsNonDecreasingBy};
 ghost use Rattle.cmdlines_base.specs.Forks.{going_on};
 ghost use Rattle.cmdlines_base.specs.Nodes.{Begins, GoesOn, IsNode, IsPicked, byte_at};
 ghost use Rattle.std.specs.Option.{option_copied};
-ghost use Rattle.os_files.specs.Bytes.{Bytes};
+ghost use Rattle.base_files.specs.Bytes.{Bytes};
 ghost use Rattle.cmdlines_base.specs.Reach.{reach};
 ghost use Rattle.cmdlines_base.specs.Table.{Entry, entry_of, entry_at, entries_of, fits, joins_by, may_follow, has_ascii, rises_to, is_table, longer, all_entries, longest_fit, IsEntryOf, behind};
 

@@ -2,12 +2,12 @@
 
 ghost use Rattle.std.specs.Prelude.{◌≡◌, Bool, true, false, Option, None, IfSome, IfOk, IfErr, OnOk, string_bytes};
 ghost use Rattle.std.specs.Str.{is_utf8};
-ghost use Rattle.os_files.specs.Bytes.{Bytes};
+ghost use Rattle.base_files.specs.Bytes.{Bytes};
 ghost use Rattle.cmdlines_base.specs.Refusal.{Refusal, IsErrorOf};
 ghost use Rattle.cmdlines_base.specs.Texts.{WordText, PathText, ValueText};
 
 use crate::argument_error::{ArgParseError, ArgParseResult, ArgToStringError, ArgToStringResult};
-use os_files::OsBytes;
+use base_files::OsBytes;
 use std::alloc::{AllocError, Global};
 
 /// A value that is made of a word.

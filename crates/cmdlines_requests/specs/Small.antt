@@ -3,8 +3,8 @@ use Rattle.std.specs.Prelude.{Bool, not, List, [], ◌∷◌, Option, codes, fil
 use Rattle.std.specs.Option.{option_map, option_map_or, option_and_then}
 use Rattle.std.specs.Str.{bytes_eq}
 use Rattle.std.specs.Str.Lossy.{utf8_lossy}
-use Rattle.os_files.specs.Bytes.{Bytes}
-use Rattle.os_files.specs.Path.{file_name}
+use Rattle.base_files.specs.Bytes.{Bytes}
+use Rattle.base_files.specs.Path.{file_name}
 use Rattle.cmdlines_base.specs.declared.command.ArtifactDescriptor.{ArtifactDescriptor}
 use Rattle.cmdlines_base.specs.declared.command.SingleCompileCommand.{SingleCompileCommand}
 use Rattle.cmdlines_base.specs.Artifacts.{Artifacts}

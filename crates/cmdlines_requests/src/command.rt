@@ -3,8 +3,8 @@
 ghost use Rattle.std.specs.Prelude.{◌≡◌, IfOk};
 ghost use Rattle.cmdlines_requests.specs.Small.{command_at};
 
+use base_files::{Listed, OsBytes};
 use cmdlines_base::SingleCompileCommand;
-use os_files::{Listed, OsBytes};
 use std::alloc::{AllocError, Global};
 
 /// Whether the outputs of a command may be kept.

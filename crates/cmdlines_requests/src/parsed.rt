@@ -5,9 +5,9 @@ ghost use Rattle.std.specs.List.{list_any};
 ghost use Rattle.std.specs.Option.{option_copied};
 ghost use Rattle.cmdlines_requests.specs.Small.{object_name, output_named, object_file_name, pretty_name, archs_of, arch_flag, differs_from};
 
+use base_files::{Listed, Lossy, OsBytes, file_name};
 use cmdlines_base::{ArtifactDescriptor, ColorMode};
 use cmdlines_tables::language::Language;
-use os_files::{Listed, Lossy, OsBytes, file_name};
 use std::alloc::{AllocError, Global};
 use std::collections::BTreeSet;
 

@@ -1,7 +1,7 @@
 -- Words whose first one is known are read as they begin, whatever follows.
 use Rattle.std.proofs.Common.{◌≡◌, Bool, true, false, List, [], ◌∷◌, refl, ap}
 use Rattle.std.specs.Prelude.{Option, None, Some, codes}
-use Rattle.os_files.specs.Bytes.{Bytes}
+use Rattle.base_files.specs.Bytes.{Bytes}
 use Rattle.cmdlines_base.specs.Reading.{Item, valued, flag, first_word, whole, awaits, from_last, from_first, reading}
 use Rattle.cmdlines_base.specs.Table.{Entry}
 use Rattle.cmdlines_base.specs.declared.argument.ArgDisposition.{ArgDisposition}

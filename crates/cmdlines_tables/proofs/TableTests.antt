@@ -6,7 +6,7 @@ use Rattle.std.specs.Str.{bytes_eq}
 use Rattle.std.proofs.lemmas.List.Sums.{AllPass-from_list_all}
 use Rattle.std.proofs.lemmas.List.Elements.{All-contains}
 use Rattle.std.proofs.lemmas.Slice.Eq.{bytes_eq-Decides}
-use Rattle.os_files.specs.Bytes.{Bytes}
+use Rattle.base_files.specs.Bytes.{Bytes}
 use Rattle.cmdlines_base.specs.Again.{is_clear, lets_dashes}
 use Rattle.cmdlines_base.specs.Reading.{Item, Start, flag, valued, first_word, whole, awaits}
 use Rattle.cmdlines_base.specs.Table.{Entry}

@@ -1,9 +1,9 @@
 -- What differs between the C compilers: a block for each. All else that is said of one is said by these facts.
 use Rattle.std.specs.Prelude.{Bool, true, false, List, [], ◌∷◌, Option, None, Some, codes, find}
 use Rattle.std.specs.Str.{bytes_eq}
-use Rattle.os_files.specs.Bytes.{Bytes}
-use Rattle.response_files.specs.declared.style.Style.{Style}
-use Rattle.response_files.specs.declared.style.Style.TheVariants as styles
+use Rattle.base_files.specs.Bytes.{Bytes}
+use Rattle.cmdlines_response_files.specs.declared.style.Style.{Style}
+use Rattle.cmdlines_response_files.specs.declared.style.Style.TheVariants as styles
 use Rattle.cmdlines_base.specs.Table.{Entry}
 use Rattle.cmdlines_tables.specs.EmbeddedTables.{diab_entries, tasking_vx_entries}
 use Rattle.cmdlines_tables.specs.GnuTable.{gnu_entries, clang_entries}

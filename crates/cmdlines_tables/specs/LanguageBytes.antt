@@ -1,7 +1,7 @@
 -- Languages as one byte each.
 use Rattle.std.proofs.Common.{◌≡◌, ℕ, ◌==◌, Option, None, Some, refl, if◌then◌else◌}
-use Rattle.byte_formats.specs.Choices.{AnyFits, chosen, coded, coded_at, coded_format}
-use Rattle.byte_formats.specs.Formats.{IsFormat}
+use Rattle.base_formats.specs.Choices.{AnyFits, chosen, coded, coded_at, coded_format}
+use Rattle.base_formats.specs.Formats.{IsFormat}
 use Rattle.cmdlines_tables.specs.declared.language.Language.{Language}
 use Rattle.cmdlines_tables.specs.declared.language.Language.TheVariants.{C, Cxx, CPreprocessed, CxxPreprocessed, Assembler, AssemblerToPreprocess, Rust}
 

@@ -1,7 +1,7 @@
 -- The words that commands have of their own, and what the tables make of them.
 use Rattle.std.specs.Prelude.{◌≡◌, Bool, true, false, List, [], ◌∷◌, ◌++◌, codes, Option, None, Some}
 use Rattle.std.specs.Option.{option_map, option_to_list}
-use Rattle.os_files.specs.Bytes.{Bytes}
+use Rattle.base_files.specs.Bytes.{Bytes}
 use Rattle.cmdlines_base.specs.Again.{is_clear, lets_dashes}
 use Rattle.cmdlines_base.specs.Reading.{Item, flag, valued, reading, all_before}
 use Rattle.cmdlines_base.specs.Table.{Entry}

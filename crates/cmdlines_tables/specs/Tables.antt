@@ -1,6 +1,6 @@
 -- The options of each C compiler, and how its tables cut words.
 use Rattle.std.specs.Prelude.{Bool, List}
-use Rattle.os_files.specs.Bytes.{Bytes}
+use Rattle.base_files.specs.Bytes.{Bytes}
 use Rattle.cmdlines_base.specs.Reading.{Reading, reading}
 use Rattle.cmdlines_base.specs.Table.{Entry, all_entries}
 use Rattle.cmdlines_tables.specs.CompilerFacts.{facts_about}

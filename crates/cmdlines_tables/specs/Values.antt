@@ -1,6 +1,6 @@
 -- The arguments of a C compiler, as items.
 use Rattle.std.specs.Prelude.{◌≡◌, Bool, true, false, [], Option, None}
-use Rattle.os_files.specs.Bytes.{Bytes}
+use Rattle.base_files.specs.Bytes.{Bytes}
 use Rattle.cmdlines_base.specs.Reading.{Item, raw, unknown, flag, valued, behind_dashes}
 use Rattle.cmdlines_base.specs.Refusal.{Refusal}
 use Rattle.cmdlines_base.specs.declared.argument.Argument.{Argument}

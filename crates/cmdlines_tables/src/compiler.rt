@@ -8,7 +8,7 @@ ghost use Rattle.cmdlines_tables.specs.Tables.{ends_options};
 ghost use Rattle.cmdlines_tables.specs.OwnWords.{color_word, writes_dependencies};
 
 use crate::language::Language;
-use response_files::Style;
+use cmdlines_response_files::Style;
 
 /// The C compilers whose command lines are read.
 #[derive(Clone, Copy, Debug, PartialEq, Eq)]

@@ -9,8 +9,8 @@ ghost use Rattle.cmdlines_tables.specs.declared.kind.ArgKind.{ArgKind};
 
 use crate::compiler::CCompilerKind;
 use crate::value::ArgData;
+use base_files::OsBytes;
 use cmdlines_base::{ArgsIter, SearchableArgInfo};
-use os_files::OsBytes;
 use std::alloc::Global;
 
 /// The arguments of words, as that compiler cuts them by a table.

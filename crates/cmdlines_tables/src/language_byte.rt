@@ -1,11 +1,11 @@
 //! A language as one byte, in which the cache keeps it.
 
 ghost use Rattle.std.specs.Prelude.{◌≡◌};
-ghost use Rattle.byte_formats.specs.Choices.{AnyFits, coded, coded_at};
+ghost use Rattle.base_formats.specs.Choices.{AnyFits, coded, coded_at};
 ghost use Rattle.cmdlines_tables.specs.LanguageBytes.{language_code, language_format, language_of};
 
 use crate::language::Language;
-use byte_formats::{Field, ReadFault};
+use base_formats::{Field, ReadFault};
 use std::alloc::{AllocError, Global};
 
 fn language_of(byte: u8) -> Option<Language>
@@ -46,7 +46,7 @@ impl Field for Language {
 
     ghost is_format = { language_format };
 
-    #[tactic(auto, unfolding(byte_formats::specs::Choices::coded_at))]
+    #[tactic(auto, unfolding(base_formats::specs::Choices::coded_at))]
     fn read(_alloc: Global, bytes: &[u8]) -> Result<(Language, &[u8]), ReadFault> {
         let Some((byte, rest)) = bytes.split_first() else {
             return Err(ReadFault::Unfit);

@@ -4,8 +4,8 @@ ghost use Rattle.std.specs.Prelude.{◌≡◌};
 ghost use Rattle.cmdlines_tables.specs.Values.{kind_in, word_in};
 
 use crate::kind::ArgKind;
+use base_files::OsBytes;
 use cmdlines_base::{ArgParseResult, ArgToStringResult, ArgumentValue, IntoArg, word_to_string};
-use os_files::OsBytes;
 use std::alloc::{AllocError, Global};
 
 /// The value of an argument: its kind, and its word where it takes one.

@@ -1,13 +1,13 @@
 //! What a call came to is counted, and reported in a line of the log where one is kept.
 
-use c_calls::{End, What};
-use call_log::CallFacts;
-use call_log::front::front;
-use host_protocol::{CommandLine, HostError, Tally, tell_line};
-use made_outputs::{Audit, log};
-use rustc_id::is_named_rustc;
-use settings::Key;
-use statistics::{REMOTE, count, counters_of, name_of};
+use cache_c_calls::{End, What};
+use cache_call_log::CallFacts;
+use cache_call_log::front::front;
+use cache_host::{CommandLine, HostError, Tally, tell_line};
+use cache_made_outputs::{Audit, log};
+use cache_rustc_id::is_named_rustc;
+use cache_settings::Key;
+use cache_statistics::{REMOTE, count, counters_of, name_of};
 use std::alloc::Global;
 use std::fs::File;
 use std::rt::{Clock, Files};

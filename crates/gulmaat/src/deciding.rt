@@ -2,12 +2,12 @@
 
 ghost use Rattle.std.specs.Prelude.{◌≡◌, ◌≤◌};
 
-use c_calls::{End, What, decide_on_c};
-use call_log::CallFacts;
-use host_protocol::{CommandLine, Host, HostError};
-use rustc_calls::{RustcEnd, RustcWhat, decide_on_rustc};
-use rustc_id::is_named_rustc;
-use settings::Key;
+use cache_c_calls::{End, What, decide_on_c};
+use cache_call_log::CallFacts;
+use cache_host::{CommandLine, Host, HostError};
+use cache_rustc_calls::{RustcEnd, RustcWhat, decide_on_rustc};
+use cache_rustc_id::is_named_rustc;
+use cache_settings::Key;
 use std::fs::File;
 use std::io::Read;
 use std::rt::Files;

@@ -10,16 +10,18 @@ ghost use Rattle.std.specs.Prelude.{◌≡◌};
 mod counting;
 mod deciding;
 
-use c_calls::{End, What};
+use cache_c_calls::{End, What};
+use cache_explained_misses::why::why;
+use cache_host::{CommandLine, Host, HostError};
+use cache_made_outputs::Audit;
+use cache_rustc_id::is_named_rustc;
+use cache_rustc_kept::why_of_rustc;
+use cache_settings::read_settings;
+use cache_source_files::opened_words;
+use cache_user_options::help::help;
+use cache_user_options::{Caller, do_options};
 use counting::note;
 use deciding::decide;
-use explained_misses::why::why;
-use host_protocol::{CommandLine, Host, HostError};
-use made_outputs::Audit;
-use rustc_id::is_named_rustc;
-use rustc_kept::why_of_rustc;
-use settings::read_settings;
-use source_files::opened_words;
 use std::env;
 use std::fmt::Display;
 use std::fs::File;
@@ -27,8 +29,6 @@ use std::io::Read;
 use std::process::ExitCode;
 use std::rt::{Clock, Env, Files};
 use std::time::SystemTime;
-use user_options::help::help;
-use user_options::{Caller, do_options};
 
 /// The status at which the outputs are there.
 const DONE: u8 = 11;

@@ -2,7 +2,7 @@
 
 use crate::commands::explanation_of;
 use crate::reading::Build;
-use build_log::{Call, Kind, maker_of};
+use cache_build_log::{Call, Kind, maker_of};
 use std::alloc::{AllocError, Global};
 use std::collections::BTreeMap;
 

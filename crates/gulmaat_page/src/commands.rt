@@ -1,6 +1,6 @@
 //! Commands of calls, as a shell reads them.
 
-use build_log::{Call, Texts};
+use cache_build_log::{Call, Texts};
 use std::alloc::{AllocError, Global};
 
 /// Whether a shell reads this letter as itself.

@@ -3,7 +3,7 @@
 use crate::changes::changes_between;
 use crate::reading::Build;
 use crate::times::Time;
-use build_log::Kind;
+use cache_build_log::Kind;
 use std::alloc::{AllocError, Global};
 
 /// How many changes are reported.

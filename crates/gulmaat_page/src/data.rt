@@ -1,7 +1,7 @@
 //! What a page's script reads: all calls, with texts by number.
 
 use crate::reading::Build;
-use build_log::{Call, Kind, push_text};
+use cache_build_log::{Call, Kind, push_text};
 use std::alloc::{AllocError, Global};
 
 /// Writes a list of texts.

@@ -2,7 +2,7 @@
 
 use crate::reading::Build;
 use crate::times::Time;
-use build_log::{Call, Kind};
+use cache_build_log::{Call, Kind};
 use std::alloc::AllocError;
 
 /// How wide the picture is in hundredths, how high a lane and a bar are, and how wide a bar is at least, in hundredths.

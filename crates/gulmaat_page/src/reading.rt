@@ -2,7 +2,7 @@
 
 use crate::asked::AskedLog;
 use crate::error::PageError;
-use build_log::{Call, Sums, Texts, beginnings, chosen, other_commands, pack, read_log};
+use cache_build_log::{Call, Sums, Texts, beginnings, chosen, other_commands, pack, read_log};
 use std::alloc::{AllocError, Global};
 use std::fs;
 use std::rt::Files;

@@ -4,7 +4,7 @@ use crate::commands::{command_of, explanation_of, name_of};
 use crate::escaped::{push_cell, push_element, push_short};
 use crate::reading::Build;
 use crate::times::Time;
-use build_log::Call;
+use cache_build_log::Call;
 use std::alloc::{AllocError, Global};
 
 /// Writes a term and what is said of it, unless that is empty.

@@ -4,7 +4,7 @@ use crate::commands::name_of;
 use crate::escaped::push_short;
 use crate::reading::Build;
 use crate::times::{Percent, Time};
-use build_log::Kind;
+use cache_build_log::Kind;
 use std::alloc::{AllocError, Global};
 
 /// Writes a fact: its name, its value, and what is to be said of it.

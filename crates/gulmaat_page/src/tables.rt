@@ -6,7 +6,7 @@ use crate::escaped::{push_cell, push_escaped, push_short};
 use crate::reading::Build;
 use crate::rows::push_row;
 use crate::times::Time;
-use build_log::{Group, Kind, groups_of};
+use cache_build_log::{Group, Kind, groups_of};
 use std::alloc::{AllocError, Global};
 
 /// How many calls a page shows without its script, and how many groups at most.

@@ -2,7 +2,7 @@
 
 use crate::commands::{command_of, name_of};
 use crate::reading::Build;
-use build_log::{Call, Ran, push_name, push_text};
+use cache_build_log::{Call, Ran, push_name, push_text};
 use std::alloc::{AllocError, Global};
 
 /// Writes a member of a text, unless that is empty.

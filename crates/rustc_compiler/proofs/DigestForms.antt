@@ -5,8 +5,8 @@ use Rattle.std.specs.Option.{option_map}
 use Rattle.std.specs.List.{list_all, AllByRecursion}
 use Rattle.std.proofs.lemmas.Bool.{eq-eqb}
 use Rattle.std.proofs.lemmas.Bool.Decides.{nat_tests}
-use Rattle.os_files.specs.Bytes.{Bytes}
-use Rattle.os_files.specs.Tree.{Tree, contents_at}
+use Rattle.base_files.specs.Bytes.{Bytes}
+use Rattle.base_files.specs.Tree.{Tree, contents_at}
 use Rattle.ckeys_base.specs.FileDigests.{file_digests}
 use Rattle.ckeys_base.specs.Hex.{AreBytes, digit_of, hex_of}
 use Rattle.rustc_parts.specs.Formed.{IsDigest, is_digit}

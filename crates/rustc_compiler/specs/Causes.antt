@@ -1,8 +1,8 @@
 -- Why there is no compiler.
 use Rattle.std.specs.Prelude.{◌≡◌, ◌⊎◌, Bool, false, List, find, Option, None, Some, is_none}
 use Rattle.std.specs.List.{Contains}
-use Rattle.os_files.specs.Bytes.{Bytes}
-use Rattle.os_files.specs.Tree.{Tree, contents_at}
+use Rattle.base_files.specs.Bytes.{Bytes}
+use Rattle.base_files.specs.Tree.{Tree, contents_at}
 use Rattle.rustc_compiler.specs.declared.fault.RustFault.{RustFault}
 use Rattle.rustc_compiler.specs.declared.fault.RustFault.TheVariants.{Memory, NoHost, Read}
 

@@ -2,8 +2,8 @@
 use Rattle.std.specs.Prelude.{Bool, ◌==◌, nat_eq, List, ◌++◌, codes, Option}
 use Rattle.std.specs.List.{list_any, slice_split, starts_with}
 use Rattle.std.specs.Option.{option_to_list}
-use Rattle.os_files.specs.Bytes.{Bytes}
-use Rattle.os_files.specs.Path.{path_cmp}
+use Rattle.base_files.specs.Bytes.{Bytes}
+use Rattle.base_files.specs.Path.{path_cmp}
 use Rattle.rustc_options.specs.Sorted.{sorted_by}
 
 -- what is known of a compiler: where it is, what it says of its version, its folder of libraries, its archive where it has one, and the digests of its toolchain

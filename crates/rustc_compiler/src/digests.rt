@@ -1,13 +1,13 @@
 //! The digests of files that a toolchain needs.
 
 ghost use Rattle.std.specs.Prelude.{◌≡◌, Some, true, IfOk, IfErr, IsErrOf, OnOk};
-ghost use Rattle.os_files.specs.Views.{FilesFail};
+ghost use Rattle.base_files.specs.Views.{FilesFail};
 ghost use Rattle.ckeys_base.specs.FileDigests.{file_digest, file_digests};
 ghost use Rattle.rustc_compiler.specs.Causes.{CauseOf, FileCause};
 
 use crate::fault::RustFault;
+use base_files::{FileFail, Files, Listed, OsBytes};
 use ckeys_base::{Digest, HashState};
-use os_files::{FileFail, Files, Listed, OsBytes};
 use std::alloc::Global;
 
 /// The digest of a file that is needed, as text.

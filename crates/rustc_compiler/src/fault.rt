@@ -1,6 +1,6 @@
 //! Why there is no compiler.
 
-use os_files::OsBytes;
+use base_files::OsBytes;
 use std::alloc::{AllocError, AllocFailed};
 use thiserror::Error;
 

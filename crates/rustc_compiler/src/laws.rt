@@ -1,7 +1,7 @@
 //! What digests are as texts.
 
 ghost use Rattle.std.specs.Prelude.{◌*◌};
-ghost use Rattle.os_files.specs.Bytes.{Bytes};
+ghost use Rattle.base_files.specs.Bytes.{Bytes};
 ghost use Rattle.ckeys_base.specs.Hex.{hex_of};
 ghost use Rattle.rustc_parts.specs.Formed.{IsDigest};
 

@@ -1,11 +1,11 @@
 //! What is known of a toolchain: its host, and its files in the order of paths.
 
 ghost use Rattle.std.specs.Prelude.{◌≡◌, IfOk};
-ghost use Rattle.os_files.specs.Path.{path_cmp};
+ghost use Rattle.base_files.specs.Path.{path_cmp};
 ghost use Rattle.rustc_options.specs.Sorted.{sorted_by};
 ghost use Rattle.rustc_compiler.specs.Compiler.{has_host, tells_host, toolchain_files};
 
-use os_files::{Listed, OsBytes, compare_paths, paths_have_one_order};
+use base_files::{Listed, OsBytes, compare_paths, paths_have_one_order};
 use std::alloc::AllocError;
 
 /// Whether a line gives the host.

@@ -10,7 +10,7 @@ use Rattle.std.proofs.lemmas.Cmp.{nat_list_cmp_total}
 use Rattle.std.proofs.lemmas.List.Sums.{fold-append}
 use Rattle.std.proofs.lemmas.Map.Lookups.{exact_bytes}
 use Rattle.std.proofs.lemmas.Slice.Eq.{bytes_eq-Decides}
-use Rattle.os_files.specs.Bytes.{Bytes}
+use Rattle.base_files.specs.Bytes.{Bytes}
 use Rattle.rustc_options.specs.Data.{is_rlib, is_staticlib, is_other_type, printed_type, named_if, crate_types_of, crate_types_word}
 use Rattle.rustc_options.specs.Sets.{between_commas, joined_by_commas, in_order}
 use Rattle.rustc_options.proofs.SetLemmas as sets

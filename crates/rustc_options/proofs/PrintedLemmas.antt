@@ -1,6 +1,6 @@
 -- Libraries and folders of libraries, printed.
 use Rattle.std.proofs.Common.{◌≡◌, ◌++◌, Option, None, Some, codes, ap, ◌∙◌, sym}
-use Rattle.os_files.specs.Bytes.{Bytes}
+use Rattle.base_files.specs.Bytes.{Bytes}
 use Rattle.rustc_options.specs.Splitting.{before_equals, behind_equals, maybe_with_equals}
 use Rattle.rustc_options.specs.Data.{link_library_by, link_library_of, link_library_word, link_path_by, link_path_of, link_path_word}
 use Rattle.rustc_options.specs.Printed.{both_again}

@@ -1,6 +1,6 @@
 -- A request to rustc as plain values: what its words ask for, without where flags lie in memory.
 use Rattle.std.specs.Prelude.{Bool, List, Option, map}
-use Rattle.os_files.specs.Bytes.{Bytes}
+use Rattle.base_files.specs.Bytes.{Bytes}
 use Rattle.cmdlines_base.specs.Pieces.{argument_words, flag_in}
 use Rattle.cmdlines_base.specs.declared.argument.Argument.{Argument}
 use Rattle.rustc_options.specs.Data.{word_of}

@@ -3,8 +3,8 @@ use Rattle.std.specs.Prelude.{◌≡◌, Bool, true, false, not, ◌||◌, List,
 use Rattle.std.specs.List.{list_any}
 use Rattle.std.specs.Option.{option_map_or}
 use Rattle.std.specs.Str.{bytes_eq}
-use Rattle.os_files.specs.Bytes.{Bytes}
-use Rattle.os_files.specs.Path.{extension}
+use Rattle.base_files.specs.Bytes.{Bytes}
+use Rattle.base_files.specs.Path.{extension}
 use Rattle.cmdlines_base.specs.Refusal.{Refusal, because}
 use Rattle.rustc_options.specs.Splitting.{before_equals, behind_equals, with_equals, maybe_with_equals}
 use Rattle.rustc_options.specs.Sets.{between_commas, joined_by_commas, in_order}

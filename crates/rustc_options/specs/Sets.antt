@@ -4,7 +4,7 @@ use Rattle.std.specs.BTreeSet.{insert_key}
 use Rattle.std.specs.Cmp.Lexicographic.{slice_cmp}
 use Rattle.std.specs.List.{slice_split, join_with_byte}
 use Rattle.std.specs.Ordering.{nat_cmp}
-use Rattle.os_files.specs.Bytes.{Bytes}
+use Rattle.base_files.specs.Bytes.{Bytes}
 
 abbrev pub between_commas : Bytes → List Bytes
 between_commas word = slice_split (λ b. b == 44) word

@@ -1,6 +1,6 @@
 -- A word cut in two at its first `=`, which is 61.
 use Rattle.std.specs.Prelude.{◌==◌, [], ◌∷◌, ◌++◌, Option, None, Some, if◌then◌else◌}
-use Rattle.os_files.specs.Bytes.{Bytes}
+use Rattle.base_files.specs.Bytes.{Bytes}
 
 -- what comes before it, or all where there is none
 abbrev pub before_equals : Bytes → Bytes

@@ -1,6 +1,6 @@
 -- rustc's table: each option with what it is for and how it takes a value; 61 is '='.
 use Rattle.std.specs.Prelude.{false, List, [], ◌∷◌, None, Some, codes}
-use Rattle.os_files.specs.Bytes.{Bytes}
+use Rattle.base_files.specs.Bytes.{Bytes}
 use Rattle.cmdlines_base.specs.Reading.{Reading, reading}
 use Rattle.cmdlines_base.specs.Table.{Entry}
 use Rattle.cmdlines_base.specs.declared.argument.ArgDisposition.TheVariants.{CanBeSeparated}

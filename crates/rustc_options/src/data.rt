@@ -4,11 +4,11 @@ use crate::kind::ArgKind;
 use crate::types::{
     ArgCodegen, ArgCrateTypes, ArgExtern, ArgLinkLibrary, ArgLinkPath, ArgTarget, ArgUnstable,
 };
+use base_files::OsBytes;
 use cmdlines_base::{
     ArgParseResult, ArgToStringResult, ArgumentValue, FromArg, IntoArg, path_to_string,
     word_to_string,
 };
-use os_files::OsBytes;
 use std::alloc::{AllocError, Global};
 
 /// The value of an argument: what its option is for, and what its word says.

@@ -6,7 +6,7 @@ ghost use Rattle.std.specs.List.{list_any};
 ghost use Rattle.std.specs.List.Sorted.{IsStrictlySortedBy};
 ghost use Rattle.std.specs.Ordering.{nat_cmp};
 ghost use Rattle.std.specs.Str.{bytes_eq};
-ghost use Rattle.os_files.specs.Bytes.{Bytes};
+ghost use Rattle.base_files.specs.Bytes.{Bytes};
 ghost use Rattle.rustc_options.specs.Splitting.{behind_equals};
 ghost use Rattle.rustc_options.specs.Data.{data_of, word_of, refusal, prints_its_word, printed_type};
 ghost use Rattle.rustc_options.specs.Sets.{between_commas, joined_by_commas, in_order};

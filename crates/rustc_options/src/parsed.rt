@@ -1,8 +1,8 @@
 //! What a request to rustc asks for.
 
 use crate::data::ArgData;
+use base_files::{Listed, OsBytes};
 use cmdlines_base::{Argument, ColorMode};
-use os_files::{Listed, OsBytes};
 
 /// The types of crate that can be cached, and whether each is made.
 #[derive(Clone, Copy, Debug, PartialEq, Eq)]

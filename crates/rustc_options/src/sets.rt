@@ -3,7 +3,7 @@
 ghost use Rattle.std.specs.Prelude.{◌≡◌, IfOk};
 ghost use Rattle.rustc_options.specs.Sets.{between_commas, joined_by_commas, in_order};
 
-use os_files::{Listed, OsBytes};
+use base_files::{Listed, OsBytes};
 use std::alloc::{AllocError, Global};
 use std::collections::BTreeSet;
 

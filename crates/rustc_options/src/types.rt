@@ -7,11 +7,11 @@ ghost use Rattle.rustc_options.specs.Data.{is_rlib, is_staticlib, crate_types_of
 
 use crate::sets::{between_commas, in_order, joined_by_commas};
 use crate::splitting::{maybe_with_equals, split_at_equals, with_equals};
+use base_files::{Listed, OsBytes, extension};
 use cmdlines_base::{
     ArgParseError, ArgParseResult, ArgToStringResult, FromArg, IntoArg, path_to_string,
     word_to_string,
 };
-use os_files::{Listed, OsBytes, extension};
 use std::alloc::{AllocError, Global};
 
 /// What to make of a crate: `--crate-type`.

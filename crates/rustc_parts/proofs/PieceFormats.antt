@@ -5,11 +5,11 @@ use Rattle.std.specs.List.{flat_map, list_all, AllByRecursion}
 use Rattle.std.proofs.lemmas.Bool.{and_parts, eqb-true, eq-eqb, ltb-false, le-ltb}
 use Rattle.std.proofs.lemmas.List.{append-nil, drop_at, get_or-drop, length-append, length-take, nil_from_length, take-append-drop, take_at}
 use Rattle.std.proofs.lemmas.List.Concat.{flat_map-cons}
-use Rattle.os_files.specs.Bytes.{Bytes}
-use Rattle.byte_formats.specs.FieldFormats.{bind_some, both_format, framed_format, if_some, some_is, Takes-then, times_again, times_takes, unless_some}
-use Rattle.byte_formats.specs.Formats.{IsBytes, IsFormat, Takes}
-use Rattle.byte_formats.specs.Reading.{Read, ◌>>=◌, framed_at, taken_at, times_at}
-use Rattle.byte_formats.specs.Spelling.{BothFit, FitsFrame, IfFits, framed, number}
+use Rattle.base_files.specs.Bytes.{Bytes}
+use Rattle.base_formats.specs.FieldFormats.{bind_some, both_format, framed_format, if_some, some_is, Takes-then, times_again, times_takes, unless_some}
+use Rattle.base_formats.specs.Formats.{IsBytes, IsFormat, Takes}
+use Rattle.base_formats.specs.Reading.{Read, ◌>>=◌, framed_at, taken_at, times_at}
+use Rattle.base_formats.specs.Spelling.{BothFit, FitsFrame, IfFits, framed, number}
 use Rattle.rustc_parts.specs.Formed.{IsDigest, is_digit}
 use Rattle.rustc_parts.specs.Material.{env_dep_bytes, joined, pair_bytes}
 use Rattle.rustc_parts.specs.Reading.{behind_at, byte_at, digest_at, each_at, env_dep_at, pair_at, optional_digest_at, valued, words_at}

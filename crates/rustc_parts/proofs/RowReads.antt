@@ -1,9 +1,9 @@
 -- Fields read one after another, as the loops do.
 use Rattle.std.proofs.Common.{◌≡◌, ℕ, suc, ◌-◌, ◌+◌, ◌≤◌, ◌<◌, List, [], ◌∷◌, ◌++◌, length, get_or, drop, Some, None, refl, sym, ap, ◌∙◌, append_assoc, arith}
 use Rattle.std.proofs.lemmas.List.{append-nil, drop_more, drop_all}
-use Rattle.byte_formats.specs.declared.fault.ReadFault.{ReadFault}
-use Rattle.byte_formats.specs.declared.fault.ReadFault.TheVariants as faults
-use Rattle.byte_formats.specs.Reading.{Read, ◌>>=◌, Fails, times_at}
+use Rattle.base_formats.specs.declared.fault.ReadFault.{ReadFault}
+use Rattle.base_formats.specs.declared.fault.ReadFault.TheVariants as faults
+use Rattle.base_formats.specs.Reading.{Read, ◌>>=◌, Fails, times_at}
 use Rattle.rustc_parts.specs.Reading.{each_at}
 
 -- what was read before, and what is still read

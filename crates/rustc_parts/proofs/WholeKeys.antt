@@ -5,11 +5,11 @@ use Rattle.std.specs.List.{flat_map, AllByRecursion}
 use Rattle.std.proofs.lemmas.Bool.{eqb-true, eqb-false, eq-eqb, ne_eqb}
 use Rattle.std.proofs.lemmas.List.{drop_all, drop_more, get_or-append-add, length-append, take-append-drop, take_at}
 use Rattle.std.proofs.lemmas.List.Concat.{flat_map-cons}
-use Rattle.os_files.specs.Bytes.{Bytes}
-use Rattle.byte_formats.specs.FieldFormats.{bind_some, both_format, framed_format, if_some, some_is, unless_some}
-use Rattle.byte_formats.specs.Formats.{IsBytes, IsFormat}
-use Rattle.byte_formats.specs.Reading.{◌>>=◌, times_at}
-use Rattle.byte_formats.specs.Spelling.{BothFit, FitsFrame, both, framed, number}
+use Rattle.base_files.specs.Bytes.{Bytes}
+use Rattle.base_formats.specs.FieldFormats.{bind_some, both_format, framed_format, if_some, some_is, unless_some}
+use Rattle.base_formats.specs.Formats.{IsBytes, IsFormat}
+use Rattle.base_formats.specs.Reading.{◌>>=◌, times_at}
+use Rattle.base_formats.specs.Spelling.{BothFit, FitsFrame, both, framed, number}
 use Rattle.rustc_parts.specs.Formed.{HasDigests, IsDigest, digest_digits}
 use Rattle.rustc_parts.specs.Material.{env_dep_bytes, joined, material_of, pair_bytes}
 use Rattle.rustc_parts.specs.Reading.{Files, Front, Surroundings, digest_at, files_at, front_at, front_of, parts_at, parts_from, surroundings_at, version_at}

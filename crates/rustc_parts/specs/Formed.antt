@@ -3,8 +3,8 @@ use Rattle.std.specs.Prelude.{◌≡◌, ℕ, Bool, true, ◌==◌, ◌&&◌, �
 use Rattle.std.specs.List.{list_all, AllByRecursion}
 use Rattle.std.specs.List.Sorted.{IsSorted}
 use Rattle.std.specs.Str.{byte}
-use Rattle.os_files.specs.Bytes.{Bytes}
-use Rattle.byte_formats.specs.Spelling.{IfFits}
+use Rattle.base_files.specs.Bytes.{Bytes}
+use Rattle.base_formats.specs.Spelling.{IfFits}
 use Rattle.rustc_parts.specs.Orders.{env_dep_cmp, pair_cmp}
 use Rattle.rustc_parts.specs.declared.parts.Parts.{Parts}
 

@@ -2,8 +2,8 @@
 use Rattle.std.specs.Prelude.{List, [], ◌∷◌, ◌++◌, unwrap_or, codes}
 use Rattle.std.specs.List.{flat_map}
 use Rattle.std.specs.Str.{byte}
-use Rattle.os_files.specs.Bytes.{Bytes}
-use Rattle.byte_formats.specs.Spelling.{framed}
+use Rattle.base_files.specs.Bytes.{Bytes}
+use Rattle.base_formats.specs.Spelling.{framed}
 use Rattle.rustc_parts.specs.declared.parts.EnvDep.{EnvDep}
 use Rattle.rustc_parts.specs.declared.parts.Parts.{Parts}
 

@@ -3,7 +3,7 @@ use Rattle.std.specs.Ordering.{nat_cmp, ordering_then}
 use Rattle.std.specs.Option.{option_cmp}
 use Rattle.std.specs.Cmp.Lexicographic.{slice_cmp}
 use Rattle.std.specs.declared.cmp.Ordering.{Ordering}
-use Rattle.os_files.specs.Bytes.{Bytes}
+use Rattle.base_files.specs.Bytes.{Bytes}
 use Rattle.rustc_parts.specs.declared.parts.EnvDep.{EnvDep}
 
 -- by their bytes

@@ -2,8 +2,8 @@
 use Rattle.std.specs.Prelude.{ℕ, Bool, true, false, ◌==◌, ◌-◌, List, [], ◌∷◌, length, take, slice_index, Option, None, Some, if◌then◌else◌}
 use Rattle.std.specs.List.{list_all}
 use Rattle.std.specs.Str.{byte}
-use Rattle.os_files.specs.Bytes.{Bytes}
-use Rattle.byte_formats.specs.Reading.{Read, ◌>>=◌, both_at, framed_at, taken_at, times_at}
+use Rattle.base_files.specs.Bytes.{Bytes}
+use Rattle.base_formats.specs.Reading.{Read, ◌>>=◌, both_at, framed_at, taken_at, times_at}
 use Rattle.rustc_parts.specs.Formed.{digest_digits, is_digit}
 use Rattle.rustc_parts.specs.declared.parts.EnvDep.{EnvDep}
 use Rattle.rustc_parts.specs.declared.parts.Parts.{Parts}

@@ -2,9 +2,9 @@
 
 ghost use Rattle.std.specs.Prelude.{◌≡◌, ℕ};
 ghost use Rattle.std.specs.declared.cmp.Ordering.TheVariants.{Equal};
-ghost use Rattle.os_files.specs.Bytes.{Bytes};
+ghost use Rattle.base_files.specs.Bytes.{Bytes};
 ghost use Rattle.std.specs.Cmp.{IsTotalOrder};
-ghost use Rattle.byte_formats.specs.Spelling.{FitsFrame};
+ghost use Rattle.base_formats.specs.Spelling.{FitsFrame};
 ghost use Rattle.rustc_parts.specs.Formed.{HasDigests};
 ghost use Rattle.rustc_parts.specs.Orders.{env_dep_cmp, pair_cmp};
 ghost use Rattle.rustc_parts.specs.declared.parts.EnvDep.{EnvDep};

@@ -6,7 +6,7 @@ ghost use Rattle.rustc_parts.specs.Formed.{IsSortedByNames};
 ghost use Rattle.rustc_parts.specs.Orders.{env_dep_cmp, pair_cmp};
 
 use crate::parts::{EnvDep, Parts};
-use os_files::OsBytes;
+use base_files::OsBytes;
 use std::cmp::Ordering;
 
 /// Whether a variable that a source names comes before another one: by name, one that isn't set before those that are, and by value.

@@ -3,7 +3,7 @@
 ghost use Rattle.std.specs.Prelude.{◌≡◌, IfOk, is_some, length, map};
 ghost use Rattle.rustc_parts.specs.Shapes.{shape_of};
 
-use os_files::{Listed, OsBytes};
+use base_files::{Listed, OsBytes};
 use std::alloc::{AllocError, Global};
 
 /// A variable that a source names while it is compiled: its name, and its value where it is set.

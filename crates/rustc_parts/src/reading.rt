@@ -2,8 +2,8 @@
 
 ghost use Rattle.std.specs.Prelude.{◌≡◌, IfOk, IfSome, Some};
 ghost use Rattle.std.specs.List.{list_all};
-ghost use Rattle.byte_formats.specs.Reading.{Gives, both_at, taken_at, times_at};
-ghost use Rattle.byte_formats.specs.Spelling.{FitsFrame};
+ghost use Rattle.base_formats.specs.Reading.{Gives, both_at, taken_at, times_at};
+ghost use Rattle.base_formats.specs.Spelling.{FitsFrame};
 ghost use Rattle.rustc_parts.specs.Formed.{AreFormed, IsSortedByNames, digest_digits, is_digit};
 ghost use Rattle.rustc_parts.specs.Material.{material_of};
 ghost use Rattle.rustc_parts.specs.Reading.{byte_at, digest_at, each_at, env_dep_at, files_at, front_at, optional_digest_at, pair_at, parts_at, surroundings_at, valued, version_at, words_at};
@@ -13,8 +13,8 @@ ghost use Rattle.rustc_parts.specs.declared.parts.Parts.{Parts};
 use crate::order::is_sorted_by_names;
 use crate::parts::{EnvDep, Parts, RShape};
 use crate::writing::{CACHE_VERSION, END};
-use byte_formats::{ReadFault, read_framed, read_taken};
-use os_files::{Listed, OsBytes};
+use base_files::{Listed, OsBytes};
+use base_formats::{ReadFault, read_framed, read_taken};
 use std::alloc::{AllocError, Global};
 
 /// How many digits a digest has.
@@ -137,7 +137,7 @@ fn read_words<'a>(
 }
 
 /// A name and a value, and the bytes after them. It takes no memory.
-#[tactic(auto, unfolding(crate::specs::Reading::pair_at, byte_formats::specs::Reading::both_at, crate::specs::Reading::behind_at))]
+#[tactic(auto, unfolding(crate::specs::Reading::pair_at, base_formats::specs::Reading::both_at, crate::specs::Reading::behind_at))]
 fn read_pair(bytes: &[u8]) -> Result<((&[u8], &[u8]), &[u8]), ReadFault>
     ensures { Gives (λ x. ((x.0.0.now, x.0.1.now), x.1.now)) result (pair_at bytes.now) }
 {
@@ -228,7 +228,7 @@ struct FileDigests {
 }
 
 /// The digests of files, and the bytes after them.
-#[tactic(auto, unfolding(crate::specs::Reading::files_at, byte_formats::specs::Reading::both_at))]
+#[tactic(auto, unfolding(crate::specs::Reading::files_at, base_formats::specs::Reading::both_at))]
 fn read_files<'a>(
     alloc: Global,
     shape: &RShape,
@@ -264,7 +264,7 @@ struct Around {
 }
 
 /// The variables and the directory, and the bytes after them.
-#[tactic(auto, unfolding(crate::specs::Reading::surroundings_at, byte_formats::specs::Reading::both_at))]
+#[tactic(auto, unfolding(crate::specs::Reading::surroundings_at, base_formats::specs::Reading::both_at))]
 fn read_around<'a>(
     alloc: Global,
     shape: &RShape,
@@ -286,7 +286,7 @@ fn read_around<'a>(
 }
 
 /// The digests of files, then the variables and the directory, and the bytes after them.
-#[tactic(auto, unfolding(byte_formats::specs::Reading::both_at))]
+#[tactic(auto, unfolding(base_formats::specs::Reading::both_at))]
 fn read_files_and_around<'a>(
     alloc: Global,
     shape: &RShape,
@@ -323,7 +323,7 @@ fn read_version(alloc: Global, bytes: &[u8]) -> Result<OsBytes, ReadFault>
 }
 
 /// The pieces, whatever order their variables have.
-#[tactic(auto, unfolding(crate::specs::Reading::parts_at, crate::specs::Reading::front_at, crate::specs::Reading::behind_at, byte_formats::specs::Reading::both_at))]
+#[tactic(auto, unfolding(crate::specs::Reading::parts_at, crate::specs::Reading::front_at, crate::specs::Reading::behind_at, base_formats::specs::Reading::both_at))]
 fn read_parts(alloc: Global, bytes: &[u8], shape: &RShape) -> Result<Parts, ReadFault>
     ensures { Gives (λ parts. parts) result (parts_at digest_digits shape.now bytes.now) }
 {

@@ -2,12 +2,12 @@
 
 ghost use Rattle.std.specs.Prelude.{◌≡◌, ◌++◌, IfOk, OnOk, unwrap_or, []};
 ghost use Rattle.std.specs.List.{flat_map};
-ghost use Rattle.byte_formats.specs.Spelling.{framed};
+ghost use Rattle.base_formats.specs.Spelling.{framed};
 ghost use Rattle.rustc_parts.specs.Material.{env_dep_bytes, files_bytes, joined, material_of, pair_bytes};
 
 use crate::parts::{EnvDep, Parts};
-use byte_formats::put_framed;
-use os_files::OsBytes;
+use base_files::OsBytes;
+use base_formats::put_framed;
 use std::alloc::{AllocError, Global};
 
 /// The version of this layout.

@@ -6,7 +6,7 @@ use Rattle.std.specs.Str.Iter.{lines_rest, lines_steps}
 use Rattle.std.specs.declared.str.Lines.{Lines}
 use Rattle.std.specs.Str.Lines.{lines}
 use Rattle.std.proofs.lemmas.Iterator.Splits.{YieldsList-from_lines}
-use Rattle.os_files.specs.Bytes.{Bytes}
+use Rattle.base_files.specs.Bytes.{Bytes}
 use Rattle.rustc_texts.specs.DepInfo.{first_of}
 
 module _ {S A B : Type 0} (steps : S → Option A → S → Type 0) (v : A → B) (s : S) where

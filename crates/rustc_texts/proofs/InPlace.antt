@@ -4,7 +4,7 @@ use Rattle.std.specs.Prelude.{cond, not, if◌then◌else◌}
 use Rattle.std.specs.Str.{bytes_eq}
 use Rattle.std.proofs.lemmas.List.Elements.{filter-append}
 use Rattle.std.proofs.lemmas.Slice.Eq.{bytes_eq-Decides}
-use Rattle.os_files.specs.Bytes.{Bytes}
+use Rattle.base_files.specs.Bytes.{Bytes}
 use Rattle.rustc_texts.specs.Outputs.{has_name, with_name, without_name}
 use Rattle.rustc_texts.specs.Places.{is_none_of}
 use Rattle.rustc_texts.proofs.EachOnce.{differs-back}

@@ -4,8 +4,8 @@ use Rattle.std.specs.List.{slice_split, starts_with}
 use Rattle.std.specs.Option.{option_map}
 use Rattle.std.specs.Str.{byte}
 use Rattle.std.specs.Str.Lines.{lines}
-use Rattle.os_files.specs.Bytes.{Bytes}
-use Rattle.os_files.specs.Path.{join}
+use Rattle.base_files.specs.Bytes.{Bytes}
+use Rattle.base_files.specs.Path.{join}
 
 -- what comes after the first `: ` of a line
 abbrev pub behind_colon : Bytes → Option Bytes

@@ -3,7 +3,7 @@ use Rattle.std.specs.Prelude.{nat_eq, List, Option, None, Some, length, drop, co
 use Rattle.std.specs.List.{starts_with}
 use Rattle.std.specs.Option.{option_map}
 use Rattle.std.specs.Str.Lines.{lines}
-use Rattle.os_files.specs.Bytes.{Bytes}
+use Rattle.base_files.specs.Bytes.{Bytes}
 use Rattle.rustc_options.specs.Splitting.{before_equals, behind_equals}
 use Rattle.rustc_parts.specs.declared.parts.EnvDep.{EnvDep}
 

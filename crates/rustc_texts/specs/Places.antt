@@ -3,7 +3,7 @@ use Rattle.std.specs.Prelude.{◌≡◌, ℕ, Bool, false, nat_le, List, drop, n
 use Rattle.std.specs.BTreeMap.{BTreeMap, get}
 use Rattle.std.specs.Cmp.Lexicographic.{slice_cmp}
 use Rattle.std.specs.Ordering.{nat_cmp}
-use Rattle.os_files.specs.Bytes.{Bytes}
+use Rattle.base_files.specs.Bytes.{Bytes}
 use Rattle.rustc_texts.specs.Outputs.{has_name}
 
 -- whether the last place is that place or one after it

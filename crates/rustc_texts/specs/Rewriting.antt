@@ -3,7 +3,7 @@ use Rattle.std.specs.Prelude.{ℕ, Bool, ◌==◌, nat_eq, List, [], ◌∷◌, 
 use Rattle.std.specs.List.{after_first, before_first, flat_map, join_with_byte, starts_with}
 use Rattle.std.specs.Option.{option_map}
 use Rattle.std.specs.Str.{byte}
-use Rattle.os_files.specs.Bytes.{Bytes}
+use Rattle.base_files.specs.Bytes.{Bytes}
 use Rattle.rustc_texts.specs.DepInfo.{behind_colon}
 
 abbrev pub is_line_end : ℕ → Bool

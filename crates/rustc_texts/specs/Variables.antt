@@ -2,7 +2,7 @@
 use Rattle.std.specs.Prelude.{nat_eq, Bool, not, ◌&&◌, codes}
 use Rattle.std.specs.List.{starts_with}
 use Rattle.std.specs.Str.{bytes_eq}
-use Rattle.os_files.specs.Bytes.{Bytes}
+use Rattle.base_files.specs.Bytes.{Bytes}
 
 -- those of cargo, but for its registries, its job server, its count of jobs and its flags
 abbrev pub counts : Bytes → Bool

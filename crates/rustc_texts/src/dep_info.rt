@@ -3,12 +3,12 @@
 ghost use Rattle.std.specs.Prelude.{◌≡◌, ◌↔◌, None, IfOk, IfSome, IsErrOf, IsPermutation, map};
 ghost use Rattle.std.specs.List.Sorted.{IsSorted};
 ghost use Rattle.std.specs.Option.{option_copied};
-ghost use Rattle.os_files.specs.Path.{join, path_cmp};
+ghost use Rattle.base_files.specs.Path.{join, path_cmp};
 ghost use Rattle.rustc_texts.specs.DepInfo.{behind_colon, names_in, rule_of, sources_of};
 ghost use Rattle.rustc_texts.specs.declared.fault.TextFault.TheVariants.{NoRule};
 
 use crate::fault::TextFault;
-use os_files::{Listed, OsBytes, compare_paths, join, paths_have_one_order};
+use base_files::{Listed, OsBytes, compare_paths, join, paths_have_one_order};
 use std::alloc::{AllocError, Global};
 use std::mem;
 

@@ -3,7 +3,7 @@
 ghost use Rattle.std.specs.Prelude.{◌≡◌, IfOk, option_copied};
 ghost use Rattle.rustc_texts.specs.EnvDeps.{env_dep_in, env_dep_of, env_deps_of, mark, told_in};
 
-use os_files::{Listed, OsBytes};
+use base_files::{Listed, OsBytes};
 use rustc_options::split_at_equals;
 use rustc_parts::parts::EnvDep;
 use std::alloc::{AllocError, Global};

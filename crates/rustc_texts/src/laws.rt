@@ -3,7 +3,7 @@
 ghost use Rattle.std.specs.Prelude.{◌≡◌, Bool, true, false, List, ◌++◌, IsPermutation, codes, map};
 ghost use Rattle.std.specs.List.{AllByRecursion, IsDistinct, list_any};
 ghost use Rattle.std.specs.Str.{bytes_eq};
-ghost use Rattle.os_files.specs.Bytes.{Bytes};
+ghost use Rattle.base_files.specs.Bytes.{Bytes};
 ghost use Rattle.cmdlines_base.specs.Reading.{begins_with_at};
 ghost use Rattle.rustc_options.specs.Asks.{RustAsks, Said};
 ghost use Rattle.rustc_texts.specs.Outputs.{EndsInOne, has_name, library, metadata, with_metadata};

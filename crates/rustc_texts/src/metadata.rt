@@ -1,12 +1,12 @@
 //! The names of metadata, which rustc doesn't report.
 
 ghost use Rattle.std.specs.Prelude.{◌≡◌, false, true, List, IfOk, filter, fold};
-ghost use Rattle.os_files.specs.Bytes.{Bytes};
+ghost use Rattle.base_files.specs.Bytes.{Bytes};
 ghost use Rattle.rustc_texts.specs.Outputs.{has_name, is_rlib, metadata_name, with_metadata, with_metadata_of};
 ghost use Rattle.rustc_texts.specs.Places.{TellsLast, is_none_of};
 
 use crate::name_sets::{add_name, insert_name, last_places, name_set, remove_name, stands_from};
-use os_files::OsBytes;
+use base_files::OsBytes;
 use std::alloc::{AllocError, Global};
 use std::collections::BTreeMap;
 

@@ -1,11 +1,11 @@
 //! Sets of names, and where names occur last in a list.
 
 ghost use Rattle.std.specs.Prelude.{◌≡◌, List, drop, not, IfOk, OnOk};
-ghost use Rattle.os_files.specs.Bytes.{Bytes};
+ghost use Rattle.base_files.specs.Bytes.{Bytes};
 ghost use Rattle.rustc_texts.specs.Outputs.{Tells, has_name, with_name, without_name};
 ghost use Rattle.rustc_texts.specs.Places.{TellsLast};
 
-use os_files::OsBytes;
+use base_files::OsBytes;
 use std::alloc::{AllocError, Global};
 use std::collections::{BTreeMap, BTreeSet};
 

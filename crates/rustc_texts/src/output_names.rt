@@ -6,7 +6,7 @@ ghost use Rattle.rustc_texts.specs.Outputs.{each_once, is_no_binary, is_of_crate
 
 use crate::metadata::{is_rlib, with_metadata};
 use crate::name_sets::add_name;
-use os_files::{Listed, OsBytes};
+use base_files::{Listed, OsBytes};
 use std::alloc::{AllocError, Global};
 use std::collections::BTreeSet;
 

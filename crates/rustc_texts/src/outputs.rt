@@ -2,12 +2,12 @@
 
 ghost use Rattle.std.specs.Prelude.{◌≡◌, ◌++◌, IfOk, map};
 ghost use Rattle.std.specs.Option.{option_copied, option_to_list};
-ghost use Rattle.os_files.specs.Path.{join};
+ghost use Rattle.base_files.specs.Path.{join};
 ghost use Rattle.rustc_options.specs.Asks.{asks_in};
 ghost use Rattle.rustc_texts.specs.Outputs.{demanded, is_there, optional, optional_if, outputs_with, targets_with, with_optional};
 
+use base_files::{Listed, OsBytes, join};
 use cmdlines_base::ArtifactDescriptor;
-use os_files::{Listed, OsBytes, join};
 use rustc_options::parsed::ParsedArguments;
 use std::alloc::{AllocError, Global};
 

@@ -8,7 +8,7 @@ ghost use Rattle.rustc_texts.specs.declared.fault.TextFault.TheVariants.{NoRule}
 
 use crate::dep_info::behind_colon;
 use crate::fault::TextFault;
-use os_files::OsBytes;
+use base_files::OsBytes;
 use std::alloc::{AllocError, Global};
 
 /// The first line, and what comes after it.

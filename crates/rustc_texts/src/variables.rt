@@ -5,7 +5,7 @@ ghost use Rattle.std.specs.List.Sorted.{IsSorted};
 ghost use Rattle.rustc_parts.specs.Orders.{pair_cmp};
 ghost use Rattle.rustc_texts.specs.Variables.{compiles_with, counts};
 
-use os_files::{Listed, OsBytes};
+use base_files::{Listed, OsBytes};
 use rustc_parts::{compare_pairs, variables_have_one_order};
 use std::alloc::{AllocError, Global};
 

@@ -8,8 +8,8 @@ ghost use Rattle.rustc_options.specs.Asks.{asks_in, said_in};
 ghost use Rattle.rustc_options.specs.Sorted.{sorted_by};
 ghost use Rattle.rustc_texts.specs.Words.{all_words, cfgs_of, color_words, compile_words, counts_beside, dep_info_words, file_names_words, is_cfg, is_flag, is_left_out, is_on_outputs, kept_words, rest_of, words_cmp, words_in};
 
+use base_files::{Listed, OsBytes};
 use cmdlines_base::Argument;
-use os_files::{Listed, OsBytes};
 use rustc_options::ArgData;
 use rustc_options::parsed::ParsedArguments;
 use std::alloc::{AllocError, Global};

@@ -2,7 +2,7 @@
 use Rattle.std.proofs.Common.{◌≡◌, Bool, true, false, not, List, [], ◌∷◌, Some, None, refl, ap, sym, ◌∙◌, if◌then◌else◌}
 use Rattle.std.specs.Prelude.{find}
 use Rattle.std.specs.Option.{option_map}
-use Rattle.os_files.specs.Bytes.{Bytes}
+use Rattle.base_files.specs.Bytes.{Bytes}
 use Rattle.ckeys_records.specs.declared.fault.Fault.{Fault}
 use Rattle.ckeys_records.specs.declared.fault.Fault.TheVariants.{BadDigest}
 use Rattle.rustc_parts.specs.Formed.{digest_digits, is_digest}

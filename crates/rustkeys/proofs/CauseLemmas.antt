@@ -1,6 +1,6 @@
 -- Causes of faults, step by step.
 use Rattle.std.proofs.Common.{◌≡◌, Option, Some, None, Result, Ok, Err, IfErr, ap, ◌∙◌}
-use Rattle.os_files.specs.Bytes.{Bytes}
+use Rattle.base_files.specs.Bytes.{Bytes}
 use Rattle.ckeys_records.specs.Faults.{KeyCause, or_else}
 use Rattle.ckeys_records.specs.Causes.{stage_of}
 use Rattle.ckeys_records.specs.declared.fault.Fault.{Fault}

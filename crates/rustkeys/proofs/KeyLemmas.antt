@@ -2,8 +2,8 @@
 use Rattle.std.proofs.Common.{◌≡◌, ℕ, inl, inr, List, [], ◌∷◌, Option, Some, None, map, refl, ap, arith}
 use Rattle.std.specs.List.{AllByRecursion, Contains}
 use Rattle.std.specs.Option.{option_map, option_to_list}
-use Rattle.os_files.specs.Bytes.{Bytes}
-use Rattle.byte_formats.specs.Spelling.{FitsFrame, IfFits}
+use Rattle.base_files.specs.Bytes.{Bytes}
+use Rattle.base_formats.specs.Spelling.{FitsFrame, IfFits}
 use Rattle.ckeys_records.proofs.KeyLemmas.{contents_told}
 use Rattle.ckeys_base.specs.Hex.{hex_of}
 use Rattle.rustc_parts.specs.Formed.{HasDigests, IsDigest}

@@ -1,7 +1,7 @@
 -- How often rustc was asked, question by question.
 use Rattle.std.proofs.Common.{◌≡◌, ℕ, ℤ, List, [], ◌∷◌, None, inl, inr, ap, subst, sym, ◌∙◌}
-use Rattle.os_files.specs.Bytes.{Bytes, ticked}
-use Rattle.os_files.specs.Tree.{Tree}
+use Rattle.base_files.specs.Bytes.{Bytes, ticked}
+use Rattle.base_files.specs.Tree.{Tree}
 use Rattle.ckeys_records.specs.Meaning.{AtMostOnce, Meaning, Variables, scene_with}
 use Rattle.rustc_options.specs.Asks.{asks_in}
 use Rattle.rustkeys.specs.Calls.{dep_info_fault_of}

@@ -5,8 +5,8 @@ use Rattle.std.specs.Option.{option_map}
 use Rattle.std.specs.Ordering.{int_eq}
 use Rattle.std.specs.Str.{IsUtf8, is_utf8}
 use Rattle.std.proofs.lemmas.Str.{IsUtf8-from_is_utf8, is_utf8-from_IsUtf8}
-use Rattle.os_files.specs.Bytes.{Bytes}
-use Rattle.os_files.specs.Path.{join}
+use Rattle.base_files.specs.Bytes.{Bytes}
+use Rattle.base_files.specs.Path.{join}
 use Rattle.ckeys_records.specs.Faults.{or_else}
 use Rattle.ckeys_records.specs.Meaning.{made_of}
 use Rattle.ckeys_records.specs.declared.fault.Fault.TheVariants.{AnswerNotUtf8, PreprocessFailed}

@@ -2,9 +2,9 @@
 use Rattle.std.specs.Prelude.{not, List, map, find, Option, None, Some, is_none, if◌then◌else◌}
 use Rattle.std.specs.Option.{option_map, option_to_list}
 use Rattle.std.specs.Str.{is_utf8}
-use Rattle.os_files.specs.Bytes.{Bytes}
-use Rattle.os_files.specs.Tree.{Tree}
-use Rattle.include_records.specs.Surroundings.{contents_in}
+use Rattle.base_files.specs.Bytes.{Bytes}
+use Rattle.base_files.specs.Tree.{Tree}
+use Rattle.ckeys_include_records.specs.Surroundings.{contents_in}
 use Rattle.ckeys_records.specs.Faults.{or_else, preprocess_fault_of, read_fault_of}
 use Rattle.ckeys_records.specs.Meaning.{text_in}
 use Rattle.ckeys_records.specs.Meaning.{Made, Meaning}

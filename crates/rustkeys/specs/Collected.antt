@@ -1,9 +1,9 @@
 -- What is collected of rustc's answers and of the files of a request before it has its key.
 use Rattle.std.specs.Prelude.{◌≡◌, List, Option, map, string_bytes}
 use Rattle.std.specs.Option.{option_map}
-use Rattle.os_files.specs.Bytes.{Bytes}
-use Rattle.os_files.specs.Tree.{Tree}
-use Rattle.include_records.specs.Surroundings.{contents_in}
+use Rattle.base_files.specs.Bytes.{Bytes}
+use Rattle.base_files.specs.Tree.{Tree}
+use Rattle.ckeys_include_records.specs.Surroundings.{contents_in}
 use Rattle.ckeys_records.specs.Meaning.{text_in}
 use Rattle.rustkeys.specs.Questions.{Answers, Question, extern_paths, profile_path, sources_in, target_path}
 use Rattle.rustkeys.specs.Records.{digest_text}

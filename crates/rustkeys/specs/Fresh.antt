@@ -1,8 +1,8 @@
 -- What a compile of a request gives, and the text on dependencies beside it.
 use Rattle.std.specs.Prelude.{◌≡◌, Bool, List, Option, codes, option_and_then}
 use Rattle.std.specs.Option.{option_to_list}
-use Rattle.os_files.specs.Bytes.{Bytes}
-use Rattle.os_files.specs.Tree.{Tree}
+use Rattle.base_files.specs.Bytes.{Bytes}
+use Rattle.base_files.specs.Tree.{Tree}
 use Rattle.cmdlines_base.specs.Artifacts.{Artifacts}
 use Rattle.cmdlines_base.specs.Reading.{Item}
 use Rattle.ckeys_records.specs.Meaning.{text_in}

@@ -1,8 +1,8 @@
 -- The call that a key is made of.
 use Rattle.std.specs.Prelude.{ℤ}
 use Rattle.std.specs.Option.{option_copied}
-use Rattle.os_files.specs.Bytes.{Bytes}
-use Rattle.os_files.specs.Tree.{Tree}
+use Rattle.base_files.specs.Bytes.{Bytes}
+use Rattle.base_files.specs.Tree.{Tree}
 use Rattle.ckeys_records.specs.Meaning.{Variables, scene_with}
 use Rattle.rustc_compiler.specs.Compiler.{Rustc}
 use Rattle.rustc_options.specs.Asks.{asks_in}

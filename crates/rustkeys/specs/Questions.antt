@@ -1,9 +1,9 @@
 -- What rustc is asked before a request has its key, and what it answers.
 use Rattle.std.specs.Prelude.{ℤ, List, [], map, filter, Option, unwrap_or}
 use Rattle.std.specs.Option.{option_map}
-use Rattle.os_files.specs.Bytes.{Bytes}
-use Rattle.os_files.specs.Path.{join, path_cmp}
-use Rattle.os_files.specs.Tree.{Tree}
+use Rattle.base_files.specs.Bytes.{Bytes}
+use Rattle.base_files.specs.Path.{join, path_cmp}
+use Rattle.base_files.specs.Tree.{Tree}
 use Rattle.ckeys_records.specs.Meaning.{text_in}
 use Rattle.ckeys_records.specs.Meaning.{Made, Meaning, Scene, Variables, archive, scene_with, words}
 use Rattle.ckeys_records.specs.declared.step.Step.TheVariants.{ArchiveDigest, DepInfo, FileNames}

@@ -2,8 +2,8 @@
 use Rattle.std.specs.Prelude.{◌≡◌, ◌⊎◌, List, map, Option}
 use Rattle.std.specs.List.{AllByRecursion, Contains}
 use Rattle.std.specs.Option.{option_map, option_to_list}
-use Rattle.os_files.specs.Bytes.{Bytes}
-use Rattle.byte_formats.specs.Spelling.{FitsFrame}
+use Rattle.base_files.specs.Bytes.{Bytes}
+use Rattle.base_formats.specs.Spelling.{FitsFrame}
 use Rattle.ckeys_base.specs.Hex.{hex_of}
 use Rattle.ckeys_records.specs.Keys.{Distinct}
 use Rattle.ckeys_records.specs.Meaning.{Variables}

@@ -1,6 +1,6 @@
 -- How often a tool was asked for a key: rustc on dependencies, and then for the names of outputs; and for the digest of each static library.
 use Rattle.std.specs.Prelude.{◌≡◌, ◌⊎◌, ℕ, List, [], ◌∷◌}
-use Rattle.os_files.specs.Bytes.{ticked}
+use Rattle.base_files.specs.Bytes.{ticked}
 
 -- it was asked at most twice
 abbrev pub AtMostTwice : ℕ → ℕ → Type 0

@@ -5,15 +5,15 @@ ghost use Rattle.std.specs.List.{AllByRecursion, list_all};
 ghost use Rattle.ckeys_records.specs.Faults.{KeyCause};
 ghost use Rattle.ckeys_records.specs.Causes.{HasOwnFault, no_file};
 ghost use Rattle.ckeys_records.specs.Meaning.{AtMostOnce, Scene};
-ghost use Rattle.os_files.specs.Bytes.{ticked};
+ghost use Rattle.base_files.specs.Bytes.{ticked};
 ghost use Rattle.ckeys_records.specs.Views.{AreSteady, ToolFails};
 ghost use Rattle.rustc_parts.specs.Formed.{IsDigest, digest_digits, is_digest, is_digit};
 ghost use Rattle.rustkeys.specs.Calls.{digest_fault_of};
 ghost use Rattle.rustkeys.specs.Questions.{digest_at, digested};
 ghost use Rattle.rustkeys.specs.Runs.{AtMostFor, ticked_for};
 
+use base_files::{Files, Listed, OsBytes};
 use ckeys_records::{Fault, RustcAnswers, Step, ToolFail};
-use os_files::{Files, Listed, OsBytes};
 use std::alloc::Global;
 
 /// Whether a byte is a digit of a digest.

@@ -1,7 +1,7 @@
 //! What rustc is asked before a request has its key, a step at a time.
 
 ghost use Rattle.std.specs.Prelude.{◌≡◌, ℤ, [], ◌∷◌, Some, None, true, map, string_bytes, IfOk, IfErr, OnOk, IsErrOf};
-ghost use Rattle.os_files.specs.Bytes.{ticked};
+ghost use Rattle.base_files.specs.Bytes.{ticked};
 ghost use Rattle.ckeys_records.specs.Faults.{KeyCause};
 ghost use Rattle.ckeys_records.specs.Meaning.{text_in};
 ghost use Rattle.ckeys_records.specs.Causes.{HasOwnFault, no_file, no_step};
@@ -12,9 +12,9 @@ ghost use Rattle.rustkeys.specs.Calls.{answer_fault_of, utf8_fault_of};
 ghost use Rattle.rustkeys.specs.Questions.{dep_info_of, file_names_of, question_of};
 
 use crate::place::RustPlace;
+use base_files::{Files, OsBytes};
 use ckeys_records::{Fault, Printed, RustcAnswers, Step, ToolFail};
 use cmdlines_requests::command_at;
-use os_files::{Files, OsBytes};
 use rustc_texts::{dep_info_words, file_names_words};
 use std::alloc::Global;
 

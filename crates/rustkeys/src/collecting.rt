@@ -2,8 +2,8 @@
 
 ghost use Rattle.std.specs.Prelude.{◌≡◌, ℤ, None, string_bytes, IfOk, IfErr, OnOk};
 ghost use Rattle.std.specs.List.{AllByRecursion};
-ghost use Rattle.os_files.specs.Bytes.{ticked};
-ghost use Rattle.os_files.specs.Views.{FilesFail};
+ghost use Rattle.base_files.specs.Bytes.{ticked};
+ghost use Rattle.base_files.specs.Views.{FilesFail};
 ghost use Rattle.ckeys_records.specs.Faults.{KeyCause};
 ghost use Rattle.ckeys_records.specs.Meaning.{text_in};
 ghost use Rattle.ckeys_records.specs.Causes.{HasOwnFault, no_step};
@@ -19,9 +19,9 @@ use crate::archives::archive_digests;
 use crate::digests::{needed_digests, needed_in, needed_where_named};
 use crate::ordered_lists::sources_in;
 use crate::place::RustPlace;
+use base_files::{Files, Listed, OsBytes};
 use ckeys_base::HashState;
 use ckeys_records::{Fault, RustcAnswers};
-use os_files::{Files, Listed, OsBytes};
 use std::alloc::Global;
 
 /// The text in which rustc reports what the crate depends on, and the digests of its sources.

@@ -9,9 +9,9 @@ ghost use Rattle.rustkeys.specs.Questions.{compile_env_of};
 
 use crate::ordered_lists::compile_env_of;
 use crate::place::RustPlace;
+use base_files::{Listed, OsBytes};
 use cmdlines_base::SingleCompileCommand;
 use cmdlines_requests::{Cacheable, command_at};
-use os_files::{Listed, OsBytes};
 use rustc_parts::parts::Parts;
 use rustc_texts::compile_words;
 use rustc_texts::outputs::{Output, outputs};

@@ -2,16 +2,16 @@
 
 ghost use Rattle.std.specs.Prelude.{◌≡◌, None, [], ◌∷◌, map, IfOk, IfErr, OnOk};
 ghost use Rattle.std.specs.Option.{option_map, option_to_list};
-ghost use Rattle.os_files.specs.Path.{join};
-ghost use Rattle.os_files.specs.Views.{FilesFail};
+ghost use Rattle.base_files.specs.Path.{join};
+ghost use Rattle.base_files.specs.Views.{FilesFail};
 ghost use Rattle.ckeys_records.specs.Causes.{HasOwnFault};
 ghost use Rattle.ckeys_records.specs.Faults.{FileCause, first_missing};
-ghost use Rattle.include_records.specs.Surroundings.{contents_in};
+ghost use Rattle.ckeys_include_records.specs.Surroundings.{contents_in};
 ghost use Rattle.rustkeys.specs.Records.{digest_text};
 
+use base_files::{FileFail, Files, Listed, OsBytes, join};
 use ckeys_base::{Digest, HashState};
 use ckeys_records::Fault;
-use os_files::{FileFail, Files, Listed, OsBytes, join};
 use std::alloc::{AllocError, Global};
 
 /// The paths as read from the directory.

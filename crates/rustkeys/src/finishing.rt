@@ -2,9 +2,9 @@
 
 ghost use Rattle.std.specs.Prelude.{◌≡◌, ℤ, string_bytes, IfOk, OnOk};
 ghost use Rattle.std.specs.Option.{option_copied, option_to_list};
-ghost use Rattle.os_files.specs.Bytes.{Bytes};
-ghost use Rattle.os_files.specs.Tree.{Tree};
-ghost use Rattle.byte_formats.specs.Spelling.{FitsFrame};
+ghost use Rattle.base_files.specs.Bytes.{Bytes};
+ghost use Rattle.base_files.specs.Tree.{Tree};
+ghost use Rattle.base_formats.specs.Spelling.{FitsFrame};
 ghost use Rattle.cmdlines_requests.specs.Small.{command_at};
 ghost use Rattle.rustc_parts.specs.Material.{material_of};
 ghost use Rattle.rustc_parts.specs.Shapes.{shape_of};
@@ -22,9 +22,9 @@ use crate::collecting::Collected;
 use crate::compilation::{RustCompilation, compile_of, copied};
 use crate::ordered_lists::{counted_in, env_deps_in};
 use crate::place::{KnownRust, RustPlace};
+use base_files::{Listed, OsBytes};
 use ckeys_base::{Digest, HashState};
 use cmdlines_base::SingleCompileCommand;
-use os_files::{Listed, OsBytes};
 use rustc_options::parsed::ParsedArguments;
 use rustc_parts::key_bytes;
 use rustc_parts::parts::{EnvDep, Parts, RShape};

@@ -9,8 +9,8 @@ ghost use Rattle.ckeys_records.specs.Causes.{no_file, no_step};
 ghost use Rattle.rustkeys.specs.Questions.{compile_env_of, counted_in, env_deps_in, sources_in};
 ghost use Rattle.rustkeys.specs.Calls.{rule_fault_of};
 
+use base_files::{Listed, OsBytes, paths_have_one_order};
 use ckeys_records::Fault;
-use os_files::{Listed, OsBytes, paths_have_one_order};
 use rustc_parts::parts::EnvDep;
 use rustc_parts::{compare_env_deps, variables_have_one_order};
 use rustc_texts::{TextFault, compile_env, hashed_variables, parse_dep_info, parse_env_dep_info};

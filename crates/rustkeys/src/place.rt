@@ -1,6 +1,6 @@
 //! Where a request to rustc is asked, and of which rustc.
 
-use os_files::OsBytes;
+use base_files::OsBytes;
 use rustc_options::parsed::ParsedArguments;
 
 /// The executable, what the words ask of it, the directory and the variables.

@@ -4,10 +4,10 @@ use Rattle.std.specs.List.{Contains, flat_map}
 use Rattle.std.specs.Result.{IsErrAnd}
 use Rattle.std.proofs.lemmas.List.Concat.{flat_map-cons}
 use Rattle.std.proofs.lemmas.List.Elements.{Contains-append_left, Contains-append_right, Contains-push}
-use Rattle.os_files.specs.Bytes.{Bytes}
-use Rattle.response_files.specs.Causes.{CauseOf}
-use Rattle.response_files.specs.declared.fault.ParseFault.{ParseFault}
-use Rattle.response_files.specs.declared.fault.ParseFault.TheVariants.{Memory, Read}
+use Rattle.base_files.specs.Bytes.{Bytes}
+use Rattle.cmdlines_response_files.specs.Causes.{CauseOf}
+use Rattle.cmdlines_response_files.specs.declared.fault.ParseFault.{ParseFault}
+use Rattle.cmdlines_response_files.specs.declared.fault.ParseFault.TheVariants.{Memory, Read}
 
 -- a file that is asked for in one way is asked for in the other
 pub cause_by : (P Q : Bytes → Type 0) → ((name : Bytes) → P name → Q name) → (fault : ParseFault) → CauseOf P fault → CauseOf Q fault

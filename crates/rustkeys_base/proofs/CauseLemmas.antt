@@ -1,11 +1,11 @@
 -- Causes of faults, later on, and items with a fault.
 use Rattle.std.proofs.Common.{◌≡◌, List, [], ◌∷◌, ◌++◌, map, Ok, Err, ◌∙◌}
-use Rattle.os_files.specs.Bytes.{Bytes}
-use Rattle.os_files.specs.Views.{FilesFail, FilesView}
-use Rattle.response_files.specs.Causes.{CauseOf}
-use Rattle.response_files.specs.Words.{Items}
-use Rattle.response_files.specs.declared.fault.ParseFault.{ParseFault}
-use Rattle.response_files.specs.declared.fault.ParseFault.TheVariants.{Memory, Read}
+use Rattle.base_files.specs.Bytes.{Bytes}
+use Rattle.base_files.specs.Views.{FilesFail, FilesView}
+use Rattle.cmdlines_response_files.specs.Causes.{CauseOf}
+use Rattle.cmdlines_response_files.specs.Words.{Items}
+use Rattle.cmdlines_response_files.specs.declared.fault.ParseFault.{ParseFault}
+use Rattle.cmdlines_response_files.specs.declared.fault.ParseFault.TheVariants.{Memory, Read}
 
 -- a fault from a state of the same files, without a failure in between, has its cause from before too
 pub cause-later : {F : Type 0} (files : FilesView F) (old mid new : F) → files.tree mid ≡ files.tree old → files.failed mid ≡ files.failed old

@@ -5,8 +5,8 @@ use Rattle.std.specs.Option.{is_some, option_map}
 use Rattle.std.specs.Prelude.{codes}
 use Rattle.std.specs.Str.{bytes_eq}
 use Rattle.std.proofs.lemmas.Bool.{false≢true}
-use Rattle.os_files.specs.Bytes.{Bytes}
-use Rattle.os_files.specs.Tree.{Tree}
+use Rattle.base_files.specs.Bytes.{Bytes}
+use Rattle.base_files.specs.Tree.{Tree}
 use Rattle.cmdlines_base.specs.Choices.{sooner}
 use Rattle.cmdlines_base.specs.Reading.{Item, Reading}
 use Rattle.rustc_options.specs.declared.data.ArgData.{ArgData}

@@ -1,8 +1,8 @@
 -- Words that name no response file.
 use Rattle.std.proofs.Common.{◌≡◌, ◌||◌, Bool, true, false, List, [], ◌∷◌, refl}
 use Rattle.std.specs.List.{list_any}
-use Rattle.os_files.specs.Bytes.{Bytes}
-use Rattle.os_files.specs.Tree.{Tree}
+use Rattle.base_files.specs.Bytes.{Bytes}
+use Rattle.base_files.specs.Tree.{Tree}
 use Rattle.rustkeys_base.specs.Expansion.{expanded_by_rustc, in_place_of, names_file}
 
 stays : (dir : Bytes) (tree : Tree) (word : Bytes) → names_file word ≡ false → in_place_of dir tree word ≡ word ∷ []

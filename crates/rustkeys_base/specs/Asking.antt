@@ -1,9 +1,9 @@
 -- Which files a request to rustc asks for before there is a verdict.
 use Rattle.std.specs.Prelude.{◌≡◌, ◌++◌, List, Option, None, Some, codes, map}
 use Rattle.std.specs.List.{Contains, flat_map}
-use Rattle.os_files.specs.Bytes.{Bytes}
-use Rattle.os_files.specs.Path.{join}
-use Rattle.os_files.specs.Tree.{Tree}
+use Rattle.base_files.specs.Bytes.{Bytes}
+use Rattle.base_files.specs.Path.{join}
+use Rattle.base_files.specs.Tree.{Tree}
 use Rattle.cmdlines_base.specs.Reading.{Item}
 use Rattle.rustc_options.specs.declared.data.ArgData.{ArgData}
 use Rattle.rustc_options.specs.declared.data.ArgData.TheVariants.{Target}

@@ -1,8 +1,8 @@
 -- What the words of a request to rustc ask for, as plain values.
 use Rattle.std.specs.Prelude.{◌≡◌, Bool, List, [], ◌∷◌, Option, None, Some, map, unwrap_or}
-use Rattle.os_files.specs.Bytes.{Bytes}
-use Rattle.os_files.specs.Path.{path_cmp}
-use Rattle.os_files.specs.Tree.{Tree}
+use Rattle.base_files.specs.Bytes.{Bytes}
+use Rattle.base_files.specs.Path.{path_cmp}
+use Rattle.base_files.specs.Tree.{Tree}
 use Rattle.cmdlines_base.specs.Printing.{printed_as}
 use Rattle.cmdlines_base.specs.Reading.{Item, raw, unknown, flag, valued, behind_dashes}
 use Rattle.cmdlines_base.specs.declared.compiler_arguments.CompilerArguments.{CompilerArguments}

@@ -1,7 +1,7 @@
 -- Which item of a request's words decides.
 use Rattle.std.specs.Prelude.{◌≡◌, List, ◌∷◌, ◌++◌, None}
-use Rattle.os_files.specs.Bytes.{Bytes}
-use Rattle.os_files.specs.Tree.{Tree}
+use Rattle.base_files.specs.Bytes.{Bytes}
+use Rattle.base_files.specs.Tree.{Tree}
 use Rattle.cmdlines_base.specs.Reading.{Item}
 use Rattle.rustc_options.specs.declared.kind.ArgKind.{ArgKind}
 use Rattle.rustkeys_base.specs.Parsing.{decides_behind}

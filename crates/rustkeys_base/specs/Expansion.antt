@@ -3,10 +3,10 @@ use Rattle.std.specs.Prelude.{Bool, List, [], ◌∷◌, Option, None, Some, nat
 use Rattle.std.specs.List.{flat_map, starts_with}
 use Rattle.std.specs.Option.{option_and_then, option_map, unwrap_or}
 use Rattle.std.specs.Str.{is_utf8}
-use Rattle.os_files.specs.Bytes.{Bytes}
-use Rattle.os_files.specs.Path.{join}
-use Rattle.os_files.specs.Tree.{Tree, contents_at}
-use Rattle.response_files.specs.Styles.{behind}
+use Rattle.base_files.specs.Bytes.{Bytes}
+use Rattle.base_files.specs.Path.{join}
+use Rattle.base_files.specs.Tree.{Tree, contents_at}
+use Rattle.cmdlines_response_files.specs.Styles.{behind}
 use Rattle.rustkeys_base.specs.Lines.{rustc_lines}
 
 -- whether the word names a response file

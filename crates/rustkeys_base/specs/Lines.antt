@@ -2,7 +2,7 @@
 use Rattle.std.specs.Prelude.{◌==◌, not, List, filter, length, map}
 use Rattle.std.specs.List.{slice_split}
 use Rattle.std.specs.Str.{trim}
-use Rattle.os_files.specs.Bytes.{Bytes}
+use Rattle.base_files.specs.Bytes.{Bytes}
 
 -- each line without the white space around it, but for those that are empty then; 10 ends a line
 abbrev pub rustc_lines : Bytes → List Bytes

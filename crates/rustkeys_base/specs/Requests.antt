@@ -3,9 +3,9 @@ use Rattle.std.specs.Prelude.{◌≡◌, Bool, true, false, not, ◌&&◌, List,
 use Rattle.std.specs.List.{flat_map, AllZip}
 use Rattle.std.specs.Option.{option_map_or}
 use Rattle.std.specs.Str.{bytes_eq}
-use Rattle.os_files.specs.Bytes.{Bytes}
-use Rattle.os_files.specs.Path.{join, path_cmp}
-use Rattle.os_files.specs.Tree.{Tree, exists_at}
+use Rattle.base_files.specs.Bytes.{Bytes}
+use Rattle.base_files.specs.Path.{join, path_cmp}
+use Rattle.base_files.specs.Tree.{Tree, exists_at}
 use Rattle.cmdlines_base.specs.Pieces.{normalized}
 use Rattle.cmdlines_base.specs.Printing.{normalized_disposition}
 use Rattle.cmdlines_base.specs.Reading.{Item, Reading, valued}

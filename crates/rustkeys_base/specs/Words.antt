@@ -2,7 +2,7 @@
 use Rattle.std.specs.Prelude.{◌++◌, map, Ok, Err}
 use Rattle.std.specs.Option.{option_map, option_to_list}
 use Rattle.std.specs.Vec.Iter.{into_iter_items}
-use Rattle.response_files.specs.Words.{Items}
+use Rattle.cmdlines_response_files.specs.Words.{Items}
 use Rattle.rustkeys_base.specs.declared.expansion.ExpandResponseFile.{ExpandResponseFile}
 
 abbrev pub items_left : ExpandResponseFile → Items

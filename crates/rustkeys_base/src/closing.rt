@@ -3,10 +3,10 @@
 ghost use Rattle.std.specs.Prelude.{◌≡◌, Some, map, IfOk, IfErr, IsErrOf, OnOk, MatchOption, codes};
 ghost use Rattle.std.specs.List.{Contains, list_any};
 ghost use Rattle.cmdlines_base.specs.Choices.{when};
-ghost use Rattle.os_files.specs.Path.{join, path_cmp};
-ghost use Rattle.os_files.specs.Views.{FilesFail};
+ghost use Rattle.base_files.specs.Path.{join, path_cmp};
+ghost use Rattle.base_files.specs.Views.{FilesFail};
 ghost use Rattle.rustc_options.specs.Sets.{in_order};
-ghost use Rattle.response_files.specs.Causes.{CauseOf};
+ghost use Rattle.cmdlines_response_files.specs.Causes.{CauseOf};
 ghost use Rattle.rustkeys_base.specs.Asking.{library_places};
 ghost use Rattle.rustkeys_base.specs.Requests.{IsAskedBy, IsMadeOf, color_mode, named_by_crate, emits, dep_info, gcno, profile, static_libraries};
 ghost use Rattle.rustc_options.specs.Sorted.{sorted_by};
@@ -15,9 +15,9 @@ ghost use Rattle.rustkeys_base.specs.Parsing.{asks, closing, emitted, has_kind, 
 use crate::deciding::{Refusal, refused};
 use crate::facts::Facts;
 use crate::libraries::{join_paths, libraries_in};
+use base_files::{Files, Listed, OsBytes, compare_paths, paths_have_one_order};
 use cmdlines_base::{Argument, ColorMode, CompilerArguments};
-use os_files::{Files, Listed, OsBytes, compare_paths, paths_have_one_order};
-use response_files::ParseFault;
+use cmdlines_response_files::ParseFault;
 use rustc_options::parsed::{CrateTypes, ParsedArguments};
 use rustc_options::{ArgData, between_commas, in_order};
 use std::alloc::{AllocError, Global};

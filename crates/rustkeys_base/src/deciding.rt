@@ -2,16 +2,16 @@
 
 ghost use Rattle.std.specs.Prelude.{◌≡◌, Some, IfOk, IfErr, IsErrOf, OnOk};
 ghost use Rattle.std.specs.Option.{option_map};
-ghost use Rattle.os_files.specs.Views.{FilesFail};
-ghost use Rattle.response_files.specs.Causes.{CauseOf};
+ghost use Rattle.base_files.specs.Views.{FilesFail};
+ghost use Rattle.cmdlines_response_files.specs.Causes.{CauseOf};
 ghost use Rattle.rustkeys_base.specs.Asking.{target_file, target_file_in, target_file_said};
 ghost use Rattle.rustkeys_base.specs.Saying.{token_in};
 ghost use Rattle.rustkeys_base.specs.Parsing.{AsksNothing, decision_of, decision_of_refusal, refused, second_input, other_types, codegen_decides, is_unsure, option_decides, decides};
 
 use crate::facts::Facts;
+use base_files::{FileFail, Files, OsBytes, join};
 use cmdlines_base::{Argument, CompilerArguments};
-use os_files::{FileFail, Files, OsBytes, join};
-use response_files::ParseFault;
+use cmdlines_response_files::ParseFault;
 use rustc_options::parsed::ParsedArguments;
 use rustc_options::{ArgData, ArgOption, ArgTarget, joined_by_commas};
 use std::alloc::{AllocError, Global};

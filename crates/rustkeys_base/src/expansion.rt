@@ -4,19 +4,19 @@ ghost use Rattle.std.specs.Prelude.{◌≡◌, ◌∷◌, ◌++◌, [], false, E
 ghost use Rattle.std.specs.Iterator.{at_most};
 ghost use Rattle.std.specs.List.{list_any};
 ghost use Rattle.std.specs.Option.{option_copied};
-ghost use Rattle.os_files.specs.Bytes.{Bytes};
-ghost use Rattle.os_files.specs.Tree.{Tree};
-ghost use Rattle.os_files.specs.Views.{FilesFail};
-ghost use Rattle.response_files.specs.Causes.{CauseOf};
-ghost use Rattle.response_files.specs.Styles.{behind};
-ghost use Rattle.response_files.specs.Words.{Gives, Takes};
+ghost use Rattle.base_files.specs.Bytes.{Bytes};
+ghost use Rattle.base_files.specs.Tree.{Tree};
+ghost use Rattle.base_files.specs.Views.{FilesFail};
+ghost use Rattle.cmdlines_response_files.specs.Causes.{CauseOf};
+ghost use Rattle.cmdlines_response_files.specs.Styles.{behind};
+ghost use Rattle.cmdlines_response_files.specs.Words.{Gives, Takes};
 ghost use Rattle.rustkeys_base.specs.Asking.{IsNamedIn};
 ghost use Rattle.rustkeys_base.specs.Expansion.{expanded_by_rustc, names_file, opened_by, path_of, words_of_text};
 ghost use Rattle.rustkeys_base.specs.Words.{items_left};
 
 use crate::response_text::split_rust_response_file_args;
-use os_files::{FileFail, Files, Listed, OsBytes, join};
-use response_files::ParseFault;
+use base_files::{FileFail, Files, Listed, OsBytes, join};
+use cmdlines_response_files::ParseFault;
 use std::alloc::{AllocError, Global};
 use std::vec::IntoIter;
 

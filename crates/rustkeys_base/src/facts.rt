@@ -2,13 +2,13 @@
 
 ghost use Rattle.std.specs.Prelude.{◌≡◌, ◌∷◌, [], OnOk, Some};
 ghost use Rattle.std.specs.Option.{option_copied};
-ghost use Rattle.os_files.specs.Bytes.{Bytes};
+ghost use Rattle.base_files.specs.Bytes.{Bytes};
 ghost use Rattle.rustc_options.specs.declared.data.ArgData.TheVariants.{CodeGen, LinkLibrary, LinkPath, Unstable};
 ghost use Rattle.rustkeys_base.specs.Facts.{no_facts, facts_with};
 ghost use Rattle.rustkeys_base.specs.Saying.{token_in, says, is_on, holds_crates, holds_libraries};
 
+use base_files::{Listed, OsBytes};
 use cmdlines_base::Argument;
-use os_files::{Listed, OsBytes};
 use rustc_options::{ArgData, ArgLinkLibrary, ArgLinkPath, ArgOption, ArgTarget};
 use std::alloc::{AllocError, Global};
 

@@ -1,8 +1,8 @@
 //! Laws of what requests to rustc come to. Calls of them do nothing.
 
 ghost use Rattle.std.specs.Prelude.{◌≡◌, ◌∷◌, ◌++◌, Bool, true, false, List, Some, map};
-ghost use Rattle.os_files.specs.Bytes.{Bytes};
-ghost use Rattle.os_files.specs.Tree.{Tree};
+ghost use Rattle.base_files.specs.Bytes.{Bytes};
+ghost use Rattle.base_files.specs.Tree.{Tree};
 ghost use Rattle.cmdlines_base.specs.Reading.{Item, Reading};
 ghost use Rattle.rustc_options.specs.declared.kind.ArgKind.{ArgKind};
 ghost use Rattle.rustkeys_base.specs.Deciders.{NoneDecides};

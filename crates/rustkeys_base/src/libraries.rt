@@ -2,14 +2,14 @@
 
 ghost use Rattle.std.specs.Prelude.{◌≡◌, ◌++◌, IfOk, IfErr, IsErrOf, OnOk, find, map, filter_map};
 ghost use Rattle.std.specs.List.{Contains, flat_map};
-ghost use Rattle.os_files.specs.Path.{join};
-ghost use Rattle.os_files.specs.Tree.{exists_at};
-ghost use Rattle.os_files.specs.Views.{FilesFail};
-ghost use Rattle.response_files.specs.Causes.{CauseOf};
+ghost use Rattle.base_files.specs.Path.{join};
+ghost use Rattle.base_files.specs.Tree.{exists_at};
+ghost use Rattle.base_files.specs.Views.{FilesFail};
+ghost use Rattle.cmdlines_response_files.specs.Causes.{CauseOf};
 ghost use Rattle.rustkeys_base.specs.Requests.{library_names, library_in, library_paths};
 
-use os_files::{FileFail, Files, Listed, OsBytes, join};
-use response_files::ParseFault;
+use base_files::{FileFail, Files, Listed, OsBytes, join};
+use cmdlines_response_files::ParseFault;
 use std::alloc::{AllocError, Global};
 
 /// Paths in that directory.

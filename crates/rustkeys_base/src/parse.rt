@@ -1,10 +1,10 @@
 //! The parse of rustc's words: they are cut by its table, and what they say is gathered and closed.
 
 ghost use Rattle.std.specs.Prelude.{◌≡◌, ◌↔◌, [], ◌∷◌, Some, alloc_error, IfOk, IfErr, IsErrOf, OnOk, MatchOption};
-ghost use Rattle.response_files.specs.Causes.{CauseOf};
+ghost use Rattle.cmdlines_response_files.specs.Causes.{CauseOf};
 ghost use Rattle.rustkeys_base.specs.Expansion.{expanded_by_rustc};
 ghost use Rattle.std.specs.Option.{option_map};
-ghost use Rattle.os_files.specs.Views.{FilesFail};
+ghost use Rattle.base_files.specs.Views.{FilesFail};
 ghost use Rattle.rustc_options.specs.Table.{rustc_entries, rustc_reading};
 ghost use Rattle.rustkeys_base.specs.Asking.{IsAskedByItems, IsAskedByRustc, IsTargetFile, target_file_in};
 ghost use Rattle.rustkeys_base.specs.Asks.{AsksFor, asks_of};
@@ -17,11 +17,11 @@ use crate::closing::close;
 use crate::deciding::{Refusal, decides, refused};
 use crate::expansion::expand_rustc;
 use crate::facts::Facts;
+use base_files::{Files, Listed, OsBytes};
 use cmdlines_base::{
     ArgParseError, ArgsIter, Argument, ByteTree, CompilerArguments, NormalizedDisposition,
 };
-use os_files::{Files, Listed, OsBytes};
-use response_files::ParseFault;
+use cmdlines_response_files::ParseFault;
 use rustc_options::parsed::ParsedArguments;
 use rustc_options::{ArgData, rustc_table};
 use std::alloc::{AllocError, Global};

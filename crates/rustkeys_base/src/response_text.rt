@@ -3,7 +3,7 @@
 ghost use Rattle.std.specs.Prelude.{◌≡◌, IfOk};
 ghost use Rattle.rustkeys_base.specs.Lines.{rustc_lines};
 
-use os_files::{Listed, OsBytes};
+use base_files::{Listed, OsBytes};
 use std::alloc::{AllocError, Global};
 
 /// The lines of a text without the white space around each, but for those that are empty then: rustc takes each as one word.

@@ -1,7 +1,7 @@
 //! The program `sccache-explain`: reads a scenario from standard input and prints what its requests are answered, and why they were compiled.
 #![tactic(auto)]
 
-use scenarios::{RunFault, run_explained};
+use sccache_scenarios::{RunFault, run_explained};
 use std::io::{BufWriter, ErrorKind};
 use std::process::ExitCode;
 use std::rt::Env;

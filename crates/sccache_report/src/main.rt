@@ -1,7 +1,7 @@
 //! The program `sccache-report`: reads a recorded build from standard input and prints what a cache would keep of it.
 #![tactic(auto)]
 
-use reports::{ReportFault, run};
+use sccache_reports::{ReportFault, run};
 use std::io::{BufWriter, ErrorKind};
 use std::process::ExitCode;
 use std::rt::{Env, Files};

@@ -1,7 +1,7 @@
 //! The program `sccache-wrap`: reads a scenario from standard input and prints what its requests are answered.
 #![tactic(auto)]
 
-use scenarios::{RunFault, run};
+use sccache_scenarios::{RunFault, run};
 use std::io::{BufWriter, ErrorKind};
 use std::process::ExitCode;
 use std::rt::Env;

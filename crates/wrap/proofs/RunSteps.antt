@@ -4,12 +4,12 @@ use Rattle.std.proofs.Math.ListN.{set}
 use Rattle.std.proofs.Math.Seq.{drop-drop}
 use Rattle.std.proofs.lemmas.List.{take_more, take_more_set, take-map, map-append, get_or-drop, get_or-map, drop-set-lt, length-drop, length-map, length-take-le}
 use Rattle.std.proofs.lemmas.List.Elements.{Contains-append_left}
-use Rattle.os_files.specs.Tree.{Tree, contents_at}
+use Rattle.base_files.specs.Tree.{Tree, contents_at}
 use Rattle.std.specs.Prelude.{is_none}
 use Rattle.std.specs.List.{AllByRecursion, Contains}
 use Rattle.std.specs.Option.{option_map}
 use Rattle.std.specs.Ordering.{int_eq}
-use Rattle.os_files.specs.Bytes.{Bytes, ticked}
+use Rattle.base_files.specs.Bytes.{Bytes, ticked}
 use Rattle.ckeys_base.specs.Shelf.{IsEmpty, Shelf}
 use Rattle.ckeys.specs.Calls.{KeyCall, PrintedCall, printed_call, extra_paths, input_path, key_fault_by, missing_input, needs_preprocessing, text_fault_by}
 use Rattle.ckeys_records.specs.Faults.{first_missing, or_else, preprocess_fault_of, read_fault_of}
@@ -18,8 +18,8 @@ use Rattle.ckeys.specs.EntryTurns.{EntryTurn}
 use Rattle.ckeys_records.specs.Folders.{Settings}
 use Rattle.wrap_keys.specs.CallRecords.{key_of}
 use Rattle.ckeys_records.specs.Meaning.{Meaning, names_of}
-use Rattle.entry_keys.specs.declared.entry_key.EntryKey.{EntryKey}
-use Rattle.include_records.specs.Records.{Record}
+use Rattle.ckeys_entry_keys.specs.declared.entry_key.EntryKey.{EntryKey}
+use Rattle.ckeys_include_records.specs.Records.{Record}
 use Rattle.ckeys_records.specs.declared.fault.Fault.TheVariants.{PreprocessFailed, Read}
 use Rattle.ckeys_records.specs.declared.fault.Fault.{Fault}
 use Rattle.rustc_compiler.specs.Compiler.{Rustc}
@@ -34,7 +34,7 @@ use Rattle.wrap_keys.specs.Asking.{EntriesBy, EntriesTurn, IsOfCall, IsOfOneCall
 use Rattle.wrap_keys.specs.Sizes.{is_within, size_in, size_of}
 use Rattle.wrap_keys.specs.StoreKeys.{store_key_of, IsHashedDirect, IsHashedIn, Premises, Invariant}
 use Rattle.wrap_keys.specs.Turn.{StoreTurn}
-use Rattle.os_files.specs.Views.{FilesView}
+use Rattle.base_files.specs.Views.{FilesView}
 use Rattle.ckeys_records.specs.Views.{ToolView}
 use Rattle.wrap_keys.specs.Whole.{Ticks, CallTurn, BothRun, SessionRun, Served, Loses, Run, accounts_of, AllAnswer, IsFresh, IsFreshWithin, HaveOneRecord, OneFresh, TellsDependencies, outputs_in, Agree, SameOutputs, served, Each, begin_of, end_of, served_at, accounts_at}
 use Rattle.wrap_base.specs.declared.answer.Answer.{Answer}

@@ -1,8 +1,8 @@
 -- Calls to rustc, which ask for no include records.
 use Rattle.std.proofs.Common.{◌≡◌, ℕ, Bool, not, [], Option, None, Some, true, false, Result, Ok, Err, IsErrAnd, inr, refl, sym, ap, ◌∙◌}
 use Rattle.std.proofs.lemmas.Result.{err_from_is_err_and}
-use Rattle.os_files.specs.Bytes.{Bytes, ticked}
-use Rattle.os_files.specs.Tree.{Tree}
+use Rattle.base_files.specs.Bytes.{Bytes, ticked}
+use Rattle.base_files.specs.Tree.{Tree}
 use Rattle.ckeys_base.specs.Shelf.{Shelf}
 use Rattle.ckeys.specs.Calls.{PrintedCall}
 use Rattle.ckeys.specs.EntryTurns.{KeyRecorded, PutsNone}
@@ -11,8 +11,8 @@ use Rattle.ckeys_records.specs.Meaning.{Meaning, names_of, scene_of}
 use Rattle.ckeys_records.specs.declared.fault.Fault.{Fault}
 use Rattle.ckeys_records.specs.declared.step.Step.{Step}
 use Rattle.ckeys_records.specs.declared.step.Step.TheVariants.{Compile}
-use Rattle.entry_keys.specs.declared.entry_key.EntryKey.{EntryKey}
-use Rattle.include_records.specs.Records.{Record}
+use Rattle.ckeys_entry_keys.specs.declared.entry_key.EntryKey.{EntryKey}
+use Rattle.ckeys_include_records.specs.Records.{Record}
 use Rattle.rustc_compiler.specs.Compiler.{Rustc}
 use Rattle.rustc_options.specs.Asks.{RustAsks}
 use Rattle.rustkeys.specs.Runs.{AtMostTwice}

@@ -1,17 +1,17 @@
 -- A run over include records that meets the premises: one call at two moments, whose preprocessor names a header.
 use Rattle.std.specs.Prelude.{ℤ, pos, true, false, List, [], ◌∷◌, ◌++◌, None, Some, codes, get_or}
 use Rattle.std.specs.List.{repeat}
-use Rattle.os_files.specs.Bytes.{Bytes}
-use Rattle.os_files.specs.Tree.{Node, Tree}
-use Rattle.os_files.specs.declared.files.Metadata.{Metadata}
+use Rattle.base_files.specs.Bytes.{Bytes}
+use Rattle.base_files.specs.Tree.{Node, Tree}
+use Rattle.base_files.specs.declared.files.Metadata.{Metadata}
 use Rattle.cmdlines_requests.specs.declared.parsed.ParsedArguments.{ParsedArguments}
 use Rattle.cmdlines_tables.specs.declared.compiler.CCompilerKind.TheVariants.{Gcc}
 use Rattle.cmdlines_base.specs.declared.color_mode.ColorMode.TheVariants.{Auto}
 use Rattle.cmdlines_tables.specs.declared.language.Language.TheVariants.{C}
 use Rattle.ckeys_base.specs.Hex.{hex_of}
-use Rattle.time_macros.specs.Days.{ZoneRule}
-use Rattle.include_records.specs.Records.{Record, record_of, result_with}
-use Rattle.include_records.specs.declared.entry.IncludeEntry.{IncludeEntry}
+use Rattle.ckeys_time_macros.specs.Days.{ZoneRule}
+use Rattle.ckeys_include_records.specs.Records.{Record, record_of, result_with}
+use Rattle.ckeys_include_records.specs.declared.entry.IncludeEntry.{IncludeEntry}
 use Rattle.ckeys.specs.Calls.{KeyCall, PrintedCall, printed_call, record_by}
 use Rattle.ckeys_records.specs.Folders.{settings_with}
 use Rattle.ckeys_records.specs.Keys.{key_of}

@@ -3,7 +3,7 @@ use Rattle.std.specs.Prelude.{◌≡◌, [], ◌++◌, filter, map}
 use Rattle.std.specs.List.Sorted.{IsPermutation}
 use Rattle.ckeys_base.specs.FolderPlaces.{text_places}
 use Rattle.ckeys_base.specs.FromTheLeft.{stripped_of}
-use Rattle.include_records.specs.Surroundings.{contents_in}
+use Rattle.ckeys_include_records.specs.Surroundings.{contents_in}
 use Rattle.ckeys.specs.Calls.{KeyCall, extra_paths, text_of}
 use Rattle.ckeys_records.specs.Meaning.{Meaning, names_of}
 use Rattle.ckeys_records.specs.Params.{is_cached, stripped_words}

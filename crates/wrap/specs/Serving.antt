@@ -1,14 +1,14 @@
 -- One call of a session, by the request, the files and the tool as it begins and as it ends.
 use Rattle.std.specs.Prelude.{◌≡◌, ℕ, true, List, [], ◌∷◌, ◌++◌, Option, Result}
-use Rattle.os_files.specs.Bytes.{Bytes}
-use Rattle.os_files.specs.Views.{FilesView}
+use Rattle.base_files.specs.Bytes.{Bytes}
+use Rattle.base_files.specs.Views.{FilesView}
 use Rattle.ckeys_base.specs.Shelf.{IsEmpty, Shelf}
 use Rattle.ckeys.specs.Entries.{EntryInvariant, EntryPremises}
 use Rattle.ckeys_records.specs.Folders.{Settings}
 use Rattle.ckeys_records.specs.Views.{ToolView}
 use Rattle.ckeys_records.specs.declared.fault.Fault.{Fault}
-use Rattle.entry_keys.specs.declared.entry_key.EntryKey.{EntryKey}
-use Rattle.include_records.specs.Records.{Record}
+use Rattle.ckeys_entry_keys.specs.declared.entry_key.EntryKey.{EntryKey}
+use Rattle.ckeys_include_records.specs.Records.{Record}
 use Rattle.wrap_keys.specs.Account.{Account, account_at, direct_calls}
 use Rattle.wrap_keys.specs.Answers.{Answers}
 use Rattle.wrap_keys.specs.Asking.{RecordsAreTrue, Shelves}

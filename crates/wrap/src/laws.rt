@@ -1,16 +1,16 @@
 //! Laws over runs. Calls of them do nothing.
 
 ghost use Rattle.std.specs.Prelude.{◌≡◌, ◌↔◌, ◌∷◌, ◌++◌, [], ℕ, ℤ, true, false, List, Option, None, Some, Result, Ok, codes, is_some, length};
-ghost use Rattle.os_files.specs.Tree.{Tree};
-ghost use Rattle.include_records.specs.Records.{Record};
-ghost use Rattle.entry_keys.specs.declared.entry_key.EntryKey.{EntryKey};
-ghost use Rattle.os_files.specs.declared.files.Metadata.{Metadata};
-ghost use Rattle.time_macros.specs.Days.{ZoneRule};
+ghost use Rattle.base_files.specs.Tree.{Tree};
+ghost use Rattle.ckeys_include_records.specs.Records.{Record};
+ghost use Rattle.ckeys_entry_keys.specs.declared.entry_key.EntryKey.{EntryKey};
+ghost use Rattle.base_files.specs.declared.files.Metadata.{Metadata};
+ghost use Rattle.ckeys_time_macros.specs.Days.{ZoneRule};
 ghost use Rattle.ckeys.specs.Entries.{EntryInvariant, HasMatch, Held, entry_key_by, has_entry_key, includes_by};
 ghost use Rattle.wrap.specs.DirectExample.{call_on, header_include, first_byte_digest, printed_text, record_on, text_key_on, two_moments};
 ghost use Rattle.ckeys.specs.Calls.{KeyCall};
 ghost use Rattle.ckeys_records.specs.Meaning.{Meaning};
-ghost use Rattle.os_files.specs.Bytes.{Bytes, ticked};
+ghost use Rattle.base_files.specs.Bytes.{Bytes, ticked};
 ghost use Rattle.ckeys_base.specs.Shelf.{IsEmpty, Shelf};
 ghost use Rattle.wrap_keys.specs.CallRecords.{AreDistinct, CallRecord, IsTold, key_of, record_shape};
 ghost use Rattle.wrap_keys.specs.Account.{Account, Pairs, Work, account_at, direct_calls, rust_work_at, work_at};
@@ -20,7 +20,7 @@ ghost use Rattle.rustkeys.specs.Calls.{RustCall};
 ghost use Rattle.rustkeys.specs.Fresh.{ComesOfWords, emits_dep_info};
 ghost use Rattle.wrap_keys.specs.Asking.{EntriesTurn, RecordsAreTrue, Shelves};
 ghost use Rattle.wrap_base.specs.declared.request.Request.{Request};
-ghost use Rattle.fingerprints.specs.Fingerprints.{fingerprint_of};
+ghost use Rattle.wrap_fingerprints.specs.Fingerprints.{fingerprint_of};
 ghost use Rattle.wrap_keys.specs.Sizes.{is_within};
 ghost use Rattle.wrap_keys.specs.StoreKeys.{HasRecord, Premises, SameRecord, store_key_of, store_key_with};
 ghost use Rattle.wrap_keys.specs.Turn.{FreshTurn, PutsBy};
@@ -36,9 +36,9 @@ ghost use Rattle.wrap.specs.Example.{compile_of, telling_digest, two_compiles};
 use ckeys::records_are_true;
 use ckeys_base::HashState;
 use ckeys_records::keys_tell_records;
-use fingerprints::fingerprints_tell_records;
 use rustc_texts::cfg_places_do_not_count;
 use rustkeys::{dep_info_is_told_where_emitted, rustc_keys_tell_records};
+use wrap_fingerprints::fingerprints_tell_records;
 
 /// Two runs of one list of calls, over stores that forget and refuse as they like, give equal outputs wherever both answer
 /// with outputs, and equal texts on dependencies beside them, whatever the limits are on what they keep.

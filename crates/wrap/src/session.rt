@@ -1,7 +1,7 @@
 //! The session that answers requests.
 
 ghost use Rattle.std.specs.Prelude.{◌≡◌, true, false, length, IfOk, IfErr, OnOk, OnErr};
-ghost use Rattle.os_files.specs.Views.{FilesFail};
+ghost use Rattle.base_files.specs.Views.{FilesFail};
 ghost use Rattle.ckeys_base.specs.Shelf.{Clears, IsEmpty};
 ghost use Rattle.ckeys_records.specs.Causes.{HasOwnFault};
 ghost use Rattle.ckeys_records.specs.Views.{AreSteady, ToolFails};
@@ -12,21 +12,21 @@ ghost use Rattle.wrap_keys.specs.Early.{IsAskedEarly, OfPassed};
 ghost use Rattle.wrap_base.specs.Commands.{named_by};
 ghost use Rattle.wrap_keys.specs.RustVerdicts.{is_rust_no_text};
 ghost use Rattle.wrap_keys.specs.StoreKeys.{Premises};
-ghost use Rattle.fingerprints.specs.Telling.{OnReason, Tells};
+ghost use Rattle.wrap_fingerprints.specs.Telling.{OnReason, Tells};
 ghost use Rattle.wrap_keys.specs.Whole.{AllAnswer, Each, IsAnswered, OneFresh, Run, SessionRun, accounts_at, served_at};
 ghost use Rattle.wrap.specs.Serving.{BeginTrue, IsTurn, KeepsHistory, account_of, call_of};
 ghost use Rattle.wrap.specs.Sessions.{held_by};
 
 use crate::laws::call_keys_tell_records;
+use base_files::Files;
 use ckeys::{EntryKey, PreprocessorCacheEntry, records_are_true};
 use ckeys_base::{HashState, Store};
 use ckeys_records::Fault;
-use fingerprints::{Fingerprint, request_fingerprint};
-use os_files::Files;
 use std::alloc::{AllocError, Global};
 use std::marker::{Model, PhantomData};
 use wrap_base::store_key::{Pairs, StoreKey};
 use wrap_base::{Answer, Call, Config, Named, Reason, Request, Tool};
+use wrap_fingerprints::{Fingerprint, request_fingerprint};
 use wrap_turns::{c_turn, rust_turn};
 
 /// Answers requests under one configuration, from a store of include records and one of what was compiled, by one hash

@@ -1,6 +1,6 @@
 -- What is asked of a compiler of either family.
 use Rattle.std.specs.Prelude.{List, Option, None, Some}
-use Rattle.os_files.specs.Bytes.{Bytes}
+use Rattle.base_files.specs.Bytes.{Bytes}
 use Rattle.cmdlines_tables.specs.declared.compiler.CCompilerKind.{CCompilerKind}
 use Rattle.ckeys_records.specs.Meaning.{Asked, asked_of, words}
 

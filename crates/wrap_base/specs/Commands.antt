@@ -1,7 +1,7 @@
 -- The compiler of a request, and its commands.
 use Rattle.std.specs.Prelude.{List, string_bytes}
-use Rattle.os_files.specs.Bytes.{Bytes}
-use Rattle.os_files.specs.Tree.{Tree}
+use Rattle.base_files.specs.Bytes.{Bytes}
+use Rattle.base_files.specs.Tree.{Tree}
 use Rattle.cmdlines.specs.Commands.{compile_words, output_path}
 use Rattle.cmdlines_requests.specs.Small.{command_at}
 use Rattle.cmdlines.specs.Compilers.{Traits}

@@ -2,7 +2,7 @@
 use Rattle.std.specs.Prelude.{◌≡◌, ◌+◌, ℕ, Bool, false, true, Some, Result, OnOk, OnErr, if◌then◌else◌}
 use Rattle.std.specs.HashMap.{get, hash_map_len}
 use Rattle.std.specs.Option.{is_some}
-use Rattle.os_files.specs.Bytes.{ticked}
+use Rattle.base_files.specs.Bytes.{ticked}
 use Rattle.ckeys_base.specs.Shelf.{Shelf}
 use Rattle.wrap_base.specs.declared.map_store.MapStore.{MapStore}
 

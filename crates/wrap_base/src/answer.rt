@@ -1,7 +1,7 @@
 //! Answers.
 
 use crate::reason::Reason;
-use os_files::{Listed, OsBytes};
+use base_files::{Listed, OsBytes};
 
 /// Where outputs came from.
 #[derive(Clone, Copy, Debug, PartialEq, Eq)]

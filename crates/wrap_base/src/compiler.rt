@@ -3,11 +3,11 @@
 ghost use Rattle.std.specs.Prelude.{◌≡◌, IfOk, string_bytes};
 ghost use Rattle.wrap_base.specs.Commands.{c_described, c_of, digest_of, executable_of, kind_of, named_by, named_in, traits_of};
 
+use base_files::OsBytes;
 use ckeys::{CCompiler, CCompilerHasher};
 use cmdlines::{AnyFoundCompiler, Clang, Diab, FoundCompiler, Gcc, HasKind, Msvc, TaskingVX};
 use cmdlines_requests::ParsedArguments;
 use cmdlines_tables::CCompilerKind;
-use os_files::OsBytes;
 use rustc_compiler::Rust;
 use std::alloc::{AllocError, Global};
 

@@ -3,10 +3,10 @@
 ghost use Rattle.std.specs.Prelude.{◌≡◌, None, find, map, IfOk, IfErr, OnOk};
 ghost use Rattle.ckeys_records.specs.Folders.{is_bad, without_slashes, settings_with, ConfigCause};
 
+use base_files::OsBytes;
 use ckeys_records::{ConfigError, KeyConfig};
-use os_files::OsBytes;
+use ckeys_time_macros::Zone;
 use std::alloc::Global;
-use time_macros::Zone;
 
 /// What keys are made by, and how large a result is kept at most: the contents of its outputs, added up. No key depends on that.
 #[derive(Clone, Debug, Drop, PartialEq, Eq)]

@@ -1,7 +1,7 @@
 //! Requests.
 
 use crate::compiler::Compiler;
-use os_files::{Listed, OsBytes};
+use base_files::{Listed, OsBytes};
 
 /// A compiler's command line, as a build gives it.
 #[derive(Debug, Drop)]

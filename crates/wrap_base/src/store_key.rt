@@ -8,9 +8,9 @@ ghost use Rattle.ckeys_records.specs.declared.shape.CShape.{CShape};
 ghost use Rattle.rustc_parts.specs.declared.parts.RShape.{RShape};
 ghost use Rattle.wrap_base.specs.declared.store_key.StoreKey.{StoreKey};
 
+use base_files::{Listed, OsBytes};
 use ckeys_records::output_name::OutputName;
 use ckeys_records::shape::CShape;
-use os_files::{Listed, OsBytes};
 use rustc_parts::parts::RShape;
 use std::hash::Hash;
 

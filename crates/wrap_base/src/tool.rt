@@ -1,14 +1,14 @@
 //! Tools: a compiler of either family, beside what it answers before a key is there.
 
 ghost use Rattle.std.specs.Prelude.{◌≡◌, ◌⊎◌, IfOk, IsErrOf};
-ghost use Rattle.os_files.specs.Bytes.{ticked};
+ghost use Rattle.base_files.specs.Bytes.{ticked};
 ghost use Rattle.ckeys_records.specs.Meaning.{scene_of, made_of, names_of};
 ghost use Rattle.wrap_base.specs.AskedBy.{asked_by};
 
+use base_files::{Files, Listed, OsBytes};
 use ckeys_records::{RustcAnswers, Step, ToolFail};
 use cmdlines_base::{ArtifactDescriptor, SingleCompileCommand};
 use cmdlines_tables::CCompilerKind;
-use os_files::{Files, Listed, OsBytes};
 use std::alloc::Global;
 
 /// What a compiler made, and its status.

@@ -1,7 +1,7 @@
 -- What a compile gives, output by output, is what it gives of all outputs at once.
 use Rattle.std.proofs.Common.{◌≡◌, ◌≤◌, ℕ, zero, suc, Bool, true, false, not, if◌then◌else◌, List, [], ◌∷◌, ◌++◌, length, replicate, Option, None, Some, refl, ap, ◌∙◌, arith}
 use Rattle.std.specs.List.{find, zip}
-use Rattle.os_files.specs.Bytes.{Bytes}
+use Rattle.base_files.specs.Bytes.{Bytes}
 use Rattle.ckeys_records.specs.declared.output_name.OutputName.{OutputName}
 use Rattle.wrap_keys.specs.Account.{Collected, all, behind, collected, gathered, missing}
 use Rattle.wrap_keys.specs.Gathering.{Outcome, gives, is_missed, outcomes_of, unless_missed}

@@ -1,8 +1,8 @@
 -- The call of which a request's key is made, and what is said of a fault.
 use Rattle.std.proofs.Common.{◌≡◌, ℕ, Result, Ok, Err, IfErr, IsErrAnd, sym, subst, ◌∙◌}
-use Rattle.os_files.specs.Bytes.{Bytes}
-use Rattle.os_files.specs.Fails.{FailsOn}
-use Rattle.os_files.specs.Tree.{Tree}
+use Rattle.base_files.specs.Bytes.{Bytes}
+use Rattle.base_files.specs.Fails.{FailsOn}
+use Rattle.base_files.specs.Tree.{Tree}
 use Rattle.cmdlines.specs.Compilers.{Found, kind_in, traits_in}
 use Rattle.cmdlines_requests.specs.declared.parsed.ParsedArguments.{ParsedArguments}
 use Rattle.ckeys_records.specs.Folders.{Settings}

@@ -1,7 +1,7 @@
 -- How often the preprocessor ran before there is a verdict, and before there is a key.
 use Rattle.std.proofs.Common.{◌≡◌, ℕ, Bool, false, Option, Some, None, Result, Ok, Err, inl, inr, refl, IsErrAnd}
 use Rattle.std.proofs.lemmas.Result.{err_from_is_err_and}
-use Rattle.os_files.specs.Bytes.{Bytes, ticked}
+use Rattle.base_files.specs.Bytes.{Bytes, ticked}
 use Rattle.ckeys.specs.EntryTurns.{KeyRuns, RunsUntil, RunsUntilKey, RunsUntilStep}
 use Rattle.ckeys_records.specs.declared.fault.Fault.{Fault}
 use Rattle.ckeys_records.specs.Causes.{Cause, of_memory, of_file, of_tool, of_key, of_compile, IsCausedBy, cause_of, no_step, step_by, step_of}

@@ -1,6 +1,6 @@
 -- What an answer says of its call.
 use Rattle.std.specs.Prelude.{◌≡◌, List, Option, Some, None, Result, Ok, Err}
-use Rattle.os_files.specs.Bytes.{Bytes}
+use Rattle.base_files.specs.Bytes.{Bytes}
 use Rattle.ckeys.specs.Calls.{PrintedCall}
 use Rattle.ckeys_records.specs.Causes.{Stage, any_time, before_compile, in_compile, ByStage, IsCaused, no_file, no_step, stage_of}
 use Rattle.ckeys.specs.EntryTurns.{IsSpared}

@@ -1,6 +1,6 @@
 -- One call of a session over both stores: under which key it asks, and what it does to the include records.
 use Rattle.std.specs.Prelude.{◌≡◌, ◌⊎◌, ℕ, ℤ, Bool, true, false, Option, None, Some, Result, Ok, Err}
-use Rattle.os_files.specs.Bytes.{Bytes, ticked}
+use Rattle.base_files.specs.Bytes.{Bytes, ticked}
 use Rattle.ckeys_base.specs.Shelf.{Shelf}
 use Rattle.ckeys.specs.Calls.{PrintedCall, key_fault_by, needs_preprocessing, record_by}
 use Rattle.ckeys.specs.Entries.{HasMatch, Held, IsFramed}
@@ -8,8 +8,8 @@ use Rattle.ckeys.specs.EntryTurns.{EntryTurn, KeyRecorded, KeyRuns, PutsNone, Ru
 use Rattle.ckeys_records.specs.Causes.{ByStage, stage_of}
 use Rattle.ckeys_records.specs.Folders.{Settings}
 use Rattle.ckeys_records.specs.Meaning.{AtMostOnce}
-use Rattle.entry_keys.specs.declared.entry_key.EntryKey.{EntryKey}
-use Rattle.include_records.specs.Records.{Record}
+use Rattle.ckeys_entry_keys.specs.declared.entry_key.EntryKey.{EntryKey}
+use Rattle.ckeys_include_records.specs.Records.{Record}
 use Rattle.ckeys_records.specs.declared.fault.Fault.{Fault}
 use Rattle.ckeys_records.specs.declared.fault.Fault.TheVariants.{PreprocessFailed}
 use Rattle.wrap_keys.specs.CallRecords.{CallRecord, key_of, of_c, of_rustc}

@@ -1,6 +1,6 @@
 -- The record of a call, of whichever family, and what its key is made of.
 use Rattle.std.specs.Prelude.{◌⊎◌}
-use Rattle.os_files.specs.Bytes.{Bytes}
+use Rattle.base_files.specs.Bytes.{Bytes}
 use Rattle.ckeys_records.specs.Keys.{Distinct}
 use Rattle.ckeys_records.specs.Keys as c
 use Rattle.ckeys_records.specs.Records.{AreTold, CRecord}

@@ -1,6 +1,6 @@
 -- Which files are asked for before there is a verdict.
-use Rattle.os_files.specs.Bytes.{Bytes}
-use Rattle.os_files.specs.Tree.{Tree}
+use Rattle.base_files.specs.Bytes.{Bytes}
+use Rattle.base_files.specs.Tree.{Tree}
 use Rattle.cmdlines.specs.Opening.{IsAskedByKind}
 use Rattle.rustkeys_base.specs.Asking.{IsAskedByRustc}
 use Rattle.wrap_base.specs.Commands.{NamedBy, by_c, by_rustc}

@@ -2,7 +2,7 @@
 use Rattle.std.specs.Prelude.{Bool, ◌&&◌, not, List, ◌++◌, length, replicate, Option, None, Some, is_none}
 use Rattle.std.specs.List.{filter_map, find, zip}
 use Rattle.std.specs.Option.{option_map}
-use Rattle.os_files.specs.Bytes.{Bytes}
+use Rattle.base_files.specs.Bytes.{Bytes}
 use Rattle.ckeys_records.specs.declared.output_name.OutputName.{OutputName}
 use Rattle.wrap_keys.specs.Account.{Collected, all, missing}
 

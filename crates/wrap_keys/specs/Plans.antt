@@ -1,6 +1,6 @@
 -- The code's verdict, and the commands of a request that isn't passed through.
 use Rattle.std.specs.Prelude.{◌≡◌, ◌⊎◌, false, List}
-use Rattle.os_files.specs.Bytes.{Bytes}
+use Rattle.base_files.specs.Bytes.{Bytes}
 use Rattle.cmdlines.specs.Commands.{ReadsAs, output_path, compile_items, preprocess_items, preprocess_words}
 use Rattle.cmdlines.specs.Hazards.{opens_file}
 use Rattle.cmdlines.specs.Parsing.{HasSafeInput, IsGivenByOption}

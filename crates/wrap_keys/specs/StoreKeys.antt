@@ -1,7 +1,7 @@
 -- What a call's outputs are kept under, and what is held.
 use Rattle.std.specs.Prelude.{◌≡◌, ◌⊎◌, List, Option, None, Some}
 use Rattle.std.specs.List.{Contains}
-use Rattle.os_files.specs.Bytes.{Bytes}
+use Rattle.base_files.specs.Bytes.{Bytes}
 use Rattle.ckeys.specs.Calls.{PrintedCall}
 use Rattle.ckeys.specs.Entries.{AreReprinted, IsHashedBy}
 use Rattle.ckeys_records.specs.Keys.{Distinct}

@@ -1,6 +1,6 @@
 -- One call of a session: what it does to the store, and what its answer reports of the store and of the compiler's runs.
 use Rattle.std.specs.Prelude.{◌≡◌, ◌⊎◌, ℕ, true, false, if◌then◌else◌, [], Option, Some, None, IsSome, Result, Ok, Err, OnErr}
-use Rattle.os_files.specs.Bytes.{Bytes, ticked}
+use Rattle.base_files.specs.Bytes.{Bytes, ticked}
 use Rattle.ckeys_base.specs.Shelf.{Shelf, Within, KeepsKeys}
 use Rattle.ckeys.specs.EntryTurns.{IsPut}
 use Rattle.ckeys_records.specs.Causes.{ByStage, stage_of}

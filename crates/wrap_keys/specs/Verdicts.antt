@@ -1,7 +1,7 @@
 -- The verdict on a request's words to a C compiler: why it is passed through, or what it asks for.
 use Rattle.std.specs.Prelude.{Bool, ◌||◌, List, ◌++◌, Option, if◌then◌else◌, string_bytes}
 use Rattle.std.specs.Option.{option_map}
-use Rattle.os_files.specs.Bytes.{Bytes}
+use Rattle.base_files.specs.Bytes.{Bytes}
 use Rattle.cmdlines.specs.Commands.{compile_words, preprocess_words, output_path}
 use Rattle.cmdlines.specs.Hazards.{opens_file}
 use Rattle.cmdlines.specs.Parsing.{parse_of}

@@ -1,8 +1,8 @@
 -- Whole runs.
 use Rattle.std.specs.Prelude.{◌≡◌, ℕ, true, false, List, [], ◌∷◌, map, Option, Some, None, Result, Ok, Err, IfErr, OnOk, IsErrOf}
 use Rattle.std.specs.List.{AllByRecursion}
-use Rattle.os_files.specs.Bytes.{Bytes, ticked}
-use Rattle.os_files.specs.Views.{FilesFail, FilesView}
+use Rattle.base_files.specs.Bytes.{Bytes, ticked}
+use Rattle.base_files.specs.Views.{FilesFail, FilesView}
 use Rattle.ckeys_base.specs.Shelf.{Shelf, Within, KeepsKeys}
 use Rattle.ckeys_records.specs.Causes.{HasOwnFault}
 use Rattle.ckeys_records.specs.Folders.{Settings}

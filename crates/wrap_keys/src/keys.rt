@@ -3,11 +3,11 @@
 ghost use Rattle.std.specs.Prelude.{◌≡◌, IfOk};
 ghost use Rattle.ckeys_records.specs.Meaning.{names_of};
 
+use base_files::{Listed, OsBytes};
 use ckeys::CallPlace;
 use ckeys_records::KeyConfig;
 use ckeys_records::output_name::OutputName;
 use cmdlines_base::ArtifactDescriptor;
-use os_files::{Listed, OsBytes};
 use std::alloc::{AllocError, Global};
 use wrap_base::Request;
 

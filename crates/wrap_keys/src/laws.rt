@@ -1,7 +1,7 @@
 //! Laws of what a compile gives, and of runs. Calls of them do nothing.
 
 ghost use Rattle.std.specs.Prelude.{◌≡◌, ◌↔◌, List, Option, Result};
-ghost use Rattle.os_files.specs.Bytes.{Bytes};
+ghost use Rattle.base_files.specs.Bytes.{Bytes};
 ghost use Rattle.ckeys_records.specs.Folders.{Settings};
 ghost use Rattle.ckeys_records.specs.declared.fault.Fault.{Fault};
 ghost use Rattle.ckeys_records.specs.declared.output_name.OutputName.{OutputName};
@@ -12,7 +12,7 @@ ghost use Rattle.wrap_keys.specs.Gathering.{gives};
 ghost use Rattle.wrap_keys.specs.Places.{AgreeAtEachPlace, AtEachPlace, calls_beside};
 ghost use Rattle.wrap_keys.specs.Whole.{Each, IsAnswered, SameOutputs, Served, Ticks, served};
 
-use os_files::Files;
+use base_files::Files;
 use wrap_base::Tool;
 
 /// A compile with status 0 gives each output that it made, by name and contents, in the order in which they are asked for, unless one

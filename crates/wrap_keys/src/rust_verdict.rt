@@ -3,7 +3,7 @@
 ghost use Rattle.std.specs.Prelude.{◌≡◌, false, IfOk, IfErr, OnOk};
 ghost use Rattle.std.specs.List.{list_all};
 ghost use Rattle.std.specs.Str.{is_utf8};
-ghost use Rattle.os_files.specs.Views.{FilesFail};
+ghost use Rattle.base_files.specs.Views.{FilesFail};
 ghost use Rattle.rustc_options.specs.Asks.{asks_in};
 ghost use Rattle.wrap_base.specs.Commands.{by_rustc};
 ghost use Rattle.wrap_keys.specs.Answers.{EarlyCause};
@@ -12,10 +12,10 @@ ghost use Rattle.wrap_keys.specs.RustPlans.{OnAsks, OpensNothing, judgement_of};
 ghost use Rattle.wrap_keys.specs.RustVerdicts.{is_text, is_text_variable, opens_words, rust_verdict_of, with_hazards};
 ghost use Rattle.ckeys_records.specs.Causes.{HasOwnFault};
 
+use base_files::{Files, OsBytes};
 use ckeys_records::Fault;
 use cmdlines_base::CompilerArguments;
-use os_files::{Files, OsBytes};
-use response_files::ParseFault;
+use cmdlines_response_files::ParseFault;
 use rustc_compiler::Rust;
 use rustc_options::parsed::ParsedArguments;
 use rustc_texts::{commands_open_nothing, compile_words};

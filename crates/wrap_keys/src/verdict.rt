@@ -1,8 +1,8 @@
 //! The verdict on a request's words to a C compiler: it is passed through, or there is a plan of what is run for it.
 
 ghost use Rattle.std.specs.Prelude.{◌≡◌, ◌||◌, if◌then◌else◌, is_some, true, List, None, Some, IfOk, IfErr, OnOk};
-ghost use Rattle.os_files.specs.Bytes.{Bytes};
-ghost use Rattle.os_files.specs.Views.{FilesFail};
+ghost use Rattle.base_files.specs.Bytes.{Bytes};
+ghost use Rattle.base_files.specs.Views.{FilesFail};
 ghost use Rattle.cmdlines.specs.Commands.{object_path, preprocess_words};
 ghost use Rattle.cmdlines.specs.Hazards.{opens_file};
 ghost use Rattle.cmdlines.specs.Parsing as parsing;
@@ -15,14 +15,14 @@ ghost use Rattle.wrap_keys.specs.Plans.{judgement_of, IsPlanOf, IsReadAgain, IsR
 ghost use Rattle.ckeys_records.specs.Causes.{HasOwnFault};
 ghost use Rattle.ckeys_records.specs.Records.{hold_end};
 
+use base_files::{Files, OsBytes};
 use ckeys_records::{Fault, hold_word_end};
 use cmdlines::CommandError;
 use cmdlines::uncached_words::{empty_value, opens_file};
 use cmdlines_base::{CompilerArguments, SingleCompileCommand};
 use cmdlines_requests::ParsedArguments;
+use cmdlines_response_files::ParseFault;
 use cmdlines_tables::CCompilerKind;
-use os_files::{Files, OsBytes};
-use response_files::ParseFault;
 use std::alloc::{AllocError, Global};
 use wrap_base::{AnyC, Reason, Request};
 

@@ -1,6 +1,6 @@
 -- One more output that is gathered.
 use Rattle.std.proofs.Common.{◌≡◌, ℕ, suc, ◌+◌, ◌<◌, List, [], ◌∷◌, ◌++◌, length, get_or, drop, drop-cons, add-one, Option, None, Some, true, refl, ap, sym, ◌∙◌, append_assoc}
-use Rattle.os_files.specs.Bytes.{Bytes}
+use Rattle.base_files.specs.Bytes.{Bytes}
 use Rattle.cmdlines_base.specs.declared.command.ArtifactDescriptor.{ArtifactDescriptor}
 use Rattle.wrap_keys.specs.Account.{Collected, missing, all, Pairs, behind, gathered, collected, first_file, files_behind}
 use Rattle.ckeys_records.specs.Meaning.{names_of}

@@ -1,7 +1,7 @@
 -- Faults of requests that are passed through.
 use Rattle.std.proofs.Common.{◌≡◌, Result, Ok, Err, IfErr, sym, subst}
 use Rattle.std.specs.Result.{IsErrAnd}
-use Rattle.os_files.specs.Bytes.{Bytes}
+use Rattle.base_files.specs.Bytes.{Bytes}
 use Rattle.ckeys_records.specs.declared.fault.Fault.{Fault}
 use Rattle.wrap_base.specs.declared.answer.Answer.{Answer}
 use Rattle.wrap_keys.specs.Account.{Account, passed, worked}

@@ -1,7 +1,7 @@
 -- Paths by name, with one more.
 use Rattle.std.proofs.Common.{◌≡◌, Bool, true, false, Bor, Option, Some}
 use Rattle.std.specs.Prelude.{cond, if◌then◌else◌}
-use Rattle.os_files.specs.Bytes.{Bytes}
+use Rattle.base_files.specs.Bytes.{Bytes}
 use Rattle.wrap_turns.specs.PathMap.{path_found}
 
 -- the path that is inserted, or the one that was there

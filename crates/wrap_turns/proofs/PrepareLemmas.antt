@@ -1,7 +1,7 @@
 -- What the hasher of a request's call says of its key, said of the request's work.
 use Rattle.std.proofs.Common.{◌≡◌, ℕ, Bool, true, false, if◌then◌else◌, Some, None, Result, Ok, Err, IsErrAnd, refl, sym, ap, subst}
 use Rattle.std.proofs.lemmas.Result.{err_from_is_err_and}
-use Rattle.os_files.specs.Bytes.{Bytes}
+use Rattle.base_files.specs.Bytes.{Bytes}
 use Rattle.ckeys.specs.Calls.{KeyCall, PrintedCall, printed_call}
 use Rattle.ckeys.specs.Entries.{Held, entry_key_of, entry_key_by, has_entry_key}
 use Rattle.ckeys.specs.EntryTurns.{EntryTurn, KeyFrom, KeyRecorded}
@@ -10,8 +10,8 @@ use Rattle.ckeys_records.specs.Causes.{ByStage, Stage, any_time, before_compile,
 use Rattle.ckeys_records.specs.Meaning.{Meaning}
 use Rattle.ckeys_records.specs.declared.fault.Fault.{Fault}
 use Rattle.ckeys_records.specs.declared.fault.Fault.TheVariants.{Memory}
-use Rattle.entry_keys.specs.declared.entry_key.EntryKey.{EntryKey}
-use Rattle.include_records.specs.Records.{Record}
+use Rattle.ckeys_entry_keys.specs.declared.entry_key.EntryKey.{EntryKey}
+use Rattle.ckeys_include_records.specs.Records.{Record}
 use Rattle.wrap_keys.specs.Account.{direct_at, work_at, worked}
 use Rattle.wrap_keys.specs.Asking.{EntriesBy, EntriesTurn, OnUnkeyed, WorkKeyFrom}
 

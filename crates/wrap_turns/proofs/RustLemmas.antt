@@ -1,7 +1,7 @@
 -- Calls to rustc, which ask for no include records.
 use Rattle.std.proofs.Common.{◌≡◌, ℕ, None, true, false, if◌then◌else◌, Result, Ok, Err, IsErrAnd, inr, sym, ap, ◌∙◌}
-use Rattle.os_files.specs.Bytes.{Bytes, ticked}
-use Rattle.os_files.specs.Tree.{Tree}
+use Rattle.base_files.specs.Bytes.{Bytes, ticked}
+use Rattle.base_files.specs.Tree.{Tree}
 use Rattle.ckeys_records.specs.Meaning.{Meaning, names_of, scene_of}
 use Rattle.ckeys_records.specs.declared.fault.Fault.{Fault}
 use Rattle.ckeys_records.specs.declared.step.Step.TheVariants.{Compile}

@@ -2,9 +2,9 @@
 use Rattle.std.proofs.Common.{◌≡◌, ℕ, List, if◌then◌else◌, Bool, true, false, Option, Some, None, IsSome, IsNone, Result, Ok, Err, OnOk, ◌⊎◌, inl, inr, refl, sym, ap, subst, ◌∙◌, IsErrAnd}
 use Rattle.std.proofs.lemmas.Bool.{true≢false}
 use Rattle.std.proofs.lemmas.Result.{err_from_is_err_and}
-use Rattle.os_files.specs.Bytes.{Bytes, ticked}
-use Rattle.os_files.specs.Tree.{Tree}
-use Rattle.os_files.specs.Views.{FilesView}
+use Rattle.base_files.specs.Bytes.{Bytes, ticked}
+use Rattle.base_files.specs.Tree.{Tree}
+use Rattle.base_files.specs.Views.{FilesView}
 use Rattle.cmdlines_requests.specs.declared.parsed.ParsedArguments.{ParsedArguments}
 use Rattle.ckeys_base.specs.Shelf.{Shelf, Asks, Puts, Forgotten, Within}
 use Rattle.ckeys.specs.Calls.{PrintedCall, key_fault_by}
@@ -17,8 +17,8 @@ use Rattle.ckeys.specs.EntryTurns.{IsPut, IsSpared, KeyFine, KeyRecorded, KeyRun
 use Rattle.ckeys_records.specs.Meaning.{AtMostOnce}
 use Rattle.wrap_keys.specs.CallRecords.{CallRecord, IsTold, of_c, of_rustc}
 use Rattle.ckeys_records.specs.Meaning.{Meaning, FailsIn}
-use Rattle.entry_keys.specs.declared.entry_key.EntryKey.{EntryKey}
-use Rattle.include_records.specs.Records.{Record}
+use Rattle.ckeys_entry_keys.specs.declared.entry_key.EntryKey.{EntryKey}
+use Rattle.ckeys_include_records.specs.Records.{Record}
 use Rattle.ckeys_records.specs.declared.fault.Fault.{Fault}
 use Rattle.ckeys_records.specs.declared.fault.Fault.TheVariants.{Memory}
 use Rattle.ckeys_records.specs.declared.step.Step.{Step}

@@ -1,7 +1,7 @@
 -- A request of which all is known before the store of outputs is asked, and what is left to do for it.
 use Rattle.std.specs.Prelude.{◌≡◌, ℤ, true, Option, IsSome, Result, Ok, Err}
-use Rattle.os_files.specs.Bytes.{Bytes}
-use Rattle.os_files.specs.Tree.{Tree}
+use Rattle.base_files.specs.Bytes.{Bytes}
+use Rattle.base_files.specs.Tree.{Tree}
 use Rattle.cmdlines_base.specs.Artifacts.{Artifacts}
 use Rattle.cmdlines_base.specs.declared.command.SingleCompileCommand.{SingleCompileCommand}
 use Rattle.cmdlines_tables.specs.declared.compiler.CCompilerKind.{CCompilerKind}

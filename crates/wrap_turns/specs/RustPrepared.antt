@@ -1,6 +1,6 @@
 -- A request to rustc with its key.
 use Rattle.std.specs.Prelude.{◌≡◌}
-use Rattle.os_files.specs.Bytes.{Bytes}
+use Rattle.base_files.specs.Bytes.{Bytes}
 use Rattle.cmdlines_requests.specs.Small.{command_at}
 use Rattle.cmdlines_base.specs.declared.command.SingleCompileCommand.{SingleCompileCommand}
 use Rattle.rustc_compiler.specs.Compiler.{Rustc}

@@ -2,7 +2,7 @@
 use Rattle.std.specs.Prelude.{◌≡◌, ◌⊎◌, ℕ, Bool, true, false, Result, Ok, Err}
 use Rattle.ckeys_base.specs.Shelf.{Puts, Shelf}
 use Rattle.wrap_keys.specs.Account.{Work, Pairs, Collected, compile_fault_of, missing_fault_of}
-use Rattle.os_files.specs.Bytes.{ticked}
+use Rattle.base_files.specs.Bytes.{ticked}
 use Rattle.ckeys_records.specs.Causes.{ByStage, IsCaused, no_file, no_step, stage_of}
 use Rattle.ckeys_records.specs.declared.fault.Fault.{Fault}
 use Rattle.wrap_base.specs.declared.store_key.StoreKey.{StoreKey}

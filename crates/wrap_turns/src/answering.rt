@@ -2,7 +2,7 @@
 //! it made is kept, unless it's larger than the limit.
 
 ghost use Rattle.std.specs.Prelude.{◌≡◌, OnOk};
-ghost use Rattle.os_files.specs.Bytes.{Bytes};
+ghost use Rattle.base_files.specs.Bytes.{Bytes};
 ghost use Rattle.ckeys_records.specs.Causes.{HasOwnFault};
 ghost use Rattle.ckeys_records.specs.Views.{AreSteady, ToolFails};
 ghost use Rattle.wrap_keys.specs.Account.{Work, worked};
@@ -16,9 +16,9 @@ use crate::compile::compiled_pairs;
 use crate::outputs::placed;
 use crate::prepared::Prepared;
 use crate::sizes::is_within;
+use base_files::Files;
 use ckeys_base::Store;
 use ckeys_records::Fault;
-use os_files::Files;
 use std::alloc::Global;
 use wrap_base::store_key::{Pairs, StoreKey, keys_are_their_fields};
 use wrap_base::{Answer, How, Tool};

@@ -1,7 +1,7 @@
 //! Requests to a C compiler: the verdict on one, its key, and what it is answered.
 
 ghost use Rattle.std.specs.Prelude.{◌≡◌, IfErr, OnOk};
-ghost use Rattle.os_files.specs.Views.{FilesFail};
+ghost use Rattle.base_files.specs.Views.{FilesFail};
 ghost use Rattle.ckeys_records.specs.Causes.{HasOwnFault};
 ghost use Rattle.ckeys_records.specs.Views.{AreSteady, ToolFails};
 ghost use Rattle.wrap_keys.specs.Account.{account_named};
@@ -12,10 +12,10 @@ ghost use Rattle.wrap_base.specs.Commands.{by_c, found_of};
 
 use crate::answering::answer_prepared;
 use crate::prepared::prepare;
+use base_files::Files;
 use ckeys::{EntryKey, PreprocessorCacheEntry};
 use ckeys_base::{HashState, Store};
 use ckeys_records::Fault;
-use os_files::Files;
 use std::alloc::Global;
 use wrap_base::store_key::{Pairs, StoreKey};
 use wrap_base::{Answer, AnyC, Config, Request, Tool};

@@ -8,10 +8,10 @@ ghost use Rattle.wrap_turns.specs.Prepared.{Makes};
 ghost use Rattle.wrap_turns.specs.Steps.{CompileCause, RanOnce};
 
 use crate::outputs::collected;
+use base_files::{Files, OsBytes};
 use ckeys_records::{Fault, Step, ToolFail};
 use cmdlines_base::{ArtifactDescriptor, SingleCompileCommand};
 use cmdlines_tables::CCompilerKind;
-use os_files::{Files, OsBytes};
 use std::alloc::Global;
 use wrap_base::Tool;
 use wrap_base::store_key::Pairs;

@@ -8,9 +8,9 @@ ghost use Rattle.wrap_keys.specs.Account.{collected, all, first_file, files_behi
 ghost use Rattle.wrap_turns.specs.PathMap.{HasPaths};
 ghost use Rattle.wrap_turns.specs.Steps.{CollectCause};
 
+use base_files::{Listed, OsBytes};
 use ckeys_records::Fault;
 use cmdlines_base::ArtifactDescriptor;
-use os_files::{Listed, OsBytes};
 use std::alloc::{AllocError, Global};
 use std::collections::BTreeMap;
 use std::vec::IntoIter;

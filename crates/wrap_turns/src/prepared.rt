@@ -1,7 +1,7 @@
 //! A request that is prepared: all that is known of it before the store of outputs is asked.
 
 ghost use Rattle.std.specs.Prelude.{◌≡◌, true, false, Some, IfOk, IfErr, OnOk};
-ghost use Rattle.os_files.specs.Views.{FilesFail};
+ghost use Rattle.base_files.specs.Views.{FilesFail};
 ghost use Rattle.ckeys.specs.Calls.{PrintedCall, needs_preprocessing, printed_call};
 ghost use Rattle.ckeys_records.specs.Causes.{HasOwnFault};
 ghost use Rattle.ckeys_records.specs.Faults.{KeyCause};
@@ -13,12 +13,12 @@ ghost use Rattle.wrap_keys.specs.Plans.{IsPlanOf};
 ghost use Rattle.wrap_turns.specs.Prepared.{IsPrepared};
 ghost use Rattle.wrap_base.specs.Commands.{found_of};
 
+use base_files::{Files, OsBytes};
 use ckeys::{EntryKey, PreprocessorCacheEntry};
 use ckeys_base::{HashState, Store};
 use ckeys_records::{Fault, KeyConfig, stripped_words_lack_the_end};
 use cmdlines_base::{ArtifactDescriptor, SingleCompileCommand};
 use cmdlines_tables::CCompilerKind;
-use os_files::{Files, OsBytes};
 use std::alloc::Global;
 use wrap_base::store_key::{Family, Shape, StoreKey};
 use wrap_base::{AnyC, Request, Tool};

@@ -1,8 +1,8 @@
 //! Requests to rustc: the verdict on one, its key by what rustc reports, and what it is answered.
 
 ghost use Rattle.std.specs.Prelude.{◌≡◌, false, IfOk, IfErr, OnOk};
-ghost use Rattle.os_files.specs.Bytes.{ticked};
-ghost use Rattle.os_files.specs.Views.{FilesFail};
+ghost use Rattle.base_files.specs.Bytes.{ticked};
+ghost use Rattle.base_files.specs.Views.{FilesFail};
 ghost use Rattle.ckeys_records.specs.Causes.{HasOwnFault};
 ghost use Rattle.ckeys_records.specs.Faults.{KeyCause};
 ghost use Rattle.ckeys_records.specs.Views.{AreSteady, ToolFails};
@@ -20,9 +20,9 @@ ghost use Rattle.wrap_keys.specs.Turn.{KeyedTurn, StoreTurn};
 
 use crate::answering::answer_prepared;
 use crate::prepared::Prepared;
+use base_files::{Files, OsBytes};
 use ckeys_base::{HashState, Store};
 use ckeys_records::Fault;
-use os_files::{Files, OsBytes};
 use rustc_compiler::Rust;
 use rustc_options::parsed::ParsedArguments;
 use rustkeys::{RustCompilation, RustHasher};

@@ -3,7 +3,7 @@
 ghost use Rattle.std.specs.Prelude.{◌≡◌};
 ghost use Rattle.wrap_keys.specs.Sizes.{is_within, size_of};
 
-use os_files::OsBytes;
+use base_files::OsBytes;
 
 /// The lengths of the outputs' contents, added up. So many bytes can be more than 64 bits count.
 fn size_of(pairs: &[(OsBytes, OsBytes)]) -> u128

@@ -1,14 +1,14 @@
 -- What two fingerprints say of keys.
 use Rattle.std.proofs.Common.{◌≡◌, ◌↔◌, None, Option, Ok, sym, ◌∙◌}
-use Rattle.os_files.specs.Bytes.{Bytes}
+use Rattle.base_files.specs.Bytes.{Bytes}
 use Rattle.ckeys_records.specs.declared.step.Step.{Step}
 use Rattle.wrap.specs.Account.{Account, Work, passed, worked}
 use Rattle.wrap.specs.CallRecords.{AreDistinct, IsTold}
 use Rattle.wrap.specs.Fingerprints.{IsFingerprintOf, fingerprint_of}
 use Rattle.wrap.specs.StoreKeys.{store_key_of}
 use Rattle.wrap.specs.Telling.{Tells}
-use Rattle.fingerprints.specs.declared.fingerprint.Fingerprint.{Fingerprint}
-use Rattle.fingerprints.specs.declared.part.Part.{Part}
+use Rattle.wrap_fingerprints.specs.declared.fingerprint.Fingerprint.{Fingerprint}
+use Rattle.wrap_fingerprints.specs.declared.part.Part.{Part}
 use Rattle.wrap_uses.specs.Misses.{Explains}
 
 -- fingerprints are equal exactly where keys are

@@ -1,12 +1,12 @@
 -- What a report on a miss says.
 use Rattle.std.specs.Prelude.{◌≡◌, ◌↔◌, Option, None, Result, Ok, Err}
-use Rattle.os_files.specs.Bytes.{Bytes}
+use Rattle.base_files.specs.Bytes.{Bytes}
 use Rattle.wrap.specs.Account.{Account, Work, passed, worked}
 use Rattle.wrap.specs.CallRecords.{AreDistinct}
 use Rattle.wrap.specs.StoreKeys.{store_key_of}
 use Rattle.wrap.specs.Verdicts.{why_of}
 use Rattle.wrap_base.specs.declared.reason.Reason.{Reason}
-use Rattle.fingerprints.specs.declared.part.Part.{Part}
+use Rattle.wrap_fingerprints.specs.declared.part.Part.{Part}
 
 -- where digests are distinct, nothing differs exactly where two calls have one key
 abbrev pub TellsKeys : (Bytes → Bytes) → Work → Work → Option Part → Type 0

@@ -3,7 +3,7 @@
 ghost use Rattle.std.specs.Prelude.{IfOk};
 ghost use Rattle.wrap_uses.specs.RecordedKeys.{IsReadAs};
 
-use os_files::OsBytes;
+use base_files::OsBytes;
 use rustc_parts::parts::{Parts, RShape};
 use rustc_parts::read_key_bytes;
 use std::alloc::{AllocError, Global};

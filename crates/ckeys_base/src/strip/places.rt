@@ -5,7 +5,7 @@ ghost use Rattle.ckeys_base.specs.FolderPlaces.{longest};
 ghost use Rattle.ckeys_base.specs.FromTheLeft.{places_of};
 ghost use Rattle.ckeys_base.specs.FolderPlaces as spec;
 
-use os_files::OsBytes;
+use base_files::OsBytes;
 
 /// What folders go from.
 #[derive(Clone, Copy, Debug, PartialEq, Eq)]

@@ -7,8 +7,8 @@ ghost use Rattle.ckeys_base.specs.FromTheLeft.{places_of, start_after};
 ghost use Rattle.ckeys_base.specs.FromTheLeft as left;
 
 use super::places::{Kind, longest_at};
+use base_files::OsBytes;
 use memchr::memchr;
-use os_files::OsBytes;
 
 /// The slices of a text or an argument between the folders that go, from a place on, in their order. None of them is empty. It ends, and
 /// takes no memory.

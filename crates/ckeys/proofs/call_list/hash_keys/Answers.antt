@@ -2,7 +2,7 @@ use Rattle.std.proofs.Common.{◌≡◌, ◌<◌, ◌+◌, List, ◌∷◌, [], 
 use Rattle.std.proofs.lemmas.List.{length-map, take_all}
 use Rattle.std.specs.Prelude.{IfOk, IfErr, OnOk, filter, false, string_bytes}
 use Rattle.std.specs.List.{AllByRecursion, zip}
-use Rattle.os_files.specs.Views.{FilesFail}
+use Rattle.base_files.specs.Views.{FilesFail}
 use Rattle.ckeys.specs.Calls.{PrintedCall, key_fault_by, printed_call, record_by}
 use Rattle.ckeys_records.specs.Faults.{KeyCause}
 use Rattle.ckeys.specs.Entries.{EntryInvariant, EntryPremises, asking, has_entry_key}

@@ -1,5 +1,5 @@
 use Rattle.std.proofs.Common.{None}
-use Rattle.os_files.specs.Fails.{FailsOn}
+use Rattle.base_files.specs.Fails.{FailsOn}
 use Rattle.ckeys_records.specs.Faults.{FileCause, fault_by}
 use Rattle.ckeys.proofs.CallLemmas.{files_cause}
 use Rattle.ckeys_records.proofs.FaultLemmas.{on_exit, since}

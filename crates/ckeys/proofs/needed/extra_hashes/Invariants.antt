@@ -1,8 +1,8 @@
 use Rattle.std.proofs.Common.{◌≡◌, ◌++◌, List, length, map, string_bytes}
-use Rattle.os_files.specs.Bytes.{Bytes}
-use Rattle.os_files.specs.Path.{join}
+use Rattle.base_files.specs.Bytes.{Bytes}
+use Rattle.base_files.specs.Path.{join}
 use Rattle.ckeys_base.specs.Hex.{hex_of}
-use Rattle.include_records.specs.Surroundings.{contents_in}
+use Rattle.ckeys_include_records.specs.Surroundings.{contents_in}
 use Rattle.ckeys_records.specs.Faults.{first_missing}
 use Rattle.ckeys.proofs.needed.extra_hashes.Given as goal
 

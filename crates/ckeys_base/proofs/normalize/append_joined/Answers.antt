@@ -1,7 +1,7 @@
 use Rattle.std.proofs.Common.{◌++◌, List, map, ap, sym, ◌∙◌, append_assoc}
 use Rattle.std.specs.Borrow.{Bor}
 use Rattle.std.specs.List.{join_with_byte}
-use Rattle.os_files.specs.Bytes.{Bytes}
+use Rattle.base_files.specs.Bytes.{Bytes}
 use Rattle.ckeys_base.proofs.NormalNames.{behind_slashes, join-first}
 use Rattle.ckeys_base.proofs.normalize.append_joined.Goals as goal
 

@@ -1,6 +1,6 @@
 use Rattle.std.proofs.Common.{◌≡◌, map, drop}
 use Rattle.std.specs.List.{fold}
-use Rattle.os_files.specs.Path.{part_of}
+use Rattle.base_files.specs.Path.{part_of}
 use Rattle.ckeys_base.specs.NormalPath.{followed_by, names_of}
 use Rattle.ckeys_base.proofs.normalize.normal_names.Given as goal
 

@@ -1,6 +1,6 @@
 use Rattle.std.proofs.Common.{◌≡◌, sym, ap, subst, [], length}
 use Rattle.std.proofs.lemmas.Bool.{eqb-true, eq-eqb}
-use Rattle.os_files.specs.Bytes.{Bytes}
+use Rattle.base_files.specs.Bytes.{Bytes}
 use Rattle.ckeys_base.proofs.EscapeReadings.{ReadsTo, reads-step, reads-only, reads-nothing, none-left}
 use Rattle.ckeys_base.proofs.unescape.read_escapes.Goals as goal
 

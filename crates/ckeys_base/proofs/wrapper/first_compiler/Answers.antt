@@ -1,6 +1,6 @@
 use Rattle.std.proofs.Common.{ap, ◌∙◌, refl, List, map}
 use Rattle.std.specs.Borrow.{Bor}
-use Rattle.os_files.specs.Bytes.{Bytes}
+use Rattle.base_files.specs.Bytes.{Bytes}
 use Rattle.ckeys_base.specs.Wrapper.{is_compiler}
 use Rattle.ckeys_base.proofs.SearchPath.{offered-first}
 use Rattle.ckeys_base.proofs.wrapper.first_compiler.Goals as goal

@@ -1,5 +1,5 @@
 use Rattle.std.proofs.Common.{◌≡◌, Result, Ok, Err, IfOk, sym, subst, List}
-use Rattle.os_files.specs.Bytes.{Bytes}
+use Rattle.base_files.specs.Bytes.{Bytes}
 use Rattle.cmdlines.specs.Commands.{preprocess_words}
 use Rattle.cmdlines.specs.ReadBack.{ReadsAsPreprocess}
 use Rattle.cmdlines.proofs.CommandLemmas.{preprocess_again}

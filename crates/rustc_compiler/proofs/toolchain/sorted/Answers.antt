@@ -2,8 +2,8 @@ use Rattle.std.proofs.Common.{rules, ap, ◌∙◌}
 use Rattle.std.specs.Ordering.{is_lt}
 use Rattle.std.proofs.lemmas.List.MinMax.{ranks_by}
 use Rattle.std.proofs.lemmas.List.Sorted.{answers_always}
-use Rattle.os_files.specs.Bytes.{Bytes}
-use Rattle.os_files.specs.Path.{path_cmp}
+use Rattle.base_files.specs.Bytes.{Bytes}
+use Rattle.base_files.specs.Path.{path_cmp}
 use Rattle.rustc_options.specs.SortedLaws.{sorted_is}
 use Rattle.rustc_compiler.proofs.toolchain.sorted.Goals as goal
 

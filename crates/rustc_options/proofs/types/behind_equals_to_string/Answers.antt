@@ -1,5 +1,5 @@
 use Rattle.std.proofs.Common.{◌≡◌, ◌∙◌, [], ap, subst}
-use Rattle.os_files.specs.Bytes.{Bytes}
+use Rattle.base_files.specs.Bytes.{Bytes}
 use Rattle.cmdlines_base.specs.Texts.{PathText}
 use Rattle.rustc_options.specs.Splitting.{with_equals}
 use Rattle.rustc_options.proofs.types.behind_equals_to_string.Goals as goal

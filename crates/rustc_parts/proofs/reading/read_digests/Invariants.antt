@@ -1,5 +1,5 @@
 use Rattle.std.proofs.Common.{◌≡◌, ◌-◌}
-use Rattle.byte_formats.specs.Reading.{times_at}
+use Rattle.base_formats.specs.Reading.{times_at}
 use Rattle.rustc_parts.specs.Formed.{digest_digits}
 use Rattle.rustc_parts.specs.Reading.{digest_at}
 use Rattle.rustc_parts.proofs.RowReads.{with_front}

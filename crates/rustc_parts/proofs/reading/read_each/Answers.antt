@@ -1,5 +1,5 @@
 use Rattle.std.proofs.lemmas.Result.{err_from_is_err_and}
-use Rattle.byte_formats.specs.Reading.{taken_at}
+use Rattle.base_formats.specs.Reading.{taken_at}
 use Rattle.rustc_parts.specs.Reading.{each_at}
 use Rattle.rustc_parts.proofs.RowReads.{each-goes_on, each-ends, each-done}
 use Rattle.rustc_parts.proofs.reading.read_each.Goals as goal

@@ -1,5 +1,5 @@
 use Rattle.std.proofs.Common.{◌≡◌, drop}
-use Rattle.byte_formats.specs.Reading.{taken_at}
+use Rattle.base_formats.specs.Reading.{taken_at}
 use Rattle.rustc_parts.specs.Reading.{each_at}
 use Rattle.rustc_parts.proofs.RowReads.{with_front}
 use Rattle.rustc_parts.proofs.reading.read_each.Given as goal

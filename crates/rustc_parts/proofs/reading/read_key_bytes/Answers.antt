@@ -1,7 +1,7 @@
 use Rattle.std.proofs.Common.{◌≡◌, Option, Some, None, sym, subst, ◌∙◌, arith}
 use Rattle.std.specs.Prelude.{IfSome}
-use Rattle.os_files.specs.Bytes.{Bytes}
-use Rattle.byte_formats.specs.FieldFormats.{some_is}
+use Rattle.base_files.specs.Bytes.{Bytes}
+use Rattle.base_formats.specs.FieldFormats.{some_is}
 use Rattle.rustc_parts.specs.Formed.{AreFormed, IsSortedByNames}
 use Rattle.rustc_parts.specs.Material.{material_of}
 use Rattle.rustc_parts.specs.Shapes.{shape_of}

@@ -1,5 +1,5 @@
 use Rattle.std.proofs.lemmas.Result.{err_from_is_err_and}
-use Rattle.byte_formats.specs.Reading.{times_at}
+use Rattle.base_formats.specs.Reading.{times_at}
 use Rattle.rustc_parts.specs.Reading.{pair_at}
 use Rattle.rustc_parts.proofs.RowReads.{times-goes_on, times-ends, times-done}
 use Rattle.rustc_parts.proofs.reading.read_pairs.Goals as goal

@@ -3,7 +3,7 @@ use Rattle.std.specs.List.Sorted.{IsSorted}
 use Rattle.std.specs.Ordering.{is_lt}
 use Rattle.std.proofs.lemmas.List.MinMax.{ranks_by}
 use Rattle.std.proofs.lemmas.List.Sorted.{answers_always}
-use Rattle.os_files.specs.Path.{path_cmp}
+use Rattle.base_files.specs.Path.{path_cmp}
 use Rattle.rustc_texts.proofs.dep_info.in_order.Goals as goal
 
 pub returns-clause-sorted : goal.returns-clause-sorted

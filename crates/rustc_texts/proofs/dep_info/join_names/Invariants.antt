@@ -1,5 +1,5 @@
 use Rattle.std.proofs.Common.{◌≡◌, map, take}
-use Rattle.os_files.specs.Path.{join}
+use Rattle.base_files.specs.Path.{join}
 use Rattle.rustc_texts.proofs.dep_info.join_names.Given as goal
 
 -- those of the names so far

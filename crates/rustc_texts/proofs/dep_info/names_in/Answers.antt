@@ -1,5 +1,5 @@
 use Rattle.std.proofs.Common.{◌≡◌, ℕ, ◌==◌, false, List, [], ◌∷◌, ◌++◌, ap, sym, ◌∙◌, arith, length, Vec, Global}
-use Rattle.os_files.specs.Bytes.{Bytes}
+use Rattle.base_files.specs.Bytes.{Bytes}
 use Rattle.rustc_texts.specs.DepInfo.{without_empty_last}
 use Rattle.rustc_texts.proofs.NameLaws.{all_names, going_on, going_on-start, more-escaped, more-ended, more-letters, no-more, none, last-empty, last-kept}
 use Rattle.rustc_texts.proofs.dep_info.names_in.Goals as goal

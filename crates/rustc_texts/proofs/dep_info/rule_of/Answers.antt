@@ -1,5 +1,5 @@
 use Rattle.std.proofs.Common.{Option, option_and_then, ap, sym, ◌∙◌}
-use Rattle.os_files.specs.Bytes.{Bytes}
+use Rattle.base_files.specs.Bytes.{Bytes}
 use Rattle.rustc_texts.specs.DepInfo.{behind_colon}
 use Rattle.rustc_texts.proofs.FirstLines.{first_line}
 use Rattle.rustc_texts.proofs.dep_info.rule_of.Goals as goal

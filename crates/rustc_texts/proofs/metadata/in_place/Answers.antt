@@ -3,7 +3,7 @@ use Rattle.std.proofs.Math.ListN.{drop_of_length-le}
 use Rattle.std.proofs.Math.Seq.{take-length}
 use Rattle.std.proofs.Math.Numerals.{suc-eq-add-one}
 use Rattle.std.proofs.lemmas.List.Sums.{fold_more}
-use Rattle.os_files.specs.Bytes.{Bytes}
+use Rattle.base_files.specs.Bytes.{Bytes}
 use Rattle.rustc_texts.specs.Outputs.{has_name, metadata_name, with_metadata_of, with_name, without_name}
 use Rattle.rustc_texts.specs.Places.{is_none_of}
 use Rattle.rustc_texts.proofs.InPlace.{all-stay, stays}

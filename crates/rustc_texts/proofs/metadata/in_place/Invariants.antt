@@ -1,5 +1,5 @@
 use Rattle.std.proofs.Common.{◌≡◌, false, List, take, drop, fold, filter}
-use Rattle.os_files.specs.Bytes.{Bytes}
+use Rattle.base_files.specs.Bytes.{Bytes}
 use Rattle.rustc_texts.specs.Outputs.{Tells, with_metadata_of}
 use Rattle.rustc_texts.specs.Places.{TellsLast, is_none_of}
 use Rattle.rustc_texts.proofs.metadata.in_place.Given as goal

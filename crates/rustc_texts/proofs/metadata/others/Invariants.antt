@@ -1,6 +1,6 @@
 use Rattle.std.proofs.Common.{◌≡◌, ◌++◌, List, filter}
 use Rattle.std.specs.Vec.Iter.{into_iter_items}
-use Rattle.os_files.specs.Bytes.{Bytes}
+use Rattle.base_files.specs.Bytes.{Bytes}
 use Rattle.rustc_texts.specs.Places.{TellsLast, is_none_of}
 use Rattle.rustc_texts.proofs.metadata.others.Given as goal
 

@@ -1,6 +1,6 @@
 use Rattle.std.proofs.Common.{List, [], ◌∷◌, ◌++◌, take, ◌∙◌, ap, sym}
 use Rattle.std.proofs.lemmas.List.{take_more}
-use Rattle.os_files.specs.Bytes.{Bytes}
+use Rattle.base_files.specs.Bytes.{Bytes}
 use Rattle.rustc_texts.specs.Outputs.{has_name}
 use Rattle.rustc_texts.proofs.ToldNames.{has-pushed, has-with}
 use Rattle.rustc_texts.proofs.name_sets.name_set.Goals as goal

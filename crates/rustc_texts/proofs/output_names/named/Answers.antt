@@ -3,7 +3,7 @@ use Rattle.std.specs.Borrow.{Bor}
 use Rattle.std.proofs.lemmas.List.{map_push}
 use Rattle.std.proofs.lemmas.Iterator.Consumers.{YieldsList-at, YieldsList-end}
 use Rattle.std.proofs.lemmas.Iterator.Splits.{YieldsList-from_lines}
-use Rattle.os_files.specs.Bytes.{Bytes}
+use Rattle.base_files.specs.Bytes.{Bytes}
 use Rattle.rustc_texts.specs.Outputs.{each_once, with_name}
 use Rattle.rustc_texts.proofs.EachOnce.{once-more}
 use Rattle.rustc_texts.proofs.output_names.named.Goals as goal

@@ -1,6 +1,6 @@
 use Rattle.std.proofs.Common.{◌≡◌, ◌++◌, map, take}
 use Rattle.std.specs.Option.{option_to_list}
-use Rattle.os_files.specs.Path.{join}
+use Rattle.base_files.specs.Path.{join}
 use Rattle.rustc_texts.proofs.outputs.targets.Given as goal
 
 -- the text's own path, and those of the names so far

@@ -1,7 +1,7 @@
 use Rattle.std.proofs.Common.{◌≡◌, Option, Some, List, ◌++◌, ap, sym, ◌∙◌}
 use Rattle.std.specs.List.{after_first, before_first, flat_map, join_with_byte}
 use Rattle.std.specs.Option.{option_copied, option_map}
-use Rattle.os_files.specs.Bytes.{Bytes}
+use Rattle.base_files.specs.Bytes.{Bytes}
 use Rattle.rustc_texts.specs.DepInfo.{behind_colon}
 use Rattle.rustc_texts.specs.Rewriting.{is_line_end, phony_rule, prerequisites, rule_for, rules_of, where_any, without_line_end}
 use Rattle.rustc_texts.proofs.rewriting.dep_info_with_targets.Goals as goal

@@ -1,6 +1,6 @@
 use Rattle.std.proofs.Common.{◌++◌, ap, sym, ◌∙◌}
 use Rattle.std.specs.List.{join_with_byte}
-use Rattle.os_files.specs.Bytes.{Bytes}
+use Rattle.base_files.specs.Bytes.{Bytes}
 use Rattle.rustc_texts.proofs.JoinedPieces.{behind_spaces, join-first}
 use Rattle.rustc_texts.proofs.rewriting.joined_by_spaces.Goals as goal
 

@@ -1,6 +1,6 @@
 use Rattle.std.proofs.Common.{◌≡◌, ℕ, ◌==◌, Bool, true, false, [], ◌∷◌, ◌++◌, if◌then◌else◌, ap, sym, ◌∙◌, arith, length, Vec, Global}
 use Rattle.std.specs.List.{join_with_byte}
-use Rattle.os_files.specs.Bytes.{Bytes}
+use Rattle.base_files.specs.Bytes.{Bytes}
 use Rattle.rustc_texts.proofs.JoinedPieces.{behind-others, alone}
 use Rattle.rustc_texts.proofs.rewriting.prerequisites.Goals as goal
 use Rattle.rustc_texts.proofs.rewriting.prerequisites.Goals.{then-not-is_empty+in_ok-push, else-not-is_empty}

@@ -1,5 +1,5 @@
 use Rattle.std.proofs.Common.{◌≡◌, ◌∷◌, [], List, ap, sym, ◌∙◌}
-use Rattle.os_files.specs.Bytes.{Bytes}
+use Rattle.base_files.specs.Bytes.{Bytes}
 use Rattle.ckeys_records.specs.Faults.{KeyCause}
 use Rattle.ckeys_records.specs.Causes.{no_file}
 use Rattle.ckeys_records.specs.Meaning.{FailsIn, Meaning}

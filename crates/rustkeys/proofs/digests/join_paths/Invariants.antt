@@ -1,5 +1,5 @@
 use Rattle.std.proofs.Common.{◌≡◌, map, take}
-use Rattle.os_files.specs.Path.{join}
+use Rattle.base_files.specs.Path.{join}
 use Rattle.rustkeys.proofs.digests.join_paths.Given as goal
 
 -- a path for each so far

@@ -1,6 +1,6 @@
 use Rattle.std.proofs.Common.{◌≡◌, ◌++◌, List, length, map}
-use Rattle.os_files.specs.Bytes.{Bytes}
-use Rattle.include_records.specs.Surroundings.{contents_in}
+use Rattle.base_files.specs.Bytes.{Bytes}
+use Rattle.ckeys_include_records.specs.Surroundings.{contents_in}
 use Rattle.ckeys_records.specs.Faults.{first_missing}
 use Rattle.rustkeys.specs.Records.{digest_text}
 use Rattle.rustkeys.proofs.digests.needed_digests.Given as goal

@@ -1,5 +1,5 @@
 use Rattle.std.specs.Prelude.{filter}
-use Rattle.os_files.specs.Bytes.{Bytes}
+use Rattle.base_files.specs.Bytes.{Bytes}
 use Rattle.rustc_parts.specs.Orders.{pair_cmp}
 use Rattle.rustc_texts.specs.Variables.{counts}
 use Rattle.rustkeys.proofs.SortLemmas.{in_order_is}

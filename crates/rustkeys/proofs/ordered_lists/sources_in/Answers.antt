@@ -1,7 +1,7 @@
 use Rattle.std.proofs.Common.{◌≡◌, [], subst}
 use Rattle.std.specs.Prelude.{unwrap_or}
-use Rattle.os_files.specs.Bytes.{Bytes}
-use Rattle.os_files.specs.Path.{path_cmp}
+use Rattle.base_files.specs.Bytes.{Bytes}
+use Rattle.base_files.specs.Path.{path_cmp}
 use Rattle.rustc_texts.specs.DepInfo.{sources_of}
 use Rattle.rustc_options.specs.Sorted.{sorted_by}
 use Rattle.rustkeys.proofs.SortLemmas.{found_in_order}

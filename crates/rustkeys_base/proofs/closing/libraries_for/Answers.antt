@@ -1,8 +1,8 @@
 use Rattle.std.proofs.Common.{◌≡◌, ◌∙◌, List, map, ap, subst}
 use Rattle.std.specs.List.{Contains, flat_map}
 use Rattle.std.proofs.lemmas.Result.{IfErr-weaker}
-use Rattle.os_files.specs.Bytes.{Bytes}
-use Rattle.os_files.specs.Path.{join}
+use Rattle.base_files.specs.Bytes.{Bytes}
+use Rattle.base_files.specs.Path.{join}
 use Rattle.rustkeys_base.specs.Asking.{library_places}
 use Rattle.rustkeys_base.specs.Requests.{library_paths}
 use Rattle.rustkeys_base.proofs.AskedLemmas.{cause_by}

@@ -1,7 +1,7 @@
 use Rattle.std.proofs.Common.{◌≡◌, ◌∷◌, ◌∙◌, List, sym, subst, arith, rules}
 use Rattle.std.specs.List.{Contains, flat_map}
 use Rattle.std.proofs.lemmas.Grind.{common_steps}
-use Rattle.os_files.specs.Bytes.{Bytes}
+use Rattle.base_files.specs.Bytes.{Bytes}
 use Rattle.rustkeys_base.specs.Requests.{library_paths}
 use Rattle.rustkeys_base.proofs.AskedLemmas.{exit_by, first_gives, later_gives}
 use Rattle.rustkeys_base.proofs.libraries.libraries_in.Goals as goal

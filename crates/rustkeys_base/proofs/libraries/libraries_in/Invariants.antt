@@ -1,6 +1,6 @@
 use Rattle.std.proofs.Common.{◌≡◌, ◌++◌, filter_map, length}
 use Rattle.std.specs.List.{Contains, flat_map}
-use Rattle.os_files.specs.Bytes.{Bytes}
+use Rattle.base_files.specs.Bytes.{Bytes}
 use Rattle.rustkeys_base.specs.Requests.{library_in, library_paths}
 use Rattle.rustkeys_base.proofs.libraries.libraries_in.Given as goal
 

@@ -1,8 +1,8 @@
 use Rattle.std.proofs.Common.{◌≡◌, ◌∷◌, ◌∙◌, List, map, ap, sym, subst, arith, rules}
 use Rattle.std.specs.List.{Contains}
 use Rattle.std.proofs.lemmas.Grind.{common_steps}
-use Rattle.os_files.specs.Bytes.{Bytes}
-use Rattle.os_files.specs.Path.{join}
+use Rattle.base_files.specs.Bytes.{Bytes}
+use Rattle.base_files.specs.Path.{join}
 use Rattle.rustkeys_base.specs.Requests.{library_names, library_paths}
 use Rattle.rustkeys_base.proofs.AskedLemmas.{exit_by, first_gives, later_gives}
 use Rattle.rustkeys_base.proofs.libraries.library_in.Goals as goal

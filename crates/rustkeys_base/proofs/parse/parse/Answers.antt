@@ -1,7 +1,7 @@
 use Rattle.std.proofs.Common.{◌≡◌, List, map, ap, subst, ◌∙◌}
 use Rattle.std.specs.List.{Contains}
 use Rattle.std.proofs.lemmas.Result.{IfErr-weaker}
-use Rattle.os_files.specs.Bytes.{Bytes}
+use Rattle.base_files.specs.Bytes.{Bytes}
 use Rattle.rustc_options.specs.Table.{rustc_reading}
 use Rattle.rustkeys_base.specs.Asking.{IsAskedByItems, for_library, library_places}
 use Rattle.rustkeys_base.specs.Facts.{facts_of}

@@ -2,9 +2,9 @@ use Rattle.std.proofs.Common.{◌≡◌, Bool, List, map, ◌∙◌}
 use Rattle.std.specs.Prelude.{is_some}
 use Rattle.std.specs.List.Sorted.{IsPermutation}
 use Rattle.std.specs.Option.{option_map}
-use Rattle.os_files.specs.Bytes.{Bytes}
-use Rattle.os_files.specs.Path.{join}
-use Rattle.include_records.specs.Surroundings.{contents_in}
+use Rattle.base_files.specs.Bytes.{Bytes}
+use Rattle.base_files.specs.Path.{join}
+use Rattle.ckeys_include_records.specs.Surroundings.{contents_in}
 use Rattle.ckeys_records.specs.Meaning.{Meaning, names_of, text_in}
 use Rattle.rustc_options.specs.Asks.{Said}
 use Rattle.rustc_texts.specs.Outputs.{outputs_of}

@@ -1,6 +1,6 @@
 use Rattle.std.proofs.Common.{◌≡◌, List, inl, true, subst, rules}
-use Rattle.os_files.specs.Bytes.{Bytes}
-use Rattle.response_files.specs.Causes.{CauseOf}
+use Rattle.base_files.specs.Bytes.{Bytes}
+use Rattle.cmdlines_response_files.specs.Causes.{CauseOf}
 use Rattle.rustkeys_base.specs.Asking.{IsAskedByRustc}
 use Rattle.wrap_keys.specs.RustVerdicts.{is_text}
 use Rattle.wrap_keys.proofs.JudgeLemmas.{judged}

@@ -1,6 +1,6 @@
 use Rattle.std.proofs.Common.{◌≡◌, ℕ, Err, IfErr, None, Result, false, refl, subst, sym, ◌∙◌}
-use Rattle.os_files.specs.Bytes.{Bytes}
-use Rattle.os_files.specs.Fails.{FailsOn}
+use Rattle.base_files.specs.Bytes.{Bytes}
+use Rattle.base_files.specs.Fails.{FailsOn}
 use Rattle.ckeys.specs.Calls.{KeyCall, PrintedCall, printed_call}
 use Rattle.ckeys_records.specs.Meaning.{FailsIn}
 use Rattle.ckeys_records.specs.declared.fault.Fault.{Fault}

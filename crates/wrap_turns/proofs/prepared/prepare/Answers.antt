@@ -2,7 +2,7 @@ use Rattle.std.specs.declared.alloc.Global.{Global}
 use Rattle.std.specs.declared.vec.Vec.{Vec}
 use Rattle.std.specs.List.{AllByRecursion}
 use Rattle.std.proofs.Common.{◌≡◌, ℕ, None, ap, filter, refl, rules, string_bytes, subst, ◌∙◌, to_z, of_z, w64}
-use Rattle.os_files.specs.Fails.{FailsOn}
+use Rattle.base_files.specs.Fails.{FailsOn}
 use Rattle.ckeys.specs.Calls.{KeyCall, early_fault_of, key_fault_of, printed_call, record_of}
 use Rattle.ckeys.specs.EntryTurns.{KeyFine}
 use Rattle.ckeys.specs.Hashers.{call_by}

@@ -1,5 +1,5 @@
 use Rattle.std.proofs.Common.{◌≡◌, ℕ, None, false, rules, refl, subst, sym, ◌∙◌, to_z, of_z, w64}
-use Rattle.os_files.specs.Bytes.{Bytes}
+use Rattle.base_files.specs.Bytes.{Bytes}
 use Rattle.rustc_options.specs.Asks.{asks_in}
 use Rattle.wrap_keys.specs.Account.{rust_call_at, rust_work_at, worked}
 use Rattle.wrap_keys.specs.Asking.{StopsEarly}

@@ -1,7 +1,7 @@
 use Rattle.std.proofs.Common.{◌≡◌, IfErr, None, false, subst}
-use Rattle.os_files.specs.Bytes.{Bytes}
-use Rattle.os_files.specs.Fails.{FailsOn}
-use Rattle.os_files.specs.Tree.{Tree}
+use Rattle.base_files.specs.Bytes.{Bytes}
+use Rattle.base_files.specs.Fails.{FailsOn}
+use Rattle.base_files.specs.Tree.{Tree}
 use Rattle.ckeys_records.specs.Meaning.{FailsIn}
 use Rattle.rustc_options.specs.Asks.{asks_in}
 use Rattle.wrap_base.specs.Commands.{by_rustc}

@@ -1,10 +1,10 @@
 use Rattle.std.proofs.Common.{Ok, Result, subst}
-use Rattle.os_files.specs.Fails.{FailsOn}
+use Rattle.base_files.specs.Fails.{FailsOn}
 use Rattle.ckeys_records.specs.Meaning.{FailsIn}
 use Rattle.wrap.specs.Account.{account_at}
 use Rattle.wrap.specs.Telling.{Tells}
 use Rattle.wrap_base.specs.declared.reason.Reason.{Reason}
-use Rattle.fingerprints.specs.declared.fingerprint.Fingerprint.{Fingerprint}
+use Rattle.wrap_fingerprints.specs.declared.fingerprint.Fingerprint.{Fingerprint}
 use Rattle.wrap_uses.proofs.MissLemmas.{found_explains}
 use Rattle.wrap_uses.proofs.misses.why_missed.Goals as goal
 

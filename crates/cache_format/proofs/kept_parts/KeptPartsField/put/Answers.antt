@@ -1,6 +1,6 @@
 use Rattle.std.proofs.Common.{◌∷◌, []}
-use Rattle.byte_formats.proofs.Fronts.{front-all}
-use Rattle.byte_formats.proofs.PartsInRow.{ten_parts}
+use Rattle.base_formats.proofs.Fronts.{front-all}
+use Rattle.base_formats.proofs.PartsInRow.{ten_parts}
 use Rattle.cache_format.proofs.kept_parts.KeptPartsField.put.Goals as goal
 
 pub returns-clause-added : goal.returns-clause-added

@@ -1,4 +1,4 @@
-use Rattle.byte_formats.proofs.PartsInRow.{five_parts}
+use Rattle.base_formats.proofs.PartsInRow.{five_parts}
 use Rattle.cache_format.proofs.layout.KeptResultField.put.Goals as goal
 
 pub returns-clause-added : goal.returns-clause-added

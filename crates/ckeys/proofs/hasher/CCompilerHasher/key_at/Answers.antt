@@ -1,9 +1,9 @@
 use Rattle.std.proofs.Common.{◌≡◌, None, Some, map, ap, sym, subst, ◌∙◌}
 use Rattle.std.specs.Prelude.{IfSome}
 use Rattle.std.specs.Option.{option_map}
-use Rattle.os_files.specs.Fails.{FailsOn}
-use Rattle.os_files.specs.Path.{join}
-use Rattle.os_files.specs.Tree.{Tree}
+use Rattle.base_files.specs.Fails.{FailsOn}
+use Rattle.base_files.specs.Path.{join}
+use Rattle.base_files.specs.Tree.{Tree}
 use Rattle.ckeys.specs.Calls.{KeyCall, PrintedCall, key_fault_of, missing_input, printed_call, text_fault_of}
 use Rattle.ckeys_records.specs.Faults.{KeyCause, first_missing}
 use Rattle.ckeys.specs.Entries.{IsFramed, entry_key_of}

@@ -1,8 +1,8 @@
 use Rattle.std.proofs.Common.{◌≡◌, true, None, Some, List, string_bytes, ap, sym, subst, ◌∙◌, refl}
-use Rattle.os_files.specs.Bytes.{Bytes}
-use Rattle.os_files.specs.Fails.{FailsOn}
-use Rattle.os_files.specs.Path.{join}
-use Rattle.os_files.specs.Tree.{Tree}
+use Rattle.base_files.specs.Bytes.{Bytes}
+use Rattle.base_files.specs.Fails.{FailsOn}
+use Rattle.base_files.specs.Path.{join}
+use Rattle.base_files.specs.Tree.{Tree}
 use Rattle.ckeys_base.specs.Shelf.{Shelf}
 use Rattle.ckeys.specs.Calls.{KeyCall, PrintedCall, printed_call, record_by, text_by, text_fault_by, text_fault_of, text_of}
 use Rattle.ckeys_records.specs.Faults.{KeyCause}
@@ -14,9 +14,9 @@ use Rattle.ckeys_records.specs.Material.{shape_of}
 use Rattle.ckeys_records.specs.Meaning.{FailsIn}
 use Rattle.ckeys_records.specs.Params.{parts_handed}
 use Rattle.ckeys.specs.Surroundings.{recorded_of}
-use Rattle.entry_keys.specs.contracts.entry_key.EntryKeyPartialEq.TheImpl as entry_eq
-use Rattle.entry_keys.specs.declared.entry_key.EntryKey.{EntryKey}
-use Rattle.include_records.specs.Records.{Record}
+use Rattle.ckeys_entry_keys.specs.contracts.entry_key.EntryKeyPartialEq.TheImpl as entry_eq
+use Rattle.ckeys_entry_keys.specs.declared.entry_key.EntryKey.{EntryKey}
+use Rattle.ckeys_include_records.specs.Records.{Record}
 use Rattle.ckeys.proofs.CallLemmas.{cause_is, file_cause}
 use Rattle.ckeys_records.proofs.FaultLemmas.{since, on_exit}
 use Rattle.ckeys.proofs.EntryLemmas.{found_recorded, from_record, good_of, turn_asked, turn_kept, turn_missed}

@@ -1,7 +1,7 @@
 use Rattle.std.proofs.Common.{◌≡◌, ◌∙◌, List, Option, ap, sym}
-use Rattle.os_files.specs.Bytes.{Bytes}
+use Rattle.base_files.specs.Bytes.{Bytes}
 use Rattle.cmdlines_base.specs.Table.{all_entries}
-use Rattle.response_files.specs.declared.style.Style.{Style}
+use Rattle.cmdlines_response_files.specs.declared.style.Style.{Style}
 use Rattle.cmdlines.specs.Opening.{opened_by, opened_words}
 use Rattle.cmdlines.specs.Parsing.{decision_by}
 use Rattle.cmdlines.proofs.any_found.AnyFoundCompiler.parse_arguments.Goals as goal

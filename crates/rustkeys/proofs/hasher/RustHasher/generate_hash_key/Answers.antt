@@ -1,6 +1,6 @@
 use Rattle.std.proofs.Common.{◌≡◌, ◌∙◌, None, ap, is_some, map, pos, string_bytes, subst}
 use Rattle.std.specs.List.{AllByRecursion}
-use Rattle.byte_formats.specs.Spelling.{FitsFrame}
+use Rattle.base_formats.specs.Spelling.{FitsFrame}
 use Rattle.rustc_parts.specs.Formed.{IsDigest, digest_digits}
 use Rattle.rustc_parts.specs.Material.{material_of}
 use Rattle.rustc_parts.specs.Shapes.{shape_of}

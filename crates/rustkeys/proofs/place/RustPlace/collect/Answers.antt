@@ -1,6 +1,6 @@
 use Rattle.std.proofs.Common.{◌≡◌, None, subst, sym, ◌∙◌}
-use Rattle.os_files.specs.Fails.{FailsOn}
-use Rattle.os_files.specs.Tree.{Tree}
+use Rattle.base_files.specs.Fails.{FailsOn}
+use Rattle.base_files.specs.Tree.{Tree}
 use Rattle.ckeys_records.specs.Faults.{KeyCause, or_else}
 use Rattle.ckeys_records.specs.Causes.{no_file}
 use Rattle.ckeys_records.specs.Meaning.{FailsIn, Meaning, text_in}

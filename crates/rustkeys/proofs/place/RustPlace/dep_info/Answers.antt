@@ -1,4 +1,4 @@
-use Rattle.os_files.specs.Fails.{FailsOn}
+use Rattle.base_files.specs.Fails.{FailsOn}
 use Rattle.ckeys_records.specs.Faults.{KeyCause}
 use Rattle.ckeys_records.specs.Meaning.{text_in}
 use Rattle.ckeys_records.specs.Causes.{no_file}

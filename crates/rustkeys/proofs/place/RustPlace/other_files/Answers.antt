@@ -1,9 +1,9 @@
 use Rattle.std.proofs.Common.{◌≡◌, List, None, map, ap, refl, sym, ◌∙◌}
 use Rattle.std.specs.Option.{option_map, option_to_list}
-use Rattle.os_files.specs.Bytes.{Bytes}
-use Rattle.os_files.specs.Fails.{FailsOn}
-use Rattle.os_files.specs.Path.{join}
-use Rattle.os_files.specs.Tree.{Tree}
+use Rattle.base_files.specs.Bytes.{Bytes}
+use Rattle.base_files.specs.Fails.{FailsOn}
+use Rattle.base_files.specs.Path.{join}
+use Rattle.base_files.specs.Tree.{Tree}
 use Rattle.ckeys_records.specs.Faults.{KeyCause, first_missing, or_else, read_fault_of}
 use Rattle.ckeys_records.specs.Causes.{no_file, no_step}
 use Rattle.ckeys_records.specs.Meaning.{FailsIn}

@@ -1,6 +1,6 @@
 use Rattle.std.proofs.Common.{◌≡◌, ◌∷◌, [], inl, inr, ap, sym, ◌∙◌}
 use Rattle.std.proofs.lemmas.Result.{on_ok_weaker}
-use Rattle.os_files.specs.Bytes.{Bytes}
+use Rattle.base_files.specs.Bytes.{Bytes}
 use Rattle.rustkeys_base.specs.Facts.{facts_with}
 use Rattle.rustkeys_base.specs.Saying.{says, token_in}
 use Rattle.rustkeys_base.proofs.facts.Facts.note.Goals as goal

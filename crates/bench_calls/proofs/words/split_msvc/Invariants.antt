@@ -1,9 +1,0 @@
-use Rattle.std.proofs.Common.{◌≡◌, ◌++◌}
-use Rattle.response_texts.specs.Decoding.{decoded}
-use Rattle.response_texts.specs.Left.{text_left}
-use Rattle.response_texts.specs.Scanning.{msvc_arguments}
-use Rattle.bench_calls.proofs.words.split_msvc.Given as goal
-
--- the arguments so far, and those of the text that is left
-abbrev pub invariant-loop-argument : goal.invariant-loop-argument
-invariant-loop-argument l = l.arguments.items ++ msvc_arguments (text_left l.argument-iterator) ≡ msvc_arguments (decoded l.fn.text)

@@ -1,6 +1,0 @@
-use Rattle.blake2.specs.Blake2b.{compress, rounds}
-use Rattle.blake2.proofs.compress.compress.Goals as goal
-
-pub returns : goal.returns
-unfolding compress rounds
-returns c = cc

@@ -1,5 +1,0 @@
-use Rattle.byte_formats.proofs.Fronts.{front-grown}
-use Rattle.byte_formats.proofs.fields.put_number.Goals as goal
-
-pub returns-clause-front : goal.returns-clause-front
-returns-clause-front c = front-grown c.args.out.now.items _ _ _ c.extend_from_slice.ensures.items

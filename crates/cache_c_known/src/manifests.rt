@@ -1,0 +1,364 @@
+//! Manifests by what is watched of their results: a result is used only where its compiler would find the same files now.
+
+ghost use Rattle.std.specs.Prelude.{◌≡◌};
+
+use crate::known::Known;
+use base_files::{FileTime, OsBytes};
+use base_formats::{put_framed, read_framed};
+use cache_dir::CacheDirError;
+use cache_files::manifests::FoundManifest;
+use cache_files::{manifest_under, put_manifest};
+use cache_host::{CommandLine, Host, HostError};
+use cache_searched_folders::{
+    EnteredNames, Source, Unwatched, list_of, result_holds, said_of, with_list, with_results_of,
+    without,
+};
+use cache_source_files::{load_all, settled_before};
+use cache_written_lines::NamedFile;
+use ckeys_entry_keys::entry_key::EntryKey;
+use ckeys_include_records::PreprocessorCacheEntry;
+use cmdlines_tables::CCompilerKind;
+use cmdlines_tables::language::{language_to_clang_arg, language_to_gcc_arg};
+use std::alloc::Global;
+use std::io::Read;
+use std::rt::Files;
+use wrap_base::store_key::{Shape, StoreKey};
+
+/// The word by which a compiler of that kind takes a source of the language of what is compiled under this key.
+fn language_of(kind: CCompilerKind, key: &StoreKey) -> Option<&'static str> {
+    let Shape::C(shape) = &key.shape else {
+        return None;
+    };
+    match kind {
+        CCompilerKind::Clang => language_to_clang_arg(shape.language),
+        _ => language_to_gcc_arg(shape.language),
+    }
+}
+
+/// A file that a text names as a source, if it is a regular one that was read.
+fn source_of(file: &NamedFile) -> Result<Option<Source<'_>>, Unwatched> {
+    let Ok(path) = str::from_utf8(file.path.as_bytes()) else {
+        return Err(Unwatched::Path);
+    };
+    match file.contents() {
+        Some(contents) => {
+            let contents = contents.as_bytes();
+            Ok(Some(Source { path, contents }))
+        }
+        None => Ok(None),
+    }
+}
+
+/// The manifest that a disk keeps, which may fit.
+#[derive(Drop)]
+pub(crate) struct KnownManifest {
+    /// Its name, by which the disk was asked already; an empty one where it wasn't.
+    name: String,
+    /// It without the results that were left out.
+    kept: Option<(EntryKey, PreprocessorCacheEntry)>,
+    /// It with them, where some were.
+    whole: Option<PreprocessorCacheEntry>,
+    /// What is noted of headers, and what to watch of its results.
+    watched: OsBytes,
+}
+
+impl KnownManifest {
+    /// The disk wasn't asked yet.
+    pub(crate) fn new(alloc: Global) -> KnownManifest {
+        KnownManifest {
+            name: String::new(alloc),
+            kept: None,
+            whole: None,
+            watched: OsBytes::empty(alloc),
+        }
+    }
+}
+
+impl KnownManifest {
+    /// Has these results alone in the place of those that it has, which stay in it as a whole where no others were left out before.
+    fn leave_out(&mut self, rest: PreprocessorCacheEntry) {
+        if let Some((key, entry)) = self.kept.take() {
+            self.kept = Some((key, rest));
+            if self.whole.is_none() {
+                self.whole = Some(entry);
+            }
+        }
+    }
+}
+
+/// What is noted of headers in what a manifest has beside its results, and the lists after it.
+fn noted_in(watched: &[u8]) -> (&[u8], &[u8]) {
+    let Ok((key, rest)) = read_framed(watched) else {
+        return (&[], watched);
+    };
+    if !key.is_empty() {
+        return (&[], watched);
+    }
+    match read_framed(rest) {
+        Ok((noted, lists)) => (noted, lists),
+        Err(_) => (&[], watched),
+    }
+}
+
+impl Known {
+    /// A copy of the manifest that is kept, where direct mode is on.
+    pub fn manifest_again(&self) -> Result<Option<(EntryKey, PreprocessorCacheEntry)>, HostError> {
+        match (&self.zone, &self.record.kept) {
+            (Some(_), Some((key, entry))) => Ok(Some((key.clone()?, entry.clone()?))),
+            (_, _) => Ok(None),
+        }
+    }
+
+    /// Whether no manifest is known of those calls.
+    pub fn lacks_manifest(&self) -> bool {
+        self.record.kept.is_none() && self.record.whole.is_none()
+    }
+
+    /// Has the files loaded that a manifest names. False where one of them can't be determined.
+    fn load_files_of<R: Files + AllocGlobal>(
+        &mut self,
+        rt: &R,
+        line: &CommandLine,
+        found: &FoundManifest,
+    ) -> Result<bool, HostError> {
+        let noted = noted_in(found.watched.as_bytes()).0;
+        self.tokens.take_rows(rt.alloc(), noted)?;
+        let names = found.names.as_slice();
+        load_all(rt, line, names, &mut self.files, &mut self.tokens)
+    }
+
+    /// Has the files that a manifest names loaded, then takes the manifest. False where one of the files can't be determined.
+    pub fn take_manifest<R: Files + AllocGlobal>(
+        &mut self,
+        rt: &R,
+        line: &CommandLine,
+        found: FoundManifest,
+    ) -> Result<bool, HostError> {
+        let are_loaded = self.load_files_of(rt, line, &found);
+        if !matches!(are_loaded, Ok(true)) {
+            drop(found);
+            return are_loaded;
+        }
+        self.record.kept = Some((found.key, found.entry));
+        self.record.watched = found.watched;
+        Ok(true)
+    }
+
+    /// Asks the disk for the manifest of that name, once, and for the files that it names. False where it has none.
+    pub fn look_up_manifest<R: Files + AllocGlobal>(
+        &mut self,
+        rt: &R,
+        line: &CommandLine,
+        name: String,
+    ) -> Result<bool, HostError> {
+        if self.record.name == name {
+            return Ok(false);
+        }
+        let found = manifest_under(rt, &line.folder, line.zone.as_str(), name.as_str());
+        self.record = KnownManifest::new(rt.alloc());
+        self.record.name = name;
+        match found {
+            Ok(Some(found)) => self.take_manifest(rt, line, found),
+            Ok(None) => Ok(false),
+            Err(CacheDirError::Memory) => Err(HostError::Memory),
+            Err(_) => Ok(false),
+        }
+    }
+
+    /// The name of this request's manifest; an empty one where it has none.
+    pub fn name_to_note(&self) -> &str {
+        match &self.zone {
+            Some(_) => self.record.name.as_str(),
+            None => "",
+        }
+    }
+
+    /// Lets go of the manifest by which a key is known that nothing is kept under, since the text is needed then. False where no key came
+    /// from a manifest.
+    pub fn drop_manifest(&mut self) -> bool {
+        if self.tool.text.is_some() {
+            return false;
+        }
+        let Some((_, entry)) = self.record.kept.take() else {
+            return false;
+        };
+        // Its other results stay in the manifest that is put then.
+        if self.record.whole.is_none() {
+            self.record.whole = Some(entry);
+        }
+        true
+    }
+
+    /// Whether what lies under this key may be given, where it is known by a manifest alone: the compiler would find the same files now. Where
+    /// it wouldn't, that result is left out from now on.
+    pub fn may_go_by_manifest<R: Files + AllocGlobal>(
+        &mut self,
+        rt: &R,
+        line: &CommandLine,
+        key: Option<&StoreKey>,
+    ) -> Result<bool, HostError> {
+        let (Some(key), None) = (key, &self.tool.text) else {
+            return Ok(true);
+        };
+        let Some((_, entry)) = &self.record.kept else {
+            return Ok(true);
+        };
+        let (dir, digest) = (line.dir.as_bytes(), key.digest.as_bytes());
+        if result_holds(rt, dir, self.record.watched.as_bytes(), digest)? {
+            return Ok(true);
+        }
+        let rest = without(rt.alloc(), entry, digest)?;
+        self.record.leave_out(rest);
+        self.looked_up = None;
+        Ok(false)
+    }
+
+    /// The regular files that the text names, of which the first is the input.
+    fn sources(&self, alloc: Global) -> Result<Vec<Source<'_>>, Unwatched> {
+        if !self.named.are_all {
+            return Err(Unwatched::Computed);
+        }
+        let mut sources = Vec::new(alloc);
+        for file in self.named.files.iter() {
+            if let Some(source) = source_of(file)? {
+                sources.push(source)?;
+            }
+        }
+        Ok(sources)
+    }
+
+    /// Those of them that the text takes in, or may take in: a file that only a `#line` directive names isn't read.
+    fn entered_sources(&self, alloc: Global, text: &[u8]) -> Result<Vec<Source<'_>>, Unwatched> {
+        let names = EnteredNames::of(alloc, text)?;
+        let mut sources = Vec::new(alloc);
+        let mut is_input = true;
+        for file in self.named.files.iter() {
+            if !is_input && !names.may_have(file.name.as_bytes()) {
+                continue;
+            }
+            is_input = false;
+            if let Some(source) = source_of(file)? {
+                sources.push(source)?;
+            }
+        }
+        Ok(sources)
+    }
+
+    /// What to watch of the text, by what the compiler says of where it looks. Where it isn't clear what a source asks for, files that the
+    /// text doesn't take in don't count.
+    fn list_by<R: Files + AllocGlobal>(
+        &self,
+        rt: &R,
+        line: &CommandLine,
+        said: &[u8],
+        before: FileTime,
+    ) -> Result<Vec<u8>, Unwatched> {
+        let sources = self.sources(rt.alloc())?;
+        let list = list_of(rt, line, sources.as_slice(), said, before);
+        let is_unclear = matches!(&list, Err(Unwatched::Computed | Unwatched::Pasted));
+        let text = match &self.tool.text {
+            Some(recorded) if is_unclear => recorded.printed.text.as_bytes(),
+            _ => return list,
+        };
+        let entered = self.entered_sources(rt.alloc(), text)?;
+        match entered.len() == sources.len() {
+            true => list,
+            false => list_of(rt, line, entered.as_slice(), said, before),
+        }
+    }
+
+    /// What to watch of the text that was printed. The compiler runs where it didn't say yet where it looks.
+    pub fn list_to_watch<P: Print + Files + AllocGlobal, I: Read>(
+        &mut self,
+        rt: &P,
+        line: &CommandLine,
+        host: &mut Host<I>,
+        key: &StoreKey,
+    ) -> Result<Vec<u8>, Unwatched>
+        ensures { host.new.compiled ≡ host.old.compiled }
+    {
+        if line.folder.is_read_only {
+            return Err(Unwatched::List);
+        }
+        let Some(language) = language_of(self.kind, key) else {
+            return Err(Unwatched::List);
+        };
+        let before = settled_before(line.moment);
+        self.named.read(rt);
+        self.are_unchanged = self.named.are_unchanged(rt);
+        if !self.are_unchanged {
+            return Err(Unwatched::Changed);
+        }
+        let said = said_of(rt, line, host, language, before)?;
+        self.list_by(rt, line, said.as_slice(), before)
+    }
+
+    /// Keeps a manifest that the session put, in which the text of this key has that list, with the results that were left out.
+    pub fn keep_manifest<R: Files + AllocGlobal>(
+        &self,
+        rt: &R,
+        line: &CommandLine,
+        newest: &(EntryKey, PreprocessorCacheEntry),
+        key: &StoreKey,
+        list: &[u8],
+    ) -> Result<(), HostError> {
+        let alloc = rt.alloc();
+        let whole = match &self.record.whole {
+            Some(whole) => with_results_of(alloc, &newest.1, whole)?,
+            None => newest.1.clone()?,
+        };
+        let dir = line.dir.as_bytes();
+        let digest = key.digest.as_bytes();
+        let lists = with_list(
+            alloc,
+            self.record.watched.as_bytes(),
+            &whole,
+            dir,
+            digest,
+            list,
+        )?;
+        self.put_whole(rt, line, &newest.0, &whole, lists.as_slice())
+    }
+
+    /// Puts a manifest with these lists, which come after what is noted of its headers.
+    fn put_whole<R: Files + AllocGlobal>(
+        &self,
+        rt: &R,
+        line: &CommandLine,
+        key: &EntryKey,
+        entry: &PreprocessorCacheEntry,
+        lists: &[u8],
+    ) -> Result<(), HostError> {
+        let alloc = rt.alloc();
+        let mut watched = Vec::new(alloc);
+        put_framed(&mut watched, b"")?;
+        put_framed(&mut watched, self.tokens.rows(alloc)?.as_slice())?;
+        watched.extend_from_slice(lists)?;
+        let (folder, zone) = (&line.folder, line.zone.as_str());
+        let watched = OsBytes::from_vec(watched);
+        Ok(put_manifest(rt, folder, zone, self.name_to_note(), key, entry, watched)?)
+    }
+
+    /// Keeps what was noted anew of the headers of a manifest that was used. False where nothing was.
+    pub fn keep_noted<R: Files + AllocGlobal>(
+        &self,
+        rt: &R,
+        line: &CommandLine,
+    ) -> Result<bool, HostError> {
+        let (true, Some((key, entry))) = (self.tokens.are_new, &self.record.kept) else {
+            return Ok(false);
+        };
+        let entry = match &self.record.whole {
+            Some(whole) => whole,
+            None => entry,
+        };
+        self.put_whole(
+            rt,
+            line,
+            key,
+            entry,
+            noted_in(self.record.watched.as_bytes()).1,
+        )?;
+        Ok(true)
+    }
+}

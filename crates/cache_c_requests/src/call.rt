@@ -1,0 +1,199 @@
+//! The request of a call. Words that ask for a dependency file aren't passed to the session: what is in that file is bound to the key, and
+//! the file that a compile wrote is kept beside its messages.
+
+ghost use Rattle.std.specs.Prelude.{◌≡◌};
+
+use base_files::{Listed, OsBytes};
+use cache_compiler_id::{KnownCompiler, add_surroundings, compiler_at, native_of};
+use cache_host::{CommandLine, Host, HostError};
+use cache_key_additions::{Additions, VARIABLE};
+use cache_known_options::{Dependencies, dependencies_of, is_read};
+use cache_settings::Key;
+use cmdlines_tables::CCompilerKind;
+use std::alloc::Global;
+use std::collections::BTreeMap;
+use std::io::Read;
+use std::rt::Files;
+use wrap_base::Request;
+
+/// Name endings of inputs that are compiled as they are, or whose place an assembler records.
+const WITHOUT_FOLDER: [&str; 5] = [".i", ".ii", ".s", ".S", ".sx"];
+
+/// What words begin with after which an assembler may record where an input is.
+const FOR_ASSEMBLER: [&str; 2] = ["-Wa,", "-Xassembler"];
+
+/// Languages of inputs that are compiled as they are, or whose place an assembler records.
+const LANGUAGES: [&str; 4] = [
+    "assembler",
+    "assembler-with-cpp",
+    "c++-cpp-output",
+    "cpp-output",
+];
+
+/// The variables that are passed to the session: those that compilers read, in the order of their names, and the one that stands for all
+/// additions.
+fn env_of(
+    alloc: Global,
+    env: &[(OsBytes, OsBytes)],
+    additions: &Additions,
+) -> Result<Listed<(OsBytes, OsBytes)>, HostError> {
+    let mut read = BTreeMap::new(alloc);
+    for (name, value) in env {
+        if is_read(name.as_bytes()) && name.as_bytes() != VARIABLE.as_bytes() {
+            read.insert(name.clone()?, value.clone()?)?;
+        }
+    }
+    let mut variables = Listed::new(alloc);
+    for (name, value) in read {
+        variables.push((name, value))?;
+    }
+    variables.push(additions.variable(alloc)?)?;
+    Ok(variables)
+}
+
+/// Whether a word names an input, a language or an option by which an object has the input's place in it, though no text shows that.
+fn tells_place(word: &[u8]) -> bool {
+    WITHOUT_FOLDER
+        .iter()
+        .any(|end| word.ends_with(end.as_bytes()))
+        || FOR_ASSEMBLER
+            .iter()
+            .any(|front| word.starts_with(front.as_bytes()))
+        || LANGUAGES
+            .iter()
+            .any(|language| word.ends_with(language.as_bytes()))
+}
+
+/// Adds where the input lies, where an object may have that in it though no text shows it.
+fn add_place(
+    alloc: Global,
+    line: &CommandLine,
+    additions: &mut Additions,
+) -> Result<(), HostError> {
+    let words = line.words.as_slice();
+    if !words.iter().any(|word| tells_place(word.as_bytes())) {
+        return Ok(());
+    }
+    additions.add(alloc, "folder", line.dir.as_bytes())?;
+    for word in words {
+        if !word.as_bytes().starts_with(b"-") {
+            additions.add(alloc, "path", word.as_bytes())?;
+        }
+    }
+    Ok(())
+}
+
+/// What is bound to the key of a call beside text, words and compiler.
+fn additions_of(
+    alloc: Global,
+    line: &CommandLine,
+    kind: CCompilerKind,
+    dependencies: Option<&Dependencies>,
+) -> Result<Additions, HostError> {
+    let mut additions = Additions::new(alloc);
+    additions.add_if_any(alloc, VARIABLE, line.value_of(VARIABLE.as_bytes()))?;
+    add_surroundings(alloc, line, kind, &mut additions)?;
+    add_place(alloc, line, &mut additions)?;
+    if let Some(dependencies) = dependencies {
+        for word in dependencies.said.as_slice() {
+            additions.add(alloc, "dependency file", word.as_bytes())?;
+        }
+    }
+    Ok(additions)
+}
+
+/// What the words say of a dependency file; nothing where the preprocessor is to write it in each call. So it is where folders don't count:
+/// lines of the file are as long as their names.
+fn dependencies_in(alloc: Global, line: &CommandLine) -> Result<Option<Dependencies>, HostError> {
+    if !line.settings.value_of(Key::BaseDir).is_empty() {
+        return Ok(None);
+    }
+    Ok(dependencies_of(alloc, line.words.as_slice())?)
+}
+
+/// What the session is asked about a call, and what isn't passed to it.
+#[derive(Drop)]
+pub struct Call {
+    pub request: Request,
+    /// Whether the compiler takes the word by which its messages are in colour.
+    pub takes_color: bool,
+    /// What the words say of a dependency file; nothing where those words are passed to the session.
+    pub dependencies: Option<Dependencies>,
+}
+
+/// The variables that are passed to the session, with the one that stands for all additions.
+fn env_with<P: Print + Files + AllocGlobal, I: Read>(
+    rt: &P,
+    line: &CommandLine,
+    host: &mut Host<I>,
+    kind: CCompilerKind,
+    dependencies: Option<&Dependencies>,
+) -> Result<Listed<(OsBytes, OsBytes)>, HostError>
+    requires { host.old.compiled ≡ 0 }
+    ensures { host.new.compiled ≡ 0 }
+{
+    let alloc = rt.alloc();
+    let mut additions = additions_of(alloc, line, kind, dependencies)?;
+    if let Some(native) = native_of(rt, line, host)? {
+        additions.add(alloc, "native", native.as_bytes())?;
+    }
+    env_of(alloc, line.env.as_slice(), &additions)
+}
+
+/// Copies of the words that are passed to the session, and of the folder.
+fn words_and_dir(
+    line: &CommandLine,
+    dependencies: Option<&Dependencies>,
+) -> Result<(Listed<OsBytes>, OsBytes), HostError> {
+    let words = match dependencies {
+        Some(dependencies) => dependencies.others.clone()?,
+        None => line.words.clone()?,
+    };
+    Ok((words, line.dir.clone()?))
+}
+
+/// The request of a call of a compiler of that kind, and whether that takes the word by which its messages are in colour.
+fn request_of<P: Print + Files + AllocGlobal, I: Read>(
+    rt: &P,
+    line: &CommandLine,
+    host: &mut Host<I>,
+    kind: CCompilerKind,
+    dependencies: Option<&Dependencies>,
+) -> Result<(Request, bool), HostError>
+    requires { host.old.compiled ≡ 0 }
+    ensures { host.new.compiled ≡ 0 }
+{
+    let env = env_with(rt, line, host, kind, dependencies)?;
+    let (words, dir) = words_and_dir(line, dependencies)?;
+    let KnownCompiler {
+        compiler,
+        takes_color,
+    } = compiler_at(rt, line, host, kind)?;
+    let request = Request {
+        compiler,
+        words,
+        dir,
+        env,
+        moment: line.second(),
+    };
+    Ok((request, takes_color))
+}
+
+/// What the session is asked about the command line of a compiler of that kind.
+pub fn call_of<P: Print + Files + AllocGlobal, I: Read>(
+    rt: &P,
+    line: &CommandLine,
+    host: &mut Host<I>,
+    kind: CCompilerKind,
+) -> Result<Call, HostError>
+    requires { host.old.compiled ≡ 0 }
+    ensures { host.new.compiled ≡ 0 }
+{
+    let dependencies = dependencies_in(rt.alloc(), line)?;
+    let (request, takes_color) = request_of(rt, line, host, kind, dependencies.as_ref())?;
+    Ok(Call {
+        request,
+        takes_color,
+        dependencies,
+    })
+}

@@ -1,0 +1,128 @@
+//! What is passed through before the session is asked, since neither the compiler's words nor its text would determine what was made.
+//! docs/WRAPPER.md says what each variable and option does.
+
+use base_files::OsBytes;
+use cache_host::{CommandLine, HostError};
+use cache_known_options::{PlacedWords, dependencies_of, for_preprocessor, unknown_word};
+use cache_settings::Key;
+use cache_statistics::TO_STANDARD_OUTPUT;
+use sccache_recorded_builds::options_in;
+use std::alloc::Global;
+
+/// Variables under which a compiler reads or writes something else.
+const VARIABLES: [&str; 14] = [
+    "AS_SECURE_LOG_FILE",
+    "COMPILER_PATH",
+    "GCC_EXEC_PREFIX",
+    "GCC_COMPARE_DEBUG",
+    "GCC_EXTRA_DIAGNOSTIC_OUTPUT",
+    "DEPENDENCIES_OUTPUT",
+    "SUNPRO_DEPENDENCIES",
+    "CCC_OVERRIDE_OPTIONS",
+    "CC_PRINT_OPTIONS",
+    "CC_PRINT_HEADERS",
+    "CC_LOG_DIAGNOSTICS",
+    "CC_PRINT_PROC_STAT",
+    "LD_PRELOAD",
+    "LD_AUDIT",
+];
+
+/// Whether it is a variable that speaks against keeping.
+fn is_variable(name: &[u8]) -> bool {
+    VARIABLES.iter().any(|variable| name == variable.as_bytes())
+}
+
+/// Whether a word is among them.
+fn has_word(words: &[OsBytes], word: &[u8]) -> bool {
+    words.iter().any(|it| it.as_bytes() == word)
+}
+
+/// Whether the words ask for an object, and for it on standard output.
+fn is_on_standard_output(words: &[OsBytes]) -> bool {
+    let behind = words.iter().skip(1);
+    let is_named = words.iter().zip(behind).any(|pair| pair.0.as_bytes() == "-o".as_bytes()
+        && pair.1.as_bytes() == "-".as_bytes());
+    (is_named || has_word(words, b"-o-"))
+        && has_word(words, b"-c")
+        && !has_word(words, b"-E")
+        && !has_word(words, b"-S")
+}
+
+/// The variable that speaks against keeping, or the option, or the word that isn't known.
+pub fn reason_against(alloc: Global, line: &CommandLine) -> Result<Option<String>, HostError> {
+    for (name, value) in line.env.as_slice() {
+        if is_variable(name.as_bytes()) && !value.as_bytes().is_empty() {
+            let name = name.clone()?;
+            return Ok(Some(format!(in alloc; "{name}")?));
+        }
+    }
+    if is_on_standard_output(line.words.as_slice()) {
+        return Ok(Some(String::from_str(alloc, TO_STANDARD_OUTPUT)?));
+    }
+    let options = options_in(alloc, line.words.as_slice(), &[])?;
+    // Of words that ask the preprocessor for a dependency file gulmaat sees to itself.
+    let option = options
+        .iter()
+        .find(|option| for_preprocessor(option.as_bytes()).is_none());
+    match option {
+        Some(option) => Ok(Some(String::from_str(alloc, option)?)),
+        None => unknown_in(alloc, line),
+    }
+}
+
+/// Whether an object may be asked for, by these words or those in a response file.
+fn may_ask_for_object(words: &[OsBytes]) -> bool {
+    has_word(words, b"-c")
+        || has_word(words, b"-S")
+        || words.iter().any(|it| it.as_bytes().starts_with(b"@"))
+}
+
+/// The first word that isn't known, where an object may be asked for; any other command is the session's to pass through.
+fn unknown_in(alloc: Global, line: &CommandLine) -> Result<Option<String>, HostError> {
+    let words = line.words.as_slice();
+    if !may_ask_for_object(words) {
+        return Ok(None);
+    }
+    let allowed = line.settings.value_of(Key::AllowOptions);
+    let word = match unknown_word(alloc, words, allowed)? {
+        Some(word) => Some(word),
+        None => unclear_word(alloc, line)?,
+    };
+    match word.or(late_language(words)) {
+        Some(word) => Ok(Some(format!(in alloc; "{word}")?)),
+        None => Ok(None),
+    }
+}
+
+/// Whether a word says of which language the inputs after it are.
+fn is_language(word: &[u8]) -> bool {
+    word.starts_with(b"-x") || word.starts_with(b"--language")
+}
+
+/// A word for a language that comes after an input: compilers apply it to the inputs after it, and the session to all.
+fn late_language(words: &[OsBytes]) -> Option<&OsBytes> {
+    let mut has_input = false;
+    for placed in PlacedWords::of(words) {
+        if has_input && placed.option.is_none() && is_language(placed.word.as_bytes()) {
+            return Some(placed.word);
+        }
+        has_input = has_input || placed.is_input();
+    }
+    None
+}
+
+/// The word by which it isn't clear which dependency file is written, or is that of a preprocessor which is to write it in each call.
+fn unclear_word(alloc: Global, line: &CommandLine) -> Result<Option<&OsBytes>, HostError> {
+    let words = line.words.as_slice();
+    let Some(word) = words
+        .iter()
+        .find(|word| for_preprocessor(word.as_bytes()).is_some())
+    else {
+        return Ok(None);
+    };
+    let folders_count = line.settings.value_of(Key::BaseDir).is_empty();
+    if folders_count && dependencies_of(alloc, words)?.is_some() {
+        return Ok(None);
+    }
+    Ok(Some(word))
+}

@@ -1,0 +1,225 @@
+//! What the words of a command say of its dependency file. The session isn't given that: what its contents depend on is bound to the key,
+//! and what the compile wrote is kept beside its messages.
+
+use crate::placed::{PlacedWords, is_among};
+use crate::text_words::dependency_file;
+use base_files::{Listed, OsBytes};
+use std::alloc::{AllocError, Global};
+
+/// Words that ask the preprocessor for a dependency file; its path follows in the same word.
+const FOR_PREPROCESSOR: [&str; 2] = ["-Wp,-MD,", "-Wp,-MMD,"];
+
+/// Words that ask for a dependency file.
+pub(crate) const ASKING: [&str; 2] = ["-MD", "-MMD"];
+
+/// What names its target, in the same word or the next one.
+const OF_TARGET: [&str; 2] = ["-MT", "-MQ"];
+
+/// Whether a word names the target, or takes the next one as its name.
+pub(crate) fn begins_with_target(word: &[u8]) -> bool {
+    OF_TARGET
+        .iter()
+        .any(|option| word.starts_with(option.as_bytes()))
+}
+
+/// The path of the dependency file in a word for the preprocessor, and what comes before it.
+pub fn for_preprocessor(word: &[u8]) -> Option<(&'static str, &[u8])> {
+    for front in FOR_PREPROCESSOR {
+        if let Some(path) = word.strip_prefix(front.as_bytes()) {
+            return Some((front, path));
+        }
+    }
+    None
+}
+
+/// What the words of a command say of its dependency file.
+#[derive(Drop)]
+pub struct Dependencies {
+    /// The words that say nothing of it.
+    pub others: Listed<OsBytes>,
+    /// What its contents hang on beside the files that it names: the words that say something of it, but its path, and the object, which
+    /// is its target where no word names one.
+    pub said: Listed<OsBytes>,
+    /// Its path, where one is asked for.
+    pub file: Option<OsBytes>,
+}
+
+/// What was said so far.
+#[derive(Drop)]
+struct Said<'a> {
+    others: Listed<OsBytes>,
+    said: Listed<OsBytes>,
+    /// How often a file was asked for by a word of the driver, and by one for the preprocessor.
+    asked: usize,
+    asked_preprocessor: usize,
+    path: Option<&'a [u8]>,
+    has_target: bool,
+    object: Option<&'a [u8]>,
+    input: Option<&'a [u8]>,
+}
+
+/// A copy of the word.
+fn again(alloc: Global, word: &[u8]) -> Result<OsBytes, AllocError> {
+    OsBytes::from_slice(alloc, word)
+}
+
+impl<'a> Said<'a> {
+    fn new(alloc: Global) -> Said<'a> {
+        Said {
+            others: Listed::new(alloc),
+            said: Listed::new(alloc),
+            asked: 0,
+            asked_preprocessor: 0,
+            path: None,
+            has_target: false,
+            object: None,
+            input: None,
+        }
+    }
+
+    /// Takes the value of that option.
+    fn take_value(
+        &mut self,
+        alloc: Global,
+        option: &[u8],
+        value: &'a [u8],
+    ) -> Result<(), AllocError> {
+        if option == b"-MF".as_slice() {
+            self.path = Some(value);
+            return Ok(());
+        }
+        if is_among(&OF_TARGET, option) {
+            self.has_target = true;
+            self.said.push(again(alloc, option)?)?;
+            return self.said.push(again(alloc, value)?);
+        }
+        if option == b"-o".as_slice() {
+            self.object = Some(value);
+        }
+        self.others.push(again(alloc, value)?)
+    }
+
+    /// Takes a word that asks for the file, or says something of it in itself. False where it is another one.
+    fn takes_whole(&mut self, word: &'a [u8]) -> bool {
+        let is_asking = is_among(&ASKING, word);
+        if is_asking {
+            self.asked = self.asked.saturating_add(1);
+        }
+        let has_target = begins_with_target(word);
+        self.has_target = self.has_target || has_target;
+        is_asking || has_target || word == b"-MP".as_slice()
+    }
+
+    /// Takes a word that is no value, and says whether it is one of those that say something of the dependency file.
+    fn takes(&mut self, alloc: Global, word: &'a [u8]) -> Result<bool, AllocError> {
+        if let Some((front, path)) = for_preprocessor(word) {
+            self.asked_preprocessor = self.asked_preprocessor.saturating_add(1);
+            self.path = Some(path);
+            self.said.push(again(alloc, front.as_bytes())?)?;
+            return Ok(true);
+        }
+        if word == b"-MF".as_slice() || is_among(&OF_TARGET, word) {
+            return Ok(true);
+        }
+        if let Some(path) = word.strip_prefix(b"-MF") {
+            self.path = Some(path);
+            return Ok(true);
+        }
+        if !self.takes_whole(word) {
+            return Ok(false);
+        }
+        self.said.push(again(alloc, word)?)?;
+        Ok(true)
+    }
+
+    /// Takes a word that is no value.
+    fn take(&mut self, alloc: Global, word: &'a [u8]) -> Result<(), AllocError> {
+        if self.takes(alloc, word)? {
+            return Ok(());
+        }
+        self.others.push(again(alloc, word)?)?;
+        if word == b"-S".as_slice() {
+            return self.said.push(again(alloc, word)?);
+        }
+        match word.strip_prefix(b"-o") {
+            Some([]) => {}
+            Some(object) => self.object = Some(object),
+            None if word.starts_with(b"-") => {}
+            None => self.input = Some(word),
+        }
+        Ok(())
+    }
+
+    /// Takes all words of a command.
+    fn take_words(&mut self, alloc: Global, words: &'a [OsBytes]) -> Result<(), AllocError> {
+        for placed in PlacedWords::of(words) {
+            let word = placed.word.as_bytes();
+            match placed.option {
+                Some(option) => self.take_value(alloc, option.as_bytes(), word)?,
+                None => self.take(alloc, word)?,
+            }
+        }
+        Ok(())
+    }
+
+    /// Whether a file is asked for.
+    fn is_asked(&self) -> bool {
+        self.asked != 0 || self.asked_preprocessor != 0
+    }
+
+    /// Whether it can't be determined to which of several files the dependencies go.
+    fn is_unclear(&self) -> bool {
+        self.asked_preprocessor > 1 || (self.asked_preprocessor == 1 && self.asked != 0)
+    }
+
+    /// Takes the object as the target of a file that is asked for, where no word names one.
+    fn take_target(&mut self, alloc: Global) -> Result<(), AllocError> {
+        match self.object {
+            Some(object) if self.is_asked() && !self.has_target => {
+                self.said.push(again(alloc, object)?)
+            }
+            _ => Ok(()),
+        }
+    }
+
+    /// The path of the dependency file: the one that a word names, or that of the object with another ending, or that of the input in the
+    /// folder of the call.
+    fn file(&self, alloc: Global) -> Result<Option<OsBytes>, AllocError> {
+        if !self.is_asked() {
+            return Ok(None);
+        }
+        if let Some(path) = self.path {
+            return Ok(Some(again(alloc, path)?));
+        }
+        let path = match (self.object, self.input) {
+            (Some(object), _) => dependency_file(alloc, object)?,
+            (None, Some(input)) => dependency_file(alloc, file_name(input))?,
+            (None, None) => return Ok(None),
+        };
+        Ok(Some(OsBytes::from_vec(path)))
+    }
+}
+
+/// The name of a file, without the folders of its path.
+fn file_name(path: &[u8]) -> &[u8] {
+    match path.rsplit(|byte| *byte == b'/').next() {
+        Some(name) => name,
+        None => path,
+    }
+}
+
+/// What the words of a command say of its dependency file; nothing where it can't be determined which of several ones is written.
+pub fn dependencies_of(
+    alloc: Global,
+    words: &[OsBytes],
+) -> Result<Option<Dependencies>, AllocError> {
+    let mut found = Said::new(alloc);
+    found.take_words(alloc, words)?;
+    if found.is_unclear() {
+        return Ok(None);
+    }
+    found.take_target(alloc)?;
+    let file = found.file(alloc)?;
+    let Said { others, said, .. } = found;
+    Ok(Some(Dependencies { others, said, file }))
+}

@@ -1,0 +1,244 @@
+//! Which words are known: with these alone the object hangs on the text, the words and the compiler, and nothing else is written.
+
+use crate::dependencies::for_preprocessor;
+use crate::placed::{Placed, PlacedWords, is_among, takes_any, takes_next};
+use crate::tables::{ASSEMBLER, CLANG, LLVM, VALUED, WHOLE};
+use base_files::OsBytes;
+use memchr::{memchr, memmem};
+use std::alloc::{AllocError, Global};
+
+/// What words begin with that only look as if they began as one of `FRONTS`.
+const OTHERS: [&str; 4] = ["-obj", "-lang", "-include-pch", "-fbuiltin-module-map"];
+
+/// Words that name a file which is written, whether its name follows in the same word or is the next word.
+const NAME_OUTPUT: [&str; 2] = ["-o", "-MF"];
+
+/// What words begin with that may go on in any way.
+const FRONTS: [&str; 28] = [
+    "-D",
+    "-U",
+    "-I",
+    "-L",
+    "-l",
+    "-o",
+    "-x",
+    "-MF",
+    "-MT",
+    "-MQ",
+    "-include",
+    "-imacros",
+    "-idirafter",
+    "-iprefix",
+    "-iwithprefix",
+    "-isystem",
+    "-iquote",
+    "-isysroot",
+    "-Wl,",
+    "-R",
+    "-fbuiltin-",
+    "-fno-builtin-",
+    "-fcall-saved-",
+    "-fcall-used-",
+    "-ffixed-",
+    "-finline-limit-",
+    "-ftemplate-depth-",
+    "-stdlib++-isystem",
+];
+
+/// Whether a word begins with one of these.
+fn begins_with(fronts: &[&str], word: &[u8]) -> bool {
+    fronts
+        .iter()
+        .any(|front| word.starts_with(front.as_bytes()))
+}
+
+/// What comes after a front with which a word of the table begins, up to that word's end.
+fn rest_behind<'a>(table: &'a str, front: &[u8]) -> Option<&'a [u8]> {
+    let table = table.as_bytes();
+    let at = memmem::find(table, front)?;
+    let behind = table.get(at..)?.strip_prefix(front)?;
+    behind.split(|byte| *byte == b' ').next()
+}
+
+/// A word as a table has it, after a space: an option that turns off what another one turns on loses its `no-`.
+fn front_of(alloc: Global, word: &[u8]) -> Result<Vec<u8>, AllocError> {
+    let mut front = Vec::with_capacity(alloc, 64)?;
+    front.push(b' ')?;
+    match word {
+        [b'-', letter, b'n', b'o', b'-', name @ ..] if matches!(*letter, b'f' | b'm' | b'g') => {
+            front.extend_from_slice(&[b'-', *letter])?;
+            front.extend_from_slice(name)?;
+        }
+        _ => front.extend_from_slice(word)?,
+    }
+    Ok(front)
+}
+
+/// Whether the table has that word.
+fn is_listed(alloc: Global, table: &str, word: &[u8]) -> Result<bool, AllocError> {
+    // With a space in it, it could match two words of the table.
+    if word.contains(&b' ') {
+        return Ok(false);
+    }
+    let mut front = front_of(alloc, word)?;
+    front.push(b' ')?;
+    Ok(memmem::find(table.as_bytes(), front.as_slice()).is_some())
+}
+
+/// Whether it is a number, or several with colons or commas between them.
+fn is_number(value: &[u8]) -> bool {
+    !value.is_empty()
+        && value.iter().all(|byte| byte.is_ascii_digit() || *byte == b':' || *byte == b',')
+}
+
+/// Whether it is one of the names, which have commas between them.
+fn is_named(names: &[u8], name: &[u8]) -> bool {
+    names.split(|byte| *byte == b',').any(|it| it == name)
+}
+
+/// Whether a value is as the table says: a number, any text, or names with commas between them.
+fn fits(said: &[u8], value: &[u8]) -> bool {
+    if said == b"#".as_slice() {
+        return is_number(value);
+    }
+    said == b"*".as_slice()
+        || value
+            .split(|byte| *byte == b',')
+            .all(|name| is_named(said, name))
+}
+
+/// Whether the table has that word up to its first `=`, and allows what comes after it.
+fn is_valued(alloc: Global, table: &str, word: &[u8]) -> Result<bool, AllocError> {
+    let Some(at) = memchr(b'=', word) else {
+        return Ok(false);
+    };
+    let Some((option, value)) = word.split_at_checked(at) else {
+        return Ok(false);
+    };
+    if option.contains(&b' ') {
+        return Ok(false);
+    }
+    let mut front = front_of(alloc, option)?;
+    front.push(b'=')?;
+    match rest_behind(table, front.as_slice()) {
+        Some(said) => Ok(fits(said, value.strip_prefix(b"=").unwrap_or(value))),
+        None => Ok(false),
+    }
+}
+
+/// Whether it is a name with a value after `=`, as `--param` takes one: lower-case letters, digits and dashes.
+fn is_parameter(word: &[u8]) -> bool {
+    memchr(b'=', word).is_some()
+        && word.iter().all(|byte| {
+            byte.is_ascii_lowercase() || byte.is_ascii_digit() || matches!(*byte, b'-' | b'=')
+        })
+}
+
+/// Whether all words for the assembler are known, which have commas between them.
+fn are_for_assembler(alloc: Global, words: &[u8]) -> Result<bool, AllocError> {
+    for word in words.split(|byte| *byte == b',') {
+        if !is_listed(alloc, ASSEMBLER, word)? {
+            return Ok(false);
+        }
+    }
+    Ok(true)
+}
+
+/// Whether it is the name of a warning, or of a group of these.
+fn is_warning(name: &[u8]) -> bool {
+    name.iter().all(|byte| *byte != b',')
+}
+
+/// Whether it is a level of optimisation.
+fn is_level(level: &[u8]) -> bool {
+    level.iter().all(|byte| byte.is_ascii_alphanumeric())
+}
+
+/// Whether it is the path of a file, and not of what another process reads.
+fn is_file(path: &[u8]) -> bool {
+    path == b"/dev/null".as_slice()
+        || path != b"-".as_slice() && !path.starts_with(b"/dev/") && !path.starts_with(b"/proc/")
+}
+
+/// Whether a word that begins with one of `FRONTS`, and may contain a path, is known.
+fn is_known_front(word: &[u8]) -> bool {
+    let path = NAME_OUTPUT
+        .iter()
+        .find_map(|option| word.strip_prefix(option.as_bytes()));
+    match path {
+        Some(path) => is_file(path) && !begins_with(&OTHERS, word),
+        None => !begins_with(&OTHERS, word),
+    }
+}
+
+/// Whether an option is known that takes no other word.
+fn is_known_option(alloc: Global, word: &[u8]) -> Result<bool, AllocError> {
+    if begins_with(&FRONTS, word) {
+        return Ok(is_known_front(word));
+    }
+    if let Some((_, path)) = for_preprocessor(word) {
+        return Ok(!path.is_empty() && !path.contains(&b',') && is_file(path));
+    }
+    if let Some(words) = word.strip_prefix(b"-Wa,") {
+        return are_for_assembler(alloc, words);
+    }
+    if let Some(name) = word.strip_prefix(b"-W") {
+        return Ok(is_warning(name));
+    }
+    if let Some(level) = word.strip_prefix(b"-O") {
+        return Ok(is_level(level));
+    }
+    if let Some(parameter) = word.strip_prefix(b"--param=") {
+        return Ok(is_parameter(parameter));
+    }
+    Ok(is_listed(alloc, WHOLE, word)? || is_valued(alloc, VALUED, word)?)
+}
+
+/// Whether the value of an option is known.
+fn is_known_value(alloc: Global, option: &[u8], value: &[u8]) -> Result<bool, AllocError> {
+    if takes_any(option) {
+        return Ok(!is_among(&NAME_OUTPUT, option) || is_file(value));
+    }
+    if option == b"-Xassembler".as_slice() {
+        return is_listed(alloc, ASSEMBLER, value);
+    }
+    if option == b"-Xclang".as_slice() {
+        return is_listed(alloc, CLANG, value);
+    }
+    if option == b"-mllvm".as_slice() {
+        return is_valued(alloc, LLVM, value);
+    }
+    Ok(is_parameter(value))
+}
+
+/// Whether a word is known in its place.
+fn is_known(alloc: Global, placed: Placed<'_>) -> Result<bool, AllocError> {
+    let word = placed.word.as_bytes();
+    if let Some(option) = placed.option {
+        return is_known_value(alloc, option.as_bytes(), word);
+    }
+    if !word.starts_with(b"-") || takes_next(word) {
+        return Ok(!word.starts_with(b"@"));
+    }
+    is_known_option(alloc, word)
+}
+
+/// Whether a user says that a word may be kept: it is one of these, which have spaces between them.
+fn is_allowed(allowed: &str, word: &[u8]) -> bool {
+    let allowed = allowed.as_bytes();
+    allowed.split(|byte| *byte == b' ').any(|it| it == word)
+}
+
+/// The first of the words that isn't known, and that a user doesn't allow, by a list with spaces between its words.
+pub fn unknown_word<'a>(
+    alloc: Global,
+    words: &'a [OsBytes],
+    allowed: &str,
+) -> Result<Option<&'a OsBytes>, AllocError> {
+    for placed in PlacedWords::of(words) {
+        if !is_known(alloc, placed)? && !is_allowed(allowed, placed.word.as_bytes()) {
+            return Ok(Some(placed.word));
+        }
+    }
+    Ok(None)
+}

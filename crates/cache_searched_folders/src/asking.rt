@@ -1,0 +1,170 @@
+//! Asking a compiler where it looks for what sources take in, once for each set of words, as long as no folder comes or goes.
+
+ghost use Rattle.std.specs.Prelude.{◌≡◌};
+
+use crate::search_list::SearchList;
+use crate::unwatched::Unwatched;
+use crate::watch_list::holds;
+use crate::watching::Watching;
+use base_files::{FileTime, Listed, OsBytes};
+use base_formats::{put_framed, read_framed};
+use cache_dir::{Kind, digest_of, state_of};
+use cache_host::{CommandLine, Host, LETTERS, Said, messages_of, push_words};
+use cache_known_options::{PlacedWords, is_read};
+use std::alloc::Global;
+use std::io::Read;
+use std::rt::Files;
+
+/// What words begin with that say nothing of where files are looked for.
+const FRONTS: [&[u8]; 6] = [b"-D", b"-U", b"-o", b"-M", b"-include", b"-imacros"];
+
+/// Words that are used alone and say what is to be made.
+const STEPS: [&[u8]; 4] = [b"-c", b"-S", b"-E", b"-v"];
+
+/// The version of the layout of what is kept, which counts in its name.
+const VERSION: &[u8] = b"2";
+
+/// Whether a word that is no value says where files are looked for.
+fn says_where(word: &[u8]) -> bool {
+    word.starts_with(b"-")
+        && !FRONTS.iter().any(|front| word.starts_with(front))
+        && !STEPS.iter().any(|step| word == *step)
+        && !word.starts_with(b"-Wp,")
+}
+
+/// The words that make the compiler report where it looks for a source of that language.
+fn asking_words(
+    alloc: Global,
+    words: &[OsBytes],
+    language: &str,
+) -> Result<Listed<OsBytes>, Unwatched> {
+    let mut asking = Listed::new(alloc);
+    for placed in PlacedWords::of(words) {
+        if says_where(placed.option.unwrap_or(placed.word).as_bytes()) {
+            asking.push(placed.word.clone()?)?;
+        }
+    }
+    push_words(
+        alloc,
+        &mut asking,
+        &["-E", "-v", "-x", language, "/dev/null"],
+    )?;
+    Ok(asking)
+}
+
+/// The name under which it is kept where the compiler looks by these words.
+fn name_of<R: Files + AllocGlobal>(
+    rt: &R,
+    line: &CommandLine,
+    words: &[OsBytes],
+) -> Result<String, Unwatched> {
+    let mut paths = Vec::new(rt.alloc());
+    paths.push(line.executable.clone()?)?;
+    let mut row = Vec::new(rt.alloc());
+    put_framed(&mut row, VERSION)?;
+    put_framed(&mut row, state_of(rt, paths.as_slice())?.as_bytes())?;
+    put_framed(&mut row, line.dir.as_bytes())?;
+    for word in words {
+        put_framed(&mut row, word.as_bytes())?;
+    }
+    put_framed(&mut row, b"")?;
+    for (name, value) in line.env.as_slice() {
+        if is_read(name.as_bytes()) {
+            put_framed(&mut row, name.as_bytes())?;
+            put_framed(&mut row, value.as_bytes())?;
+        }
+    }
+    Ok(digest_of(rt.alloc(), row.as_slice())?)
+}
+
+/// What a kept file says that has its digest at its end.
+fn unsealed(alloc: Global, bytes: &[u8]) -> Result<Option<(&[u8], &[u8])>, Unwatched> {
+    let Some((front, end)) = bytes.split_at_checked(bytes.len().saturating_sub(LETTERS)) else {
+        return Ok(None);
+    };
+    if digest_of(alloc, front)?.as_bytes() != end {
+        return Ok(None);
+    }
+    let (said, list) = read_framed(front)?;
+    Ok(Some((said, list)))
+}
+
+/// What the compiler said the last time, where the folders that it named are as they were.
+fn said_before<R: Files + AllocGlobal>(
+    rt: &R,
+    line: &CommandLine,
+    name: &str,
+) -> Result<Option<Vec<u8>>, Unwatched> {
+    let Ok(bytes) = line.folder.read(rt, Kind::Searches, name) else {
+        return Ok(None);
+    };
+    let Some((said, list)) = unsealed(rt.alloc(), bytes.as_slice())? else {
+        return Ok(None);
+    };
+    if !holds(rt, line.dir.as_bytes(), list)? {
+        return Ok(None);
+    }
+    Ok(Some(Vec::from_slice(rt.alloc(), said)?))
+}
+
+/// The list of the folders that a compiler named, to be watched.
+fn list_of_folders<R: Files + AllocGlobal>(
+    rt: &R,
+    line: &CommandLine,
+    said: &[u8],
+    before: FileTime,
+) -> Result<Vec<u8>, Unwatched> {
+    let Some(list) = SearchList::read(rt.alloc(), said)? else {
+        return Err(Unwatched::List);
+    };
+    let mut watching = Watching::new(rt.alloc(), line.dir.as_bytes(), before);
+    watching.take_folders(rt, &list)?;
+    watching.into_list(rt.alloc())
+}
+
+/// Keeps what the compiler said.
+fn keep<R: Files + AllocGlobal>(
+    rt: &R,
+    line: &CommandLine,
+    name: &str,
+    said: &[u8],
+    before: FileTime,
+) -> Result<(), Unwatched> {
+    let mut bytes = Vec::new(rt.alloc());
+    put_framed(&mut bytes, said)?;
+    bytes.extend_from_slice(list_of_folders(rt, line, said, before)?.as_slice())?;
+    let digest = digest_of(rt.alloc(), bytes.as_slice())?;
+    bytes.extend_from_slice(digest.as_bytes())?;
+    // What isn't kept is asked for again.
+    let _ = line.folder.put(rt, Kind::Searches, name, bytes.as_slice());
+    Ok(())
+}
+
+/// What the compiler of a call says of where it looks for a source of that language. It runs where it wasn't asked yet.
+pub fn said_of<P: Print + Files + AllocGlobal, I: Read>(
+    rt: &P,
+    line: &CommandLine,
+    host: &mut Host<I>,
+    language: &str,
+    before: FileTime,
+) -> Result<Vec<u8>, Unwatched>
+    ensures { host.new.compiled ≡ host.old.compiled }
+{
+    let alloc = rt.alloc();
+    let words = asking_words(alloc, line.words.as_slice(), language)?;
+    let name = name_of(rt, line, words.as_slice())?;
+    if let Some(said) = said_before(rt, line, name.as_str())? {
+        return Ok(said);
+    }
+    let Ok(
+        Said {
+            status: 0,
+            messages,
+        },
+    ) = messages_of(rt, line, host, words.as_slice())
+    else {
+        return Err(Unwatched::List);
+    };
+    keep(rt, line, name.as_str(), messages.as_slice(), before)?;
+    Ok(messages)
+}

@@ -1,0 +1,302 @@
+//! What to watch of a text: all that its sources ask for, and where the compiler looks for it.
+
+use crate::search_list::SearchList;
+use crate::unwatched::Unwatched;
+use crate::watching::Watching;
+use base_files::{FileTime, OsBytes};
+use cache_disk::folder_of;
+use cache_host::CommandLine;
+use cache_known_options::{Placed, PlacedWords};
+use cache_source_directives::{
+    Asked, Directives, Search, add_defined, add_probed, add_said, directives_of, pastes_time,
+    tells_time,
+};
+use memchr::memmem;
+use std::alloc::Global;
+use std::collections::HashSet;
+use std::rt::Files;
+
+/// What words begin with by which a compiler finds files in a way of its own.
+const OWN_WAYS: [&[u8]; 6] = [
+    b"-remap",
+    b"-traditional",
+    b"-fmodule",
+    b"-fms-compatibility",
+    b"-ivfsoverlay",
+    b"-I-",
+];
+
+/// What GCC takes in before all else.
+const PREDEFINED: &[u8] = b"stdc-predef.h";
+
+/// A regular file that a text names.
+#[derive(Clone, Copy)]
+pub struct Source<'a> {
+    pub path: &'a str,
+    pub contents: &'a [u8],
+}
+
+/// What each source asks for, in their order.
+fn directives_in<'a>(
+    alloc: Global,
+    sources: &[Source<'a>],
+) -> Result<Vec<Directives<'a>>, Unwatched> {
+    let mut all = Vec::new(alloc);
+    for source in sources {
+        if pastes_time(source.contents) {
+            return Err(Unwatched::Pasted);
+        }
+        match directives_of(alloc, source.contents)? {
+            Some(found) => all.push(found)?,
+            None => return Err(Unwatched::Computed),
+        }
+    }
+    Ok(all)
+}
+
+/// Whether a macro may be one of the compiler's own: their names begin with `_` or have small letters.
+fn may_be_compilers(name: &[u8]) -> bool {
+    name.starts_with(b"_") || name.iter().any(|byte| byte.is_ascii_lowercase())
+}
+
+/// What a word defines, as `NAME=VALUE`.
+fn definition_in(placed: Placed<'_>) -> Option<&[u8]> {
+    let word = placed.word.as_bytes();
+    match placed.option {
+        Some(option) if option.as_bytes() == b"-D".as_slice() => Some(word),
+        Some(_) => None,
+        None => word.strip_prefix(b"-D"),
+    }
+}
+
+/// Adds what a macro may stand for by the words of the command. False where that can't be determined.
+fn add_all_said<'a>(
+    words: &'a [OsBytes],
+    name: &[u8],
+    asked: &mut Vec<Asked<'a>>,
+) -> Result<bool, Unwatched> {
+    for placed in PlacedWords::of(words) {
+        if memmem::find(placed.word.as_bytes(), name).is_none() {
+            continue;
+        }
+        match definition_in(placed) {
+            Some(definition) if add_said(definition, name, asked)? => {}
+            _ => return Ok(false),
+        }
+    }
+    Ok(true)
+}
+
+/// The names that words of the command define for the macros that stand for what a source includes.
+fn said_for<'a>(
+    alloc: Global,
+    words: &'a [OsBytes],
+    found: &Directives<'_>,
+) -> Result<Vec<Asked<'a>>, Unwatched> {
+    let mut said = Vec::new(alloc);
+    for name in found.computed.iter() {
+        if !add_all_said(words, name, &mut said)? {
+            return Err(Unwatched::Computed);
+        }
+    }
+    Ok(said)
+}
+
+/// Adds what a macro may stand for by its definitions in these sources. False where that can't be determined.
+fn add_all_defined<'a>(
+    sources: &[Source<'a>],
+    name: &[u8],
+    asked: &mut Vec<Asked<'a>>,
+) -> Result<bool, Unwatched> {
+    for source in sources {
+        if !add_defined(source.contents, name, asked)? {
+            return Ok(false);
+        }
+    }
+    Ok(true)
+}
+
+/// Adds what a source includes by these macros: each name that sources define them to be. One that no source defines isn't live, or
+/// nothing is made.
+fn add_computed<'a>(sources: &[Source<'a>], found: &mut Directives<'a>) -> Result<(), Unwatched> {
+    for name in found.computed.iter() {
+        if may_be_compilers(name) || !add_all_defined(sources, name, &mut found.asked)? {
+            return Err(Unwatched::Computed);
+        }
+    }
+    Ok(())
+}
+
+/// The macros by which sources ask whether a file is there.
+fn probes_in<'a>(alloc: Global, all: &[Directives<'a>]) -> Result<Vec<&'a [u8]>, Unwatched> {
+    let mut probes = Vec::new(alloc);
+    for found in all {
+        probes.extend_from_slice(found.probes.as_slice())?;
+    }
+    Ok(probes)
+}
+
+/// Adds what a source asks for by these macros. One that hands on another one's parameter isn't followed.
+fn add_all_probed<'a>(
+    source: &Source<'a>,
+    probes: &[&[u8]],
+    found: &mut Directives<'a>,
+) -> Result<(), Unwatched> {
+    let count = found.probes.len();
+    for probe in probes {
+        let is_told = add_probed(source.contents, probe, found)?;
+        if !is_told || found.probes.len() != count {
+            return Err(Unwatched::Computed);
+        }
+    }
+    Ok(())
+}
+
+/// Looks for all that a source asks for, except names in brackets already looked for: which source asks for these doesn't matter. For the
+/// input has it watched that no precompiled header lies beside that.
+fn search_all<'a, R: Files + AllocGlobal>(
+    rt: &R,
+    source: &Source<'_>,
+    list: &SearchList<'_>,
+    all_asked: &[Asked<'a>],
+    is_input: bool,
+    bracketed: &mut HashSet<&'a [u8]>,
+    watching: &mut Watching<'_, '_>,
+) -> Result<(), Unwatched> {
+    let beside = folder_of(source.path.as_bytes());
+    for asked in all_asked {
+        if asked.search != Search::Bracketed || bracketed.insert(asked.name)? {
+            watching.search(rt, list, beside, *asked)?;
+        }
+        if is_input {
+            watching.look_for_precompiled(rt, list, beside, asked.name, b".gch")?;
+        }
+    }
+    Ok(())
+}
+
+/// The file that a word takes in before the input, by an option before it or as one that has the name in it.
+fn taken_in(placed: Placed<'_>) -> Option<&[u8]> {
+    let word = placed.word.as_bytes();
+    let options = [b"-include".as_slice(), b"-imacros".as_slice()];
+    match placed.option {
+        Some(option) if options.contains(&option.as_bytes()) => Some(word),
+        Some(_) => None,
+        None if placed.takes_value() => None,
+        None => options.iter().find_map(|option| word.strip_prefix(*option)),
+    }
+}
+
+/// Looks for what words take in before the input: in the call's folder, and then as names in quotes are looked for.
+fn search_words<R: Files + AllocGlobal>(
+    rt: &R,
+    list: &SearchList<'_>,
+    words: &[OsBytes],
+    watching: &mut Watching<'_, '_>,
+) -> Result<(), Unwatched> {
+    for placed in PlacedWords::of(words) {
+        if let Some(name) = taken_in(placed) {
+            let search = Search::Quoted;
+            watching.search(rt, list, b"", Asked { name, search })?;
+            watching.look_for_precompiled(rt, list, b"", name, b".gch")?;
+            watching.look_for_precompiled(rt, list, b"", name, b".pch")?;
+        }
+    }
+    Ok(())
+}
+
+/// Whether words have a compiler find files in a way of its own.
+fn are_own_ways(words: &[OsBytes]) -> bool {
+    words.iter().any(|word| {
+        OWN_WAYS
+            .iter()
+            .any(|front| word.as_bytes().starts_with(front))
+    })
+}
+
+/// Takes all files that the text names.
+fn take_sources<'a>(
+    alloc: Global,
+    sources: &[Source<'a>],
+    all: &[Directives<'_>],
+    watching: &mut Watching<'_, 'a>,
+) -> Result<(), Unwatched> {
+    for (source, found) in sources.iter().zip(all.iter()) {
+        watching.take_named(alloc, source.path, source.contents, found.is_once)?;
+    }
+    Ok(())
+}
+
+/// Looks for all that these sources ask for, of which the first is the input.
+fn search_sources<'a, R: Files + AllocGlobal>(
+    rt: &R,
+    words: &[OsBytes],
+    list: &SearchList<'_>,
+    sources: &[Source<'a>],
+    all: &mut [Directives<'a>],
+    watching: &mut Watching<'_, '_>,
+) -> Result<(), Unwatched> {
+    let probes = probes_in(rt.alloc(), all)?;
+    let mut bracketed = HashSet::new(rt.alloc());
+    let mut said_bracketed = HashSet::new(rt.alloc());
+    let mut is_input = true;
+    for (source, found) in sources.iter().zip(all.iter_mut()) {
+        add_computed(sources, found)?;
+        add_all_probed(source, probes.as_slice(), found)?;
+        let said = said_for(rt.alloc(), words, found)?;
+        let asked = found.asked.as_slice();
+        search_all(rt, source, list, asked, is_input, &mut bracketed, watching)?;
+        let asked = said.as_slice();
+        search_all(
+            rt,
+            source,
+            list,
+            asked,
+            is_input,
+            &mut said_bracketed,
+            watching,
+        )?;
+        is_input = false;
+    }
+    Ok(())
+}
+
+/// Has all watched that a text hangs on which is made of these sources, of which the first is the input.
+fn watch_all<'a, R: Files + AllocGlobal>(
+    rt: &R,
+    words: &[OsBytes],
+    list: &SearchList<'_>,
+    sources: &[Source<'a>],
+    all: &mut [Directives<'a>],
+    watching: &mut Watching<'_, 'a>,
+) -> Result<(), Unwatched> {
+    take_sources(rt.alloc(), sources, all, watching)?;
+    watching.take_folders(rt, list)?;
+    search_words(rt, list, words, watching)?;
+    let name = PREDEFINED;
+    let search = Search::Bracketed;
+    watching.search(rt, list, b"", Asked { name, search })?;
+    search_sources(rt, words, list, sources, all, watching)
+}
+
+/// What to watch of a text that is made of these sources, of which the first is the input, by what its compiler said of where it looks.
+pub fn list_of<R: Files + AllocGlobal>(
+    rt: &R,
+    line: &CommandLine,
+    sources: &[Source<'_>],
+    said: &[u8],
+    before: FileTime,
+) -> Result<Vec<u8>, Unwatched> {
+    let alloc = rt.alloc();
+    let words = line.words.as_slice();
+    if are_own_ways(words) || tells_time(words) {
+        return Err(Unwatched::Words);
+    }
+    let Some(list) = SearchList::read(alloc, said)? else {
+        return Err(Unwatched::List);
+    };
+    let mut all = directives_in(alloc, sources)?;
+    let mut watching = Watching::new(alloc, line.dir.as_bytes(), before);
+    watch_all(rt, words, &list, sources, all.as_mut_slice(), &mut watching)?;
+    watching.into_list(alloc)
+}

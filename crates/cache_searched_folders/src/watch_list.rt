@@ -1,0 +1,303 @@
+//! What to watch of a text: where its compiler looked for files, and what lay there.
+//!
+//! Its bytes are the folder of the call, the folders in which something was looked for, and files, each list after its count. A folder
+//! has its path, its state, when its names are looked at, its twin, and its names with what was there, all of them after their length; a
+//! file has its path, its state and the digest of its contents. docs/FORMATS.md has the layout.
+
+use crate::unwatched::Unwatched;
+use base_files::{FileTime, OsBytes};
+use base_formats::{ReadFault, put_framed, put_number, read_framed, read_number};
+use cache_dir::digest_of;
+use cache_disk::{Found, State, found_at, read_of_size};
+use std::alloc::AllocError;
+use std::collections::BTreeSet;
+use std::fs;
+use std::rt::Files;
+
+/// When the names of a folder are looked at.
+#[derive(Clone, Copy, PartialEq, Eq)]
+pub(crate) enum Looking {
+    /// In each case: it was changed since the call began, or about then.
+    Always,
+    /// Where its state is another one.
+    Settled,
+}
+
+impl Looking {
+    /// That of a folder in a state: settled where it was changed last before that moment.
+    pub(crate) fn of(state: State, before: FileTime) -> Looking {
+        match state.is_before(before) {
+            true => Looking::Settled,
+            false => Looking::Always,
+        }
+    }
+
+    /// Its number in a layout.
+    pub(crate) fn code(self) -> u64 {
+        match self {
+            Looking::Always => 0,
+            Looking::Settled => 1,
+        }
+    }
+}
+
+/// A folder in a list.
+#[derive(Clone, Copy)]
+pub(crate) struct FolderRow<'a> {
+    pub(crate) path: &'a [u8],
+    pub(crate) state: State,
+    /// When its names are looked at, by its number.
+    pub(crate) looking: u64,
+    /// The path of the folder that it must be the same as, since the compiler left it out as one that it has already; empty where it needn't.
+    pub(crate) twin: &'a [u8],
+    /// Names with what was there.
+    pub(crate) names: &'a [u8],
+}
+
+impl FolderRow<'_> {
+    /// Adds it.
+    pub(crate) fn put(&self, out: &mut Vec<u8>) -> Result<(), AllocError> {
+        put_framed(out, self.path)?;
+        self.state.put(out)?;
+        put_number(out, self.looking)?;
+        put_framed(out, self.twin)?;
+        put_framed(out, self.names)
+    }
+}
+
+/// The folder at the front of these bytes, and what comes after it.
+pub(crate) fn folder_ahead(bytes: &[u8]) -> Result<(FolderRow<'_>, &[u8]), ReadFault> {
+    let (path, rest) = read_framed(bytes)?;
+    let (state, rest) = State::read(rest)?;
+    let (looking, rest) = read_number(rest)?;
+    let (twin, rest) = read_framed(rest)?;
+    let (names, rest) = read_framed(rest)?;
+    let row = FolderRow {
+        path,
+        state,
+        looking,
+        twin,
+        names,
+    };
+    Ok((row, rest))
+}
+
+/// A file in a list, or a folder with the digest of the names in it.
+#[derive(Clone, Copy)]
+pub(crate) struct FileRow<'a> {
+    pub(crate) path: &'a [u8],
+    pub(crate) state: State,
+    pub(crate) digest: &'a [u8],
+}
+
+impl FileRow<'_> {
+    /// Adds it.
+    pub(crate) fn put(&self, out: &mut Vec<u8>) -> Result<(), AllocError> {
+        put_framed(out, self.path)?;
+        self.state.put(out)?;
+        put_framed(out, self.digest)
+    }
+}
+
+/// The file at the front of these bytes, and what comes after it.
+pub(crate) fn file_ahead(bytes: &[u8]) -> Result<(FileRow<'_>, &[u8]), ReadFault> {
+    let (path, rest) = read_framed(bytes)?;
+    let (state, rest) = State::read(rest)?;
+    let (digest, rest) = read_framed(rest)?;
+    let row = FileRow {
+        path,
+        state,
+        digest,
+    };
+    Ok((row, rest))
+}
+
+/// A folder in which names were looked for.
+#[derive(Drop)]
+pub(crate) struct Folder {
+    pub(crate) state: State,
+    /// The names, each preceded by its length and followed by the number of what was there.
+    pub(crate) names: Vec<u8>,
+    /// The path of the folder that it must be the same as; empty where it needn't.
+    pub(crate) twin: String,
+}
+
+impl Folder {
+    /// Adds a name with what lies there.
+    pub(crate) fn note(&mut self, name: &str, found: Found) -> Result<(), AllocError> {
+        put_framed(&mut self.names, name.as_bytes())?;
+        put_number(&mut self.names, found.code())
+    }
+
+    /// Adds the folder of that path.
+    pub(crate) fn put(
+        &self,
+        path: &str,
+        before: FileTime,
+        out: &mut Vec<u8>,
+    ) -> Result<(), AllocError> {
+        let row = FolderRow {
+            path: path.as_bytes(),
+            state: self.state,
+            looking: Looking::of(self.state, before).code(),
+            twin: self.twin.as_bytes(),
+            names: self.names.as_slice(),
+        };
+        row.put(out)
+    }
+}
+
+/// A path as text.
+pub(crate) fn text_of(path: &[u8]) -> Result<&str, Unwatched> {
+    match str::from_utf8(path) {
+        Ok(path) => Ok(path),
+        Err(_) => Err(Unwatched::Path),
+    }
+}
+
+/// Whether the same as then is still at the name at the front of these bytes, and what comes after that name.
+fn name_holds<'a, R: Files + AllocGlobal>(
+    rt: &R,
+    folder: &str,
+    names: &'a [u8],
+) -> Result<(bool, &'a [u8]), Unwatched> {
+    let (name, rest) = read_framed(names)?;
+    let (code, rest) = read_number(rest)?;
+    let name = text_of(name)?;
+    let path = format!(in rt.alloc(); "{folder}/{name}")?;
+    let holds = match found_at(rt, path.as_str()) {
+        Some(found) => found.code() == code,
+        None => false,
+    };
+    Ok((holds, rest))
+}
+
+/// Whether under all names the same lies as then.
+fn names_hold<R: Files + AllocGlobal>(
+    rt: &R,
+    folder: &str,
+    names: &[u8],
+) -> Result<bool, Unwatched> {
+    let mut rest = names;
+    // Each turn takes a byte at least.
+    for _ in 0..names.len() {
+        if rest.is_empty() {
+            break;
+        }
+        let (holds, behind) = name_holds(rt, folder, rest)?;
+        if !holds {
+            return Ok(false);
+        }
+        rest = behind;
+    }
+    Ok(true)
+}
+
+/// Whether a folder in that state is the same as its twin, where it has one.
+fn is_as_twin<R: Files>(rt: &R, row: FolderRow<'_>, now: State) -> Result<bool, Unwatched> {
+    match row.twin.is_empty() {
+        true => Ok(true),
+        false => Ok(now.is_same(State::at(rt, text_of(row.twin)?)?)),
+    }
+}
+
+/// Whether the folder at the front of these bytes is as it was, as far as something was looked for in it, and what comes after it.
+fn folder_holds<'a, R: Files + AllocGlobal>(
+    rt: &R,
+    bytes: &'a [u8],
+) -> Result<(bool, &'a [u8]), Unwatched> {
+    let (row, rest) = folder_ahead(bytes)?;
+    let path = text_of(row.path)?;
+    let now = State::at(rt, path)?;
+    let is_unchanged = row.looking == Looking::Settled.code() && now == row.state;
+    let holds = is_as_twin(rt, row, now)? && (is_unchanged || names_hold(rt, path, row.names)?);
+    Ok((holds, rest))
+}
+
+/// The digest of the names in a folder, as text.
+fn names_in<R: Files + AllocGlobal>(rt: &R, path: &str) -> Result<String, Unwatched> {
+    let mut names = BTreeSet::new(rt.alloc());
+    for entry in fs::read_dir(&rt, path)? {
+        names.insert(OsBytes::from_slice(rt.alloc(), entry?.file_name().as_bytes())?)?;
+    }
+    let mut row = Vec::new(rt.alloc());
+    for name in names.iter() {
+        put_framed(&mut row, name.as_bytes())?;
+    }
+    Ok(digest_of(rt.alloc(), row.as_slice())?)
+}
+
+/// The digest of the contents of a file, as text, or that of the names in a folder.
+pub(crate) fn contents_at<R: Files + AllocGlobal>(rt: &R, path: &str) -> Result<String, Unwatched> {
+    let found = fs::metadata(rt, path)?;
+    if found.is_dir() {
+        return names_in(rt, path);
+    }
+    let contents = read_of_size(rt, path, found.len())?;
+    Ok(digest_of(rt.alloc(), contents.as_slice())?)
+}
+
+/// Whether the file at the front of these bytes is as it was, and what comes after it. One in another state may have the same contents.
+fn file_holds<'a, R: Files + AllocGlobal>(
+    rt: &R,
+    bytes: &'a [u8],
+) -> Result<(bool, &'a [u8]), Unwatched> {
+    let (row, rest) = file_ahead(bytes)?;
+    let path = text_of(row.path)?;
+    let holds = State::at(rt, path)? == row.state
+        || contents_at(rt, path)?.as_bytes() == row.digest;
+    Ok((holds, rest))
+}
+
+/// Whether the folders at the front of these bytes are as they were, and what comes after them.
+fn folders_hold<'a, R: Files + AllocGlobal>(
+    rt: &R,
+    bytes: &'a [u8],
+) -> Result<(bool, &'a [u8]), Unwatched> {
+    let (count, mut rest) = read_number(bytes)?;
+    for _ in 0..count {
+        let (holds, behind) = folder_holds(rt, rest)?;
+        if !holds {
+            return Ok((false, behind));
+        }
+        rest = behind;
+    }
+    Ok((true, rest))
+}
+
+/// Whether the files ahead in these bytes are as they were.
+fn files_hold<R: Files + AllocGlobal>(rt: &R, bytes: &[u8]) -> Result<bool, Unwatched> {
+    let (count, mut rest) = read_number(bytes)?;
+    for _ in 0..count {
+        let (holds, behind) = file_holds(rt, rest)?;
+        if !holds {
+            return Ok(false);
+        }
+        rest = behind;
+    }
+    Ok(rest.is_empty())
+}
+
+/// Whether all is as it was, for a call in that folder.
+fn all_holds<R: Files + AllocGlobal>(rt: &R, dir: &[u8], list: &[u8]) -> Result<bool, Unwatched> {
+    let (own, rest) = read_framed(list)?;
+    if own != dir {
+        return Ok(false);
+    }
+    let (holds, rest) = folders_hold(rt, rest)?;
+    Ok(holds && files_hold(rt, rest)?)
+}
+
+/// Whether a call in that folder finds all files where the call that made this list found them. False where that can't be determined.
+pub fn holds<R: Files + AllocGlobal>(rt: &R, dir: &[u8], list: &[u8]) -> Result<bool, AllocError> {
+    match all_holds(rt, dir, list) {
+        Ok(holds) => Ok(holds),
+        Err(Unwatched::Memory) => Err(AllocError),
+        Err(_) => Ok(false),
+    }
+}
+
+/// The folder of the call whose list these bytes are.
+pub fn folder_of(list: &[u8]) -> Result<&[u8], ReadFault> {
+    Ok(read_framed(list)?.0)
+}

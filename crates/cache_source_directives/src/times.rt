@@ -1,0 +1,56 @@
+//! Words and sources by which a day or a time may come into a text though no source has its macro whole.
+
+use crate::directives::{behind_spaces, stands_alone, word_ahead};
+use base_files::OsBytes;
+use memchr::memmem;
+
+/// The macros that give a day or a time.
+const MACROS: [&[u8]; 3] = [b"__TIME__", b"__DATE__", b"__TIMESTAMP__"];
+
+/// What the first of two pieces begins with, of which such a macro may be pasted.
+const FRONTS: [&[u8]; 2] = [b"__TI", b"__DA"];
+
+/// Whether a name is the first piece of such a macro.
+fn is_piece(name: &[u8]) -> bool {
+    MACROS
+        .iter()
+        .any(|it| it.len() > name.len() && it.starts_with(name))
+}
+
+/// Whether a name before these bytes may be pasted: it is pasted there, is an argument, or is all that a macro stands for.
+fn may_be_pasted(behind: &[u8]) -> bool {
+    match behind_spaces(behind) {
+        // By `##`, which other spellings have for `#`.
+        [byte, ..] => matches!(
+            *byte,
+            b'#' | b'%' | b'?' | b',' | b')' | b'\n' | b'\\' | b'/'
+        ),
+        [] => true,
+    }
+}
+
+/// Whether a source contains a piece of such a macro that begins so.
+fn has_piece(source: &[u8], front: &[u8]) -> bool {
+    for at in memmem::find_iter(source, front) {
+        let (name, behind) = word_ahead(source.get(at..).unwrap_or(&[]));
+        if stands_alone(source, at) && is_piece(name) && may_be_pasted(behind) {
+            return true;
+        }
+    }
+    false
+}
+
+/// Whether a source has a piece from which a macro that gives a day or a time may be pasted.
+pub fn pastes_time(source: &[u8]) -> bool {
+    FRONTS.iter().any(|front| has_piece(source, front))
+}
+
+/// Whether a word of a command has such a macro, or a piece of one.
+pub fn tells_time(words: &[OsBytes]) -> bool {
+    words.iter().any(|word| {
+        pastes_time(word.as_bytes())
+            || MACROS
+                .iter()
+                .any(|it| memmem::find(word.as_bytes(), it).is_some())
+    })
+}

@@ -1,0 +1,286 @@
+//! Files that are loaded from the disk, and those that a text names.
+
+use crate::tokens::{Tokens, token_of};
+use base_files::{FileTime, Files as CallFiles, Metadata, OsBytes, join};
+use base_snapshots::{LoadedFile, SnapshotFiles};
+use cache_disk::{is_before, read_of_size, time_of};
+use cache_host::{CommandLine, HostError, into_text};
+use cache_written_lines::{Lying, NamedFile, NamedFiles};
+use memchr::memmem;
+use std::alloc::Global;
+use std::fs;
+use std::io::ErrorKind;
+use std::os::unix::fs::MetadataExt;
+use std::rt::Files;
+use std::time::{Duration, SystemTime, UNIX_EPOCH};
+
+/// How many milliseconds the times of files may lag behind the clock: they advance with a kernel's ticks.
+const TICK: u64 = 20;
+
+/// What a file has in it that takes in another one.
+const EMBEDS: [&str; 2] = ["#embed", "# embed"];
+
+/// What the disk has under a path.
+#[derive(Drop)]
+enum OnDisk {
+    /// A regular file of these contents.
+    File(OsBytes, Metadata),
+    /// Nothing, or something else.
+    NoFile,
+    /// That can't be determined.
+    Unknown,
+}
+
+/// What the disk says of the regular file of that path, or what it has there in its place.
+fn regular_at<R: Files>(rt: &R, path: &str) -> Result<fs::Metadata, OnDisk> {
+    match fs::metadata(rt, path) {
+        Ok(found) if found.is_file() => Ok(found),
+        Ok(_) => Err(OnDisk::NoFile),
+        Err(error) if error.kind() == ErrorKind::NotFound => Err(OnDisk::NoFile),
+        Err(_) => Err(OnDisk::Unknown),
+    }
+}
+
+/// What a session is given about a file of that size.
+fn metadata_of(found: &fs::Metadata, size: u64) -> Metadata {
+    Metadata {
+        size,
+        mtime: time_of(found.mtime(), found.mtime_nsec()),
+        ctime: time_of(found.ctime(), found.ctime_nsec()),
+    }
+}
+
+/// Looks at the path.
+fn look_at<R: Files + AllocGlobal>(rt: &R, path: &str) -> OnDisk {
+    let found = match regular_at(rt, path) {
+        Ok(found) => found,
+        Err(other) => return other,
+    };
+    let Ok(contents) = read_of_size(rt, path, found.len()) else {
+        return OnDisk::Unknown;
+    };
+    let metadata = metadata_of(&found, contents.len() as u64);
+    OnDisk::File(OsBytes::from_vec(contents), metadata)
+}
+
+/// The token of a header of these contents, in their place. One that was changed before that moment is known again.
+fn as_token<R: Files + AllocGlobal>(
+    rt: &R,
+    path: &OsBytes,
+    found: &fs::Metadata,
+    contents: &[u8],
+    before: FileTime,
+    tokens: &mut Tokens,
+) -> Result<OnDisk, HostError> {
+    let Some(token) = token_of(rt.alloc(), contents)? else {
+        return Ok(OnDisk::Unknown);
+    };
+    tokens.note(rt, path, found, &token, before)?;
+    Ok(OnDisk::File(token, metadata_of(found, found.len())))
+}
+
+/// Looks at the path of a header, which is read where no token is known of it.
+fn look_for_token<R: Files + AllocGlobal>(
+    rt: &R,
+    path: &OsBytes,
+    before: FileTime,
+    tokens: &mut Tokens,
+) -> Result<OnDisk, HostError> {
+    let Ok(place) = into_text(path.clone()?) else {
+        return Ok(OnDisk::Unknown);
+    };
+    let found = match regular_at(rt, place.as_str()) {
+        Ok(found) => found,
+        Err(other) => return Ok(other),
+    };
+    if let Some(token) = tokens.get(path, &found) {
+        return Ok(OnDisk::File(token.clone()?, metadata_of(&found, found.len())));
+    }
+    let Ok(contents) = read_of_size(rt, place.as_str(), found.len()) else {
+        return Ok(OnDisk::Unknown);
+    };
+    as_token(rt, path, &found, contents.as_slice(), before, tokens)
+}
+
+/// Loads what was found at a path. False where that couldn't be determined.
+fn take(path: OsBytes, found: OnDisk, files: &mut SnapshotFiles) -> Result<bool, HostError> {
+    match found {
+        OnDisk::File(contents, metadata) => {
+            let canonical = path.clone()?;
+            let contents = Some(contents);
+            files.load(
+                path,
+                LoadedFile {
+                    contents,
+                    canonical,
+                    metadata,
+                },
+            )?;
+            Ok(true)
+        }
+        OnDisk::NoFile => {
+            files.load_absent(path)?;
+            Ok(true)
+        }
+        OnDisk::Unknown => Ok(false),
+    }
+}
+
+/// Loads what is at a path. False where that can't be determined.
+pub fn load<R: Files + AllocGlobal>(
+    rt: &R,
+    path: OsBytes,
+    files: &mut SnapshotFiles,
+) -> Result<bool, HostError> {
+    let Ok(place) = into_text(path.clone()?) else {
+        return Ok(false);
+    };
+    take(path, look_at(rt, place.as_str()), files)
+}
+
+/// Whether the contents take in another file, which no marker names.
+fn embeds(contents: &OsBytes) -> bool {
+    let contents = contents.as_bytes();
+    // Most files don't even have the part that both spellings share.
+    memmem::find(contents, b"embed").is_some()
+        && EMBEDS
+            .iter()
+            .any(|word| memmem::find(contents, word.as_bytes()).is_some())
+}
+
+/// Whether a file of that state was changed before that moment.
+fn is_settled(metadata: &Metadata, before: FileTime) -> bool {
+    is_before(metadata.mtime, before) && is_before(metadata.ctime, before)
+}
+
+/// Whether a file that was loaded before the preprocessor ran has that state and these contents still. They are what the preprocessor read then,
+/// though the file may be too young for its times alone to say so, as the source of a test that a configure script wrote just now.
+fn is_as_loaded(
+    alloc: Global,
+    path: &OsBytes,
+    metadata: &Metadata,
+    contents: &OsBytes,
+    files: &mut SnapshotFiles,
+) -> bool {
+    match (files.metadata(alloc, path), files.read(alloc, path)) {
+        (Ok(Some(before)), Ok(Some(loaded))) => before == *metadata && loaded == *contents,
+        (_, _) => false,
+    }
+}
+
+/// Until when a file must have been changed so that it's certain to have been the same since that moment.
+pub fn settled_before(moment: SystemTime) -> FileTime {
+    let Ok(since) = moment.duration_since(UNIX_EPOCH) else {
+        return FileTime::from_seconds(0);
+    };
+    let since = since.saturating_sub(Duration::from_millis(TICK));
+    let seconds = i64::try_from(since.as_secs()).unwrap_or(0);
+    time_of(seconds, i64::from(since.subsec_nanos()))
+}
+
+/// Loads the headers of these names, by their tokens. False where one of them can't be determined. What was loaded as it is stays.
+pub fn load_all<R: Files + AllocGlobal>(
+    rt: &R,
+    line: &CommandLine,
+    names: &[OsBytes],
+    files: &mut SnapshotFiles,
+    tokens: &mut Tokens,
+) -> Result<bool, HostError> {
+    let before = settled_before(line.moment);
+    for name in names {
+        let path = join(rt.alloc(), line.dir.as_bytes(), name.as_bytes())?;
+        if tokens.has_whole(&path) {
+            continue;
+        }
+        let found = look_for_token(rt, &path, before, tokens)?;
+        if !take(path, found, files)? {
+            return Ok(false);
+        }
+    }
+    Ok(true)
+}
+
+/// The token of a file that a text names, where none is known of it one of what was read of it.
+fn token_for<R: Files + AllocGlobal>(
+    rt: &R,
+    path: &OsBytes,
+    found: &fs::Metadata,
+    contents: &OsBytes,
+    before: FileTime,
+    tokens: &mut Tokens,
+) -> Result<OnDisk, HostError> {
+    match tokens.get(path, found) {
+        Some(token) => Ok(OnDisk::File(token.clone()?, metadata_of(found, found.len()))),
+        None => as_token(rt, path, found, contents.as_bytes(), before, tokens),
+    }
+}
+
+/// Loads a regular file that a text names, by its token unless it was loaded as it is. False where it can't be recorded as what a preprocessor
+/// read: it takes in a file that no marker names, or may have been changed since.
+fn load_regular<R: Files + AllocGlobal>(
+    rt: &R,
+    path: &OsBytes,
+    found: &fs::Metadata,
+    contents: &OsBytes,
+    before: FileTime,
+    files: &mut SnapshotFiles,
+    tokens: &mut Tokens,
+) -> Result<bool, HostError> {
+    let metadata = metadata_of(found, found.len());
+    let is_settled = is_settled(&metadata, before);
+    if tokens.has_whole(path) {
+        let is_same = is_settled || is_as_loaded(rt.alloc(), path, &metadata, contents, files);
+        return Ok(is_same && !embeds(contents));
+    }
+    if !is_settled {
+        return Ok(false);
+    }
+    let token = token_for(rt, path, found, contents, before, tokens)?;
+    let takes_in = match &token {
+        // A token has these words too.
+        OnDisk::File(held, _) => embeds(held),
+        OnDisk::NoFile | OnDisk::Unknown => false,
+    };
+    Ok(!takes_in && take(path.clone()?, token, files)?)
+}
+
+/// Loads a file that a text names. False where it can't be recorded.
+fn load_named_file<R: Files + AllocGlobal>(
+    rt: &R,
+    file: &NamedFile,
+    before: FileTime,
+    files: &mut SnapshotFiles,
+    tokens: &mut Tokens,
+) -> Result<bool, HostError> {
+    let path = &file.path;
+    match &file.lying {
+        Lying::File(found, Some(contents)) => {
+            load_regular(rt, path, found, contents, before, files, tokens)
+        }
+        Lying::File(_, None) | Lying::Unknown => Ok(false),
+        Lying::Nothing | Lying::Other => {
+            Ok(tokens.has_whole(path) || take(path.clone()?, OnDisk::NoFile, files)?)
+        }
+    }
+}
+
+/// Loads the files that a text names, which were read once the preprocessor had printed it. False where it isn't certain what that read: a
+/// line can't be distinguished from a marker, a file was changed since the call began, or includes another one.
+pub fn load_named<R: Files + AllocGlobal>(
+    rt: &R,
+    line: &CommandLine,
+    named: &NamedFiles,
+    files: &mut SnapshotFiles,
+    tokens: &mut Tokens,
+) -> Result<bool, HostError> {
+    if !named.are_all {
+        return Ok(false);
+    }
+    let before = settled_before(line.moment);
+    for file in named.files.iter() {
+        if !load_named_file(rt, file, before, files, tokens)? {
+            return Ok(false);
+        }
+    }
+    Ok(true)
+}

@@ -1,0 +1,89 @@
+//! Outputs that the compiler made, or that are written in its place.
+
+use base_files::OsBytes;
+use cache_disk::read_of_size;
+use cache_format::KeptMessages;
+use cache_host::{CommandLine, HostError, text_in};
+use std::fs;
+use std::io::ErrorKind;
+use std::os::unix::fs::MetadataExt;
+use std::rt::Files;
+use wrap_base::Output;
+
+/// The contents of the regular file of that path, where it is one.
+pub fn regular<R: Files + AllocGlobal>(rt: &R, path: &str) -> Option<OsBytes> {
+    let metadata = fs::metadata(rt, path).ok()?;
+    if !metadata.is_file() {
+        return None;
+    }
+    Some(OsBytes::from_vec(read_of_size(rt, path, metadata.len()).ok()?))
+}
+
+/// The rights to write.
+const WRITE: u32 = 0o222;
+
+/// Whether nothing lies under a path, or a regular file that may be written and has no other name.
+fn is_plain<R: Files>(rt: &R, path: &str) -> bool {
+    match fs::symlink_metadata(rt, path) {
+        Ok(found) => found.is_file() && found.nlink() == 1 && found.mode() & WRITE != 0,
+        Err(error) => error.kind() == ErrorKind::NotFound,
+    }
+}
+
+/// Whether kept outputs can be put where the request wants them as a compiler would: onto what is something else compilers write in ways of
+/// their own.
+pub fn have_plain_places<R: Files>(rt: &R, outputs: &[Output]) -> Result<bool, HostError> {
+    for output in outputs {
+        if !is_plain(rt, text_in(&output.path)?) {
+            return Ok(false);
+        }
+    }
+    Ok(true)
+}
+
+/// Writes a file in the place of an old one. Where it can't be written whole nothing is left of it.
+fn write_anew<R: Files>(rt: &R, path: &str, contents: &[u8]) -> Result<(), HostError> {
+    let _ = fs::remove_file(rt, path);
+    if let Err(error) = fs::write(rt, path, contents) {
+        let _ = fs::remove_file(rt, path);
+        return Err(error.into());
+    }
+    Ok(())
+}
+
+/// Writes each output where the request wants it, as compilers do.
+pub fn write_outputs<R: Files>(rt: &R, outputs: &[Output]) -> Result<(), HostError> {
+    for output in outputs {
+        write_anew(rt, text_in(&output.path)?, output.contents.as_bytes())?;
+    }
+    Ok(())
+}
+
+/// Writes the dependency file of kept outputs where the request wants it, as compilers do: what lies there is written over.
+pub fn write_dependencies<R: Files>(
+    rt: &R,
+    path: Option<&OsBytes>,
+    messages: &KeptMessages,
+) -> Result<(), HostError> {
+    let (Some(path), Some(contents)) = (path, &messages.dependencies) else {
+        return Ok(());
+    };
+    Ok(fs::write(rt, text_in(path)?, contents.as_bytes())?)
+}
+
+/// Has the host print what was printed beside kept outputs, in place of what the preprocessor printed in this call.
+pub fn print_again<R: Files>(
+    rt: &R,
+    line: &CommandLine,
+    messages: &KeptMessages,
+) -> Result<(), HostError> {
+    let printed = messages.printed.as_bytes();
+    let errors = messages.errors.as_bytes();
+    if !printed.is_empty() {
+        fs::write(rt, line.printed.as_str(), printed)?;
+    }
+    if !errors.is_empty() || !messages.preprocessor.as_bytes().is_empty() {
+        fs::write(rt, line.errors.as_str(), errors)?;
+    }
+    Ok(())
+}

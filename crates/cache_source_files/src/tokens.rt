@@ -1,0 +1,191 @@
+//! Tokens: what stands for the contents of a header. A token has the digest of the contents, and of the words that a session looks for those
+//! that occur in them. It is recognized by the state of the file, so that an unchanged header isn't read.
+
+use crate::mounts::devices;
+use base_blake2::Blake2b256;
+use base_files::{FileTime, OsBytes};
+use base_formats::{put_framed, read_framed};
+use cache_disk::State;
+use ckeys_base::Digest;
+use memchr::memmem;
+use std::alloc::{AllocError, Global};
+use std::collections::{BTreeMap, BTreeSet};
+use std::fs::Metadata;
+use std::os::unix::fs::MetadataExt;
+use std::rt::Files;
+
+/// What a token begins with. A file that begins so has none.
+const MARK: &[u8] = b"\0token ";
+
+/// The words that a session, or what loads its files, looks for in contents.
+const WORDS: [&str; 5] = ["__TIME__", "__DATE__", "__TIMESTAMP__", "#embed", "# embed"];
+
+/// Parts of these words, of which each has one: where none of these parts occurs, as in most files, no word does.
+const PARTS: [&str; 3] = ["__TIME", "__DATE__", "embed"];
+
+/// How many tokens are kept beside a manifest.
+const MOST: usize = 20_000;
+
+/// How far the times of files may lag behind the clock where they have no parts of a second.
+const COARSE: i64 = 2;
+
+/// Whether the text is in these contents.
+fn has(contents: &[u8], text: &str) -> bool {
+    memmem::find(contents, text.as_bytes()).is_some()
+}
+
+/// The token of these contents. None where they look like one.
+pub fn token_of(alloc: Global, contents: &[u8]) -> Result<Option<OsBytes>, AllocError> {
+    if contents.starts_with(MARK) {
+        return Ok(None);
+    }
+    let mut digest: Digest<Blake2b256> = Digest::new();
+    digest.update(contents);
+    let mut token = Vec::with_capacity(alloc, 128)?;
+    token.extend_from_slice(MARK)?;
+    token.extend_from_slice(digest.finish(alloc)?.as_bytes())?;
+    if PARTS.iter().any(|part| has(contents, part)) {
+        for word in WORDS.iter().filter(|word| has(contents, word)) {
+            token.push(b' ')?;
+            token.extend_from_slice(word.as_bytes())?;
+        }
+    }
+    Ok(Some(OsBytes::from_vec(token)))
+}
+
+/// The token of a file in a state.
+#[derive(Drop)]
+struct Noted {
+    state: State,
+    token: OsBytes,
+}
+
+/// Tokens by the paths of their files.
+#[derive(Drop)]
+pub struct Tokens {
+    noted: BTreeMap<OsBytes, Noted>,
+    /// The paths of files whose contents a session has as they are.
+    whole: BTreeSet<OsBytes>,
+    /// The devices of file systems on which a file of the same state has the same contents, once they were looked up.
+    devices: Option<BTreeSet<u64>>,
+    /// Whether there are others than those that were read.
+    pub are_new: bool,
+}
+
+/// Whether a file was changed long enough before that moment that each later change gives it another time.
+fn is_settled(found: &Metadata, before: FileTime) -> bool {
+    let has_parts = found.mtime_nsec() != 0 && found.ctime_nsec() != 0;
+    let early = FileTime::from_seconds(before.seconds.saturating_sub(COARSE));
+    State::of(found).is_before(if has_parts { before } else { early })
+}
+
+impl Tokens {
+    /// None are known.
+    pub fn new(alloc: Global) -> Tokens {
+        Tokens {
+            noted: BTreeMap::new(alloc),
+            whole: BTreeSet::new(alloc),
+            devices: None,
+            are_new: false,
+        }
+    }
+
+    /// Takes a path whose contents a session has as they are.
+    pub fn take_whole(&mut self, path: OsBytes) -> Result<(), AllocError> {
+        self.whole.insert(path)?;
+        Ok(())
+    }
+
+    /// Whether a session has the contents of that path as they are.
+    pub fn has_whole(&self, path: &OsBytes) -> bool {
+        self.whole.contains(path)
+    }
+
+    /// The token of the file of that path, where it is in the state in which it was.
+    pub fn get(&self, path: &OsBytes, found: &Metadata) -> Option<&OsBytes> {
+        let noted = self.noted.get(path)?;
+        if noted.state != State::of(found) {
+            return None;
+        }
+        Some(&noted.token)
+    }
+
+    /// Whether files of that device have the same contents in the same state.
+    fn is_trusted<R: Files + AllocGlobal>(
+        &mut self,
+        rt: &R,
+        device: u64,
+    ) -> Result<bool, AllocError> {
+        if self.devices.is_none() {
+            self.devices = Some(devices(rt)?);
+        }
+        Ok(match &self.devices {
+            Some(devices) => devices.contains(&device),
+            None => false,
+        })
+    }
+
+    /// Notes the token of a file, where it can be known again.
+    pub fn note<R: Files + AllocGlobal>(
+        &mut self,
+        rt: &R,
+        path: &OsBytes,
+        found: &Metadata,
+        token: &OsBytes,
+        before: FileTime,
+    ) -> Result<(), AllocError> {
+        let has_room = self.noted.len() < MOST;
+        if !has_room || !is_settled(found, before) || !self.is_trusted(rt, found.dev())? {
+            return Ok(());
+        }
+        let state = State::of(found);
+        let token = token.clone()?;
+        self.noted.insert(path.clone()?, Noted { state, token })?;
+        self.are_new = true;
+        Ok(())
+    }
+
+    /// Takes the row at the front of these bytes, and returns what comes after it.
+    fn take_row<'a>(
+        &mut self,
+        alloc: Global,
+        bytes: &'a [u8],
+    ) -> Result<Option<&'a [u8]>, AllocError> {
+        let Ok((path, rest)) = read_framed(bytes) else {
+            return Ok(None);
+        };
+        let Ok((state, rest)) = State::read(rest) else {
+            return Ok(None);
+        };
+        let Ok((token, rest)) = read_framed(rest) else {
+            return Ok(None);
+        };
+        let token = OsBytes::from_slice(alloc, token)?;
+        let path = OsBytes::from_slice(alloc, path)?;
+        self.noted.insert(path, Noted { state, token })?;
+        Ok(Some(rest))
+    }
+
+    /// Takes the rows of these bytes: of each file the path, its state and its token.
+    pub fn take_rows(&mut self, alloc: Global, bytes: &[u8]) -> Result<(), AllocError> {
+        let mut rest = bytes;
+        for _ in 0..MOST {
+            let Some(behind) = self.take_row(alloc, rest)? else {
+                break;
+            };
+            rest = behind;
+        }
+        Ok(())
+    }
+
+    /// The rows of all tokens.
+    pub fn rows(&self, alloc: Global) -> Result<Vec<u8>, AllocError> {
+        let mut rows = Vec::new(alloc);
+        for (path, noted) in self.noted.iter() {
+            put_framed(&mut rows, path.as_bytes())?;
+            noted.state.put(&mut rows)?;
+            put_framed(&mut rows, noted.token.as_bytes())?;
+        }
+        Ok(rows)
+    }
+}

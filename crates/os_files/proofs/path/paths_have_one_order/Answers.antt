@@ -1,8 +1,0 @@
-use Rattle.os_files.proofs.PathOrder.{paths_total, paths_tie}
-use Rattle.os_files.proofs.path.paths_have_one_order.Goals as goal
-
-pub returns-clause-total : goal.returns-clause-total
-returns-clause-total c = paths_total
-
-pub returns-clause-ties : goal.returns-clause-ties
-returns-clause-ties c = paths_tie

@@ -1,5 +1,0 @@
-use Rattle.response_files.proofs.OpeningLaws.{words_stay}
-use Rattle.response_files.proofs.laws.other_words_stay.Goals as goal
-
-pub returns : goal.returns
-returns c = words_stay

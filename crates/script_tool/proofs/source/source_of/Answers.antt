@@ -1,4 +1,0 @@
-use Rattle.script_tool.proofs.source.source_of.Goals as goal
-
-pub returns : goal.returns
-returns c = rw c.of.ensures at c.source_by.ensures

@@ -1,5 +1,0 @@
-use Rattle.snapshot_files.proofs.SnapshotLookups.{node_found}
-use Rattle.snapshot_files.proofs.files.SnapshotFiles.find.Goals as goal
-
-pub returns : goal.returns
-returns c = rw c.get.ensures.value (node_found c.args.self.now.loaded.entries c.args.path.now)

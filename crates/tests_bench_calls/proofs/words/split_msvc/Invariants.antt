@@ -1,0 +1,9 @@
+use Rattle.std.proofs.Common.{◌≡◌, ◌++◌}
+use Rattle.cmdlines_response_texts.specs.Decoding.{decoded}
+use Rattle.cmdlines_response_texts.specs.Left.{text_left}
+use Rattle.cmdlines_response_texts.specs.Scanning.{msvc_arguments}
+use Rattle.tests_bench_calls.proofs.words.split_msvc.Given as goal
+
+-- the arguments so far, and those of the text that is left
+abbrev pub invariant-loop-argument : goal.invariant-loop-argument
+invariant-loop-argument l = l.arguments.items ++ msvc_arguments (text_left l.argument-iterator) ≡ msvc_arguments (decoded l.fn.text)

@@ -1,0 +1,60 @@
+//! What is hashed of a request, and what its bytes don't determine.
+
+use base_files::OsBytes;
+use ckeys_records::HashKeyParams;
+use ckeys_records::shape::CShape;
+use cmdlines_tables::language::Language;
+use sha2::Sha256;
+use std::alloc::{AllocError, Global};
+use std::test::Fail;
+use tests_kit::{is_that, words};
+
+/// A variable that is hashed.
+fn variables(alloc: Global) -> Result<Vec<(OsBytes, OsBytes)>, AllocError> {
+    let name = OsBytes::from_slice(alloc, b"MACOSX_DEPLOYMENT_TARGET")?;
+    let mut list = Vec::new(alloc);
+    list.push((name, OsBytes::from_slice(alloc, b"11")?))?;
+    Ok(list)
+}
+
+/// The digests of two extra files.
+fn digests(alloc: Global) -> Result<Vec<String>, AllocError> {
+    let mut list = Vec::new(alloc);
+    list.push(String::from_str(alloc, "e1")?)?;
+    list.push(String::from_str(alloc, "e2")?)?;
+    Ok(list)
+}
+
+/// The key of a request for C++ that has each part.
+fn key_of_each_part(alloc: Global) -> Result<(String, CShape), AllocError> {
+    let list = words(alloc, "-O2 -I/w/inc")?;
+    let architecture = words(alloc, "-arch x86_64")?;
+    let folders = words(alloc, "/w")?;
+    let extra = digests(alloc)?;
+    let variables = variables(alloc)?;
+    HashKeyParams::new("d", Language::Cxx, list.as_slice(), b"# 1 \"/w/foo.c\"")
+        .with_arch_args(architecture.as_slice())
+        .with_extra_hashes(extra.as_slice())
+        .with_env_vars(variables.as_slice())
+        .with_plusplus(true)
+        .with_basedirs(folders.as_slice())
+        .with_assembler_digest(Some("as"))
+        .compute::<Sha256>(alloc)
+}
+
+/// The digest of `d`, the byte 1, `11c++`, each word without the folder and with the byte 255 after it, `e1e2as`, the name of the
+/// variable and its value, each after its length in eight bytes, with `=` between, and the text without the folder.
+const OF_EACH_PART: &str = "d7bc0d2ed290c459d2910a3ab7e8e2093a0d3108a3be2c05b761411e6aefefbf";
+
+/// How long each part is, or of how many.
+const SHAPE: &str =
+    "CShape { language: Cxx, compiler_digest: 1, words: 4, extra_hashes: Listed { items: [2, 2] }, \
+    assembler_digest: Some(2), variables: 1 }";
+
+#[test]
+fn each_part_is_hashed_in_order(rt: HostRuntime) -> Result<(), Fail> {
+    let alloc = rt.alloc();
+    let (key, shape) = key_of_each_part(alloc)?;
+    is_that(key.as_str(), OF_EACH_PART, "the key")?;
+    is_that(format!(in alloc; "{shape:?}")?.as_str(), SHAPE, "the shape")
+}

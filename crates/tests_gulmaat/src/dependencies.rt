@@ -1,0 +1,130 @@
+//! What words say of a dependency file, and by which words a compiler prints a text.
+
+use cache_known_options::text_words::text_words;
+use cache_known_options::{Dependencies, dependencies_of};
+use std::alloc::{AllocError, Global};
+use std::fmt::Write;
+use std::test::Fail;
+use tests_kit::{is_that, words, write_list, write_words};
+
+/// Words, and what they say: the others, what the file's contents hang on, and its path; `unclear` where several may be written.
+const LINES: [(&str, &str); 17] = [
+    ("-c a.c -o a.o", " -c a.c -o a.o"),
+    (
+        "-MD -c a.c -o a.o",
+        " -c a.c -o a.o; said -MD a.o; file a.d",
+    ),
+    ("-MMD -c d/a.c", " -c d/a.c; said -MMD; file a.d"),
+    (
+        "-MD -MF x.d -c a.c -o a.o",
+        " -c a.c -o a.o; said -MD a.o; file x.d",
+    ),
+    (
+        "-MD -MFx.d -c a.c -oa.o",
+        " -c a.c -oa.o; said -MD a.o; file x.d",
+    ),
+    (
+        "-MD -MT x -c a.c -o a.o",
+        " -c a.c -o a.o; said -MD -MT x; file a.d",
+    ),
+    (
+        "-MD -MTx -MQ y -MP -c a.c",
+        " -c a.c; said -MD -MTx -MQ y -MP; file a.d",
+    ),
+    (
+        "-MD -c a.c -o d.x/a",
+        " -c a.c -o d.x/a; said -MD d.x/a; file d.x/a.d",
+    ),
+    (
+        "-MD -c a.c -o a.b.o",
+        " -c a.c -o a.b.o; said -MD a.b.o; file a.b.d",
+    ),
+    (
+        "-Wp,-MD,x.d -c a.c -o a.o",
+        " -c a.c -o a.o; said -Wp,-MD, a.o; file x.d",
+    ),
+    ("-Wp,-MMD,x.d -c a.c", " -c a.c; said -Wp,-MMD,; file x.d"),
+    ("-Wp,-MD,x.d -MD -c a.c", "unclear"),
+    ("-Wp,-MD,x.d -Wp,-MD,y.d -c a.c", "unclear"),
+    ("-MD -S a.c", " -S a.c; said -MD -S; file a.d"),
+    ("-D -MD -c a.c", " -D -MD -c a.c"),
+    ("-o -MD -c a.c", " -o -MD -c a.c"),
+    ("-MF x.d -c a.c", " -c a.c"),
+];
+
+/// Adds what words say.
+fn write_found(text: &mut String, found: &Dependencies) -> Result<(), AllocError> {
+    write_words(text, found.others.as_slice())?;
+    write_list(text, "said", found.said.as_slice())?;
+    match &found.file {
+        Some(file) => write!(text, "; file {file}"),
+        None => Ok(()),
+    }
+}
+
+/// What words say, as text.
+fn text_of(alloc: Global, line: &str) -> Result<String, AllocError> {
+    let list = words(alloc, line)?;
+    let found = dependencies_of(alloc, list.as_slice())?;
+    let mut text = String::new(alloc);
+    let wrote = match &found {
+        Some(found) => write_found(&mut text, found),
+        None => text.push_str("unclear"),
+    };
+    drop(found);
+    wrote?;
+    Ok(text)
+}
+
+#[test]
+fn words_say_what_is_written(rt: HostRuntime) -> Result<(), Fail> {
+    for (line, want) in LINES.iter() {
+        let text = text_of(rt.alloc(), line)?;
+        is_that(text.as_str(), want, line)?;
+    }
+    Ok(())
+}
+
+/// Words of a command, and those by which its text is printed, with a list and without.
+const TEXTS: [(&str, &str, &str); 4] = [
+    (
+        "-c a.c -o a.o",
+        " -c a.c -E",
+        " -c a.c -MD -MF list -MT x -E",
+    ),
+    (
+        "-c a.c -oa.o -g",
+        " -c a.c -g -E",
+        " -c a.c -g -MD -MF list -MT x -E",
+    ),
+    (
+        "-MT -o -c a.c",
+        " -MT -o -c a.c -E",
+        " -MT -o -c a.c -MD -MF list -MT x -E",
+    ),
+    (
+        "-MD -c a.c -o b.o",
+        " -MD -c a.c -MF b.d -MQ b.o -E",
+        " -MD -c a.c -MF b.d -MQ b.o -MD -MF list -MT x -E",
+    ),
+];
+
+/// The words by which the text of a command is printed, with a list or without.
+fn text_words_of(alloc: Global, line: &str, list: Option<&str>) -> Result<String, AllocError> {
+    let command = words(alloc, line)?;
+    let printing = text_words(alloc, command.as_slice(), list)?;
+    let mut text = String::new(alloc);
+    write_words(&mut text, printing.as_slice())?;
+    Ok(text)
+}
+
+#[test]
+fn texts_are_printed_by_words(rt: HostRuntime) -> Result<(), Fail> {
+    for (line, plain, listed) in TEXTS.iter() {
+        let text = text_words_of(rt.alloc(), line, None)?;
+        is_that(text.as_str(), plain, line)?;
+        let text = text_words_of(rt.alloc(), line, Some("list"))?;
+        is_that(text.as_str(), listed, line)?;
+    }
+    Ok(())
+}

@@ -1,0 +1,234 @@
+//! What sources ask for, and the times that they may paste. Names in quotes are shown in quotes, and those of `include_next` after `next`.
+
+use base_files::Lossy;
+use cache_source_directives::{
+    Asked, Directives, Search, add_defined, directives_of, pastes_time, tells_time,
+};
+use std::alloc::{AllocError, Global};
+use std::fmt::Write;
+use std::test::Fail;
+use tests_kit::{holds, is_that, words};
+
+/// Sources, and what they ask for; `none` where that can't be determined.
+const SOURCES: [(&str, &str); 62] = [
+    ("", ""),
+    ("int x;\n", ""),
+    ("#include \"a.h\"\n", " \"a.h\""),
+    ("#include <a.h>", " <a.h>"),
+    ("  #  include\t\"d/a b.h\"\r\n", " \"d/a b.h\""),
+    ("#include\"a.h\"\n#include<b.h>\n", " \"a.h\" <b.h>"),
+    ("#include_next <a.h>\n", " next a.h"),
+    ("#include_next \"a.h\"\n", " next a.h"),
+    ("#import \"a.h\"\n", " \"a.h\" once"),
+    ("#pragma once\n#include <a.h> // b\n", " <a.h> once"),
+    ("#if 0\n#include <never.h>\n#endif\n", " <never.h>"),
+    ("// #include <a.h>\n", ""),
+    ("/* #include <a.h>\n*/\n", ""),
+    ("/* a */ #include <a.h>\n", " <a.h>"),
+    ("/* a\n b */ #include <a.h>\n", " <a.h>"),
+    ("/* a\n#include <a.h>\n*/\n", " <a.h>"),
+    ("x #include <a.h>\n", ""),
+    ("#includes <a.h>\n", ""),
+    ("#define X include <a.h>\n", ""),
+    ("#include NAME\n", " takes NAME"),
+    ("#include NAME // a\n", "none"),
+    ("#include NAME(a)\n", "none"),
+    ("#include\n", ""),
+    ("  #include's protect themselves, and so do others\n", ""),
+    ("#include (a)\n", ""),
+    ("#include /* a */ <a.h>\n", "none"),
+    ("#/* a */include <a.h>\n", "none"),
+    ("#inc\\\nlude <a.h>\n", "none"),
+    ("#\\\ninclude <a.h>\n", "none"),
+    ("#include \\\n<a.h>\n", "none"),
+    ("#include \"<a.h>\"\n", "none"),
+    ("#include <a.h\n", ""),
+    ("/* a */ #include <a.h> /* b */\n", " <a.h>"),
+    ("/* a *\\\n/ #include <a.h>\n", " <a.h>"),
+    ("\u{feff}#include <a.h>\n", " <a.h>"),
+    ("\0#include <a.h>\n", " <a.h>"),
+    ("%:include <a.h>\n", "none"),
+    ("\\\n %:include <a.h>\n", "none"),
+    ("%\\\n:include <a.h>\n", "none"),
+    ("/* a */ %:include <a.h>\n", "none"),
+    ("/* a\n b */ %:include <a.h>\n", "none"),
+    ("/* a *\\\n/ %:include <a.h>\n", "none"),
+    ("x = \"%:\";\n#include <a.h>\n", " <a.h>"),
+    ("??=include <a.h>\n", "none"),
+    ("/* a */ ??=include <a.h>\n", "none"),
+    ("x = \"??=\";\n", ""),
+    ("#inc??/\nlude <a.h>\n", "none"),
+    ("#embed <a.bin>\n", "none"),
+    ("#pragma GCC dependency \"a.h\"\n", "none"),
+    ("#pragma GCC diagnostic push\n", ""),
+    ("#pragma clang module import a\n", "none"),
+    ("#pragma include_alias(\"a.h\", \"b.h\")\n", "none"),
+    ("#if __has_include(<a.h>)\n", " <a.h>"),
+    (
+        "#if defined __has_include && __has_include (\"a.h\")\n",
+        " \"a.h\"",
+    ),
+    ("#ifdef __has_include\n#if defined(__has_include)\n", ""),
+    (
+        "#if __has_include(<a.h>) || __has_include_next(<b.h>)\n",
+        " <a.h> next b.h",
+    ),
+    ("#if __has_include(NAME)\n", "none"),
+    ("#if __has_include \\\n(<a.h>)\n", "none"),
+    ("#define __has_include(x) 0\n", ""),
+    ("#define HAS(x) __has_include(x)\n", " asks HAS"),
+    ("#define HAS __has_include\n", "none"),
+    ("#define HAS_A __has_include(A)\n", "none"),
+];
+
+/// Adds what is asked for.
+fn write_asked(text: &mut String, asked: Asked<'_>) -> Result<(), AllocError> {
+    let Asked { name, search } = asked;
+    let bytes = name;
+    let name = Lossy { bytes };
+    match search {
+        Search::Quoted => write!(text, " \"{name}\""),
+        Search::Bracketed => write!(text, " <{name}>"),
+        Search::Next => write!(text, " next {name}"),
+    }
+}
+
+/// Adds all of these.
+fn write_all(text: &mut String, all: &[Asked<'_>]) -> Result<(), AllocError> {
+    for asked in all {
+        write_asked(text, *asked)?;
+    }
+    Ok(())
+}
+
+/// Adds names, each after a word.
+fn write_names(text: &mut String, word: &str, names: &[&[u8]]) -> Result<(), AllocError> {
+    for bytes in names {
+        write!(text, " {word} {}", Lossy { bytes })?;
+    }
+    Ok(())
+}
+
+/// Adds what a source asks for.
+fn write_found(text: &mut String, found: &Directives<'_>) -> Result<(), AllocError> {
+    write_all(text, found.asked.as_slice())?;
+    write_names(text, "asks", found.probes.as_slice())?;
+    write_names(text, "takes", found.computed.as_slice())?;
+    text.push_str(if found.is_once { " once" } else { "" })
+}
+
+/// What a source asks for, as text.
+fn text_of(alloc: Global, source: &str) -> Result<String, AllocError> {
+    let found = directives_of(alloc, source.as_bytes())?;
+    let mut text = String::new(alloc);
+    let wrote = match &found {
+        Some(found) => write_found(&mut text, found),
+        None => text.push_str("none"),
+    };
+    drop(found);
+    wrote?;
+    Ok(text)
+}
+
+#[test]
+fn sources_ask_for_files(rt: HostRuntime) -> Result<(), Fail> {
+    for (source, want) in SOURCES.iter() {
+        let text = text_of(rt.alloc(), source)?;
+        is_that(text.as_str(), want, source)?;
+    }
+    Ok(())
+}
+
+/// Sources, and what `NAME` stands for in them; `none` where that may be something other than the name of a file.
+const DEFINED: [(&str, &str); 17] = [
+    ("", ""),
+    ("#define NAME <a.h>\n", " <a.h>"),
+    ("#define NAME \"a.h\"", " \"a.h\""),
+    ("# define\tNAME\t\"a.h\" // b\n", " \"a.h\""),
+    ("#define NAME <a.h>\n#define NAME <b.h>\n", " <a.h> <b.h>"),
+    ("#ifdef NAME\n#include NAME\n#endif\n", ""),
+    ("#ifndef NAME\n#undef NAME\n#if defined(NAME)\n", ""),
+    ("#define OTHER NAME\n", ""),
+    ("#define NAMES 1\n#define A_NAME 1\n", ""),
+    ("#define NAME\n", "none"),
+    ("#define NAME OTHER\n", "none"),
+    ("#define NAME(x) <a.h>\n", "none"),
+    ("#define NAME \"a\" \".h\"\n", "none"),
+    ("#define NAME \"<a.h>\"\n", "none"),
+    ("#define \\\n NAME OTHER\n", "none"),
+    ("#define /* a */ NAME OTHER\n", "none"),
+    ("#define NAME \\\n <a.h>\n", "none"),
+];
+
+/// What a macro stands for in a source, as text.
+fn text_of_defined(alloc: Global, source: &str) -> Result<String, AllocError> {
+    let mut found = Vec::new(alloc);
+    let are_names = add_defined(source.as_bytes(), b"NAME", &mut found)?;
+    let mut text = String::new(alloc);
+    if are_names {
+        write_all(&mut text, found.as_slice())?;
+    } else {
+        text.push_str("none")?;
+    }
+    Ok(text)
+}
+
+#[test]
+fn macros_stand_for_files(rt: HostRuntime) -> Result<(), Fail> {
+    for (source, want) in DEFINED.iter() {
+        let text = text_of_defined(rt.alloc(), source)?;
+        is_that(text.as_str(), want, source)?;
+    }
+    Ok(())
+}
+
+/// Sources that may paste a macro of the time.
+const PASTED: [&str; 8] = [
+    "PASTE(__TI, ME__)",
+    "a = __TIME %:%: S;",
+    "__DA??=??=TE__",
+    "PASTE( __DATE_ , _)",
+    "a = __TIME ## S;",
+    "#define FIRST __TIMEST\n",
+    "__DA",
+    "PASTE(__TIM/**/, E__)",
+];
+
+/// Sources that paste none.
+const WHOLE: [&str; 6] = [
+    "",
+    "__TIME__ __DATE__ __TIMESTAMP__",
+    "/* Defines __TIME*_T_TYPE macros. */",
+    "__TIMESIZE __DADDR_T_TYPE",
+    "a__TI, x__DATE)",
+    "TIME DATE __T",
+];
+
+#[test]
+fn times_are_pasted(_rt: HostRuntime) -> Result<(), Fail> {
+    for source in PASTED.iter() {
+        holds(pastes_time(source.as_bytes()), source)?;
+    }
+    for source in WHOLE.iter() {
+        holds(!pastes_time(source.as_bytes()), source)?;
+    }
+    Ok(())
+}
+
+/// Words, and whether one of them may bring a day or a time into a text.
+const WORDS: [(&str, bool); 5] = [
+    ("-c a.c", false),
+    ("-DNOW=__TIME__ -c a.c", true),
+    ("-D DAY=__DATE__", true),
+    ("-DFIRST=__TI", true),
+    ("-DTIME -UDATE", false),
+];
+
+#[test]
+fn words_tell_times(rt: HostRuntime) -> Result<(), Fail> {
+    for (line, want) in WORDS.iter() {
+        let list = words(rt.alloc(), line)?;
+        holds(tells_time(list.as_slice()) == *want, line)?;
+    }
+    Ok(())
+}

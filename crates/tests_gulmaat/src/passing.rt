@@ -1,0 +1,45 @@
+//! Words by which a call is passed through before the session is asked.
+
+use crate::disks::line_of;
+use cache_c_requests::reason_against;
+use std::alloc::Global;
+use std::test::Fail;
+use tests_kit::is_that;
+
+/// Words, and the one that speaks against keeping; nothing where none does.
+const REASONS: [(&str, &str); 14] = [
+    ("-c a.c", ""),
+    ("-c -x c++ a.c", ""),
+    ("-c a.c -x c++", "-x"),
+    ("-c a.c -xc++", "-xc++"),
+    ("-c a.c -o -x", ""),
+    ("-c -include a.h -x c a.c", ""),
+    ("-E a.c -x c++", ""),
+    ("-c a.c -Wa,-adhln=x.lst", "-Wa,-adhln=x.lst"),
+    ("-c a.c -Wa,--noexecstack", ""),
+    ("-c @words", "@words"),
+    ("-c a.c -o /dev/fd/3", "/dev/fd/3"),
+    ("-c a.c -MD -MF -", "-"),
+    ("-c a.c -fno-such-thing", "-fno-such-thing"),
+    ("-c a.c --param max-inline-insns-single=7", ""),
+];
+
+/// The one that speaks against keeping.
+fn reason_of(alloc: Global, words: &str) -> Result<String, Fail> {
+    let line = line_of(alloc, "/d", words)?;
+    let reason = reason_against(alloc, &line);
+    drop(line);
+    match reason {
+        Ok(Some(reason)) => Ok(reason),
+        Ok(None) => Ok(String::new(alloc)),
+        Err(_) => Err("no memory".into()),
+    }
+}
+
+#[test]
+fn words_speak_against_keeping(rt: HostRuntime) -> Result<(), Fail> {
+    for (words, wanted) in REASONS.iter() {
+        is_that(reason_of(rt.alloc(), words)?.as_str(), wanted, words)?;
+    }
+    Ok(())
+}

@@ -1,0 +1,242 @@
+//! What is watched of a text: each row changes a tree of folders, and says whether a compiler would find the same files as before.
+
+use crate::disks::{change, change_all, line_of, make_fresh};
+use base_files::{FileTime, OsBytes};
+use cache_searched_folders::{SearchList, Source, Watching, holds as list_holds, list_of};
+use cache_source_directives::{Asked, Search};
+use std::alloc::Global;
+use std::rt::Files;
+use std::test::Fail;
+use tests_kit::{holds, is_that};
+
+/// What a compiler says that looks in `a`, then in `b`, and leaves out `c` and `d`.
+const SAID: &str = "ignoring nonexistent directory \"c\"\nignoring duplicate directory \"d\"\n\
+    #include \"...\" search starts here:\n#include <...> search starts here:\n a\n b\nEnd of search list.\n";
+
+/// Folders, a header in the second one, and a link to that.
+const TREE: [&str; 4] = ["folder a", "folder b", "write b/x.h one", "link d b"];
+
+/// A list of what is watched where `<x.h>` is asked for in that folder, of a text that names a file with these contents; what was changed
+/// before that moment is settled.
+fn list_in<R: Files + AllocGlobal>(
+    rt: &R,
+    folder: &str,
+    before: FileTime,
+    named: &str,
+    contents: &str,
+) -> Result<Vec<u8>, Fail> {
+    let alloc = rt.alloc();
+    let Some(list) = SearchList::read(alloc, SAID.as_bytes())? else {
+        return Err("no search list".into());
+    };
+    let mut watching = Watching::new(alloc, folder.as_bytes(), before);
+    let name: &[u8] = b"x.h";
+    let search = Search::Bracketed;
+    let taken = watching.take_named(alloc, named, contents.as_bytes(), false);
+    let folders = watching.take_folders(rt, &list);
+    let searched = watching.search(rt, &list, b"", Asked { name, search });
+    let list = watching.into_list(alloc);
+    match (taken, folders, searched, list) {
+        (Ok(()), Ok(()), Ok(()), Ok(list)) => Ok(list),
+        (_, _, _, _) => Err("nothing can be watched".into()),
+    }
+}
+
+/// Makes these changes one after the other, and asks after each whether the list holds; it doesn't for a call in another folder.
+fn hold_as<R: Files + AllocGlobal>(
+    rt: &R,
+    folder: &str,
+    list: &[u8],
+    changes: &[(&str, bool)],
+) -> Result<(), Fail> {
+    for (row, want) in changes {
+        change(rt, folder, row)?;
+        let found = list_holds(rt, folder.as_bytes(), list)?;
+        holds(found == *want, row)?;
+    }
+    let found = list_holds(rt, b"elsewhere", list)?;
+    holds(!found, "a call in another folder")
+}
+
+/// Changes of names, and whether the compiler finds what it found.
+const NAMES: [(&str, bool); 15] = [
+    ("", true),
+    ("write a/y.h new", true),
+    ("write a/x.h earlier", false),
+    ("remove a/x.h", true),
+    ("remove b/x.h", false),
+    ("write b/x.h one", true),
+    ("folder a/x.h", false),
+    ("unfold a/x.h", true),
+    ("link a/x.h ../b/x.h", false),
+    ("remove a/x.h", true),
+    ("link a/x.h nowhere", false),
+    ("remove a/x.h", true),
+    ("folder c", false),
+    ("unfold c", true),
+    ("write b/z.h new", true),
+];
+
+/// Changes of a file that was found and that the text doesn't name, beside one as long as it that the text names, and whether it counts as
+/// the same.
+const CONTENTS: [(&str, bool); 4] = [
+    ("", true),
+    ("write b/x.h another", false),
+    ("write b/x.h one", true),
+    ("remove b/x.h", false),
+];
+
+/// Changes of one that is as long as no file that the text names.
+const OTHERS: [(&str, bool); 4] = [
+    ("", true),
+    ("write b/x.h another", true),
+    ("remove b/x.h", false),
+    ("write b/x.h again", true),
+];
+
+/// Changes of folders, and whether those that the compiler left out as equal ones are so still.
+const TWINS: [(&str, bool); 12] = [
+    ("", true),
+    ("remove d", false),
+    ("link d a", false),
+    ("remove d", false),
+    ("folder d", false),
+    ("unfold d", false),
+    ("link d b", true),
+    ("remove b/x.h", false),
+    ("unfold b", false),
+    ("folder b", false),
+    ("write b/x.h one", true),
+    ("write a/x.h earlier", false),
+];
+
+/// What is watched: in a folder, with a moment in seconds before which changes are settled, where the text names this file of these contents;
+/// and changes.
+struct Watch {
+    folder: &'static str,
+    before: i64,
+    named: &'static str,
+    contents: &'static str,
+    changes: &'static [(&'static str, bool)],
+}
+
+/// A text that names the header, whose changes don't count then, and those that name another file.
+const WATCHES: [Watch; 4] = [
+    Watch {
+        folder: "gulmaat_tests_names",
+        before: 0,
+        named: "gulmaat_tests_names/b/x.h",
+        contents: "one",
+        changes: &NAMES,
+    },
+    Watch {
+        folder: "gulmaat_tests_files",
+        before: i64::MAX,
+        named: "gulmaat_tests_files/none.h",
+        contents: "one",
+        changes: &CONTENTS,
+    },
+    Watch {
+        folder: "gulmaat_tests_others",
+        before: i64::MAX,
+        named: "gulmaat_tests_others/none.h",
+        contents: "longer",
+        changes: &OTHERS,
+    },
+    Watch {
+        folder: "gulmaat_tests_twins",
+        before: i64::MAX,
+        named: "gulmaat_tests_twins/none.h",
+        contents: "one",
+        changes: &TWINS,
+    },
+];
+
+#[test]
+fn changes_are_watched(rt: HostRuntime) -> Result<(), Fail> {
+    for watch in WATCHES.iter() {
+        let folder = watch.folder;
+        make_fresh(&rt, folder)?;
+        change_all(&rt, folder, &TREE)?;
+        let before = FileTime::from_seconds(watch.before);
+        let list = list_in(&rt, folder, before, watch.named, watch.contents)?;
+        hold_as(&rt, folder, list.as_slice(), watch.changes)?;
+    }
+    Ok(())
+}
+
+/// Words, a source, and why there is no list of what to watch, if so.
+const SOURCES: [(&str, &str, &str); 16] = [
+    ("-c a.c", "int x;\n", ""),
+    ("-c a.c", "#include NAME\n", ""),
+    ("-c a.c -DNAME=<x.h>", "#include NAME\n", ""),
+    ("-c a.c -D NAME=<x.h>", "#include NAME\n", ""),
+    ("-c a.c -DNAME=OTHER", "#include NAME\n", "computed name"),
+    ("-c a.c -UNAME", "#include NAME\n", "computed name"),
+    ("-c a.c -DNAME_2=<x.h>", "#include NAME\n", "computed name"),
+    ("-c a.c", "#define NAME <x.h>\n#include NAME\n", ""),
+    (
+        "-c a.c",
+        "#define NAME(x) <x.h>\n#include NAME\n",
+        "computed name",
+    ),
+    (
+        "-c a.c",
+        "#define NAME OTHER\n#include NAME\n",
+        "computed name",
+    ),
+    (
+        "-c a.c",
+        "#define __NAME <x.h>\n#include __NAME\n",
+        "computed name",
+    ),
+    (
+        "-c a.c",
+        "#define name <x.h>\n#include name\n",
+        "computed name",
+    ),
+    ("-c a.c -DNOW=__TIME__", "int x;\n", "option"),
+    ("-c a.c -I-", "int x;\n", "option"),
+    ("-c a.c", "PASTE(__TI, ME__)\n", "pasted time"),
+    ("-c a.c", "#embed <x.bin>\n", "computed name"),
+];
+
+/// Why there is no list of what to watch, as text; an empty one where there is one.
+fn why_none<R: Files + AllocGlobal>(
+    rt: &R,
+    folder: &str,
+    words: &str,
+    source: &str,
+) -> Result<String, Fail> {
+    let alloc: Global = rt.alloc();
+    let line = line_of(alloc, folder, words)?;
+    let path = "gulmaat_tests_lists/a.c";
+    let contents = source.as_bytes();
+    let before = FileTime::from_seconds(i64::MAX);
+    let listed = list_of(
+        rt,
+        &line,
+        &[Source { path, contents }],
+        SAID.as_bytes(),
+        before,
+    );
+    drop(line);
+    let text = match &listed {
+        Ok(_) => Ok(String::new(alloc)),
+        Err(why) => format!(in alloc; "{why}"),
+    };
+    drop(listed);
+    Ok(text?)
+}
+
+#[test]
+fn sources_have_lists(rt: HostRuntime) -> Result<(), Fail> {
+    let folder = "gulmaat_tests_lists";
+    make_fresh(&rt, folder)?;
+    change_all(&rt, folder, &TREE)?;
+    for (words, source, want) in SOURCES.iter() {
+        let why = why_none(&rt, folder, words, source)?;
+        is_that(why.as_str(), want, source)?;
+    }
+    Ok(())
+}

@@ -1,0 +1,223 @@
+//! Runs in which a store forgets or refuses.
+
+use crate::answers::push_unless;
+use crate::runs::{NONE_FAILS, Run, Stop, Turn, run_over};
+use crate::stores::Seen;
+use base_bounded_store::LruStore;
+use sccache_scenario_texts::read_scenario;
+use std::alloc::{AllocError, Global};
+use std::num::NonZeroUsize;
+use tests_failing_kit::{Forgetful, Order};
+use wrap_base::MapStore;
+
+/// Which of the stores follows orders.
+#[derive(Clone, Copy)]
+enum Which {
+    Records,
+    Outputs,
+}
+
+/// At which calls a store gets an order.
+#[derive(Clone, Copy)]
+enum At {
+    /// At the one after so many.
+    Call(u64),
+    Each,
+}
+
+/// How many calls are taken for all.
+const MANY: u64 = 100;
+
+/// That order at these calls, and to keep at all others.
+fn orders(alloc: Global, order: Order, at: At) -> Result<Vec<Order>, AllocError> {
+    let mut orders = Vec::new(alloc);
+    for call in 0..MANY {
+        let is_here = match at {
+            At::Call(calls) => calls == call,
+            At::Each => true,
+        };
+        orders.push(if is_here { order } else { Order::Keep })?;
+    }
+    Ok(orders)
+}
+
+/// A run in which that store gets that order at these calls.
+fn ordered_run(
+    alloc: Global,
+    line: &[u8],
+    which: Which,
+    order: Order,
+    at: At,
+) -> Result<Run, Stop> {
+    let orders = orders(alloc, order, at)?;
+    let none = Vec::new(alloc);
+    let (records, outputs) = match which {
+        Which::Records => (orders, none),
+        Which::Outputs => (none, orders),
+    };
+    let (records, outputs) = (
+        Forgetful::new(alloc, records),
+        Forgetful::new(alloc, outputs),
+    );
+    run_over(alloc, line, NONE_FAILS, records, outputs)
+}
+
+/// What is seen of that store at the end of the run.
+fn seen_in(run: &Run, which: Which) -> Seen {
+    match which {
+        Which::Records => run.end.records,
+        Which::Outputs => run.end.outputs,
+    }
+}
+
+/// Adds a line where an answer has other outputs than that of the plain run.
+fn push_unless_agreed(turns: &[Turn], plain: &[Turn], text: &mut String) -> Result<(), AllocError> {
+    push_unless(turns.len() == plain.len(), "as many answers", text)?;
+    for (turn, due) in turns.iter().zip(plain.iter()) {
+        push_unless(turn.answer.agrees(&due.answer), "the same outputs", text)?;
+    }
+    Ok(())
+}
+
+/// Adds the words of the answers.
+fn push_words(turns: &[Turn], text: &mut String) -> Result<(), AllocError> {
+    for turn in turns {
+        write!(text, " {}", turn.answer.word)?;
+    }
+    Ok(())
+}
+
+/// Adds the words of the answers, how often a compiler ran, and what is seen of a store.
+fn push_run(run: &Run, seen: Seen, text: &mut String) -> Result<(), AllocError> {
+    push_words(run.turns.as_slice(), text)?;
+    let kept = if seen.kept { "kept all" } else { "lost some" };
+    let (compiles, forgot, held) = (run.end.ticks.compile, seen.forgot, seen.held);
+    writeln!(
+        text,
+        "; compiles {compiles}; forgot {forgot}; {kept}; holds {held}"
+    )
+}
+
+/// Adds which order a store got, and when.
+fn push_order(order: Order, at: At, text: &mut String) -> Result<(), AllocError> {
+    let order = match order {
+        Order::Keep => "keep",
+        Order::DropAll => "drop",
+        Order::Refuse => "refuse",
+    };
+    match at {
+        At::Call(calls) => write!(text, "{order} at {}:", calls.wrapping_add(1)),
+        At::Each => write!(text, "{order} at each:"),
+    }
+}
+
+/// Adds what came of a run in which that store got that order, and a line where outputs are others than those of the plain run. A run in
+/// which an order to refuse met no pair isn't reported.
+fn push_told(
+    run: &Run,
+    plain: &[Turn],
+    which: Which,
+    order: Order,
+    at: At,
+    text: &mut String,
+) -> Result<(), AllocError> {
+    push_unless_agreed(run.turns.as_slice(), plain, text)?;
+    let seen = seen_in(run, which);
+    if order == Order::Refuse && seen.refused == 0 {
+        return Ok(());
+    }
+    push_order(order, at, text)?;
+    push_run(run, seen, text)
+}
+
+/// Adds what came of the run in which that store gets that order.
+fn push_ordered(
+    alloc: Global,
+    line: &[u8],
+    plain: &[Turn],
+    which: Which,
+    order: Order,
+    at: At,
+    text: &mut String,
+) -> Result<(), Stop> {
+    let run = ordered_run(alloc, line, which, order, at)?;
+    Ok(push_told(&run, plain, which, order, at, text)?)
+}
+
+/// Adds what came of the runs in which that store gets that order at one of so many calls, or at each.
+fn push_each(
+    alloc: Global,
+    line: &[u8],
+    plain: &[Turn],
+    which: Which,
+    order: Order,
+    calls: u64,
+    text: &mut String,
+) -> Result<(), Stop> {
+    for call in 0..calls {
+        push_ordered(alloc, line, plain, which, order, At::Call(call), text)?;
+    }
+    if calls > 0 {
+        push_ordered(alloc, line, plain, which, order, At::Each, text)?;
+    }
+    Ok(())
+}
+
+/// How often that store is asked in a run in which it keeps all.
+fn calls_of(alloc: Global, line: &[u8], which: Which) -> Result<u64, Stop> {
+    let run = ordered_run(alloc, line, which, Order::Keep, At::Each)?;
+    let seen = seen_in(&run, which);
+    Ok(seen.gets.wrapping_add(seen.puts))
+}
+
+/// Adds what came of the runs in which that store forgets or refuses.
+fn push_store(
+    alloc: Global,
+    line: &[u8],
+    plain: &[Turn],
+    which: Which,
+    text: &mut String,
+) -> Result<(), Stop> {
+    let calls = calls_of(alloc, line, which)?;
+    let name = match which {
+        Which::Records => "records",
+        Which::Outputs => "outputs",
+    };
+    writeln!(text, "{name}: {calls} calls")?;
+    push_each(alloc, line, plain, which, Order::DropAll, calls, text)?;
+    push_each(alloc, line, plain, which, Order::Refuse, calls, text)
+}
+
+/// A run over a store of outputs that holds no more than so many.
+fn bounded_run(alloc: Global, line: &[u8], capacity: NonZeroUsize) -> Result<Run, Stop> {
+    let objects = LruStore::new(alloc, capacity)?;
+    run_over(alloc, line, NONE_FAILS, MapStore::new(alloc), objects)
+}
+
+/// Adds what came of a run, and where it disagrees with the plain one.
+fn push_agreed(run: &Run, plain: &[Turn], text: &mut String) -> Result<(), Stop> {
+    push_unless_agreed(run.turns.as_slice(), plain, text)?;
+    Ok(push_run(run, run.end.outputs, text)?)
+}
+
+/// Adds what came of a run over a store of outputs that holds no more than the scenario's capacity, where it has one.
+fn push_bounded(alloc: Global, line: &[u8], plain: &[Turn], text: &mut String) -> Result<(), Stop> {
+    let Some(capacity) = read_scenario(alloc, line)?.capacity else {
+        return Ok(());
+    };
+    write!(text, "capacity {capacity}:")?;
+    let run = bounded_run(alloc, line, capacity)?;
+    push_agreed(&run, plain, text)
+}
+
+/// Adds what came of the runs of the scenario of this line in which a store forgets or refuses.
+pub(crate) fn push_forgetting(
+    alloc: Global,
+    line: &[u8],
+    plain: &[Turn],
+    text: &mut String,
+) -> Result<(), Stop> {
+    push_store(alloc, line, plain, Which::Records, text)?;
+    push_store(alloc, line, plain, Which::Outputs, text)?;
+    push_bounded(alloc, line, plain, text)
+}

@@ -1,0 +1,141 @@
+//! What is read of bytes: include records, and what is hashed of requests to rustc.
+
+use crate::runs::Stop;
+use base_files::Listed;
+use ckeys_include_records::PreprocessorCacheEntry;
+use rustc_parts::parts::{Parts, RShape};
+use rustc_parts::{key_bytes, read_key_bytes};
+use std::alloc::{AllocError, Global};
+
+/// Whether the record is written as these bytes; an empty text is the empty record.
+fn is_written_so(
+    alloc: Global,
+    entry: &PreprocessorCacheEntry,
+    bytes: &[u8],
+) -> Result<bool, Stop> {
+    let mut written = Vec::new(alloc);
+    if entry.serialize_to(&mut written).is_err() {
+        return Err(Stop::Memory);
+    }
+    Ok(bytes.is_empty() || written.as_slice() == bytes)
+}
+
+/// Adds what is read of these bytes as an include record, or why none is.
+pub(crate) fn push_record(alloc: Global, bytes: &[u8], text: &mut String) -> Result<(), Stop> {
+    let read = PreprocessorCacheEntry::read(alloc, bytes);
+    let entry = match &read {
+        Ok(entry) => entry,
+        Err(error) => return Ok(writeln!(text, "refused: {error}")?),
+    };
+    if is_written_so(alloc, entry, bytes)? {
+        writeln!(text, "a record of {} files", entry.number_of_entries())?;
+    } else {
+        text.push_str("not so: a record is written as it was read\n")?;
+    }
+    Ok(())
+}
+
+/// The bytes up to the first line end, and those after it.
+fn first_line(bytes: &[u8]) -> (&[u8], &[u8]) {
+    let Some(end) = bytes.iter().position(|byte| *byte == b'\n') else {
+        return (bytes, &[]);
+    };
+    match bytes.split_at_checked(end) {
+        Some((line, [_, rest @ ..])) => (line, rest),
+        _ => (bytes, &[]),
+    }
+}
+
+/// The number of these digits, or 0 where they are none.
+fn number_of(digits: &[u8]) -> usize {
+    let Ok(text) = str::from_utf8(digits) else {
+        return 0;
+    };
+    match text.parse::<usize>() {
+        Ok(number) => number,
+        Err(_) => 0,
+    }
+}
+
+/// The numbers of a line, with a space between two.
+fn numbers(alloc: Global, line: &[u8]) -> Result<Vec<usize>, AllocError> {
+    let mut numbers = Vec::new(alloc);
+    for digits in line.split(|byte| *byte == b' ') {
+        if !digits.is_empty() {
+            numbers.push(number_of(digits))?;
+        }
+    }
+    Ok(numbers)
+}
+
+/// Whether each of these numbers isn't 0.
+fn flags(alloc: Global, numbers: &[usize]) -> Result<Vec<bool>, AllocError> {
+    let mut flags = Vec::new(alloc);
+    for number in numbers {
+        flags.push(*number != 0)?;
+    }
+    Ok(flags)
+}
+
+/// The number of that place, or 0.
+fn at(numbers: &[usize], place: usize) -> usize {
+    match numbers.get(place) {
+        Some(number) => *number,
+        None => 0,
+    }
+}
+
+/// The shape of three lines: how many files of the toolchain, sources, crates, static libraries and variables there are, whether there
+/// is a target and a profile; how long each word is; whether each variable of the source is set.
+fn shape_of(
+    alloc: Global,
+    counts: &[u8],
+    words: &[u8],
+    env_deps: &[u8],
+) -> Result<RShape, AllocError> {
+    let counts = numbers(alloc, counts)?;
+    let words = numbers(alloc, words)?;
+    let env_deps = flags(alloc, numbers(alloc, env_deps)?.as_slice())?;
+    Ok(RShape {
+        toolchain: at(counts.as_slice(), 0),
+        words: Listed::from_vec(words),
+        sources: at(counts.as_slice(), 1),
+        externs: at(counts.as_slice(), 2),
+        archives: at(counts.as_slice(), 3),
+        has_target: at(counts.as_slice(), 5) != 0,
+        has_profile: at(counts.as_slice(), 6) != 0,
+        env_deps: Listed::from_vec(env_deps),
+        variables: at(counts.as_slice(), 4),
+    })
+}
+
+/// Adds whether these pieces are written as the bytes, which they were read of.
+fn push_parts(
+    alloc: Global,
+    parts: &Parts,
+    bytes: &[u8],
+    text: &mut String,
+) -> Result<(), AllocError> {
+    let written = key_bytes(alloc, parts)?;
+    match written.as_slice() == bytes {
+        true => text.push_str("the parts of a request\n"),
+        false => text.push_str("not so: parts are written as they were read\n"),
+    }
+}
+
+/// Adds what is read of a key's bytes under this shape.
+fn push_read(alloc: Global, bytes: &[u8], shape: &RShape, text: &mut String) -> Result<(), Stop> {
+    match read_key_bytes(alloc, bytes, shape)? {
+        Some(parts) => Ok(push_parts(alloc, &parts, bytes, text)?),
+        None => Ok(text.push_str("no parts\n")?),
+    }
+}
+
+/// Adds what is read of the bytes after three lines as what is hashed of a request to rustc, under the shape that the lines give.
+pub(crate) fn push_key(alloc: Global, bytes: &[u8], text: &mut String) -> Result<(), Stop> {
+    let (counts, rest) = first_line(bytes);
+    let (words, rest) = first_line(rest);
+    let (env_deps, rest) = first_line(rest);
+    let shape = shape_of(alloc, counts, words, env_deps)?;
+    push_read(alloc, rest, &shape, text)
+}

@@ -1,0 +1,303 @@
+//! Runs of a scenario in one session: texts and numbers come of them.
+
+use crate::answers::{AnswerTexts, answer_texts};
+use crate::stores::{Seen, Watched, seen_of};
+use base_files::{Files, OsBytes};
+use ckeys::{EntryKey, PreprocessorCacheEntry};
+use ckeys_records::{KeyConfig, Preprocessor, Step, Ticks};
+use cmdlines::EachKind;
+use sccache_scenario_texts::{Scenario, ScenarioCall, ScenarioFault, read_scenario};
+use sccache_script_tool::{
+    CrateTexts, RetoldTool, ScriptTool, StatusOf, Statuses, error_status, print_status,
+};
+use sha2::Sha256;
+use std::alloc::{AllocError, AllocFailed, Global};
+use tests_failing_kit::FailTool;
+use tests_kit::FailFiles;
+use thiserror::Error;
+use wrap::Session;
+use wrap_base::store_key::{Pairs, StoreKey};
+use wrap_base::{MapStore, Request, Tool};
+
+/// Why nothing is printed.
+#[derive(Debug, Drop, Error)]
+pub(crate) enum Stop {
+    #[error("hostile_runs: one argument is taken: growths, record or key")]
+    Arguments,
+    #[error("hostile_runs: a scenario cannot be read")]
+    Scenario,
+    #[error("hostile_runs: output cannot be written")]
+    Output,
+    #[error("hostile_runs: out of memory")]
+    Memory,
+}
+
+impl From<AllocError> for Stop {
+    fn from(_error: AllocError) -> Stop {
+        Stop::Memory
+    }
+}
+
+impl<T: Drop> From<AllocFailed<T>> for Stop {
+    fn from(_error: AllocFailed<T>) -> Stop {
+        Stop::Memory
+    }
+}
+
+impl From<ScenarioFault> for Stop {
+    fn from(fault: ScenarioFault) -> Stop {
+        match fault {
+            ScenarioFault::Unreadable => Stop::Scenario,
+            ScenarioFault::Memory => Stop::Memory,
+        }
+    }
+}
+
+/// How many calls of each device come before the one that fails.
+#[derive(Clone, Copy)]
+pub(crate) struct Limits {
+    pub(crate) files: u64,
+    pub(crate) tool: u64,
+}
+
+/// No call fails.
+pub(crate) const NONE_FAILS: Limits = Limits {
+    files: u64::MAX,
+    tool: u64::MAX,
+};
+
+/// The state of the session and the tool between two calls.
+#[derive(Clone, Copy)]
+pub(crate) struct State {
+    pub(crate) records: Seen,
+    pub(crate) outputs: Seen,
+    /// How often the tool's steps ran and failed.
+    pub(crate) ticks: Ticks,
+    /// Whether the tool's call that was to fail has failed.
+    failed: bool,
+}
+
+/// What came of one request.
+#[derive(Drop)]
+pub(crate) struct Turn {
+    /// The state before it, and after its first answer.
+    pub(crate) before: State,
+    pub(crate) after: State,
+    pub(crate) answer: AnswerTexts,
+    /// Where an I/O call failed, the fault that is due for it.
+    pub(crate) due: Option<String>,
+    /// What it was answered when it was served again, after such a failure or after it ran out of memory.
+    pub(crate) again: Option<AnswerTexts>,
+    /// How many calls of the files come before the one that fails in a later request.
+    files_left: u64,
+}
+
+/// What a run came to.
+#[derive(Drop)]
+pub(crate) struct Run {
+    /// Request by request.
+    pub(crate) turns: Vec<Turn>,
+    /// The state at the end.
+    pub(crate) end: State,
+}
+
+/// What the session answers. Who calls this loads none of what that promises.
+fn served<
+    E: Watched<EntryKey, PreprocessorCacheEntry>,
+    O: Watched<StoreKey, Pairs>,
+    F: Files,
+    T: Tool,
+>(
+    alloc: Global,
+    session: &mut Session<Sha256, E, O>,
+    request: &Request,
+    files: &mut F,
+    tool: &mut T,
+) -> Result<AnswerTexts, AllocError> {
+    let answer = session.serve(request, files, tool);
+    answer_texts(alloc, &answer)
+}
+
+/// The state of the session and the tool.
+fn state_of<E: Watched<EntryKey, PreprocessorCacheEntry>, O: Watched<StoreKey, Pairs>, T: Tool>(
+    session: &Session<Sha256, E, O>,
+    tool: &FailTool<T>,
+) -> State {
+    State {
+        records: seen_of(session.entries()),
+        outputs: seen_of(session.objects()),
+        ticks: tool.ticks(),
+        failed: tool.failed_step.is_some(),
+    }
+}
+
+/// The fault that is due where an I/O call failed: that of the tool's last step, where it was in that.
+fn due_fault(
+    alloc: Global,
+    before: &State,
+    after: &State,
+    step: Option<Step>,
+    name: Option<&OsBytes>,
+) -> Result<Option<String>, AllocError> {
+    let failures = after.ticks.failure.wrapping_sub(before.ticks.failure);
+    let due = match (failures, step, name) {
+        (0, _, None) if after.failed == before.failed => return Ok(None),
+        (0, _, Some(name)) => format!(in alloc; "read {name}")?,
+        (1, Some(step), _) => format!(in alloc; "tool {step}")?,
+        _ => format!(in alloc; "{failures} failures of the tool")?,
+    };
+    Ok(Some(due))
+}
+
+/// Serves the request, and serves it again where an I/O call failed or memory ran out.
+fn turn_of<
+    E: Watched<EntryKey, PreprocessorCacheEntry>,
+    O: Watched<StoreKey, Pairs>,
+    F: Files,
+    T: Tool,
+>(
+    alloc: Global,
+    session: &mut Session<Sha256, E, O>,
+    request: &Request,
+    files: &mut FailFiles<F>,
+    tool: &mut FailTool<T>,
+) -> Result<Turn, AllocError> {
+    let before = state_of(session, tool);
+    let answer = served(alloc, session, request, files, tool)?;
+    let after = state_of(session, tool);
+    let name = files.failed_name.as_ref();
+    let due = due_fault(alloc, &before, &after, tool.last_step, name)?;
+    let files_left = if name.is_some() {
+        u64::MAX
+    } else {
+        files.calls_left
+    };
+    let again = match due.is_some() || answer.is_fault("memory") {
+        true => Some(served(alloc, session, request, files, tool)?),
+        false => None,
+    };
+    Ok(Turn {
+        before,
+        after,
+        answer,
+        due,
+        again,
+        files_left,
+    })
+}
+
+/// Serves the call. The files' call after that many fails.
+fn call_turn<
+    E: Watched<EntryKey, PreprocessorCacheEntry>,
+    O: Watched<StoreKey, Pairs>,
+    T: RetoldTool,
+>(
+    alloc: Global,
+    call: ScenarioCall,
+    files_left: u64,
+    session: &mut Session<Sha256, E, O>,
+    tool: &mut FailTool<T>,
+) -> Result<Turn, AllocError> {
+    let ScenarioCall {
+        request,
+        files,
+        crate_texts,
+        forget: _,
+    } = call;
+    tool.tool.tell(crate_texts);
+    let mut files = FailFiles::new(files, files_left);
+    let turn = turn_of(alloc, session, &request, &mut files, tool);
+    drop(request);
+    turn
+}
+
+/// Serves the calls in order. The files' call after that many fails.
+fn turns_of<
+    E: Watched<EntryKey, PreprocessorCacheEntry>,
+    O: Watched<StoreKey, Pairs>,
+    T: RetoldTool,
+>(
+    alloc: Global,
+    calls: Vec<ScenarioCall>,
+    files_left: u64,
+    session: &mut Session<Sha256, E, O>,
+    tool: &mut FailTool<T>,
+) -> Result<Run, AllocError> {
+    let mut left = files_left;
+    let mut turns = Vec::new(alloc);
+    for call in calls {
+        let turn = call_turn(alloc, call, left, session, tool)?;
+        left = turn.files_left;
+        turns.push(turn)?;
+    }
+    let end = state_of(session, tool);
+    Ok(Run { turns, end })
+}
+
+/// Serves the calls by a scripted tool of this configuration. One call of each device fails.
+fn run_calls<E: Watched<EntryKey, PreprocessorCacheEntry>, O: Watched<StoreKey, Pairs>>(
+    alloc: Global,
+    config: KeyConfig,
+    calls: Vec<ScenarioCall>,
+    limits: Limits,
+    session: &mut Session<Sha256, E, O>,
+) -> Result<Run, AllocError> {
+    let print: StatusOf = Box::new(alloc, |text: &[u8]| print_status(text))?;
+    let compile: StatusOf = Box::new(alloc, |text: &[u8]| error_status(text))?;
+    let statuses = Statuses::new(print, compile);
+    run_by(alloc, config, statuses, calls, limits, session)
+}
+
+/// Serves the calls by a scripted tool whose compilers end with these statuses.
+fn run_by<E: Watched<EntryKey, PreprocessorCacheEntry>, O: Watched<StoreKey, Pairs>>(
+    alloc: Global,
+    config: KeyConfig,
+    statuses: Statuses,
+    calls: Vec<ScenarioCall>,
+    limits: Limits,
+    session: &mut Session<Sha256, E, O>,
+) -> Result<Run, AllocError> {
+    let compilers = EachKind::new(alloc)?;
+    let tool = ScriptTool::new(config, CrateTexts::empty(alloc), compilers, statuses);
+    let mut tool = FailTool::new(tool, limits.tool);
+    let run = turns_of(alloc, calls, limits.files, session, &mut tool);
+    drop(tool);
+    run
+}
+
+/// A run of the scenario of this line over these stores, in which one call of each device fails.
+pub(crate) fn run_over<E: Watched<EntryKey, PreprocessorCacheEntry>, O: Watched<StoreKey, Pairs>>(
+    alloc: Global,
+    line: &[u8],
+    limits: Limits,
+    entries: E,
+    objects: O,
+) -> Result<Run, Stop> {
+    let Scenario {
+        session_config,
+        tool_config,
+        capacity: _,
+        calls,
+    } = read_scenario(alloc, line)?;
+    let mut session = Session::new(alloc, session_config, entries, objects);
+    Ok(run_calls(alloc, tool_config, calls, limits, &mut session)?)
+}
+
+/// A run over stores that keep all, in which one call of each device fails.
+pub(crate) fn plain_run(alloc: Global, line: &[u8], limits: Limits) -> Result<Run, Stop> {
+    run_over(
+        alloc,
+        line,
+        limits,
+        MapStore::new(alloc),
+        MapStore::new(alloc),
+    )
+}
+
+/// Adds these answers in brief.
+pub(crate) fn push_answers(turns: &[Turn], text: &mut String) -> Result<(), AllocError> {
+    for turn in turns {
+        write!(text, "{}{}; ", turn.answer.word, turn.answer.brief)?;
+    }
+    Ok(())
+}
