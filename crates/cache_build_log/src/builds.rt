@@ -46,18 +46,17 @@ pub fn beginnings(alloc: Global, calls: &[Call]) -> Result<Vec<usize>, AllocErro
     Ok(places)
 }
 
+/// At which of these calls the last build begins.
+fn last_beginning(alloc: Global, calls: &[Call]) -> Result<usize, AllocError> {
+    let places = beginnings(alloc, calls)?;
+    Ok(places.last().copied().unwrap_or(0))
+}
+
 /// The calls of the last build, or all of them.
 pub fn chosen(alloc: Global, calls: Vec<Call>, has_all: bool) -> Result<Vec<Call>, AllocError> {
-    let first = match has_all {
-        true => 0,
-        false => beginnings(alloc, calls.as_slice())?
-            .last()
-            .copied()
-            .unwrap_or(0),
-    };
-    let mut chosen = Vec::new(alloc);
-    for call in calls.into_iter().skip(first) {
-        chosen.push(call)?;
+    if has_all {
+        return Ok(calls);
     }
-    Ok(chosen)
+    let first = last_beginning(alloc, calls.as_slice())?;
+    calls.into_iter().skip(first).collect(alloc)
 }

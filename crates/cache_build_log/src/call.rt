@@ -1,7 +1,8 @@
 //! A call, as its line in a log describes it.
 
 use crate::kind::Kind;
-use crate::texts::TextId;
+use crate::texts::{NOTHING, TextId};
+use std::alloc::Global;
 
 /// What ran in a call.
 #[derive(Clone, Copy)]
@@ -48,6 +49,30 @@ pub struct Call {
 }
 
 impl Call {
+    /// One of which no more is known than what it came to, and when it began and ended.
+    pub(crate) fn new(alloc: Global, kind: Kind, what: TextId, start: u64, end: u64) -> Call {
+        Call {
+            kind,
+            what,
+            start,
+            end: end.max(start),
+            process: 0,
+            parent: 0,
+            status: 0,
+            dir: NOTHING,
+            compiler: NOTHING,
+            words: Vec::new(alloc),
+            input: NOTHING,
+            output: NOTHING,
+            reason: NOTHING,
+            why: NOTHING,
+            bytes: 0,
+            compile_time: 0,
+            ran: Vec::new(alloc),
+            lane: 0,
+        }
+    }
+
     /// How many microseconds it took.
     pub fn time(&self) -> u64 {
         self.end.saturating_sub(self.start)

@@ -102,17 +102,17 @@ fn list<'a>(members: &'a Map<String, Value>, name: &str) -> Result<&'a [Value], 
     }
 }
 
-/// The words of a call.
-fn words(
+/// Adds the words of a call.
+fn add_words(
     alloc: Global,
     texts: &mut Texts,
     members: &Map<String, Value>,
-) -> Result<Vec<TextId>, LineFault> {
-    let mut words = Vec::new(alloc);
+    words: &mut Vec<TextId>,
+) -> Result<(), LineFault> {
     for value in list(members, "words")? {
         words.push(text_in(alloc, texts, value)?)?;
     }
-    Ok(words)
+    Ok(())
 }
 
 /// What a triple says that ran: a letter, when it began and when it ended, as far as that is within the call.
@@ -134,18 +134,45 @@ fn ran_in(value: &Value, begin: u64, last: u64) -> Result<Ran, LineFault> {
     })
 }
 
-/// What ran in a call that began and ended then.
-fn ran(
-    alloc: Global,
-    members: &Map<String, Value>,
-    begin: u64,
-    last: u64,
-) -> Result<Vec<Ran>, LineFault> {
-    let mut ran = Vec::new(alloc);
+/// Adds what ran in a call.
+fn add_ran(members: &Map<String, Value>, call: &mut Call) -> Result<(), LineFault> {
     for value in list(members, "ran")? {
-        ran.push(ran_in(value, begin, last)?)?;
+        call.ran.push(ran_in(value, call.start, call.end)?)?;
     }
-    Ok(ran)
+    Ok(())
+}
+
+/// Fills in the texts of a call.
+fn fill_texts(
+    alloc: Global,
+    texts: &mut Texts,
+    members: &Map<String, Value>,
+    call: &mut Call,
+) -> Result<(), LineFault> {
+    call.dir = text(alloc, texts, members, "dir")?;
+    call.compiler = text(alloc, texts, members, "compiler")?;
+    add_words(alloc, texts, members, &mut call.words)?;
+    call.input = text(alloc, texts, members, "input")?;
+    call.output = text(alloc, texts, members, "output")?;
+    call.reason = text(alloc, texts, members, "reason")?;
+    call.why = text(alloc, texts, members, "why")?;
+    Ok(())
+}
+
+/// Fills in what the members of a line say of a call beside what it came to and its times.
+fn fill(
+    alloc: Global,
+    texts: &mut Texts,
+    members: &Map<String, Value>,
+    call: &mut Call,
+) -> Result<(), LineFault> {
+    call.process = number(members, "pid")?;
+    call.parent = number(members, "ppid")?;
+    call.status = number(members, "status")?;
+    fill_texts(alloc, texts, members, call)?;
+    call.bytes = number(members, "bytes")?;
+    call.compile_time = number(members, "compile_time")?;
+    add_ran(members, call)
 }
 
 /// The call that the members of a line describe.
@@ -158,32 +185,15 @@ fn call_of(
         return Err(LineFault::Broken);
     };
     let start = required(members, "start")?;
-    let end = required(members, "end")?.max(start);
-    Ok(Call {
-        kind: Kind::of(what),
-        what: texts.add(alloc, what)?,
-        start,
-        end,
-        process: number(members, "pid")?,
-        parent: number(members, "ppid")?,
-        status: number(members, "status")?,
-        dir: text(alloc, texts, members, "dir")?,
-        compiler: text(alloc, texts, members, "compiler")?,
-        words: words(alloc, texts, members)?,
-        input: text(alloc, texts, members, "input")?,
-        output: text(alloc, texts, members, "output")?,
-        reason: text(alloc, texts, members, "reason")?,
-        why: text(alloc, texts, members, "why")?,
-        bytes: number(members, "bytes")?,
-        compile_time: number(members, "compile_time")?,
-        ran: ran(alloc, members, start, end)?,
-        lane: 0,
-    })
+    let end = required(members, "end")?;
+    let id = texts.add(alloc, what)?;
+    let mut call = Call::new(alloc, Kind::of(what), id, start, end);
+    fill(alloc, texts, members, &mut call)?;
+    Ok(call)
 }
 
-/// The call that a line describes.
-pub fn read_line(alloc: Global, texts: &mut Texts, line: &[u8]) -> Result<Call, LineFault> {
-    let value = Value::from_slice(alloc, line)?;
+/// The call that a value describes.
+fn call_in(alloc: Global, texts: &mut Texts, value: &Value) -> Result<Call, LineFault> {
     let Some(members) = value.as_object() else {
         return Err(LineFault::Broken);
     };
@@ -191,4 +201,10 @@ pub fn read_line(alloc: Global, texts: &mut Texts, line: &[u8]) -> Result<Call, 
         return Err(LineFault::Broken);
     }
     call_of(alloc, texts, members)
+}
+
+/// The call that a line describes.
+pub fn read_line(alloc: Global, texts: &mut Texts, line: &[u8]) -> Result<Call, LineFault> {
+    let value = Value::from_slice(alloc, line)?;
+    call_in(alloc, texts, &value)
 }

@@ -14,25 +14,33 @@ pub struct Log {
     pub broken: u64,
 }
 
-/// Reads a log, line by line. A broken line is counted, and the end of nothing.
-pub fn read_log(alloc: Global, bytes: &[u8]) -> Result<Log, AllocError> {
-    let mut texts = Texts::new(alloc)?;
-    let mut calls = Vec::new(alloc);
-    let mut broken = 0u64;
-    for line in bytes.split(|byte| *byte == b'\n') {
+impl Log {
+    /// Takes a line in, unless it is empty.
+    fn take_line(&mut self, alloc: Global, line: &[u8]) -> Result<(), AllocError> {
         if line.is_empty() {
-            continue;
+            return Ok(());
         }
-        match read_line(alloc, &mut texts, line) {
-            Ok(call) => calls.push(call)?,
-            Err(LineFault::Broken) => broken = broken.saturating_add(1),
-            Err(LineFault::Memory) => return Err(AllocError),
+        match read_line(alloc, &mut self.texts, line) {
+            Ok(call) => Ok(self.calls.push(call)?),
+            Err(LineFault::Broken) => {
+                self.broken = self.broken.saturating_add(1);
+                Ok(())
+            }
+            Err(LineFault::Memory) => Err(AllocError),
         }
     }
-    calls.sort_by_key(|call| call.start)?;
-    Ok(Log {
-        texts,
-        calls,
-        broken,
-    })
+}
+
+/// Reads a log, line by line. A broken line is counted, and the end of nothing.
+pub fn read_log(alloc: Global, bytes: &[u8]) -> Result<Log, AllocError> {
+    let mut log = Log {
+        texts: Texts::new(alloc)?,
+        calls: Vec::new(alloc),
+        broken: 0,
+    };
+    for line in bytes.split(|byte| *byte == b'\n') {
+        log.take_line(alloc, line)?;
+    }
+    log.calls.sort_by_key(|call| call.start)?;
+    Ok(log)
 }

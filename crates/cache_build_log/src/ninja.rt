@@ -2,7 +2,7 @@
 
 use crate::call::Call;
 use crate::kind::Kind;
-use crate::texts::{NOTHING, TextId, Texts};
+use crate::texts::{TextId, Texts};
 use std::alloc::{AllocError, Global};
 use std::collections::BTreeMap;
 
@@ -61,28 +61,38 @@ fn origin(entries: &[Entry<'_>], starts: &BTreeMap<String, u64>) -> Option<u64> 
     origin
 }
 
-/// The call that represents a command.
-fn call_of(alloc: Global, what: TextId, output: TextId, start: u64, end: u64) -> Call {
-    Call {
-        kind: Kind::Other,
-        what,
-        start,
-        end: end.max(start),
-        process: 0,
-        parent: 0,
-        status: 0,
-        dir: NOTHING,
-        compiler: NOTHING,
-        words: Vec::new(alloc),
-        input: NOTHING,
-        output,
-        reason: NOTHING,
-        why: NOTHING,
-        bytes: 0,
-        compile_time: 0,
-        ran: Vec::new(alloc),
-        lane: 0,
+/// The call that represents a command of a build that began then.
+fn call_of(
+    alloc: Global,
+    texts: &mut Texts,
+    what: TextId,
+    entry: &Entry<'_>,
+    origin: u64,
+) -> Result<Call, AllocError> {
+    let start = origin.saturating_add(entry.start.saturating_mul(1000));
+    let end = origin.saturating_add(entry.end.saturating_mul(1000));
+    let output = texts.add(alloc, entry.output)?;
+    let mut call = Call::new(alloc, Kind::Other, what, start, end);
+    call.output = output;
+    Ok(call)
+}
+
+/// Calls that represent those of these commands whose outputs no call has.
+fn calls_of(
+    alloc: Global,
+    texts: &mut Texts,
+    what: TextId,
+    entries: &[Entry<'_>],
+    starts: &BTreeMap<String, u64>,
+    origin: u64,
+) -> Result<Vec<Call>, AllocError> {
+    let mut others = Vec::new(alloc);
+    for entry in entries {
+        if !starts.contains_key(entry.output) {
+            others.push(call_of(alloc, texts, what, entry, origin)?)?;
+        }
     }
+    Ok(others)
 }
 
 /// The outputs of calls, each with the moment at which its last call began.
@@ -107,20 +117,18 @@ pub fn other_commands(
     calls: &[Call],
     log: &str,
 ) -> Result<Option<Vec<Call>>, AllocError> {
-    let entries = last_build(alloc, log)?;
-    let mut others = Vec::new(alloc);
     let what = texts.add(alloc, "other_command")?;
+    let entries = last_build(alloc, log)?;
     let starts = starts_of(alloc, texts, calls)?;
-    let Some(origin) = origin(entries.as_slice(), &starts) else {
-        return Ok(None);
-    };
-    for entry in entries.as_slice() {
-        if !starts.contains_key(entry.output) {
-            let start = origin.saturating_add(entry.start.saturating_mul(1000));
-            let end = origin.saturating_add(entry.end.saturating_mul(1000));
-            let output = texts.add(alloc, entry.output)?;
-            others.push(call_of(alloc, what, output, start, end))?;
-        }
+    match origin(entries.as_slice(), &starts) {
+        Some(origin) => Ok(Some(calls_of(
+            alloc,
+            texts,
+            what,
+            entries.as_slice(),
+            &starts,
+            origin,
+        )?)),
+        None => Ok(None),
     }
-    Ok(Some(others))
 }

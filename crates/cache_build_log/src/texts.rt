@@ -56,30 +56,39 @@ fn digit(byte: u8) -> Option<u8> {
     }
 }
 
-/// The text that represents bytes that are no text, from their digits: letters as they are, `\x` with two digits for other bytes. Nothing
-/// where these are no digits.
-pub fn text_of_digits(alloc: Global, digits: &str) -> Result<Option<String>, AllocError> {
-    let mut text = String::new(alloc);
+/// Adds a letter as it is, and another byte by its two digits.
+fn push_byte(text: &mut String, byte: u8) -> Result<(), AllocError> {
+    match byte {
+        b' '..=b'~' => text.push(char::from(byte)),
+        _ => write!(text, "\\x{byte:02x}"),
+    }
+}
+
+/// Adds the bytes of these digits. False where these are no digits, or half a byte is left over.
+fn push_digits(text: &mut String, digits: &str) -> Result<bool, AllocError> {
     let mut high = None;
     for byte in digits.bytes() {
         let Some(value) = digit(byte) else {
-            return Ok(None);
+            return Ok(false);
         };
         let Some(first) = high else {
             high = Some(value);
             continue;
         };
         high = None;
-        let whole = first.wrapping_mul(16) | value;
-        match whole {
-            b' '..=b'~' => text.push(char::from(whole))?,
-            _ => write!(text, "\\x{whole:02x}")?,
-        }
+        push_byte(text, first.wrapping_mul(16) | value)?;
     }
-    Ok(match high {
-        None => Some(text),
-        Some(_) => None,
-    })
+    Ok(high.is_none())
+}
+
+/// The text that represents bytes that are no text, from their digits: letters as they are, `\x` with two digits for other bytes. Nothing
+/// where these are no digits.
+pub fn text_of_digits(alloc: Global, digits: &str) -> Result<Option<String>, AllocError> {
+    let mut text = String::new(alloc);
+    match push_digits(&mut text, digits)? {
+        true => Ok(Some(text)),
+        false => Ok(None),
+    }
 }
 
 impl Texts {
@@ -93,6 +102,14 @@ impl Texts {
         Ok(texts)
     }
 
+    /// The number of a text that isn't here yet.
+    fn add_new(&mut self, text: String) -> Result<TextId, AllocError> {
+        let id = u32::try_from(self.texts.len()).unwrap_or(NOTHING);
+        self.texts.push(text.clone()?)?;
+        self.ids.insert(text, id)?;
+        Ok(id)
+    }
+
     /// The number of a text, which is put here as it is shown.
     pub fn add(&mut self, alloc: Global, text: &str) -> Result<TextId, AllocError> {
         if let Some(id) = self.ids.get(text) {
@@ -102,10 +119,7 @@ impl Texts {
         if let Some(id) = self.ids.get(shown.as_str()) {
             return Ok(*id);
         }
-        let id = u32::try_from(self.texts.len()).unwrap_or(NOTHING);
-        self.texts.push(shown.clone()?)?;
-        self.ids.insert(shown, id)?;
-        Ok(id)
+        self.add_new(shown)
     }
 
     /// The text of that number; the empty one where there is none.

@@ -27,16 +27,25 @@ fn clear_folder<R: Files + AllocGlobal>(rt: &R, place: &str) -> Result<(), Optio
     Err(OptionError::Wrong(format!(in rt.alloc(); "{place} can't be taken away")?))
 }
 
-/// Takes away all that is kept in this folder, and not its settings nor its counters.
-pub fn clear<R: Files + AllocGlobal>(rt: &R, kept: &str) -> Result<(), OptionError> {
-    for kind in Kind::ALL {
-        let part = kind.name();
-        let place = format!(in rt.alloc(); "{kept}/{part}")?;
-        clear_folder(rt, place.as_str())?;
-    }
+/// Takes away what is kept under this name.
+fn clear_part<R: Files + AllocGlobal>(rt: &R, kept: &str, part: &str) -> Result<(), OptionError> {
+    let place = format!(in rt.alloc(); "{kept}/{part}")?;
+    clear_folder(rt, place.as_str())
+}
+
+/// Takes away the file of sizes.
+fn clear_sizes<R: Files + AllocGlobal>(rt: &R, kept: &str) -> Result<(), OptionError> {
     let place = format!(in rt.alloc(); "{kept}/sizes")?;
     match is_gone(&fs::remove_file(rt, place.as_str())) {
         true => Ok(()),
         false => Err(OptionError::Device),
     }
+}
+
+/// Takes away all that is kept in this folder, and not its settings nor its counters.
+pub fn clear<R: Files + AllocGlobal>(rt: &R, kept: &str) -> Result<(), OptionError> {
+    for kind in Kind::ALL.iter() {
+        clear_part(rt, kept, kind.name())?;
+    }
+    clear_sizes(rt, kept)
 }

@@ -64,10 +64,10 @@ fn add_variable<R: Env + AllocGlobal>(
 /// The variables that settings hang on.
 pub fn variables<R: Env + AllocGlobal>(rt: &R) -> Result<ListedVariables, OptionError> {
     let mut pairs = Vec::new(rt.alloc());
-    for key in Key::ALL {
+    for key in Key::ALL.iter() {
         add_variable(rt, key.variable(), &mut pairs)?;
     }
-    for name in OTHERS {
+    for name in OTHERS.iter() {
         add_variable(rt, name, &mut pairs)?;
     }
     Ok(ListedVariables { pairs })
@@ -99,12 +99,14 @@ fn kept_of(
     }
 }
 
-/// The folder of what is kept, with the limit that is set.
-fn folder_of(alloc: Global, place: &Place) -> Result<CacheDir, OptionError> {
-    let path = String::from_str(alloc, place.kept.as_str())?;
-    let mut folder = CacheDir::new(path, String::new(alloc));
+/// The folder of what is kept, with the limit that is set. It is there then.
+fn made_folder<R: Files + AllocGlobal>(rt: &R, place: &Place) -> Result<CacheDir, OptionError> {
+    let umask = place.settings.umask();
+    make_folders(rt, place.kept.as_str(), umask)?;
+    let path = String::from_str(rt.alloc(), place.kept.as_str())?;
+    let mut folder = CacheDir::new(path, String::new(rt.alloc()));
     folder.limit = place.settings.max_size();
-    folder.umask = place.settings.umask();
+    folder.umask = umask;
     Ok(folder)
 }
 
@@ -113,9 +115,7 @@ fn clean_up<R: Files + AllocGlobal + Clone + Drop>(
     rt: &R,
     place: &Place,
 ) -> Result<(), OptionError> {
-    let folder = folder_of(rt.alloc(), place)?;
-    make_folders(rt, place.kept.as_str(), folder.umask)?;
-    Ok(hold_limit(rt, &folder)?)
+    Ok(hold_limit(rt, &made_folder(rt, place)?)?)
 }
 
 /// Sets the limit in the user's file, and takes away what is too much.
@@ -129,25 +129,33 @@ fn set_limit<R: Files + AllocGlobal + Clone + Drop>(
     clean_up(rt, place)
 }
 
+/// The seconds of an age.
+fn seconds_of(alloc: Global, age: &str) -> Result<u64, OptionError> {
+    match age_named(age) {
+        Some(seconds) => Ok(seconds),
+        None => Err(OptionError::Wrong(format!(in alloc;
+            "{age}: an age is a number with s, m, h or d behind it"
+        )?)),
+    }
+}
+
+/// The nanoseconds since 1970 that it was so many seconds ago.
+fn time_before<R: Clock>(rt: &R, seconds: u64) -> Result<u128, OptionError> {
+    let now = match SystemTime::now(rt)?.duration_since(UNIX_EPOCH) {
+        Ok(since) => since.as_nanos(),
+        Err(_) => 0,
+    };
+    Ok(now.saturating_sub(u128::from(seconds).saturating_mul(1_000_000_000)))
+}
+
 /// Takes away what wasn't used for so long.
 fn evict<R: Files + Clock + AllocGlobal + Clone + Drop>(
     rt: &R,
     place: &Place,
     age: &str,
 ) -> Result<(), OptionError> {
-    let Some(seconds) = age_named(age) else {
-        return Err(OptionError::Wrong(format!(in rt.alloc();
-            "{age}: an age is a number with s, m, h or d behind it"
-        )?));
-    };
-    let now = match SystemTime::now(rt)?.duration_since(UNIX_EPOCH) {
-        Ok(since) => since.as_nanos(),
-        Err(_) => 0,
-    };
-    let age = u128::from(seconds).saturating_mul(1_000_000_000);
-    let folder = folder_of(rt.alloc(), place)?;
-    make_folders(rt, place.kept.as_str(), folder.umask)?;
-    Ok(remove_unused(rt, &folder, now.saturating_sub(age))?)
+    let oldest = time_before(rt, seconds_of(rt.alloc(), age)?)?;
+    Ok(remove_unused(rt, &made_folder(rt, place)?, oldest)?)
 }
 
 /// Begins to count from 0 again.
@@ -181,6 +189,14 @@ fn show_now<R: Print + Files + AllocGlobal + Clone + Drop>(
     )
 }
 
+/// Prints what was counted and what is kept, for tools.
+fn print_now<R: Print + Files + AllocGlobal + Clone + Drop>(
+    rt: &R,
+    place: &Place,
+) -> Result<(), OptionError> {
+    print(rt, &Statistics::read(rt, place.kept.as_str())?)
+}
+
 /// Puts links for the compilers on the path.
 fn links_now<R: Print + Files + Env + AllocGlobal + Clone + Drop>(
     rt: &R,
@@ -211,7 +227,7 @@ where
         Asked::Help => help(rt),
         Asked::Version => version(rt, caller.program),
         Asked::ShowStats => show_now(rt, caller, place),
-        Asked::PrintStats => print(rt, &Statistics::read(rt, place.kept.as_str())?),
+        Asked::PrintStats => print_now(rt, place),
         Asked::ZeroStats => zero_now(rt, place),
         Asked::Clear => clear(rt, place.kept.as_str()),
         Asked::MaxSize(size) => set_limit(rt, place, size),

@@ -34,15 +34,11 @@ fn read_long<'a>(
     asked: &mut Vec<Asked<'a>>,
 ) -> Result<(), OptionError> {
     if let Some(option) = Asked::plain(word) {
-        asked.push(option)?;
-        return Ok(());
+        return Ok(asked.push(option)?);
     }
     let option = match word.split_once('=') {
         Some((name, value)) => Asked::with_value(name, value),
-        None => match words.take() {
-            Some(value) => Asked::with_value(word, value),
-            None => None,
-        },
+        None => valued(word, "", words),
     };
     take(alloc, word, option, asked)
 }
@@ -60,7 +56,7 @@ fn take<'a>(
     }
 }
 
-/// The value of a short option: what comes after its letter, or the next word.
+/// The value of an option: what comes right after its name, or the next word.
 fn value_behind<'a>(rest: &'a str, words: &mut Words<'a>) -> Option<&'a str> {
     match rest.is_empty() {
         true => words.take(),

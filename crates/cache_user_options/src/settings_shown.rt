@@ -5,18 +5,28 @@ use cache_settings::{Key, Settings, Variables, set_in_file, shown};
 use std::alloc::Global;
 use std::rt::Files;
 
-/// Prints each key with its value and where that comes from. The folder of what is kept is the one that the host found, where none is set.
-/// What may be shown to nobody is left out.
+/// Prints a key with its value and where that comes from. What may be shown to nobody is left out.
+fn show_key<R: Print + AllocGlobal>(
+    rt: &R,
+    settings: &Settings,
+    kept: &str,
+    key: Key,
+) -> Result<(), OptionError> {
+    let origin = settings.origin_of(key);
+    let name = key.name();
+    let value = shown(rt.alloc(), key, value_of(settings, key, kept))?;
+    println!(rt; "({origin}) {name} = {value}")?;
+    Ok(())
+}
+
+/// Prints each key. The folder of what is kept is the one that the host found, where none is set.
 pub fn show_config<R: Print + AllocGlobal>(
     rt: &R,
     settings: &Settings,
     kept: &str,
 ) -> Result<(), OptionError> {
-    for key in Key::ALL {
-        let origin = settings.origin_of(key);
-        let name = key.name();
-        let value = shown(rt.alloc(), key, value_of(settings, key, kept))?;
-        println!(rt; "({origin}) {name} = {value}")?;
+    for key in Key::ALL.iter() {
+        show_key(rt, settings, kept, *key)?;
     }
     Ok(())
 }

@@ -94,10 +94,16 @@ fn print_share<R: Print>(rt: &R, name: &str, part: u64, all: u64) -> Result<(), 
     Ok(())
 }
 
+/// Prints a row of a name and its number.
+fn print_row<R: Print>(rt: &R, name: &str, number: u64) -> Result<(), OptionError> {
+    println!(rt; "  {name:<40}{number:>8}")?;
+    Ok(())
+}
+
 /// Prints rows of names and numbers.
 fn print_rows<R: Print>(rt: &R, rows: &[(&str, u64)]) -> Result<(), OptionError> {
     for (name, number) in rows {
-        println!(rt; "  {name:<40}{number:>8}")?;
+        print_row(rt, name, *number)?;
     }
     Ok(())
 }
@@ -166,6 +172,23 @@ pub fn show<R: Print + AllocGlobal>(
     Ok(())
 }
 
+/// Whether a number stands in a row of its own, or counts for one.
+fn is_in_rows(name: &str) -> bool {
+    HITS.contains(&name)
+        || MISSES.contains(&name)
+        || name == "remote_storage_hit"
+        || is_passed(name)
+        || is_error(name)
+}
+
+/// Prints a name that isn't in the rows, with its number.
+fn print_detail<R: Print>(rt: &R, counts: &Counts, name: &str) -> Result<(), OptionError> {
+    if is_in_rows(name) {
+        return Ok(());
+    }
+    print_row(rt, name, counts.number_of(name))
+}
+
 /// Prints what else was counted: options and variables for which calls were passed through.
 fn show_details<R: Print + AllocGlobal>(
     rt: &R,
@@ -173,13 +196,7 @@ fn show_details<R: Print + AllocGlobal>(
 ) -> Result<(), OptionError> {
     println!(rt; "Of these by option or variable, and other counters:")?;
     for name in statistics.counts.names(rt.alloc())? {
-        let is_shown = HITS.contains(&name)
-            || MISSES.contains(&name)
-            || name == "remote_storage_hit";
-        if !is_shown && !is_passed(name) && !is_error(name) {
-            let number = statistics.counts.number_of(name);
-            println!(rt; "  {name:<40}{number:>8}")?;
-        }
+        print_detail(rt, &statistics.counts, name)?;
     }
     Ok(())
 }
@@ -195,11 +212,16 @@ pub fn print<R: Print + AllocGlobal>(rt: &R, statistics: &Statistics) -> Result<
     print_whole(rt, statistics)
 }
 
+/// Prints a name and a number with a tab between them.
+fn print_number<R: Print>(rt: &R, name: &str, number: u64) -> Result<(), OptionError> {
+    println!(rt; "{name}\t{number}")?;
+    Ok(())
+}
+
 /// Prints these names with their numbers.
 fn print_numbers<R: Print>(rt: &R, counts: &Counts, names: &[&str]) -> Result<(), OptionError> {
     for name in names {
-        let number = counts.number_of(name);
-        println!(rt; "{name}\t{number}")?;
+        print_number(rt, name, counts.number_of(name))?;
     }
     Ok(())
 }
@@ -218,8 +240,7 @@ fn is_usual(name: &str) -> bool {
 fn print_others<R: Print + AllocGlobal>(rt: &R, counts: &Counts) -> Result<(), OptionError> {
     for name in counts.names(rt.alloc())? {
         if !is_usual(name) {
-            let number = counts.number_of(name);
-            println!(rt; "{name}\t{number}")?;
+            print_number(rt, name, counts.number_of(name))?;
         }
     }
     Ok(())
@@ -227,15 +248,15 @@ fn print_others<R: Print + AllocGlobal>(rt: &R, counts: &Counts) -> Result<(), O
 
 /// Prints what is known of all that is kept.
 fn print_whole<R: Print>(rt: &R, statistics: &Statistics) -> Result<(), OptionError> {
-    let cleanups = statistics.counts.number_of("cleanups_performed");
-    let zeroed = statistics.counts.number_of(ZEROED);
-    let updated = statistics.updated;
+    let counts = &statistics.counts;
     let files = statistics.files;
-    let kibibytes = statistics.bytes / 1024;
-    println!(rt; "cleanups_performed\t{cleanups}")?;
+    print_number(
+        rt,
+        "cleanups_performed",
+        counts.number_of("cleanups_performed"),
+    )?;
     println!(rt; "files_in_cache\t{files}")?;
-    println!(rt; "cache_size_kibibyte\t{kibibytes}")?;
-    println!(rt; "stats_updated_timestamp\t{updated}")?;
-    println!(rt; "stats_zeroed_timestamp\t{zeroed}")?;
-    Ok(())
+    print_number(rt, "cache_size_kibibyte", statistics.bytes / 1024)?;
+    print_number(rt, "stats_updated_timestamp", statistics.updated)?;
+    print_number(rt, "stats_zeroed_timestamp", counts.number_of(ZEROED))
 }
