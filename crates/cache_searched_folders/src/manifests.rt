@@ -1,8 +1,8 @@
 //! The lists of what to watch of a manifest's results, kept beside the manifest: the key of a result and its list, each after its length.
 //! A result may have a list for each of several folders in which calls were made.
 
-use crate::watch_list::{folder_of, holds, two_ahead};
-use base_formats::put_framed;
+use crate::watch_list::{folder_of, holds};
+use base_formats::{put_framed, read_framed};
 use ckeys_include_records::{CachedResult, PreprocessorCacheEntry};
 use std::alloc::{AllocError, Global};
 use std::collections::HashSet;
@@ -18,17 +18,10 @@ pub(crate) struct Row<'a> {
     pub(crate) list: &'a [u8],
 }
 
-impl Row<'_> {
-    /// Adds it.
-    pub(crate) fn put(&self, out: &mut Vec<u8>) -> Result<(), AllocError> {
-        put_framed(out, self.key)?;
-        put_framed(out, self.list)
-    }
-}
-
 /// The row at the front of these bytes, and what comes after it.
 fn row_ahead(bytes: &[u8]) -> Option<(Row<'_>, &[u8])> {
-    let (key, list, rest) = two_ahead(bytes).ok()?;
+    let (key, rest) = read_framed(bytes).ok()?;
+    let (list, rest) = read_framed(rest).ok()?;
     Some((Row { key, list }, rest))
 }
 
@@ -84,26 +77,6 @@ fn is_of_folder(list: &[u8], dir: &[u8]) -> bool {
     }
 }
 
-/// Adds the rows of these keys, except those for calls in that folder of the result of this key, and of its others those that are too many.
-fn put_others(
-    rows: &[Row<'_>],
-    keys: &HashSet<&[u8]>,
-    dir: &[u8],
-    key: &[u8],
-    out: &mut Vec<u8>,
-) -> Result<(), AllocError> {
-    let mut count: usize = 1;
-    for row in rows {
-        let is_replaced = row.key == key && (is_of_folder(row.list, dir) || count >= MOST);
-        if is_replaced || !keys.contains(&row.key) {
-            continue;
-        }
-        count = count.saturating_add(usize::from(row.key == key));
-        row.put(out)?;
-    }
-    Ok(())
-}
-
 /// The lists with this one of the result of that key, for a call in that folder, ahead of those that the manifest's results had.
 pub fn with_list(
     alloc: Global,
@@ -114,10 +87,19 @@ pub fn with_list(
     list: &[u8],
 ) -> Result<Vec<u8>, AllocError> {
     let keys = keys_of(alloc, entry)?;
-    let rows = rows_of(alloc, watched)?;
     let mut out = Vec::new(alloc);
-    Row { key, list }.put(&mut out)?;
-    put_others(rows.as_slice(), &keys, dir, key, &mut out)?;
+    put_framed(&mut out, key)?;
+    put_framed(&mut out, list)?;
+    let mut count: usize = 1;
+    for row in rows_of(alloc, watched)? {
+        let is_replaced = row.key == key && (is_of_folder(row.list, dir) || count >= MOST);
+        if is_replaced || !(&keys).contains(&row.key) {
+            continue;
+        }
+        count = count.saturating_add(usize::from(row.key == key));
+        put_framed(&mut out, row.key)?;
+        put_framed(&mut out, row.list)?;
+    }
     Ok(out)
 }
 

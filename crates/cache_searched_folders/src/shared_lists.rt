@@ -1,7 +1,7 @@
 //! Lists that several machines share. A state of a file or a folder is one machine's own, so lists go without them: each name is looked at, and
 //! each file is read. Who takes a list from another machine puts its own states there, once all is as the list says.
 
-use crate::manifests::{Row, rows_of};
+use crate::manifests::rows_of;
 use crate::unwatched::Unwatched;
 use crate::watch_list::{FileRow, Looking, file_ahead, folder_ahead, holds, text_of};
 use base_files::FileTime;
@@ -13,24 +13,21 @@ use std::rt::Files;
 /// A state that no file and no folder has.
 const NO_STATE: [u8; 56] = [0; 56];
 
-/// Adds a path, and no state behind it.
-fn put_without_state(path: &[u8], out: &mut Vec<u8>) -> Result<(), AllocError> {
-    put_framed(out, path)?;
-    out.extend_from_slice(&NO_STATE)
-}
-
 /// Adds the first folder of these bytes without its state, and returns what comes after it.
 fn put_folder<'a>(bytes: &'a [u8], out: &mut Vec<u8>) -> Result<&'a [u8], Unwatched> {
-    let (mut row, rest) = folder_ahead(bytes)?;
-    row.looking = Looking::Always.code();
-    put_without_state(row.path, out)?;
-    row.put_after_state(out)?;
+    let (row, rest) = folder_ahead(bytes)?;
+    put_framed(out, row.path)?;
+    out.extend_from_slice(&NO_STATE)?;
+    put_number(out, Looking::Always.code())?;
+    put_framed(out, row.twin)?;
+    put_framed(out, row.names)?;
     Ok(rest)
 }
 
 /// Adds a file without its state.
-fn put_file(row: FileRow<'_>, out: &mut Vec<u8>) -> Result<(), AllocError> {
-    put_without_state(row.path, out)?;
+fn put_without_state(row: FileRow<'_>, out: &mut Vec<u8>) -> Result<(), AllocError> {
+    put_framed(out, row.path)?;
+    out.extend_from_slice(&NO_STATE)?;
     put_framed(out, row.digest)
 }
 
@@ -50,7 +47,7 @@ fn put_files(bytes: &[u8], out: &mut Vec<u8>) -> Result<(), Unwatched> {
     put_number(out, count)?;
     for _ in 0..count {
         let (row, behind) = file_ahead(rest)?;
-        put_file(row, out)?;
+        put_without_state(row, out)?;
         rest = behind;
     }
     match rest.is_empty() {
@@ -61,8 +58,8 @@ fn put_files(bytes: &[u8], out: &mut Vec<u8>) -> Result<(), Unwatched> {
 
 /// The list without states.
 fn without_states(alloc: Global, list: &[u8]) -> Result<Vec<u8>, Unwatched> {
-    let (dir, rest) = read_framed(list)?;
     let mut out = Vec::new(alloc);
+    let (dir, rest) = read_framed(list)?;
     put_framed(&mut out, dir)?;
     let rest = put_folders(rest, &mut out)?;
     put_files(rest, &mut out)?;
@@ -78,23 +75,14 @@ fn list_to_send(alloc: Global, list: &[u8]) -> Result<Option<Vec<u8>>, AllocErro
     }
 }
 
-/// Adds a row as others may have it: nothing where its list isn't well formed.
-fn put_to_send(alloc: Global, row: Row<'_>, out: &mut Vec<u8>) -> Result<(), AllocError> {
-    match list_to_send(alloc, row.list)? {
-        Some(list) => Row {
-            key: row.key,
-            list: list.as_slice(),
-        }
-        .put(out),
-        None => Ok(()),
-    }
-}
-
 /// The lists as others may have them: without states, and without those that aren't well formed. None where none is left.
 pub fn lists_to_send(alloc: Global, lists: &[u8]) -> Result<Option<Vec<u8>>, AllocError> {
     let mut out = Vec::new(alloc);
     for row in rows_of(alloc, lists)? {
-        put_to_send(alloc, row, &mut out)?;
+        if let Some(list) = list_to_send(alloc, row.list)? {
+            put_framed(&mut out, row.key)?;
+            put_framed(&mut out, list.as_slice())?;
+        }
     }
     match out.is_empty() {
         true => Ok(None),
@@ -128,7 +116,7 @@ fn fill_file<'a, R: Files>(
     row.state = State::at(rt, text_of(row.path)?)?;
     match row.state.is_before(before) {
         true => row.put(out)?,
-        false => put_file(row, out)?,
+        false => put_without_state(row, out)?,
     }
     Ok(rest)
 }
@@ -169,29 +157,12 @@ fn with_states<R: Files + AllocGlobal>(
     list: &[u8],
     before: FileTime,
 ) -> Result<Vec<u8>, Unwatched> {
-    let (dir, rest) = read_framed(list)?;
     let mut out = Vec::new(rt.alloc());
+    let (dir, rest) = read_framed(list)?;
     put_framed(&mut out, dir)?;
     let rest = fill_folders(rt, rest, before, &mut out)?;
     fill_files(rt, rest, before, &mut out)?;
     Ok(out)
-}
-
-/// Adds a row of another machine, with the states of this one where a call in that folder finds all as its list says.
-fn put_taken<R: Files + AllocGlobal>(
-    rt: &R,
-    dir: &[u8],
-    row: Row<'_>,
-    before: FileTime,
-    out: &mut Vec<u8>,
-) -> Result<(), AllocError> {
-    let filled = with_states(rt, row.list, before);
-    let fits = holds(rt, dir, row.list)?;
-    put_framed(out, row.key)?;
-    match &filled {
-        Ok(list) if fits => put_framed(out, list.as_slice()),
-        _ => put_framed(out, row.list),
-    }
 }
 
 /// The lists of another machine, with the states of this one where a call in that folder finds all as they say. States are read before that is looked
@@ -204,7 +175,13 @@ pub fn lists_taken<R: Files + AllocGlobal>(
 ) -> Result<Vec<u8>, AllocError> {
     let mut out = Vec::new(rt.alloc());
     for row in rows_of(rt.alloc(), lists)? {
-        put_taken(rt, dir, row, before, &mut out)?;
+        let filled = with_states(rt, row.list, before);
+        let fits = holds(rt, dir, row.list)?;
+        put_framed(&mut out, row.key)?;
+        match &filled {
+            Ok(list) if fits => put_framed(&mut out, list.as_slice())?,
+            _ => put_framed(&mut out, row.list)?,
+        }
     }
     Ok(out)
 }

@@ -12,7 +12,7 @@ use cache_source_directives::{
     tells_time,
 };
 use memchr::memmem;
-use std::alloc::{AllocError, Global};
+use std::alloc::Global;
 use std::collections::HashSet;
 use std::rt::Files;
 
@@ -87,20 +87,6 @@ fn add_all_said<'a>(
     Ok(true)
 }
 
-/// Adds the names that words of the command define for these macros, which stand for what a source includes.
-fn add_said_for<'a>(
-    words: &'a [OsBytes],
-    computed: &[&[u8]],
-    said: &mut Vec<Asked<'a>>,
-) -> Result<(), Unwatched> {
-    for name in computed {
-        if !add_all_said(words, name, said)? {
-            return Err(Unwatched::Computed);
-        }
-    }
-    Ok(())
-}
-
 /// The names that words of the command define for the macros that stand for what a source includes.
 fn said_for<'a>(
     alloc: Global,
@@ -108,7 +94,11 @@ fn said_for<'a>(
     found: &Directives<'_>,
 ) -> Result<Vec<Asked<'a>>, Unwatched> {
     let mut said = Vec::new(alloc);
-    add_said_for(words, found.computed.as_slice(), &mut said)?;
+    for name in found.computed.iter() {
+        if !add_all_said(words, name, &mut said)? {
+            return Err(Unwatched::Computed);
+        }
+    }
     Ok(said)
 }
 
@@ -146,25 +136,16 @@ fn probes_in<'a>(alloc: Global, all: &[Directives<'a>]) -> Result<Vec<&'a [u8]>,
     Ok(probes)
 }
 
-/// Adds what a source asks for by this macro. False where that can't be determined, or it hands on another one's parameter.
-fn add_followed<'a>(
-    source: &Source<'a>,
-    probe: &[u8],
-    found: &mut Directives<'a>,
-) -> Result<bool, AllocError> {
-    let count = found.probes.len();
-    let is_told = add_probed(source.contents, probe, found)?;
-    Ok(is_told && found.probes.len() == count)
-}
-
 /// Adds what a source asks for by these macros. One that hands on another one's parameter isn't followed.
 fn add_all_probed<'a>(
     source: &Source<'a>,
     probes: &[&[u8]],
     found: &mut Directives<'a>,
 ) -> Result<(), Unwatched> {
+    let count = found.probes.len();
     for probe in probes {
-        if !add_followed(source, probe, found)? {
+        let is_told = add_probed(source.contents, probe, found)?;
+        if !is_told || found.probes.len() != count {
             return Err(Unwatched::Computed);
         }
     }
@@ -206,19 +187,6 @@ fn taken_in(placed: Placed<'_>) -> Option<&[u8]> {
     }
 }
 
-/// Looks for a file of that name that a word takes in before the input, and for its precompiled headers.
-fn search_taken<R: Files + AllocGlobal>(
-    rt: &R,
-    list: &SearchList<'_>,
-    name: &[u8],
-    watching: &mut Watching<'_, '_>,
-) -> Result<(), Unwatched> {
-    let search = Search::Quoted;
-    watching.search(rt, list, b"", Asked { name, search })?;
-    watching.look_for_precompiled(rt, list, b"", name, b".gch")?;
-    watching.look_for_precompiled(rt, list, b"", name, b".pch")
-}
-
 /// Looks for what words take in before the input: in the call's folder, and then as names in quotes are looked for.
 fn search_words<R: Files + AllocGlobal>(
     rt: &R,
@@ -228,7 +196,10 @@ fn search_words<R: Files + AllocGlobal>(
 ) -> Result<(), Unwatched> {
     for placed in PlacedWords::of(words) {
         if let Some(name) = taken_in(placed) {
-            search_taken(rt, list, name, watching)?;
+            let search = Search::Quoted;
+            watching.search(rt, list, b"", Asked { name, search })?;
+            watching.look_for_precompiled(rt, list, b"", name, b".gch")?;
+            watching.look_for_precompiled(rt, list, b"", name, b".pch")?;
         }
     }
     Ok(())
@@ -256,42 +227,6 @@ fn take_sources<'a>(
     Ok(())
 }
 
-/// Adds to what a source asks for what it asks for by macros of sources.
-fn add_by_macros<'a>(
-    sources: &[Source<'a>],
-    probes: &[&[u8]],
-    source: &Source<'a>,
-    found: &mut Directives<'a>,
-) -> Result<(), Unwatched> {
-    add_computed(sources, found)?;
-    add_all_probed(source, probes, found)
-}
-
-/// Names in brackets that were looked for already, of sources and of words of the command.
-#[derive(Drop)]
-struct Bracketed<'a, 'w> {
-    of_sources: HashSet<&'a [u8]>,
-    of_words: HashSet<&'w [u8]>,
-}
-
-/// Looks for all that a source asks for, by itself and by macros of the command.
-fn search_source<'a, 'w, R: Files + AllocGlobal>(
-    rt: &R,
-    words: &'w [OsBytes],
-    list: &SearchList<'_>,
-    source: &Source<'_>,
-    found: &Directives<'a>,
-    is_input: bool,
-    bracketed: &mut Bracketed<'a, 'w>,
-    watching: &mut Watching<'_, '_>,
-) -> Result<(), Unwatched> {
-    let said = said_for(rt.alloc(), words, found)?;
-    let (asked, known) = (found.asked.as_slice(), &mut bracketed.of_sources);
-    search_all(rt, source, list, asked, is_input, known, watching)?;
-    let (asked, known) = (said.as_slice(), &mut bracketed.of_words);
-    search_all(rt, source, list, asked, is_input, known, watching)
-}
-
 /// Looks for all that these sources ask for, of which the first is the input.
 fn search_sources<'a, R: Files + AllocGlobal>(
     rt: &R,
@@ -302,21 +237,23 @@ fn search_sources<'a, R: Files + AllocGlobal>(
     watching: &mut Watching<'_, '_>,
 ) -> Result<(), Unwatched> {
     let probes = probes_in(rt.alloc(), all)?;
-    let mut bracketed = Bracketed {
-        of_sources: HashSet::new(rt.alloc()),
-        of_words: HashSet::new(rt.alloc()),
-    };
+    let mut bracketed = HashSet::new(rt.alloc());
+    let mut said_bracketed = HashSet::new(rt.alloc());
     let mut is_input = true;
     for (source, found) in sources.iter().zip(all.iter_mut()) {
-        add_by_macros(sources, probes.as_slice(), source, found)?;
-        search_source(
+        add_computed(sources, found)?;
+        add_all_probed(source, probes.as_slice(), found)?;
+        let said = said_for(rt.alloc(), words, found)?;
+        let asked = found.asked.as_slice();
+        search_all(rt, source, list, asked, is_input, &mut bracketed, watching)?;
+        let asked = said.as_slice();
+        search_all(
             rt,
-            words,
-            list,
             source,
-            found,
+            list,
+            asked,
             is_input,
-            &mut bracketed,
+            &mut said_bracketed,
             watching,
         )?;
         is_input = false;
@@ -361,5 +298,5 @@ pub fn list_of<R: Files + AllocGlobal>(
     let mut all = directives_in(alloc, sources)?;
     let mut watching = Watching::new(alloc, line.dir.as_bytes(), before);
     watch_all(rt, words, &list, sources, all.as_mut_slice(), &mut watching)?;
-    watching.list(alloc)
+    watching.into_list(alloc)
 }

@@ -9,7 +9,7 @@ use base_files::{FileTime, OsBytes};
 use base_formats::{ReadFault, put_framed, put_number, read_framed, read_number};
 use cache_dir::digest_of;
 use cache_disk::{Found, State, found_at, read_of_size};
-use std::alloc::{AllocError, Global};
+use std::alloc::AllocError;
 use std::collections::BTreeSet;
 use std::fs;
 use std::rt::Files;
@@ -59,36 +59,19 @@ impl FolderRow<'_> {
     pub(crate) fn put(&self, out: &mut Vec<u8>) -> Result<(), AllocError> {
         put_framed(out, self.path)?;
         self.state.put(out)?;
-        self.put_after_state(out)
-    }
-
-    /// Adds what comes after its state: when its names are looked at, its twin and its names.
-    pub(crate) fn put_after_state(&self, out: &mut Vec<u8>) -> Result<(), AllocError> {
         put_number(out, self.looking)?;
         put_framed(out, self.twin)?;
         put_framed(out, self.names)
     }
 }
 
-/// The path and the state at the front of these bytes, and what comes after them.
-fn place_ahead(bytes: &[u8]) -> Result<(&[u8], State, &[u8]), ReadFault> {
-    let (path, rest) = read_framed(bytes)?;
-    let (state, rest) = State::read(rest)?;
-    Ok((path, state, rest))
-}
-
-/// The two lists of bytes at the front of these, each after its length, and what comes after them.
-pub(crate) fn two_ahead(bytes: &[u8]) -> Result<(&[u8], &[u8], &[u8]), ReadFault> {
-    let (one, rest) = read_framed(bytes)?;
-    let (other, rest) = read_framed(rest)?;
-    Ok((one, other, rest))
-}
-
 /// The folder at the front of these bytes, and what comes after it.
 pub(crate) fn folder_ahead(bytes: &[u8]) -> Result<(FolderRow<'_>, &[u8]), ReadFault> {
-    let (path, state, rest) = place_ahead(bytes)?;
+    let (path, rest) = read_framed(bytes)?;
+    let (state, rest) = State::read(rest)?;
     let (looking, rest) = read_number(rest)?;
-    let (twin, names, rest) = two_ahead(rest)?;
+    let (twin, rest) = read_framed(rest)?;
+    let (names, rest) = read_framed(rest)?;
     let row = FolderRow {
         path,
         state,
@@ -118,7 +101,8 @@ impl FileRow<'_> {
 
 /// The file at the front of these bytes, and what comes after it.
 pub(crate) fn file_ahead(bytes: &[u8]) -> Result<(FileRow<'_>, &[u8]), ReadFault> {
-    let (path, state, rest) = place_ahead(bytes)?;
+    let (path, rest) = read_framed(bytes)?;
+    let (state, rest) = State::read(rest)?;
     let (digest, rest) = read_framed(rest)?;
     let row = FileRow {
         path,
@@ -139,15 +123,6 @@ pub(crate) struct Folder {
 }
 
 impl Folder {
-    /// One in that state, in which nothing was looked for.
-    pub(crate) fn new(alloc: Global, state: State) -> Folder {
-        Folder {
-            state,
-            names: Vec::new(alloc),
-            twin: String::new(alloc),
-        }
-    }
-
     /// Adds a name with what lies there.
     pub(crate) fn note(&mut self, name: &str, found: Found) -> Result<(), AllocError> {
         put_framed(&mut self.names, name.as_bytes())?;
@@ -180,20 +155,6 @@ pub(crate) fn text_of(path: &[u8]) -> Result<&str, Unwatched> {
     }
 }
 
-/// Whether what lies at that name in a folder has this number.
-fn is_at<R: Files + AllocGlobal>(
-    rt: &R,
-    folder: &str,
-    name: &str,
-    code: u64,
-) -> Result<bool, Unwatched> {
-    let path = format!(in rt.alloc(); "{folder}/{name}")?;
-    match found_at(rt, path.as_str()) {
-        Some(found) => Ok(found.code() == code),
-        None => Ok(false),
-    }
-}
-
 /// Whether the same as then is still at the name at the front of these bytes, and what comes after that name.
 fn name_holds<'a, R: Files + AllocGlobal>(
     rt: &R,
@@ -202,7 +163,13 @@ fn name_holds<'a, R: Files + AllocGlobal>(
 ) -> Result<(bool, &'a [u8]), Unwatched> {
     let (name, rest) = read_framed(names)?;
     let (code, rest) = read_number(rest)?;
-    Ok((is_at(rt, folder, text_of(name)?, code)?, rest))
+    let name = text_of(name)?;
+    let path = format!(in rt.alloc(); "{folder}/{name}")?;
+    let holds = match found_at(rt, path.as_str()) {
+        Some(found) => found.code() == code,
+        None => false,
+    };
+    Ok((holds, rest))
 }
 
 /// Whether under all names the same lies as then.
@@ -247,29 +214,24 @@ fn folder_holds<'a, R: Files + AllocGlobal>(
     Ok((holds, rest))
 }
 
-/// The names in a folder.
-fn names_at<R: Files + AllocGlobal>(rt: &R, path: &str) -> Result<BTreeSet<OsBytes>, Unwatched> {
+/// The digest of the names in a folder, as text.
+fn names_in<R: Files + AllocGlobal>(rt: &R, path: &str) -> Result<String, Unwatched> {
     let mut names = BTreeSet::new(rt.alloc());
     for entry in fs::read_dir(&rt, path)? {
         names.insert(OsBytes::from_slice(rt.alloc(), entry?.file_name().as_bytes())?)?;
     }
-    Ok(names)
-}
-
-/// The digest of these names, as text.
-fn digest_of_names(alloc: Global, names: &BTreeSet<OsBytes>) -> Result<String, Unwatched> {
-    let mut row = Vec::new(alloc);
+    let mut row = Vec::new(rt.alloc());
     for name in names.iter() {
         put_framed(&mut row, name.as_bytes())?;
     }
-    Ok(digest_of(alloc, row.as_slice())?)
+    Ok(digest_of(rt.alloc(), row.as_slice())?)
 }
 
 /// The digest of the contents of a file, as text, or that of the names in a folder.
 pub(crate) fn contents_at<R: Files + AllocGlobal>(rt: &R, path: &str) -> Result<String, Unwatched> {
     let found = fs::metadata(rt, path)?;
     if found.is_dir() {
-        return digest_of_names(rt.alloc(), &names_at(rt, path)?);
+        return names_in(rt, path);
     }
     let contents = read_of_size(rt, path, found.len())?;
     Ok(digest_of(rt.alloc(), contents.as_slice())?)

@@ -2,7 +2,7 @@
 
 use crate::search_list::SearchList;
 use crate::unwatched::Unwatched;
-use crate::watch_list::{FileRow, Folder, contents_at};
+use crate::watch_list::{Folder, contents_at};
 use base_files::{FileTime, join};
 use base_formats::{put_framed, put_number};
 use cache_dir::digest_of;
@@ -39,16 +39,6 @@ fn path_in(alloc: Global, dir: &[u8], folder: &[u8], name: &[u8]) -> Result<Stri
     let path = join(alloc, folder.as_bytes(), name)?;
     match String::from_utf8(path.into_vec()) {
         Ok(path) => Ok(path),
-        Err(_) => Err(Unwatched::Path),
-    }
-}
-
-/// The state of the folder of that path, where there is one.
-fn state_of_folder<R: Files + AllocGlobal>(rt: &R, path: &str) -> Result<Option<State>, Unwatched> {
-    match fs::metadata(rt, path) {
-        Ok(metadata) if metadata.is_dir() => Ok(Some(State::of(&metadata))),
-        Ok(_) => Ok(None),
-        Err(error) if is_nothing(&error) && found_at(rt, path) == Some(Found::Nothing) => Ok(None),
         Err(_) => Err(Unwatched::Path),
     }
 }
@@ -102,11 +92,20 @@ impl<'d, 'a> Watching<'d, 'a> {
         if let Some(known) = self.folders.get(path) {
             return Ok(known.is_some());
         }
-        let state = state_of_folder(rt, path)?;
-        let folder = state.map(|state| Folder::new(rt.alloc(), state));
+        let folder = match fs::metadata(rt, path) {
+            Ok(metadata) if metadata.is_dir() => Some(Folder {
+                state: State::of(&metadata),
+                names: Vec::new(rt.alloc()),
+                twin: String::new(rt.alloc()),
+            }),
+            Ok(_) => None,
+            Err(error) if is_nothing(&error) && found_at(rt, path) == Some(Found::Nothing) => None,
+            Err(_) => return Err(Unwatched::Path),
+        };
+        let there = folder.is_some();
         self.folders
             .insert(String::from_str(rt.alloc(), path)?, folder)?;
-        Ok(state.is_some())
+        Ok(there)
     }
 
     /// The nearest existing folder above a path, and what comes after it in the path.
@@ -146,20 +145,6 @@ impl<'d, 'a> Watching<'d, 'a> {
         Ok(found)
     }
 
-    /// The digest of a file of so many bytes, which may not be equal to one that is taken in once.
-    fn digest_at<R: Files + AllocGlobal>(
-        &self,
-        rt: &R,
-        path: &str,
-        size: u64,
-    ) -> Result<String, Unwatched> {
-        let contents = read_of_size(rt, path, size)?;
-        if (&self.once).contains(&contents.as_slice()) {
-            return Err(Unwatched::Equal);
-        }
-        Ok(digest_of(rt.alloc(), contents.as_slice())?)
-    }
-
     /// Takes a file that was found. One that the text doesn't name was only asked for, or in a line that isn't live; or it was skipped as
     /// the same as one that the text names, or equal to it. So where it's as long as one of these, it must be as it is from now on.
     fn take_found<R: Files + AllocGlobal>(&mut self, rt: &R, path: &str) -> Result<(), Unwatched> {
@@ -174,7 +159,11 @@ impl<'d, 'a> Watching<'d, 'a> {
         if !self.has_length(found.len()) {
             return Ok(());
         }
-        let digest = self.digest_at(rt, path, found.len())?;
+        let contents = read_of_size(rt, path, found.len())?;
+        if (&self.once).contains(&contents.as_slice()) {
+            return Err(Unwatched::Equal);
+        }
+        let digest = digest_of(rt.alloc(), contents.as_slice())?;
         self.files
             .insert(String::from_str(rt.alloc(), path)?, (state, digest))?;
         Ok(())
@@ -250,20 +239,6 @@ impl<'d, 'a> Watching<'d, 'a> {
         Ok(is_there)
     }
 
-    /// The path of a folder in which the compiler looks, or that it leaves out.
-    fn path_of(&self, alloc: Global, folder: &str) -> Result<String, Unwatched> {
-        let path = path_in(alloc, self.dir, folder.as_bytes(), b"")?;
-        Ok(String::from_str(alloc, path.trim_end_matches('/'))?)
-    }
-
-    /// Whether a folder of that path is watched that is the same as one in that state.
-    fn is_watched_in(&self, path: &str, state: State) -> bool {
-        match self.folders.get(path) {
-            Some(Some(found)) => found.state.is_same(state),
-            _ => false,
-        }
-    }
-
     /// The path of the folder among these that is the same as one in that state, if one of them is.
     fn same_in<R: Files + AllocGlobal>(
         &self,
@@ -272,9 +247,13 @@ impl<'d, 'a> Watching<'d, 'a> {
         state: State,
     ) -> Result<Option<String>, Unwatched> {
         for folder in folders {
-            let path = self.path_of(rt.alloc(), folder)?;
-            if self.is_watched_in(path.as_str(), state) {
-                return Ok(Some(path));
+            let path = path_in(rt.alloc(), self.dir, folder.as_bytes(), b"")?;
+            let path = path.trim_end_matches('/');
+            match self.folders.get(path) {
+                Some(Some(found)) if found.state.is_same(state) => {
+                    return Ok(Some(String::from_str(rt.alloc(), path)?));
+                }
+                _ => {}
             }
         }
         Ok(None)
@@ -296,13 +275,18 @@ impl<'d, 'a> Watching<'d, 'a> {
         }
     }
 
-    /// Has it watched that a folder that is there is the same as one in which the compiler looks.
-    fn take_twin<R: Files + AllocGlobal>(
+    /// Has a folder watched that the compiler leaves out: that there is none, or that it is the same as one in which the compiler looks.
+    fn take_left_out<R: Files + AllocGlobal>(
         &mut self,
         rt: &R,
         list: &SearchList<'_>,
-        path: &str,
+        folder: &str,
     ) -> Result<(), Unwatched> {
+        let path = path_in(rt.alloc(), self.dir, folder.as_bytes(), b"")?;
+        let path = path.trim_end_matches('/');
+        if !self.take_folder(rt, path)? {
+            return Ok(());
+        }
         let state = match self.folders.get(path) {
             Some(Some(found)) => found.state,
             _ => return Err(Unwatched::List),
@@ -317,20 +301,6 @@ impl<'d, 'a> Watching<'d, 'a> {
         Ok(())
     }
 
-    /// Has a folder watched that the compiler leaves out: that there is none, or that it is the same as one in which the compiler looks.
-    fn take_left_out<R: Files + AllocGlobal>(
-        &mut self,
-        rt: &R,
-        list: &SearchList<'_>,
-        folder: &str,
-    ) -> Result<(), Unwatched> {
-        let path = self.path_of(rt.alloc(), folder)?;
-        match self.take_folder(rt, path.as_str())? {
-            true => self.take_twin(rt, list, path.as_str()),
-            false => Ok(()),
-        }
-    }
-
     /// Has folders watched in which the compiler looks.
     fn take_searched<R: Files + AllocGlobal>(
         &mut self,
@@ -338,8 +308,8 @@ impl<'d, 'a> Watching<'d, 'a> {
         folders: &[&str],
     ) -> Result<(), Unwatched> {
         for folder in folders {
-            let path = self.path_of(rt.alloc(), folder)?;
-            if !self.take_folder(rt, path.as_str())? {
+            let path = path_in(rt.alloc(), self.dir, folder.as_bytes(), b"")?;
+            if !self.take_folder(rt, path.trim_end_matches('/'))? {
                 return Err(Unwatched::List);
             }
         }
@@ -360,18 +330,6 @@ impl<'d, 'a> Watching<'d, 'a> {
         self.take_installations(rt, list)
     }
 
-    /// Has a folder watched, which must have the same names in it.
-    fn take_as_is<R: Files + AllocGlobal>(
-        &mut self,
-        rt: &R,
-        folder: &str,
-    ) -> Result<(), Unwatched> {
-        let state = State::at(rt, folder)?;
-        let path = String::from_str(rt.alloc(), folder)?;
-        self.files.insert(path, (state, contents_at(rt, folder)?))?;
-        Ok(())
-    }
-
     /// Has the folders watched in which the compiler found a GCC: another one there may be taken in its place.
     fn take_installations<R: Files + AllocGlobal>(
         &mut self,
@@ -379,8 +337,12 @@ impl<'d, 'a> Watching<'d, 'a> {
         list: &SearchList<'_>,
     ) -> Result<(), Unwatched> {
         for installation in list.installations.as_slice() {
-            self.take_as_is(rt, above(installation))?;
-            self.take_as_is(rt, above(above(installation)))?;
+            for folder in [above(installation), above(above(installation))] {
+                let state = State::at(rt, folder)?;
+                let digest = contents_at(rt, folder)?;
+                self.files
+                    .insert(String::from_str(rt.alloc(), folder)?, (state, digest))?;
+            }
         }
         Ok(())
     }
@@ -412,19 +374,6 @@ impl<'d, 'a> Watching<'d, 'a> {
         Ok(())
     }
 
-    /// Has it watched that nothing of that name lies beside a source, nor in one of the folders in which the compiler looks.
-    fn is_nowhere<R: Files + AllocGlobal>(
-        &mut self,
-        rt: &R,
-        list: &SearchList<'_>,
-        beside: &[u8],
-        name: &[u8],
-    ) -> Result<(), Unwatched> {
-        self.is_in_none(rt, list.quoted.as_slice(), name)?;
-        self.is_in_none(rt, list.bracketed.as_slice(), name)?;
-        self.is_not_in(rt, beside, name)
-    }
-
     /// Has it watched that no precompiled header of that ending lies beside a name, in none of the folders in which it is looked for.
     pub fn look_for_precompiled<R: Files + AllocGlobal>(
         &mut self,
@@ -437,7 +386,10 @@ impl<'d, 'a> Watching<'d, 'a> {
         let mut precompiled = Vec::new(rt.alloc());
         precompiled.extend_from_slice(name)?;
         precompiled.extend_from_slice(ending)?;
-        self.is_nowhere(rt, list, beside, precompiled.as_slice())
+        let name = precompiled.as_slice();
+        self.is_in_none(rt, list.quoted.as_slice(), name)?;
+        self.is_in_none(rt, list.bracketed.as_slice(), name)?;
+        self.is_not_in(rt, beside, name)
     }
 
     /// The folders that are there, by their paths.
@@ -461,31 +413,17 @@ impl<'d, 'a> Watching<'d, 'a> {
         Ok(())
     }
 
-    /// Adds the number of the files, then these in the order of their paths.
-    fn put_files(&self, out: &mut Vec<u8>) -> Result<(), Unwatched> {
-        put_number(out, self.files.len() as u64)?;
-        for (path, (state, digest)) in self.files.iter() {
-            let row = FileRow {
-                path: path.as_bytes(),
-                state: *state,
-                digest: digest.as_bytes(),
-            };
-            row.put(out)?;
-        }
-        Ok(())
-    }
-
-    /// Adds the list of what is watched.
-    fn put_list(&self, alloc: Global, out: &mut Vec<u8>) -> Result<(), Unwatched> {
-        put_framed(out, self.dir)?;
-        self.put_folders(alloc, out)?;
-        self.put_files(out)
-    }
-
     /// The list of what is watched.
-    pub fn list(&self, alloc: Global) -> Result<Vec<u8>, Unwatched> {
-        let mut list = Vec::new(alloc);
-        self.put_list(alloc, &mut list)?;
-        Ok(list)
+    pub fn into_list(self, alloc: Global) -> Result<Vec<u8>, Unwatched> {
+        let mut out = Vec::new(alloc);
+        put_framed(&mut out, self.dir)?;
+        self.put_folders(alloc, &mut out)?;
+        put_number(&mut out, self.files.len() as u64)?;
+        for (path, file) in self.files.iter() {
+            put_framed(&mut out, path.as_bytes())?;
+            file.0.put(&mut out)?;
+            put_framed(&mut out, file.1.as_bytes())?;
+        }
+        Ok(out)
     }
 }

@@ -73,37 +73,25 @@ fn sorted(alloc: Global, found: BTreeMap<String, (u64, u64)>) -> Result<Vec<Chan
     Ok(changes)
 }
 
-/// Adds a call that came from one kind to another.
-fn add_change(
-    alloc: Global,
-    build: &Build,
-    from: Kind,
-    call: &Call,
-    found: &mut BTreeMap<String, (u64, u64)>,
-) -> Result<(), AllocError> {
-    let description = description_of(alloc, build, from, call)?;
-    let sums = found.entry(description)?.or_insert((0, 0));
-    sums.0 = sums.0.saturating_add(1);
-    sums.1 = sums.1.saturating_add(call.time());
-    Ok(())
-}
-
 /// What came to another thing in the second build than in the first.
 pub fn changes_between(alloc: Global, one: &Build, other: &Build) -> Result<Changes, AllocError> {
     let earlier = calls_by_output(alloc, one)?;
-    let later = calls_by_output(alloc, other)?;
-    let mut found = BTreeMap::new(alloc);
+    let mut found: BTreeMap<String, (u64, u64)> = BTreeMap::new(alloc);
     let mut common = 0u64;
     let mut changed = 0u64;
-    for (key, call) in later.iter() {
-        let Some(before) = earlier.get(key) else {
+    for (key, call) in calls_by_output(alloc, other)? {
+        let Some(before) = earlier.get(&key) else {
             continue;
         };
         common = common.saturating_add(1);
-        if before.kind != call.kind {
-            changed = changed.saturating_add(1);
-            add_change(alloc, other, before.kind, call, &mut found)?;
+        if before.kind == call.kind {
+            continue;
         }
+        changed = changed.saturating_add(1);
+        let description = description_of(alloc, other, before.kind, call)?;
+        let sums = found.entry(description)?.or_insert((0, 0));
+        sums.0 = sums.0.saturating_add(1);
+        sums.1 = sums.1.saturating_add(call.time());
     }
     Ok(Changes {
         common,

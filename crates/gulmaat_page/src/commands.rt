@@ -23,20 +23,14 @@ fn push_word(text: &mut String, word: &str) -> Result<(), AllocError> {
     text.push('\'')
 }
 
-/// Writes the command of a call.
-fn push_command(text: &mut String, texts: &Texts, call: &Call) -> Result<(), AllocError> {
-    push_word(text, texts.text(call.compiler))?;
-    for word in call.words.as_slice() {
-        text.push(' ')?;
-        push_word(text, texts.text(*word))?;
-    }
-    Ok(())
-}
-
 /// The command of a call.
 pub fn command_of(alloc: Global, texts: &Texts, call: &Call) -> Result<String, AllocError> {
     let mut text = String::new(alloc);
-    push_command(&mut text, texts, call)?;
+    push_word(&mut text, texts.text(call.compiler))?;
+    for word in call.words.as_slice() {
+        text.push(' ')?;
+        push_word(&mut text, texts.text(*word))?;
+    }
     Ok(text)
 }
 

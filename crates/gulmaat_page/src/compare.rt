@@ -1,6 +1,6 @@
 //! Two builds side by side, in twenty lines.
 
-use crate::changes::{Change, Changes, changes_between};
+use crate::changes::changes_between;
 use crate::reading::Build;
 use crate::times::Time;
 use cache_build_log::Kind;
@@ -46,13 +46,8 @@ fn push_sums(
 ) -> Result<(), AllocError> {
     let (sums, others) = (&one.sums, &other.sums);
     push_counts(text, "Calls", sums.calls, others.calls)?;
-    for (name, kind) in KINDS.iter() {
-        push_counts(
-            text,
-            name,
-            sums.share(*kind).count,
-            others.share(*kind).count,
-        )?;
+    for (name, kind) in KINDS {
+        push_counts(text, name, sums.share(kind).count, others.share(kind).count)?;
     }
     push_times(
         text,
@@ -72,35 +67,29 @@ fn push_sums(
     push_times(text, alloc, "Time saved", sums.saved, others.saved)
 }
 
-/// Writes a change.
-fn push_change(text: &mut String, change: &Change) -> Result<(), AllocError> {
-    let (count, time, description) = (change.count, Time(change.time), change.description.as_str());
-    write!(text, "  {count} in {time}: {description}\n")
-}
-
-/// Writes what came to another thing.
-fn push_changes(text: &mut String, changes: &Changes) -> Result<(), AllocError> {
+/// Two builds side by side: their sums, and what came to another thing.
+pub fn compare(alloc: Global, one: &Build, other: &Build) -> Result<String, AllocError> {
+    let mut text = String::new(alloc);
+    let (first, second) = ("first", "second");
+    write!(text, "{first:>36}{second:>14}\n")?;
+    push_sums(&mut text, alloc, one, other)?;
+    let changes = changes_between(alloc, one, other)?;
     let (changed, common) = (changes.changed, changes.common);
     write!(
         text,
         "Of {common} calls of both, {changed} came to another thing:\n"
     )?;
     for change in changes.changes.iter().take(SHOWN) {
-        push_change(text, change)?;
+        let (count, time, description) = (
+            change.count,
+            Time(change.time),
+            change.description.as_str(),
+        );
+        write!(text, "  {count} in {time}: {description}\n")?;
     }
-    match changes.changes.len().saturating_sub(SHOWN) {
-        0 => Ok(()),
-        more => write!(text, "  and {more} more, of less time each\n"),
+    let more = changes.changes.len().saturating_sub(SHOWN);
+    if more > 0 {
+        write!(text, "  and {more} more, of less time each\n")?;
     }
-}
-
-/// Two builds side by side: their sums, and what came to another thing.
-pub fn compare(alloc: Global, one: &Build, other: &Build) -> Result<String, AllocError> {
-    let changes = changes_between(alloc, one, other)?;
-    let mut text = String::new(alloc);
-    let (first, second) = ("first", "second");
-    write!(text, "{first:>36}{second:>14}\n")?;
-    push_sums(&mut text, alloc, one, other)?;
-    push_changes(&mut text, &changes)?;
     Ok(text)
 }

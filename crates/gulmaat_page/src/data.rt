@@ -16,21 +16,6 @@ fn push_texts(json: &mut String, name: &str, texts: &[&str]) -> Result<(), Alloc
     json.push_str("],\n")
 }
 
-/// Writes the names of all kinds, for people and in the style.
-fn push_kinds(json: &mut String, alloc: Global) -> Result<(), AllocError> {
-    let names: Vec<&str> = Kind::ALL.iter().map(|kind| kind.name()).collect(alloc)?;
-    push_texts(json, "kinds", names.as_slice())?;
-    let classes: Vec<&str> = Kind::ALL.iter().map(|kind| kind.class()).collect(alloc)?;
-    push_texts(json, "classes", classes.as_slice())
-}
-
-/// Writes all texts, in order of their numbers.
-fn push_all_texts(json: &mut String, alloc: Global, build: &Build) -> Result<(), AllocError> {
-    let texts = build.texts.all().iter().map(|text| text.as_str());
-    let texts: Vec<&str> = texts.collect(alloc)?;
-    push_texts(json, "texts", texts.as_slice())
-}
-
 /// Writes a call as a list of numbers, of which the last ones are its words.
 fn push_call(json: &mut String, build: &Build, call: &Call) -> Result<(), AllocError> {
     let start = call.start.saturating_sub(build.sums.begin);
@@ -70,8 +55,17 @@ pub fn push_data(html: &mut String, alloc: Global, build: &Build) -> Result<(), 
     let (wall, lanes) = (build.sums.wall_time(), build.lanes);
     html.push_str("<script type=\"application/json\" id=\"build\">")?;
     write!(html, "{{\"wall\":{wall},\"lanes\":{lanes},\n")?;
-    push_kinds(html, alloc)?;
-    push_all_texts(html, alloc, build)?;
+    let names: Vec<&str> = Kind::ALL.iter().map(|kind| kind.name()).collect(alloc)?;
+    let classes: Vec<&str> = Kind::ALL.iter().map(|kind| kind.class()).collect(alloc)?;
+    let texts: Vec<&str> = build
+        .texts
+        .all()
+        .iter()
+        .map(|text| text.as_str())
+        .collect(alloc)?;
+    push_texts(html, "kinds", names.as_slice())?;
+    push_texts(html, "classes", classes.as_slice())?;
+    push_texts(html, "texts", texts.as_slice())?;
     push_calls(html, build)?;
     html.push_str("</script>\n")
 }

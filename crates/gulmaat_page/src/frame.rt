@@ -11,22 +11,6 @@ fn source_of(alloc: Global, text: &str) -> Result<String, AllocError> {
     format!(in alloc; "'sha256-{digits}'")
 }
 
-/// Writes what the page may load: this script and this style.
-fn push_policy(
-    html: &mut String,
-    alloc: Global,
-    script: &str,
-    style: &str,
-) -> Result<(), AllocError> {
-    let script_source = source_of(alloc, script)?;
-    let style_source = source_of(alloc, style)?;
-    write!(
-        html,
-        "<meta http-equiv=\"Content-Security-Policy\" content=\"default-src 'none'; script-src {script_source}; \
-         style-src {style_source}; base-uri 'none'; form-action 'none'\">\n"
-    )
-}
-
 /// The beginning of a page, up to its contents.
 pub fn push_head(
     html: &mut String,
@@ -34,8 +18,14 @@ pub fn push_head(
     script: &str,
     style: &str,
 ) -> Result<(), AllocError> {
+    let script_source = source_of(alloc, script)?;
+    let style_source = source_of(alloc, style)?;
     html.push_str("<!DOCTYPE html>\n<html lang=\"en\">\n<head>\n<meta charset=\"utf-8\">\n")?;
-    push_policy(html, alloc, script, style)?;
+    write!(
+        html,
+        "<meta http-equiv=\"Content-Security-Policy\" content=\"default-src 'none'; script-src {script_source}; \
+         style-src {style_source}; base-uri 'none'; form-action 'none'\">\n"
+    )?;
     html.push_str("<meta name=\"viewport\" content=\"width=device-width, initial-scale=1\">\n")?;
     html.push_str("<meta name=\"color-scheme\" content=\"light dark\">\n")?;
     html.push_str("<title>Gulmaat: a build</title>\n<style>")?;

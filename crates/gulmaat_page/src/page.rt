@@ -47,24 +47,19 @@ fn push_notes(html: &mut String, build: &Build) -> Result<(), AllocError> {
     Ok(())
 }
 
-/// Writes the contents of a page.
-fn push_contents(html: &mut String, alloc: Global, build: &Build) -> Result<(), AllocError> {
-    push_title(html, build)?;
-    push_summary(html, alloc, build)?;
-    push_notes(html, build)?;
-    push_picture(html, build)?;
-    push_misses(html, alloc, build)?;
-    push_passed(html, alloc, build)?;
-    push_calls(html, alloc, build)?;
-    html.push_str("</main>\n")?;
-    push_data(html, alloc, build)
-}
-
 /// The page of a build, with this script and style.
 pub fn page(alloc: Global, build: &Build, script: &str, style: &str) -> Result<String, AllocError> {
     let mut html = String::new(alloc);
     push_head(&mut html, alloc, script, style)?;
-    push_contents(&mut html, alloc, build)?;
+    push_title(&mut html, build)?;
+    push_summary(&mut html, alloc, build)?;
+    push_notes(&mut html, build)?;
+    push_picture(&mut html, build)?;
+    push_misses(&mut html, alloc, build)?;
+    push_passed(&mut html, alloc, build)?;
+    push_calls(&mut html, alloc, build)?;
+    html.push_str("</main>\n")?;
+    push_data(&mut html, alloc, build)?;
     push_end(&mut html, script)?;
     Ok(html)
 }

@@ -77,22 +77,17 @@ fn push_pattern(html: &mut String, kind: Kind) -> Result<(), AllocError> {
     )
 }
 
-/// Writes what colour and hatch a kind has.
-fn push_meaning(html: &mut String, kind: Kind) -> Result<(), AllocError> {
-    let (class, name) = (kind.class(), kind.name());
-    write!(
-        html,
-        "<li><svg width=\"28\" height=\"12\" aria-hidden=\"true\"><rect width=\"28\" height=\"12\" \
-         fill=\"url(#hatch-{class})\"/></svg> {name}</li>\n"
-    )
-}
-
 /// Writes what colours and hatches mean.
 fn push_legend(html: &mut String, build: &Build) -> Result<(), AllocError> {
     html.push_str("<ul class=\"legend\">\n")?;
-    for kind in Kind::ALL.iter() {
-        if build.sums.share(*kind).count > 0 {
-            push_meaning(html, *kind)?;
+    for kind in Kind::ALL {
+        let (class, name) = (kind.class(), kind.name());
+        if build.sums.share(kind).count > 0 {
+            write!(
+                html,
+                "<li><svg width=\"28\" height=\"12\" aria-hidden=\"true\"><rect width=\"28\" height=\"12\" \
+                 fill=\"url(#hatch-{class})\"/></svg> {name}</li>\n"
+            )?;
         }
     }
     html.push_str("</ul>\n")
@@ -108,31 +103,26 @@ fn push_axis(html: &mut String, build: &Build) -> Result<(), AllocError> {
     html.push_str("</div>\n")
 }
 
-/// Writes the beginning of the picture: its size, and what is said of it.
-fn push_frame(html: &mut String, build: &Build) -> Result<(), AllocError> {
+/// Writes the picture of a build.
+pub fn push_picture(html: &mut String, build: &Build) -> Result<(), AllocError> {
     let (jobs, calls) = (build.lanes, build.sums.calls);
     let height = u64::from(jobs.max(1)).saturating_mul(LANE);
     let wall = Time(build.sums.wall_time());
-    write!(
-        html,
-        "<div class=\"picture\"><svg id=\"picture\" viewBox=\"0 0 1000 {height}\" width=\"100%\" height=\"{height}\" \
-         preserveAspectRatio=\"none\" role=\"img\" aria-label=\"{calls} calls over {wall}, in {jobs} lanes\">\n<defs>\n"
-    )
-}
-
-/// Writes the picture of a build.
-pub fn push_picture(html: &mut String, build: &Build) -> Result<(), AllocError> {
     html.push_str(
         "<section aria-labelledby=\"over-time\">\n<h2 id=\"over-time\">Over time</h2>\n",
     )?;
     push_legend(html, build)?;
-    push_frame(html, build)?;
-    for kind in Kind::ALL.iter() {
-        push_pattern(html, *kind)?;
+    write!(
+        html,
+        "<div class=\"picture\"><svg id=\"picture\" viewBox=\"0 0 1000 {height}\" width=\"100%\" height=\"{height}\" \
+         preserveAspectRatio=\"none\" role=\"img\" aria-label=\"{calls} calls over {wall}, in {jobs} lanes\">\n<defs>\n"
+    )?;
+    for kind in Kind::ALL {
+        push_pattern(html, kind)?;
     }
     html.push_str("</defs>\n")?;
-    for kind in Kind::ALL.iter() {
-        push_bars(html, build, *kind)?;
+    for kind in Kind::ALL {
+        push_bars(html, build, kind)?;
     }
     html.push_str(
         "<rect id=\"cursor\" x=\"-9\" width=\"0\" height=\"14\" fill=\"none\"/>\n</svg></div>\n",

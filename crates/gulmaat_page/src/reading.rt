@@ -2,7 +2,7 @@
 
 use crate::asked::AskedLog;
 use crate::error::PageError;
-use cache_build_log::{Call, Log, Sums, Texts, beginnings, chosen, other_commands, pack, read_log};
+use cache_build_log::{Call, Sums, Texts, beginnings, chosen, other_commands, pack, read_log};
 use std::alloc::{AllocError, Global};
 use std::fs;
 use std::rt::Files;
@@ -56,49 +56,32 @@ fn add_others(
     Ok(true)
 }
 
-/// The log in a file.
-fn log_at<R: Files + AllocGlobal>(rt: &R, path: &str) -> Result<Log, PageError> {
-    let bytes = read_bytes(rt, path)?;
-    Ok(read_log(rt.alloc(), bytes.as_slice())?)
-}
-
-/// The last build of a log, or all of them, without lanes and sums.
-fn build_of(alloc: Global, log: Log, has_all: bool) -> Result<Build, AllocError> {
-    let builds = beginnings(alloc, log.calls.as_slice())?.len();
-    Ok(Build {
-        calls: chosen(alloc, log.calls, has_all)?,
-        texts: log.texts,
-        lanes: 0,
-        sums: Sums::of(&[]),
-        builds,
-        broken: log.broken,
-        is_ninja_apart: false,
-    })
-}
-
-/// Adds the other commands of a build by the file of ninja's log.
-fn add_ninja<R: Files + AllocGlobal>(
-    rt: &R,
-    path: &str,
-    build: &mut Build,
-) -> Result<(), PageError> {
-    let log = read_text(rt, path)?;
-    let is_known = add_others(rt.alloc(), &mut build.texts, &mut build.calls, log.as_str())?;
-    build.is_ninja_apart = !is_known;
-    Ok(())
-}
-
 /// The build of a log that is asked for.
 pub fn read_build<R: Files + AllocGlobal>(
     rt: &R,
     asked: &AskedLog<'_>,
 ) -> Result<Build, PageError> {
-    let log = log_at(rt, asked.path)?;
-    let mut build = build_of(rt.alloc(), log, asked.has_all)?;
+    let alloc = rt.alloc();
+    let bytes = read_bytes(rt, asked.path)?;
+    let log = read_log(alloc, bytes.as_slice())?;
+    drop(bytes);
+    let builds = beginnings(alloc, log.calls.as_slice())?.len();
+    let mut texts = log.texts;
+    let mut calls = chosen(alloc, log.calls, asked.has_all)?;
+    let mut is_ninja_apart = false;
     if !asked.ninja.is_empty() {
-        add_ninja(rt, asked.ninja, &mut build)?;
+        let ninja = read_text(rt, asked.ninja)?;
+        is_ninja_apart = !add_others(alloc, &mut texts, &mut calls, ninja.as_str())?;
     }
-    build.lanes = pack(rt.alloc(), build.calls.as_mut_slice())?;
-    build.sums = Sums::of(build.calls.as_slice());
-    Ok(build)
+    let lanes = pack(alloc, calls.as_mut_slice())?;
+    let sums = Sums::of(calls.as_slice());
+    Ok(Build {
+        texts,
+        calls,
+        lanes,
+        sums,
+        builds,
+        broken: log.broken,
+        is_ninja_apart,
+    })
 }

@@ -4,7 +4,7 @@ use crate::commands::{command_of, explanation_of, name_of};
 use crate::escaped::{push_cell, push_element, push_short};
 use crate::reading::Build;
 use crate::times::Time;
-use cache_build_log::{Call, Texts};
+use cache_build_log::Call;
 use std::alloc::{AllocError, Global};
 
 /// Writes a term and what is said of it, unless that is empty.
@@ -16,30 +16,6 @@ fn push_term(html: &mut String, name: &str, text: &str) -> Result<(), AllocError
     push_element(html, "dd", text)
 }
 
-/// Writes the texts that are known of a call.
-fn push_terms(
-    html: &mut String,
-    texts: &Texts,
-    call: &Call,
-    command: &str,
-) -> Result<(), AllocError> {
-    push_term(html, "command", command)?;
-    push_term(html, "folder", texts.text(call.dir))?;
-    push_term(html, "output", texts.text(call.output))?;
-    push_term(html, "reason", texts.text(call.reason))?;
-    push_term(html, "differed", texts.text(call.why))
-}
-
-/// Writes what ran in a call and its status, and the end of what is known of it.
-fn push_numbers(html: &mut String, call: &Call) -> Result<(), AllocError> {
-    let (status, process) = (call.status, call.process);
-    let (compiler, text) = (Time(call.time_of(true)), Time(call.time_of(false)));
-    write!(
-        html,
-        "<dt>ran</dt><dd>compiler {compiler}, preprocessor {text}</dd><dt>status</dt><dd>{status}, process {process}</dd></dl></details>"
-    )
-}
-
 /// Writes the call itself: its name, and after it what is known of it.
 fn push_call(
     html: &mut String,
@@ -47,12 +23,22 @@ fn push_call(
     build: &Build,
     call: &Call,
 ) -> Result<(), AllocError> {
+    let texts = &build.texts;
+    let command = command_of(alloc, texts, call)?;
+    let (status, process) = (call.status, call.process);
     html.push_str("<details><summary>")?;
-    push_short(html, name_of(&build.texts, call))?;
+    push_short(html, name_of(texts, call))?;
     html.push_str("</summary><dl>")?;
-    let command = command_of(alloc, &build.texts, call)?;
-    push_terms(html, &build.texts, call, command.as_str())?;
-    push_numbers(html, call)
+    push_term(html, "command", command.as_str())?;
+    push_term(html, "folder", texts.text(call.dir))?;
+    push_term(html, "output", texts.text(call.output))?;
+    push_term(html, "reason", texts.text(call.reason))?;
+    push_term(html, "differed", texts.text(call.why))?;
+    let (compiler, text) = (Time(call.time_of(true)), Time(call.time_of(false)));
+    write!(
+        html,
+        "<dt>ran</dt><dd>compiler {compiler}, preprocessor {text}</dd><dt>status</dt><dd>{status}, process {process}</dd></dl></details>"
+    )
 }
 
 /// Writes the row of a call.

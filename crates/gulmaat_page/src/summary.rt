@@ -4,7 +4,7 @@ use crate::commands::name_of;
 use crate::escaped::push_short;
 use crate::reading::Build;
 use crate::times::{Percent, Time};
-use cache_build_log::{Kind, Sums};
+use cache_build_log::Kind;
 use std::alloc::{AllocError, Global};
 
 /// Writes a fact: its name, its value, and what is to be said of it.
@@ -74,41 +74,38 @@ fn push_longest(html: &mut String, alloc: Global, build: &Build) -> Result<(), A
     push_time(html, alloc, "Longest miss", call.time(), name)
 }
 
-/// Writes how many calls there are.
-fn push_all(html: &mut String, alloc: Global, calls: u64) -> Result<(), AllocError> {
+/// Writes the sums of a build.
+pub fn push_summary(html: &mut String, alloc: Global, build: &Build) -> Result<(), AllocError> {
+    let sums = &build.sums;
+    let calls = sums.calls;
+    html.push_str(
+        "<section aria-labelledby=\"sums\">\n<h2 id=\"sums\">Summary</h2>\n<dl class=\"facts\">\n",
+    )?;
     let value = format!(in alloc; "<b data-count=\"{calls}\">{calls}</b>")?;
-    push_fact(html, "Calls", value.as_str(), "")
-}
-
-/// Writes how many calls there are of each kind.
-fn push_counts(html: &mut String, alloc: Global, build: &Build) -> Result<(), AllocError> {
+    push_fact(html, "Calls", value.as_str(), "")?;
     push_count(html, alloc, build, "Direct hits", Kind::Direct)?;
     push_count(html, alloc, build, "Hits by text", Kind::ByText)?;
     push_count(html, alloc, build, "Misses", Kind::Miss)?;
     push_count(html, alloc, build, "Uncacheable", Kind::Uncacheable)?;
     push_count(html, alloc, build, "Failures of gulmaat", Kind::Failure)?;
-    match build.sums.share(Kind::Other).count {
-        0 => Ok(()),
-        _ => push_count(html, alloc, build, "Other commands", Kind::Other),
+    if sums.share(Kind::Other).count > 0 {
+        push_count(html, alloc, build, "Other commands", Kind::Other)?;
     }
-}
-
-/// Writes how long the build took, and what ran in it.
-fn push_times(html: &mut String, alloc: Global, sums: &Sums) -> Result<(), AllocError> {
-    let more = "in all, of all jobs";
     push_time(html, alloc, "Wall time", sums.wall_time(), "")?;
-    push_time(html, alloc, "Compilers", sums.compilers, more)?;
-    push_time(html, alloc, "Preprocessors", sums.preprocessors, more)
-}
-
-/// Writes the sums of a build.
-pub fn push_summary(html: &mut String, alloc: Global, build: &Build) -> Result<(), AllocError> {
-    html.push_str(
-        "<section aria-labelledby=\"sums\">\n<h2 id=\"sums\">Summary</h2>\n<dl class=\"facts\">\n",
+    push_time(
+        html,
+        alloc,
+        "Compilers",
+        sums.compilers,
+        "in all, of all jobs",
     )?;
-    push_all(html, alloc, build.sums.calls)?;
-    push_counts(html, alloc, build)?;
-    push_times(html, alloc, &build.sums)?;
+    push_time(
+        html,
+        alloc,
+        "Preprocessors",
+        sums.preprocessors,
+        "in all, of all jobs",
+    )?;
     push_saved(html, alloc, build)?;
     push_longest(html, alloc, build)?;
     html.push_str("</dl>\n</section>\n")

@@ -50,35 +50,26 @@ fn push_table_end(html: &mut String, all: usize) -> Result<(), AllocError> {
     html.push_str("</section>\n")
 }
 
-/// Writes the row of what made misses.
-fn push_cause(html: &mut String, build: &Build, group: &Group) -> Result<(), AllocError> {
-    push_group(html, group)?;
-    if let Some(call) = build.calls.get(group.longest) {
-        push_cell(html, name_of(&build.texts, call))?;
-    }
-    html.push_str("</tr>\n")
-}
-
-/// Writes the table of what made misses.
-fn push_causes(html: &mut String, build: &Build, groups: &[Group]) -> Result<(), AllocError> {
-    let heads = ["Misses", "Time", "Cause", "Longest call"];
-    push_table(html, "misses", "Misses by cause", heads.as_slice())?;
-    for group in groups.iter().take(GROUPS) {
-        push_cause(html, build, group)?;
-    }
-    push_table_end(html, groups.len())
-}
-
 /// Writes the misses by what made them.
 pub fn push_misses(html: &mut String, alloc: Global, build: &Build) -> Result<(), AllocError> {
     html.push_str(
         "<section aria-labelledby=\"misses\">\n<h2 id=\"misses\">What made misses</h2>\n",
     )?;
-    let groups = groups_of(alloc, &build.texts, build.calls.as_slice(), &[Kind::Miss])?;
-    match groups.is_empty() {
-        true => html.push_str("<p>No call was a miss.</p>\n</section>\n"),
-        false => push_causes(html, build, groups.as_slice()),
+    let calls = build.calls.as_slice();
+    let groups = groups_of(alloc, &build.texts, calls, &[Kind::Miss])?;
+    if groups.is_empty() {
+        return html.push_str("<p>No call was a miss.</p>\n</section>\n");
     }
+    let heads = ["Misses", "Time", "Cause", "Longest call"];
+    push_table(html, "misses", "Misses by cause", heads.as_slice())?;
+    for group in groups.iter().take(GROUPS) {
+        push_group(html, group)?;
+        if let Some(call) = calls.get(group.longest) {
+            push_cell(html, name_of(&build.texts, call))?;
+        }
+        html.push_str("</tr>\n")?;
+    }
+    push_table_end(html, groups.len())
 }
 
 /// Writes an example of a group: the name of a call, and its command.
@@ -91,45 +82,12 @@ fn push_example(
     let Some(call) = build.calls.get(place) else {
         return html.push_str("<td></td>");
     };
+    let command = command_of(alloc, &build.texts, call)?;
     html.push_str("<td><details><summary>")?;
     push_short(html, name_of(&build.texts, call))?;
     html.push_str("</summary><code>")?;
-    let command = command_of(alloc, &build.texts, call)?;
     push_escaped(html, command.as_str())?;
     html.push_str("</code></details></td>")
-}
-
-/// Writes the row of a reason why calls weren't kept.
-fn push_reason(
-    html: &mut String,
-    alloc: Global,
-    build: &Build,
-    group: &Group,
-) -> Result<(), AllocError> {
-    push_group(html, group)?;
-    push_cell(html, advice_for(group.name.as_str()))?;
-    push_example(html, alloc, build, group.longest)?;
-    html.push_str("</tr>\n")
-}
-
-/// Writes the table of reasons why calls weren't kept.
-fn push_reasons(
-    html: &mut String,
-    alloc: Global,
-    build: &Build,
-    groups: &[Group],
-) -> Result<(), AllocError> {
-    let heads = ["Calls", "Time", "Reason", "What to do", "Longest call"];
-    push_table(
-        html,
-        "passed",
-        "Calls that weren't kept, by reason",
-        heads.as_slice(),
-    )?;
-    for group in groups.iter().take(GROUPS) {
-        push_reason(html, alloc, build, group)?;
-    }
-    push_table_end(html, groups.len())
 }
 
 /// Writes the calls that weren't kept by what they came to, with a way round where there is one.
@@ -144,10 +102,23 @@ pub fn push_passed(html: &mut String, alloc: Global, build: &Build) -> Result<()
         build.calls.as_slice(),
         kinds.as_slice(),
     )?;
-    match groups.is_empty() {
-        true => html.push_str("<p>Each call was cacheable.</p>\n</section>\n"),
-        false => push_reasons(html, alloc, build, groups.as_slice()),
+    if groups.is_empty() {
+        return html.push_str("<p>Each call was cacheable.</p>\n</section>\n");
     }
+    let heads = ["Calls", "Time", "Reason", "What to do", "Longest call"];
+    push_table(
+        html,
+        "passed",
+        "Calls that weren't kept, by reason",
+        heads.as_slice(),
+    )?;
+    for group in groups.iter().take(GROUPS) {
+        push_group(html, group)?;
+        push_cell(html, advice_for(group.name.as_str()))?;
+        push_example(html, alloc, build, group.longest)?;
+        html.push_str("</tr>\n")?;
+    }
+    push_table_end(html, groups.len())
 }
 
 /// The places of the calls that took longest, in falling order of their time.

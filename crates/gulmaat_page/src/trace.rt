@@ -2,7 +2,7 @@
 
 use crate::commands::{command_of, name_of};
 use crate::reading::Build;
-use cache_build_log::{Call, Ran, Texts, push_name, push_text};
+use cache_build_log::{Call, Ran, push_name, push_text};
 use std::alloc::{AllocError, Global};
 
 /// Writes a member of a text, unless that is empty.
@@ -43,24 +43,6 @@ fn push_ran(json: &mut String, build: &Build, call: &Call, ran: &Ran) -> Result<
     json.push('}')
 }
 
-/// Writes the end of a call's event: what is known of the call.
-fn push_members(
-    json: &mut String,
-    texts: &Texts,
-    call: &Call,
-    command: &str,
-) -> Result<(), AllocError> {
-    let status = call.status;
-    write!(json, ",\"args\":{{\"status\":{status}")?;
-    push_member(json, "came to", texts.text(call.what))?;
-    push_member(json, "command", command)?;
-    push_member(json, "folder", texts.text(call.dir))?;
-    push_member(json, "output", texts.text(call.output))?;
-    push_member(json, "reason", texts.text(call.reason))?;
-    push_member(json, "differed", texts.text(call.why))?;
-    json.push_str("}}")
-}
-
 /// Writes a call with what ran in it.
 fn push_call(
     json: &mut String,
@@ -68,29 +50,30 @@ fn push_call(
     build: &Build,
     call: &Call,
 ) -> Result<(), AllocError> {
+    let texts = &build.texts;
+    let command = command_of(alloc, texts, call)?;
     let since = call.start.saturating_sub(build.sums.begin);
-    let name = name_of(&build.texts, call);
+    let name = name_of(texts, call);
     push_event(json, name, call.kind.name(), since, call.time(), call.lane)?;
-    let command = command_of(alloc, &build.texts, call)?;
-    push_members(json, &build.texts, call, command.as_str())?;
+    let status = call.status;
+    write!(json, ",\"args\":{{\"status\":{status}")?;
+    push_member(json, "came to", texts.text(call.what))?;
+    push_member(json, "command", command.as_str())?;
+    push_member(json, "folder", texts.text(call.dir))?;
+    push_member(json, "output", texts.text(call.output))?;
+    push_member(json, "reason", texts.text(call.reason))?;
+    push_member(json, "differed", texts.text(call.why))?;
+    json.push_str("}}")?;
     for ran in call.ran.as_slice() {
         push_ran(json, build, call, ran)?;
     }
     Ok(())
 }
 
-/// Writes the name of a lane.
-fn push_lane(json: &mut String, lane: u32) -> Result<(), AllocError> {
-    let job = lane.saturating_add(1);
-    write!(
-        json,
-        ",\n{{\"ph\":\"M\",\"pid\":1,\"tid\":{lane},\"name\":\"thread_name\",\"args\":{{\"name\":\"job {job}\"}}}}"
-    )
-}
-
-/// Writes the trace of a build.
-fn push_trace(json: &mut String, alloc: Global, build: &Build) -> Result<(), AllocError> {
+/// The trace of a build.
+pub fn trace(alloc: Global, build: &Build) -> Result<String, AllocError> {
     let broken = build.broken;
+    let mut json = String::new(alloc);
     write!(
         json,
         "{{\"displayTimeUnit\":\"ms\",\"otherData\":{{\"broken lines\":{broken}}},\"traceEvents\":[\n"
@@ -99,17 +82,15 @@ fn push_trace(json: &mut String, alloc: Global, build: &Build) -> Result<(), All
         "{\"ph\":\"M\",\"pid\":1,\"name\":\"process_name\",\"args\":{\"name\":\"build\"}}",
     )?;
     for lane in 0..build.lanes {
-        push_lane(json, lane)?;
+        let job = lane.saturating_add(1);
+        write!(
+            json,
+            ",\n{{\"ph\":\"M\",\"pid\":1,\"tid\":{lane},\"name\":\"thread_name\",\"args\":{{\"name\":\"job {job}\"}}}}"
+        )?;
     }
     for call in build.calls.as_slice() {
-        push_call(json, alloc, build, call)?;
+        push_call(&mut json, alloc, build, call)?;
     }
-    json.push_str("\n]}\n")
-}
-
-/// The trace of a build.
-pub fn trace(alloc: Global, build: &Build) -> Result<String, AllocError> {
-    let mut json = String::new(alloc);
-    push_trace(&mut json, alloc, build)?;
+    json.push_str("\n]}\n")?;
     Ok(json)
 }

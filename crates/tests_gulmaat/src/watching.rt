@@ -35,7 +35,7 @@ fn list_in<R: Files + AllocGlobal>(
     let taken = watching.take_named(alloc, named, contents.as_bytes(), false);
     let folders = watching.take_folders(rt, &list);
     let searched = watching.search(rt, &list, b"", Asked { name, search });
-    let list = watching.list(alloc);
+    let list = watching.into_list(alloc);
     match (taken, folders, searched, list) {
         (Ok(()), Ok(()), Ok(()), Ok(list)) => Ok(list),
         (_, _, _, _) => Err("nothing can be watched".into()),
