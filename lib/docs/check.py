@@ -7,6 +7,7 @@ import glob
 import os
 import re
 import sys
+from pathlib import Path
 
 sys.dont_write_bytecode = True
 
@@ -20,6 +21,10 @@ from sources import Sources, read  # noqa: E402
 TOP = os.path.dirname(os.path.dirname(os.path.dirname(os.path.realpath(__file__))))
 MANUAL = "share/gulmaat.1"
 COMPLETIONS = ("share/gulmaat.bash", "share/gulmaat.fish", "share/_gulmaat")
+# Where the kinds of C compilers are, and what lists them all.
+KINDS = "crates/cmdlines_tables/src/compiler.rt"
+LISTS_OF_COMPILERS = ("docs/FORMATS.md", "docs/DIFFERENCES.md", "crates/cmdlines/src/lib.rt", "crates/tests_cmdlines/src/door.rt",
+                      "crates/wrap/src/lib.rt", "crates/wrap_uses/src/door.rt")
 # What may be a path, as a word in backticks, and what is one anywhere in a text.
 PATH = re.compile(r"[\w.~@+*/-]*(?:/[\w.~@+*/-]*|\.(?:md|rt|antt|edit|py|bash|c|h|js|css|json|out|txt|fish|png))")
 TOP_PATH = re.compile(r"(?<![\w./~@*-])(?:\.\./gulmaat/)?((?:bench|bin|crates|docs|examples|host|lib|share)/[\w./*-]*|[A-Z]+\.md|crates\.txt)")
@@ -262,6 +267,19 @@ class Check:
             for line, it in document.found(r"((?:`[\w:]+`(?:, | and |,\n| and\n))*`[\w:]+`)\s+\(`crates/(\w+)`\)"):
                 self.promise(" ".join(re.findall(r"`([^`]*)`", it[1])), it[2], f"{path}:{line}")
 
+    def compilers(self):
+        """Each C compiler is among the names for callers, in documents that list them, in figures, and in rows of both programs."""
+        kinds = re.findall(r'CCompilerKind::(\w+) => "(\w+)",', read(f"{TOP}/{KINDS}"))
+        self.is_so(kinds, KINDS, "names no compiler")
+        rows = b"".join(Path(it).read_bytes() for it in glob.glob(f"{TOP}/crates/sccache_wrap/cases/*/*") if not it.endswith(".stdout"))
+        for kind, name in kinds:
+            for path in LISTS_OF_COMPILERS:
+                self.is_so(re.search(rf"\b{kind}\b", read(f"{TOP}/{path}")), path, f"lacks the compiler {kind}")
+            self.is_so(f'"{name}"' in read(f"{TOP}/bench/command_calls.py"), "bench/command_calls.py", f"lacks the compiler {name}")
+            self.is_so(f'"{name}"'.encode() in rows, "crates/sccache_wrap/cases", f"has no row of the compiler {name}")
+            lines = glob.glob(f"{TOP}/crates/sccache_report/cases/*/*.{name}")
+            self.is_so(lines, "crates/sccache_report/cases", f"has no row of the compiler {name}")
+
     def promise(self, text, crate, place):
         """The names of a text are defined in that crate."""
         for name in re.findall(r"[A-Za-z]\w*", text):
@@ -290,8 +308,8 @@ class Check:
 
     def run(self):
         """All checks. Gives whether any failed."""
-        for check in (self.paths, self.links, self.commands, self.names, self.variables, self.keys, self.options, self.crates, self.clauses,
-                      self.faults, self.tables, self.promises, self.trusted, self.pictures):
+        for check in (self.paths, self.links, self.commands, self.names, self.variables, self.keys, self.options, self.crates, self.compilers,
+                      self.clauses, self.faults, self.tables, self.promises, self.trusted, self.pictures):
             check()
         for row in self.exceptions.patterns:
             self.is_so(row in self.exceptions.used, "lib/docs/exceptions", f"nothing needs: {' '.join(row)}")
