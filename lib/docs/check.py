@@ -231,7 +231,7 @@ class Check:
         for crate in [name for head, names in floors() if head != LAST_FLOOR for name in names]:
             self.is_so(crate in headings, CLAUSES, f"lacks the crate {crate}")
         for _, span in layers.spans():
-            if span.endswith("_tests") and span != "NAME_tests":
+            if re.fullmatch(r"tests_\w+", span) and span != "tests_NAME":
                 self.is_so(span in crates, layers.path, f"no such crate: {span}")
         for line, head, cells in layers.rows():
             if head[1:3] == ["station", "crate"]:
