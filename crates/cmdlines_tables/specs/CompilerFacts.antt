@@ -1,5 +1,6 @@
 -- What differs between the C compilers: a block for each. All else that is said of one is said by these facts.
 use Rattle.std.specs.Prelude.{Bool, true, false, List, [], ◌∷◌, Option, None, Some, codes, find}
+use Rattle.std.specs.List.{list_any}
 use Rattle.std.specs.Str.{bytes_eq}
 use Rattle.base_files.specs.Bytes.{Bytes}
 use Rattle.cmdlines_response_files.specs.declared.style.Style.{Style}
@@ -22,6 +23,8 @@ pub data ColorWord : Type 0 where
 pub record CompilerFacts : Type 0 where
   -- as keys, scenarios and reports have it
   pub name : Bytes
+  -- the file names of its executables
+  pub executables : List Bytes
   -- how it writes the language, the output and dependency files
   pub spelling : Spelling
   -- how it opens words that name response files; None where it opens none
@@ -36,6 +39,7 @@ pub record CompilerFacts : Type 0 where
 abbrev pub facts_about : CCompilerKind → CompilerFacts
 facts_about Gcc = record {
   name = codes "gcc";
+  executables = codes "cc" ∷ codes "gcc" ∷ codes "c++" ∷ codes "g++" ∷ [];
   spelling = spellings.Gnu;
   style = Some styles.Gnu;
   ends_options = false;
@@ -44,6 +48,7 @@ facts_about Gcc = record {
 }
 facts_about Clang = record {
   name = codes "clang";
+  executables = codes "clang" ∷ codes "clang++" ∷ [];
   spelling = spellings.Gnu;
   style = Some styles.Gnu;
   ends_options = true;
@@ -52,6 +57,7 @@ facts_about Clang = record {
 }
 facts_about Diab = record {
   name = codes "diab";
+  executables = codes "dcc" ∷ [];
   spelling = spellings.Plain;
   style = Some styles.Diab;
   ends_options = false;
@@ -60,6 +66,7 @@ facts_about Diab = record {
 }
 facts_about Msvc = record {
   name = codes "msvc";
+  executables = codes "cl" ∷ [];
   spelling = spellings.Msvc;
   style = Some styles.Msvc;
   ends_options = false;
@@ -68,6 +75,7 @@ facts_about Msvc = record {
 }
 facts_about TaskingVX = record {
   name = codes "taskingvx";
+  executables = codes "cctc" ∷ [];
   spelling = spellings.Plain;
   style = None;
   ends_options = false;
@@ -85,6 +93,10 @@ kind_name kind = (facts_about kind).name
 -- the compiler of that name
 abbrev pub kind_named : Bytes → Option CCompilerKind
 kind_named name = find (λ kind. bytes_eq (kind_name kind) name) kinds
+
+-- whether an executable of it has that file name
+abbrev pub has_executable : CCompilerKind → Bytes → Bool
+has_executable kind name = list_any (bytes_eq name) (facts_about kind).executables
 
 abbrev pub spelling_of : CCompilerKind → Spelling
 spelling_of kind = (facts_about kind).spelling

@@ -1,5 +1,5 @@
 -- The options of each C compiler, and how its tables cut words.
-use Rattle.std.specs.Prelude.{Bool, List}
+use Rattle.std.specs.Prelude.{Bool, List, [], ◌∷◌, Option, None, Some}
 use Rattle.base_files.specs.Bytes.{Bytes}
 use Rattle.cmdlines_base.specs.Reading.{Reading, reading}
 use Rattle.cmdlines_base.specs.Table.{Entry, all_entries}
@@ -10,6 +10,11 @@ use Rattle.cmdlines_tables.specs.declared.kind.ArgKind.{ArgKind}
 -- the tables of a compiler, in order
 abbrev pub tables_of : CCompilerKind → List (List (Entry ArgKind))
 tables_of kind = (facts_about kind).tables
+
+-- one table, and the second where there is one
+abbrev pub in_order : {A : Type 0} → A → Option A → List A
+in_order first None = first ∷ []
+in_order first (Some second) = first ∷ second ∷ []
 
 abbrev pub entries_of : CCompilerKind → List (Entry ArgKind)
 entries_of kind = all_entries (tables_of kind)

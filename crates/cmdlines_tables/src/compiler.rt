@@ -1,14 +1,20 @@
 //! The C compilers, and what differs between them. specs/CompilerFacts.antt says the same of each.
 
-ghost use Rattle.std.specs.Prelude.{◌≡◌};
+ghost use Rattle.std.specs.Prelude.{◌≡◌, IfOk};
 ghost use Rattle.std.specs.Option.{option_copied};
-ghost use Rattle.cmdlines_tables.specs.CompilerFacts.{kind_name, kind_named, spelling_of, style_of};
+ghost use Rattle.cmdlines_tables.specs.CompilerFacts.{has_executable, kind_name, kind_named, spelling_of, style_of};
 ghost use Rattle.cmdlines_tables.specs.Languages.{knows};
-ghost use Rattle.cmdlines_tables.specs.Tables.{ends_options};
+ghost use Rattle.cmdlines_tables.specs.Tables.{ends_options, in_order, tables_of};
 ghost use Rattle.cmdlines_tables.specs.OwnWords.{color_word, writes_dependencies};
 
+use crate::embedded_tables::{diab_table, tasking_vx_table};
 use crate::language::Language;
+use crate::msvc_table::{msvc_dash_table, msvc_slash_table};
+use crate::tables::{clang_table, gnu_table};
+use crate::value::ArgData;
+use cmdlines_base::Table;
 use cmdlines_response_files::Style;
+use std::alloc::{AllocError, Global};
 
 /// The C compilers whose command lines are read.
 #[derive(Clone, Copy, Debug, PartialEq, Eq)]
@@ -62,6 +68,40 @@ impl CCompilerKind {
             .iter()
             .copied()
             .find(|kind| kind.name() == name)
+    }
+
+    /// Whether an executable of it has that file name, where no target comes before it and no version after it.
+    pub fn has_executable(self, name: &[u8]) -> bool
+        ensures { result ≡ has_executable self name.now }
+    {
+        match self {
+            CCompilerKind::Gcc => {
+                name == b"cc".as_slice()
+                    || name == b"gcc".as_slice()
+                    || name == b"c++".as_slice()
+                    || name == b"g++".as_slice()
+            }
+            CCompilerKind::Clang => name == b"clang".as_slice() || name == b"clang++".as_slice(),
+            CCompilerKind::Diab => name == b"dcc".as_slice(),
+            CCompilerKind::Msvc => name == b"cl".as_slice(),
+            CCompilerKind::TaskingVX => name == b"cctc".as_slice(),
+        }
+    }
+
+    /// Its tables: the first, and the second where there is one.
+    pub fn tables(
+        self,
+        alloc: Global,
+    ) -> Result<(Table<ArgData>, Option<Table<ArgData>>), AllocError>
+        ensures { IfOk result (λ tables. in_order tables.0 tables.1 ≡ tables_of self) }
+    {
+        match self {
+            CCompilerKind::Gcc => Ok((gnu_table(alloc)?, None)),
+            CCompilerKind::Clang => Ok((gnu_table(alloc)?, Some(clang_table(alloc)?))),
+            CCompilerKind::Diab => Ok((diab_table(alloc)?, None)),
+            CCompilerKind::Msvc => Ok((msvc_dash_table(alloc)?, Some(msvc_slash_table(alloc)?))),
+            CCompilerKind::TaskingVX => Ok((tasking_vx_table(alloc)?, None)),
+        }
     }
 
     /// How it writes what commands have of their own.

@@ -48,22 +48,11 @@ fn without_target_and_version(name: &[u8]) -> &[u8] {
     }
 }
 
-/// The file names of a compiler's executables.
-fn executables_of(kind: CCompilerKind) -> &'static [&'static [u8]] {
-    match kind {
-        CCompilerKind::Gcc => &[b"cc", b"gcc", b"c++", b"g++"],
-        CCompilerKind::Clang => &[b"clang", b"clang++"],
-        CCompilerKind::Diab => &[b"dcc"],
-        CCompilerKind::Msvc => &[b"cl"],
-        CCompilerKind::TaskingVX => &[b"cctc"],
-    }
-}
-
 /// Whether an executable of that file name is of that kind. The names of those like Gcc may have a target and a version about them.
 fn is_named(kind: CCompilerKind, name: &[u8]) -> bool {
     match kind.spelling() {
-        Spelling::Gnu => executables_of(kind).contains(&without_target_and_version(name)),
-        Spelling::Plain | Spelling::Msvc => executables_of(kind).contains(&name),
+        Spelling::Gnu => kind.has_executable(without_target_and_version(name)),
+        Spelling::Plain | Spelling::Msvc => kind.has_executable(name),
     }
 }
 

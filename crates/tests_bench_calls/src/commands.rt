@@ -5,10 +5,7 @@ use base_files::{MemoryFiles, OsBytes};
 use cmdlines::Gcc;
 use cmdlines_base::{ArgInfo, ArgParseError, CompilerArguments, SearchableArgInfo};
 use cmdlines_response_files::ParseFault;
-use cmdlines_tables::{
-    ArgData, CCompilerKind, arguments_of, clang_table, compiler_tree, diab_table, gnu_table,
-    msvc_dash_table, msvc_slash_table, tasking_vx_table,
-};
+use cmdlines_tables::{ArgData, CCompilerKind, arguments_of, compiler_tree};
 use std::alloc::{AllocError, Global};
 
 /// Tallies the flags of the arguments that the words are cut into: there are as many as arguments, and no bytes of one that has none.
@@ -65,20 +62,9 @@ pub(crate) fn table_cuttings(
     words: &[OsBytes],
     repeats: u32,
 ) -> Result<Tally, AllocError> {
-    match kind {
-        CCompilerKind::Gcc => cuttings(alloc, kind, &gnu_table(alloc)?, words, repeats),
-        CCompilerKind::Clang => {
-            let tables = (gnu_table(alloc)?, clang_table(alloc)?);
-            cuttings(alloc, kind, &tables, words, repeats)
-        }
-        CCompilerKind::Diab => cuttings(alloc, kind, &diab_table(alloc)?, words, repeats),
-        CCompilerKind::Msvc => {
-            let tables = (msvc_dash_table(alloc)?, msvc_slash_table(alloc)?);
-            cuttings(alloc, kind, &tables, words, repeats)
-        }
-        CCompilerKind::TaskingVX => {
-            cuttings(alloc, kind, &tasking_vx_table(alloc)?, words, repeats)
-        }
+    match kind.tables(alloc)? {
+        (table, None) => cuttings(alloc, kind, &table, words, repeats),
+        (first, Some(second)) => cuttings(alloc, kind, &(first, second), words, repeats),
     }
 }
 
