@@ -8,14 +8,14 @@ use Rattle.ckeys_base.specs.Shelf.{Shelf}
 use Rattle.ckeys_include_records.specs.Records.{Record}
 use Rattle.ckeys_entry_keys.specs.declared.entry_key.EntryKey.{EntryKey}
 use Rattle.ckeys.specs.Calls.{PrintedCall, key_fault_by, needs_preprocessing, printed_call, record_by}
-use Rattle.ckeys_records.specs.Causes.{HasOwnFault}
 use Rattle.ckeys_records.specs.Faults.{KeyCause}
 use Rattle.ckeys.specs.Entries.{asking, has_entry_key}
 use Rattle.ckeys.specs.EntryTurns.{EntryTurn, KeyFine, KeyFrom, KeyRecorded, KeyRuns, PutsNone, RunsUntilKey}
 use Rattle.ckeys_records.specs.Folders.{Settings}
 use Rattle.ckeys.specs.Hashers.{call_of}
 use Rattle.ckeys_records.specs.Keys.{key_of, record_shape}
-use Rattle.ckeys_records.specs.Views.{AreSteady, ToolFails, ToolView}
+use Rattle.ckeys_records.specs.Untouched.{Untouched}
+use Rattle.ckeys_records.specs.Views.{ToolFails, ToolView}
 use Rattle.ckeys_records.specs.Params.{is_cached}
 use Rattle.ckeys_records.specs.Records.{FitsLength}
 use Rattle.ckeys_records.specs.declared.fault.Fault.{Fault}
@@ -68,15 +68,12 @@ pub record IsKeyed {I F T : Type 0} (digest_of : Bytes → Bytes) (view : CallVi
   pub idle : needs_preprocessing begin.hasher.parsed.now.language ≡ false → view.tool.preprocessed end.tool ≡ view.tool.preprocessed begin.tool
   pub plain : has_entry_key (printed_at view settings begin).call ≡ false → IfOk answer (λ made. made.2 ≡ false)
   pub fit : OnOk answer (AllByRecursion FitsLength (filter is_cached begin.env.now))
-  pub steady : OnOk answer (AreSteady view.tool view.files begin.tool begin.files end.tool end.files)
-  pub still : HasOwnFault answer → AreSteady view.tool view.files begin.tool begin.files end.tool end.files
+  pub untouched : Untouched view.tool view.files begin.tool begin.files end.tool end.files answer
   pub compiles : view.tool.compiled end.tool ≡ view.tool.compiled begin.tool
   pub hasher : end.hasher ≡ begin.hasher
   pub dir : end.dir ≡ begin.dir
   pub env : end.env ≡ begin.env
   pub moment : end.moment ≡ begin.moment
-  pub tree : view.files.tree end.files ≡ view.files.tree begin.files
-  pub meaning : view.tool.meaning end.tool ≡ view.tool.meaning begin.tool
 
 -- and so is each
 abbrev pub AreKeyed : {I F T : Type 0} → (Bytes → Bytes) → CallView I F T → Settings → List (HashCall I F T) → List (HashCall I F T) → List KeyAnswer → Type 0

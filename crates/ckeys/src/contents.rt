@@ -5,13 +5,13 @@ ghost use Rattle.std.specs.List.{AllByRecursion};
 ghost use Rattle.base_files.specs.Bytes.{ticked};
 ghost use Rattle.base_files.specs.Views.{FilesFail};
 ghost use Rattle.ckeys.specs.Calls.{early_fault_of, key_fault_of, needs_preprocessing, record_of};
-ghost use Rattle.ckeys_records.specs.Causes.{HasOwnFault};
 ghost use Rattle.ckeys_records.specs.Faults.{KeyCause};
 ghost use Rattle.ckeys.specs.EntryTurns.{RunsUntilKey};
 ghost use Rattle.ckeys.specs.Hashers.{AreExtra, call_by};
 ghost use Rattle.ckeys_records.specs.Params.{is_cached};
 ghost use Rattle.ckeys_records.specs.Records.{FitsLength};
-ghost use Rattle.ckeys_records.specs.Views.{AreSteady, ToolFails};
+ghost use Rattle.ckeys_records.specs.Views.{ToolFails};
+ghost use Rattle.ckeys_records.specs.Untouched.{Untouched};
 
 use crate::compiler_impl::CCompilerImpl;
 use crate::hasher::CCompilerHasher;
@@ -69,12 +69,7 @@ impl<'a, I: CCompilerImpl + Drop> CCompilerHasher<'a, I> {
             (KeyCause (key_fault_of (T.meaning tool.old) call)
             (FilesFail F.Files files.old files.new)
             (ToolFails T.Preprocessor tool.old tool.new)) }
-        ensures tree { F.tree files.new ≡ F.tree files.old }
-        ensures meaning { T.meaning tool.new ≡ T.meaning tool.old }
-        ensures steady { OnOk result
-            (AreSteady T.Preprocessor F.Files tool.old files.old tool.new files.new) }
-        ensures still { HasOwnFault result →
-            AreSteady T.Preprocessor F.Files tool.old files.old tool.new files.new }
+        ensures untouched { Untouched T.Preprocessor F.Files tool.old files.old tool.new files.new result }
         ensures idle { needs_preprocessing self.now.parsed.now.language ≡ false
             → (T.preprocessed tool.new ≡ T.preprocessed tool.old)
             × (T.failed tool.new ≡ T.failed tool.old) }

@@ -7,8 +7,8 @@ ghost use Rattle.base_files.specs.Views.{FilesFail};
 ghost use Rattle.ckeys_entry_keys.specs.Identity.{identity_of};
 ghost use Rattle.ckeys_include_records.specs.Surroundings as surroundings;
 ghost use Rattle.ckeys.specs.Calls.{asks_records, missing_input};
-ghost use Rattle.ckeys_records.specs.Causes.{HasOwnFault};
 ghost use Rattle.ckeys_records.specs.Faults.{FileCause, first_missing};
+ghost use Rattle.ckeys_records.specs.Untouched.{FilesUntouched};
 ghost use Rattle.ckeys.specs.Entries.{IsFramed, entry_key_of, identity_by};
 ghost use Rattle.ckeys.specs.Hashers.{AreExtra, call_by, looked_at};
 ghost use Rattle.ckeys.specs.Surroundings.{recorded_of};
@@ -61,9 +61,7 @@ fn input_of<F: Files>(
         input.second ≡ surroundings.second_at (F.tree files.old) (join dir.now name.now)) }
     ensures cause { let missing = first_missing (F.tree files.old) (join dir.now name.now ∷ []) in
         IfErr result (FileCause missing (FilesFail F.Files files.old files.new)) }
-    ensures tree { F.tree files.new ≡ F.tree files.old }
-    ensures steady { OnOk result (F.failed files.new ≡ F.failed files.old) }
-    ensures still { HasOwnFault result → F.failed files.new ≡ F.failed files.old }
+    ensures untouched { FilesUntouched F.Files files.old files.new result }
 {
     let path = join(alloc, dir.as_bytes(), name.as_bytes())?;
     let contents = match files.read(alloc, &path) {
@@ -130,9 +128,7 @@ impl<'a, I: CCompilerImpl + Drop> CCompilerHasher<'a, I> {
             in
             let fails_on = FilesFail F.Files files.old files.new in
             IfErr result (FileCause (missing_input call) fails_on) }
-        ensures tree { F.tree files.new ≡ F.tree files.old }
-        ensures steady { OnOk result (F.failed files.new ≡ F.failed files.old) }
-        ensures still { HasOwnFault result → F.failed files.new ≡ F.failed files.old }
+        ensures untouched { FilesUntouched F.Files files.old files.new result }
     {
         if !self.asks_records(place) {
             return Ok(None);
@@ -156,9 +152,7 @@ pub(crate) fn includes_for<H: HashState, F: Files>(
         IfOk result (λ includes. includes ≡ recorded_of at H.digest_of path text.now) }
     ensures cause { let fails_on = FilesFail F.Files files.old files.new in
         IfErr result (FileCause None fails_on) }
-    ensures tree { F.tree files.new ≡ F.tree files.old }
-    ensures steady { OnOk result (F.failed files.new ≡ F.failed files.old) }
-    ensures still { HasOwnFault result → F.failed files.new ≡ F.failed files.old }
+    ensures untouched { FilesUntouched F.Files files.old files.new result }
 {
     let dir = place.dir;
     match walk(

@@ -3,7 +3,6 @@
 ghost use Rattle.std.specs.Prelude.{◌≡◌, false, true, List, ◌++◌, None, Some, filter, map, string_bytes, IfOk, IfErr, OnOk, OnErr};
 ghost use Rattle.std.specs.List.{AllByRecursion};
 ghost use Rattle.base_files.specs.Bytes.{Bytes, ticked};
-ghost use Rattle.ckeys_records.specs.Causes.{HasOwnFault};
 ghost use Rattle.ckeys_base.specs.Shelf.{Asks};
 ghost use Rattle.base_files.specs.Path.{join};
 ghost use Rattle.base_files.specs.Views.{FilesFail};
@@ -17,7 +16,8 @@ ghost use Rattle.ckeys.specs.Hashers.{AreExtra, call_by, handed_by, looked_at};
 ghost use Rattle.ckeys_records.specs.Material.{material_of, shape_of};
 ghost use Rattle.ckeys_records.specs.Params.{handed_of, is_cached, parts_handed};
 ghost use Rattle.ckeys_records.specs.Records.{FitsLength};
-ghost use Rattle.ckeys_records.specs.Views.{AreSteady, ToolFails};
+ghost use Rattle.ckeys_records.specs.Views.{ToolFails};
+ghost use Rattle.ckeys_records.specs.Untouched.{FilesUntouched, Untouched};
 ghost use Rattle.ckeys_base.specs.Hex.{hex_of};
 
 use crate::compiler_impl::CCompilerImpl;
@@ -88,12 +88,7 @@ impl<'a, I: CCompilerImpl + Drop> CCompilerHasher<'a, I> {
             (KeyCause (text_fault_of (T.meaning tool.old) call)
             (FilesFail F.Files files.old files.new)
             (ToolFails T.Preprocessor tool.old tool.new)) }
-        ensures tree { F.tree files.new ≡ F.tree files.old }
-        ensures meaning { T.meaning tool.new ≡ T.meaning tool.old }
-        ensures steady { OnOk result
-            (AreSteady T.Preprocessor F.Files tool.old files.old tool.new files.new) }
-        ensures still { HasOwnFault result →
-            AreSteady T.Preprocessor F.Files tool.old files.old tool.new files.new }
+        ensures untouched { Untouched T.Preprocessor F.Files tool.old files.old tool.new files.new result }
         ensures idle { needs_preprocessing self.now.parsed.now.language ≡ false
             → (T.preprocessed tool.new ≡ T.preprocessed tool.old)
             × (T.failed tool.new ≡ T.failed tool.old) }
@@ -198,12 +193,7 @@ impl<'a, I: CCompilerImpl + Drop> CCompilerHasher<'a, I> {
             (KeyCause (text_fault_of (T.meaning tool.old) call)
             (FilesFail F.Files files.old files.new)
             (ToolFails T.Preprocessor tool.old tool.new)) }
-        ensures tree { F.tree files.new ≡ F.tree files.old }
-        ensures meaning { T.meaning tool.new ≡ T.meaning tool.old }
-        ensures steady { OnOk result
-            (AreSteady T.Preprocessor F.Files tool.old files.old tool.new files.new) }
-        ensures still { HasOwnFault result →
-            AreSteady T.Preprocessor F.Files tool.old files.old tool.new files.new }
+        ensures untouched { Untouched T.Preprocessor F.Files tool.old files.old tool.new files.new result }
         ensures idle { needs_preprocessing self.now.parsed.now.language ≡ false
             → (T.preprocessed tool.new ≡ T.preprocessed tool.old)
             × (T.failed tool.new ≡ T.failed tool.old) }
@@ -290,12 +280,7 @@ impl<'a, I: CCompilerImpl + Drop> CCompilerHasher<'a, I> {
             (λ made. KeyRuns made.2 (T.preprocessed tool.old) (T.preprocessed tool.new)) }
         ensures until { IfErr result
             (RunsUntilKey (T.preprocessed tool.old) (T.preprocessed tool.new)) }
-        ensures tree { F.tree files.new ≡ F.tree files.old }
-        ensures meaning { T.meaning tool.new ≡ T.meaning tool.old }
-        ensures steady { OnOk result
-            (AreSteady T.Preprocessor F.Files tool.old files.old tool.new files.new) }
-        ensures still { HasOwnFault result →
-            AreSteady T.Preprocessor F.Files tool.old files.old tool.new files.new }
+        ensures untouched { Untouched T.Preprocessor F.Files tool.old files.old tool.new files.new result }
         ensures compiles { T.compiled tool.new ≡ T.compiled tool.old }
     {
         // A law, which costs nothing: what follows from it is said above.
@@ -385,12 +370,7 @@ impl<'a, I: CCompilerImpl + Drop> CCompilerHasher<'a, I> {
         ensures plain { let call = call_by I.kind_of I.traits self.now place.now (F.tree files.old)
             in
             has_entry_key call ≡ false → IfOk result (λ made. made.2 ≡ false) }
-        ensures tree { F.tree files.new ≡ F.tree files.old }
-        ensures meaning { T.meaning tool.new ≡ T.meaning tool.old }
-        ensures steady { OnOk result
-            (AreSteady T.Preprocessor F.Files tool.old files.old tool.new files.new) }
-        ensures still { HasOwnFault result →
-            AreSteady T.Preprocessor F.Files tool.old files.old tool.new files.new }
+        ensures untouched { Untouched T.Preprocessor F.Files tool.old files.old tool.new files.new result }
         ensures idle { needs_preprocessing self.now.parsed.now.language ≡ false
             → (T.preprocessed tool.new ≡ T.preprocessed tool.old)
             × (T.failed tool.new ≡ T.failed tool.old) }
@@ -448,12 +428,7 @@ impl<'a, I: CCompilerImpl + Drop> CCompilerHasher<'a, I> {
             (λ made. KeyRecorded H.digest_of p (E.shelf entries.old) (E.shelf entries.new) made.2
             (string_bytes made.0)) }
         ensures unput { OnErr result (PutsNone (E.shelf entries.old) (E.shelf entries.new)) }
-        ensures tree { F.tree files.new ≡ F.tree files.old }
-        ensures meaning { T.meaning tool.new ≡ T.meaning tool.old }
-        ensures steady { OnOk result
-            (AreSteady T.Preprocessor F.Files tool.old files.old tool.new files.new) }
-        ensures still { HasOwnFault result →
-            AreSteady T.Preprocessor F.Files tool.old files.old tool.new files.new }
+        ensures untouched { Untouched T.Preprocessor F.Files tool.old files.old tool.new files.new result }
         ensures idle { needs_preprocessing self.now.parsed.now.language ≡ false
             → (T.preprocessed tool.new ≡ T.preprocessed tool.old)
             × (T.failed tool.new ≡ T.failed tool.old) }
@@ -496,9 +471,7 @@ fn look_up<H: HashState, E: Store<EntryKey, PreprocessorCacheEntry>, F: Files>(
     ensures unput { PutsNone (E.shelf entries.old) (E.shelf entries.new) }
     ensures cause { IfErr result
         (FileCause None (FilesFail F.Files files.old files.new)) }
-    ensures tree { F.tree files.new ≡ F.tree files.old }
-    ensures steady { OnOk result (F.failed files.new ≡ F.failed files.old) }
-    ensures still { HasOwnFault result → F.failed files.new ≡ F.failed files.old }
+    ensures untouched { FilesUntouched F.Files files.old files.new result }
 {
     match entries.get(key) {
         Some(record) => {
@@ -532,9 +505,7 @@ fn keep<H: HashState, E: Store<EntryKey, PreprocessorCacheEntry>, F: Files>(
     ensures unkept { OnErr result (E.shelf entries.new ≡ E.shelf entries.old) }
     ensures cause { IfErr result
         (FileCause None (FilesFail F.Files files.old files.new)) }
-    ensures tree { F.tree files.new ≡ F.tree files.old }
-    ensures steady { OnOk result (F.failed files.new ≡ F.failed files.old) }
-    ensures still { HasOwnFault result → F.failed files.new ≡ F.failed files.old }
+    ensures untouched { FilesUntouched F.Files files.old files.new result }
 {
     if let Some(includes) = includes_for::<H, F>(alloc, &made.text, input, place, files)? {
         let text_key = KeyText::new(String::from_str(alloc, made.key.as_str())?);

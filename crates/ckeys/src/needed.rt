@@ -5,8 +5,8 @@ ghost use Rattle.base_files.specs.Path.{join};
 ghost use Rattle.base_files.specs.Views.{FilesFail};
 ghost use Rattle.ckeys_base.specs.Hex.{hex_of};
 ghost use Rattle.ckeys_include_records.specs.Surroundings.{contents_in};
-ghost use Rattle.ckeys_records.specs.Causes.{HasOwnFault};
 ghost use Rattle.ckeys_records.specs.Faults.{FileCause, first_missing};
+ghost use Rattle.ckeys_records.specs.Untouched.{FilesUntouched};
 
 use base_files::{FileFail, Files, Listed, OsBytes, join};
 use ckeys_base::{Digest, HashState};
@@ -28,9 +28,7 @@ fn needed_digest<H: HashState, F: Files>(
     ensures cause { IfErr result
         (FileCause (first_missing (F.tree files.old) (join dir.now name.now ∷ []))
         (FilesFail F.Files files.old files.new)) }
-    ensures tree { F.tree files.new ≡ F.tree files.old }
-    ensures steady { OnOk result (F.failed files.new ≡ F.failed files.old) }
-    ensures still { HasOwnFault result → F.failed files.new ≡ F.failed files.old }
+    ensures untouched { FilesUntouched F.Files files.old files.new result }
 {
     let path = join(alloc, dir.as_bytes(), name.as_bytes())?;
     match Digest::<H>::file(alloc, &path, files) {
@@ -53,9 +51,7 @@ pub(crate) fn needed_contents<F: Files>(
         (first_missing (F.tree files.old) (join dir.now name.now ∷ []) ≡ None) }
     ensures cause { let missing = first_missing (F.tree files.old) (join dir.now name.now ∷ []) in
         IfErr result (FileCause missing (FilesFail F.Files files.old files.new)) }
-    ensures tree { F.tree files.new ≡ F.tree files.old }
-    ensures steady { OnOk result (F.failed files.new ≡ F.failed files.old) }
-    ensures still { HasOwnFault result → F.failed files.new ≡ F.failed files.old }
+    ensures untouched { FilesUntouched F.Files files.old files.new result }
 {
     let path = join(alloc, dir.as_bytes(), name.as_bytes())?;
     match files.read(alloc, &path) {
@@ -81,9 +77,7 @@ pub(crate) fn extra_hashes<H: HashState, F: Files>(
     ensures cause { IfErr result
         (FileCause (first_missing (F.tree files.old) (map (join dir.now) names.now))
         (FilesFail F.Files files.old files.new)) }
-    ensures tree { F.tree files.new ≡ F.tree files.old }
-    ensures steady { OnOk result (F.failed files.new ≡ F.failed files.old) }
-    ensures still { HasOwnFault result → F.failed files.new ≡ F.failed files.old }
+    ensures untouched { FilesUntouched F.Files files.old files.new result }
 {
     let mut digests = Listed::new(alloc);
     let mut rest = names;

@@ -7,4 +7,5 @@ pub mod Causes
 pub mod Faults
 pub mod Folders
 pub mod Views
+pub mod Untouched
 pub mod Formats

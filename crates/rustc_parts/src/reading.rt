@@ -2,6 +2,7 @@
 
 ghost use Rattle.std.specs.Prelude.{◌≡◌, IfOk, IfSome, Some};
 ghost use Rattle.std.specs.List.{list_all};
+ghost use Rattle.base_formats.specs.Formats.{IsOnly};
 ghost use Rattle.base_formats.specs.Reading.{Gives, both_at, taken_at, times_at};
 ghost use Rattle.base_formats.specs.Spelling.{FitsFrame};
 ghost use Rattle.rustc_parts.specs.Formed.{AreFormed, IsSortedByNames, digest_digits, is_digit};
@@ -380,11 +381,8 @@ pub fn read_key_bytes(
     bytes: &[u8],
     shape: &RShape,
 ) -> Result<Option<Parts>, AllocError>
-    ensures found { IfOk result (λ found. IfSome found (λ parts. AreFormed digest_digits parts
+    ensures { IfOk result (IsOnly (λ parts. AreFormed digest_digits parts
         × (material_of parts ≡ bytes.now) × (shape_of parts ≡ shape.now))) }
-    ensures only { (parts : Parts) → AreFormed digest_digits parts →
-        material_of parts ≡ bytes.now → shape_of parts ≡ shape.now →
-        IfOk result (λ found. found ≡ Some parts) }
 {
     has_a_length(bytes);
     match read_parts(alloc, bytes, shape) {

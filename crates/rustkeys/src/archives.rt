@@ -3,10 +3,11 @@
 ghost use Rattle.std.specs.Prelude.{◌≡◌, true, [], ◌∷◌, None, map, IfOk, IfErr, OnOk};
 ghost use Rattle.std.specs.List.{AllByRecursion, list_all};
 ghost use Rattle.ckeys_records.specs.Faults.{KeyCause};
-ghost use Rattle.ckeys_records.specs.Causes.{HasOwnFault, no_file};
+ghost use Rattle.ckeys_records.specs.Causes.{no_file};
 ghost use Rattle.ckeys_records.specs.Meaning.{AtMostOnce, Scene};
 ghost use Rattle.base_files.specs.Bytes.{ticked};
-ghost use Rattle.ckeys_records.specs.Views.{AreSteady, ToolFails};
+ghost use Rattle.ckeys_records.specs.Views.{ToolFails};
+ghost use Rattle.ckeys_records.specs.Untouched.{Untouched};
 ghost use Rattle.rustc_parts.specs.Formed.{IsDigest, digest_digits, is_digest, is_digit};
 ghost use Rattle.rustkeys.specs.Calls.{digest_fault_of};
 ghost use Rattle.rustkeys.specs.Questions.{digest_at, digested};
@@ -51,12 +52,7 @@ fn archive_digest<F: Files, A: RustcAnswers>(
         → let archives = digested (A.meaning answers.old) scene (path.now ∷ []) in
         IfErr result (KeyCause (digest_fault_of archives) no_file
         (ToolFails A.Preprocessor answers.old answers.new)) }
-    ensures tree { F.tree files.new ≡ F.tree files.old }
-    ensures meaning { A.meaning answers.new ≡ A.meaning answers.old }
-    ensures steady { OnOk result
-        (AreSteady A.Preprocessor F.Files answers.old files.old answers.new files.new) }
-    ensures still { HasOwnFault result →
-        AreSteady A.Preprocessor F.Files answers.old files.old answers.new files.new }
+    ensures untouched { Untouched A.Preprocessor F.Files answers.old files.old answers.new files.new result }
     ensures runs { A.preprocessed answers.new ≡ A.preprocessed answers.old }
     ensures asked { OnOk result (A.archived answers.new ≡ ticked (A.archived answers.old)) }
     ensures once { AtMostOnce (A.archived answers.old) (A.archived answers.new) }
@@ -90,12 +86,7 @@ pub(crate) fn archive_digests<F: Files, A: RustcAnswers>(
         → let archives = digested (A.meaning answers.old) scene paths.now in
         IfErr result (KeyCause (digest_fault_of archives) no_file
         (ToolFails A.Preprocessor answers.old answers.new)) }
-    ensures tree { F.tree files.new ≡ F.tree files.old }
-    ensures meaning { A.meaning answers.new ≡ A.meaning answers.old }
-    ensures steady { OnOk result
-        (AreSteady A.Preprocessor F.Files answers.old files.old answers.new files.new) }
-    ensures still { HasOwnFault result →
-        AreSteady A.Preprocessor F.Files answers.old files.old answers.new files.new }
+    ensures untouched { Untouched A.Preprocessor F.Files answers.old files.old answers.new files.new result }
     ensures runs { A.preprocessed answers.new ≡ A.preprocessed answers.old }
     ensures asked { OnOk result
         (A.archived answers.new ≡ ticked_for paths.now (A.archived answers.old)) }

@@ -4,10 +4,11 @@ ghost use Rattle.std.specs.Prelude.{◌≡◌, ℤ, [], ◌∷◌, Some, None, t
 ghost use Rattle.base_files.specs.Bytes.{ticked};
 ghost use Rattle.ckeys_records.specs.Faults.{KeyCause};
 ghost use Rattle.ckeys_records.specs.Meaning.{text_in};
-ghost use Rattle.ckeys_records.specs.Causes.{HasOwnFault, no_file, no_step};
+ghost use Rattle.ckeys_records.specs.Causes.{no_file, no_step};
 ghost use Rattle.ckeys_records.specs.Meaning.{AtMostOnce};
 ghost use Rattle.ckeys_records.specs.Meaning.{made_of};
-ghost use Rattle.ckeys_records.specs.Views.{AreSteady, ToolFails};
+ghost use Rattle.ckeys_records.specs.Views.{ToolFails};
+ghost use Rattle.ckeys_records.specs.Untouched.{Untouched};
 ghost use Rattle.rustkeys.specs.Calls.{answer_fault_of, utf8_fault_of};
 ghost use Rattle.rustkeys.specs.Questions.{dep_info_of, file_names_of, question_of};
 
@@ -60,12 +61,7 @@ impl<'a> RustPlace<'a> {
             ≡ dep_info_of (A.meaning answers.old) q) }
         ensures cause { IfErr result
             (KeyCause None no_file (ToolFails A.Preprocessor answers.old answers.new)) }
-        ensures tree { F.tree files.new ≡ F.tree files.old }
-        ensures meaning { A.meaning answers.new ≡ A.meaning answers.old }
-        ensures steady { OnOk result
-            (AreSteady A.Preprocessor F.Files answers.old files.old answers.new files.new) }
-        ensures still { HasOwnFault result →
-            AreSteady A.Preprocessor F.Files answers.old files.old answers.new files.new }
+        ensures untouched { Untouched A.Preprocessor F.Files answers.old files.old answers.new files.new result }
         ensures runs { OnOk result (A.preprocessed answers.new ≡ ticked (A.preprocessed answers.old)) }
         ensures once { AtMostOnce (A.preprocessed answers.old) (A.preprocessed answers.new) }
         ensures archives { A.archived answers.new ≡ A.archived answers.old }
@@ -94,12 +90,7 @@ impl<'a> RustPlace<'a> {
             ≡ file_names_of (A.meaning answers.old) q) }
         ensures cause { IfErr result
             (KeyCause None no_file (ToolFails A.Preprocessor answers.old answers.new)) }
-        ensures tree { F.tree files.new ≡ F.tree files.old }
-        ensures meaning { A.meaning answers.new ≡ A.meaning answers.old }
-        ensures steady { OnOk result
-            (AreSteady A.Preprocessor F.Files answers.old files.old answers.new files.new) }
-        ensures still { HasOwnFault result →
-            AreSteady A.Preprocessor F.Files answers.old files.old answers.new files.new }
+        ensures untouched { Untouched A.Preprocessor F.Files answers.old files.old answers.new files.new result }
         ensures runs { OnOk result (A.preprocessed answers.new ≡ ticked (A.preprocessed answers.old)) }
         ensures once { AtMostOnce (A.preprocessed answers.old) (A.preprocessed answers.new) }
         ensures archives { A.archived answers.new ≡ A.archived answers.old }
@@ -133,12 +124,7 @@ impl<'a> RustPlace<'a> {
             let made = dep_info_of (A.meaning answers.old) q in
             IfErr result (KeyCause (answer_fault_of Step.DepInfo made) no_file
             (ToolFails A.Preprocessor answers.old answers.new)) }
-        ensures tree { F.tree files.new ≡ F.tree files.old }
-        ensures meaning { A.meaning answers.new ≡ A.meaning answers.old }
-        ensures steady { OnOk result
-            (AreSteady A.Preprocessor F.Files answers.old files.old answers.new files.new) }
-        ensures still { HasOwnFault result →
-            AreSteady A.Preprocessor F.Files answers.old files.old answers.new files.new }
+        ensures untouched { Untouched A.Preprocessor F.Files answers.old files.old answers.new files.new result }
         ensures runs { OnOk result (A.preprocessed answers.new ≡ ticked (A.preprocessed answers.old)) }
         ensures once { AtMostOnce (A.preprocessed answers.old) (A.preprocessed answers.new) }
         ensures archives { A.archived answers.new ≡ A.archived answers.old }
@@ -165,12 +151,7 @@ impl<'a> RustPlace<'a> {
             let made = file_names_of (A.meaning answers.old) q in
             IfErr result (KeyCause (answer_fault_of Step.FileNames made) no_file
             (ToolFails A.Preprocessor answers.old answers.new)) }
-        ensures tree { F.tree files.new ≡ F.tree files.old }
-        ensures meaning { A.meaning answers.new ≡ A.meaning answers.old }
-        ensures steady { OnOk result
-            (AreSteady A.Preprocessor F.Files answers.old files.old answers.new files.new) }
-        ensures still { HasOwnFault result →
-            AreSteady A.Preprocessor F.Files answers.old files.old answers.new files.new }
+        ensures untouched { Untouched A.Preprocessor F.Files answers.old files.old answers.new files.new result }
         ensures runs { OnOk result (A.preprocessed answers.new ≡ ticked (A.preprocessed answers.old)) }
         ensures once { AtMostOnce (A.preprocessed answers.old) (A.preprocessed answers.new) }
         ensures archives { A.archived answers.new ≡ A.archived answers.old }

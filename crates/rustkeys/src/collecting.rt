@@ -6,9 +6,10 @@ ghost use Rattle.base_files.specs.Bytes.{ticked};
 ghost use Rattle.base_files.specs.Views.{FilesFail};
 ghost use Rattle.ckeys_records.specs.Faults.{KeyCause};
 ghost use Rattle.ckeys_records.specs.Meaning.{text_in};
-ghost use Rattle.ckeys_records.specs.Causes.{HasOwnFault, no_step};
+ghost use Rattle.ckeys_records.specs.Causes.{no_step};
 ghost use Rattle.ckeys_records.specs.Meaning.{AtMostOnce};
-ghost use Rattle.ckeys_records.specs.Views.{AreSteady, ToolFails};
+ghost use Rattle.ckeys_records.specs.Views.{ToolFails};
+ghost use Rattle.ckeys_records.specs.Untouched.{FilesUntouched, Untouched};
 ghost use Rattle.rustc_parts.specs.Formed.{IsDigest, digest_digits};
 ghost use Rattle.rustkeys.specs.Calls.{dep_info_fault_of, files_fault_of, key_fault_with, sources_fault_of};
 ghost use Rattle.rustkeys.specs.Questions.{answers_of, dep_info_of, digested, question_of, sources_in};
@@ -64,9 +65,7 @@ impl<'a> RustPlace<'a> {
         ensures cause { let fault = sources_fault_of (F.tree files.old) self.now.dir.now text.now in
             IfErr result (KeyCause fault (FilesFail F.Files files.old files.new)
             no_step) }
-        ensures tree { F.tree files.new ≡ F.tree files.old }
-        ensures steady { OnOk result (F.failed files.new ≡ F.failed files.old) }
-        ensures still { HasOwnFault result → F.failed files.new ≡ F.failed files.old }
+        ensures untouched { FilesUntouched F.Files files.old files.new result }
     {
         let paths = sources_in(alloc, self.dir, text)?;
         needed_digests::<H, F>(alloc, paths.as_slice(), files)
@@ -93,12 +92,7 @@ impl<'a> RustPlace<'a> {
             IfErr result (KeyCause (dep_info_fault_of q made)
             (FilesFail F.Files files.old files.new)
             (ToolFails A.Preprocessor answers.old answers.new)) }
-        ensures tree { F.tree files.new ≡ F.tree files.old }
-        ensures meaning { A.meaning answers.new ≡ A.meaning answers.old }
-        ensures steady { OnOk result
-            (AreSteady A.Preprocessor F.Files answers.old files.old answers.new files.new) }
-        ensures still { HasOwnFault result →
-            AreSteady A.Preprocessor F.Files answers.old files.old answers.new files.new }
+        ensures untouched { Untouched A.Preprocessor F.Files answers.old files.old answers.new files.new result }
         ensures runs { OnOk result (A.preprocessed answers.new ≡ ticked (A.preprocessed answers.old)) }
         ensures once { AtMostOnce (A.preprocessed answers.old) (A.preprocessed answers.new) }
         ensures archives { A.archived answers.new ≡ A.archived answers.old }
@@ -129,12 +123,7 @@ impl<'a> RustPlace<'a> {
             IfErr result (KeyCause (files_fault_of q archives)
             (FilesFail F.Files files.old files.new)
             (ToolFails A.Preprocessor answers.old answers.new)) }
-        ensures tree { F.tree files.new ≡ F.tree files.old }
-        ensures meaning { A.meaning answers.new ≡ A.meaning answers.old }
-        ensures steady { OnOk result
-            (AreSteady A.Preprocessor F.Files answers.old files.old answers.new files.new) }
-        ensures still { HasOwnFault result →
-            AreSteady A.Preprocessor F.Files answers.old files.old answers.new files.new }
+        ensures untouched { Untouched A.Preprocessor F.Files answers.old files.old answers.new files.new result }
         ensures runs { A.preprocessed answers.new ≡ A.preprocessed answers.old }
         ensures archives { OnOk result (A.archived answers.new
             ≡ ticked_for self.now.parsed.now.staticlibs (A.archived answers.old)) }
@@ -176,12 +165,7 @@ impl<'a> RustPlace<'a> {
             IfErr result (KeyCause (key_fault_with q told)
             (FilesFail F.Files files.old files.new)
             (ToolFails A.Preprocessor answers.old answers.new)) }
-        ensures tree { F.tree files.new ≡ F.tree files.old }
-        ensures meaning { A.meaning answers.new ≡ A.meaning answers.old }
-        ensures steady { OnOk result
-            (AreSteady A.Preprocessor F.Files answers.old files.old answers.new files.new) }
-        ensures still { HasOwnFault result →
-            AreSteady A.Preprocessor F.Files answers.old files.old answers.new files.new }
+        ensures untouched { Untouched A.Preprocessor F.Files answers.old files.old answers.new files.new result }
         ensures runs { OnOk result
             (A.preprocessed answers.new ≡ ticked (ticked (A.preprocessed answers.old))) }
         ensures twice { AtMostTwice (A.preprocessed answers.old) (A.preprocessed answers.new) }

@@ -4,8 +4,8 @@ ghost use Rattle.std.specs.Prelude.{◌≡◌, None, [], ◌∷◌, map, IfOk, I
 ghost use Rattle.std.specs.Option.{option_map, option_to_list};
 ghost use Rattle.base_files.specs.Path.{join};
 ghost use Rattle.base_files.specs.Views.{FilesFail};
-ghost use Rattle.ckeys_records.specs.Causes.{HasOwnFault};
 ghost use Rattle.ckeys_records.specs.Faults.{FileCause, first_missing};
+ghost use Rattle.ckeys_records.specs.Untouched.{FilesUntouched};
 ghost use Rattle.ckeys_include_records.specs.Surroundings.{contents_in};
 ghost use Rattle.rustkeys.specs.Records.{digest_text};
 
@@ -41,9 +41,7 @@ fn needed_digest<H: HashState, F: Files>(
     ensures cause { IfErr result
         (FileCause (first_missing (F.tree files.old) (path.now ∷ []))
         (FilesFail F.Files files.old files.new)) }
-    ensures tree { F.tree files.new ≡ F.tree files.old }
-    ensures steady { OnOk result (F.failed files.new ≡ F.failed files.old) }
-    ensures still { HasOwnFault result → F.failed files.new ≡ F.failed files.old }
+    ensures untouched { FilesUntouched F.Files files.old files.new result }
 {
     // The copy is made first, so that out of memory isn't reported as an I/O error.
     let path = path.clone()?;
@@ -66,9 +64,7 @@ pub(crate) fn needed_digests<H: HashState, F: Files>(
     ensures cause { IfErr result
         (FileCause (first_missing (F.tree files.old) paths.now)
         (FilesFail F.Files files.old files.new)) }
-    ensures tree { F.tree files.new ≡ F.tree files.old }
-    ensures steady { OnOk result (F.failed files.new ≡ F.failed files.old) }
-    ensures still { HasOwnFault result → F.failed files.new ≡ F.failed files.old }
+    ensures untouched { FilesUntouched F.Files files.old files.new result }
 {
     let mut digests = Listed::new(alloc);
     let mut rest = paths;
@@ -94,9 +90,7 @@ pub(crate) fn needed_in<H: HashState, F: Files>(
     ensures cause { IfErr result
         (FileCause (first_missing (F.tree files.old) (map (join dir.now) names.now))
         (FilesFail F.Files files.old files.new)) }
-    ensures tree { F.tree files.new ≡ F.tree files.old }
-    ensures steady { OnOk result (F.failed files.new ≡ F.failed files.old) }
-    ensures still { HasOwnFault result → F.failed files.new ≡ F.failed files.old }
+    ensures untouched { FilesUntouched F.Files files.old files.new result }
 {
     let paths = join_paths(alloc, dir, names)?;
     needed_digests::<H, F>(alloc, paths.as_slice(), files)
@@ -119,9 +113,7 @@ pub(crate) fn needed_where_named<H: HashState, F: Files>(
         (FileCause
         (first_missing (F.tree files.old) (option_to_list (option_map (join dir.now) name.now)))
         (FilesFail F.Files files.old files.new)) }
-    ensures tree { F.tree files.new ≡ F.tree files.old }
-    ensures steady { OnOk result (F.failed files.new ≡ F.failed files.old) }
-    ensures still { HasOwnFault result → F.failed files.new ≡ F.failed files.old }
+    ensures untouched { FilesUntouched F.Files files.old files.new result }
 {
     let Some(name) = name else {
         return Ok(None);

@@ -5,10 +5,10 @@ ghost use Rattle.std.specs.List.{AllByRecursion};
 ghost use Rattle.std.specs.Str.Lossy.{utf8_lossy};
 ghost use Rattle.base_files.specs.Bytes.{ticked};
 ghost use Rattle.base_files.specs.Views.{FilesFail};
-ghost use Rattle.ckeys_records.specs.Causes.{HasOwnFault};
 ghost use Rattle.ckeys_records.specs.Faults.{KeyCause};
 ghost use Rattle.ckeys_records.specs.Meaning.{AtMostOnce};
-ghost use Rattle.ckeys_records.specs.Views.{AreSteady, ToolFails};
+ghost use Rattle.ckeys_records.specs.Views.{ToolFails};
+ghost use Rattle.ckeys_records.specs.Untouched.{Untouched};
 ghost use Rattle.cmdlines_requests.specs.Small.{command_at};
 ghost use Rattle.rustc_parts.specs.Formed.{IsDigest, digest_digits};
 ghost use Rattle.rustc_texts.specs.Words.{compile_words};
@@ -147,12 +147,7 @@ impl<'a> RustHasher<'a> {
             IfErr result (KeyCause (key_fault_of (A.meaning answers.old) c)
             (FilesFail F.Files files.old files.new)
             (ToolFails A.Preprocessor answers.old answers.new)) }
-        ensures tree { F.tree files.new ≡ F.tree files.old }
-        ensures meaning { A.meaning answers.new ≡ A.meaning answers.old }
-        ensures steady { OnOk result
-            (AreSteady A.Preprocessor F.Files answers.old files.old answers.new files.new) }
-        ensures still { HasOwnFault result →
-            AreSteady A.Preprocessor F.Files answers.old files.old answers.new files.new }
+        ensures untouched { Untouched A.Preprocessor F.Files answers.old files.old answers.new files.new result }
         ensures runs { OnOk result
             (A.preprocessed answers.new ≡ ticked (ticked (A.preprocessed answers.old))) }
         // How often rustc was asked before a fault.

@@ -1,10 +1,10 @@
 //! The session that answers requests.
 
-ghost use Rattle.std.specs.Prelude.{◌≡◌, true, false, length, IfOk, IfErr, OnOk, OnErr};
+ghost use Rattle.std.specs.Prelude.{◌≡◌, true, false, length, IfOk, IfErr, OnErr};
 ghost use Rattle.base_files.specs.Views.{FilesFail};
 ghost use Rattle.ckeys_base.specs.Shelf.{Clears, IsEmpty};
-ghost use Rattle.ckeys_records.specs.Causes.{HasOwnFault};
-ghost use Rattle.ckeys_records.specs.Views.{AreSteady, ToolFails};
+ghost use Rattle.ckeys_records.specs.Views.{ToolFails};
+ghost use Rattle.ckeys_records.specs.Untouched.{Untouched};
 ghost use Rattle.wrap_keys.specs.Account.{account_at};
 ghost use Rattle.wrap_keys.specs.Answers.{EarlyCause, GoesOn, OnPass, Says, SaysBy};
 ghost use Rattle.wrap_keys.specs.Asking.{AskedTurn, EntriesTurn, RecordsAreTrue, RunsOf, shelves_of};
@@ -124,13 +124,8 @@ impl<
             request.now in
             RunsOf a false result (T.preprocessed tool.old) (T.preprocessed tool.new) }
         ensures compiles { T.compiled tool.new ≡ T.compiled tool.old }
-        ensures tree { F.tree files.new ≡ F.tree files.old }
-        ensures meaning { T.meaning tool.new ≡ T.meaning tool.old }
-        // No I/O error occurred where there is an answer, nor where a fault reports none.
-        ensures steady { OnOk result
-            (AreSteady T.Preprocessor F.Files tool.old files.old tool.new files.new) }
-        ensures still { HasOwnFault result →
-            AreSteady T.Preprocessor F.Files tool.old files.old tool.new files.new }
+        ensures untouched { Untouched T.Preprocessor F.Files tool.old files.old tool.new files.new result }
+    // No I/O error occurred where there is an answer, nor where a fault reports none.
     {
         request_fingerprint::<H, F, T>(self.alloc, &self.config.keys, request, files, tool)
     }
@@ -171,7 +166,7 @@ impl<
             (shelves_of (E.shelf self.new.entries) (O.shelf self.new.objects)) result }
 
         // A request to rustc that isn't UTF-8 touches no file.
-        ensures untouched { is_rust_no_text (named_by request.now.compiler) request.now ≡ true
+        ensures no_text { is_rust_no_text (named_by request.now.compiler) request.now ≡ true
             → files.new ≡ files.old }
         ensures settings { (self.new.settings ≡ self.old.settings)
             × (self.new.max_kept ≡ self.old.max_kept) }
@@ -286,7 +281,7 @@ impl<
         ensures quiet { OnPass result
             ((T.preprocessed tool.new ≡ T.preprocessed tool.old)
             × (T.compiled tool.new ≡ T.compiled tool.old) × (T.failed tool.new ≡ T.failed tool.old)) }
-        ensures untouched { is_rust_no_text (named_by request.now.compiler) request.now ≡ true
+        ensures no_text { is_rust_no_text (named_by request.now.compiler) request.now ≡ true
             → files.new ≡ files.old }
         ensures asked { let a = account_at (T.meaning tool.old) (F.tree files.old) self.old.settings
             request.now in
@@ -301,12 +296,7 @@ impl<
             (T.preprocessed tool.old) (T.preprocessed tool.new) }
         ensures settings { (self.new.settings ≡ self.old.settings)
             × (self.new.max_kept ≡ self.old.max_kept) }
-        ensures meaning { T.meaning tool.new ≡ T.meaning tool.old }
-        ensures tree { F.tree files.new ≡ F.tree files.old }
-        ensures steady { OnOk result
-            (AreSteady T.Preprocessor F.Files tool.old files.old tool.new files.new) }
-        ensures still { HasOwnFault result →
-            AreSteady T.Preprocessor F.Files tool.old files.old tool.new files.new }
+        ensures untouched { Untouched T.Preprocessor F.Files tool.old files.old tool.new files.new result }
     {
         match request.compiler.named() {
             Named::C(compiler) => c_turn::<H, E, O, F, T>(

@@ -5,12 +5,12 @@ ghost use Rattle.base_files.specs.Bytes.{ticked};
 ghost use Rattle.base_files.specs.Views.{FilesFail};
 ghost use Rattle.ckeys.specs.Calls.{needs_preprocessing};
 ghost use Rattle.ckeys.specs.EntryTurns.{RunsUntilKey};
-ghost use Rattle.ckeys_records.specs.Causes.{HasOwnFault};
 ghost use Rattle.ckeys_records.specs.Faults.{KeyCause};
 ghost use Rattle.ckeys_records.specs.Meaning.{names_of};
 ghost use Rattle.ckeys_records.specs.Params.{is_cached, stripped_words};
 ghost use Rattle.ckeys_records.specs.Records.{hold_end};
-ghost use Rattle.ckeys_records.specs.Views.{AreSteady, ToolFails};
+ghost use Rattle.ckeys_records.specs.Views.{ToolFails};
+ghost use Rattle.ckeys_records.specs.Untouched.{Untouched};
 ghost use Rattle.rustc_options.specs.Asks.{asks_in};
 ghost use Rattle.rustkeys.specs.Runs.{AtMostTwice};
 ghost use Rattle.wrap_base.specs.Commands.{by_c, digest_of, found_of, traits_of};
@@ -110,12 +110,7 @@ fn c_fingerprint<H: HashState, F: Files, T: Tool>(
         IfErr result
         (KeyCause w.fault (FilesFail F.Files files.old files.new)
         (ToolFails T.Preprocessor tool.old tool.new)) }
-    ensures tree { F.tree files.new ≡ F.tree files.old }
-    ensures meaning { T.meaning tool.new ≡ T.meaning tool.old }
-    ensures steady { OnOk result
-        (AreSteady T.Preprocessor F.Files tool.old files.old tool.new files.new) }
-    ensures still { HasOwnFault result →
-        AreSteady T.Preprocessor F.Files tool.old files.old tool.new files.new }
+    ensures untouched { Untouched T.Preprocessor F.Files tool.old files.old tool.new files.new result }
     ensures runs { needs_preprocessing parsed.now.language ≡ true
         → OnOk result (T.preprocessed tool.new ≡ ticked (T.preprocessed tool.old)) }
     ensures until { needs_preprocessing parsed.now.language ≡ true →
@@ -166,12 +161,7 @@ fn rust_fingerprint<H: HashState, F: Files, T: Tool>(
         IfErr result
         (KeyCause w.fault (FilesFail F.Files files.old files.new)
         (ToolFails T.Preprocessor tool.old tool.new)) }
-    ensures tree { F.tree files.new ≡ F.tree files.old }
-    ensures meaning { T.meaning tool.new ≡ T.meaning tool.old }
-    ensures steady { OnOk result
-        (AreSteady T.Preprocessor F.Files tool.old files.old tool.new files.new) }
-    ensures still { HasOwnFault result →
-        AreSteady T.Preprocessor F.Files tool.old files.old tool.new files.new }
+    ensures untouched { Untouched T.Preprocessor F.Files tool.old files.old tool.new files.new result }
     ensures runs { OnOk result
         (T.preprocessed tool.new ≡ ticked (ticked (T.preprocessed tool.old))) }
     ensures twice { AtMostTwice (T.preprocessed tool.old) (T.preprocessed tool.new) }
@@ -215,12 +205,7 @@ fn of_c<H: HashState, F: Files, T: Tool>(
         request.now (by_c (found_of compiler.entry)) in
         RunsOf a false result (T.preprocessed tool.old) (T.preprocessed tool.new) }
     ensures compiles { T.compiled tool.new ≡ T.compiled tool.old }
-    ensures tree { F.tree files.new ≡ F.tree files.old }
-    ensures meaning { T.meaning tool.new ≡ T.meaning tool.old }
-    ensures steady { OnOk result
-        (AreSteady T.Preprocessor F.Files tool.old files.old tool.new files.new) }
-    ensures still { HasOwnFault result →
-        AreSteady T.Preprocessor F.Files tool.old files.old tool.new files.new }
+    ensures untouched { Untouched T.Preprocessor F.Files tool.old files.old tool.new files.new result }
 {
     match judge(alloc, compiler, request, files)? {
         Verdict::Passes(reason) => Ok(Err(reason)),
@@ -254,12 +239,7 @@ fn of_rustc<H: HashState, F: Files, T: Tool>(
         request.now (rust_verdict_of request.now (F.tree files.old)) in
         RunsOf a false result (T.preprocessed tool.old) (T.preprocessed tool.new) }
     ensures compiles { T.compiled tool.new ≡ T.compiled tool.old }
-    ensures tree { F.tree files.new ≡ F.tree files.old }
-    ensures meaning { T.meaning tool.new ≡ T.meaning tool.old }
-    ensures steady { OnOk result
-        (AreSteady T.Preprocessor F.Files tool.old files.old tool.new files.new) }
-    ensures still { HasOwnFault result →
-        AreSteady T.Preprocessor F.Files tool.old files.old tool.new files.new }
+    ensures untouched { Untouched T.Preprocessor F.Files tool.old files.old tool.new files.new result }
 {
     match judge_rust(alloc, rust, request, files)? {
         RustVerdict::Passes(reason) => Ok(Err(reason)),
@@ -297,13 +277,8 @@ pub fn request_fingerprint<H: HashState, F: Files, T: Tool>(
         request.now in
         RunsOf a false result (T.preprocessed tool.old) (T.preprocessed tool.new) }
     ensures compiles { T.compiled tool.new ≡ T.compiled tool.old }
-    ensures tree { F.tree files.new ≡ F.tree files.old }
-    ensures meaning { T.meaning tool.new ≡ T.meaning tool.old }
-    // No I/O error occurred where there is an answer, nor where a fault reports none.
-    ensures steady { OnOk result
-        (AreSteady T.Preprocessor F.Files tool.old files.old tool.new files.new) }
-    ensures still { HasOwnFault result →
-        AreSteady T.Preprocessor F.Files tool.old files.old tool.new files.new }
+    ensures untouched { Untouched T.Preprocessor F.Files tool.old files.old tool.new files.new result }
+// No I/O error occurred where there is an answer, nor where a fault reports none.
 {
     match request.compiler.named() {
         Named::C(compiler) => of_c::<H, F, T>(alloc, config, compiler, request, files, tool),

@@ -6,7 +6,8 @@ use Rattle.base_files.specs.Views.{FilesFail, FilesView}
 use Rattle.ckeys_base.specs.Shelf.{Shelf, Within, KeepsKeys}
 use Rattle.ckeys_records.specs.Causes.{HasOwnFault}
 use Rattle.ckeys_records.specs.Folders.{Settings}
-use Rattle.ckeys_records.specs.Views.{AreSteady, ToolFails, ToolView}
+use Rattle.ckeys_records.specs.Untouched.{Untouched}
+use Rattle.ckeys_records.specs.Views.{ToolFails, ToolView}
 use Rattle.ckeys_records.specs.declared.fault.Fault.{Fault}
 use Rattle.ckeys_records.specs.declared.fault.Fault.TheVariants.{Memory}
 use Rattle.wrap_keys.specs.Verdicts.{Why}
@@ -180,8 +181,5 @@ pub record IsAnswered {F T : Type 0} (settings : Settings) (files : FilesView F)
   pub says : SaysBy GoesOn (account_at (tool.meaning begin.tool) (files.tree begin.files) settings begin.request) (FilesFail files begin.files end.files) (ToolFails tool begin.tool end.tool) result
   pub plain : settings.direct ≡ false → Says (account_at (tool.meaning begin.tool) (files.tree begin.files) settings begin.request) (FilesFail files begin.files end.files) (ToolFails tool begin.tool end.tool) result
   pub passed : IfErr result (λ fault. OfPassed (account_at (tool.meaning begin.tool) (files.tree begin.files) settings begin.request) (EarlyCause (IsAskedEarly (named_by begin.request.compiler) begin.request (files.tree begin.files)) fault))
-  pub steady : OnOk result (AreSteady tool files begin.tool begin.files end.tool end.files)
-  pub still : HasOwnFault result → AreSteady tool files begin.tool begin.files end.tool end.files
+  pub untouched : Untouched tool files begin.tool begin.files end.tool end.files result
   pub request : end.request ≡ begin.request
-  pub kept_tree : files.tree end.files ≡ files.tree begin.files
-  pub kept_meaning : tool.meaning end.tool ≡ tool.meaning begin.tool

@@ -1,6 +1,6 @@
 //! The verdict on a request to rustc: it is passed through, or this is asked for.
 
-ghost use Rattle.std.specs.Prelude.{◌≡◌, false, IfOk, IfErr, OnOk};
+ghost use Rattle.std.specs.Prelude.{◌≡◌, false, IfOk, IfErr};
 ghost use Rattle.std.specs.List.{list_all};
 ghost use Rattle.std.specs.Str.{is_utf8};
 ghost use Rattle.base_files.specs.Views.{FilesFail};
@@ -10,7 +10,7 @@ ghost use Rattle.wrap_keys.specs.Answers.{EarlyCause};
 ghost use Rattle.wrap_keys.specs.Early.{IsAskedEarly};
 ghost use Rattle.wrap_keys.specs.RustPlans.{OnAsks, OpensNothing, judgement_of};
 ghost use Rattle.wrap_keys.specs.RustVerdicts.{is_text, is_text_variable, opens_words, rust_verdict_of, with_hazards};
-ghost use Rattle.ckeys_records.specs.Causes.{HasOwnFault};
+ghost use Rattle.ckeys_records.specs.Untouched.{FilesUntouched};
 
 use base_files::{Files, OsBytes};
 use ckeys_records::Fault;
@@ -110,15 +110,13 @@ pub fn judge_rust<F: Files>(
         (λ verdict. judgement_of verdict ≡ rust_verdict_of request.now (F.tree files.old)) }
     // None of the commands of what is asked for makes rustc open a response file.
     ensures opens { IfOk result (λ verdict. OnAsks verdict OpensNothing) }
-    ensures untouched { is_text request.now ≡ false → files.new ≡ files.old }
+    ensures no_text { is_text request.now ≡ false → files.new ≡ files.old }
     ensures cause { IfErr result
         (EarlyCause (FilesFail F.Files files.old files.new)) }
     // No file is asked for but those that the words ask for.
     ensures asked { IfErr result
         (EarlyCause (IsAskedEarly (by_rustc rust.now) request.now (F.tree files.old))) }
-    ensures tree { F.tree files.new ≡ F.tree files.old }
-    ensures steady { OnOk result (F.failed files.new ≡ F.failed files.old) }
-    ensures still { HasOwnFault result → F.failed files.new ≡ F.failed files.old }
+    ensures untouched { FilesUntouched F.Files files.old files.new result }
 {
     if !is_text(request) {
         return Ok(RustVerdict::Passes(Reason::NotUtf8));

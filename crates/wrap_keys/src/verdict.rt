@@ -12,8 +12,8 @@ ghost use Rattle.wrap_keys.specs.Answers.{EarlyCause};
 ghost use Rattle.wrap_keys.specs.Early.{IsAskedEarly};
 ghost use Rattle.wrap_keys.specs.Verdicts.{asks, hashed_words, passes, verdict_of, why_of, with_hazards};
 ghost use Rattle.wrap_keys.specs.Plans.{judgement_of, IsPlanOf, IsReadAgain, IsReadAgainUnlessGiven, IsReadAgainWhereSafe, OnAsks};
-ghost use Rattle.ckeys_records.specs.Causes.{HasOwnFault};
 ghost use Rattle.ckeys_records.specs.Records.{hold_end};
+ghost use Rattle.ckeys_records.specs.Untouched.{FilesUntouched};
 
 use base_files::{Files, OsBytes};
 use ckeys_records::{Fault, hold_word_end};
@@ -187,9 +187,7 @@ pub fn judge<F: Files>(
     // No file is asked for but those of words.
     ensures asked { let compiler = by_c (found_of compiler.entry) in IfErr result
         (EarlyCause (IsAskedEarly compiler request.now (F.tree files.old))) }
-    ensures tree { F.tree files.new ≡ F.tree files.old }
-    ensures steady { OnOk result (F.failed files.new ≡ F.failed files.old) }
-    ensures still { HasOwnFault result → F.failed files.new ≡ F.failed files.old }
+    ensures untouched { FilesUntouched F.Files files.old files.new result }
 {
     let words = request.words.as_slice();
     match compiler

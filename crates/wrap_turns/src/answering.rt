@@ -1,10 +1,10 @@
 //! What is done for a request once all is known of it: the store is asked, and where it hands back nothing the command runs, and what
 //! it made is kept, unless it's larger than the limit.
 
-ghost use Rattle.std.specs.Prelude.{◌≡◌, OnOk};
+ghost use Rattle.std.specs.Prelude.{◌≡◌};
 ghost use Rattle.base_files.specs.Bytes.{Bytes};
-ghost use Rattle.ckeys_records.specs.Causes.{HasOwnFault};
-ghost use Rattle.ckeys_records.specs.Views.{AreSteady, ToolFails};
+ghost use Rattle.ckeys_records.specs.Views.{ToolFails};
+ghost use Rattle.ckeys_records.specs.Untouched.{Untouched};
 ghost use Rattle.wrap_keys.specs.Account.{Work, worked};
 ghost use Rattle.wrap_keys.specs.Asking.{HowFrom};
 ghost use Rattle.wrap_turns.specs.Prepared.{IsPrepared, SaysFinished};
@@ -68,12 +68,7 @@ pub fn answer_prepared<O: Store<StoreKey, Pairs>, F: Files, T: Tool>(
         → SaysFinished w (ToolFails T.Preprocessor tool.old tool.new) result }
     ensures how { HowFrom prepared.entry.from_record result }
     ensures preprocesses { T.preprocessed tool.new ≡ T.preprocessed tool.old }
-    ensures meaning { T.meaning tool.new ≡ T.meaning tool.old }
-    ensures tree { F.tree files.new ≡ F.tree files.old }
-    ensures steady { OnOk result
-        (AreSteady T.Preprocessor F.Files tool.old files.old tool.new files.new) }
-    ensures still { HasOwnFault result →
-        AreSteady T.Preprocessor F.Files tool.old files.old tool.new files.new }
+    ensures untouched { Untouched T.Preprocessor F.Files tool.old files.old tool.new files.new result }
 {
     // A law, which costs nothing: keys that are equal are one.
     keys_are_their_fields();

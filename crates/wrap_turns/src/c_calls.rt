@@ -1,9 +1,9 @@
 //! Requests to a C compiler: the verdict on one, its key, and what it is answered.
 
-ghost use Rattle.std.specs.Prelude.{◌≡◌, IfErr, OnOk};
+ghost use Rattle.std.specs.Prelude.{◌≡◌, IfErr};
 ghost use Rattle.base_files.specs.Views.{FilesFail};
-ghost use Rattle.ckeys_records.specs.Causes.{HasOwnFault};
-ghost use Rattle.ckeys_records.specs.Views.{AreSteady, ToolFails};
+ghost use Rattle.ckeys_records.specs.Views.{ToolFails};
+ghost use Rattle.ckeys_records.specs.Untouched.{Untouched};
 ghost use Rattle.wrap_keys.specs.Account.{account_named};
 ghost use Rattle.wrap_keys.specs.Early.{IsAskedEarly, OfPassed};
 ghost use Rattle.wrap_keys.specs.Answers.{EarlyCause, GoesOn, OnPass, Says, SaysBy};
@@ -65,12 +65,7 @@ pub fn c_turn<
         request.now (by_c (found_of compiler.entry)) in
         EntriesTurn H.digest_of a (E.shelf entries.old) (E.shelf entries.new)
         (T.preprocessed tool.old) (T.preprocessed tool.new) }
-    ensures meaning { T.meaning tool.new ≡ T.meaning tool.old }
-    ensures tree { F.tree files.new ≡ F.tree files.old }
-    ensures steady { OnOk result
-        (AreSteady T.Preprocessor F.Files tool.old files.old tool.new files.new) }
-    ensures still { HasOwnFault result →
-        AreSteady T.Preprocessor F.Files tool.old files.old tool.new files.new }
+    ensures untouched { Untouched T.Preprocessor F.Files tool.old files.old tool.new files.new result }
 {
     match judge(alloc, compiler, request, files)? {
         Verdict::Passes(reason) => Ok(Answer::Pass(reason)),

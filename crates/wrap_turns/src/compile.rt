@@ -1,8 +1,8 @@
 //! The compile of a call.
 
-ghost use Rattle.std.specs.Prelude.{◌≡◌, IfOk, IfErr, OnOk};
-ghost use Rattle.ckeys_records.specs.Causes.{HasOwnFault};
-ghost use Rattle.ckeys_records.specs.Views.{AreSteady, ToolFails};
+ghost use Rattle.std.specs.Prelude.{◌≡◌, IfOk, IfErr};
+ghost use Rattle.ckeys_records.specs.Views.{ToolFails};
+ghost use Rattle.ckeys_records.specs.Untouched.{Untouched};
 ghost use Rattle.wrap_keys.specs.Account.{Work, IsSuccess};
 ghost use Rattle.wrap_turns.specs.Prepared.{Makes};
 ghost use Rattle.wrap_turns.specs.Steps.{CompileCause, RanOnce};
@@ -32,12 +32,7 @@ pub fn compiled_pairs<F: Files, T: Tool>(
     ensures cause { (w : Work)
         → Makes (T.meaning tool.old) (F.tree files.old) kind command.now outputs.now moment w
         → IfErr result (CompileCause w (ToolFails T.Preprocessor tool.old tool.new)) }
-    ensures tree { F.tree files.new ≡ F.tree files.old }
-    ensures steady { OnOk result
-        (AreSteady T.Preprocessor F.Files tool.old files.old tool.new files.new) }
-    ensures still { HasOwnFault result →
-        AreSteady T.Preprocessor F.Files tool.old files.old tool.new files.new }
-    ensures meaning { T.meaning tool.new ≡ T.meaning tool.old }
+    ensures untouched { Untouched T.Preprocessor F.Files tool.old files.old tool.new files.new result }
     ensures preprocesses { T.preprocessed tool.new ≡ T.preprocessed tool.old }
     ensures runs { RanOnce result (T.compiled tool.old) (T.compiled tool.new) }
 {

@@ -1,12 +1,12 @@
 //! A request that is prepared: all that is known of it before the store of outputs is asked.
 
-ghost use Rattle.std.specs.Prelude.{◌≡◌, true, false, Some, IfOk, IfErr, OnOk};
+ghost use Rattle.std.specs.Prelude.{◌≡◌, true, false, Some, IfOk, IfErr};
 ghost use Rattle.base_files.specs.Views.{FilesFail};
 ghost use Rattle.ckeys.specs.Calls.{PrintedCall, needs_preprocessing, printed_call};
-ghost use Rattle.ckeys_records.specs.Causes.{HasOwnFault};
 ghost use Rattle.ckeys_records.specs.Faults.{KeyCause};
 ghost use Rattle.ckeys.specs.EntryTurns.{KeyFine, KeyRecorded, KeyRuns, PutsNone, RunsUntilKey};
-ghost use Rattle.ckeys_records.specs.Views.{AreSteady, ToolFails};
+ghost use Rattle.ckeys_records.specs.Views.{ToolFails};
+ghost use Rattle.ckeys_records.specs.Untouched.{Untouched};
 ghost use Rattle.wrap_keys.specs.Account.{call_at, work_at, worked};
 ghost use Rattle.wrap_keys.specs.Asking.{EntriesTurn, OnUnkeyed, StopsEarly, WorkKeyFrom};
 ghost use Rattle.wrap_keys.specs.Plans.{IsPlanOf};
@@ -88,12 +88,7 @@ pub fn prepare<'a, H: HashState, E: Store<EntryKey, PreprocessorCacheEntry>, F: 
         IfErr result (RunsUntilKey (T.preprocessed tool.old) (T.preprocessed tool.new)) }
     ensures idle { needs_preprocessing plan.now.parsed.language ≡ false →
         T.preprocessed tool.new ≡ T.preprocessed tool.old }
-    ensures tree { F.tree files.new ≡ F.tree files.old }
-    ensures meaning { T.meaning tool.new ≡ T.meaning tool.old }
-    ensures steady { OnOk result
-        (AreSteady T.Preprocessor F.Files tool.old files.old tool.new files.new) }
-    ensures still { HasOwnFault result →
-        AreSteady T.Preprocessor F.Files tool.old files.old tool.new files.new }
+    ensures untouched { Untouched T.Preprocessor F.Files tool.old files.old tool.new files.new result }
     ensures compiles { T.compiled tool.new ≡ T.compiled tool.old }
 {
     // A law, which costs nothing: words of which none holds the byte that ends one can be distinguished without the folders too.

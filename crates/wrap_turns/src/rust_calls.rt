@@ -3,9 +3,9 @@
 ghost use Rattle.std.specs.Prelude.{◌≡◌, false, IfOk, IfErr, OnOk};
 ghost use Rattle.base_files.specs.Bytes.{ticked};
 ghost use Rattle.base_files.specs.Views.{FilesFail};
-ghost use Rattle.ckeys_records.specs.Causes.{HasOwnFault};
 ghost use Rattle.ckeys_records.specs.Faults.{KeyCause};
-ghost use Rattle.ckeys_records.specs.Views.{AreSteady, ToolFails};
+ghost use Rattle.ckeys_records.specs.Views.{ToolFails};
+ghost use Rattle.ckeys_records.specs.Untouched.{Untouched};
 ghost use Rattle.rustc_options.specs.Asks.{asks_in};
 ghost use Rattle.rustkeys.specs.Runs.{AtMostTwice};
 ghost use Rattle.wrap_keys.specs.Account.{rust_account_by, rust_call_at, rust_work_at, worked};
@@ -56,12 +56,7 @@ fn rust_prepare<H: HashState, F: Files, T: Tool>(
         IfErr result
         (KeyCause w.fault (FilesFail F.Files files.old files.new)
         (ToolFails T.Preprocessor tool.old tool.new)) }
-    ensures tree { F.tree files.new ≡ F.tree files.old }
-    ensures meaning { T.meaning tool.new ≡ T.meaning tool.old }
-    ensures steady { OnOk result
-        (AreSteady T.Preprocessor F.Files tool.old files.old tool.new files.new) }
-    ensures still { HasOwnFault result →
-        AreSteady T.Preprocessor F.Files tool.old files.old tool.new files.new }
+    ensures untouched { Untouched T.Preprocessor F.Files tool.old files.old tool.new files.new result }
     ensures runs { OnOk result
         (T.preprocessed tool.new ≡ ticked (ticked (T.preprocessed tool.old))) }
     ensures twice { AtMostTwice (T.preprocessed tool.old) (T.preprocessed tool.new) }
@@ -125,12 +120,7 @@ fn rust_answer<H: HashState, O: Store<StoreKey, Pairs>, F: Files, T: Tool>(
         (rust_call_at rust.now request.now (F.tree files.old) (asks_in parsed.now)) in
         StopsEarly w (T.preprocessed tool.old) (T.preprocessed tool.new) }
     ensures unpassed { OnPass result ⊥ }
-    ensures meaning { T.meaning tool.new ≡ T.meaning tool.old }
-    ensures tree { F.tree files.new ≡ F.tree files.old }
-    ensures steady { OnOk result
-        (AreSteady T.Preprocessor F.Files tool.old files.old tool.new files.new) }
-    ensures still { HasOwnFault result →
-        AreSteady T.Preprocessor F.Files tool.old files.old tool.new files.new }
+    ensures untouched { Untouched T.Preprocessor F.Files tool.old files.old tool.new files.new result }
 {
     let made = rust_prepare::<H, F, T>(alloc, rust, request, parsed, files, tool)?;
     let key = made.key;
@@ -180,13 +170,8 @@ pub fn rust_turn<H: HashState, O: Store<StoreKey, Pairs>, F: Files, T: Tool>(
     ensures runs { let a = rust_account_by (T.meaning tool.old) (F.tree files.old) rust.now
         request.now (rust_verdict_of request.now (F.tree files.old)) in
         RunsOf a false result (T.preprocessed tool.old) (T.preprocessed tool.new) }
-    ensures untouched { is_text request.now ≡ false → files.new ≡ files.old }
-    ensures meaning { T.meaning tool.new ≡ T.meaning tool.old }
-    ensures tree { F.tree files.new ≡ F.tree files.old }
-    ensures steady { OnOk result
-        (AreSteady T.Preprocessor F.Files tool.old files.old tool.new files.new) }
-    ensures still { HasOwnFault result →
-        AreSteady T.Preprocessor F.Files tool.old files.old tool.new files.new }
+    ensures no_text { is_text request.now ≡ false → files.new ≡ files.old }
+    ensures untouched { Untouched T.Preprocessor F.Files tool.old files.old tool.new files.new result }
 {
     match judge_rust(alloc, rust, request, files)? {
         RustVerdict::Passes(reason) => Ok(Answer::Pass(reason)),

@@ -67,15 +67,12 @@ loop-call-preserved g c =
       idle = λ h. (e.idle h).0;
       plain = subst (λ q. has_entry_key q.call ≡ false → IfOk answer (λ made. made.2 ≡ false)) is e.plain;
       fit = subst (λ env. OnOk answer (AllByRecursion FitsLength (filter is_cached env))) at_place.env e.fit;
-      steady = e.steady;
-      still = e.still;
+      untouched = e.untouched;
       compiles = e.compiles;
       hasher = refl;
       dir = refl;
       env = refl;
       moment = refl;
-      tree = e.tree;
-      meaning = e.meaning;
     } in
     let asked = printed_call (view.tool.meaning called.tool) (call_by view.compiler.kind_of view.compiler.traits called.hasher place (view.files.tree called.files)) in
     let Recorded : PrintedCall → Settings → Type 0 = λ q by. (earlier : List PrintedCall) → EntryInvariant digest_of by earlier old → EntryInvariant digest_of by (earlier ++ asking q) kept in

@@ -17,18 +17,21 @@ found_sorted s bytes parts (Some kept) read sorted =
     let h = subst (IsRead 64 s bytes) sorted.0 read in
     (record { digests = h.digests; sorted = sorted.1 }, h.material, h.shape)
 
-pub returns-in-Ok-clause-found : goal.returns-in-Ok-clause-found
-returns-in-Ok-clause-found c =
-    found_sorted c.args.shape.now c.args.bytes.now c.in-Ok.parts c.if_sorted.result
-    (parts_take 64 c.args.shape.now c.args.bytes.now c.in-Ok.parts (λ i. omega (arith, c.type_inv.bytes i)) c.in-Ok.ensures) c.if_sorted.ensures.sorted
+pub returns-in-Ok : goal.returns-in-Ok
+returns-in-Ok c = record {
+  found = found_sorted c.args.shape.now c.args.bytes.now c.in-Ok.parts c.if_sorted.result
+      (parts_take 64 c.args.shape.now c.args.bytes.now c.in-Ok.parts (λ i. omega (arith, c.type_inv.bytes i)) c.in-Ok.ensures) c.if_sorted.ensures.sorted;
+  only = λ parts is.
+      let read = parts_are_read 64 c.args.shape.now c.args.bytes.now parts is.0.digests c.has_a_length.ensures is.1 is.2 in
+      let same = some_is c.in-Ok.parts parts (sym c.in-Ok.ensures ∙ read) in
+      c.if_sorted.ensures.kept (subst IsSortedByNames (sym same) is.0.sorted) ∙ sym c.in-Ok.ensures ∙ read;
+}
 
-pub returns-in-Ok-clause-only : goal.returns-in-Ok-clause-only
-returns-in-Ok-clause-only c = λ parts formed spelled shaped.
-    let same = some_is c.in-Ok.parts parts (sym c.in-Ok.ensures ∙ parts_are_read 64 c.args.shape.now c.args.bytes.now parts formed.digests c.has_a_length.ensures spelled shaped) in
-    c.if_sorted.ensures.kept (subst IsSortedByNames (sym same) formed.sorted) ∙ sym c.in-Ok.ensures ∙ parts_are_read 64 c.args.shape.now c.args.bytes.now parts formed.digests c.has_a_length.ensures spelled shaped
-
-pub returns-in-Err-Unfit-clause-only : goal.returns-in-Err-Unfit-clause-only
-returns-in-Err-Unfit-clause-only c = λ parts formed spelled shaped.
-    let unread = rw c.in-Err-Unfit.field-0-is at c.in-Err-Unfit.ensures in
-    let clash = sym unread ∙ parts_are_read 64 c.args.shape.now c.args.bytes.now parts formed.digests c.has_a_length.ensures spelled shaped in
-    absurd cc
+pub returns-in-Err-Unfit : goal.returns-in-Err-Unfit
+returns-in-Err-Unfit c = record {
+  found = tt;
+  only = λ parts is.
+      let unread = rw c.in-Err-Unfit.field-0-is at c.in-Err-Unfit.ensures in
+      let clash = sym unread ∙ parts_are_read 64 c.args.shape.now c.args.bytes.now parts is.0.digests c.has_a_length.ensures is.1 is.2 in
+      absurd cc;
+}

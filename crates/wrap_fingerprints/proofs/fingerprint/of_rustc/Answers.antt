@@ -28,12 +28,12 @@ returns-in_err-made-in-Asks-clause-tells g c =
     let on_mid = FailsOn tree g.F.Files.failed g.F.Files.fails_on c.judge_rust.new.files c.rust_fingerprint-made.new.files in
     let device = FailsIn meaning g.T.Preprocessor.failed g.T.Preprocessor.fails_in c.args.tool.now c.rust_fingerprint-made.new.tool in
     let work_on : Tree → Work = λ files. rust_work_at (meaning c.args.tool.now) (rust_call_at c.args.rust.now request files asked) in
-    let before : (name : Bytes) → on_mid name → on_old name = fails_on_later tree g.F.Files.failed g.F.Files.fails_on c.args.files.now c.judge_rust.new.files c.rust_fingerprint-made.new.files c.in_ok-reason.ensures.tree c.in_ok-reason.ensures.steady in
+    let before : (name : Bytes) → on_mid name → on_old name = fails_on_later tree g.F.Files.failed g.F.Files.fails_on c.args.files.now c.judge_rust.new.files c.rust_fingerprint-made.new.files c.in_ok-reason.ensures.untouched.tree c.in_ok-reason.ensures.untouched.steady in
     let decided : asks asked ≡ rust_verdict_of request (tree c.args.files.now) = rw c.in-Asks.is at c.in_ok-reason.ensures.verdict in
     let account : RustJudgement → Account = rust_account_by (meaning c.args.tool.now) (tree c.args.files.now) c.args.rust.now request in
     let fault = c.in_err-made-in-Asks.field-0.0 in
     let early : KeyCause (work_on (tree c.judge_rust.new.files)).fault on_old device fault = key_later (work_on (tree c.judge_rust.new.files)) on_mid on_old device before fault c.in_err-made-in-Asks.ensures.cause in
-    let moved : KeyCause (work_on (tree c.args.files.now)).fault on_old device fault = subst (λ (t : Tree). KeyCause (work_on t).fault on_old device fault) c.in_ok-reason.ensures.tree early in
+    let moved : KeyCause (work_on (tree c.args.files.now)).fault on_old device fault = subst (λ (t : Tree). KeyCause (work_on t).fault on_old device fault) c.in_ok-reason.ensures.untouched.tree early in
     let told = c.from_residual-in_err-made-in-Asks.result in
     subst (λ (d : RustJudgement). Tells digest_of (account d) on_old device told) decided (fault_tells digest_of (work_on (tree c.args.files.now)) on_old device fault moved told c.from_residual-in_err-made-in-Asks.ensures.1)
 
@@ -52,7 +52,7 @@ returns-in_err-made-in-Asks-clause-runs g c =
     let after = g.T.Preprocessor.preprocessed c.rust_fingerprint-made.new.tool in
     let told = c.from_residual-in_err-made-in-Asks.result in
     let work_on : Tree → Work = λ files. rust_work_at (g.T.Preprocessor.meaning c.args.tool.now) (rust_call_at c.args.rust.now request files (asks_in c.in-Asks.parsed)) in
-    let early = subst (λ (t : Tree). StopsEarly (work_on t) before after) c.in_ok-reason.ensures.tree c.rust_fingerprint-made.ensures.early in
+    let early = subst (λ (t : Tree). StopsEarly (work_on t) before after) c.in_ok-reason.ensures.untouched.tree c.rust_fingerprint-made.ensures.early in
     subst (λ (d : RustJudgement). RunsOf (account d) false told before after) decided (asked_until told c.in_err-made-in-Asks.field-0.0 before after c.from_residual-in_err-made-in-Asks.ensures.1 c.rust_fingerprint-made.ensures.twice, early)
 
 pub returns-in_ok-made-in-Asks-clause-runs : goal.returns-in_ok-made-in-Asks-clause-runs
@@ -65,5 +65,5 @@ returns-in_ok-made-in-Asks-clause-runs g c =
     let after = g.T.Preprocessor.preprocessed c.rust_fingerprint-made.new.tool in
     let told : Told = Ok (Ok c.in_ok-made-in-Asks.field-0) in
     let work_on : Tree → Work = λ files. rust_work_at (g.T.Preprocessor.meaning c.args.tool.now) (rust_call_at c.args.rust.now request files (asks_in c.in-Asks.parsed)) in
-    let early = subst (λ (t : Tree). StopsEarly (work_on t) before after) c.in_ok-reason.ensures.tree c.rust_fingerprint-made.ensures.early in
+    let early = subst (λ (t : Tree). StopsEarly (work_on t) before after) c.in_ok-reason.ensures.untouched.tree c.rust_fingerprint-made.ensures.early in
     subst (λ (d : RustJudgement). RunsOf (account d) false told before after) decided (c.in_ok-made-in-Asks.ensures.runs, early)

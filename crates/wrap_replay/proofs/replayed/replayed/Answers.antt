@@ -30,7 +30,7 @@ pub returns-clause-asked : goal.returns-clause-asked
 returns-clause-asked g c = c.serve.ensures.turn.asked
 
 pub returns-clause-meaning : goal.returns-clause-meaning
-returns-clause-meaning g c = c.serve.ensures.answered.kept_meaning
+returns-clause-meaning g c = c.serve.ensures.answered.untouched.meaning
 
 pub returns-clause-tree : goal.returns-clause-tree
-returns-clause-tree g c = c.serve.ensures.answered.kept_tree
+returns-clause-tree g c = c.serve.ensures.answered.untouched.tree

@@ -53,9 +53,9 @@ returns-in-Err-clause-says g c =
     let on_mid = FailsOn tree g.F.Files.failed g.F.Files.fails_on c.judge.new.files c.prepare.new.files in
     let on_old = FailsOn tree g.F.Files.failed g.F.Files.fails_on c.args.files.now c.prepare.new.files in
     let device = FailsIn meaning g.T.Preprocessor.failed g.T.Preprocessor.fails_in c.args.tool.now c.prepare.new.tool in
-    let before : (name : Bytes) → on_mid name → on_old name = fails_on_later tree g.F.Files.failed g.F.Files.fails_on c.args.files.now c.judge.new.files c.prepare.new.files c.in_ok-reason.ensures.tree c.in_ok-reason.ensures.steady in
+    let before : (name : Bytes) → on_mid name → on_old name = fails_on_later tree g.F.Files.failed g.F.Files.fails_on c.args.files.now c.judge.new.files c.prepare.new.files c.in_ok-reason.ensures.untouched.tree c.in_ok-reason.ensures.untouched.steady in
     let result : Result Answer Fault = Err c.in-Err.fault in
-    of_asked (λ a. SaysBy GoesOn a on_old device result) (meaning c.args.tool.now) _ _ c.args.config.now.keys found request parsed _ c.in_ok-reason.ensures.tree decided
+    of_asked (λ a. SaysBy GoesOn a on_old device result) (meaning c.args.tool.now) _ _ c.args.config.now.keys found request parsed _ c.in_ok-reason.ensures.untouched.tree decided
     (says_later (GoesOn w) w on_mid on_old device before result (key_says (GoesOn w) w on_mid device c.in-Err.fault c.in-Err.ensures.cause result refl))
 
 pub returns-in-Err-clause-goes_on : goal.returns-in-Err-clause-goes_on
@@ -72,10 +72,10 @@ returns-in-Err-clause-goes_on g c =
     let on_mid = FailsOn tree g.F.Files.failed g.F.Files.fails_on c.judge.new.files c.prepare.new.files in
     let on_old = FailsOn tree g.F.Files.failed g.F.Files.fails_on c.args.files.now c.prepare.new.files in
     let device = FailsIn meaning g.T.Preprocessor.failed g.T.Preprocessor.fails_in c.args.tool.now c.prepare.new.tool in
-    let before : (name : Bytes) → on_mid name → on_old name = fails_on_later tree g.F.Files.failed g.F.Files.fails_on c.args.files.now c.judge.new.files c.prepare.new.files c.in_ok-reason.ensures.tree c.in_ok-reason.ensures.steady in
+    let before : (name : Bytes) → on_mid name → on_old name = fails_on_later tree g.F.Files.failed g.F.Files.fails_on c.args.files.now c.judge.new.files c.prepare.new.files c.in_ok-reason.ensures.untouched.tree c.in_ok-reason.ensures.untouched.steady in
     let result : Result Answer Fault = Err c.in-Err.fault in
     let held = (g.E.Store.shelf c.args.entries.now).held in
-    of_asked (λ a. RecordsAreTrue digest_of a held → Says a on_old device result) (meaning c.args.tool.now) _ _ c.args.config.now.keys found request parsed _ c.in_ok-reason.ensures.tree decided
+    of_asked (λ a. RecordsAreTrue digest_of a held → Says a on_old device result) (meaning c.args.tool.now) _ _ c.args.config.now.keys found request parsed _ c.in_ok-reason.ensures.untouched.tree decided
     (λ are_true. says_later (w.fault ≡ None) w on_mid on_old device before result (key_says (w.fault ≡ None) w on_mid device c.in-Err.fault c.in-Err.ensures.cause result refl))
 
 pub returns-in-Err-clause-asked : goal.returns-in-Err-clause-asked
@@ -93,15 +93,15 @@ returns-in-Err-clause-asked g c =
     let e = c.in-Err.ensures in
     let old = shelves_of (g.E.Store.shelf c.args.entries.now) (g.O.Store.shelf c.args.objects.now) in
     let new = shelves_of (g.E.Store.shelf c.prepare.new.entries) (g.O.Store.shelf c.args.objects.now) in
-    of_asked (λ a. AskedTurn digest_of c.args.config.now.max_kept a old new (g.T.Preprocessor.preprocessed c.args.tool.now) (g.T.Preprocessor.preprocessed c.prepare.new.tool) (g.T.Preprocessor.compiled c.args.tool.now) (g.T.Preprocessor.compiled c.prepare.new.tool) (Err c.in-Err.fault)) (meaning c.args.tool.now) _ _ c.args.config.now.keys found request parsed _ c.in_ok-reason.ensures.tree decided
+    of_asked (λ a. AskedTurn digest_of c.args.config.now.max_kept a old new (g.T.Preprocessor.preprocessed c.args.tool.now) (g.T.Preprocessor.preprocessed c.prepare.new.tool) (g.T.Preprocessor.compiled c.args.tool.now) (g.T.Preprocessor.compiled c.prepare.new.tool) (Err c.in-Err.fault)) (meaning c.args.tool.now) _ _ c.args.config.now.keys found request parsed _ c.in_ok-reason.ensures.untouched.tree decided
     (asked_fault digest_of c.args.config.now.max_kept (worked w) old new _ _ _ _ _ fault refl _ e.cause e.unput false (key_of digest_of w.rec) refl
     ((c.prepare.ensures.idle, λ h. key_until false _ _ fault (e.until h)), c.prepare.ensures.early)
     (key_turn digest_of c.args.config.now.max_kept (key_of digest_of w.rec) w w.fault _ _ _ c.prepare.ensures.compiles _ _ fault e.cause _ refl))
 
 pub returns-in-Err-clause-still : goal.returns-in-Err-clause-still
 returns-in-Err-clause-still g c own =
-    let kept = c.in-Err.ensures.still (own_fault {A = Answer} Prepared (Err c.in-Err.fault) c.in-Err.fault refl own) in
-    (kept.0, kept.1 ∙ c.in_ok-reason.ensures.steady)
+    let kept = c.in-Err.ensures.untouched.still (own_fault {A = Answer} Prepared (Err c.in-Err.fault) c.in-Err.fault refl own) in
+    (kept.0, kept.1 ∙ c.in_ok-reason.ensures.untouched.steady)
 
 pub returns-in-Ok-clause-says : goal.returns-in-Ok-clause-says
 returns-in-Ok-clause-says g c =
@@ -119,9 +119,9 @@ returns-in-Ok-clause-says g c =
     let on_old = FailsOn tree g.F.Files.failed g.F.Files.fails_on c.args.files.now c.answer_prepared-answer.new.files in
     let device = FailsIn meaning g.T.Preprocessor.failed g.T.Preprocessor.fails_in c.args.tool.now c.answer_prepared-answer.new.tool in
     let later_in = FailsIn meaning g.T.Preprocessor.failed g.T.Preprocessor.fails_in c.prepare.new.tool c.answer_prepared-answer.new.tool in
-    let later : (step : Step) → later_in step → device step = fails_in_later meaning g.T.Preprocessor.failed g.T.Preprocessor.fails_in c.args.tool.now c.prepare.new.tool c.answer_prepared-answer.new.tool c.prepare.ensures.meaning k.steady.0 in
+    let later : (step : Step) → later_in step → device step = fails_in_later meaning g.T.Preprocessor.failed g.T.Preprocessor.fails_in c.args.tool.now c.prepare.new.tool c.answer_prepared-answer.new.tool c.prepare.ensures.untouched.meaning k.steady.0 in
     let result = c.answer_prepared-answer.result in
-    of_asked (λ a. SaysBy GoesOn a on_old device result) (meaning c.args.tool.now) _ _ c.args.config.now.keys found request parsed _ c.in_ok-reason.ensures.tree decided
+    of_asked (λ a. SaysBy GoesOn a on_old device result) (meaning c.args.tool.now) _ _ c.args.config.now.keys found request parsed _ c.in_ok-reason.ensures.untouched.tree decided
     (finished_says (GoesOn w) w on_old device later_in later (goes_on digest_of w p refl _ _ _ k.from k.fine) result (c.answer_prepared-answer.ensures.says digest_of w k.prepared))
 
 pub returns-in-Ok-clause-goes_on : goal.returns-in-Ok-clause-goes_on
@@ -140,10 +140,10 @@ returns-in-Ok-clause-goes_on g c =
     let on_old = FailsOn tree g.F.Files.failed g.F.Files.fails_on c.args.files.now c.answer_prepared-answer.new.files in
     let device = FailsIn meaning g.T.Preprocessor.failed g.T.Preprocessor.fails_in c.args.tool.now c.answer_prepared-answer.new.tool in
     let later_in = FailsIn meaning g.T.Preprocessor.failed g.T.Preprocessor.fails_in c.prepare.new.tool c.answer_prepared-answer.new.tool in
-    let later : (step : Step) → later_in step → device step = fails_in_later meaning g.T.Preprocessor.failed g.T.Preprocessor.fails_in c.args.tool.now c.prepare.new.tool c.answer_prepared-answer.new.tool c.prepare.ensures.meaning k.steady.0 in
+    let later : (step : Step) → later_in step → device step = fails_in_later meaning g.T.Preprocessor.failed g.T.Preprocessor.fails_in c.args.tool.now c.prepare.new.tool c.answer_prepared-answer.new.tool c.prepare.ensures.untouched.meaning k.steady.0 in
     let result = c.answer_prepared-answer.result in
     let held = (g.E.Store.shelf c.args.entries.now).held in
-    of_asked (λ a. RecordsAreTrue digest_of a held → Says a on_old device result) (meaning c.args.tool.now) _ _ c.args.config.now.keys found request parsed _ c.in_ok-reason.ensures.tree decided
+    of_asked (λ a. RecordsAreTrue digest_of a held → Says a on_old device result) (meaning c.args.tool.now) _ _ c.args.config.now.keys found request parsed _ c.in_ok-reason.ensures.untouched.tree decided
     (λ are_true. finished_says (w.fault ≡ None) w on_old device later_in later (own_goes_on digest_of w p refl held _ _ k.from k.fine are_true) result (c.answer_prepared-answer.ensures.says digest_of w k.prepared))
 
 pub returns-in-Ok-clause-quiet : goal.returns-in-Ok-clause-quiet
@@ -177,14 +177,14 @@ returns-in-Ok-clause-asked g c =
     let early : StopsEarly w (g.T.Preprocessor.preprocessed c.args.tool.now) (g.T.Preprocessor.preprocessed c.answer_prepared-answer.new.tool) = subst (StopsEarly w (g.T.Preprocessor.preprocessed c.args.tool.now)) (sym c.answer_prepared-answer.ensures.preprocesses) c.prepare.ensures.early in
     let turned : ℕ → Type 0 = λ compiled. KeyedTurn digest_of c.args.config.now.max_kept key (worked w) old.objects new.objects compiled (g.T.Preprocessor.compiled c.answer_prepared-answer.new.tool) c.answer_prepared-answer.result in
     let turn : turned (g.T.Preprocessor.compiled c.args.tool.now) = subst turned c.prepare.ensures.compiles (c.answer_prepared-answer.ensures.turn digest_of w k.prepared) in
-    of_asked (λ a. AskedTurn digest_of c.args.config.now.max_kept a old new (g.T.Preprocessor.preprocessed c.args.tool.now) (g.T.Preprocessor.preprocessed c.answer_prepared-answer.new.tool) (g.T.Preprocessor.compiled c.args.tool.now) (g.T.Preprocessor.compiled c.answer_prepared-answer.new.tool) c.answer_prepared-answer.result) (meaning c.args.tool.now) _ _ c.args.config.now.keys found request parsed _ c.in_ok-reason.ensures.tree decided
+    of_asked (λ a. AskedTurn digest_of c.args.config.now.max_kept a old new (g.T.Preprocessor.preprocessed c.args.tool.now) (g.T.Preprocessor.preprocessed c.answer_prepared-answer.new.tool) (g.T.Preprocessor.compiled c.args.tool.now) (g.T.Preprocessor.compiled c.answer_prepared-answer.new.tool) c.answer_prepared-answer.result) (meaning c.args.tool.now) _ _ c.args.config.now.keys found request parsed _ c.in_ok-reason.ensures.untouched.tree decided
     (asked_finished digest_of c.args.config.now.max_kept w old new _ _ _ _ from key k.from (text_fine w p refl from k.fine) runs early k.recorded _ _ (c.answer_prepared-answer.ensures.says digest_of w k.prepared) c.answer_prepared-answer.ensures.how turn)
 
 pub returns-in-Ok-clause-steady : goal.returns-in-Ok-clause-steady
 returns-in-Ok-clause-steady g c =
-    let prepared = c.in-Ok.ensures.steady in
+    let prepared = c.in-Ok.ensures.untouched.steady in
     steady_later g.T.Preprocessor g.F.Files c.args.tool.now c.prepare.new.tool c.answer_prepared-answer.new.tool c.args.files.now c.prepare.new.files c.answer_prepared-answer.new.files
-    (prepared.0, prepared.1 ∙ c.in_ok-reason.ensures.steady) c.answer_prepared-answer.result c.answer_prepared-answer.ensures.steady
+    (prepared.0, prepared.1 ∙ c.in_ok-reason.ensures.untouched.steady) c.answer_prepared-answer.result c.answer_prepared-answer.ensures.untouched.steady
 
 pub returns-in_err-reason-clause-passed : goal.returns-in_err-reason-clause-passed
 returns-in_err-reason-clause-passed g c =
@@ -200,7 +200,7 @@ returns-in-Err-clause-passed g c =
     let decided : asks parsed ≡ verdict_of found.kind (words_at found request (tree c.args.files.now)) = rw c.in-Asks.is at c.in_ok-reason.ensures.verdict in
     let asked : Bytes → Type 0 = IsAskedEarly (by_c found) request (tree c.args.files.now) in
     let result : Result Answer Fault = Err c.in-Err.fault in
-    of_asked (λ a. IfErr result (λ f. OfPassed a (EarlyCause asked f))) (g.T.Preprocessor.meaning c.args.tool.now) _ _ c.args.config.now.keys found request parsed _ c.in_ok-reason.ensures.tree decided (not_passed result)
+    of_asked (λ a. IfErr result (λ f. OfPassed a (EarlyCause asked f))) (g.T.Preprocessor.meaning c.args.tool.now) _ _ c.args.config.now.keys found request parsed _ c.in_ok-reason.ensures.untouched.tree decided (not_passed result)
 
 pub returns-in-Ok-clause-passed : goal.returns-in-Ok-clause-passed
 returns-in-Ok-clause-passed g c =
@@ -211,4 +211,4 @@ returns-in-Ok-clause-passed g c =
     let decided : asks parsed ≡ verdict_of found.kind (words_at found request (tree c.args.files.now)) = rw c.in-Asks.is at c.in_ok-reason.ensures.verdict in
     let asked : Bytes → Type 0 = IsAskedEarly (by_c found) request (tree c.args.files.now) in
     let result = c.answer_prepared-answer.result in
-    of_asked (λ a. IfErr result (λ f. OfPassed a (EarlyCause asked f))) (g.T.Preprocessor.meaning c.args.tool.now) _ _ c.args.config.now.keys found request parsed _ c.in_ok-reason.ensures.tree decided (not_passed result)
+    of_asked (λ a. IfErr result (λ f. OfPassed a (EarlyCause asked f))) (g.T.Preprocessor.meaning c.args.tool.now) _ _ c.args.config.now.keys found request parsed _ c.in_ok-reason.ensures.untouched.tree decided (not_passed result)

@@ -125,7 +125,7 @@ returns-clause-prepared g c =
         words = c.stripped_words_lack_the_end.ensures c.args.config.now.basedirs (hashed_words c.args.plan.now.parsed) c.requires.plan.told;
         variables = subst (λ (env : Variables). AllByRecursion FitsLength (filter is_cached env)) p.env c.in_ok-digest.ensures.fit;
       };
-      makes = makes_then _ _ _ _ _ _ _ w moment (plan_makes meaning _ tree _ (found_of c.args.compiler) c.args.request.now c.args.plan.now.parsed c.args.config.now _ _ _ c.kind.ensures c.requires.plan.compile c.as_slice-outputs.ensures c.generate_hash_key.ensures.meaning c.generate_hash_key.ensures.tree);
+      makes = makes_then _ _ _ _ _ _ _ w moment (plan_makes meaning _ tree _ (found_of c.args.compiler) c.args.request.now c.args.plan.now.parsed c.args.config.now _ _ _ c.kind.ensures c.requires.plan.compile c.as_slice-outputs.ensures c.generate_hash_key.ensures.untouched.meaning c.generate_hash_key.ensures.untouched.tree);
       direct = has_direct digest_of w (g.E.Store.shelf c.args.entries.now).held c.in_ok-digest.from_record c.from_vec.result from;
       dep_info = refl;
     }

@@ -36,8 +36,8 @@ returns-clause-says g c =
     let w = rust_work_at (meaning c.args.tool.now) (rust_call_at c.args.rust.now c.args.request.now (tree c.args.files.now) asked) in
     let k = c.in_ok-made.ensures in
     let moment : to_z w64 (of_z w64 c.args.request.now.moment) ≡ c.args.request.now.moment = search rules in
-    let prepared = is_prepared digest_of (meaning c.args.tool.now) (meaning c.rust_prepare.new.tool) (tree c.args.files.now) (tree c.rust_prepare.new.files) c.args.rust.now c.args.request.now asked c.in_ok-made.made _ k.prepared c.rust_prepare.ensures.meaning c.rust_prepare.ensures.tree refl refl c.outputs.ensures refl refl moment refl in
-    let later = fails_in_later meaning g.T.Preprocessor.failed g.T.Preprocessor.fails_in c.args.tool.now c.rust_prepare.new.tool c.answer_prepared-answer.new.tool c.rust_prepare.ensures.meaning k.steady.0 in
+    let prepared = is_prepared digest_of (meaning c.args.tool.now) (meaning c.rust_prepare.new.tool) (tree c.args.files.now) (tree c.rust_prepare.new.files) c.args.rust.now c.args.request.now asked c.in_ok-made.made _ k.prepared c.rust_prepare.ensures.untouched.meaning c.rust_prepare.ensures.untouched.tree refl refl c.outputs.ensures refl refl moment refl in
+    let later = fails_in_later meaning g.T.Preprocessor.failed g.T.Preprocessor.fails_in c.args.tool.now c.rust_prepare.new.tool c.answer_prepared-answer.new.tool c.rust_prepare.ensures.untouched.meaning k.steady.0 in
     finished_says (w.fault ≡ None) w _ _ _ later k.prepared.fine _ (c.answer_prepared-answer.ensures.says digest_of w prepared)
 
 pub returns-clause-unpassed : goal.returns-clause-unpassed
@@ -48,7 +48,7 @@ returns-clause-unpassed g c =
     let asked = asks_in c.args.parsed.now in
     let w = rust_work_at (meaning c.args.tool.now) (rust_call_at c.args.rust.now c.args.request.now (tree c.args.files.now) asked) in
     let moment : to_z w64 (of_z w64 c.args.request.now.moment) ≡ c.args.request.now.moment = search rules in
-    let prepared = is_prepared digest_of (meaning c.args.tool.now) (meaning c.rust_prepare.new.tool) (tree c.args.files.now) (tree c.rust_prepare.new.files) c.args.rust.now c.args.request.now asked c.in_ok-made.made _ c.in_ok-made.ensures.prepared c.rust_prepare.ensures.meaning c.rust_prepare.ensures.tree refl refl c.outputs.ensures refl refl moment refl in
+    let prepared = is_prepared digest_of (meaning c.args.tool.now) (meaning c.rust_prepare.new.tool) (tree c.args.files.now) (tree c.rust_prepare.new.files) c.args.rust.now c.args.request.now asked c.in_ok-made.made _ c.in_ok-made.ensures.prepared c.rust_prepare.ensures.untouched.meaning c.rust_prepare.ensures.untouched.tree refl refl c.outputs.ensures refl refl moment refl in
     finished_unpassed ⊥ w _ _ (c.answer_prepared-answer.ensures.says digest_of w prepared)
 
 pub returns-clause-store : goal.returns-clause-store
@@ -60,7 +60,7 @@ returns-clause-store g c =
     let w = rust_work_at (meaning c.args.tool.now) (rust_call_at c.args.rust.now c.args.request.now (tree c.args.files.now) asked) in
     let k = c.in_ok-made.ensures.prepared in
     let moment : to_z w64 (of_z w64 c.args.request.now.moment) ≡ c.args.request.now.moment = search rules in
-    let prepared = is_prepared digest_of (meaning c.args.tool.now) (meaning c.rust_prepare.new.tool) (tree c.args.files.now) (tree c.rust_prepare.new.files) c.args.rust.now c.args.request.now asked c.in_ok-made.made _ k c.rust_prepare.ensures.meaning c.rust_prepare.ensures.tree refl refl c.outputs.ensures refl refl moment refl in
+    let prepared = is_prepared digest_of (meaning c.args.tool.now) (meaning c.rust_prepare.new.tool) (tree c.args.files.now) (tree c.rust_prepare.new.files) c.args.rust.now c.args.request.now asked c.in_ok-made.made _ k c.rust_prepare.ensures.untouched.meaning c.rust_prepare.ensures.untouched.tree refl refl c.outputs.ensures refl refl moment refl in
     let turned : Bytes × ℕ → Type 0 = λ x. KeyedTurn digest_of c.args.max_kept x.0 (worked w) (g.O.Store.shelf c.args.objects.now) (g.O.Store.shelf c.answer_prepared-answer.new.objects) x.1 (g.T.Preprocessor.compiled c.answer_prepared-answer.new.tool) c.answer_prepared-answer.result in
     let own : c.in_ok-made.made.key.digest ≡ key_of digest_of w.rec = λ i. (k.is_key i).digest in
     subst turned (λ i. (own i, c.rust_prepare.ensures.compiles i)) (c.answer_prepared-answer.ensures.turn digest_of w prepared)
@@ -72,7 +72,7 @@ returns-clause-runs g c =
 
 pub returns-clause-steady : goal.returns-clause-steady
 returns-clause-steady g c =
-    steady_later g.T.Preprocessor g.F.Files c.args.tool.now c.rust_prepare.new.tool c.answer_prepared-answer.new.tool c.args.files.now c.rust_prepare.new.files c.answer_prepared-answer.new.files c.in_ok-made.ensures.steady c.answer_prepared-answer.result c.answer_prepared-answer.ensures.steady
+    steady_later g.T.Preprocessor g.F.Files c.args.tool.now c.rust_prepare.new.tool c.answer_prepared-answer.new.tool c.args.files.now c.rust_prepare.new.files c.answer_prepared-answer.new.files c.in_ok-made.ensures.untouched.steady c.answer_prepared-answer.result c.answer_prepared-answer.ensures.untouched.steady
 
 pub returns-clause-early : goal.returns-clause-early
 returns-clause-early g c =

@@ -43,12 +43,12 @@ returns-in-Asks-clause-says g c =
     let on_mid = FailsOn tree g.F.Files.failed g.F.Files.fails_on c.judge_rust.new.files c.rust_answer-answer.new.files in
     let device = FailsIn meaning g.T.Preprocessor.failed g.T.Preprocessor.fails_in c.args.tool.now c.rust_answer-answer.new.tool in
     let work_on : Tree → Work = λ files. rust_work_at (meaning c.args.tool.now) (rust_call_at c.args.rust.now request files (asks_in c.in-Asks.parsed)) in
-    let before : (name : Bytes) → on_mid name → on_old name = fails_on_later tree g.F.Files.failed g.F.Files.fails_on c.args.files.now c.judge_rust.new.files c.rust_answer-answer.new.files c.in_ok-reason.ensures.tree c.in_ok-reason.ensures.steady in
+    let before : (name : Bytes) → on_mid name → on_old name = fails_on_later tree g.F.Files.failed g.F.Files.fails_on c.args.files.now c.judge_rust.new.files c.rust_answer-answer.new.files c.in_ok-reason.ensures.untouched.tree c.in_ok-reason.ensures.untouched.steady in
     let decided : asks (asks_in c.in-Asks.parsed) ≡ rust_verdict_of request (tree c.args.files.now) = rw c.in-Asks.is at c.in_ok-reason.ensures.verdict in
     let account : RustJudgement → Account = rust_account_by (meaning c.args.tool.now) (tree c.args.files.now) c.args.rust.now request in
     let early = work_on (tree c.judge_rust.new.files) in
     let later : SaysWorked early on_old device result = says_later (early.fault ≡ None) early on_mid on_old device before result c.rust_answer-answer.ensures.says in
-    let moved : Says (account (asks (asks_in c.in-Asks.parsed))) on_old device result = subst (λ (t : Tree). SaysWorked (work_on t) on_old device result) c.in_ok-reason.ensures.tree later in
+    let moved : Says (account (asks (asks_in c.in-Asks.parsed))) on_old device result = subst (λ (t : Tree). SaysWorked (work_on t) on_old device result) c.in_ok-reason.ensures.untouched.tree later in
     subst (λ (d : RustJudgement). Says (account d) on_old device result) decided moved
 
 pub returns-in-Asks-clause-store : goal.returns-in-Asks-clause-store
@@ -61,7 +61,7 @@ returns-in-Asks-clause-store g c =
     let decided : asks (asks_in c.in-Asks.parsed) ≡ rust_verdict_of request (tree c.args.files.now) = rw c.in-Asks.is at c.in_ok-reason.ensures.verdict in
     let account : RustJudgement → Account = rust_account_by (meaning c.args.tool.now) (tree c.args.files.now) c.args.rust.now request in
     let turned : Account → Type 0 = λ a. StoreTurn digest_of c.args.max_kept a (g.O.Store.shelf c.args.objects.now) (g.O.Store.shelf c.rust_answer-answer.new.objects) (g.T.Preprocessor.compiled c.args.tool.now) (g.T.Preprocessor.compiled c.rust_answer-answer.new.tool) c.rust_answer-answer.result in
-    let moved : turned (account (asks (asks_in c.in-Asks.parsed))) = subst (λ (t : Tree). turned (worked (work_on t))) c.in_ok-reason.ensures.tree c.rust_answer-answer.ensures.store in
+    let moved : turned (account (asks (asks_in c.in-Asks.parsed))) = subst (λ (t : Tree). turned (worked (work_on t))) c.in_ok-reason.ensures.untouched.tree c.rust_answer-answer.ensures.store in
     subst (λ (d : RustJudgement). turned (account d)) decided moved
 
 pub returns-in-Asks-clause-runs : goal.returns-in-Asks-clause-runs
@@ -72,14 +72,14 @@ returns-in-Asks-clause-runs g c =
     let decided : asks (asks_in c.in-Asks.parsed) ≡ rust_verdict_of request (tree c.args.files.now) = rw c.in-Asks.is at c.in_ok-reason.ensures.verdict in
     let account : RustJudgement → Account = rust_account_by (meaning c.args.tool.now) (tree c.args.files.now) c.args.rust.now request in
     let work_on : Tree → Work = λ files. rust_work_at (meaning c.args.tool.now) (rust_call_at c.args.rust.now request files (asks_in c.in-Asks.parsed)) in
-    let early = subst (λ (t : Tree). StopsEarly (work_on t) (g.T.Preprocessor.preprocessed c.args.tool.now) (g.T.Preprocessor.preprocessed c.rust_answer-answer.new.tool)) c.in_ok-reason.ensures.tree c.rust_answer-answer.ensures.early in
+    let early = subst (λ (t : Tree). StopsEarly (work_on t) (g.T.Preprocessor.preprocessed c.args.tool.now) (g.T.Preprocessor.preprocessed c.rust_answer-answer.new.tool)) c.in_ok-reason.ensures.untouched.tree c.rust_answer-answer.ensures.early in
     subst (λ (d : RustJudgement). RunsOf (account d) false c.rust_answer-answer.result (g.T.Preprocessor.preprocessed c.args.tool.now) (g.T.Preprocessor.preprocessed c.rust_answer-answer.new.tool)) decided (c.rust_answer-answer.ensures.runs, early)
 
 pub returns-in-Asks-clause-quiet : goal.returns-in-Asks-clause-quiet
 returns-in-Asks-clause-quiet g c = unpassed _ c.rust_answer-answer.result c.rust_answer-answer.ensures.unpassed
 
-pub returns-in-Asks-clause-untouched : goal.returns-in-Asks-clause-untouched
-returns-in-Asks-clause-untouched g c no_text =
+pub returns-in-Asks-clause-no_text : goal.returns-in-Asks-clause-no_text
+returns-in-Asks-clause-no_text g c no_text =
     let request = c.args.request.now in
     let tree = g.F.Files.tree c.args.files.now in
     let decided : asks (asks_in c.in-Asks.parsed) ≡ rust_verdict_of request tree = rw c.in-Asks.is at c.in_ok-reason.ensures.verdict in

@@ -31,13 +31,13 @@ returns-in_err-entry_key-clause-cause g c =
     let p : PrintedCall = printed_call meaning (call_on (tree c.args.files.now)) in
     let there : first_missing (tree c.args.files.now) (map (join c.args.place.now.dir.now) c.args.self.now.parsed.now.extra_hash_files) ≡ None = ap (λ names. first_missing (tree c.args.files.now) (map (join c.args.place.now.dir.now) names)) (sym c.as_slice-names.ensures) ∙ c.in_ok-extra.ensures.there in
     let missing = missing_input (call_on (tree c.extra_hashes.new.files)) in
-    let same : missing_input p.call ≡ missing = ap (λ t. missing_input (call_on t)) (sym c.extra_hashes.ensures.tree) in
+    let same : missing_input p.call ≡ missing = ap (λ t. missing_input (call_on t)) (sym c.extra_hashes.ensures.untouched.tree) in
     let on_file = FailsOn tree failed fails_on c.args.files.now c.entry_key.new.files in
     let later = FailsOn tree failed fails_on c.extra_hashes.new.files c.entry_key.new.files in
     let device_in = FailsIn g.T.Preprocessor.meaning g.T.Preprocessor.failed g.T.Preprocessor.fails_in c.args.tool.now c.args.tool.now in
     let fault = c.in_err-entry_key.field-0.0 in
     on_exit (KeyCause (key_fault_of meaning p.call) on_file device_in) c.from_residual-in_err-entry_key.result fault c.from_residual-in_err-entry_key.ensures.1
-    (file_cause (key_fault_of meaning p.call) missing on_file later device_in (since tree failed fails_on c.args.files.now c.extra_hashes.new.files c.entry_key.new.files c.extra_hashes.ensures.tree c.in_ok-extra.ensures.steady) (λ f e. input_first p there f (ap (option_map Read) same ∙ e)) fault c.in_err-entry_key.ensures.cause)
+    (file_cause (key_fault_of meaning p.call) missing on_file later device_in (since tree failed fails_on c.args.files.now c.extra_hashes.new.files c.entry_key.new.files c.extra_hashes.ensures.untouched.tree c.in_ok-extra.ensures.untouched.steady) (λ f e. input_first p there f (ap (option_map Read) same ∙ e)) fault c.in_err-entry_key.ensures.cause)
 
 pub returns-in_err-text-clause-cause : goal.returns-in_err-text-clause-cause
 returns-in_err-text-clause-cause g c =
@@ -48,9 +48,9 @@ returns-in_err-text-clause-cause g c =
     let call_on : Tree → KeyCall = λ t. call_by g.I.CCompilerImpl.kind_of g.I.CCompilerImpl.traits c.args.self.now c.args.place.now t in
     let p : PrintedCall = printed_call meaning (call_on (tree c.args.files.now)) in
     let there : first_missing (tree c.args.files.now) (map (join c.args.place.now.dir.now) c.args.self.now.parsed.now.extra_hash_files) ≡ None = ap (λ names. first_missing (tree c.args.files.now) (map (join c.args.place.now.dir.now) names)) (sym c.as_slice-names.ensures) ∙ c.in_ok-extra.ensures.there in
-    let input : missing_input p.call ≡ None = ap (λ t. missing_input (call_on t)) (sym c.extra_hashes.ensures.tree) ∙ c.in_ok-entry_key.ensures.there in
-    let trees : tree c.entry_key.new.files ≡ tree c.args.files.now = c.entry_key.ensures.tree ∙ c.extra_hashes.ensures.tree in
-    let steady : failed c.entry_key.new.files ≡ failed c.args.files.now = c.in_ok-entry_key.ensures.steady ∙ c.in_ok-extra.ensures.steady in
+    let input : missing_input p.call ≡ None = ap (λ t. missing_input (call_on t)) (sym c.extra_hashes.ensures.untouched.tree) ∙ c.in_ok-entry_key.ensures.there in
+    let trees : tree c.entry_key.new.files ≡ tree c.args.files.now = c.entry_key.ensures.untouched.tree ∙ c.extra_hashes.ensures.untouched.tree in
+    let steady : failed c.entry_key.new.files ≡ failed c.args.files.now = c.in_ok-entry_key.ensures.untouched.steady ∙ c.in_ok-extra.ensures.untouched.steady in
     let device_in = FailsIn g.T.Preprocessor.meaning g.T.Preprocessor.failed g.T.Preprocessor.fails_in c.args.tool.now c.text.new.tool in
     let on_file = FailsOn tree failed fails_on c.args.files.now c.text.new.files in
     let later = FailsOn tree failed fails_on c.entry_key.new.files c.text.new.files in
@@ -65,7 +65,7 @@ returns-in_err-text-clause-early g c some =
     let call_on : Tree → KeyCall = λ t. call_by g.I.CCompilerImpl.kind_of g.I.CCompilerImpl.traits c.args.self.now c.args.place.now t in
     let p : PrintedCall = printed_call meaning (call_on (tree c.args.files.now)) in
     let there : first_missing (tree c.args.files.now) (map (join c.args.place.now.dir.now) c.args.self.now.parsed.now.extra_hash_files) ≡ None = ap (λ names. first_missing (tree c.args.files.now) (map (join c.args.place.now.dir.now) names)) (sym c.as_slice-names.ensures) ∙ c.in_ok-extra.ensures.there in
-    let input : missing_input p.call ≡ None = ap (λ t. missing_input (call_on t)) (sym c.extra_hashes.ensures.tree) ∙ c.in_ok-entry_key.ensures.there in
+    let input : missing_input p.call ≡ None = ap (λ t. missing_input (call_on t)) (sym c.extra_hashes.ensures.untouched.tree) ∙ c.in_ok-entry_key.ensures.there in
     absurd (some (none_early p there input))
 
 pub returns-in_err-kept-clause-early : goal.returns-in_err-kept-clause-early
@@ -75,7 +75,7 @@ returns-in_err-kept-clause-early g c some =
     let call_on : Tree → KeyCall = λ t. call_by g.I.CCompilerImpl.kind_of g.I.CCompilerImpl.traits c.args.self.now c.args.place.now t in
     let p : PrintedCall = printed_call meaning (call_on (tree c.args.files.now)) in
     let there : first_missing (tree c.args.files.now) (map (join c.args.place.now.dir.now) c.args.self.now.parsed.now.extra_hash_files) ≡ None = ap (λ names. first_missing (tree c.args.files.now) (map (join c.args.place.now.dir.now) names)) (sym c.as_slice-names.ensures) ∙ c.in_ok-extra.ensures.there in
-    let input : missing_input p.call ≡ None = ap (λ t. missing_input (call_on t)) (sym c.extra_hashes.ensures.tree) ∙ c.in_ok-entry_key.ensures.there in
+    let input : missing_input p.call ≡ None = ap (λ t. missing_input (call_on t)) (sym c.extra_hashes.ensures.untouched.tree) ∙ c.in_ok-entry_key.ensures.there in
     absurd (some (none_early p there input))
 
 pub returns-in_err-bytes_of-clause-early : goal.returns-in_err-bytes_of-clause-early
@@ -85,7 +85,7 @@ returns-in_err-bytes_of-clause-early g c some =
     let call_on : Tree → KeyCall = λ t. call_by g.I.CCompilerImpl.kind_of g.I.CCompilerImpl.traits c.args.self.now c.args.place.now t in
     let p : PrintedCall = printed_call meaning (call_on (tree c.args.files.now)) in
     let there : first_missing (tree c.args.files.now) (map (join c.args.place.now.dir.now) c.args.self.now.parsed.now.extra_hash_files) ≡ None = ap (λ names. first_missing (tree c.args.files.now) (map (join c.args.place.now.dir.now) names)) (sym c.as_slice-names.ensures) ∙ c.in_ok-extra.ensures.there in
-    let input : missing_input p.call ≡ None = ap (λ t. missing_input (call_on t)) (sym c.extra_hashes.ensures.tree) ∙ c.in_ok-entry_key.ensures.there in
+    let input : missing_input p.call ≡ None = ap (λ t. missing_input (call_on t)) (sym c.extra_hashes.ensures.untouched.tree) ∙ c.in_ok-entry_key.ensures.there in
     absurd (some (none_early p there input))
 
 pub returns-in_err-into_owned-clause-early : goal.returns-in_err-into_owned-clause-early
@@ -95,7 +95,7 @@ returns-in_err-into_owned-clause-early g c some =
     let call_on : Tree → KeyCall = λ t. call_by g.I.CCompilerImpl.kind_of g.I.CCompilerImpl.traits c.args.self.now c.args.place.now t in
     let p : PrintedCall = printed_call meaning (call_on (tree c.args.files.now)) in
     let there : first_missing (tree c.args.files.now) (map (join c.args.place.now.dir.now) c.args.self.now.parsed.now.extra_hash_files) ≡ None = ap (λ names. first_missing (tree c.args.files.now) (map (join c.args.place.now.dir.now) names)) (sym c.as_slice-names.ensures) ∙ c.in_ok-extra.ensures.there in
-    let input : missing_input p.call ≡ None = ap (λ t. missing_input (call_on t)) (sym c.extra_hashes.ensures.tree) ∙ c.in_ok-entry_key.ensures.there in
+    let input : missing_input p.call ≡ None = ap (λ t. missing_input (call_on t)) (sym c.extra_hashes.ensures.untouched.tree) ∙ c.in_ok-entry_key.ensures.there in
     absurd (some (none_early p there input))
 
 pub returns-clause-early : goal.returns-clause-early
@@ -105,5 +105,5 @@ returns-clause-early g c some =
     let call_on : Tree → KeyCall = λ t. call_by g.I.CCompilerImpl.kind_of g.I.CCompilerImpl.traits c.args.self.now c.args.place.now t in
     let p : PrintedCall = printed_call meaning (call_on (tree c.args.files.now)) in
     let there : first_missing (tree c.args.files.now) (map (join c.args.place.now.dir.now) c.args.self.now.parsed.now.extra_hash_files) ≡ None = ap (λ names. first_missing (tree c.args.files.now) (map (join c.args.place.now.dir.now) names)) (sym c.as_slice-names.ensures) ∙ c.in_ok-extra.ensures.there in
-    let input : missing_input p.call ≡ None = ap (λ t. missing_input (call_on t)) (sym c.extra_hashes.ensures.tree) ∙ c.in_ok-entry_key.ensures.there in
+    let input : missing_input p.call ≡ None = ap (λ t. missing_input (call_on t)) (sym c.extra_hashes.ensures.untouched.tree) ∙ c.in_ok-entry_key.ensures.there in
     absurd (some (none_early p there input))

@@ -39,7 +39,7 @@ returns-in_err-made-in-Missed-clause-cause g c =
     let later = FailsOn tree failed fails_on c.look_up.new.files c.text_key.new.files in
     let fault = c.in_err-made-in-Missed.field-0.0 in
     on_exit (KeyCause (text_fault_by p) on_file device_in) c.from_residual-in_err-made-in-Missed.result fault c.from_residual-in_err-made-in-Missed.ensures.1
-    (cause_is (text_fault_by p) (text_fault_of meaning (call_on (tree c.look_up.new.files))) on_file later device_in fault (ap (λ t. text_fault_of meaning (call_on t)) (sym c.look_up.ensures.tree)) (since tree failed fails_on c.args.files.now c.look_up.new.files c.text_key.new.files c.look_up.ensures.tree c.in_ok-key.ensures.steady) c.in_err-made-in-Missed.ensures.cause)
+    (cause_is (text_fault_by p) (text_fault_of meaning (call_on (tree c.look_up.new.files))) on_file later device_in fault (ap (λ t. text_fault_of meaning (call_on t)) (sym c.look_up.ensures.untouched.tree)) (since tree failed fails_on c.args.files.now c.look_up.new.files c.text_key.new.files c.look_up.ensures.untouched.tree c.in_ok-key.ensures.untouched.steady) c.in_err-made-in-Missed.ensures.cause)
 
 pub returns-in_err-made-in-Missed-clause-entries : goal.returns-in_err-made-in-Missed-clause-entries
 returns-in_err-made-in-Missed-clause-entries g c =
@@ -72,7 +72,7 @@ returns-in_err-keep-in-Missed-clause-cause g c =
     let later = FailsOn tree failed fails_on c.text_key.new.files c.keep.new.files in
     let fault = c.in_err-keep-in-Missed.field-0.0 in
     on_exit (KeyCause (text_fault_by p) on_file device_in) c.from_residual-in_err-keep-in-Missed.result fault c.from_residual-in_err-keep-in-Missed.ensures.1
-    (file_cause (text_fault_by p) None on_file later device_in (since tree failed fails_on c.args.files.now c.text_key.new.files c.keep.new.files (c.text_key.ensures.tree ∙ c.look_up.ensures.tree) (c.in_ok-made-in-Missed.ensures.steady.1 ∙ c.in_ok-key.ensures.steady)) (λ name e. cc) fault c.in_err-keep-in-Missed.ensures.cause)
+    (file_cause (text_fault_by p) None on_file later device_in (since tree failed fails_on c.args.files.now c.text_key.new.files c.keep.new.files (c.text_key.ensures.untouched.tree ∙ c.look_up.ensures.untouched.tree) (c.in_ok-made-in-Missed.ensures.untouched.steady.1 ∙ c.in_ok-key.ensures.untouched.steady)) (λ name e. cc) fault c.in_err-keep-in-Missed.ensures.cause)
 
 pub returns-in_err-keep-in-Missed-clause-entries : goal.returns-in_err-keep-in-Missed-clause-entries
 returns-in_err-keep-in-Missed-clause-entries g c =
@@ -109,13 +109,13 @@ returns-in_ok-keep-in-Missed-clause-entries g c =
     let known : IsKnown digest (looked_at c.args.place.now (tree c.args.files.now)) (asked.held c.args.entry_key) c.in_ok-key.field-0 = c.in_ok-key.ensures.found in
     let found = subst (IsKnown digest (looked_at c.args.place.now (tree c.args.files.now)) (asked.held c.args.entry_key)) c.in-Missed.is known in
     let mid = tree c.text_key.new.files in
-    let trees : mid ≡ tree c.args.files.now = c.text_key.ensures.tree ∙ c.look_up.ensures.tree in
+    let trees : mid ≡ tree c.args.files.now = c.text_key.ensures.untouched.tree ∙ c.look_up.ensures.untouched.tree in
     let made = c.in_ok-made-in-Missed.made in
     let has = (has_key digest p.call c.args.entry_key c.requires.entry).0 in
-    let text : made.text ≡ text_by p = c.in_ok-made-in-Missed.ensures.text ∙ ap (λ t. text_of meaning (call_on t)) c.look_up.ensures.tree in
-    let fine : text_fault_by p ≡ None = ap (λ t. text_fault_of meaning (call_on t)) (sym c.look_up.ensures.tree) ∙ c.in_ok-made-in-Missed.ensures.fine in
+    let text : made.text ≡ text_by p = c.in_ok-made-in-Missed.ensures.text ∙ ap (λ t. text_of meaning (call_on t)) c.look_up.ensures.untouched.tree in
+    let fine : text_fault_by p ≡ None = ap (λ t. text_fault_of meaning (call_on t)) (sym c.look_up.ensures.untouched.tree) ∙ c.in_ok-made-in-Missed.ensures.fine in
     let good : good_text p.printed ≡ Some made.text = good_of p has fine ∙ ap Some (sym text) in
-    let is_key : string_bytes made.key ≡ key_of digest (record_by p) = c.in_ok-made-in-Missed.ensures.key ∙ ap (λ t. key_of digest (record_by (printed_call meaning (call_on t)))) c.look_up.ensures.tree in
+    let is_key : string_bytes made.key ≡ key_of digest (record_by p) = c.in_ok-made-in-Missed.ensures.key ∙ ap (λ t. key_of digest (record_by (printed_call meaning (call_on t)))) c.look_up.ensures.untouched.tree in
     let keeps : Keeps entry_eq.ghosts.eq c.args.entry_key c.in-Missed.record.results (string_bytes made.key) (includes_by digest p.call made.text) asked (g.E.Store.shelf c.keep.new.entries) = subst (λ t. Keeps entry_eq.ghosts.eq c.args.entry_key c.in-Missed.record.results (string_bytes made.key) (recorded_of (looked_at c.args.place.now t) digest (join c.args.place.now.dir.now c.args.self.now.parsed.now.input) made.text) asked (g.E.Store.shelf c.keep.new.entries)) trees c.in_ok-keep-in-Missed.ensures.keeps in
     let both = turn_kept digest p c.args.entry_key c.requires.entry c.requires.framed old asked c.look_up.ensures.asks found.1 entry_eq.ghosts.eq (λ a b. (c.entry_keys_are_their_fields.ensures a b).0) c.in-Missed.record.results found.0 (g.E.Store.shelf c.keep.new.entries) (g.T.Preprocessor.preprocessed c.args.tool.now) (g.T.Preprocessor.preprocessed c.text_key.new.tool) made.text (string_bytes made.key) good is_key (includes_by digest p.call made.text) refl keeps in
     both.0
@@ -134,13 +134,13 @@ returns-in_ok-keep-in-Missed-clause-recorded g c =
     let known : IsKnown digest (looked_at c.args.place.now (tree c.args.files.now)) (asked.held c.args.entry_key) c.in_ok-key.field-0 = c.in_ok-key.ensures.found in
     let found = subst (IsKnown digest (looked_at c.args.place.now (tree c.args.files.now)) (asked.held c.args.entry_key)) c.in-Missed.is known in
     let mid = tree c.text_key.new.files in
-    let trees : mid ≡ tree c.args.files.now = c.text_key.ensures.tree ∙ c.look_up.ensures.tree in
+    let trees : mid ≡ tree c.args.files.now = c.text_key.ensures.untouched.tree ∙ c.look_up.ensures.untouched.tree in
     let made = c.in_ok-made-in-Missed.made in
     let has = (has_key digest p.call c.args.entry_key c.requires.entry).0 in
-    let text : made.text ≡ text_by p = c.in_ok-made-in-Missed.ensures.text ∙ ap (λ t. text_of meaning (call_on t)) c.look_up.ensures.tree in
-    let fine : text_fault_by p ≡ None = ap (λ t. text_fault_of meaning (call_on t)) (sym c.look_up.ensures.tree) ∙ c.in_ok-made-in-Missed.ensures.fine in
+    let text : made.text ≡ text_by p = c.in_ok-made-in-Missed.ensures.text ∙ ap (λ t. text_of meaning (call_on t)) c.look_up.ensures.untouched.tree in
+    let fine : text_fault_by p ≡ None = ap (λ t. text_fault_of meaning (call_on t)) (sym c.look_up.ensures.untouched.tree) ∙ c.in_ok-made-in-Missed.ensures.fine in
     let good : good_text p.printed ≡ Some made.text = good_of p has fine ∙ ap Some (sym text) in
-    let is_key : string_bytes made.key ≡ key_of digest (record_by p) = c.in_ok-made-in-Missed.ensures.key ∙ ap (λ t. key_of digest (record_by (printed_call meaning (call_on t)))) c.look_up.ensures.tree in
+    let is_key : string_bytes made.key ≡ key_of digest (record_by p) = c.in_ok-made-in-Missed.ensures.key ∙ ap (λ t. key_of digest (record_by (printed_call meaning (call_on t)))) c.look_up.ensures.untouched.tree in
     let keeps : Keeps entry_eq.ghosts.eq c.args.entry_key c.in-Missed.record.results (string_bytes made.key) (includes_by digest p.call made.text) asked (g.E.Store.shelf c.keep.new.entries) = subst (λ t. Keeps entry_eq.ghosts.eq c.args.entry_key c.in-Missed.record.results (string_bytes made.key) (recorded_of (looked_at c.args.place.now t) digest (join c.args.place.now.dir.now c.args.self.now.parsed.now.input) made.text) asked (g.E.Store.shelf c.keep.new.entries)) trees c.in_ok-keep-in-Missed.ensures.keeps in
     let both = turn_kept digest p c.args.entry_key c.requires.entry c.requires.framed old asked c.look_up.ensures.asks found.1 entry_eq.ghosts.eq (λ a b. (c.entry_keys_are_their_fields.ensures a b).0) c.in-Missed.record.results found.0 (g.E.Store.shelf c.keep.new.entries) (g.T.Preprocessor.preprocessed c.args.tool.now) (g.T.Preprocessor.preprocessed c.text_key.new.tool) made.text (string_bytes made.key) good is_key (includes_by digest p.call made.text) refl keeps in
     both.1
