@@ -2,7 +2,6 @@ pub mod KeyOrder
 pub mod SmallRecords
 pub mod Insertion
 pub mod WholeRecords
-pub mod PartsInRow
 pub mod Looking
 pub mod Greatest
 pub mod Listed

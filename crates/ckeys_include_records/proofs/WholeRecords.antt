@@ -1,11 +1,11 @@
 -- Whole records, read and written.
-use Rattle.std.proofs.Common.{◌≡◌, ℕ, suc, ◌<◌, true, false, cond, eqb, List, [], ◌∷◌, ◌++◌, length, get_or, Some, None, Result, Ok, Err, refl, sym, ap, subst, ◌∙◌, arith, inl, ◌⊎◌}
-use Rattle.std.specs.Prelude.{◌&&◌, ◌≢◌, MatchResult, IfOk, IfErr}
+use Rattle.std.proofs.Common.{◌≡◌, ℕ, suc, ◌<◌, true, false, cond, eqb, List, [], ◌∷◌, ◌++◌, length, get_or, Some, None, Result, Ok, Err, refl, sym, ap, subst, ◌∙◌, arith, inl, inr}
+use Rattle.std.specs.Prelude.{◌&&◌, ◌≢◌, MatchResult, IfErr}
 use Rattle.std.proofs.lemmas.Bool.{and_parts, eqb-true}
 use Rattle.std.proofs.lemmas.List.{append-nil, nil_from_length}
 use Rattle.base_files.specs.Bytes.{Bytes}
 use Rattle.base_formats.specs.FieldFormats.{bind_some, counted_format, if_some, some_is}
-use Rattle.base_formats.specs.Formats.{IsBytes, IsFormat}
+use Rattle.base_formats.specs.Formats.{IsBytes, IsFormat, IsOnly}
 use Rattle.base_formats.specs.Reading.{Fails, counted_at}
 use Rattle.base_formats.specs.declared.fault.ReadFault.{ReadFault}
 use Rattle.base_formats.specs.declared.fault.ReadFault.TheVariants as faults
@@ -13,7 +13,7 @@ use Rattle.base_formats.specs.Spelling.{counted, CountFits}
 use Rattle.ckeys_include_records.specs.Layout.{IsRecord, ResultFits, record_bytes, result_at, result_bytes, results_at}
 use Rattle.ckeys_include_records.specs.RecordFormats.{result_format}
 use Rattle.ckeys_include_records.specs.Records.{Record, is_record, rises}
-use Rattle.ckeys_include_records.specs.Refusals.{IsNoRecord, IsUnread}
+use Rattle.ckeys_include_records.specs.Refusals.{IsNoRecord, IsUnread, IsWrittenAs, OnRead}
 use Rattle.ckeys_include_records.specs.declared.entry.CachedResult.{CachedResult}
 use Rattle.ckeys_base.specs.declared.error.Error.{Error}
 use Rattle.ckeys_base.specs.declared.error.Error.TheVariants.{Io, Deserialization, UnknownFormat, Memory}
@@ -64,11 +64,6 @@ empty_is_record = record { fits = (omega arith, tt); kept = refl }
 abbrev pub Reads : Bytes → Result Record Error → Type 0
 Reads rest r = MatchResult r (λ entry. results_at rest ≡ Some entry.results) (λ e. IsUnread rest e)
 
-pub found_behind : (bytes rest : Bytes) (r : Result Record Error) → bytes ≡ 1 ∷ rest → IsBytes rest → Reads rest r
-    → IfOk r (λ entry. IsRecord entry.results × ((bytes ≡ record_bytes entry.results) ⊎ ((bytes ≡ []) × (entry.results ≡ []))))
-found_behind bytes rest (Ok entry) is fits gave = let t = results_take rest entry.results fits gave in (t.0, inl (is ∙ ap (λ (x : Bytes). 1 ∷ x) t.1))
-found_behind bytes rest (Err e) is fits gave = tt
-
 -- what a record is spelled as after the first byte
 behind_one : (bytes rest : Bytes) (results : List CachedResult) → bytes ≡ 1 ∷ rest → bytes ≡ record_bytes results → rest ≡ counted result_bytes results
 behind_one bytes rest results is spelled = let same : 1 ∷ rest ≡ 1 ∷ counted result_bytes results = sym is ∙ spelled in cc
@@ -78,14 +73,41 @@ unread_is_none bytes rest is none results fits spelled =
     let clash = sym none ∙ (ap results_at (behind_one bytes rest results is spelled) ∙ results_again results fits) in
     absurd cc
 
-pub only_behind : (bytes rest : Bytes) (r : Result Record Error) → bytes ≡ 1 ∷ rest → Reads rest r → (results : List CachedResult) → IsRecord results → bytes ≡ record_bytes results
-    → MatchResult r (λ entry. entry.results ≡ results) (λ e. e ≡ Memory)
-only_behind bytes rest (Ok entry) is gave results fits spelled =
-    some_is entry.results results (sym gave ∙ (ap results_at (behind_one bytes rest results is spelled) ∙ results_again results fits))
-only_behind bytes rest (Err Memory) is gave results fits spelled = refl
-only_behind bytes rest (Err Io) is gave results fits spelled = absurd gave
-only_behind bytes rest (Err (UnknownFormat b)) is gave results fits spelled = absurd gave
-only_behind bytes rest (Err Deserialization) is gave results fits spelled = absurd (unread_is_none bytes rest is gave results fits spelled)
+-- where there are bytes, those of a record are its own
+written_as : (bytes rest : Bytes) (b : ℕ) (results : List CachedResult) → bytes ≡ b ∷ rest → IsWrittenAs bytes results → bytes ≡ record_bytes results
+written_as bytes rest b results is (fits, inl spelled) = spelled
+written_as bytes rest b results is (fits, inr empty) = let clash : b ∷ rest ≡ [] = sym is ∙ empty.0 in absurd cc
+
+-- what is read where there are no bytes, where another byte comes first, and after the first byte
+pub read_empty : (bytes : Bytes) → bytes ≡ [] → IsOnly (IsWrittenAs bytes) (Some [])
+read_empty bytes is = record {
+  found = (empty_is_record, inr (is, refl));
+  only = λ results h. elim h.1 [
+    | inl spelled ↦ let clash : [] ≡ record_bytes results = sym is ∙ spelled in absurd cc
+    | inr empty ↦ ap Some (sym empty.1)
+  ];
+}
+
+pub read_other : (bytes rest : Bytes) (b : ℕ) → bytes ≡ b ∷ rest → b ≢ 1 → IsOnly (IsWrittenAs bytes) None
+read_other bytes rest b is other = record {
+  found = tt;
+  only = λ results h. let same : b ∷ rest ≡ record_bytes results = sym is ∙ written_as bytes rest b results is h in absurd (other cc);
+}
+
+pub read_behind : (bytes rest : Bytes) (r : Result Record Error) → bytes ≡ 1 ∷ rest → IsBytes rest → Reads rest r → OnRead r (IsOnly (IsWrittenAs bytes))
+read_behind bytes rest (Ok entry) is fits gave =
+    let t = results_take rest entry.results fits gave in
+    record {
+      found = (t.0, inl (is ∙ ap (λ (x : Bytes). 1 ∷ x) t.1));
+      only = λ results h. sym gave ∙ (ap results_at (behind_one bytes rest results is (written_as bytes rest 1 results is h)) ∙ results_again results h.0);
+    }
+read_behind bytes rest (Err Memory) is fits gave = tt
+read_behind bytes rest (Err Io) is fits gave = absurd gave
+read_behind bytes rest (Err (UnknownFormat b)) is fits gave = absurd gave
+read_behind bytes rest (Err Deserialization) is fits gave = record {
+  found = tt;
+  only = λ results h. absurd (unread_is_none bytes rest is gave results h.0 (written_as bytes rest 1 results is h));
+}
 
 refused_with : (bytes rest : Bytes) (e : Error) → bytes ≡ 1 ∷ rest → IsUnread rest e → IsNoRecord bytes e
 refused_with bytes rest Memory is why = tt

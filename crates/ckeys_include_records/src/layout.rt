@@ -1,13 +1,13 @@
 //! The bytes of a record.
 
-ghost use Rattle.std.specs.Prelude.{◌≡◌, ◌⊎◌, List, [], MatchResult, IfOk, IfErr, OnOk, IsOk};
+ghost use Rattle.std.specs.Prelude.{◌≡◌, [], Some, MatchResult, IfOk, IfErr, OnOk, IsOk};
 ghost use Rattle.std.specs.Io.KnownBytes.{Appends};
+ghost use Rattle.base_formats.specs.Formats.{IsOnly};
 ghost use Rattle.base_formats.specs.Reading.{Gives};
 ghost use Rattle.ckeys_base.specs.Errors.{IsIoError};
 ghost use Rattle.ckeys_include_records.specs.RecordFormats.{include_format, result_format};
 ghost use Rattle.ckeys_include_records.specs.Layout.{IncludeFits, IsRecord, ResultFits, include_at, include_bytes, record_bytes, result_at, result_bytes, results_at};
-ghost use Rattle.ckeys_include_records.specs.Refusals.{IsNoRecord, IsUnread};
-ghost use Rattle.ckeys_include_records.specs.declared.entry.CachedResult.{CachedResult};
+ghost use Rattle.ckeys_include_records.specs.Refusals.{IsNoRecord, IsUnread, IsWrittenAs, OnRead};
 
 use crate::entry::{CachedResult, IncludeEntry};
 use crate::key_text::KeyText;
@@ -112,12 +112,7 @@ impl PreprocessorCacheEntry {
     ///
     /// `UnknownFormat` where another byte comes first, and `Deserialization` where after it comes what is written for no record.
     pub fn read(alloc: Global, bytes: &[u8]) -> Result<PreprocessorCacheEntry, Error>
-        ensures found { IfOk result
-            (λ entry. IsRecord entry.results
-            × ((bytes.now ≡ record_bytes entry.results) ⊎ ((bytes.now ≡ []) × (entry.results ≡ [])))) }
-        ensures only { (results : List CachedResult) → IsRecord results →
-            bytes.now ≡ record_bytes results →
-            MatchResult result (λ entry. entry.results ≡ results) (λ e. e ≡ Error.Memory) }
+        ensures read { OnRead result (IsOnly (IsWrittenAs bytes.now)) }
         ensures empty { bytes.now ≡ [] → IsOk result }
         ensures refused { IfErr result (λ e. IsNoRecord bytes.now e) }
     {

@@ -1,4 +1,4 @@
-use Rattle.ckeys_include_records.proofs.PartsInRow.{five_parts}
+use Rattle.base_formats.proofs.PartsInRow.{five_parts}
 use Rattle.ckeys_include_records.proofs.layout.IncludeEntryField.put.Goals as goal
 
 pub returns-clause-added : goal.returns-clause-added
