@@ -1,7 +1,8 @@
 //! Kept outputs, as the session has them and as they lie on a disk.
 
 ghost use Rattle.std.specs.Prelude.{◌≡◌, map, IfOk};
-ghost use Rattle.cache_files.specs.Results.{key_in, pair_of};
+ghost use Rattle.cache_files.specs.Results.{key_in};
+ghost use Rattle.wrap_base.specs.Outputs.{pair_of};
 ghost use Rattle.wrap_base.specs.declared.store_key.Family.TheVariants as families;
 ghost use Rattle.wrap_base.specs.declared.store_key.Shape.TheVariants as shapes;
 
@@ -11,8 +12,8 @@ use cache_format::{KeptMessages, KeptResult};
 use cache_host::HostError;
 use ckeys_records::shape::CShape;
 use std::alloc::{AllocError, Global};
-use wrap_base::Output;
 use wrap_base::store_key::{Family, Pairs, Shape, StoreKey};
+use wrap_base::{Output, pairs_of};
 
 /// Another shape like it.
 fn copied_shape(alloc: Global, shape: &CShape) -> Result<CShape, AllocError>
@@ -41,18 +42,6 @@ fn shape_in(alloc: Global, key: &StoreKey) -> Result<CShape, HostError>
         (Family::C, Shape::C(shape)) => Ok(copied_shape(alloc, shape)?),
         _ => Err(HostError::Unreadable),
     }
-}
-
-/// The outputs' names and contents.
-fn pairs_of(alloc: Global, outputs: &[Output]) -> Result<Pairs, AllocError>
-    ensures { IfOk result (λ pairs. pairs ≡ map pair_of outputs.now) }
-{
-    let mut pairs = Listed::new(alloc);
-    for output in outputs {
-        let name = output.name.clone()?;
-        pairs.push((name, output.contents.clone()?))?;
-    }
-    Ok(pairs)
 }
 
 /// The entry of these outputs under this key, with what was printed beside them.

@@ -1,6 +1,7 @@
 //! Whole values, preceded by the version of their layout and followed by the digest of their bytes.
 
-ghost use Rattle.std.specs.Prelude.{◌≡◌, ℕ, IfOk, IfSome, OnOk, Some};
+ghost use Rattle.std.specs.Prelude.{◌≡◌, ℕ, IfOk, OnOk};
+ghost use Rattle.base_formats.specs.Formats.{IsOnly};
 ghost use Rattle.base_formats.specs.Reading.{Gives};
 ghost use Rattle.cache_format.specs.Sealed.{fields_at, sealed_bytes, whole_at};
 
@@ -103,11 +104,8 @@ fn read_sealed<H: HashState, T: Field>(
     version: u8,
     bytes: &[u8],
 ) -> Result<Option<T>, AllocError>
-    ensures found { IfOk result (λ found. IfSome found (λ value. T.fits value
+    ensures { IfOk result (IsOnly (λ value. T.fits value
         × (bytes.now ≡ sealed_bytes H.digest_of version T.spells value))) }
-    ensures only { (value : T) → T.fits value →
-        bytes.now ≡ sealed_bytes H.digest_of version T.spells value →
-        IfOk result (λ found. found ≡ Some value) }
 {
     if bytes.len() < H::LEN {
         return Ok(None);
@@ -136,13 +134,9 @@ pub fn seal<H: HashState, T: Sealed>(alloc: Global, value: &T) -> Result<Vec<u8>
 /// The value whose bytes these are. `None` where they are those of none, as where some were cut off, a byte was changed or the layout is of
 /// another version.
 pub fn unseal<H: HashState, T: Sealed>(alloc: Global, bytes: &[u8]) -> Result<Option<T>, AllocError>
-    // What is read is what was written.
-    ensures found { IfOk result (λ found. IfSome found (λ value. T.fits value
+    // What is read is what was written, and what was written is read.
+    ensures { IfOk result (IsOnly (λ value. T.fits value
         × (bytes.now ≡ sealed_bytes H.digest_of T.VERSION T.spells value))) }
-    // What was written is read.
-    ensures only { (value : T) → T.fits value →
-        bytes.now ≡ sealed_bytes H.digest_of T.VERSION T.spells value →
-        IfOk result (λ found. found ≡ Some value) }
 {
     read_sealed::<H, T>(alloc, T::VERSION, bytes)
 }

@@ -2,7 +2,7 @@
 
 use crate::messages::{are_notices, moved};
 use base_blake2::Blake2b256;
-use base_files::{Listed, OsBytes};
+use base_files::OsBytes;
 use base_formats::{put_framed, put_number};
 use cache_dir::{Kind, digest_of, takes};
 use cache_format::{KeptCrate, seal, unseal};
@@ -11,8 +11,8 @@ use cache_settings::Key;
 use rustc_parts::parts::RShape;
 use std::alloc::{AllocError, Global};
 use std::rt::Files;
-use wrap_base::Output;
 use wrap_base::store_key::{Pairs, Shape, StoreKey};
+use wrap_base::{Output, pairs_of};
 
 /// What a disk keeps under a key: outputs, and messages as they are for this call.
 #[derive(Drop)]
@@ -126,16 +126,6 @@ pub fn found<R: Files + AllocGlobal>(
     }
 }
 
-/// Outputs as they are kept.
-fn kept_outputs(alloc: Global, outputs: &[Output]) -> Result<Pairs, AllocError> {
-    let mut kept = Listed::new(alloc);
-    for output in outputs {
-        let name = output.name.clone()?;
-        kept.push((name, output.contents.clone()?))?;
-    }
-    Ok(kept)
-}
-
 /// Outputs and what was printed beside them, as they are kept under their key.
 fn kept_crate(
     alloc: Global,
@@ -153,7 +143,7 @@ fn kept_crate(
         folder: OsBytes::from_slice(alloc, wishes.folder)?,
         width: OsBytes::from_slice(alloc, width)?,
         errors: errors.clone()?,
-        outputs: kept_outputs(alloc, outputs)?,
+        outputs: pairs_of(alloc, outputs)?,
     })
 }
 

@@ -48,12 +48,16 @@ fn without_target_and_version(name: &[u8]) -> &[u8] {
     }
 }
 
-/// Whether an executable of that file name is of that kind. The names of those like Gcc may have a target and a version about them.
-fn is_named(kind: CCompilerKind, name: &[u8]) -> bool {
-    match kind.spelling() {
-        Spelling::Gnu => kind.has_executable(without_target_and_version(name)),
-        Spelling::Plain | Spelling::Msvc => kind.has_executable(name),
-    }
+/// The C compiler with an executable of that file name. The names of those like Gcc may have a target and a version about them.
+fn c_compiler_of(name: &[u8]) -> Option<CCompilerKind> {
+    let bare = without_target_and_version(name);
+    CCompilerKind::ALL
+        .iter()
+        .copied()
+        .find(|kind| match kind.spelling() {
+            Spelling::Gnu => kind.has_executable(bare),
+            Spelling::Plain | Spelling::Msvc => kind.has_executable(name),
+        })
 }
 
 /// The compiler that an executable of this path is, where its name shows it.
@@ -62,11 +66,7 @@ pub fn compiler_of(executable: &[u8]) -> Option<EntryCompiler> {
     if name == b"rustc".as_slice() {
         return Some(EntryCompiler::Rustc);
     }
-    let kind = CCompilerKind::ALL
-        .iter()
-        .copied()
-        .find(|kind| is_named(*kind, name))?;
-    Some(EntryCompiler::C(kind))
+    Some(EntryCompiler::C(c_compiler_of(name)?))
 }
 
 /// Whether an executable of this path runs the compiler that the words after it name.

@@ -11,7 +11,7 @@ mod request;
 pub mod store_key;
 mod tool;
 
-pub use answer::{Answer, How, Output};
+pub use answer::{Answer, How, Output, pairs_of};
 pub use call::Call;
 pub use compiler::{AnyC, CDescription, Compiler, Named};
 pub use config::Config;
