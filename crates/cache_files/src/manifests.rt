@@ -1,9 +1,10 @@
 //! What a kept manifest says.
 
-ghost use Rattle.std.specs.Prelude.{◌≡◌, ◌⊎◌, ◌++◌, List, [], IfOk, IfSome, IsSomeAnd, OnOk};
-ghost use Rattle.ckeys_include_records.specs.Layout.{IsRecord, record_bytes};
-ghost use Rattle.ckeys_include_records.specs.declared.entry.CachedResult.{CachedResult};
-ghost use Rattle.cache_files.specs.Manifests.{included, names_in};
+ghost use Rattle.std.specs.Prelude.{◌≡◌, ◌++◌, IfOk, IfSome, OnOk};
+ghost use Rattle.base_formats.specs.Formats.{IsOnly};
+ghost use Rattle.ckeys_include_records.specs.Layout.{record_bytes};
+ghost use Rattle.ckeys_include_records.specs.Refusals.{IsWrittenAs};
+ghost use Rattle.cache_files.specs.Manifests.{included, names_in, results_found, results_in};
 
 use base_files::{Listed, OsBytes};
 use cache_dir::CacheDirError;
@@ -47,12 +48,7 @@ fn names_in(alloc: Global, results: &[CachedResult]) -> Result<Listed<OsBytes>, 
 
 /// The manifest whose bytes these are. `None` where they are those of none.
 fn entry_read(alloc: Global, bytes: &[u8]) -> Result<Option<PreprocessorCacheEntry>, CacheDirError>
-    ensures found { IfOk result
-        (λ found. IfSome found (λ entry. (bytes.now ≡ record_bytes entry.results)
-        ⊎ ((bytes.now ≡ []) × (entry.results ≡ [])))) }
-    ensures only { (results : List CachedResult) → IsRecord results →
-        bytes.now ≡ record_bytes results →
-        IfOk result (λ found. IsSomeAnd found (λ entry. entry.results ≡ results)) }
+    ensures { IfOk result (λ found. IsOnly (IsWrittenAs bytes.now) (results_in found)) }
 {
     match PreprocessorCacheEntry::read(alloc, bytes) {
         Ok(entry) => Ok(Some(entry)),
@@ -65,13 +61,9 @@ fn entry_read(alloc: Global, bytes: &[u8]) -> Result<Option<PreprocessorCacheEnt
 pub fn found_in(alloc: Global, kept: KeptManifest) -> Result<Option<FoundManifest>, CacheDirError>
     ensures identity { IfOk result (λ found. IfSome found (λ f. f.key.identity ≡ kept.identity)) }
     ensures key { IfOk result (λ found. IfSome found (λ f. f.key.key ≡ kept.key)) }
-    ensures entry { IfOk result (λ found. IfSome found (λ f.
-        (kept.results ≡ record_bytes f.entry.results)
-        ⊎ ((kept.results ≡ []) × (f.entry.results ≡ [])))) }
     // What was written for a manifest is that manifest.
-    ensures only { (results : List CachedResult) → IsRecord results →
-        kept.results ≡ record_bytes results →
-        IfOk result (λ found. IsSomeAnd found (λ f. f.entry.results ≡ results)) }
+    ensures entry { IfOk result
+        (λ found. IsOnly (IsWrittenAs kept.results) (results_found found)) }
     ensures watched { IfOk result (λ found. IfSome found (λ f. f.watched ≡ kept.watched)) }
     // The names are those of all results, each once.
     ensures names { IfOk result (λ found. IfSome found (λ f. f.names ≡ names_in f.entry.results)) }
