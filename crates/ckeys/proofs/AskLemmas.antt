@@ -1,5 +1,5 @@
 -- Whether a call has an entry key, and which.
-use Rattle.std.proofs.Common.{◌≡◌, refl, ◌∷◌, [], true, false, ◌&&◌, if◌then◌else◌, Option, Some, None, ap, sym, subst, ◌∙◌}
+use Rattle.std.proofs.Common.{◌≡◌, ◌∷◌, [], true, false, ◌&&◌, if◌then◌else◌, Option, Some, None, ap, sym, subst, ◌∙◌}
 use Rattle.std.specs.Prelude.{IfSome}
 use Rattle.base_files.specs.Bytes.{Bytes}
 use Rattle.base_files.specs.Tree.{contents_at}

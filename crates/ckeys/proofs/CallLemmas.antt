@@ -1,9 +1,7 @@
 -- Why a call has no key.
-use Rattle.std.proofs.Common.{◌≡◌, inl, ℕ, Option, Some, None, Result, Ok, Err, IfErr, IsErrAnd, sym, subst, ◌∙◌}
+use Rattle.std.proofs.Common.{◌≡◌, inl, Option, Some, None, Result, Ok, Err, IfErr, ◌∙◌}
 use Rattle.std.specs.Option.{option_map}
 use Rattle.base_files.specs.Bytes.{Bytes}
-use Rattle.base_files.specs.Fails.{FailsOn}
-use Rattle.base_files.specs.Tree.{Tree}
 use Rattle.cmdlines_response_files.specs.Causes.{CauseOf}
 use Rattle.cmdlines_response_files.specs.declared.fault.ParseFault.{ParseFault}
 use Rattle.cmdlines_response_files.specs.declared.fault.ParseFault.TheVariants as files_faults

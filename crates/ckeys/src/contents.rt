@@ -69,7 +69,8 @@ impl<'a, I: CCompilerImpl + Drop> CCompilerHasher<'a, I> {
             (KeyCause (key_fault_of (T.meaning tool.old) call)
             (FilesFail F.Files files.old files.new)
             (ToolFails T.Preprocessor tool.old tool.new)) }
-        ensures untouched { Untouched T.Preprocessor F.Files tool.old files.old tool.new files.new result }
+        ensures untouched { Untouched T.Preprocessor F.Files
+            tool.old files.old tool.new files.new result }
         ensures idle { needs_preprocessing self.now.parsed.now.language ≡ false
             → (T.preprocessed tool.new ≡ T.preprocessed tool.old)
             × (T.failed tool.new ≡ T.failed tool.old) }

@@ -88,7 +88,8 @@ impl<'a, I: CCompilerImpl + Drop> CCompilerHasher<'a, I> {
             (KeyCause (text_fault_of (T.meaning tool.old) call)
             (FilesFail F.Files files.old files.new)
             (ToolFails T.Preprocessor tool.old tool.new)) }
-        ensures untouched { Untouched T.Preprocessor F.Files tool.old files.old tool.new files.new result }
+        ensures untouched { Untouched T.Preprocessor F.Files
+            tool.old files.old tool.new files.new result }
         ensures idle { needs_preprocessing self.now.parsed.now.language ≡ false
             → (T.preprocessed tool.new ≡ T.preprocessed tool.old)
             × (T.failed tool.new ≡ T.failed tool.old) }
@@ -193,7 +194,8 @@ impl<'a, I: CCompilerImpl + Drop> CCompilerHasher<'a, I> {
             (KeyCause (text_fault_of (T.meaning tool.old) call)
             (FilesFail F.Files files.old files.new)
             (ToolFails T.Preprocessor tool.old tool.new)) }
-        ensures untouched { Untouched T.Preprocessor F.Files tool.old files.old tool.new files.new result }
+        ensures untouched { Untouched T.Preprocessor F.Files
+            tool.old files.old tool.new files.new result }
         ensures idle { needs_preprocessing self.now.parsed.now.language ≡ false
             → (T.preprocessed tool.new ≡ T.preprocessed tool.old)
             × (T.failed tool.new ≡ T.failed tool.old) }
@@ -280,7 +282,8 @@ impl<'a, I: CCompilerImpl + Drop> CCompilerHasher<'a, I> {
             (λ made. KeyRuns made.2 (T.preprocessed tool.old) (T.preprocessed tool.new)) }
         ensures until { IfErr result
             (RunsUntilKey (T.preprocessed tool.old) (T.preprocessed tool.new)) }
-        ensures untouched { Untouched T.Preprocessor F.Files tool.old files.old tool.new files.new result }
+        ensures untouched { Untouched T.Preprocessor F.Files
+            tool.old files.old tool.new files.new result }
         ensures compiles { T.compiled tool.new ≡ T.compiled tool.old }
     {
         // A law, which costs nothing: what follows from it is said above.
@@ -370,7 +373,8 @@ impl<'a, I: CCompilerImpl + Drop> CCompilerHasher<'a, I> {
         ensures plain { let call = call_by I.kind_of I.traits self.now place.now (F.tree files.old)
             in
             has_entry_key call ≡ false → IfOk result (λ made. made.2 ≡ false) }
-        ensures untouched { Untouched T.Preprocessor F.Files tool.old files.old tool.new files.new result }
+        ensures untouched { Untouched T.Preprocessor F.Files
+            tool.old files.old tool.new files.new result }
         ensures idle { needs_preprocessing self.now.parsed.now.language ≡ false
             → (T.preprocessed tool.new ≡ T.preprocessed tool.old)
             × (T.failed tool.new ≡ T.failed tool.old) }
@@ -428,7 +432,8 @@ impl<'a, I: CCompilerImpl + Drop> CCompilerHasher<'a, I> {
             (λ made. KeyRecorded H.digest_of p (E.shelf entries.old) (E.shelf entries.new) made.2
             (string_bytes made.0)) }
         ensures unput { OnErr result (PutsNone (E.shelf entries.old) (E.shelf entries.new)) }
-        ensures untouched { Untouched T.Preprocessor F.Files tool.old files.old tool.new files.new result }
+        ensures untouched { Untouched T.Preprocessor F.Files
+            tool.old files.old tool.new files.new result }
         ensures idle { needs_preprocessing self.now.parsed.now.language ≡ false
             → (T.preprocessed tool.new ≡ T.preprocessed tool.old)
             × (T.failed tool.new ≡ T.failed tool.old) }

@@ -1,5 +1,5 @@
 -- Causes of faults, step by step.
-use Rattle.std.proofs.Common.{◌≡◌, Option, Some, None, Result, Ok, Err, IfErr, ap, ◌∙◌}
+use Rattle.std.proofs.Common.{◌≡◌, Option, Some, None, ap, ◌∙◌}
 use Rattle.base_files.specs.Bytes.{Bytes}
 use Rattle.ckeys_records.specs.Faults.{KeyCause, or_else}
 use Rattle.ckeys_records.specs.Causes.{stage_of}

@@ -1,18 +1,15 @@
 -- Texts that are UTF-8, and others.
-use Rattle.std.proofs.Common.{◌≡◌, ℤ, pos, Bool, true, false, Option, None, Some, [], ◌∷◌, if◌then◌else◌, refl, ap}
+use Rattle.std.proofs.Common.{◌≡◌, Bool, true, false, Option, None, Some, [], refl}
 use Rattle.std.specs.Prelude.{is_none, map}
 use Rattle.std.specs.Option.{option_map}
-use Rattle.std.specs.Ordering.{int_eq}
 use Rattle.std.specs.Str.{IsUtf8, is_utf8}
 use Rattle.std.proofs.lemmas.Str.{IsUtf8-from_is_utf8, is_utf8-from_IsUtf8}
 use Rattle.base_files.specs.Bytes.{Bytes}
 use Rattle.base_files.specs.Path.{join}
-use Rattle.ckeys_records.specs.Faults.{or_else}
-use Rattle.ckeys_records.specs.Meaning.{made_of}
-use Rattle.ckeys_records.specs.declared.fault.Fault.TheVariants.{AnswerNotUtf8, PreprocessFailed}
+use Rattle.ckeys_records.specs.declared.fault.Fault.TheVariants.{AnswerNotUtf8}
 use Rattle.ckeys_records.specs.declared.step.Step.{Step}
 use Rattle.rustc_texts.specs.DepInfo.{names_in, rule_of, sources_of}
-use Rattle.rustkeys.specs.Calls.{answer_fault_of, utf8_fault_of}
+use Rattle.rustkeys.specs.Calls.{utf8_fault_of}
 
 pub utf8_fine : (step : Step) (text : Bytes) → IsUtf8 text → utf8_fault_of step text ≡ None
 utf8_fine step text h = rw (is_utf8-from_IsUtf8 text h) refl

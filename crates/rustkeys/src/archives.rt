@@ -52,7 +52,8 @@ fn archive_digest<F: Files, A: RustcAnswers>(
         → let archives = digested (A.meaning answers.old) scene (path.now ∷ []) in
         IfErr result (KeyCause (digest_fault_of archives) no_file
         (ToolFails A.Preprocessor answers.old answers.new)) }
-    ensures untouched { Untouched A.Preprocessor F.Files answers.old files.old answers.new files.new result }
+    ensures untouched { Untouched A.Preprocessor F.Files
+        answers.old files.old answers.new files.new result }
     ensures runs { A.preprocessed answers.new ≡ A.preprocessed answers.old }
     ensures asked { OnOk result (A.archived answers.new ≡ ticked (A.archived answers.old)) }
     ensures once { AtMostOnce (A.archived answers.old) (A.archived answers.new) }
@@ -86,7 +87,8 @@ pub(crate) fn archive_digests<F: Files, A: RustcAnswers>(
         → let archives = digested (A.meaning answers.old) scene paths.now in
         IfErr result (KeyCause (digest_fault_of archives) no_file
         (ToolFails A.Preprocessor answers.old answers.new)) }
-    ensures untouched { Untouched A.Preprocessor F.Files answers.old files.old answers.new files.new result }
+    ensures untouched { Untouched A.Preprocessor F.Files
+        answers.old files.old answers.new files.new result }
     ensures runs { A.preprocessed answers.new ≡ A.preprocessed answers.old }
     ensures asked { OnOk result
         (A.archived answers.new ≡ ticked_for paths.now (A.archived answers.old)) }

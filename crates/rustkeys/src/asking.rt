@@ -61,7 +61,8 @@ impl<'a> RustPlace<'a> {
             ≡ dep_info_of (A.meaning answers.old) q) }
         ensures cause { IfErr result
             (KeyCause None no_file (ToolFails A.Preprocessor answers.old answers.new)) }
-        ensures untouched { Untouched A.Preprocessor F.Files answers.old files.old answers.new files.new result }
+        ensures untouched { Untouched A.Preprocessor F.Files
+            answers.old files.old answers.new files.new result }
         ensures runs { OnOk result (A.preprocessed answers.new ≡ ticked (A.preprocessed answers.old)) }
         ensures once { AtMostOnce (A.preprocessed answers.old) (A.preprocessed answers.new) }
         ensures archives { A.archived answers.new ≡ A.archived answers.old }
@@ -90,7 +91,8 @@ impl<'a> RustPlace<'a> {
             ≡ file_names_of (A.meaning answers.old) q) }
         ensures cause { IfErr result
             (KeyCause None no_file (ToolFails A.Preprocessor answers.old answers.new)) }
-        ensures untouched { Untouched A.Preprocessor F.Files answers.old files.old answers.new files.new result }
+        ensures untouched { Untouched A.Preprocessor F.Files
+            answers.old files.old answers.new files.new result }
         ensures runs { OnOk result (A.preprocessed answers.new ≡ ticked (A.preprocessed answers.old)) }
         ensures once { AtMostOnce (A.preprocessed answers.old) (A.preprocessed answers.new) }
         ensures archives { A.archived answers.new ≡ A.archived answers.old }
@@ -124,7 +126,8 @@ impl<'a> RustPlace<'a> {
             let made = dep_info_of (A.meaning answers.old) q in
             IfErr result (KeyCause (answer_fault_of Step.DepInfo made) no_file
             (ToolFails A.Preprocessor answers.old answers.new)) }
-        ensures untouched { Untouched A.Preprocessor F.Files answers.old files.old answers.new files.new result }
+        ensures untouched { Untouched A.Preprocessor F.Files
+            answers.old files.old answers.new files.new result }
         ensures runs { OnOk result (A.preprocessed answers.new ≡ ticked (A.preprocessed answers.old)) }
         ensures once { AtMostOnce (A.preprocessed answers.old) (A.preprocessed answers.new) }
         ensures archives { A.archived answers.new ≡ A.archived answers.old }
@@ -151,7 +154,8 @@ impl<'a> RustPlace<'a> {
             let made = file_names_of (A.meaning answers.old) q in
             IfErr result (KeyCause (answer_fault_of Step.FileNames made) no_file
             (ToolFails A.Preprocessor answers.old answers.new)) }
-        ensures untouched { Untouched A.Preprocessor F.Files answers.old files.old answers.new files.new result }
+        ensures untouched { Untouched A.Preprocessor F.Files
+            answers.old files.old answers.new files.new result }
         ensures runs { OnOk result (A.preprocessed answers.new ≡ ticked (A.preprocessed answers.old)) }
         ensures once { AtMostOnce (A.preprocessed answers.old) (A.preprocessed answers.new) }
         ensures archives { A.archived answers.new ≡ A.archived answers.old }

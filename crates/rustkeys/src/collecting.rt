@@ -92,7 +92,8 @@ impl<'a> RustPlace<'a> {
             IfErr result (KeyCause (dep_info_fault_of q made)
             (FilesFail F.Files files.old files.new)
             (ToolFails A.Preprocessor answers.old answers.new)) }
-        ensures untouched { Untouched A.Preprocessor F.Files answers.old files.old answers.new files.new result }
+        ensures untouched { Untouched A.Preprocessor F.Files
+            answers.old files.old answers.new files.new result }
         ensures runs { OnOk result (A.preprocessed answers.new ≡ ticked (A.preprocessed answers.old)) }
         ensures once { AtMostOnce (A.preprocessed answers.old) (A.preprocessed answers.new) }
         ensures archives { A.archived answers.new ≡ A.archived answers.old }
@@ -123,7 +124,8 @@ impl<'a> RustPlace<'a> {
             IfErr result (KeyCause (files_fault_of q archives)
             (FilesFail F.Files files.old files.new)
             (ToolFails A.Preprocessor answers.old answers.new)) }
-        ensures untouched { Untouched A.Preprocessor F.Files answers.old files.old answers.new files.new result }
+        ensures untouched { Untouched A.Preprocessor F.Files
+            answers.old files.old answers.new files.new result }
         ensures runs { A.preprocessed answers.new ≡ A.preprocessed answers.old }
         ensures archives { OnOk result (A.archived answers.new
             ≡ ticked_for self.now.parsed.now.staticlibs (A.archived answers.old)) }
@@ -165,7 +167,8 @@ impl<'a> RustPlace<'a> {
             IfErr result (KeyCause (key_fault_with q told)
             (FilesFail F.Files files.old files.new)
             (ToolFails A.Preprocessor answers.old answers.new)) }
-        ensures untouched { Untouched A.Preprocessor F.Files answers.old files.old answers.new files.new result }
+        ensures untouched { Untouched A.Preprocessor F.Files
+            answers.old files.old answers.new files.new result }
         ensures runs { OnOk result
             (A.preprocessed answers.new ≡ ticked (ticked (A.preprocessed answers.old))) }
         ensures twice { AtMostTwice (A.preprocessed answers.old) (A.preprocessed answers.new) }

@@ -147,7 +147,8 @@ impl<'a> RustHasher<'a> {
             IfErr result (KeyCause (key_fault_of (A.meaning answers.old) c)
             (FilesFail F.Files files.old files.new)
             (ToolFails A.Preprocessor answers.old answers.new)) }
-        ensures untouched { Untouched A.Preprocessor F.Files answers.old files.old answers.new files.new result }
+        ensures untouched { Untouched A.Preprocessor F.Files
+            answers.old files.old answers.new files.new result }
         ensures runs { OnOk result
             (A.preprocessed answers.new ≡ ticked (ticked (A.preprocessed answers.old))) }
         // How often rustc was asked before a fault.

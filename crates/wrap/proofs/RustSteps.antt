@@ -1,33 +1,23 @@
 -- Calls to rustc, which ask for no include records.
-use Rattle.std.proofs.Common.{◌≡◌, ℕ, Bool, not, [], Option, None, Some, true, false, Result, Ok, Err, IsErrAnd, inr, refl, sym, ap, ◌∙◌}
-use Rattle.std.proofs.lemmas.Result.{err_from_is_err_and}
-use Rattle.base_files.specs.Bytes.{Bytes, ticked}
+use Rattle.std.proofs.Common.{◌≡◌, ℕ, Bool, not, [], Option, None, Some, true, false, Result, Ok, Err, refl}
+use Rattle.base_files.specs.Bytes.{Bytes}
 use Rattle.base_files.specs.Tree.{Tree}
 use Rattle.ckeys_base.specs.Shelf.{Shelf}
 use Rattle.ckeys.specs.Calls.{PrintedCall}
 use Rattle.ckeys.specs.EntryTurns.{KeyRecorded, PutsNone}
 use Rattle.ckeys_records.specs.Causes.{ByStage, Stage, any_time, before_compile, in_compile, stage_of}
-use Rattle.ckeys_records.specs.Meaning.{Meaning, names_of, scene_of}
+use Rattle.ckeys_records.specs.Meaning.{Meaning}
 use Rattle.ckeys_records.specs.declared.fault.Fault.{Fault}
 use Rattle.ckeys_records.specs.declared.step.Step.{Step}
-use Rattle.ckeys_records.specs.declared.step.Step.TheVariants.{Compile}
 use Rattle.ckeys_entry_keys.specs.declared.entry_key.EntryKey.{EntryKey}
 use Rattle.ckeys_include_records.specs.Records.{Record}
 use Rattle.rustc_compiler.specs.Compiler.{Rustc}
-use Rattle.rustc_options.specs.Asks.{RustAsks}
-use Rattle.rustkeys.specs.Runs.{AtMostTwice}
 use Rattle.wrap_keys.specs.Account.{Account, Pairs, Work, rust_account_by, rust_call_at, rust_work_at, worked}
 use Rattle.wrap_keys.specs.Answers.{GoesOn, Says, SaysBy}
-use Rattle.wrap_keys.specs.Asking.{AskedTurn, EntriesTurn, HowFrom, IsAskedTwice, OnKeyed, OnOutputs, OnUnkeyed, RunsOf, shelves_of}
+use Rattle.wrap_keys.specs.Asking.{AskedTurn, EntriesTurn, HowFrom, OnKeyed, OnOutputs, OnUnkeyed, RunsOf, shelves_of}
 use Rattle.wrap_keys.specs.CallRecords.{key_of}
-use Rattle.wrap_turns.specs.Prepared.{IsPrepared}
-use Rattle.wrap_turns.specs.RustPrepared.{IsRustPrepared, rust_command_of}
 use Rattle.wrap_keys.specs.RustVerdicts.{RustJudgement, asks, passes}
-use Rattle.wrap_keys.specs.StoreKeys.{store_key_of, store_key_with}
-use Rattle.wrap_turns.specs.declared.prepared.Prepared.{Prepared}
-use Rattle.wrap_turns.specs.declared.rust_calls.RustPrepared.{RustPrepared}
 use Rattle.wrap_keys.specs.Turn.{StoreTurn}
-use Rattle.wrap_base.specs.AskedBy.{asked_by}
 use Rattle.wrap_base.specs.declared.answer.Answer.{Answer}
 use Rattle.wrap_base.specs.declared.answer.Answer.TheVariants.{Outputs, Pass}
 use Rattle.wrap_base.specs.declared.request.Request.{Request}

@@ -124,8 +124,9 @@ impl<
             request.now in
             RunsOf a false result (T.preprocessed tool.old) (T.preprocessed tool.new) }
         ensures compiles { T.compiled tool.new ≡ T.compiled tool.old }
-        ensures untouched { Untouched T.Preprocessor F.Files tool.old files.old tool.new files.new result }
-    // No I/O error occurred where there is an answer, nor where a fault reports none.
+        // Files and meaning stay as they are, and no I/O error occurred unless a fault reports it.
+        ensures untouched { Untouched T.Preprocessor F.Files
+            tool.old files.old tool.new files.new result }
     {
         request_fingerprint::<H, F, T>(self.alloc, &self.config.keys, request, files, tool)
     }
@@ -296,7 +297,8 @@ impl<
             (T.preprocessed tool.old) (T.preprocessed tool.new) }
         ensures settings { (self.new.settings ≡ self.old.settings)
             × (self.new.max_kept ≡ self.old.max_kept) }
-        ensures untouched { Untouched T.Preprocessor F.Files tool.old files.old tool.new files.new result }
+        ensures untouched { Untouched T.Preprocessor F.Files
+            tool.old files.old tool.new files.new result }
     {
         match request.compiler.named() {
             Named::C(compiler) => c_turn::<H, E, O, F, T>(

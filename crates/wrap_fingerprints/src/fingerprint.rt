@@ -110,7 +110,8 @@ fn c_fingerprint<H: HashState, F: Files, T: Tool>(
         IfErr result
         (KeyCause w.fault (FilesFail F.Files files.old files.new)
         (ToolFails T.Preprocessor tool.old tool.new)) }
-    ensures untouched { Untouched T.Preprocessor F.Files tool.old files.old tool.new files.new result }
+    ensures untouched { Untouched T.Preprocessor F.Files
+        tool.old files.old tool.new files.new result }
     ensures runs { needs_preprocessing parsed.now.language ≡ true
         → OnOk result (T.preprocessed tool.new ≡ ticked (T.preprocessed tool.old)) }
     ensures until { needs_preprocessing parsed.now.language ≡ true →
@@ -161,7 +162,8 @@ fn rust_fingerprint<H: HashState, F: Files, T: Tool>(
         IfErr result
         (KeyCause w.fault (FilesFail F.Files files.old files.new)
         (ToolFails T.Preprocessor tool.old tool.new)) }
-    ensures untouched { Untouched T.Preprocessor F.Files tool.old files.old tool.new files.new result }
+    ensures untouched { Untouched T.Preprocessor F.Files
+        tool.old files.old tool.new files.new result }
     ensures runs { OnOk result
         (T.preprocessed tool.new ≡ ticked (ticked (T.preprocessed tool.old))) }
     ensures twice { AtMostTwice (T.preprocessed tool.old) (T.preprocessed tool.new) }
@@ -205,7 +207,8 @@ fn of_c<H: HashState, F: Files, T: Tool>(
         request.now (by_c (found_of compiler.entry)) in
         RunsOf a false result (T.preprocessed tool.old) (T.preprocessed tool.new) }
     ensures compiles { T.compiled tool.new ≡ T.compiled tool.old }
-    ensures untouched { Untouched T.Preprocessor F.Files tool.old files.old tool.new files.new result }
+    ensures untouched { Untouched T.Preprocessor F.Files
+        tool.old files.old tool.new files.new result }
 {
     match judge(alloc, compiler, request, files)? {
         Verdict::Passes(reason) => Ok(Err(reason)),
@@ -239,7 +242,8 @@ fn of_rustc<H: HashState, F: Files, T: Tool>(
         request.now (rust_verdict_of request.now (F.tree files.old)) in
         RunsOf a false result (T.preprocessed tool.old) (T.preprocessed tool.new) }
     ensures compiles { T.compiled tool.new ≡ T.compiled tool.old }
-    ensures untouched { Untouched T.Preprocessor F.Files tool.old files.old tool.new files.new result }
+    ensures untouched { Untouched T.Preprocessor F.Files
+        tool.old files.old tool.new files.new result }
 {
     match judge_rust(alloc, rust, request, files)? {
         RustVerdict::Passes(reason) => Ok(Err(reason)),
@@ -277,8 +281,9 @@ pub fn request_fingerprint<H: HashState, F: Files, T: Tool>(
         request.now in
         RunsOf a false result (T.preprocessed tool.old) (T.preprocessed tool.new) }
     ensures compiles { T.compiled tool.new ≡ T.compiled tool.old }
-    ensures untouched { Untouched T.Preprocessor F.Files tool.old files.old tool.new files.new result }
-// No I/O error occurred where there is an answer, nor where a fault reports none.
+    // Files and meaning stay as they are, and no I/O error occurred unless a fault reports it.
+    ensures untouched { Untouched T.Preprocessor F.Files
+        tool.old files.old tool.new files.new result }
 {
     match request.compiler.named() {
         Named::C(compiler) => of_c::<H, F, T>(alloc, config, compiler, request, files, tool),

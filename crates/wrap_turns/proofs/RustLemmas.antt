@@ -1,15 +1,12 @@
 -- Calls to rustc, which ask for no include records.
-use Rattle.std.proofs.Common.{◌≡◌, ℕ, None, true, false, if◌then◌else◌, Result, Ok, Err, IsErrAnd, inr, sym, ap, ◌∙◌}
-use Rattle.base_files.specs.Bytes.{Bytes, ticked}
+use Rattle.std.proofs.Common.{◌≡◌, None, true, false, if◌then◌else◌, sym, ap, ◌∙◌}
+use Rattle.base_files.specs.Bytes.{Bytes}
 use Rattle.base_files.specs.Tree.{Tree}
 use Rattle.ckeys_records.specs.Meaning.{Meaning, names_of, scene_of}
-use Rattle.ckeys_records.specs.declared.fault.Fault.{Fault}
 use Rattle.ckeys_records.specs.declared.step.Step.TheVariants.{Compile}
 use Rattle.rustc_compiler.specs.Compiler.{Rustc}
 use Rattle.rustc_options.specs.Asks.{RustAsks}
-use Rattle.rustkeys.specs.Runs.{AtMostTwice}
 use Rattle.wrap_keys.specs.Account.{rust_call_at, rust_work_at}
-use Rattle.wrap_keys.specs.Asking.{IsAskedTwice}
 use Rattle.wrap_turns.specs.Prepared.{IsPrepared}
 use Rattle.wrap_turns.specs.RustPrepared.{IsRustPrepared, rust_command_of}
 use Rattle.wrap_keys.specs.RustVerdicts.{asks, decided_on, is_text, not_text, rust_verdict_of}
@@ -17,7 +14,6 @@ use Rattle.wrap_keys.specs.StoreKeys.{store_key_of, store_key_with}
 use Rattle.wrap_turns.specs.declared.prepared.Prepared.{Prepared}
 use Rattle.wrap_turns.specs.declared.rust_calls.RustPrepared.{RustPrepared}
 use Rattle.wrap_base.specs.AskedBy.{asked_by}
-use Rattle.wrap_base.specs.declared.answer.Answer.{Answer}
 use Rattle.wrap_base.specs.declared.request.Request.{Request}
 use Rattle.wrap_base.specs.declared.store_key.StoreKey.{StoreKey}
 

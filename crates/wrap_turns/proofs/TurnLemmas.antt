@@ -31,7 +31,7 @@ use Rattle.wrap_keys.specs.Sizes.{is_within, size_in, size_of}
 use Rattle.wrap_keys.specs.StoreKeys.{store_key_with}
 use Rattle.wrap_keys.specs.Turn.{GetsBy, KeyedTurn, PutsBy, own_text_key, StillKept, StoredTurn, MissTurn, Told, ToldBy}
 use Rattle.wrap_keys.specs.Verdicts as verdicts
-use Rattle.wrap_keys.specs.Verdicts.{Judgement, Why}
+use Rattle.wrap_keys.specs.Verdicts.{Judgement}
 use Rattle.wrap_base.specs.Commands.{CFound}
 use Rattle.wrap_base.specs.declared.answer.Answer.{Answer}
 use Rattle.wrap_base.specs.declared.request.Request.{Request}

@@ -68,7 +68,8 @@ pub fn answer_prepared<O: Store<StoreKey, Pairs>, F: Files, T: Tool>(
         → SaysFinished w (ToolFails T.Preprocessor tool.old tool.new) result }
     ensures how { HowFrom prepared.entry.from_record result }
     ensures preprocesses { T.preprocessed tool.new ≡ T.preprocessed tool.old }
-    ensures untouched { Untouched T.Preprocessor F.Files tool.old files.old tool.new files.new result }
+    ensures untouched { Untouched T.Preprocessor F.Files
+        tool.old files.old tool.new files.new result }
 {
     // A law, which costs nothing: keys that are equal are one.
     keys_are_their_fields();

@@ -65,7 +65,8 @@ pub fn c_turn<
         request.now (by_c (found_of compiler.entry)) in
         EntriesTurn H.digest_of a (E.shelf entries.old) (E.shelf entries.new)
         (T.preprocessed tool.old) (T.preprocessed tool.new) }
-    ensures untouched { Untouched T.Preprocessor F.Files tool.old files.old tool.new files.new result }
+    ensures untouched { Untouched T.Preprocessor F.Files
+        tool.old files.old tool.new files.new result }
 {
     match judge(alloc, compiler, request, files)? {
         Verdict::Passes(reason) => Ok(Answer::Pass(reason)),

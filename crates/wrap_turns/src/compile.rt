@@ -32,7 +32,8 @@ pub fn compiled_pairs<F: Files, T: Tool>(
     ensures cause { (w : Work)
         → Makes (T.meaning tool.old) (F.tree files.old) kind command.now outputs.now moment w
         → IfErr result (CompileCause w (ToolFails T.Preprocessor tool.old tool.new)) }
-    ensures untouched { Untouched T.Preprocessor F.Files tool.old files.old tool.new files.new result }
+    ensures untouched { Untouched T.Preprocessor F.Files
+        tool.old files.old tool.new files.new result }
     ensures preprocesses { T.preprocessed tool.new ≡ T.preprocessed tool.old }
     ensures runs { RanOnce result (T.compiled tool.old) (T.compiled tool.new) }
 {

@@ -88,7 +88,8 @@ pub fn prepare<'a, H: HashState, E: Store<EntryKey, PreprocessorCacheEntry>, F: 
         IfErr result (RunsUntilKey (T.preprocessed tool.old) (T.preprocessed tool.new)) }
     ensures idle { needs_preprocessing plan.now.parsed.language ≡ false →
         T.preprocessed tool.new ≡ T.preprocessed tool.old }
-    ensures untouched { Untouched T.Preprocessor F.Files tool.old files.old tool.new files.new result }
+    ensures untouched { Untouched T.Preprocessor F.Files
+        tool.old files.old tool.new files.new result }
     ensures compiles { T.compiled tool.new ≡ T.compiled tool.old }
 {
     // A law, which costs nothing: words of which none holds the byte that ends one can be distinguished without the folders too.

@@ -56,7 +56,8 @@ fn rust_prepare<H: HashState, F: Files, T: Tool>(
         IfErr result
         (KeyCause w.fault (FilesFail F.Files files.old files.new)
         (ToolFails T.Preprocessor tool.old tool.new)) }
-    ensures untouched { Untouched T.Preprocessor F.Files tool.old files.old tool.new files.new result }
+    ensures untouched { Untouched T.Preprocessor F.Files
+        tool.old files.old tool.new files.new result }
     ensures runs { OnOk result
         (T.preprocessed tool.new ≡ ticked (ticked (T.preprocessed tool.old))) }
     ensures twice { AtMostTwice (T.preprocessed tool.old) (T.preprocessed tool.new) }
@@ -120,7 +121,8 @@ fn rust_answer<H: HashState, O: Store<StoreKey, Pairs>, F: Files, T: Tool>(
         (rust_call_at rust.now request.now (F.tree files.old) (asks_in parsed.now)) in
         StopsEarly w (T.preprocessed tool.old) (T.preprocessed tool.new) }
     ensures unpassed { OnPass result ⊥ }
-    ensures untouched { Untouched T.Preprocessor F.Files tool.old files.old tool.new files.new result }
+    ensures untouched { Untouched T.Preprocessor F.Files
+        tool.old files.old tool.new files.new result }
 {
     let made = rust_prepare::<H, F, T>(alloc, rust, request, parsed, files, tool)?;
     let key = made.key;
@@ -171,7 +173,8 @@ pub fn rust_turn<H: HashState, O: Store<StoreKey, Pairs>, F: Files, T: Tool>(
         request.now (rust_verdict_of request.now (F.tree files.old)) in
         RunsOf a false result (T.preprocessed tool.old) (T.preprocessed tool.new) }
     ensures no_text { is_text request.now ≡ false → files.new ≡ files.old }
-    ensures untouched { Untouched T.Preprocessor F.Files tool.old files.old tool.new files.new result }
+    ensures untouched { Untouched T.Preprocessor F.Files
+        tool.old files.old tool.new files.new result }
 {
     match judge_rust(alloc, rust, request, files)? {
         RustVerdict::Passes(reason) => Ok(Answer::Pass(reason)),

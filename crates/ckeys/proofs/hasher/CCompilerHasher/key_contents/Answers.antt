@@ -1,4 +1,4 @@
-use Rattle.std.proofs.Common.{◌≡◌, None, Some, map, ap, sym, ◌∙◌}
+use Rattle.std.proofs.Common.{◌≡◌, None, map, ap, sym, ◌∙◌}
 use Rattle.std.specs.Option.{option_map}
 use Rattle.base_files.specs.Fails.{FailsOn}
 use Rattle.base_files.specs.Path.{join}

@@ -1,4 +1,4 @@
-use Rattle.std.proofs.Common.{◌≡◌, ◌∙◌, None, ap, is_some, map, pos, string_bytes, subst}
+use Rattle.std.proofs.Common.{◌≡◌, ◌∙◌, None, ap, is_some, pos, string_bytes, subst}
 use Rattle.std.specs.List.{AllByRecursion}
 use Rattle.base_formats.specs.Spelling.{FitsFrame}
 use Rattle.rustc_parts.specs.Formed.{IsDigest, digest_digits}
