@@ -11,6 +11,7 @@ use Rattle.ckeys.specs.Calls.{PrintedCall, key_fault_by}
 use Rattle.ckeys_records.specs.Faults.{KeyCause}
 use Rattle.ckeys_records.specs.Folders.{Settings}
 use Rattle.ckeys_records.specs.Causes.{Cause, of_memory, of_file, of_tool, of_key, of_compile, ByStage, HasOwnFault, IsCausedBy, cause_of, no_file, no_step, stage_by, stage_of, step_by}
+use Rattle.ckeys_records.specs.Untouched.{Untouched}
 use Rattle.ckeys_records.specs.Views.{AreSteady, ToolView}
 use Rattle.ckeys.specs.Entries.{Held}
 use Rattle.ckeys.specs.EntryTurns.{IsPut, IsSpared, KeyFine, KeyRecorded, KeyRuns, PutsNone, RunsUntil, RunsUntilStep}
@@ -238,9 +239,18 @@ pub fails_in_later : {T : Type 0} (meaning : T → Meaning) (failed : T → ℕ)
 fails_in_later meaning failed fails_in old mid new m f step h = record { from = h.from; same = h.same ∙ m; steady = h.steady ∙ f; ticks = h.ticks; leads = h.leads }
 
 -- what didn't fail in calls, and then in others, didn't fail in all of them
-pub steady_later : {T F A : Type 0} → (tool : ToolView T) (files : FilesView F) (tool_old tool_mid tool_new : T) (files_old files_mid files_new : F) → AreSteady tool files tool_old files_old tool_mid files_mid → (result : Result A Fault) → OnOk result (AreSteady tool files tool_mid files_mid tool_new files_new) → OnOk result (AreSteady tool files tool_old files_old tool_new files_new)
+steady_later : {T F A : Type 0} → (tool : ToolView T) (files : FilesView F) (tool_old tool_mid tool_new : T) (files_old files_mid files_new : F) → AreSteady tool files tool_old files_old tool_mid files_mid → (result : Result A Fault) → OnOk result (AreSteady tool files tool_mid files_mid tool_new files_new) → OnOk result (AreSteady tool files tool_old files_old tool_new files_new)
 steady_later tool files tool_old tool_mid tool_new files_old files_mid files_new before (Ok x) h = (h.0 ∙ before.0, h.1 ∙ before.1)
 steady_later tool files tool_old tool_mid tool_new files_old files_mid files_new before (Err fault) h = tt
+
+-- what calls left as it was, and then the last one, all of them did
+pub untouched_later : {T F A : Type 0} → (tool : ToolView T) (files : FilesView F) (tool_old tool_mid tool_new : T) (files_old files_mid files_new : F) → files.tree files_mid ≡ files.tree files_old → tool.meaning tool_mid ≡ tool.meaning tool_old → AreSteady tool files tool_old files_old tool_mid files_mid → (result : Result A Fault) → Untouched tool files tool_mid files_mid tool_new files_new result → Untouched tool files tool_old files_old tool_new files_new result
+untouched_later tool files tool_old tool_mid tool_new files_old files_mid files_new tree meaning before result last = record {
+  tree = last.tree ∙ tree;
+  meaning = last.meaning ∙ meaning;
+  steady = steady_later tool files tool_old tool_mid tool_new files_old files_mid files_new before result last.steady;
+  still = λ own. let kept = last.still own in (kept.0 ∙ before.0, kept.1 ∙ before.1);
+}
 
 -- a fault that reports no I/O error is one before it is handed on
 pub own_fault : {A : Type 0} → (B : Type 0) (result : Result A Fault) (fault : Fault) → IsErrAnd result (λ f. f ≡ fault) → HasOwnFault result → HasOwnFault {A = B} (Err fault)

@@ -18,7 +18,7 @@ use Rattle.wrap_keys.proofs.RunLemmas.{early_runs, key_until}
 use Rattle.wrap_keys.specs.Early.{IsAskedEarly, OfPassed}
 use Rattle.wrap_turns.specs.declared.prepared.Prepared.{Prepared}
 use Rattle.wrap_turns.proofs.PassedLemmas.{early_passed, not_passed}
-use Rattle.wrap_turns.proofs.TurnLemmas.{asked_fault, asked_finished, early_says, early_stage, early_turn, early_unput, fails_in_later, finished_says, finished_unpassed, goes_on, key_says, key_turn, of_asked, own_asked, own_fault, own_goes_on, quiet_entries, says_later, steady_later, text_fine}
+use Rattle.wrap_turns.proofs.TurnLemmas.{asked_fault, asked_finished, early_says, early_stage, early_turn, early_unput, fails_in_later, finished_says, finished_unpassed, goes_on, key_says, key_turn, of_asked, own_asked, own_fault, own_goes_on, quiet_entries, says_later, text_fine, untouched_later}
 use Rattle.wrap_turns.proofs.c_calls.c_turn.Goals as goal
 
 pub returns-in_err-reason-clause-says : goal.returns-in_err-reason-clause-says
@@ -98,10 +98,16 @@ returns-in-Err-clause-asked g c =
     ((c.prepare.ensures.idle, λ h. key_until false _ _ fault (e.until h)), c.prepare.ensures.early)
     (key_turn digest_of c.args.config.now.max_kept (key_of digest_of w.rec) w w.fault _ _ _ c.prepare.ensures.compiles _ _ fault e.cause _ refl))
 
-pub returns-in-Err-clause-still : goal.returns-in-Err-clause-still
-returns-in-Err-clause-still g c own =
-    let kept = c.in-Err.ensures.untouched.still (own_fault {A = Answer} Prepared (Err c.in-Err.fault) c.in-Err.fault refl own) in
-    (kept.0, kept.1 ∙ c.in_ok-reason.ensures.untouched.steady)
+pub returns-in-Err-clause-untouched : goal.returns-in-Err-clause-untouched
+returns-in-Err-clause-untouched g c =
+    let prepared = c.in-Err.ensures.untouched in
+    let judged = c.in_ok-reason.ensures.untouched in
+    record {
+      tree = prepared.tree ∙ judged.tree;
+      meaning = prepared.meaning;
+      steady = tt;
+      still = λ own. let kept = prepared.still (own_fault {A = Answer} Prepared (Err c.in-Err.fault) c.in-Err.fault refl own) in (kept.0, kept.1 ∙ judged.steady);
+    }
 
 pub returns-in-Ok-clause-says : goal.returns-in-Ok-clause-says
 returns-in-Ok-clause-says g c =
@@ -180,11 +186,12 @@ returns-in-Ok-clause-asked g c =
     of_asked (λ a. AskedTurn digest_of c.args.config.now.max_kept a old new (g.T.Preprocessor.preprocessed c.args.tool.now) (g.T.Preprocessor.preprocessed c.answer_prepared-answer.new.tool) (g.T.Preprocessor.compiled c.args.tool.now) (g.T.Preprocessor.compiled c.answer_prepared-answer.new.tool) c.answer_prepared-answer.result) (meaning c.args.tool.now) _ _ c.args.config.now.keys found request parsed _ c.in_ok-reason.ensures.untouched.tree decided
     (asked_finished digest_of c.args.config.now.max_kept w old new _ _ _ _ from key k.from (text_fine w p refl from k.fine) runs early k.recorded _ _ (c.answer_prepared-answer.ensures.says digest_of w k.prepared) c.answer_prepared-answer.ensures.how turn)
 
-pub returns-in-Ok-clause-steady : goal.returns-in-Ok-clause-steady
-returns-in-Ok-clause-steady g c =
-    let prepared = c.in-Ok.ensures.untouched.steady in
-    steady_later g.T.Preprocessor g.F.Files c.args.tool.now c.prepare.new.tool c.answer_prepared-answer.new.tool c.args.files.now c.prepare.new.files c.answer_prepared-answer.new.files
-    (prepared.0, prepared.1 ∙ c.in_ok-reason.ensures.untouched.steady) c.answer_prepared-answer.result c.answer_prepared-answer.ensures.untouched.steady
+pub returns-in-Ok-clause-untouched : goal.returns-in-Ok-clause-untouched
+returns-in-Ok-clause-untouched g c =
+    let prepared = c.in-Ok.ensures.untouched in
+    let judged = c.in_ok-reason.ensures.untouched in
+    untouched_later g.T.Preprocessor g.F.Files c.args.tool.now c.prepare.new.tool c.answer_prepared-answer.new.tool c.args.files.now c.prepare.new.files c.answer_prepared-answer.new.files
+    (prepared.tree ∙ judged.tree) prepared.meaning (prepared.steady.0, prepared.steady.1 ∙ judged.steady) c.answer_prepared-answer.result c.answer_prepared-answer.ensures.untouched
 
 pub returns-in_err-reason-clause-passed : goal.returns-in_err-reason-clause-passed
 returns-in_err-reason-clause-passed g c =

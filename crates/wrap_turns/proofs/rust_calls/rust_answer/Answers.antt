@@ -7,7 +7,7 @@ use Rattle.wrap_keys.specs.CallRecords.{key_of}
 use Rattle.wrap_keys.specs.Turn.{KeyedTurn}
 use Rattle.wrap_keys.proofs.RunLemmas.{asked_twice, asked_until}
 use Rattle.wrap_turns.proofs.RustLemmas.{is_prepared}
-use Rattle.wrap_turns.proofs.TurnLemmas.{fails_in_later, finished_says, finished_unpassed, how_of_fault, key_says, key_turn, steady_later}
+use Rattle.wrap_turns.proofs.TurnLemmas.{fails_in_later, finished_says, finished_unpassed, how_of_fault, key_says, key_turn, untouched_later}
 use Rattle.wrap_turns.proofs.rust_calls.rust_answer.Goals as goal
 
 pub returns-in_err-made-clause-says : goal.returns-in_err-made-clause-says
@@ -70,9 +70,10 @@ returns-clause-runs g c =
     let before = g.T.Preprocessor.preprocessed c.args.tool.now in
     asked_twice _ before _ (c.answer_prepared-answer.ensures.preprocesses ∙ c.in_ok-made.ensures.runs)
 
-pub returns-clause-steady : goal.returns-clause-steady
-returns-clause-steady g c =
-    steady_later g.T.Preprocessor g.F.Files c.args.tool.now c.rust_prepare.new.tool c.answer_prepared-answer.new.tool c.args.files.now c.rust_prepare.new.files c.answer_prepared-answer.new.files c.in_ok-made.ensures.untouched.steady c.answer_prepared-answer.result c.answer_prepared-answer.ensures.untouched.steady
+pub returns-clause-untouched : goal.returns-clause-untouched
+returns-clause-untouched g c =
+    let made = c.in_ok-made.ensures.untouched in
+    untouched_later g.T.Preprocessor g.F.Files c.args.tool.now c.rust_prepare.new.tool c.answer_prepared-answer.new.tool c.args.files.now c.rust_prepare.new.files c.answer_prepared-answer.new.files made.tree made.meaning made.steady c.answer_prepared-answer.result c.answer_prepared-answer.ensures.untouched
 
 pub returns-clause-early : goal.returns-clause-early
 returns-clause-early g c =
