@@ -125,7 +125,7 @@ returns-in-Ok-clause-says g c =
     let on_old = FailsOn tree g.F.Files.failed g.F.Files.fails_on c.args.files.now c.answer_prepared-answer.new.files in
     let device = FailsIn meaning g.T.Preprocessor.failed g.T.Preprocessor.fails_in c.args.tool.now c.answer_prepared-answer.new.tool in
     let later_in = FailsIn meaning g.T.Preprocessor.failed g.T.Preprocessor.fails_in c.prepare.new.tool c.answer_prepared-answer.new.tool in
-    let later : (step : Step) → later_in step → device step = fails_in_later meaning g.T.Preprocessor.failed g.T.Preprocessor.fails_in c.args.tool.now c.prepare.new.tool c.answer_prepared-answer.new.tool c.prepare.ensures.untouched.meaning k.steady.0 in
+    let later : (step : Step) → later_in step → device step = fails_in_later meaning g.T.Preprocessor.failed g.T.Preprocessor.fails_in c.args.tool.now c.prepare.new.tool c.answer_prepared-answer.new.tool c.prepare.ensures.untouched.meaning k.untouched.steady.0 in
     let result = c.answer_prepared-answer.result in
     of_asked (λ a. SaysBy GoesOn a on_old device result) (meaning c.args.tool.now) _ _ c.args.config.now.keys found request parsed _ c.in_ok-reason.ensures.untouched.tree decided
     (finished_says (GoesOn w) w on_old device later_in later (goes_on digest_of w p refl _ _ _ k.from k.fine) result (c.answer_prepared-answer.ensures.says digest_of w k.prepared))
@@ -146,7 +146,7 @@ returns-in-Ok-clause-goes_on g c =
     let on_old = FailsOn tree g.F.Files.failed g.F.Files.fails_on c.args.files.now c.answer_prepared-answer.new.files in
     let device = FailsIn meaning g.T.Preprocessor.failed g.T.Preprocessor.fails_in c.args.tool.now c.answer_prepared-answer.new.tool in
     let later_in = FailsIn meaning g.T.Preprocessor.failed g.T.Preprocessor.fails_in c.prepare.new.tool c.answer_prepared-answer.new.tool in
-    let later : (step : Step) → later_in step → device step = fails_in_later meaning g.T.Preprocessor.failed g.T.Preprocessor.fails_in c.args.tool.now c.prepare.new.tool c.answer_prepared-answer.new.tool c.prepare.ensures.untouched.meaning k.steady.0 in
+    let later : (step : Step) → later_in step → device step = fails_in_later meaning g.T.Preprocessor.failed g.T.Preprocessor.fails_in c.args.tool.now c.prepare.new.tool c.answer_prepared-answer.new.tool c.prepare.ensures.untouched.meaning k.untouched.steady.0 in
     let result = c.answer_prepared-answer.result in
     let held = (g.E.Store.shelf c.args.entries.now).held in
     of_asked (λ a. RecordsAreTrue digest_of a held → Says a on_old device result) (meaning c.args.tool.now) _ _ c.args.config.now.keys found request parsed _ c.in_ok-reason.ensures.untouched.tree decided

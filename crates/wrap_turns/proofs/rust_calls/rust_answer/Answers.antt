@@ -37,7 +37,7 @@ returns-clause-says g c =
     let k = c.in_ok-made.ensures in
     let moment : to_z w64 (of_z w64 c.args.request.now.moment) ≡ c.args.request.now.moment = search rules in
     let prepared = is_prepared digest_of (meaning c.args.tool.now) (meaning c.rust_prepare.new.tool) (tree c.args.files.now) (tree c.rust_prepare.new.files) c.args.rust.now c.args.request.now asked c.in_ok-made.made _ k.prepared c.rust_prepare.ensures.untouched.meaning c.rust_prepare.ensures.untouched.tree refl refl c.outputs.ensures refl refl moment refl in
-    let later = fails_in_later meaning g.T.Preprocessor.failed g.T.Preprocessor.fails_in c.args.tool.now c.rust_prepare.new.tool c.answer_prepared-answer.new.tool c.rust_prepare.ensures.untouched.meaning k.steady.0 in
+    let later = fails_in_later meaning g.T.Preprocessor.failed g.T.Preprocessor.fails_in c.args.tool.now c.rust_prepare.new.tool c.answer_prepared-answer.new.tool c.rust_prepare.ensures.untouched.meaning k.untouched.steady.0 in
     finished_says (w.fault ≡ None) w _ _ _ later k.prepared.fine _ (c.answer_prepared-answer.ensures.says digest_of w prepared)
 
 pub returns-clause-unpassed : goal.returns-clause-unpassed
