@@ -267,7 +267,7 @@ remote_folder() {
     remote_builds "a folder" "file:$work/shared" empty_shared
     empty_shared
     two_machines "a folder, flat" "6 0" "file://$work/shared|layout=flat"
-    is "a folder: nothing is left over" [ -z "$(find "$work/shared" -name '*.*')" ]
+    is "a folder: nothing is left behind" [ -z "$(find "$work/shared" -name '*.*')" ]
 }
 empty_shared() { rm -rf "$work/shared"; mkdir "$work/shared"; }
 
