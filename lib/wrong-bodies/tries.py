@@ -47,13 +47,13 @@ def link_or_copy(one, other):
         shutil.copy2(one, other)
 
 
-def copy_to(work, crates):
+def copy_to(copy, crates):
     """Copies the sources of these crates there, and takes over the libraries that are built of them."""
-    shutil.copy2(f"{TOP}/HANDLES", work)
+    shutil.copy2(f"{TOP}/HANDLES", copy)
     lines = [it for it in read(f"{TOP}/crates.txt").splitlines() if re.split(r"[\s:]", it)[0] in crates]
-    write(f"{work}/crates.txt", "\n".join([*lines, ""]))
+    write(f"{copy}/crates.txt", "\n".join([*lines, ""]))
     for crate in crates:
-        one, other = f"{TOP}/crates/{crate}", f"{work}/crates/{crate}"
+        one, other = f"{TOP}/crates/{crate}", f"{copy}/crates/{crate}"
         for part in ("src", "specs", "proofs"):
             if os.path.isdir(f"{one}/{part}"):
                 shutil.copytree(f"{one}/{part}", f"{other}/{part}")
@@ -182,9 +182,9 @@ def tried_whole(edit, crate, folder):
     return status == 0 and ": refused, as it must be" in said, said.strip().split("\n")[-1]
 
 
-def try_crate(work, crate):
+def try_crate(copy, crate):
     """Tries the edits of a crate in the copy there, and returns whether all are refused."""
-    folder = f"{work}/crates/{crate}"
+    folder = f"{copy}/crates/{crate}"
     files = sorted(it for kind in ("wrong-bodies", "must-fail") for it in glob.glob(f"{TOP}/crates/{crate}/{kind}/*.edit"))
     edits, began, verdicts = [Edit(it, crate, folder) for it in files], time.monotonic(), {}
     for edit in edits:
@@ -210,15 +210,15 @@ def try_crate(work, crate):
 
 def work(crates_left, below, all_crates, results):
     """Tries the crates that are left, one by one, in a copy of its own."""
-    with tempfile.TemporaryDirectory(prefix="wrong-bodies-") as work:
-        copy_to(work, all_crates)
+    with tempfile.TemporaryDirectory(prefix="wrong-bodies-") as copy:
+        copy_to(copy, all_crates)
         while True:
             try:
                 crate = crates_left.get_nowait()
             except queue.Empty:
                 return
             sum = sums.sum_of(crate, below)
-            results[crate] = try_crate(work, crate)
+            results[crate] = try_crate(copy, crate)
             if results[crate]:
                 sums.note(crate, sum)
 
