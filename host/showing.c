@@ -200,7 +200,7 @@ void end_messages(void) {
     held_size = 0;
 }
 
-/* Shows what lies in a file in memory. */
+/* Shows what is in a file in memory. */
 static int show_file(int file, int to) {
     char part[65536];
     ssize_t size;

@@ -512,7 +512,7 @@ remote_redis_faults() {
     is "Redis, full: nothing is stored" [ "$(redis dbsize)" = 0 ]
     is "Redis, full: misses" asked two 0 2 0 0
     redis config set maxmemory 0 >/dev/null
-    # Another kind of value lies there.
+    # Another kind of value is there.
     build_on "Redis, stored" one
     forget one
     build_on "Redis, stored" one

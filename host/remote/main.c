@@ -3,7 +3,7 @@
  * stored, once the call is answered: this process lives on for that.
  *
  * The words of a question are: how many milliseconds it may take to connect, and how many all that is waited for; the storage with its attributes;
- * the file of a key, or nothing; how many bytes it may have; and the name. A seventh word says that it is stored only where it isn't there yet.
+ * the file of a key, or nothing; how many bytes may come; and the name. With a seventh word it is stored only where it isn't there yet.
  */
 #define _GNU_SOURCE
 #include "remote.h"
