@@ -1,5 +1,5 @@
 #!/usr/bin/env python3
-"""cargo.py HOST [ROUNDS]: builds a workspace by cargo with no cache, behind sccache and behind gulmaat, in turns, and prints how long each build
+"""cargo.py HOST [ROUNDS]: builds a workspace by cargo with no cache, with sccache and with gulmaat, in turns, and prints how long each build
 took: cold, warm after its target was removed, and warm in another folder; and how long a single hit takes. Times are medians by the clock,
 and in brackets the processor's, of the build and all that it runs (sccache's server is started before and not counted). HOST is the host of
 gulmaat. It needs cargo, sccache, and crates of Debian's packages (CARGO_CRATES names their folder).
@@ -55,36 +55,36 @@ def timed(words, folder, env):
 
 
 class Bench:
-    """Builds behind each of the caches, in folders of their own."""
+    """Builds with each of the caches, in folders of their own."""
 
-    def __init__(self, host, room):
-        self.room = room
+    def __init__(self, host, work):
+        self.work = work
         plain = {**os.environ, "CARGO_INCREMENTAL": "0"}
         self.envs = {
             "no cache": plain,
-            "sccache": {**plain, "RUSTC_WRAPPER": "sccache", "SCCACHE_DIR": f"{room}/sccache", "SCCACHE_IDLE_TIMEOUT": "0"},
-            "gulmaat": {**plain, "RUSTC_WRAPPER": host, "GULMAAT_DIR": f"{room}/gulmaat"},
+            "sccache": {**plain, "RUSTC_WRAPPER": "sccache", "SCCACHE_DIR": f"{work}/sccache", "SCCACHE_IDLE_TIMEOUT": "0"},
+            "gulmaat": {**plain, "RUSTC_WRAPPER": host, "GULMAAT_DIR": f"{work}/gulmaat"},
         }
         self.times = {}
         for name in ("one", "two"):
-            make_workspace(f"{room}/{name}")
+            make_workspace(f"{work}/{name}")
 
     def build(self, kind, cache, folder):
         """Builds after the target was removed, and notes how long that took."""
-        shutil.rmtree(f"{self.room}/{folder}/target", ignore_errors=True)
-        took = timed(["cargo", "build", "--offline"], f"{self.room}/{folder}", self.envs[cache])
+        shutil.rmtree(f"{self.work}/{folder}/target", ignore_errors=True)
+        took = timed(["cargo", "build", "--offline"], f"{self.work}/{folder}", self.envs[cache])
         self.times.setdefault((kind, cache), []).append(took)
 
     def forget(self):
-        """Takes away all that the caches keep."""
+        """Clears the caches."""
         subprocess.run(["sccache", "--stop-server"], env=self.envs["sccache"], check=False, stdout=subprocess.DEVNULL, stderr=subprocess.DEVNULL)
         for name in ("sccache", "gulmaat"):
-            shutil.rmtree(f"{self.room}/{name}", ignore_errors=True)
+            shutil.rmtree(f"{self.work}/{name}", ignore_errors=True)
         subprocess.run(["sccache", "--start-server"], env=self.envs["sccache"], check=True, stdout=subprocess.DEVNULL, stderr=subprocess.DEVNULL)
 
     def single(self, cache):
         """A single hit of a call that was kept: a crate of some size."""
-        out = f"{self.room}/single-{cache.split()[0]}"
+        out = f"{self.work}/single-{cache.split()[0]}"
         os.makedirs(out, exist_ok=True)
         source = next(it for it in sorted(os.listdir(REGISTRY)) if it.startswith("regex-syntax-"))
         rustc = subprocess.run(["rustc", "--print", "sysroot"], capture_output=True, text=True, check=True).stdout.strip() + "/bin/rustc"
@@ -104,7 +104,7 @@ class Bench:
         for cache in self.envs:
             self.single(cache)
 
-    def tell(self):
+    def report(self):
         for kind in dict.fromkeys(kind for kind, _ in self.times):
             row = []
             for cache in self.envs:
@@ -116,11 +116,11 @@ class Bench:
 
 def main():
     host, rounds = os.path.abspath(sys.argv[1]), int(sys.argv[2]) if len(sys.argv) > 2 else 3
-    with tempfile.TemporaryDirectory() as room:
-        bench = Bench(host, room)
+    with tempfile.TemporaryDirectory() as work:
+        bench = Bench(host, work)
         for _ in range(rounds):
             bench.round()
-        bench.tell()
+        bench.report()
         subprocess.run(["sccache", "--stop-server"], env=bench.envs["sccache"], check=False, stdout=subprocess.DEVNULL)
 
 

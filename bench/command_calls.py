@@ -12,7 +12,7 @@ from pathlib import Path
 from program import SAME_MEMORY, build, expect, medians, timer, works
 from scenarios import WORDS, words
 
-# How many words share a long beginning, and a flag of each compiler that they begin with: the longest that takes a value.
+# How many words share a long beginning, and the flag of each compiler with which they begin: the longest that takes a value.
 SHARING = 1_000
 LONG_FLAGS = {
     "gcc": "-fdiagnostics-color",

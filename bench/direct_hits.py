@@ -32,7 +32,7 @@ def marker(name):
 
 
 def printed_length():
-    """How long the text is that the scripted tool prints of the source: markers, headers, and a marker behind each."""
+    """How long the text is that the scripted tool prints of the source: markers, headers, and a marker after each."""
     return len(marker(NAME)) + sum(len(marker(name)) + len(text) + len(marker(NAME)) for name, text in FILES.items())
 
 

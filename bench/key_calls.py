@@ -50,7 +50,7 @@ def ratio(command, peer, memory):
 
 
 def without_folders(text):
-    """The text without the folders, which stand in its line markers alone."""
+    """The text without the folders, which are in its line markers alone."""
     left = text
     for folder in FOLDERS:
         left = left.replace(f'"{folder}/'.encode(), b'"/')

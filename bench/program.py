@@ -1,4 +1,4 @@
-"""The program of `crates/tests_bench_calls`: has it built where that is to be done, and times calls of it and of its peers."""
+"""The program of `crates/tests_bench_calls`: builds it where need be, and times calls of it and of its peers."""
 
 import os
 import statistics
@@ -12,7 +12,7 @@ TOP = Path(__file__).resolve().parent.parent
 CRATE = TOP / "crates" / "tests_bench_calls"
 PROGRAM = CRATE / "out" / "tests_bench_calls"
 
-# A call is the difference of a run with many repeats and a run with few, so start and reading count in neither.
+# A call's time is the difference of a run with many repeats and a run with few, so that start and reading don't count.
 FEW, MANY = 1, 11
 ROUNDS = 7
 
@@ -48,7 +48,7 @@ def build():
 
 
 def works(name, *given):
-    """The command of a work of the program on what is given, for a number of repeats."""
+    """The command that has the program do some work on what is given, for a number of repeats."""
     return lambda repeats: [str(PROGRAM), name, str(repeats), *given]
 
 

@@ -2,8 +2,8 @@
 
     python3 bench/remote.py [ROUNDS] [LIMIT]
 
-Each call is the only one of its cache folder, which is empty before it: a hit that comes from the server. With a LIMIT, as 100mbit, the loopback
-device lets no more through (tc, as root). What a tool isn't there for is left out. Times are those of the clock: what a server and a
+Each call has a cache directory of its own, which is empty before it: a hit that comes from the server. With a LIMIT, as 100mbit, the loopback
+device lets no more through (tc, as root). Where a tool isn't there, what needs it is left out. Times are those of the clock: what a server and a
 helper do in them counts too. It prints the least and the median of each, and those of the compiler alone, and of a build of 40 sources in turn.
 """
 
@@ -51,50 +51,50 @@ def wait_for(port):
     sys.exit(f"remote.py: nothing listens on port {port}")
 
 
-def servers(room):
+def servers(work):
     """Starts the servers that are there, and gives them with their addresses."""
     found, started = {}, []
     if shutil.which("redis-server"):
         port = free_port()
-        started.append(subprocess.Popen(["redis-server", "--port", str(port), "--save", "", "--dir", room], stdout=subprocess.DEVNULL))
+        started.append(subprocess.Popen(["redis-server", "--port", str(port), "--save", "", "--dir", work], stdout=subprocess.DEVNULL))
         wait_for(port)
         found["Redis"] = f"redis://127.0.0.1:{port}"
     if shutil.which("nginx"):
         port = free_port()
-        os.makedirs(f"{room}/kept")
-        with open(f"{room}/nginx.conf", "w", encoding="utf-8") as out:
-            out.write(NGINX.format(room, port))
-        started.append(subprocess.Popen(["nginx", "-c", f"{room}/nginx.conf", "-e", f"{room}/errors"]))
+        os.makedirs(f"{work}/kept")
+        with open(f"{work}/nginx.conf", "w", encoding="utf-8") as out:
+            out.write(NGINX.format(work, port))
+        started.append(subprocess.Popen(["nginx", "-c", f"{work}/nginx.conf", "-e", f"{work}/errors"]))
         wait_for(port)
         found["HTTP"] = f"http://127.0.0.1:{port}"
     return found, started
 
 
-def make_sources(room):
-    """Sources that take in some of the system's headers, with functions in them."""
+def make_sources(work):
+    """Sources that include some of the system's headers, with functions in them."""
     for number in range(SOURCES):
-        with open(f"{room}/it-{number}.c", "w", encoding="utf-8") as out:
+        with open(f"{work}/it-{number}.c", "w", encoding="utf-8") as out:
             out.write("#include <stdio.h>\n#include <stdlib.h>\n#include <string.h>\n#include <math.h>\n")
             for other in range(40):
                 out.write(f"int f{other}(int a, char *b) {{ return printf(\"%d %s\", a * {number + other}, b) + (int)strlen(b) + abs(a); }}\n")
     time.sleep(0.2)
 
 
-def call(tool, variables, room, number):
+def call(tool, variables, work, number):
     """The seconds that one call takes."""
     words = [*tool, *WORDS, f"it-{number}.c", "-o", f"it-{number}.o"]
     begun = time.perf_counter()
-    subprocess.run(words, env={**os.environ, **variables}, cwd=room, check=True)
+    subprocess.run(words, env={**os.environ, **variables}, cwd=work, check=True)
     return time.perf_counter() - begun
 
 
-def tools(room, name, address):
+def tools(work, name, address):
     """The commands that ask that server, each with its variables and the folder of what it keeps."""
     host = f"{subprocess.run([f'{TOP}/bin/built', 'gulmaat'], stdout=subprocess.PIPE, check=True, text=True).stdout.strip()}/gulmaat-host"
-    kept = f"{room}/gulmaat-{name}"
+    kept = f"{work}/gulmaat-{name}"
     found = {"gulmaat": ([host], {"GULMAAT_DIR": kept, "GULMAAT_REMOTE": f"{address}/gulmaat" if name == "HTTP" else address}, kept)}
     if shutil.which("ccache"):
-        kept = f"{room}/ccache-{name}"
+        kept = f"{work}/ccache-{name}"
         remote = f"{address}/ccache" if name == "HTTP" else address
         found["ccache"] = (["ccache"], {"CCACHE_DIR": kept, "CCACHE_REMOTE_STORAGE": remote}, kept)
     return found
@@ -103,17 +103,17 @@ def tools(room, name, address):
 def main():
     """Times all of it."""
     rounds = int(sys.argv[1]) if len(sys.argv) > 1 else 20
-    with tempfile.TemporaryDirectory() as room:
-        found, started = servers(room)
-        make_sources(room)
+    with tempfile.TemporaryDirectory() as work:
+        found, started = servers(work)
+        make_sources(work)
         limit = ["tc", "qdisc", "add", "dev", "lo", "root", "tbf", "rate", sys.argv[2], "burst", "64k", "latency", "100ms"] if len(sys.argv) > 2 else []
         timers = {"the compiler alone": ([], {}, "")}
         for name, address in found.items():
-            timers |= {f"{tool}, {name}": way for tool, way in tools(room, name, address).items()}
+            timers |= {f"{tool}, {name}": way for tool, way in tools(work, name, address).items()}
         for tool, variables, kept in timers.values():
             # One call, so that what is known of the compiler is there, then all of them, so that the server has them.
             for number in range(SOURCES if kept else 0):
-                call(tool, variables, room, number)
+                call(tool, variables, work, number)
         time.sleep(2)
         if limit:
             subprocess.run(limit, check=True)
@@ -122,11 +122,11 @@ def main():
             for turn in range(rounds):
                 for name, (tool, variables, kept) in timers.items():
                     forget(kept)
-                    times[name].append(call(tool, variables, room, turn % SOURCES))
+                    times[name].append(call(tool, variables, work, turn % SOURCES))
             for _ in range(3):
                 for name, (tool, variables, kept) in timers.items():
                     shutil.rmtree(kept, ignore_errors=True)
-                    builds[name].append(sum(call(tool, variables, room, number) for number in range(SOURCES)))
+                    builds[name].append(sum(call(tool, variables, work, number) for number in range(SOURCES)))
         finally:
             if limit:
                 subprocess.run(["tc", "qdisc", "del", "dev", "lo", "root"], check=True)
@@ -139,7 +139,7 @@ def main():
 
 
 def forget(kept):
-    """Takes away what is kept, but what is known of the compiler, which a machine finds out once."""
+    """Clears the cache, but for what is known of the compiler, which a machine finds out once."""
     for kind in os.listdir(kept) if kept else []:
         if kind in ("parts", "compilers", "searches", "statistics", "ccache.conf"):
             continue

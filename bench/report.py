@@ -24,7 +24,7 @@ READ = ["python3", "-c", "import json, sys; json.load(sys.stdin)"]
 
 
 def words(number, count):
-    """So many words of an entry, of which two thirds behind the first few are definitions and the others folders."""
+    """So many words of an entry, of which two thirds after the first few are definitions and the others folders."""
     given = ["/usr/bin/cc", "-O2", "-Wall", "-std=gnu11", "-fPIC"]
     given += ["-o", f"objects/{number:06}.o", "-c", source_name(number)]
     rest = count - len(given)

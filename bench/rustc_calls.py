@@ -15,7 +15,7 @@ SIZE = 16 * MEBIBYTE
 SOURCES = 10_000
 DIGEST = 64
 
-# Behind the digests of a key stand the lengths of the words and of the directory, and two bytes more.
+# After the digests of a key come the lengths of the words and of the directory, and two bytes more.
 KEY_REST = 2 * 8 + 2
 
 # How often a call is repeated in a run with many, so that each run takes long enough to be timed.

@@ -125,7 +125,7 @@ def in_turns(numbers):
 
 
 def write_scenario(file, requests, passes=False):
-    """Writes the scenario of these requests, one behind the other."""
+    """Writes the scenario of these requests, one after the other."""
     with open(file, "w") as output:
         separator = '{"requests":['
         for family, number in requests:

@@ -1,4 +1,4 @@
-"""Times the opening of files of words against copies of their bytes, and twice as much of it against that.
+"""Times the opening of response files against copies of their bytes, and twice as much of it against that.
 
 It proves and builds the program first where that isn't built yet or its sources changed.
 """

@@ -122,7 +122,7 @@ def measure_hits(folder, size, trivial):
 
 
 def configure(folder, launcher):
-    """Writes the build files of googletest, which call the compilers behind that launcher."""
+    """Writes the build files of googletest, which call the compilers by that launcher."""
     words = ["cmake", "-S", str(GOOGLETEST), "-B", folder, "-G", "Ninja", "-DCMAKE_BUILD_TYPE=RelWithDebInfo"]
     words += ["-Dgtest_build_samples=ON", "-DINSTALL_GTEST=OFF"]
     if launcher:

@@ -1,8 +1,9 @@
-/* The helper that asks a server for results: it is started at the first question for it, and answers those of one call. What it is to send it sends
- * once this process is gone, or runs the compiler.
+/* The helper that asks a server for results. It is started at the first question for it, and answers those of one call. What it is to send it sends
+ * once this process has ended or runs the compiler.
  *
- * Its first two words say how many milliseconds it may take to connect, and how many all that this process waits for may take. It is ended where it
- * takes longer, whatever holds it up. It answers by letters: `b` where it connects from now on, `c` where it did, and then what a question came to.
+ * The first two words of a question say how many milliseconds it may take to connect, and how many all that this process waits for may take. It is
+ * killed where it takes longer, whatever holds it up. It answers by letters: `b` as it begins to connect, `c` once it is connected, and then what a
+ * question came to.
  */
 #define _GNU_SOURCE
 #include "host.h"
@@ -17,7 +18,7 @@
 #include <unistd.h>
 
 #define START 2000      /* how many milliseconds it may take until it begins to connect */
-#define SLACK 300       /* how many more than it gives itself it may take to connect */
+#define SLACK 300       /* how many more than its own limit it may take to connect */
 
 enum { CAME, MISSED, FAILED, LATE };    /* what a question came to, as the program has it */
 
@@ -25,7 +26,7 @@ extern char **environ;
 
 static pid_t helper;                    /* 0 before the first question, -1 once it is gone */
 static int to = -1, from = -1;
-static long left;                       /* for how many milliseconds it is waited yet */
+static long left;                       /* for how many milliseconds more it is waited for */
 
 static long milliseconds(void) {
     struct timespec now;
@@ -40,8 +41,8 @@ static void let_go(void) {
     helper = to = from = -1;
 }
 
-/* Starts the helper with a pipe to it, one from it, and the file in memory in which what came lies. Nothing of the caller's stays open in it, so
- * that who waits for the end of a build's output doesn't wait for it. */
+/* Starts the helper with a pipe to it, one from it, and the file in memory for what it finds. None of the caller's files stays open in it, so
+ * that whoever waits for the end of a build's output doesn't wait for the helper. */
 static void start_helper(const char *file) {
     int in[2] = {-1, -1}, out[2] = {-1, -1}, null = open("/dev/null", O_WRONLY | O_CLOEXEC);
     char *line[] = {"gulmaat-remote", NULL};
@@ -64,7 +65,7 @@ static void start_helper(const char *file) {
     if (helper < 0) let_go();
 }
 
-/* The next letter of the helper, for which it is waited so many milliseconds at most: `0` and what the question came to where none comes. */
+/* The next letter of the helper. If none comes within so many milliseconds, or at all, it is `0` plus what the question came to. */
 static int next_letter(long most) {
     struct pollfd file = {from, POLLIN, 0};
     long begun = milliseconds(), end = begun + (most < left ? most : left);
@@ -92,7 +93,7 @@ static long number_of(const char *word) {
     return number < 1 ? 1 : number > 3600000 ? 3600000 : number;
 }
 
-/* Has the helper answer a question, and gives what it came to as the status of a process that ended. */
+/* Has the helper answer a question, and returns what that came to as the status of a process that ended. */
 int ask_server(const unsigned char *question, size_t size, char **line) {
     unsigned char head[8];
     const char *file = helper ? NULL : find_helper();

@@ -11,24 +11,24 @@
 #include <sys/stat.h>
 #include <unistd.h>
 
-/* What a host tells those that it runs: the device and inode of itself and of what it runs, behind those that it was told. */
+/* The variable that a host sets for what it runs: the device and inode of itself and of what it runs, after those that were in it. */
 #define INSIDE "GULMAAT_INSIDE"
 
 char **words, compiler[PATH_MAX], self[PATH_MAX];
 int is_inside;
 
 static struct stat own;                 /* what this host's own file is */
-static const char *told = "";           /* which files hosts ran so far, in this chain of calls */
-static char tells[4096] = INSIDE "=";
+static const char *inherited = "";      /* which files hosts ran so far, in this chain of calls */
+static char handed_on[4096] = INSIDE "=";
 
-/* Finds this host's own file, also where /proc isn't there, and which host runs this one. */
+/* Finds this host's own file, also where /proc isn't there, and whether another host started this one. */
 void find_self(void) {
     ssize_t size = readlink("/proc/self/exe", self, sizeof self - 1);
     self[size < 0 ? 0 : size] = 0;
     if (size < 0 && !realpath((const char *)getauxval(AT_EXECFN), self)) self[0] = 0;
     if (stat(size < 0 ? self : "/proc/self/exe", &own)) memset(&own, 0, sizeof own);
-    if (getenv(INSIDE)) told = getenv(INSIDE);
-    is_inside = *told != 0;
+    if (getenv(INSIDE)) inherited = getenv(INSIDE);
+    is_inside = *inherited != 0;
 }
 
 static void name_file(char *name, size_t size, const struct stat *file) {
@@ -40,20 +40,20 @@ static int runs_of(const struct stat *file) {
     char name[48];
     int count = 0;
     name_file(name, sizeof name, file);
-    for (const char *at = told; (at = strstr(at, name)); at++) count++;
+    for (const char *at = inherited; (at = strstr(at, name)); at++) count++;
     return count;
 }
 
-/* Tells what this process runs from now on that this host runs it. Of a chain that is too long the end is told. */
+/* Sets that variable for what this process runs from now on. Of a chain that is too long it has the end. */
 void tell_inside(void) {
     struct stat file;
     char host[48], runs[48] = "";
-    size_t size = strlen(told), most = sizeof tells - 128;
-    if (tells[sizeof INSIDE]) return;
+    size_t size = strlen(inherited), most = sizeof handed_on - 128;
+    if (handed_on[sizeof INSIDE]) return;
     name_file(host, sizeof host, &own);
     if (!stat(compiler, &file)) name_file(runs, sizeof runs, &file);
-    snprintf(tells, sizeof tells, INSIDE "=%s%s%s", told + (size > most ? size - most : 0), host, runs);
-    putenv(tells);
+    snprintf(handed_on, sizeof handed_on, INSIDE "=%s%s%s", inherited + (size > most ? size - most : 0), host, runs);
+    putenv(handed_on);
 }
 
 /* Whether a file has the bytes of this host. */
@@ -101,8 +101,8 @@ static int search(const char *name, int most) {
     return -1;
 }
 
-/* The file of that name, where it can be run, by the usual search. A host is none, and its name is searched. Nor is a file that ran in this chain
- * of calls already, as a script of that name that calls a host: the next one is taken, or it once more where there is none. */
+/* The file of that name, where it can be run, by the usual search. A host doesn't count: its name is searched for. Nor does a file that already
+ * ran in this chain of calls, as a script of that name that calls a host: the next one is taken or, where there is none, that file once more. */
 int find_compiler(const char *name) {
     const char *slash = strrchr(name, '/');
     if (slash) {
@@ -125,7 +125,7 @@ static int is_program(const char *path) {
     return !stat(path, &file) && S_ISREG(file.st_mode) && file.st_mode & 0111 && !is_self(path, &file);
 }
 
-/* The program: the one that GULMAAT_BIN names, or where an installation has it, or beside this host. Says where it isn't. */
+/* The program: the one that GULMAAT_BIN names, or where an installation has it, or beside this host. If it isn't there, says so. */
 const char *find_program(void) {
     static char program[PATH_MAX + 32];
     const char *named = getenv("GULMAAT_BIN"), *slash = strrchr(self, '/');
@@ -144,7 +144,7 @@ const char *find_program(void) {
     return NULL;
 }
 
-/* The helper that asks a server: it lies beside the program. Says where it isn't. */
+/* The helper that asks a server: it is beside the program. If it isn't there, says so. */
 const char *find_helper(void) {
     static char helper[PATH_MAX + 48];
     const char *program = find_program(), *slash = program ? strrchr(program, '/') : NULL;

@@ -2,8 +2,8 @@
  *
  *     gulmaat COMPILER WORD..
  *
- * or by a link that is named like the compiler. Whatever goes wrong on this side ends in the compiler being run as if nobody had
- * asked. Numbers in messages have eight bytes, low byte first; a string stands behind its length; a message behind its own.
+ * or by a link that is named like the compiler. Whatever goes wrong on this side, the compiler is run as it would be without gulmaat.
+ * Numbers in messages have eight bytes, low byte first. A string comes after its length, and so does a message.
  */
 #define _GNU_SOURCE
 #include "host.h"
@@ -19,12 +19,12 @@
 #include <time.h>
 #include <unistd.h>
 
-#define DONE 11         /* the status at which the program has put the outputs there */
-#define PATIENCE 5000   /* how many milliseconds a program may take to end behind a signal that stops this process */
+#define DONE 11         /* the program's status when it has written the outputs */
+#define PATIENCE 5000   /* how many milliseconds a program may take to end after a signal that stops this process */
 
 extern char **environ;
 
-static char kept[PATH_MAX];     /* the folder of what is kept */
+static char kept[PATH_MAX];     /* the cache directory */
 
 /* ---- A message that grows. */
 
@@ -47,7 +47,7 @@ static void add_number(uint64_t number) {
     add(bytes, 8);
 }
 
-/* Begins a message, before which there is room for its length. */
+/* Begins a message with space for its length. */
 static void begin_message(void) {
     message_size = 0;
     add_number(0);
@@ -61,9 +61,9 @@ static int is_empty(int file) {
     return !fstat(file, &state) && !state.st_size;
 }
 
-/* ---- What the program is told, and what it asks. */
+/* ---- What the program gets, and what it asks for. */
 
-/* The folder of what is kept: GULMAAT_DIR, or gulmaat in the user's cache folder. Says why there is none. */
+/* Finds the cache directory: GULMAAT_DIR, or gulmaat in the user's cache folder. Says why there is none. */
 static int find_kept(void) {
     const char *dir = getenv("GULMAAT_DIR"), *cache = getenv("XDG_CACHE_HOME"), *home = getenv("HOME");
     int size = 0;
@@ -89,8 +89,8 @@ static int can_keep(void) {
     return 0;
 }
 
-/* How far local clocks are from UTC now, as the rule of a zone: UTC-02:00:00 is two hours east of it. Nothing where that isn't known. */
-static void tell_zone(void) {
+/* How far local time is from UTC now, as a time zone: UTC-02:00:00 is two hours east of it. Empty where that isn't known. */
+static void add_zone(void) {
     char zone[48] = "";
     struct tm local;
     time_t now = time(NULL);
@@ -103,14 +103,14 @@ static void tell_zone(void) {
 }
 
 /* The path by which the program, which has it under the same number, opens a file in memory. */
-static void tell_file(int file) {
+static void add_file(int file) {
     char path[32];
     snprintf(path, sizeof path, "/proc/self/fd/%d", file);
     add_string(path);
 }
 
 /* A name that no other process has. */
-static void tell_own_name(void) {
+static void add_own_name(void) {
     unsigned char bytes[8];
     char name[17];
     if (getrandom(bytes, sizeof bytes, 0) != sizeof bytes) pass_through();
@@ -118,17 +118,18 @@ static void tell_own_name(void) {
     add_string(name);
 }
 
-static void tell_command_line(void) {
+/* The first message: the command line, the folder and the variables. */
+static void make_first_message(void) {
     char dir[PATH_MAX];
     uint64_t count = 0, pairs = 0;
     if (!getcwd(dir, sizeof dir)) pass_through();
     begin_message();
     add_string(kept);
-    tell_file(text);
-    tell_file(messages);
-    tell_file(printed);
-    tell_file(list);
-    tell_own_name();
+    add_file(text);
+    add_file(messages);
+    add_file(printed);
+    add_file(list);
+    add_own_name();
     add_string(compiler);
     add_string(dir);
     while (words[count + 1]) count++;
@@ -142,7 +143,7 @@ static void tell_command_line(void) {
         add_bytes(*pair, equals - *pair);
         add_string(equals + 1);
     }
-    tell_zone();
+    add_zone();
 }
 
 static int send_message(int to) {
@@ -150,7 +151,7 @@ static int send_message(int to) {
     return write_all(to, message, message_size);
 }
 
-/* Tells the program how what it asked for ended, whether nothing was printed beside a text, or by the compile, and how long it took. */
+/* Sends the program the status of what it asked for, whether nothing was printed beside a text, or by a compile, and how long it took. */
 static int answer(int to, int ended, int is_compile, uint64_t from) {
     begin_message();
     add_number(WIFEXITED(ended) ? WEXITSTATUS(ended) : 128 + WTERMSIG(ended));
@@ -159,7 +160,7 @@ static int answer(int to, int ended, int is_compile, uint64_t from) {
     return send_message(to);
 }
 
-/* Has a question's words run, and gives how that ended; -1 where it couldn't be started. */
+/* Runs a question's words, and returns how that ended; -1 where it couldn't be started. */
 static int run_asked(char **line, int is_compile) {
     uint64_t from = now();
     int ended = !line ? -1 : is_compile ? compile(line) : preprocess(line);
@@ -167,8 +168,8 @@ static int run_asked(char **line, int is_compile) {
     return ended;
 }
 
-/* Answers questions until the program ends or a signal comes, and gives how a compile ended that ran and was shown, or -1. A line for a log is
- * taken, and not answered. Closes the pipe to it. */
+/* Answers questions until the program ends or a signal comes. Returns how a compile ended that ran and was shown, or -1. A line for a log is
+ * taken and not answered. Closes the pipe to the program. */
 static int answer_questions(int from, int to) {
     int compiled = -1, goes_on = 1;
     uint64_t size;
@@ -182,7 +183,7 @@ static int answer_questions(int from, int to) {
             int ended = is_for_server ? ask_server(question, size, line) : run_asked(line, is_compile);
             if (is_compile && !isnt_shown) compiled = ended;
             goes_on = ended >= 0 && !isnt_shown && !isnt_kept && !stopped && !answer(to, ended, is_compile, then);
-            /* Nothing is answered any more, which the program sees. What it has to say then is taken still. */
+            /* From now on nothing is answered, which the program sees. A line for a log is still taken. */
             if (!goes_on) close(to);
         }
         free_words(line);
@@ -192,8 +193,8 @@ static int answer_questions(int from, int to) {
     return compiled;
 }
 
-/* Waits for the program's end, and gives its status. Behind a signal that stops this process it may take so long as to write its outputs, but
- * not for as long as it waits for another call. */
+/* Waits for the program to end, and returns its status. After a signal that stops this process there is time for it to write its outputs, but
+ * not to wait for another call. */
 static int end_of(pid_t child, int from) {
     int status = 1 << 8;
     struct pollfd end = {from, 0, 0};
@@ -202,8 +203,8 @@ static int end_of(pid_t child, int from) {
     return status;
 }
 
-/* Has the program do what options say. They stand behind this host's file, the program's, the folder of what is kept, the folder in which
- * it is asked and, where what differed is asked for, the file of that compiler. */
+/* Has the program do what options say. Before them it gets this host's file, its own, the cache directory, the current folder and, for --why,
+ * the compiler's file. */
 static int answer_options(int count, char **list) {
     char **line = calloc(count + 8, sizeof *line), dir[PATH_MAX];
     const char *program = find_program();
@@ -226,7 +227,7 @@ static int answer_options(int count, char **list) {
     return 127;
 }
 
-/* Whether options ask for what the program beside the program shows: a page, a trace or a comparison of logs. */
+/* Whether options ask for what gulmaat-page shows: a page, a trace or a comparison of logs. */
 static int asks_for_logs(int count, char **list) {
     const char *const names[] = {"--page", "--trace", "--compare"};
     for (size_t i = 0; i < sizeof names / sizeof *names; i++)
@@ -234,7 +235,7 @@ static int asks_for_logs(int count, char **list) {
     return 0;
 }
 
-/* Has gulmaat-page, which lies beside the program, show what logs tell. Its words stand behind the folder of both. */
+/* Has gulmaat-page, which is beside the program, show what is in logs. Its words come after the folder of both. */
 static int show_logs(int count, char **list) {
     char folder[PATH_MAX], page[PATH_MAX + 16], **line = calloc(count + 3, sizeof *line);
     const char *program = find_program();
@@ -281,8 +282,8 @@ int main(int count, char **list) {
         if (errno == ENOEXEC || errno == EACCES || errno == ENOENT) perror(program);
         pass_through();
     }
-    /* While it is loaded. */
-    tell_command_line();
+    /* Meanwhile the program is loaded. */
+    make_first_message();
     int compiled = -1;
     if (send_message(to)) close(to);
     else compiled = answer_questions(from, to);

@@ -13,7 +13,7 @@
 extern char **words;                /* the compiler's own words, its name first */
 extern char compiler[PATH_MAX];     /* the file that is run */
 extern char self[PATH_MAX];         /* this host's own file */
-extern int is_inside;               /* whether a host runs this one, by whatever is between them */
+extern int is_inside;               /* whether another host started this one, directly or through other programs */
 
 void find_self(void);
 int find_compiler(const char *name);
@@ -23,7 +23,7 @@ void tell_inside(void);
 
 /* ---- running.c: processes and signals. */
 
-extern int text, messages, printed, list;   /* files in memory, in which a command's output goes, and the files that a text is made of */
+extern int text, messages, printed, list;   /* files in memory: for a command's output, and for the list of the files that a text is made of */
 
 int hold_closed(void);
 int make_files(void);
@@ -37,6 +37,7 @@ int compile(char **line);
 /* ---- asking.c: the helper that asks a server. */
 
 int ask_server(const unsigned char *question, size_t size, char **line);
+
 /* ---- logging.c: the line of a call in a log. */
 
 extern uint64_t began;              /* when this call began, in microseconds since 1970 */
@@ -49,7 +50,7 @@ void write_line(int ended);
 
 /* ---- showing.c: what a compiler prints. */
 
-extern int isnt_shown;      /* whether a compiler printed what can't be shown, or not as it printed it: it runs itself then */
+extern int isnt_shown;      /* whether something that a compiler printed wasn't shown as it printed it: then it is run directly */
 extern int isnt_kept;       /* whether it printed what can't be kept */
 
 int write_all(int file, const void *bytes, size_t size);

@@ -1,4 +1,4 @@
-/* The line that a call gets in a log: the program writes its front, and this the rest, which it alone knows. */
+/* The line that a call gets in a log. The program gives its beginning; the host writes it with the rest, which only the host knows. */
 #define _GNU_SOURCE
 #include "host.h"
 #include <fcntl.h>
@@ -12,7 +12,7 @@
 
 uint64_t began;             /* when this call began */
 
-static char *place, *front; /* the log, and the front of the line; none where the program handed over none */
+static char *place, *front; /* the log, and the beginning of the line; NULL where the program sent none */
 static char *ran;           /* what ran, as JSON */
 
 uint64_t now(void) {
@@ -21,7 +21,7 @@ uint64_t now(void) {
     return (uint64_t)time.tv_sec * 1000000 + time.tv_nsec / 1000;
 }
 
-/* Notes that a command ran from then to now: P a preprocessor, or what the compiler says of itself, C the compiler. */
+/* Notes that a command ran from then until now: P is a preprocessor, or what the compiler says of itself, C is a compile. */
 void note_run(char letter, uint64_t from) {
     char *more;
     if (asprintf(&more, "%s%s[\"%c\",%" PRIu64 ",%" PRIu64 "]", ran ? ran : "", ran ? "," : "", letter, from, now()) < 0) return;
@@ -29,7 +29,7 @@ void note_run(char letter, uint64_t from) {
     ran = more;
 }
 
-/* Takes the log's place and the front of the line. */
+/* Takes the log's path and the beginning of the line. */
 void take_line(char **line) {
     if (!line || !line[1] || !line[2] || front) return;
     place = strdup(line[1]);
@@ -38,7 +38,7 @@ void take_line(char **line) {
 
 int has_line(void) { return place && front; }
 
-/* Writes the line of a call that ended so, all at once, behind those of other processes. */
+/* Writes the line of a call that ended so, all at once, after those of other processes. */
 void write_line(int ended) {
     int status = WIFEXITED(ended) ? WEXITSTATUS(ended) : 128 + WTERMSIG(ended);
     char *line;
@@ -47,7 +47,7 @@ void write_line(int ended) {
     if (file < 0) return;
     int size = asprintf(&line, "%s,\"start\":%" PRIu64 ",\"end\":%" PRIu64 ",\"pid\":%d,\"ppid\":%d,\"status\":%d,\"ran\":[%s]}\n", front, began,
         now(), (int)getpid(), (int)getppid(), status, ran ? ran : "");
-    /* A line that can't be written whole is the log's loss, and not the call's. */
+    /* A line that can't be written whole is a loss to the log, and not to the call. */
     if (size > 0 && write(file, line, size) < 0) {}
     close(file);
     if (size >= 0) free(line);

@@ -1,4 +1,4 @@
-/* Questions: a letter and words. Numbers have eight bytes, low byte first; a word stands behind its length; a question behind its own. */
+/* Questions: a letter and words. Numbers have eight bytes, low byte first; a word comes after its length, a question after its own. */
 #define _GNU_SOURCE
 #include "questions.h"
 #include <errno.h>
@@ -37,7 +37,7 @@ unsigned char *next_question(int from, uint64_t *size) {
     return question;
 }
 
-/* The words that a question names behind its letter, behind that first one; none where it isn't well formed. */
+/* The words after a question's letter, with that first one before them; NULL where the question isn't well formed. */
 char **words_of(const unsigned char *question, uint64_t size, char *first) {
     if (size < 16) return NULL;
     uint64_t count = number_at(question + 8), at = 16;

@@ -15,24 +15,24 @@
 
 extern char **environ;
 
-/* What the program has in place of the caller's variables, which it reads from its pipe: its memory comes in large pages where the kernel has
- * them, of which fewer are to be fetched. */
+/* The program's environment. It reads the caller's variables from its pipe. Its memory comes in large pages where the kernel has them, so that
+ * there are fewer page faults. */
 static char *const own_variables[] = {"GLIBC_TUNABLES=glibc.malloc.hugetlb=1", NULL};
 
 int text = -1, messages = -1, printed = -1, list = -1;
 volatile sig_atomic_t stopped;
 
 static int was_closed[3];                   /* which of the first three files the caller had closed */
-static sigset_t stops, callers, usual;      /* the signals that stop a compiler, those that the caller had blocked, and those that are while
-                                               nothing is waited for */
+static sigset_t stops, callers, usual;      /* the signals that stop a compiler, those that the caller had blocked, and those that are blocked
+                                               while nothing is waited for */
 static int watches;                         /* whether signals are watched */
 static volatile pid_t running;              /* the compiler that runs */
 static volatile int fault;                  /* why a process couldn't be started */
 
-/* Signals that mean another thing here than to a compiler, and what the caller does at them. */
+/* Signals that are handled in another way here than in a compiler, and how the caller handles them. */
 static struct { int number; void (*ours)(int), (*callers)(int); } kinds[3];
 
-/* Opens what the caller had closed of the first three files, so that no other file takes its place. */
+/* Opens those of the first three files that the caller had closed, so that no other file gets their numbers. */
 int hold_closed(void) {
     struct pollfd files[3] = {{0, 0, 0}, {1, 0, 0}, {2, 0, 0}};
     if (poll(files, 3, 0) <= 0) return 0;
@@ -70,9 +70,9 @@ static void stop(int number) {
 /* A process ended: nothing is waited for any more. */
 static void wake(int number) { (void)number; }
 
-/* From now on a signal that would stop this process goes on to the compiler, and is waited for. What the caller ignores stays ignored. The end of
- * a process comes through while one is waited for, and a file that can't be written is no end of this one. Until the program is started all of
- * these are blocked. */
+/* From now on a signal that would stop this process goes on to the compiler, whose end is waited for. What the caller ignores stays ignored. The
+ * end of a process (SIGCHLD) comes through while one is waited for, and a failed write doesn't end this one. Until the program is started the
+ * signals that stop and SIGCHLD are blocked. */
 void watch_signals(void) {
     const int numbers[] = {SIGINT, SIGTERM, SIGHUP, SIGQUIT};
     const struct sigaction ours = {.sa_handler = stop};
@@ -95,7 +95,7 @@ void watch_signals(void) {
     watches = 1;
 }
 
-/* Has signals do what they did to the caller, but for those that came already. */
+/* Has signals do what they did to the caller, from now on. */
 static void give_back_signals(void) {
     if (!watches) return;
     for (int number = 1; number < NSIG; number++)
@@ -103,7 +103,7 @@ static void give_back_signals(void) {
     for (int i = 0; i < 3; i++) signal(kinds[i].number, kinds[i].callers);
 }
 
-/* Ends as a process did that was stopped by this signal. */
+/* Ends as a process does that is stopped by this signal. */
 void end_by(int number) {
     const struct rlimit none = {0, 0};
     sigset_t one;
@@ -118,7 +118,7 @@ void end_by(int number) {
 
 static void run_for_log(void);
 
-/* Runs the compiler as if nobody had asked, unless this process was to stop. */
+/* Runs the compiler as it would run without gulmaat, unless a signal stopped this process. */
 void pass_through(void) {
     if (has_line() && !stopped) run_for_log();
     give_back_signals();
@@ -136,8 +136,8 @@ void pass_through(void) {
 
 /* ---- Processes. */
 
-/* Starts a file with these words, with these files as its first three, -1 where they stay as they are. The program has the files in memory, and
- * no signal stops it; a compiler has what the caller had, and the list where it is asked for. */
+/* Starts a file with these words and with these files as its first three; -1 leaves one as it is. The program has the files in memory, and no
+ * signal stops it. A compiler has what the caller had, and the list where it is asked for. */
 static pid_t launch(const char *file, char **line, const int files[3], int is_program, int has_list) {
     fault = 0;
     pid_t child = vfork();
@@ -157,7 +157,7 @@ static pid_t launch(const char *file, char **line, const int files[3], int is_pr
 }
 
 /* Starts the program with a pipe to it and one from it, and with the files in memory. No signal stops it while it writes an output: it ends
- * where its pipes do. */
+ * when its pipes do. */
 pid_t start(const char *program, int *to, int *from) {
     int in[2], out[2];
     char *line[] = {(char *)program, NULL};
@@ -195,10 +195,10 @@ static int has_ended(int *ended) {
     return child != 0;
 }
 
-/* A stream of the compiler's, to where it is shown, and where it is noted. */
+/* A stream of the compiler's, where it is shown, and where it is recorded. */
 struct stream { int from, to, note; };
 
-/* Shows and notes what a stream has, at most so much. Nothing once it is at its end. */
+/* Shows and records what a stream has, at most so much. At its end it is closed. */
 static ssize_t take(struct stream *stream, size_t most) {
     char part[65536];
     ssize_t size = read(stream->from, part, most < sizeof part ? most : sizeof part);
@@ -213,7 +213,7 @@ static ssize_t take(struct stream *stream, size_t most) {
     return size;
 }
 
-/* Takes what is in a stream behind the end of its compiler, without waiting for others that have it open. */
+/* Takes what is left in a stream after its compiler ended, without waiting for other processes that have it open. */
 static void drain(struct stream *stream) {
     int left = 0;
     if (stream->from < 0) return;
@@ -221,7 +221,7 @@ static void drain(struct stream *stream) {
     if (stream->from >= 0) close(stream->from);
 }
 
-/* Waits for the end of the compiler, whose streams are shown as they come, if any are. Gives how it ended. */
+/* Waits for the compiler to end, and shows its streams, if there are any, as they come. Returns how it ended. */
 static int wait_for(struct stream *streams, int count) {
     sigset_t waiting = callers;
     int ended = -1;
@@ -239,7 +239,7 @@ static int wait_for(struct stream *streams, int count) {
 
 static int make_empty(int file) { return ftruncate(file, 0) || lseek(file, 0, SEEK_SET) ? -1 : 0; }
 
-/* Has the compiler print a text, or what it says of itself. Gives how it ended, as wait does; -1 where it couldn't be started. */
+/* Has the compiler print a text, or what it says of itself. Returns how it ended, as wait does; -1 where it couldn't be started. */
 int preprocess(char **line) {
     if (make_empty(text) || make_empty(messages) || start_compiler(line, text, messages, 1)) return -1;
     return wait_for(NULL, 0);
@@ -268,7 +268,7 @@ int compile(char **line) {
     return -1;
 }
 
-/* Runs the compiler as if nobody had asked, and ends as it did, with a line in the log. Returns where it couldn't be started. */
+/* Runs the compiler as it would run without gulmaat, and ends as it did, with a line in the log. Returns only where it couldn't be started. */
 static void run_for_log(void) {
     uint64_t from = now();
     if (start_compiler(words, -1, -1, 0)) return;

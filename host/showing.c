@@ -1,6 +1,6 @@
-/* What a compiler prints. The program has it print its messages in colour, by a word of its own behind the caller's, so that what is kept serves
- * a terminal and a log: where the caller wants none, these colours are taken out as messages are shown. Nothing else is, and nothing of standard
- * output.
+/* What a compiler prints. The program has it print its messages in colour, by a word of its own after the caller's, so that one result serves
+ * a terminal and a log: where the caller wants no colours, they are taken out as messages are shown. Nothing else is taken out, and nothing of
+ * standard output.
  */
 #define _GNU_SOURCE
 #include "host.h"
@@ -20,9 +20,9 @@ int isnt_shown, isnt_kept;
 static int is_coloured;     /* whether the program's word for colours is among the words of the compile */
 static int takes_out;       /* whether colours are taken out of what is shown */
 static int is_begun;        /* whether something was printed */
-static int is_withheld;     /* whether it is shown to nobody, since its colours can't be told from other escapes */
+static int is_withheld;     /* whether nothing is shown, since colours can't be told from other escapes */
 
-/* Writes all of it, and waits where a file takes nothing now. Gives up where a signal stops this process, which may wait for a reader then. */
+/* Writes all of it, and waits while a file takes nothing. Gives up when a signal stops this process, which might wait for a reader then. */
 int write_all(int file, const void *bytes, size_t size) {
     for (const char *at = bytes; size;) {
         ssize_t written = write(file, at, size);
@@ -40,7 +40,7 @@ int write_all(int file, const void *bytes, size_t size) {
 
 /* ---- Whether colours are wanted. */
 
-/* When the caller's own words would have messages in colour: the last one that says so. */
+/* When messages are in colour by the caller's own words: the last one about colours counts. */
 static enum { NEVER, AT_A_TERMINAL, ALWAYS } asks_for_colours(void) {
     int asks = AT_A_TERMINAL;
     for (char **word = words + 1; *word; word++) {
@@ -52,7 +52,7 @@ static enum { NEVER, AT_A_TERMINAL, ALWAYS } asks_for_colours(void) {
     return asks;
 }
 
-/* Whether messages are to be in colour, by the questions of GCC where it is to find out. Clang has no GCC_COLORS. */
+/* Whether messages are to be in colour. Where no word decides, it is by what GCC looks at. Clang has no GCC_COLORS. */
 static int wants_colours(int is_gcc) {
     const char *terminal = getenv("TERM"), *colours = is_gcc ? getenv("GCC_COLORS") : NULL;
     int asks = asks_for_colours();
@@ -60,7 +60,7 @@ static int wants_colours(int is_gcc) {
     return terminal && strcmp(terminal, "dumb") && isatty(2) && !(colours && !*colours);
 }
 
-/* ---- Whether an escape may be of the source. */
+/* ---- Whether an escape may come from the source. */
 
 static int has_escape(const char *bytes, size_t size) { return memchr(bytes, ESCAPE, size) != NULL; }
 
@@ -73,7 +73,7 @@ static const char *map(int file, size_t *size) {
     return bytes == MAP_FAILED ? NULL : bytes;
 }
 
-/* Whether a file that a text names may have an escape in it. One that isn't there is quoted by no compiler. */
+/* Whether a file that a text names may have an escape in it. No compiler quotes one that isn't there. */
 static int source_has_escape(const char *path) {
     struct stat state;
     size_t size;
@@ -106,7 +106,7 @@ static int name_in(const char *line, const char *end, char *name) {
     return end - at < 3 || at[2] != '2' ? GOES_IN : GOES_BACK;
 }
 
-/* Whether any file that the text names may have one. A text that names none doesn't tell. */
+/* Whether any file that the text names may have one. Where it names none, nothing is known, and one may. */
 static int sources_have_escapes(const char *text, size_t size) {
     char name[PATH_MAX], before[PATH_MAX] = "";
     int is_named = 0;
@@ -124,7 +124,7 @@ static int sources_have_escapes(const char *text, size_t size) {
     return !is_named;
 }
 
-/* Whether messages of the compile may have escapes in them that aren't the compiler's own: of a word, or of a file that it may quote. */
+/* Whether messages of the compile may have escapes in them that aren't the compiler's own: from a word, or from a file that it may quote. */
 static int may_quote_escapes(void) {
     size_t size;
     for (char **word = words + 1; *word; word++)
@@ -138,12 +138,12 @@ static int may_quote_escapes(void) {
 
 /* ---- Showing. */
 
-/* What may be a colour and isn't ended yet: an escape, a bracket, digits and semicolons. */
+/* The beginning of what may be a colour: an escape, a bracket, digits and semicolons. */
 static char held[32];
 static size_t held_size;
 
-/* Copies bytes without colours, each of which is an escape, a bracket, digits and semicolons, and an m or a K. Gives the new size, of
- * which there may be more than before, by what was held. */
+/* Copies bytes without colours, each of which is an escape, a bracket, digits and semicolons, and an m or a K. Returns the new size,
+ * which may be larger than the old one, by what was held. */
 static size_t without_colours(char *to, const char *from, size_t size) {
     size_t end = 0;
     for (size_t i = 0; i < size; i++) {
@@ -171,7 +171,7 @@ static void show(int to, const char *part, size_t size) {
     if (!isnt_shown && write_all(to, part, size)) isnt_shown = 1;
 }
 
-/* What comes is printed by a compile of these words. */
+/* What is shown from now on is printed by a compile with these words. */
 void begin_messages(char **line) {
     int before = 0, now = 0;
     while (words[before]) before++;
@@ -181,7 +181,7 @@ void begin_messages(char **line) {
 }
 
 /* Shows a part of what a compile prints, of at most 65536 bytes. Where its colours can't be told from other escapes it isn't kept and, where
- * they would be taken out, the compiler runs itself. */
+ * they would be taken out, the compiler is run directly. */
 void show_part(int to, const char *part, size_t size) {
     if (!is_begun && is_coloured && asks_for_colours() != ALWAYS && may_quote_escapes()) {
         isnt_kept = 1;
@@ -200,12 +200,12 @@ void end_messages(void) {
     held_size = 0;
 }
 
-/* Shows what lies in a file in memory. */
+/* Shows what is in a file in memory. */
 static int show_file(int file, int to) {
     char part[65536];
     ssize_t size;
     for (off_t at = 0; (size = pread(file, part, sizeof part, at)) > 0; at += size) {
-        /* Behind each colour GCC clears the line, and Clang does not. */
+        /* GCC clears the line after each colour, and Clang doesn't. */
         if (!at && to == 2) takes_out = !wants_colours(memmem(part, size, "\033[K", 3) != NULL);
         show(to, part, size);
     }

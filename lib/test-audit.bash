@@ -4,7 +4,7 @@
 # How many hits differed so far from what the compiler makes.
 differing() { "$host" --print-stats | awk -F '\t' '$1 == "error_audit" { n = $2 } END { print n + 0 }'; }
 
-# A compiler that isn't to be trusted: it puts what lies in a file behind each object.
+# A compiler that isn't to be trusted: it appends what is in a file to each object.
 audit_compiler() {
     printf '%s "$@"\nstatus=$?\ncase " $* " in *" -E "*) ;; *" -c "*) cat %s/noise >>it.o ;; esac\nexit $status\n' \
         "$(command -v "$1")" "$PWD" | stand_in "fake/$1"
@@ -28,7 +28,7 @@ audit() {
     is "$cc: its object" cmp -s it.o plain.o
     is "$cc: its messages" cmp -s <(grep -v '^gulmaat: ' err) plain.err
     is "$cc: nothing differs" [ "$(differing)" = 0 ]
-    # Where the compiler makes another object its own is the answer, and what was kept goes.
+    # Where the compiler makes another object, that is the answer, and the result is removed.
     printf 'one' >noise
     audit_compiler "$cc"
     GULMAAT_AUDIT=0 "$host" "fake/$cc" -c it.c -o it.o
@@ -47,7 +47,7 @@ audit() {
     "$host" --audit $cc -c it.c -o it.o 2>err
     is "$cc: one command is compared" grep -q 'gulmaat: \(a hit: \|no hit\)' err
     is "$cc: its object is there" [ -s it.o ]
-    # None is compared, and a value that is none is refused.
+    # No hit is compared, and a wrong value is refused.
     GULMAAT_AUDIT=0 "$host" $cc -c it.c -o it.o 2>err
     is "$cc: none is compared" [ ! -s err ]
     GULMAAT_AUDIT=some "$host" $cc -c it.c -o it.o 2>err

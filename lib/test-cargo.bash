@@ -61,7 +61,7 @@ END
     printf 'pub fn same(x: u32) -> u32 { x }\n' >lib/src/inner.rs
 }
 
-# Another one: a larger tree, with options of its own for crates, and a procedural macro among its members.
+# Another workspace: a larger tree, with options of its own for crates, and a procedural macro among its members.
 make_other_workspace() {
     mkdir -p tool/src macros/src .cargo
     printf '[workspace]\nmembers = ["tool", "macros"]\nresolver = "2"\n[profile.dev]\nopt-level = 1\n[profile.dev.package."*"]\nopt-level = 2\n' >Cargo.toml
@@ -73,16 +73,16 @@ make_other_workspace() {
     printf 'fn main() { let m = clap::Command::new("tool").get_matches(); println!("{} {} {m:?}", tool::number(), tool::VERSION); }\n' >tool/src/main.rs
 }
 
-# All that a build made that isn't of one machine's or one moment's.
+# All that a build made but what depends on the machine or the moment.
 made_by_cargo() {
     find target -type f \( -name '*.rlib' -o -name '*.rmeta' -o -name '*.d' -o -name '*.so' -o -path 'target/debug/app' -o -path 'target/debug/tool' \) |
         sort | xargs sha256sum
 }
 
-# What cargo printed, without times and the order of what goes on at once.
+# What cargo printed, without times, and in an order that doesn't depend on which job ended first.
 printed_by_cargo() { grep -v 'Finished\|Blocking waiting' "$1" | sed 's/target(s) in .*//; s/; finished in .*//' | sort; }
 
-# Builds by cargo without a cache and with one, from the same state: status, what is printed and what is made are alike.
+# Builds by cargo without a cache and with one, from the same state: status, what is printed and what is made must be the same.
 like_cargo() {
     local name=$1 status state=$work/cargo-state
     shift
@@ -101,7 +101,7 @@ like_cargo() {
     is "cargo $name: messages" cmp -s <(printed_by_cargo "$state/plain.out") <(printed_by_cargo "$state/ours.out")
 }
 
-# How many hits and compiles a build had since the mark, as two numbers.
+# How many hits and compiles there were since the mark, as two numbers.
 hits_of_cargo() {
     local k c d
     read -r k c d < <(counted)
@@ -134,7 +134,7 @@ cargo_builds() {
     mkdir -p "$dir/one" "$dir/two" && cd "$dir/one" || return
     make_workspace
     workspace_builds workspace 8
-    # From here on each change is built from the state before it, by both.
+    # From here on both build each change from the state before it.
     rm -rf target
     cargo build --offline >/dev/null 2>&1
     sleep 1.1

@@ -1,7 +1,7 @@
 # shellcheck shell=bash disable=SC2016,SC2086,SC2154
 # Each option, key and variable of gulmaat: a part of bin/test-builds, whose host, work and functions it uses.
 
-# What an option prints is this.
+# Whether an option prints this.
 prints() {
     local name=$1 wanted=$2 got
     shift 2
@@ -10,7 +10,7 @@ prints() {
     [ "$got" = "$wanted" ] || printf '  printed: %s\n' "$got"
 }
 
-# An option is refused with status 2, and its message has this in it.
+# Whether an option is refused with status 2 and a message that has this in it.
 refused() {
     local name=$1 wanted=$2
     shift 2
@@ -22,7 +22,7 @@ refused() {
 # The number under a name of the statistics.
 number() { "$host" --print-stats | awk -F '\t' -v name="$1" '$1 == name { print $2 }'; }
 
-# One more is counted under this name by a command, whatever it ends with.
+# Whether a command adds one to this counter, whatever its status is.
 counts() {
     local name=$1 counter=$2 before after
     shift 2
@@ -73,7 +73,7 @@ habits_help() {
     done
     refused "an option that is none" "--nothing is no option" "$host" --nothing
     refused "a short one" "-y is no option" "$host" -y
-    refused "a word behind an option" "all is no option" "$host" -C all
+    refused "a word after an option" "all is no option" "$host" -C all
     refused "no value" "-M is no option, or lacks its value" "$host" -M
 }
 
@@ -176,14 +176,14 @@ habits_keeping() {
     refused "-M 5X" "max_size is 5X: set it to a whole number" "$host" -M 5X
     prints "-M 5X: it stays what it was" 0 "$host" -k max_size
     is "-M writes one line" [ "$(grep -c max_size "$file")" = 1 ]
-    # Of forty objects whole blocks count, and all that is kept of them; at the limit the first ones go.
+    # Forty results count in whole blocks, with all that is kept beside them; at the limit the first ones are evicted.
     for before in $(seq 1 40); do "$host" gcc -DCOUNT="$before" -c it.c -o "it-$before.o"; done
     is "blocks count" [ "$(number cache_size_kibibyte)" -ge $((40 * 3 * 4)) ]
     prints "blocks count: exactly" "$(($(bytes_kept) / 1024))" number cache_size_kibibyte
     counts "the limit is passed" cleanups_performed env GULMAAT_MAXSIZE=300k "$host" gcc -DCOUNT=41 -c it.c -o it.o
     is "the limit holds" [ "$(bytes_kept)" -le 300000 ]
     is "hints and fingerprints go too" [ "$(find "$GULMAAT_DIR/hints" "$GULMAAT_DIR/fingerprints" -type f | wc -l)" -lt 60 ]
-    # A file of another version, and what is noted of sizes is wrong.
+    # A result of another version, and noted sizes that are wrong.
     mkdir -p "$GULMAAT_DIR/results/00"
     head -c 100000 /dev/zero >"$GULMAAT_DIR/results/00/old"
     touch -d '10 days ago' "$GULMAAT_DIR/results/00/old"
@@ -201,7 +201,7 @@ habits_keeping() {
     "$host" --evict-older-than 90m
     is "--evict-older-than 90m" [ "$(results_kept)" = $((before - 1)) ]
     for option in 5 d 5w -1d; do refused "--evict-older-than $option" "an age is a number" "$host" --evict-older-than $option; done
-    # Another folder.
+    # Another cache directory.
     for option in -d --dir; do
         "$host" $option other -z
         is "$option: its own counters" grep -q "^cache_miss.0\$" <("$host" $option other --print-stats)
@@ -242,7 +242,7 @@ habits_settings() {
         refused "-o umask=$value" "umask is $value: set it to an octal number up to 777" "$host" -o umask=$value
     done
     shows stats yes "$file"
-    # A file that is wrong is said, and the compiler runs.
+    # Where a file is wrong, a message says so, and the compiler runs.
     for option in "nothing = 1" "stats" "stats = maybe"; do
         echo "$option" >"$file"
         rm -f it.o
@@ -265,7 +265,7 @@ habits_settings() {
     rm -r "$XDG_CONFIG_HOME"
 }
 
-# All that is made in the folder of what is kept has the rights that the umask leaves, and an object those of the caller's.
+# All that is made in the cache directory has the rights that the umask setting leaves, and an object those of the caller's umask.
 habits_umask() {
     local mask files folders
     for mask in 002 027 077; do

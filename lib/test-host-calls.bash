@@ -2,12 +2,12 @@
 # The host's calls beside the compiler alone: what it hands on, itself and other hosts on the path, and what fails: a part of bin/test-builds,
 # whose host, work, built and functions it uses.
 
-# What stands before a command, as a shell that sets a limit, and which lines of messages aren't compared, as those with a process's number.
+# What is put before a command, as a shell that sets a limit; and which lines of messages aren't compared, as those with a process's number.
 before=()
 not_compared=
 # Runs a command, for a minute at most.
 run_before() { timeout 60 "${before[@]}" "$@"; }
-# A call alone and by gulmaat, so often, each with the same status, output, messages and object it.o.
+# A call by the compiler alone, and so many by gulmaat, each with the same status, output, messages and object it.o.
 as_alone() {
     local name=$1 turns=$2 turn status
     shift 2
@@ -29,8 +29,8 @@ as_alone() {
         if [ -e alone.o ]; then is "$name, $turn: object" cmp alone.o it.o; else is "$name, $turn: no object" [ ! -e it.o ]; fi
     done
 }
-# Makes a compiler fake/NAME, which does the script on standard input where it compiles, and then what that compiler does. Nothing is kept of the
-# one before it, which is the same file.
+# Makes a compiler fake/NAME that runs the script on standard input where it compiles, and then the compiler of that name. Clears the cache, since
+# the one before it was the same file.
 stand_in_compiler() {
     mkdir -p fake
     "$host" --clear
@@ -40,7 +40,7 @@ stand_in_compiler() {
         printf ';; esac\nexec %s "$@"\n' "$(command -v "$1")"
     } | stand_in "fake/$1"
 }
-# The same, which does it in each call.
+# The same, but it runs the script in each call.
 stand_in_always() {
     mkdir -p fake
     "$host" --clear
@@ -49,11 +49,11 @@ stand_in_always() {
 
 # ---- What is handed on.
 
-# Makes a compiler fake/NAME that writes, where it compiles, which files are open in it, with what lies behind those of the caller, and which
-# signals it ignores and has blocked.
-stand_in_teller() {
+# Makes a compiler fake/NAME that writes down, where it compiles, which files it has open and what these are, and which signals it ignores and has
+# blocked.
+stand_in_reporter() {
     mkdir -p fake
-    cat >teller.c <<'END'
+    cat >reporter.c <<'END'
 #include <dirent.h>
 #include <signal.h>
 #include <stdio.h>
@@ -61,9 +61,9 @@ stand_in_teller() {
 #include <string.h>
 #include <unistd.h>
 int main(int count, char **words) {
-    int tells = 1;
-    for (int i = 1; i < count; i++) tells &= strcmp(words[i], "-E") && strncmp(words[i], "-print-", 7);
-    if (tells) {
+    int compiles = 1;
+    for (int i = 1; i < count; i++) compiles &= strcmp(words[i], "-E") && strncmp(words[i], "-print-", 7);
+    if (compiles) {
         static char lines[100][300];
         char path[300], to[200];
         sigset_t blocked;
@@ -93,10 +93,10 @@ int main(int count, char **words) {
     return 127;
 }
 END
-    gcc -DCOMPILER="\"$(command -v "$1")\"" teller.c -o "fake/$1"
+    gcc -DCOMPILER="\"$(command -v "$1")\"" reporter.c -o "fake/$1"
 }
 
-# The state of the compiler is the same alone, in a compile and where it is passed through.
+# The compiler has the same files and signals alone, in a compile and where it is passed through.
 same_state() {
     local name=$1 cc=$2 words
     for words in "-c it.c -o it.o" "-c it.c -o it.o -fstack-usage"; do
@@ -113,7 +113,7 @@ same_state() {
 host_hands_on() {
     local cc=$1 style
     echo 'int it;' >it.c
-    stand_in_teller "$cc"
+    stand_in_reporter "$cc"
     rm -f fifo
     mkfifo fifo
     same_state "$cc: open files" "$cc" 3<it.c 4>number 7<>fifo
@@ -137,9 +137,9 @@ host_hands_on() {
     MAKEFLAGS="-j2 --jobserver-auth=fifo:$PWD/fifo" same_state "$cc: job server by a name" "$cc" 7<>fifo
 }
 
-# ---- Itself, and others that stand for compilers.
+# ---- Itself, and other files in the place of compilers.
 
-# By a name that is searched with these folders first: it ends, as the compiler does.
+# A call by a name that is searched for in these folders first: it ends as the compiler does.
 ends_on_path() {
     local name=$1 cc=$2 folders=$3 status turn
     for turn in 1 2; do
@@ -178,7 +178,7 @@ host_itself() {
     ends_on_path "$cc: two builds" "$cc" "$PWD/other:$links"
     ends_on_path "$cc: two builds, the link first" "$cc" "$links:$PWD/other:$PWD/copy"
     for folder in links copy other; do as_alone "$cc: before $folder" 2 "$PWD/$folder/$cc" -Wall -c it.c -o it.o; done
-    # A script of that name which calls the host.
+    # A script of that name that calls the host.
     printf '#!/bin/sh\nexec %s %s "$@"\n' "$host" "$cc" >"script/$cc"
     chmod +x "script/$cc"
     ends_on_path "$cc: a script that calls it" "$cc" "$PWD/script"
@@ -191,9 +191,9 @@ host_itself() {
     as_alone "$cc: a compiler that calls it" 2 "$PWD/fake/$cc" -Wall -c it.c -o it.o
     ends_on_path "$cc: a link, and a compiler that calls it" "$cc" "$links:$PWD/fake"
     if [ "$cc" = gcc ]; then as_alone "$cc: it runs the compiler's parts" 2 gcc -wrapper "$host" -Wall -c it.c -o it.o; fi
-    # Ccache behind it, and before it.
+    # ccache after it on the path, and before it.
     ln -s "$(command -v ccache)" "mask/$cc"
-    CCACHE_DIR=$PWD/ccache ends_on_path "$cc: ccache behind it" "$cc" "$links:$PWD/mask"
+    CCACHE_DIR=$PWD/ccache ends_on_path "$cc: ccache after it" "$cc" "$links:$PWD/mask"
     CCACHE_DIR=$PWD/ccache ends_on_path "$cc: ccache before it" "$cc" "$PWD/mask:$links"
     # Without /proc, which a sanitizer needs.
     if [ "$(id -u)" != 0 ]; then
@@ -212,7 +212,7 @@ host_fails() {
     local cc=$1 dir=$PWD number
     printf 'char big[100000] = {1};\nint f(void) { int x; return x; }\n' >it.c
     as_alone "$cc: nothing fails" 2 "$cc" -Wall -c it.c -o it.o
-    # A crash has addresses in it and is told by the shell, with a number; Clang's tells the program's word for colours.
+    # The report of a crash has addresses in it, and the shell prints it with a number; Clang's shows the program's option for colours.
     not_compared='File size limit|^ ?#|Program arguments|^clang: |/tmp/'
     for number in 0 1 50 10000; do
         "$host" --clear
@@ -240,7 +240,7 @@ host_fails() {
         cd "$dir" || return
         umount small
     fi
-    # Messages that nobody reads, or that find no room.
+    # Messages that nobody reads, or that go to a full disk.
     for number in 1 2; do
         (sleep 0.2; "$cc" -Wall -c it.c -o it.o) 2>&1 | :
         echo "${PIPESTATUS[0]}" >alone.status
@@ -261,7 +261,7 @@ host_fails() {
         is "$cc: long messages, $number" cmp <(seq 3000) shown
         is "$cc: long messages, $number: object" [ -s it.o ]
     done
-    # The folder of what is kept goes meanwhile.
+    # The cache directory is removed meanwhile.
     stand_in_compiler "$cc" <<<'rm -rf "$GULMAAT_DIR"'
     GULMAAT_DIR=$dir/gone as_alone "$cc: the folder goes" 2 "$dir/fake/$cc" -Wall -c it.c -o it.o
     chmod 000 it.c
@@ -271,7 +271,7 @@ host_fails() {
 
 # ---- The end of either.
 
-# The program of a host, as a shell finds it whose parent that is.
+# How a shell that a host started finds that host's program.
 find_program='pgrep -P $PPID -x gulmaat'
 
 host_deaths() {
@@ -296,14 +296,14 @@ host_deaths() {
         sleep 0.1
     done
     is "$cc: no host, and no program" [ -n "$program" -a ! -e "/proc/$program" ]
-    # One process beside the host while a compiler runs, and none that ended, also where the compiler took the host's place.
+    # While a compiler runs there is one other process of the host's, and no zombie, also where the compiler took the host's place.
     stand_in_compiler "$cc" <<<'ps -o pid=,stat=,comm= --ppid $PPID >beside; ps -o pid=,stat=,comm= --ppid $$ >below'
     rm -f it.o
     "$host" "$PWD/fake/$cc" -Wall -c it.c -o it.o 2>ours.err
     is "$cc: the program and the compiler" [ "$(wc -l <beside)" = 2 ]
     is "$cc: no zombie" [ "$(grep -c ' Z' beside)" = 0 ]
     "$host" "$PWD/fake/$cc" -Wall -c it.c -o it.o -fstack-usage 2>ours.err
-    is "$cc: no zombie behind a pass" [ "$(grep -c . below) $(grep -c ' Z' below)" = "1 0" ]
+    is "$cc: no zombie after a pass" [ "$(grep -c . below) $(grep -c ' Z' below)" = "1 0" ]
     # A signal while a text is printed.
     stand_in_always "$cc" <<<'case " $* " in *" -E "*) echo $$ >text; exec sleep 300 ;; esac'
     rm -f text it.o

@@ -1,11 +1,11 @@
 # shellcheck shell=bash disable=SC2154
 # The host: signals and files in memory: a part of bin/test-builds, whose host, work and functions it uses.
 
-# Whether a process that has this word in its command line is at work.
+# Whether a process runs that has this word in its command line.
 at_work() { pgrep -f -- "$1" >/dev/null; }
 none_at_work() { [ -z "$(pgrep -f -- "$1")" ]; }
 
-# Starts a command, sends it a signal once the compiler of that source is at work, and gives the status with which it ended.
+# Starts a command, sends it a signal once the compiler of that source is at work, and prints the status with which it ended.
 stopped_by() {
     local signal=$1 source=$2 pid tries
     shift 2
@@ -20,13 +20,13 @@ stopped_by() {
     wait "$pid" 2>/dev/null
 }
 
-# A signal that stops the host stops the compiler, and the host ends as that does. Nothing of it is kept, and no object is left half written.
+# A signal that stops the host stops the compiler, and the host ends as that does. Nothing of the call is kept, and no object is left half written.
 host_signals() {
     local cc=$1 signal alone status name
     for signal in TERM INT HUP ${2:-}; do
         # GCC's driver leaves its compiler at work where it is stopped itself, so each call has a source of its own.
         for name in alone ours; do
-            # Long to be compiled, and quick to be preprocessed.
+            # It takes long to compile, and is quick to preprocess.
             {
                 echo 'int f(int x) {'
                 seq -f 'x += x * %g; if (x %% 7) x ^= x << 3;' 20000
@@ -45,7 +45,7 @@ host_signals() {
     echo 'int it;' >slow.c
     mark
     "$host" "$cc" -O1 -c slow.c -o slow.o
-    is "$cc: compiled behind a stop" since 0 1
+    is "$cc: compiled after a stop" since 0 1
 }
 
 # What a caller ignores stays ignored.
@@ -68,7 +68,7 @@ host_calls() {
     local cc=$1 dir=$work/host-${sanitized:-}$1
     mkdir -p "$dir"
     cd "$dir" || return
-    # Clang takes a SIGQUIT for a crash of its own, or doesn't, by how far it is.
+    # Clang takes a SIGQUIT for a crash of its own, or doesn't, depending on how far it is.
     if [ "$cc" = gcc ]; then host_signals "$cc" QUIT; else host_signals "$cc"; fi
     host_ignores "$cc"
     host_hands_on "$cc"
@@ -79,12 +79,12 @@ host_calls() {
     host_shows_early "$cc"
     host_streams "$cc"
     host_colours "$cc"
-    # Nothing lies in the cache folder but what is kept.
+    # There is nothing in the cache directory but what is kept.
     is "$cc: no folder of a process" [ ! -e "$GULMAAT_DIR/own" ]
     cd "$work" || return
 }
 
-# The same by a host that a sanitizer watches. What that finds is told in files.
+# The same by a host with sanitizers, which write what they find into files.
 host_sanitized() {
     local host=$work/gulmaat-sanitized sanitized=sanitized- found
     local -x GULMAAT_BIN=$built/gulmaat ASAN_OPTIONS=log_path=$work/sanitizer:detect_leaks=1 UBSAN_OPTIONS=log_path=$work/sanitizer

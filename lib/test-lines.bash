@@ -22,7 +22,7 @@ int f(int a, int b) {
 }
 END
 }
-# The call does the same twice as the compiler alone: status, messages, object and dependency file. Of the two so many are kept.
+# The call does the same twice as the compiler alone: status, messages, object and dependency file. So many of the two are hits.
 line_call() {
     local name=$1 wanted=$2 cc=$3 turn
     shift 3
@@ -77,18 +77,18 @@ lines() {
     [ "$cc" != gcc ] || line_call "another comment's own line" "2 0" "$cc" -g
     sed -i 's#(b))#     (b))#' lines.h
     [ "$cc" != gcc ] || line_call "a macro's own lines" "2 0" "$cc" -g
-    # Where lines have numbers of others, all of the file counts.
+    # Where a directive gives lines other numbers, all of the file counts.
     printf '#line 7 "other.y"\nint h(int a) { return a; }\n/* c */\n' >>lines.c
     line_call "lines of another file" "1 1" "$cc" -g
     sed -i 's#/\* c \*/$#/* c c */#' lines.c
     line_call "lines of another file, a comment" "1 1" "$cc" -g
-    # So it does where such a directive stands behind a comment.
+    # So it does where such a directive comes after a comment.
     printf '/* a */ #line 7\nint h(int a) { return a; }\n' >numbered.c
     "$host" "$cc" -g -c numbered.c -o it.o
     sed -i 's#return a#return /* b */ a#' numbered.c
     "$host" "$cc" -g -c numbered.c -o it.o
     "$cc" -g -c numbered.c -o plain.o
-    is "$cc: lines of other numbers behind a comment" cmp -s plain.o it.o
+    is "$cc: lines of other numbers after a comment" cmp -s plain.o it.o
     # A user may say that lines don't count.
     sed -i 's#/\* one and two \*/#/* three */#' lines.c
     mark
@@ -99,7 +99,7 @@ lines() {
     cd "$work" || return
 }
 
-# A call with these words does the same twice as the compiler alone, and writes the same files. Of the two so many are kept.
+# A call with these arguments does the same twice as the compiler alone, and writes the same files. So many of the two are hits.
 dependency_call() {
     local name=$1 wanted=$2 cc=$3 turn
     shift 3

@@ -1,7 +1,7 @@
 # shellcheck shell=bash disable=SC2086,SC2154
 # What was made, and of what: parts of bin/test-builds, whose host, work and functions it uses.
 
-# What lies at the object's path before a hit: it ends as by the compiler alone.
+# What is at the object's path before a hit: the call ends as by the compiler alone.
 output_places() {
     local cc=$1 place make
     printf 'int value = 3;\n' >place.c
@@ -76,7 +76,7 @@ outputs() {
     "$host" "$dir/fake/$cc" -c nothing.c -o nothing.o
     is "$cc: nothing was made" since 0 0
     is "$cc: the old object stays" [ "$(cat nothing.o)" = "an old object" ]
-    # An input that isn't preprocessed, with a word for a dependency file, is kept.
+    # A call with an input that isn't preprocessed and an option for a dependency file is kept.
     printf '\t.globl it\nit:\n\tret\n' >asm.s
     settle
     mark

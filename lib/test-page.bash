@@ -1,7 +1,7 @@
 # shellcheck shell=bash disable=SC2016,SC2086,SC2154
 # Logs in JSON, and what is made of them: a page, a trace and a comparison. A part of bin/test-builds, whose host, work and functions it uses.
 
-# Says what lines of 'ok NAME' or 'FAILED NAME' say. There must be as many as that at least.
+# Counts the verdicts in lines of 'ok NAME' or 'FAILED NAME'. There must be at least so many.
 take_verdicts() {
     local least=$1 verdict name count=0
     while read -r verdict name; do
@@ -77,7 +77,7 @@ page_lines() {
     is "log: on both streams" [ "$(cat errors)" = here ]
     "$host" gcc -c it.c -o it.o >&- 2>&-
     is "log: closed streams" [ "$(logged 'it["status"]')" = 0 ]
-    # Bytes that are no text.
+    # Bytes that aren't UTF-8.
     cp it.c $'a\xffb.c'
     "$host" gcc -c $'a\xffb.c' -o bytes.o
     is "log: bytes" [ "$(logged 'it["input"], it["output"]')" = "{'hex': '61ff622e63'} bytes.o" ]
@@ -86,18 +86,18 @@ page_lines() {
     "$host" gcc -c 'quotes/"<\>&.c' -o quotes.o
     is "log: quotes" [ "$(logged 'it["input"]')" = 'quotes/"<\>&.c' ]
     is "log: nothing of markup" [ "$(grep -c '[<>]' log)" = 0 ]
-    # Each line whole, also of calls at once.
+    # Each line is whole, also of calls at once.
     for begun in $(seq 1 24); do "$host" gcc -DTURN=$begun -c it.c -o at-once-$begun.o & done
     wait
     is "log: all lines are whole" python3 -c 'import json; [json.loads(line) for line in open("log", "rb")]'
     is "log: a line a call" [ "$(grep -c at-once- log)" = 24 ]
-    # Where the log can't be written, a call is as it was.
+    # Where the log can't be written, a call is as without one.
     rm -f it.o
     GULMAAT_LOGFILE=$PWD/quotes "$host" gcc -O2 -c it.c -o it.o
     is "log: one that can't be written" [ $? = 0 -a -s it.o ]
 }
 
-# What can't be shown is refused, with what is right.
+# What can't be shown is refused, with a message that says what is right.
 page_wrong() {
     refused "--page without a log" "write --page LOG" "$host" --page
     refused "--page of nothing" "nothing-there" "$host" --page nothing-there
@@ -111,7 +111,7 @@ page_wrong() {
     is "--compare of empty logs" "$host" --compare empty empty >/dev/null
 }
 
-# Runs nothing, ends, and says how much is broken.
+# A page of such a log runs nothing, the program ends, and the page says how much is broken.
 page_hostile() {
     local sums
     sums=$(python3 "$top/lib/page/logs.py" hostile hostile.log)
@@ -122,7 +122,7 @@ page_hostile() {
     is "--compare of hostile logs" "$host" --compare hostile.log hostile.log >/dev/null
     take_verdicts 6 < <(python3 "$top/lib/page/traces.py" hostile.json "$(python3 -c "import json; print(json.loads('$sums')['calls'])")" 2>&1)
     in_browser hostile hostile.html "$sums" 30
-    # Bytes by chance, and a log that is cut at any place.
+    # Random bytes, and a log that is cut at any place.
     head -c 100000 /dev/urandom >chance.log
     is "--page of bytes by chance" "$host" --page chance.log >chance.html
     for sums in 10 100 999 1500; do

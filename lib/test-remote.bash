@@ -39,7 +39,7 @@ start_redis() {
     redis_server=${remote_servers[-1]}
     wait_for_port "$redis_port"
 }
-# Asks it, as a program of Debian's package does.
+# Asks it by the program of Debian's package.
 redis() { redis-cli -p "$redis_port" "$@"; }
 start_nginx() {
     local most=${1:-64m}
@@ -90,7 +90,7 @@ start_proxy() {
 }
 stop_proxy() { kill "$proxy_server"; wait "$proxy_server" 2>/dev/null; }
 
-# Whether a helper of a call of this part sends something yet.
+# Whether the helper of a call of this part is still sending.
 is_sending() {
     local process
     for process in $(pgrep -x gulmaat-remote); do
@@ -105,7 +105,7 @@ sent() {
         is_sending || return 0
         sleep 0.05
     done
-    echo "  something is sent yet after $turn turns"
+    echo "  something is still being sent after $turn turns"
 }
 
 # Two networks, which reach this one by 198.18.71.1: one for each machine. Where none can be made both have the one of this machine.
@@ -151,7 +151,7 @@ came_to() {
     counted="$(counts_of "$machine" direct_cache_hit) $(counts_of "$machine" preprocessed_cache_hit) $(counts_of "$machine" cache_miss)"
     [ "$counted" = "$*" ] || { echo "  $machine came to $counted; wanted $*"; false; }
 }
-# Whether it counted so many results that a server had, hadn't, and failures and time-outs.
+# Whether it counted so many results that a server had, so many that it hadn't, and so many failures and time-outs.
 asked() {
     local machine=$1 counted
     shift
@@ -341,7 +341,7 @@ remote_attributes() {
     is "no folder: it is counted" asked one 0 0 1 0
 }
 
-# What is no such value: nothing is kept, the compiler runs, and what is right is said, without a password.
+# A wrong value: nothing is kept, the compiler runs, and a message says what is right, without a password.
 remote_refused() {
     local value
     make_project
@@ -368,7 +368,7 @@ remote_keys() {
     head -c 32 /dev/urandom | base64 >"$work/right.key"
     head -c 32 /dev/urandom | base64 >"$work/wrong.key"
     echo short >"$work/short.key"
-    # What was stored without the key is none for who has it.
+    # What was stored without the key is a miss for a machine that has it.
     build_on "no key" one
     is "no key: what is stored" [ "$(python3 "$top/lib/remote/stored.py" '' "$work/shared" "$dir/kept-one")" = "6 6" ]
     GULMAAT_REMOTE_KEY=$work/right.key build_on "a key" two
@@ -381,7 +381,7 @@ remote_keys() {
     forget two
     GULMAAT_REMOTE_KEY=$work/wrong.key build_on "another key" two 1
     is "another key: a miss" came_to two 0 0 1
-    # What lies under another name than it was stored under is none, with a key and without.
+    # What is under another name than it was stored under is a miss, with a key and without.
     empty_shared
     forget two
     GULMAAT_REMOTE_KEY=$work/right.key GULMAAT_DIRECT=0 build_on "a key, stored" two "2 3"
@@ -402,7 +402,7 @@ remote_keys() {
     forget two
     GULMAAT_DIRECT=0 build_on "two without a key that were exchanged" two "2 3"
     is "two without a key that were exchanged: failures" asked two 0 0 2 0
-    # A key that can't be had: nothing is asked for, and nothing stored.
+    # A key that can't be read: nothing is asked for, and nothing is stored.
     for other in "$work/nothere.key" "$work/short.key"; do
         empty_shared
         forget two
@@ -431,7 +431,7 @@ remote_faults() {
     GULMAAT_REMOTE=$address
     make_project
     build_on "$server: as it is" one
-    # Nobody listens: it is asked for three times, and then for a minute not.
+    # Nobody listens: three calls ask, and then none for a minute.
     GULMAAT_REMOTE="${server}127.0.0.1:$(free_port)"
     faulty_build "$server, nobody listens" "1 2 3 4 5"
     is "$server, nobody listens: three failures" asked two 0 0 3 0
@@ -447,11 +447,11 @@ END
     is "$server, nobody listens, a minute later: it is asked" asked two 0 0 4 0
     GULMAAT_REMOTE=$address build_on "$server, another server" two 6
     is "$server, another server: nothing was noted of it" asked two 0 0 4 0
-    # Answers that end too early, and such with another bit in them.
+    # Answers that end too early, and answers with a bit changed.
     for at in 0 1 5 20 200 1000; do
         start_proxy "$port" cut $at
         GULMAAT_REMOTE="${server}127.0.0.1:$proxy_port|operation-timeout=2000"
-        faulty_build "$server, cut behind $at bytes" 1
+        faulty_build "$server, cut after $at bytes" 1
         stop_proxy
     done
     for at in 0 1 4 9 16 30 100 240 300 1000 2800 2900 3000 3100 3300; do
@@ -477,7 +477,7 @@ END
     GULMAAT_REMOTE="${server}127.0.0.1:$proxy_port|operation-timeout=700"
     faulty_build "$server, silent" 1
     is "$server, silent: a time-out" asked two 0 0 0 1
-    # Who waits for the end of what a call prints doesn't wait for what is sent.
+    # A reader of what a call prints doesn't wait until everything is sent.
     number=$SECONDS
     at=$(GULMAAT_DIR=$dir/kept-two GULMAAT_RECACHE=1 GULMAAT_REMOTE="${server}127.0.0.1:$proxy_port|operation-timeout=100000" \
         "$host" gcc -I include -c it-1.c -o ours/it.o 2>&1)
@@ -487,7 +487,7 @@ END
 }
 remote_redis_faults() {
     local -x GULMAAT_REMOTE
-    # Its faults stand between this machine and itself.
+    # Its faults are between this machine and itself.
     local remote_networks=() turn number
     stop_servers
     start_redis
@@ -512,7 +512,7 @@ remote_redis_faults() {
     is "Redis, full: nothing is stored" [ "$(redis dbsize)" = 0 ]
     is "Redis, full: misses" asked two 0 2 0 0
     redis config set maxmemory 0 >/dev/null
-    # Another kind of value lies there.
+    # Another kind of value is there.
     build_on "Redis, stored" one
     forget one
     build_on "Redis, stored" one
@@ -532,7 +532,7 @@ remote_redis_faults() {
     faulty_build "Redis, no password" 1
     is "Redis, no password: a failure" asked two 0 0 1 0
     GULMAAT_REMOTE="redis://right@127.0.0.1:$redis_port$patient"
-    # Two machines at once: what lies there then is of one of them, whole.
+    # Two machines at once: what is there then is from one of them, and whole.
     forget one
     forget two
     for number in 1 2 3 4 5 6; do
@@ -546,10 +546,10 @@ remote_redis_faults() {
     sent
     forget two
     for number in 1 2 3 4 5 6; do
-        call_alone two $number behind-$number
-        is "behind two at once, $number" cmp plain/it-$number.o ours/behind-$number.o
+        call_alone two $number after-$number
+        is "after two at once, $number" cmp plain/it-$number.o ours/after-$number.o
     done
-    is "behind two at once: hits" asked two 6 0 0 0
+    is "after two at once: hits" asked two 6 0 0 0
     # 64 machines at once.
     for number in $(seq 64); do
         call_alone many-$number $((number % 6 + 1)) many-$number &
@@ -561,7 +561,7 @@ remote_redis_faults() {
     done
     stop_servers
 }
-# A call without a dependency file, in which the object's path stands.
+# A call without a dependency file, since that has the object's path in it.
 call_alone() { GULMAAT_DIR=$dir/kept-$1 "$host" gcc $remote_words -c it-$2.c -o ours/$3.o 2>/dev/null; }
 # Waits for the calls in the background, and not for servers.
 wait_for_calls() {
@@ -588,7 +588,7 @@ remote_nginx_faults() {
     stop_servers
 }
 
-# A helper that does what it wants: the host doesn't wait for it longer than it may.
+# A helper that misbehaves: the host doesn't wait for it longer than it may.
 remote_helpers() {
     local -x GULMAAT_REMOTE="redis://127.0.0.1:1|operation-timeout=1000"
     local own=$dir-own host=$host begun script

@@ -1,11 +1,11 @@
 # shellcheck shell=bash disable=SC2086,SC2154
 # Single calls of rustc: a part of bin/test-builds, whose host, work and functions it uses.
 
-# The rustc behind rustup's proxy, if there is one.
+# The rustc that rustup's proxy runs, if there is one.
 real_rustc() { echo "$(rustc --print sysroot)/bin/rustc"; }
 
-# Runs rustc with these words, and says how it ended: status, both streams, and all that lies in the folder of outputs, with its contents, but
-# for folders that rustc gives a random name.
+# Runs rustc with these arguments, and writes down how it ended: status, both streams, and digests of all files in the folder of outputs, but for
+# folders to which rustc gives a random name.
 rustc_state() {
     local name=$1 folder=$2
     shift 2
@@ -14,7 +14,7 @@ rustc_state() {
     (cd "$folder" && find . -type f -not -path './rmeta*' -not -path './rustc*' | sort | xargs -r sha256sum) >>"$name.state"
 }
 
-# Whether a call ends as by rustc alone, twice: what it printed, its status, and what it made. The words see the folder of outputs as `out`.
+# Whether a call ends as by rustc alone, twice: what it printed, its status, and what it made. For the arguments the folder of outputs is `out`.
 like_rustc() {
     local name=$1 turn
     shift
@@ -29,11 +29,11 @@ like_rustc() {
     done
 }
 
-# Likewise, and whether it was kept at the first call and given at the second, or passed through.
+# Likewise, and whether the first call was kept and the second one was a hit, or both were passed through.
 kept_by_rustc() { mark; like_rustc "$@"; is "rustc $1: kept" since 1 1; }
 passed_by_rustc() { mark; like_rustc "$@"; is "rustc $1: passed through" since 0 0; }
 
-# What is the same as before but for one thing: it is compiled again, or not, and is as by rustc alone.
+# A call that is the same as before but for one thing: it is compiled again, or not, and ends as by rustc alone.
 changed_rustc() {
     local name=$1 hits=$2 compiles=$3
     shift 3
@@ -84,7 +84,7 @@ rustc_words() {
     is "rustc: LD_PRELOAD" since 0 0
 }
 
-# What an output hangs on beside the text of the crate.
+# What an output depends on beside the text of the crate.
 rustc_changes() {
     local json="--error-format=json --json=diagnostic-rendered-ansi,artifacts"
     local it="$json --crate-name it --edition=2021 it.rs --crate-type lib --out-dir out --emit=dep-info,metadata,link"
@@ -111,7 +111,7 @@ rustc_changes() {
     UNKNOWN=1 changed_rustc "a variable that nobody reads" 1 0 $it
     changed_rustc "another option" 0 1 $it -C opt-level=1
     changed_rustc "a configuration that is checked, as an error" 0 0 $it -D warnings --check-cfg 'cfg(other)'
-    # Crates by their names: which is which counts, and where they lie doesn't.
+    # Crates by their names: which is which counts, and where they are doesn't.
     mkdir -p deps
     printf 'pub fn value() -> u32 { 1 }\n' | "$rustc" --crate-name one --crate-type lib --out-dir deps -
     printf 'pub fn value() -> u32 { 2 }\n' | "$rustc" --crate-name two --crate-type lib --out-dir deps -
@@ -152,7 +152,7 @@ rustc_places() {
     is "rustc, another width: messages" cmp -s plain.errors ours.errors
     "$host" "$rustc" $it --out-dir out --diagnostic-width=60 2>ours.errors
     is "rustc, another width, again: messages" cmp -s plain.errors ours.errors
-    # What lies there before: files of two names, links, folders.
+    # What is there before: files of two names, links, folders.
     for place in 'echo old >out/libit.rlib; ln -f out/libit.rlib other' 'ln -s ../target out/libit.rlib' 'echo old >out/libit.rlib; chmod 400 out/libit.rlib' 'mkdir out/libit.rlib'; do
         rm -rf out other target && mkdir out && eval "$place"
         "$rustc" $it --out-dir out 2>plain.errors
@@ -196,7 +196,7 @@ rustc_why() {
     rm -f out/*why*
 }
 
-# By rustup's proxy, with a toolchain among the words, and by a link.
+# By rustup's proxy, with a toolchain among the arguments, and by a link.
 rustc_proxies() {
     local proxy
     proxy=$(command -v rustc)
@@ -236,7 +236,7 @@ END
     printf 'fn main() {}\n' >main.rs
     printf 'pub fn both() -> u32 { a::value() * 10 + b::value() }\n' >user.rs
     printf '#[link(name = "number", kind = "static")] extern "C" { pub fn number() -> i32; }\n' >nat.rs
-    # Times of files have to lie before a call for its manifest.
+    # For a manifest, the times of files have to be earlier than the call.
     sleep 0.1
     rustc_words
     rustc_changes

@@ -1,7 +1,7 @@
 # shellcheck shell=bash disable=SC2086,SC2154
 # Files that would be found elsewhere now: parts of bin/test-builds, whose host, work and functions it uses.
 
-# One call by gulmaat and one by the compiler end the same, print the same, and write the same object and dependency file.
+# A call by gulmaat and one by the compiler end the same, print the same, and write the same object and dependency file.
 search_call() {
     local name=$1 status
     shift
@@ -18,8 +18,8 @@ search_call() {
     [ $status != 0 ] || is "$name: object" cmp -s plain.o it.o
     [ $status != 0 ] || is "$name: dependency file" cmp -s plain.d it.d
 }
-# Calls until one is answered by a manifest, then makes the change, and back: each call is as by the compiler alone. So it is where the first
-# call comes behind the change, too. In the end it is answered by a manifest again.
+# Calls until there is a direct hit, then makes the change and undoes it, twice: each call is as by the compiler alone, the first one after a
+# change too. The last one is a direct hit again.
 search_case() {
     local name=$1 change=$2 back=$3 turn
     shift 3
@@ -53,7 +53,7 @@ search_none() {
     is "$name: a hit by text" since 1 0 0
 }
 
-# A tree of folders for each kind, in which the last one has the file.
+# A tree with a folder of each kind, of which the last one has the file.
 search_tree() {
     local folder
     rm -rf early late quoted system after beside one two it.c
@@ -64,7 +64,7 @@ search_tree() {
     settle
 }
 
-# Rights that are taken: by a user who hasn't all of them, with a cache folder of its own.
+# Rights that are taken away: by a user other than root, with a cache directory of its own.
 search_rights() {
     local cc=$1
     search_tree
@@ -73,7 +73,7 @@ search_rights() {
     search_case "$cc: a source that can't be read" "chmod 000 it.c" "chmod 600 it.c" $cc -Iearly -Ilate
     search_case "$cc: a folder that can't be listed" "chmod 300 early" "chmod 700 early" $cc -Iearly -Ilate
 }
-# Runs them as another user, and takes over what passed and what failed.
+# Runs these as another user, and adds their counts of what passed and failed.
 search_as_another() {
     local cc=$1 dir=$work/rights-$1 functions counts
     chmod 711 "$work"
@@ -120,7 +120,7 @@ searches() {
         "ln -sfn one a-link-that-has-a-name-of-more-bytes-than-the-folder-has" \
         $cc -isystem "$PWD/a-link-that-has-a-name-of-more-bytes-than-the-folder-has"
     rm a-link-that-has-a-name-of-more-bytes-than-the-folder-has
-    # A folder that the compiler leaves out as one that it has already: it becomes one of its own, in which the next header lies.
+    # A folder that the compiler leaves out as one that it has already: it becomes one of its own, with the header in it.
     printf '#define VALUE 3\n' >two/next.h
     ln -s two twin
     printf '#if __has_include_next(<next.h>)\n#include_next <next.h>\n#else\n#define VALUE 4\n#endif\n' >one/next.h
@@ -145,7 +145,7 @@ searches() {
     printf '#define VALUE 9\n' >nowhere.h
     search_call "$cc: it leads somewhere now" $cc -Iearly -Ilate
     rm nowhere.h early/value.h
-    # A header that takes one in: beside it, and behind it.
+    # A header that includes another one: one beside it, and one in a later folder.
     search_tree
     printf '#include "value.h"\n' >beside/taken.h
     printf '#include "taken.h"\nint value = VALUE;\n' >it.c
@@ -155,12 +155,12 @@ searches() {
     printf '#include <value.h>\nint value = VALUE;\n' >it.c
     settle
     search_case "$cc: the next one" "$new early/value.h" "rm early/value.h" $cc -Ibeside -Iearly -Ilate
-    # A word that takes one in: in the folder of the call first.
+    # An option that includes one: it is looked for in the call's folder first.
     printf 'int value = VALUE;\n' >it.c
     settle
     search_case "$cc: -include" "$new value.h" "rm value.h" $cc -include value.h -Ilate
     search_case "$cc: -imacros" "$new value.h" "rm value.h" $cc -imacros value.h -Ilate
-    # Files that are asked for and not taken in.
+    # Files that are asked for and not included.
     printf '#if __has_include("asked.h")\nint value = 1;\n#else\nint value = 2;\n#endif\n' >it.c
     settle
     search_case "$cc: one that is asked for" "$new early/asked.h" "rm early/asked.h" $cc -Iearly
@@ -185,7 +185,7 @@ searches() {
     cd "$work" || return
 }
 
-# How a directive may be written, and marks in a string that are none.
+# How a directive may be written, and what looks like one in a string.
 search_spellings() {
     local cc=$1 text
     for text in '/* a */ #include <value.h> /* b */' '/* a *\\\n/ #include <value.h>' '\357\273\277#include <value.h>' \
@@ -203,7 +203,7 @@ search_spellings() {
     done
 }
 
-# Names that aren't written, and times that are pasted: there is no manifest.
+# Names that are computed, and times that are pasted: there is no manifest.
 search_names() {
     local cc=$1
     printf '#define NAME "value.h"\n#include NAME\nint value = VALUE;\n' >it.c
@@ -222,7 +222,7 @@ search_names() {
     printf '#define NAME <stdio.h>\n#if __has_include(NAME)\nint value = 1;\n#endif\n' >it.c
     settle
     search_none "$cc: a name that is computed, asked for" $cc
-    # What a file asks for that the text only names by a `#line` directive doesn't count: it isn't read.
+    # A file that the text names only by a `#line` directive isn't read, so what it asks for doesn't count.
     printf '#include $name\n' >script
     printf '#line 7 "script"\n#include "value.h"\nint value = VALUE;\n' >it.c
     settle
@@ -245,7 +245,7 @@ search_names() {
     }
 }
 
-# Precompiled headers, branches, folders in which objects lie, another GCC, and calls at once.
+# Precompiled headers, branches, folders with objects in them, another GCC, and calls at once.
 search_others() {
     local cc=$1 number
     search_tree
@@ -254,7 +254,7 @@ search_others() {
     $cc -x c-header one/value.h -o one/value.h.gch
     search_call "$cc: a precompiled header" $cc -Ione
     rm one/value.h.gch
-    # Two branches: on one a header is changed and another one is there.
+    # Two branches: on one a header is changed and another one is added.
     search_case "$cc: branches" "printf '#define VALUE 3\n' >late/value.h; printf 'int more;\n' >early/more.h" \
         "printf '#define VALUE 1\n' >late/value.h; rm early/more.h" $cc -Iearly -Ilate
     # Objects in a searched folder.

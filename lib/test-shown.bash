@@ -1,7 +1,7 @@
 # shellcheck shell=bash disable=SC2016,SC2154
 # Messages as the host shows them, beside the compiler alone: a part of bin/test-builds, whose host, work and functions it uses.
 
-# A compiler that prints a line early, and goes on when it was read.
+# A compiler that prints a line early, and goes on once it was read.
 host_shows_early() {
     local cc=$1 way
     printf 'int f(void) { return 1; }\n' >it.c
@@ -24,7 +24,7 @@ SCRIPT
     done
 }
 
-# What is printed on both streams comes in its order; a child that has them open isn't waited for; nothing is missing of what is long.
+# What is printed on both streams comes in its order; a child that has them open isn't waited for; nothing is missing where it is long.
 host_streams() {
     local cc=$1 words
     printf 'int f(void) { return 1; }\n' >it.c
@@ -48,13 +48,13 @@ SCRIPT
     kill "$(cat child)"
     is "$cc: a child has the streams open: output" cmp <(seq 30000) shown
     is "$cc: a child has the streams open: messages" cmp <(seq 30000) errors
-    # What is left as the compiler ends, since who reads it is slow.
+    # What is still to be read as the compiler ends, since the reader is slow.
     stand_in_compiler "$cc" <<<"$(command -v "$cc")"' "$@"; seq 30000 >&2; exit 0'
     rm -f it.o
     "$host" "$PWD/fake/$cc" -c it.c -o it.o 2>&1 | (sleep 1; cat) >shown
     is "$cc: a slow reader" cmp <(seq 30000) shown
     is "$cc: a slow reader: object" [ -s it.o ]
-    # Colours and other escapes on standard output are what they are.
+    # Colours and other escapes on standard output stay as they are.
     stand_in_compiler "$cc" <<'SCRIPT'
 printf '\033[31mred\033[m\033[K\033['
 SCRIPT

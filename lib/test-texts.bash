@@ -1,7 +1,7 @@
 # shellcheck shell=bash disable=SC2086,SC2154
-# Texts that speak against keeping: a part of bin/test-builds, whose host, work and functions it uses.
+# Texts that aren't kept: a part of bin/test-builds, whose host, work and functions it uses.
 
-# A source gives the compiler's own object twice, and of two calls so many are kept and compiled.
+# A source gives the compiler's own object twice, and of the two calls so many are hits and compiles.
 text_case() {
     local cc=$1 name=$2 source=$3 hits=$4 misses=$5
     printf '%s\n' "$source" >it.c
@@ -14,7 +14,7 @@ text_case() {
     is "$cc: $name: calls" since "$hits" "$misses"
 }
 
-# A precompiled header that lies in a folder where the compiler comes by before it finds the header itself.
+# A precompiled header in a folder that the compiler searches before the one with the header itself.
 precompiled_ahead() {
     local cc=$1 words
     printf '#include <first.h>\nint a = ONE;\n' >it.c
@@ -42,7 +42,7 @@ texts() {
     cd "$dir" || return
     echo one >d.bin
     echo nop >s.inc
-    # Files that the assembler takes in, whatever way that is written.
+    # Files that the assembler takes in, however that is written.
     for directive in '".incbin \"d.bin\""' '".INCBIN \"d.bin\""' '".inc" "bin \"d.bin\""' '"\56inc\x62in \"d.bin\""' \
         '"nop\n\t.Include \"s.inc\""'; do
         text_case "$cc" "$directive" "asm($directive);" 0 0
@@ -76,7 +76,7 @@ texts() {
     text_case "$cc" "a precompiled header" $'#include "first.h"\n#include "second.h"\nint a = ONE;' 0 0
     rm first.h.gch second.h.gch
     precompiled_ahead "$cc"
-    # A word that a user allows.
+    # An option that a user allows.
     mark
     "$host" "$cc" -fverbose-asm -c it.c -o it.o
     is "$cc: a word that isn't known" since 0 0

@@ -2,7 +2,7 @@
 # Headers that aren't read again as long as they are in the state that they had: a part of bin/test-builds, whose host, work and functions it uses.
 
 # Calls until the header is known by its state, makes a change, and calls again: each call is as by the compiler alone. The last words say what
-# the call behind the change is: so many hits by text, compiles and direct hits.
+# the call after the change is: so many hits by text, compiles and direct hits.
 token_case() {
     local name=$1 change=$2 wanted=$3 cc=$4 turn
     "$host" --clear

@@ -1,5 +1,5 @@
 # shellcheck shell=bash disable=SC2016,SC2154
-# Words of commands, which bin/test-builds takes in: each command ends as by the compiler alone, with the same status, the same messages on
+# Arguments of commands: a part of bin/test-builds. Each command ends as by the compiler alone, with the same status, the same messages on
 # both streams and the same files, at a first call, at a second one, and after a change of the source.
 
 # The files in which each command of this part runs, in a new folder: at/.
@@ -19,7 +19,7 @@ word_files() {
         ln -s "$host" links/clang
     )
 }
-# What a command printed, without what no two calls have alike: names of files that go, times, and addresses.
+# What a command printed, without what differs from call to call: names of temporary files, times, and addresses.
 without_chance() { sed -E 's#/tmp/[-A-Za-z0-9._]+#TMP#g; s/[0-9]+(\.[0-9]+)?/N/g'; }
 # Runs a command in the folder, and writes down how it ended, what it printed, and what it made.
 word_run() {
@@ -36,7 +36,7 @@ word_run() {
         esac
     done) >"$to.files"
 }
-# A command with CC for the compiler, or CXX for that of C++, and with gulmaat before it where that is asked for.
+# A command in which CC is the compiler, and CXX that of C++, with gulmaat before it where that is asked for.
 word_line() {
     local cxx=$1++ line=$2
     [ "$1" != gcc ] || cxx=g++
@@ -195,7 +195,7 @@ END
     kept_case gcc "CC -fsanitize=undefined,address -c foo.c"
     word_case gcc "CC -gsplit-dwarf -g -c foo.c"
     configured_clang
-    # A compiler that doesn't take the word for colours isn't given it.
+    # A compiler that doesn't take the option for colours doesn't get it.
     printf 'for word; do case $word in -fdiagnostics-color*) echo "no such word" >&2; exit 1 ;; esac; done\nexec gcc "$@"\n' | stand_in old-gcc
     ln -sf old-gcc gcc
     kept_case "$PWD/gcc" "CC -Wall -c foo.c"

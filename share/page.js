@@ -1,6 +1,6 @@
 'use strict';
-// The script of a build's page: zooms the picture, tells of its bars, and sorts and searches all calls. Without it the page has its sums,
-// its still picture and the calls that took longest. Texts go into the page as texts alone.
+// The script of a build's page: zooms the picture, describes its bars, and sorts and searches all calls. Without it the page has its sums,
+// its still picture and the calls that took longest. Texts go into the page as text and nothing else.
 (function () {
   const build = JSON.parse(document.getElementById('build').textContent);
   const texts = build.texts;
@@ -95,7 +95,7 @@
   svg.setAttribute('aria-describedby', 'keys facts');
   facts.textContent = 'Point at a bar, or focus the picture and press an arrow.';
 
-  function tell(at) {
+  function describe(at) {
     const call = calls[at];
     const parts = [name(call), build.kinds[call[KIND]] + ', ' + time(call[TIME]) + ' from ' + time(call[START])];
     if (call[COMPILE_TIME]) parts.push('compiler ' + time(call[COMPILE_TIME]));
@@ -105,13 +105,13 @@
     if (why(call)) parts.push(why(call));
     facts.textContent = parts.map(short).join(' · ');
   }
-  // Marks a call, tells of it, and shows it where it isn't in sight.
+  // Marks a call, describes it, and scrolls to it where it isn't in sight.
   function choose(at) {
     if (at < 0 || at >= calls.length) return;
     chosen = at;
     const call = calls[at], span = to - from;
     if (call[START] + call[TIME] < from || call[START] > to) show(call[START] - span / 2, call[START] + span / 2);
-    tell(at);
+    describe(at);
     drawCursor();
     const box = svg.parentElement, top = call[LANE] * LANE_HEIGHT;
     if (top < box.scrollTop || top + LANE_HEIGHT > box.scrollTop + box.clientHeight) box.scrollTop = top - box.clientHeight / 2;
@@ -187,9 +187,9 @@
   search.type = 'search';
   search.id = 'search';
   label.append(search);
-  const before = element('button', 'Previous'), behind = element('button', 'Next');
-  before.type = behind.type = 'button';
-  tools.append(label, before, behind);
+  const before = element('button', 'Previous'), after = element('button', 'Next');
+  before.type = after.type = 'button';
+  tools.append(label, before, after);
   tools.hidden = false;
 
   function haystack(at) {
@@ -229,7 +229,7 @@
     const part = order.slice(page * PAGE, (page + 1) * PAGE);
     rows.replaceChildren(...part.map(rowOf));
     before.disabled = page === 0;
-    behind.disabled = page === pages - 1;
+    after.disabled = page === pages - 1;
     const first = part.length ? page * PAGE + 1 : 0;
     shown.textContent = first + ' to ' + (page * PAGE + part.length) + ' of ' + order.length +
       (order.length < calls.length ? ' that were found, of ' + calls.length : '') + ' calls.';
@@ -278,7 +278,7 @@
   let waits = 0;
   search.addEventListener('input', () => { clearTimeout(waits); waits = setTimeout(find, 120); });
   before.addEventListener('click', () => { page -= 1; fill(); });
-  behind.addEventListener('click', () => { page += 1; fill(); });
+  after.addEventListener('click', () => { page += 1; fill(); });
 
   sort();
   fill();

@@ -1,4 +1,4 @@
-/* A folder that several machines have, as one of NFS. */
+/* A folder that several machines share, as by NFS. */
 #define _GNU_SOURCE
 #include "remote.h"
 #include <errno.h>
@@ -9,7 +9,7 @@
 #include <sys/stat.h>
 #include <unistd.h>
 
-/* A folder that isn't there is not made: it may be one that isn't mounted now. */
+/* A folder that isn't there is not made: it may not be mounted now. */
 static enum came_to connect_to(const struct storage *storage) {
     struct stat state;
     return !stat(storage->path, &state) && S_ISDIR(state.st_mode) ? CAME : FAILED;
@@ -44,7 +44,7 @@ static void make_folders(const struct storage *storage, char *place) {
     }
 }
 
-/* Puts a file there all at once, as the folder of what is kept has it. */
+/* Puts a file there all at once, under another name first, as in the cache directory. */
 static enum came_to put(const struct storage *storage, const char *name, const struct bytes *bytes) {
     char place[PATH_MAX], early[PATH_MAX + 64], machine[32] = "";
     if (place_of(storage, name, place, sizeof place)) return FAILED;

@@ -1,4 +1,4 @@
-/* HTTP with TLS or through a proxy, by libcurl, which is loaded only where it is needed: that takes longer than all else here. */
+/* HTTP with TLS or through a proxy, by libcurl, which is loaded only where it is needed: loading it takes longer than all else here. */
 #define _GNU_SOURCE
 #include "remote.h"
 #define CURL_DISABLE_TYPECHECK
@@ -11,13 +11,13 @@
 
 static CURL *(*easy_init)(void);
 static void (*easy_reset)(CURL *), (*easy_cleanup)(CURL *);
-static CURLcode (*set)(CURL *, CURLoption, ...), (*tell)(CURL *, CURLINFO, ...), (*perform)(CURL *);
+static CURLcode (*set)(CURL *, CURLoption, ...), (*get_info)(CURL *, CURLINFO, ...), (*perform)(CURL *);
 static struct curl_slist *(*append)(struct curl_slist *, const char *);
 
 static CURL *asked;
-static struct curl_slist *lines;    /* what is said at the head of each question */
+static struct curl_slist *lines;    /* the headers of each request */
 
-/* What comes: where it goes, and how much may come. */
+/* Where what comes goes, and how much may come. */
 struct coming { struct bytes *to; size_t most; };
 
 static size_t take(char *part, size_t one, size_t count, void *whole) {
@@ -27,7 +27,7 @@ static size_t take(char *part, size_t one, size_t count, void *whole) {
     return coming->to->size + size > coming->most || add_bytes(coming->to, part, size) ? 0 : size;
 }
 
-/* What is sent, and how much of it was. */
+/* What is sent, and how much of it was sent. */
 struct going { const struct bytes *from; size_t at; };
 
 static size_t give(char *part, size_t one, size_t count, void *whole) {
@@ -39,7 +39,7 @@ static size_t give(char *part, size_t one, size_t count, void *whole) {
     return size;
 }
 
-/* Has a question begun once more, as on a new connection. */
+/* Begins to send once more, as on a new connection. */
 static int go_back(void *whole, curl_off_t offset, int origin) {
     struct going *going = whole;
     if (origin != SEEK_SET || offset < 0 || (size_t)offset > going->from->size) return CURL_SEEKFUNC_CANTSEEK;
@@ -60,9 +60,9 @@ static enum came_to connect_to(const struct storage *storage) {
     if (!library) library = dlopen("libcurl-gnutls.so.4", RTLD_LAZY);
     if (!library || find(library, "curl_easy_init", &easy_init) || find(library, "curl_easy_reset", &easy_reset)
         || find(library, "curl_easy_cleanup", &easy_cleanup) || find(library, "curl_easy_setopt", &set)
-        || find(library, "curl_easy_getinfo", &tell) || find(library, "curl_easy_perform", &perform)
+        || find(library, "curl_easy_getinfo", &get_info) || find(library, "curl_easy_perform", &perform)
         || find(library, "curl_slist_append", &append)) return FAILED;
-    /* No answer is waited for before a large object goes. */
+    /* A large object is sent without waiting for an answer first. */
     lines = append(NULL, "Expect:");
     lines = append(lines, "Content-Type: application/octet-stream");
     if (storage->token) {
@@ -73,7 +73,7 @@ static enum came_to connect_to(const struct storage *storage) {
     return asked ? CAME : FAILED;
 }
 
-/* Asks for a name. What comes of other answers than 2xx is left out. */
+/* Makes a request about a name. What comes with another answer than 2xx is left out. */
 static enum came_to ask(const struct storage *storage, const char *name) {
     static char place[LONGEST];
     long code = 0, rest = time_left();
@@ -89,7 +89,7 @@ static enum came_to ask(const struct storage *storage, const char *name) {
     case CURLE_OK: return CAME;
     case CURLE_OPERATION_TIMEDOUT: return LATE;
     case CURLE_HTTP_RETURNED_ERROR:
-        tell(asked, CURLINFO_RESPONSE_CODE, &code);
+        get_info(asked, CURLINFO_RESPONSE_CODE, &code);
         return code == 404 || code == 410 ? MISSED : FAILED;
     default: return FAILED;
     }

@@ -1,9 +1,9 @@
-/* gulmaat-remote: asks a server for what other machines stored there, and stores what this one made. Its host starts it at the first question of a
- * call, and hands on to it the program's questions. `F` asks for a name: what came lies in the file in memory then. `S` has what lies there
+/* gulmaat-remote: asks a server for what other machines stored there, and stores what this one made. The host starts it at the first question of a
+ * call, and hands the program's questions on to it. `F` asks for a name: what is found is then in the file in memory. `S` has what is in that file
  * stored, once the call is answered: this process lives on for that.
  *
- * The words of a question are how many milliseconds it may take to connect and all that is waited for, the storage with its attributes, the file of
- * a key or nothing, how many bytes something may have, and the name. A seventh word says that it is stored only where it isn't yet.
+ * The words of a question are: how many milliseconds it may take to connect, and how many all that is waited for; the storage with its attributes;
+ * the file of a key, or nothing; how many bytes may come; and the name. With a seventh word it is stored only where it isn't there yet.
  */
 #define _GNU_SOURCE
 #include "remote.h"
@@ -26,7 +26,7 @@
 volatile sig_atomic_t stopped;
 
 static struct storage *storage;
-static long left, end;      /* for how many milliseconds something is waited for yet, and until when that is */
+static long left, end;      /* for how many milliseconds more something is waited for, and until when that is */
 
 /* What is stored once the call is answered. */
 static struct sending { char *name; struct bytes sealed; int only_new; struct sending *next; } *first, **last = &first;
@@ -39,7 +39,7 @@ static long milliseconds(void) {
 
 long time_left(void) { return end - milliseconds(); }
 
-/* Closes what the caller had open, and goes where nothing is held by it. */
+/* Closes what the caller had open, leaves its session and folder, and limits the memory. */
 static void come_apart(void) {
     const struct rlimit limit = {MOST_MEMORY, MOST_MEMORY};
     sigset_t none;
@@ -57,7 +57,7 @@ static void say(char letter) {
     if (write(1, &letter, 1) != 1) _exit(1);
 }
 
-/* Finds out, at the first question, where is stored and by which key. */
+/* Takes from the first question where things are stored, and by which key. */
 static int begin(char **words) {
     static int is_begun;
     if (is_begun) return storage ? 0 : -1;
@@ -91,7 +91,7 @@ static enum came_to fetch(const char *name, size_t most) {
     return came_to;
 }
 
-/* Takes what lies in the file in memory, to be stored under that name. */
+/* Takes what is in the file in memory, to be stored under that name. */
 static enum came_to take(const char *name, int only_new) {
     struct stat state;
     struct sending *sending = calloc(1, sizeof *sending);
@@ -128,7 +128,7 @@ static enum came_to store_once(const struct sending *sending, const struct bytes
     return came_to == CAME || came_to == MISSED ? storage->kind->put(storage, sending->name, stored) : came_to;
 }
 
-/* Stores what is to be stored. A connection that was let go meanwhile is made once more. */
+/* Stores what is to be stored. Where that fails, it is tried once more over a new connection. */
 static void store(const struct sending *sending) {
     struct bytes stored = {NULL, 0, 0};
     if (!seal(sending->name, &sending->sealed, &stored) && store_once(sending, &stored) == FAILED) {

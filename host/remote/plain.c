@@ -12,13 +12,13 @@
 #include <string.h>
 #include <sys/socket.h>
 
-#define LONGEST 8192    /* how long an address may be, and what is said to show a right */
+#define LONGEST 8192    /* how long an address may be, and the header that says who asks */
 #define UNASKED (1 << 20)   /* how many bytes an answer may have beside what was asked for */
 
 static struct event_base *loop;
 static struct evhttp_connection *server;
 static struct evhttp_uri *address;
-static char right[LONGEST];     /* what shows the right to ask, or nothing */
+static char right[LONGEST];     /* the header that says who asks, or nothing */
 
 /* A question, and what it came to. */
 struct question {
@@ -37,14 +37,14 @@ static void let_go(void) {
     server = NULL;
 }
 
-/* Whether the server's end of the connection is there. */
+/* Whether there is a connection to the server. */
 static int is_connected(void) {
     struct sockaddr_storage other;
     socklen_t size = sizeof other;
     return server && !getpeername(bufferevent_getfd(evhttp_connection_get_bufferevent(server)), (struct sockaddr *)&other, &size);
 }
 
-/* What an address has before its host, or a token, shows who asks. */
+/* A token, or what the address has before its host, says who asks. */
 static int take_right(const struct storage *storage) {
     const char *user = evhttp_uri_get_userinfo(address);
     if (storage->token) return snprintf(right, sizeof right, "Bearer %s", storage->token) < (int)sizeof right ? 0 : -1;
@@ -82,7 +82,7 @@ static void note_error(enum evhttp_request_error error, void *whole) {
     if (error == EVREQ_HTTP_TIMEOUT) question->came_to = LATE;
 }
 
-/* Takes the answer. One that was cut off is none. */
+/* Takes the answer. One that was cut off doesn't count. */
 static void take(struct evhttp_request *request, void *whole) {
     struct question *question = whole;
     int code = request ? evhttp_request_get_response_code(request) : 0;
@@ -105,7 +105,7 @@ static void end_if_late(evutil_socket_t file, short what, void *whole) {
     event_base_loopbreak(loop);
 }
 
-/* Has the loop end once so many milliseconds are over, if what was to be done by then isn't. */
+/* Ends the loop after so many milliseconds, if what was to be done by then isn't done. */
 static struct event *end_in(long milliseconds, struct question *question) {
     struct timeval time = time_of(milliseconds);
     struct event *timer = evtimer_new(loop, end_if_late, question);
@@ -169,7 +169,7 @@ static enum came_to ask(const struct storage *storage, enum evhttp_cmd_type kind
     if (!path) return FAILED;
     int is_asked = is_connected();
     if (is_asked) ask_once(storage, kind, path, sent, question);
-    /* A server may have closed a connection on which nothing was asked for a while: so it is asked once more, over another one. */
+    /* A server may have closed an idle connection: so it is asked once more, over another one. */
     if (!is_asked || question->came_to == FAILED) ask_each(storage, kind, path, sent, question);
     if (question->came_to == FAILED || question->came_to == LATE) let_go();
     return question->came_to;

@@ -8,7 +8,7 @@
 #include <sys/time.h>
 
 static redisContext *server;
-static int waiting;     /* for how many answers to what was said ahead of the first question it isn't waited yet */
+static int waiting;     /* how many answers to what was sent ahead of the first question are still to come */
 
 static struct timeval time_of(long milliseconds) {
     return (struct timeval){milliseconds / 1000, milliseconds % 1000 * 1000};
@@ -20,7 +20,7 @@ static void let_go(void) {
     waiting = 0;
 }
 
-/* What it means that nothing came. */
+/* What it comes to where there is no answer. */
 static enum came_to fault(void) {
     int is_late = server && server->err == REDIS_ERR_IO && (errno == EAGAIN || errno == ETIMEDOUT || errno == EINPROGRESS);
     let_go();
@@ -33,7 +33,7 @@ static enum came_to connect_to(const struct storage *storage) {
     if (server) return CAME;
     server = storage->host ? redisConnectWithTimeout(storage->host, storage->port, limit) : redisConnectUnixWithTimeout(storage->path, limit);
     if (!server || server->err) return fault();
-    /* Who asks, and of which database, goes ahead of the first question, in one piece with it. */
+    /* AUTH and SELECT go ahead of the first question, in one piece with it. */
     if (storage->password) {
         const char *with_user[] = {"AUTH", storage->user, storage->password}, *alone[] = {"AUTH", storage->password};
         waiting += !redisAppendCommandArgv(server, storage->user ? 3 : 2, storage->user ? with_user : alone, NULL);

@@ -24,13 +24,13 @@ struct storage {
     enum layout layout;
     char *host, *user, *password;   /* of Redis; NULL where none is named */
     char *path;                     /* a folder, a socket, or the whole address of HTTP */
-    char *token;                    /* what HTTP shows for its right; NULL where none is named */
+    char *token;                    /* the bearer token of HTTP; NULL where none is named */
     int port, database;
     long lifetime;                  /* for how many seconds Redis keeps something; 0 is for as long as it likes */
-    long connect, whole;            /* how many milliseconds it may take to connect, and all that is waited for */
+    long connect, whole;            /* how many milliseconds it may take to connect, and how many all that is waited for */
 };
 
-/* How such a one is asked. A name is as the program gives it. */
+/* How a storage of that kind is asked. A name is as the program gives it. */
 struct kind {
     enum came_to (*connect)(const struct storage *storage);
     enum came_to (*get)(const struct storage *storage, const char *name, struct bytes *found, size_t most);
@@ -47,7 +47,7 @@ int place_of(const struct storage *storage, const char *name, char *place, size_
 /* How many milliseconds are left of what is waited for. */
 long time_left(void);
 
-/* ---- sealing.c: what is stored of something. */
+/* ---- sealing.c: the form in which something is stored. */
 
 int take_key(const char *path);
 int seal(const char *name, const struct bytes *sealed, struct bytes *stored);

@@ -1,5 +1,5 @@
-/* What is stored of something: its bytes, compressed where that pays, and under a key, where one is set, what shows that who knows the key stored
- * them under this name. docs/FORMATS.md has the layout.
+/* The form in which something is stored: its bytes, compressed where that pays, and, where a key is set, a code that shows that somebody who has the
+ * key stored them under this name. docs/FORMATS.md has the layout.
  */
 #define _GNU_SOURCE
 #include "remote.h"
@@ -11,7 +11,7 @@
 #include <unistd.h>
 #include <zstd.h>
 
-#define FRONT 17                    /* how many bytes stand before what is stored: a mark, how it is stored, and its size */
+#define FRONT 17                    /* how many bytes come before what is stored: a mark, how it is stored, and its size */
 #define IS_COMPRESSED 1
 #define HAS_CODE 2
 #define LEAST_KEY 16                /* how many bytes a key must have */
@@ -40,7 +40,7 @@ void free_bytes(struct bytes *bytes) {
     *bytes = (struct bytes){NULL, 0, 0};
 }
 
-/* Takes the key of that file, without the line's end behind it. */
+/* Takes the key from that file, without the end of its line. */
 int take_key(const char *path) {
     unsigned char key[4096];
     int file = open(path, O_RDONLY | O_CLOEXEC);
@@ -53,7 +53,7 @@ int take_key(const char *path) {
     return 0;
 }
 
-/* The code of what is stored under a name, by the key. */
+/* The code, by the key, of what is stored under a name. */
 static void find_code(const char *name, const struct bytes *stored, size_t size, unsigned char code[CODE]) {
     crypto_auth_hmacsha256_state state = keyed;
     unsigned char length[8];
@@ -64,7 +64,7 @@ static void find_code(const char *name, const struct bytes *stored, size_t size,
     crypto_auth_hmacsha256_final(&state, code);
 }
 
-/* Makes what is stored of these bytes under that name. */
+/* Makes the form in which these bytes are stored under that name. */
 int seal(const char *name, const struct bytes *sealed, struct bytes *stored) {
     unsigned char front[FRONT] = {0}, code[CODE];
     size_t room = ZSTD_compressBound(sealed->size), packed = 0;
@@ -81,8 +81,8 @@ int seal(const char *name, const struct bytes *sealed, struct bytes *stored) {
     return add_bytes(stored, code, sizeof code);
 }
 
-/* The bytes of which this is stored under that name, of which there may be so many. Without the code that the key asks for it is as if nothing
- * were stored. */
+/* Gets back the bytes of which this is the stored form under that name, at most so many. Where a key is set and the code isn't right, nothing is
+ * found. */
 enum came_to unseal(const char *name, const struct bytes *stored, struct bytes *sealed, size_t most) {
     unsigned char code[CODE];
     if (stored->size < FRONT || memcmp(stored->at, mark, sizeof mark)) return FAILED;

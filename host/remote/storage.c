@@ -1,5 +1,5 @@
-/* Where things are stored, as `remote_storage` says, and under which names. The program has looked at the text already: what isn't well formed here
- * is none. */
+/* Where things are stored, as `remote_storage` says, and under which names. The program has already checked the text: one that isn't well formed
+ * names no storage here. */
 #define _GNU_SOURCE
 #include "remote.h"
 #include <sodium.h>
@@ -16,7 +16,7 @@ static int digit_of(char letter) {
         : letter >= 'A' && letter <= 'F' ? letter - 'A' + 10 : -1;
 }
 
-/* Reads what stands as `%` and two digits. */
+/* Decodes each `%` with two digits after it. */
 static char *decode(char *text) {
     char *to = text;
     for (char *at = text; at && *at; to++) {
@@ -61,7 +61,7 @@ static int take_redis(struct storage *storage, char *text) {
     return *text && storage->port > 0 && storage->port < 65536 ? 0 : -1;
 }
 
-/* Takes what stands before all attributes. */
+/* Takes what comes before the attributes. */
 static int take_place(struct storage *storage, char *text) {
     if (begins(text, "redis://")) {
         storage->kind = &redis;
@@ -88,7 +88,7 @@ static void take_attribute(struct storage *storage, char *text) {
     else if (!strcmp(text, "layout=bazel")) storage->layout = BAZEL;
 }
 
-/* The one that a text names, which may take so many milliseconds to connect, and in all; NULL where it names none. */
+/* The storage that a text names, which may take so many milliseconds to connect, and in all; NULL where it names none. */
 struct storage *storage_of(const char *text, long connect, long whole) {
     struct storage *storage = calloc(1, sizeof *storage);
     char *rest = strdup(text), *place = rest ? strsep(&rest, "|") : NULL;
@@ -100,7 +100,7 @@ struct storage *storage_of(const char *text, long connect, long whole) {
     return take_place(storage, place) ? NULL : storage;
 }
 
-/* Puts there under which path a name lies, by the layout, behind the folder or the address of all. */
+/* Writes the path of a name to `place`: below the folder, or after the address, of the storage, by its layout. */
 int place_of(const struct storage *storage, const char *name, char *place, size_t room) {
     const char *dash = strrchr(name, '-');
     unsigned char digest[crypto_hash_sha256_BYTES];

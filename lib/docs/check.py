@@ -24,7 +24,7 @@ COMPLETIONS = ("share/gulmaat.bash", "share/gulmaat.fish", "share/_gulmaat")
 # Where the kinds of C compilers are, and what lists them all.
 KINDS = "crates/cmdlines_tables/src/compiler.rt"
 LISTS_OF_COMPILERS = ("README.md", "docs/FORMATS.md", "crates/cmdlines/src/lib.rt", "crates/wrap/src/lib.rt")
-# What may be a path, as a word in backticks, and what is one anywhere in a text.
+# What may be a path where it is a word in backticks, and what is one anywhere in a text.
 PATH = re.compile(r"[\w.~@+*/-]*(?:/[\w.~@+*/-]*|\.(?:md|rt|antt|edit|py|bash|c|h|js|css|json|out|txt|fish|png))")
 TOP_PATH = re.compile(r"(?<![\w./~@*-])(?:\.\./gulmaat/)?((?:bench|bin|crates|docs|examples|host|lib|share)/[\w./*-]*|[A-Z]+\.md|crates\.txt)")
 COMMAND = re.compile(r"(?:^|[\s(;|])(?:\.\./gulmaat/)?(bin/[a-z-]+|gulmaat|\"\$launcher\")(?= |$)([^\n]*)")
@@ -34,7 +34,7 @@ NAME = re.compile(r"\b(?:[A-Za-z]+\w*_\w*[A-Za-z0-9]|[A-Z][a-z]\w*[A-Z]\w*)\b")
 
 
 class Exceptions:
-    """What is no name of ours: of each kind patterns of the shell, in lib/docs/exceptions."""
+    """Names that aren't of this repository: patterns of the shell of each kind, in lib/docs/exceptions."""
 
     def __init__(self):
         rows = [line.split("\t") for line in read(f"{TOP}/lib/docs/exceptions").splitlines() if line and line[0] != "#"]
@@ -58,7 +58,7 @@ class Check:
         paths += ["bench/README.md", "examples/README.md"]
         self.documents = {path: Document(path, read(f"{TOP}/{path}")) for path in paths}
         self.settings = self.sources.settings()
-        # Without what formats it.
+        # Without the formatting.
         self.manual = Document(MANUAL, re.sub(r"\\f[A-Z]|\\&", "", read(f"{TOP}/{MANUAL}").replace("\\-", "-")))
 
     def is_so(self, is_right, place, what):
@@ -76,7 +76,7 @@ class Check:
     # ---- Files and folders.
 
     def paths(self):
-        """Each path in backticks is there, and each one below a folder of the repository, wherever it stands."""
+        """Each path in backticks is there, and each one below a folder of the repository, wherever it is named."""
         for path, document in self.documents.items():
             words = [(line, word.strip("\"'()[],:;").removesuffix("..")) for line, span in document.spans() for word in span.split()]
             found = {(line, word.rstrip(".")) for line, word in words if PATH.fullmatch(word) and re.search(r"\w.*\W|/\w", word)}
@@ -128,7 +128,7 @@ class Check:
                 self.is_known(is_there, "word of a command", word, place)
 
     def call(self, words, place):
-        """The options of a call of gulmaat, which stand ahead of a compiler's name."""
+        """The options of a call of gulmaat, which come before a compiler's name."""
         words = list(words)
         while words and words[0].startswith("-"):
             option, _, value = words.pop(0).partition("=")
@@ -144,7 +144,7 @@ class Check:
     # ---- Names.
 
     def names(self):
-        """Each name of several words in backticks stands in the sources, and each long option. Columns about other caches are left out."""
+        """Each name of several words in backticks is in the sources, and so is each long option. Columns about other caches are left out."""
         for path, document in self.documents.items():
             for line, span in document.own_spans():
                 for name in NAME.findall(" ".join(word for word in span.split() if not PATH.fullmatch(word))):
@@ -166,7 +166,7 @@ class Check:
                 self.is_so(re.search(rf"{variable}(?![A-Z_])", text), path, f"lacks the variable {variable}")
 
     def keys(self):
-        """Each key in the documents is one, and each is told with its variable and its usual value."""
+        """Each key in the documents is one, and each is listed with its variable and its usual value."""
         for path, document in self.documents.items():
             rows = [(line, names_in(cells[0]), cells) for line, head, cells in document.rows() if head[0] == "key"]
             keys = {(line, name) for line, names, _ in rows for name in names}
@@ -177,13 +177,13 @@ class Check:
                 for key in names:
                     if key in self.settings:
                         self.is_so(f"`{self.settings[key][0]}`" in cells[1], f"{path}:{line}", f"{key} has another variable")
-        told = self.keys_in("docs/WRAPPER.md")
+        listed = self.keys_in("docs/WRAPPER.md")
         compared = self.keys_in("docs/FROM-CCACHE.md")
         manual = dict(re.findall(r'^\.BR (\w+) " \(" (\w+) \)', self.manual.text, re.M))
         for key, (variable, usual) in self.settings.items():
-            cell = told.get(key, ["", "", ""])[2]
-            is_told = key in told and (cell == f"`{usual}`" if usual else "`" not in cell)
-            self.is_so(is_told, "docs/WRAPPER.md", f"{key} isn't told, or with another value where it isn't set than {usual or 'none'}")
+            cell = listed.get(key, ["", "", ""])[2]
+            is_listed = key in listed and (cell == f"`{usual}`" if usual else "`" not in cell)
+            self.is_so(is_listed, "docs/WRAPPER.md", f"{key} isn't listed, or its value where it isn't set isn't {usual or 'none'}")
             self.is_so(key in compared, "docs/FROM-CCACHE.md", f"lacks the key {key}")
             self.is_so(manual.get(key) == variable, MANUAL, f"lacks the key {key} with {variable}")
             for path in COMPLETIONS:
@@ -206,7 +206,7 @@ class Check:
         return set(re.findall(OPTION, " ".join(re.findall(r"^ +(\S*'[^'\[]*(?:'\{[^}]*\}'?)?)", text, re.M))))
 
     def options(self):
-        """Each option of the help stands in the manual page and in the completions, and each of these in the help; and the program takes it."""
+        """Each option of the help is in the manual page and in the completions, and each of these is in the help; and the program takes it."""
         helped = set(re.findall(OPTION, self.sources.text_of("crates/gulmaat/stdout")))
         places = [("manual", MANUAL, set(re.findall(OPTION, self.manual.text)))]
         places += [("completions", path, self.completed(path)) for path in COMPLETIONS]
@@ -284,7 +284,7 @@ class Check:
             self.is_so(self.sources.defines(crate, name), place, f"no such promise: {crate}::{name}")
 
     def trusted(self):
-        """Each library that crates use stands among what is trusted, wherever that is listed, and each document names one kit."""
+        """Each library that crates use is among what is trusted, wherever that is listed, and all documents name the same kit."""
         kits = {}
         for path, document in self.documents.items():
             for _, it in document.found(r"kit `([^`]*logic [^`]*)`"):
@@ -305,7 +305,7 @@ class Check:
                 self.is_so(name in self.sources.crates, path, f"names no crate: {name}")
 
     def run(self):
-        """All checks. Gives whether any failed."""
+        """All checks. Returns whether any failed."""
         for check in (self.paths, self.links, self.commands, self.names, self.variables, self.keys, self.options, self.crates, self.compilers,
                       self.clauses, self.faults, self.tables, self.promises, self.trusted, self.pictures):
             check()

@@ -48,7 +48,7 @@ def read(path):
 
 
 def first_sentence(lines):
-    """The first sentence of a comment, without the point at its end."""
+    """The first sentence of a comment, without its full stop."""
     text = []
     for line in lines:
         if not line:
@@ -71,7 +71,7 @@ def head_comment(crate):
 
 
 def balanced(text, at):
-    """Where the brace at a place is closed again."""
+    """Where the brace at a place is closed."""
     depth = 0
     for place in range(at, len(text)):
         depth += {"{": 1, "}": -1}.get(text[place], 0)

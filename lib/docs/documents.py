@@ -23,12 +23,12 @@ class Document:
         return bisect.bisect_left(self.ends, place) + 1
 
     def found(self, pattern):
-        """What a pattern finds, each behind the number of its line."""
+        """What a pattern finds, each after the number of its line."""
         return [(self.line_of(it.start()), it) for it in re.finditer(pattern, self.text)]
 
     @functools.lru_cache(maxsize=None)
     def spans(self):
-        """Each text in backticks behind the number of its line. None goes past the end of its paragraph."""
+        """Each text in backticks, after the number of its line. None goes past the end of its paragraph."""
         spans, place = [], 0
         for paragraph in re.split(r"(\n[ \t]*\n)", self.text):
             spans += [(self.line_of(place + it.start()), it[2]) for it in SPAN.finditer(paragraph)]
@@ -36,7 +36,7 @@ class Document:
         return spans
 
     def code(self):
-        """Each indented line behind its number: code, but for the lines of lists in lists."""
+        """Each indented line, after its number: code, but for the lines of lists in lists."""
         return [(number, line[4:]) for number, line in enumerate(self.lines, 1) if re.match(r" {4}(?! *- )", line)]
 
     @functools.lru_cache(maxsize=None)
@@ -66,11 +66,11 @@ class Document:
         return [line.lstrip("#").strip().replace("`", "") for line in self.lines if re.match(r"#+ ", line)]
 
     def has_heading(self, title):
-        """Whether a heading has this text, perhaps with more behind it in brackets."""
+        """Whether a heading has this text, perhaps with more after it in brackets."""
         return any(it == title or it.startswith(f"{title} (") for it in self.headings())
 
     def anchors(self):
-        """The anchors of its headings, as a browser of the repository makes them."""
+        """The anchors of its headings, as they are made where the repository is shown in a browser."""
         return {re.sub(r"[^\w\- ]", "", heading.lower()).replace(" ", "-") for heading in self.headings()}
 
     def links(self):

@@ -8,7 +8,7 @@ PATH = "docs/FORMATS.md"
 HEADING = "## The options of the compilers"
 FOLDER = TOP / "crates/cmdlines_tables/src"
 CASES = TOP / "crates/sccache_report/cases"
-# The tables of each part of the section, by what stands above it, with the characters ahead of a flag that it doesn't show.
+# The tables of each part of the section, by the line above it, with the characters before a flag that it doesn't show.
 PARTS = {
     "Gcc and Clang:": (("tables.rt", "gnu_table", ""),),
     "Clang alone:": (("tables.rt", "clang_table", ""),),
@@ -63,20 +63,20 @@ def of_code(file, function, front):
 
 
 def of_rows(rows):
-    """What rows of the document say: each flag, where it goes, and how it takes a value, behind the number of its line."""
+    """What rows of the document say: each flag, where it goes, and how it takes a value, after the number of its line."""
     goes_to = ""
     for number, _, (place, value, flags) in rows:
         goes_to = place or goes_to
         groups = APART.split(flags)
         places, values = (it if len(it) > 1 else it * len(groups) for it in (APART.split(goes_to), APART.split(value)))
         for group, one_place, one_value in zip(groups, places, values):
-            # What stands behind a colon says more of the flag ahead of it.
+            # What comes after a colon says more of the flag before it.
             for flag in re.findall(r"`([^`]*)`", re.split(r"(?<=`): ", group)[0]):
                 yield number, flag, one_place, one_value
 
 
 def parts(document):
-    """The rows of each part of the section, by what stands above its table."""
+    """The rows of each part of the section, by the line above its table."""
     lines = document.lines
     start = lines.index(HEADING)
     end = next((number for number in range(start + 1, len(lines)) if lines[number].startswith("## ")), len(lines))
@@ -91,15 +91,15 @@ def differences(document):
     right, wrong = 0, []
     for title, rows in parts(document):
         for file, function, front in PARTS[title]:
-            options, told = of_code(file, function, front), {}
+            options, listed = of_code(file, function, front), set()
             for number, flag, place, value in of_rows(rows):
-                told[flag] = number
+                listed.add(flag)
                 kind, taken = options.get(flag, ("", ""))
                 if kind in GOES_TO.get(place, "").split() and kind and value == taken:
                     right += 1
                 else:
                     wrong.append((number, f"{flag} isn't so in {function} of {file}: {place}, {value}"))
-            wrong += [(document.lines.index(HEADING) + 1, f"lacks {flag} of {function} of {file}") for flag in sorted(set(options) - set(told))]
+            wrong += [(document.lines.index(HEADING) + 1, f"lacks {flag} of {function} of {file}") for flag in sorted(set(options) - listed)]
     return right, wrong
 
 

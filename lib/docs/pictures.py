@@ -28,7 +28,7 @@ STYLE = """
 
 
 def escaped(text):
-    """Text as XML has it."""
+    """Text, escaped for XML."""
     return text.replace("&", "&amp;").replace("<", "&lt;").replace(">", "&gt;")
 
 
@@ -95,7 +95,7 @@ def drawn_floor(head, names, top):
 
 
 def floors_picture():
-    """All floors, the highest one on top: each stands on those below it."""
+    """All floors, the highest one on top: each rests on those below it."""
     parts, top = [], 10
     for head, names in reversed(floors()):
         drawn, end = drawn_floor(head, names, top)

@@ -89,7 +89,7 @@ class Sources:
         return set().union(*(re.findall(r'"(--?[a-zA-Z][\w-]*)"', self.text_of(it)) for it in places))
 
     def script_texts(self, script):
-        """What tells the options and words of a command in bin/: its text, that of files in lib/ that it names, and its program's sources."""
+        """What has the options and arguments of a command in bin/: its text, that of files in lib/ that it names, and its program's sources."""
         text = self.text_of(script)
         texts = [text, *(self.text_of(it) for it in re.findall(r"lib/[\w./-]+\w", text))]
         for crate in re.findall(r"/program\" (\w+)", text):
@@ -98,8 +98,8 @@ class Sources:
         return "\n".join(texts)
 
     def has_path(self, name, folder):
-        """Whether a file or folder is there: from the top, from a document's folder, from crates/ or in some crate. A source may stand by its
-        name alone."""
+        """Whether a file or folder is there: from the top, from a document's folder, from crates/ or in some crate. A source may be named
+        without its folder."""
         name = name.rstrip("/")
         if name in self.in_crates or (name.endswith((".rt", ".antt", ".edit")) and name in self.base_names):
             return True

@@ -15,10 +15,10 @@ def object_of(words=(), files=None, text="int x;\n", **more):
 
 
 def crate_of(words=(), files=None, **more):
-    """A request for one library, with these words and files beside its own, and what rustc tells."""
+    """A request for one library, with these words and files beside its own, and what rustc prints."""
     own = ["--crate-name", "foo", "--crate-type", "rlib", "--emit=link,dep-info", "--out-dir", "out", "a.rs"]
-    told = {"dep_info": "foo.d: a.rs\n", "file_names": "libfoo.rlib\n", **more}
-    return {"compiler": "rustc", "words": [*own, *words], "files": {"/w/a.rs": "x", **(files or {})}, **told}
+    texts = {"dep_info": "foo.d: a.rs\n", "file_names": "libfoo.rlib\n", **more}
+    return {"compiler": "rustc", "words": [*own, *words], "files": {"/w/a.rs": "x", **(files or {})}, **texts}
 
 
 def files_of(count, name, text="x"):
@@ -38,7 +38,7 @@ def words_of(count, *words):
 
 # What is long, and the requests of the scenario by its length.
 GROWN = {
-    "names that rustc tells": lambda count: [crate_of(file_names=lines_of(count, "f%d\n"))] * 2,
+    "names that rustc prints": lambda count: [crate_of(file_names=lines_of(count, "f%d\n"))] * 2,
     "one name again and again": lambda count: [crate_of(file_names="f\n" * count)],
     "sources of a crate": lambda count: [
         crate_of(files=files_of(count, "/w/s%d"), dep_info="foo.d: " + lines_of(count, "s%d ") + "\n")

@@ -3,7 +3,7 @@
 import copy
 import sys
 
-# Values are nested up to some thousands of levels, and gone through by functions that call themselves.
+# Values are nested up to some thousands of levels, and walked by recursive functions.
 sys.setrecursionlimit(50000)
 # Numbers at the edges of what fits.
 EDGES = (0, 1, 2, 127, 128, 255, 256, 65535, 2**31 - 1, 2**31, 2**32 - 1, 2**32, 2**60, 2**62, 2**63 - 1, 2**63, 2**64 - 1)
@@ -16,7 +16,7 @@ PIECES = (
     b"-Xclang", b"-arch", b"-x", b"-E", b"--crate-name", b"--extern", b"-L", b"-C", b"--emit", b"{", b"}", b"[", b"]", b"null", b"1e999", b"-0",
     b"\\u0000", b"\\ud800", b"[" * 130, b'{"a":' * 130,
 )
-# Values that stand in the place of others.
+# Values that are put in the place of others.
 VALUES = (
     None, True, False, 0, -1, 1.5, 1e300, 2**31, 2**63 - 1, 2**63, 2**64 - 1, 2**64, -(2**63), -(2**63) - 1, "", "a", "\0", "@a.rsp", [], {},
     [[]], {"hex": ""}, {"hex": "00"}, {"hex": "0"}, {"hex": "ff"}, {"hex": "2d4400"}, {"text": "x", "mtime": 2**63 - 1},
@@ -45,8 +45,7 @@ def mutated_once(random, data):
         times = random.choice((2, 3, 9, 100, 5000 if len(piece) <= 64 else 100))
         return data[:begin] + piece * times + data[end:]
     if kind == 4:
-        other, behind = place(random, data)
-        first, second = sorted(((begin, end), (other, behind)))
+        first, second = sorted(((begin, end), place(random, data)))
         if first[1] <= second[0]:
             middle = data[first[1]:second[0]]
             return data[:first[0]] + data[second[0]:second[1]] + middle + data[first[0]:first[1]] + data[second[1]:]
@@ -65,7 +64,7 @@ def mutated(random, data):
 
 
 def spots(value, found, inside=None):
-    """All places of a value: what each stands in, under which name or number, and under which name that stands."""
+    """All places of a value: what each is in, under which name or number, and under which name that is."""
     if isinstance(value, dict):
         items = value.items()
     elif isinstance(value, list):
@@ -78,7 +77,7 @@ def spots(value, found, inside=None):
 
 
 def other_value(random):
-    """One of the values that stand in the place of others: a copy, since it is changed in its place later."""
+    """One of the values that are put in the place of others: a copy, since it is changed in place later."""
     return copy.deepcopy(random.choice(VALUES))
 
 
@@ -103,7 +102,7 @@ def as_bytes(value):
 
 
 def change_bytes(random, holder, name):
-    """Changes a byte text in its place, if one stands there."""
+    """Changes a byte text in place, if there is one."""
     data = as_bytes(holder[name])
     if data is None:
         return
@@ -119,7 +118,7 @@ def change_bytes(random, holder, name):
 
 
 def change_place(random, holder, name, others):
-    """Changes what stands in one place of a value."""
+    """Changes what is in one place of a value."""
     kind = random.randrange(8)
     if kind == 0:
         del holder[name]
@@ -140,7 +139,7 @@ def change_place(random, holder, name, others):
 
 
 def mutated_value(random, value, weighty):
-    """A value as JSON has them with some changes, more often in byte texts under the names that are weighty."""
+    """A value of JSON with some changes, more often in byte texts under the names that are weighty."""
     value = copy.deepcopy(value)
     for _ in range(random.choice((1, 1, 2, 4))):
         found = []

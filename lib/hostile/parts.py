@@ -1,6 +1,6 @@
 """The parts of hostile use: what each gives a program, and which ends are right.
 
-A part makes an input of a random source, and says by `fault` what is wrong with how a program ended over it, or nothing.
+A part makes an input from a random source, and says by `fault` what is wrong with how a program ended on it, or nothing.
 """
 
 import hashlib
@@ -18,7 +18,7 @@ TOP = Path(__file__).resolve().parents[2]
 MOST_MADE = 1 << 20
 # How many pairs are looked at in the time that one byte takes.
 PAIRS_A_BYTE = 256
-# Reasons hold the words of requests as they stand, so a line of one may go on behind a line end.
+# Reasons hold the words of requests as they are, so a line with a reason may go on after a line end.
 LINES = re.compile(rb"(?s)(?:1 (?:pass|fresh|stored|direct|fault)\b.*\n)?compiles [0-9]+\n")
 REFUSALS = {
     "sccache_wrap": rb"sccache-wrap: (?:scenario cannot be read|memory)\n",
@@ -33,25 +33,25 @@ def number(value):
 
 
 def text(held):
-    """A text behind its length."""
+    """A text after its length."""
     return number(len(held)) + held
 
 
 def record(results):
     """The bytes of an include record."""
-    told = b"\1" + number(len(results))
+    data = b"\1" + number(len(results))
     for key, includes in results:
-        told += text(key) + number(len(includes))
+        data += text(key) + number(len(includes))
         for path, digest, day in includes:
-            told += text(path) + number(3) + text(digest) + (b"\0" if day is None else b"\1" + number(day)) + b"\0"
-    return told
+            data += text(path) + number(3) + text(digest) + (b"\0" if day is None else b"\1" + number(day)) + b"\0"
+    return data
 
 
 RECORDS = (
     b"", record([]), record([(b"k", [])]), record([(b"a", [(b"x.h", b"ab", 2**64 - 1)])]),
     record([(b"%03d" % place, [(b"/w/%d.h" % place, b"0" * 64, None)] * 3) for place in range(40)]),
 )
-# The counts and lengths that the bytes don't tell, and the bytes: version, words, digests, variables and directory.
+# The counts and lengths that the bytes don't have, and the bytes: version, words, digests, variables and directory.
 KEYS = (
     b"0 0 0 0 0 0 0\n2 1\n\n8" + text(b"abc") + number(0) + b"\xff",
     b"0 0 0 0 0 0 0\n\n1\n8" + text(b"") + text(b"FOO=") + number(0) + b"\xff",
@@ -70,7 +70,7 @@ def dumped(random, value):
 
 
 def made_of_request(request):
-    """How many bytes are made at most of a request: of files of words that name one another, and of files that sources include."""
+    """How many bytes are made at most of a request: of response files that name one another, and of files that sources include."""
     files = request.get("files")
     if not isinstance(files, dict):
         return 0
@@ -81,7 +81,7 @@ def made_of_request(request):
             held = mutations.as_bytes(file.get("text"))
         texts[name.rsplit("/", 1)[-1].encode(errors="surrogatepass")] = held or b""
     size = {name: len(text) for name, text in texts.items()}
-    # Each round opens the files of words once more; a chain is no longer than there are files.
+    # Each round opens the response files once more; a chain is no longer than there are files.
     named = {name: {other: text.count(other) for other in texts if other} if b"@" in text else {} for name, text in texts.items()}
     for _ in texts:
         size = {name: len(texts[name]) + sum(size[other] * count for other, count in named[name].items()) for name in texts}
@@ -125,7 +125,7 @@ def made_of(scenario):
 
 
 def made_of_lines(text):
-    """How many bytes are made at most of command lines: each opens the files that stand ahead of it, and these one another."""
+    """How many bytes are made at most of command lines: each opens the files that come before it, and these one another."""
     lines = text.split(b"\n")
     made = 1
     for line in lines:
@@ -141,7 +141,7 @@ class Part:
 
 
 class Scenarios(Part):
-    """Scenarios, with their files of words, texts with markers and texts on dependencies, changed as text or in one of their members."""
+    """Scenarios, with their response files, texts with markers and texts on dependencies, changed as text or in one of their members."""
 
     weighty = ("files", "words", "dep_info", "file_names", "env", "archives", "text", "hex", "basedirs", "zone", "version")
 
@@ -186,7 +186,7 @@ class Scenarios(Part):
 
 
 class Grown(Part):
-    """Scenarios in which one list is long. Each is compiled, and what is of the square of the length takes too long."""
+    """Scenarios in which one list is long. Each is compiled, and what takes the square of the length takes too long."""
 
     program = "sccache_wrap"
     seconds_each = running.SECONDS_EACH / 10
@@ -249,7 +249,7 @@ class Databases(Part):
 
 
 class Bytes(Part):
-    """The bytes of include records, or what is hashed of requests to rustc behind three lines with its shape."""
+    """The bytes of include records, or what is hashed of requests to rustc, after three lines with its shape."""
 
     program = "tests_hostile_runs"
     said = re.compile(rb"(?:a record of [0-9]+ files|the parts of a request|no parts|refused: [^\n]+)\n")

@@ -9,22 +9,22 @@ import tempfile
 # What a run may take: so many seconds and so many more for each byte and its logarithm, and so many bytes and so many more for each byte.
 # The bytes are those of its input and of what its definitions make of that.
 SECONDS, SECONDS_EACH = 1.0, 2e-6
-ROOM, ROOM_EACH = 64 << 20, 400
-# Beyond this no run goes.
-MOST_SECONDS, MOST_ROOM = 60, 4 << 30
+MEMORY, MEMORY_EACH = 64 << 20, 400
+# No run may go beyond this.
+MOST_SECONDS, MOST_MEMORY = 60, 4 << 30
 
 
 class Ended:
     """How a run ended."""
 
-    def __init__(self, status, output, errors, seconds, room):
-        self.status, self.output, self.errors, self.seconds, self.room = status, output, errors, seconds, room
+    def __init__(self, status, output, errors, seconds, memory):
+        self.status, self.output, self.errors, self.seconds, self.memory = status, output, errors, seconds, memory
 
 
 def limit():
-    """Bounds a process that has just begun."""
+    """Sets limits for a process that has just begun."""
     resource.setrlimit(resource.RLIMIT_CPU, (MOST_SECONDS, MOST_SECONDS))
-    resource.setrlimit(resource.RLIMIT_AS, (MOST_ROOM, MOST_ROOM))
+    resource.setrlimit(resource.RLIMIT_AS, (MOST_MEMORY, MOST_MEMORY))
     resource.setrlimit(resource.RLIMIT_CORE, (0, 0))
 
 
@@ -47,9 +47,9 @@ def run(words, data, folder=None, variables=None):
 def excess(ended, size, seconds_each):
     """What is more than it may be for an input of that size, or nothing."""
     seconds = SECONDS + seconds_each * size * math.log2(size + 2)
-    room = ROOM + ROOM_EACH * size
+    memory = MEMORY + MEMORY_EACH * size
     if ended.seconds > seconds:
         return f"took {ended.seconds:.2f} s for {size} bytes, more than {seconds:.2f}"
-    if ended.room > room:
-        return f"took {ended.room >> 20} MB for {size} bytes, more than {room >> 20}"
+    if ended.memory > memory:
+        return f"took {ended.memory >> 20} MB for {size} bytes, more than {memory >> 20}"
     return None

@@ -1,7 +1,8 @@
 #!/usr/bin/env python3
-"""check.py: whether each option that the help texts of the machine's gcc and clang list is known to `cache_known_options`, or stands among the
-exceptions with its reason; and those of its rustc to `cache_rustc_requests`. Prints what is in neither, and what is in both. Compilers of other versions than the tables are of aren't looked at:
-what is new in them isn't known, and so it is passed through. Its last line is 'N passed, M failed'.
+"""check.py: whether each option that the help texts of the machine's gcc and clang list is known to `cache_known_options`, or is among the
+exceptions with its reason; and so with rustc and `cache_rustc_requests`. Prints what is in neither, and what is in both. Compilers of other
+versions than those of the tables aren't looked at: what is new in them isn't known, and so it is passed through. Its last line is
+'N passed, M failed'.
 """
 import fnmatch
 import os
@@ -18,7 +19,7 @@ HELPS = {
 }
 
 
-# The versions that the tables are of.
+# The versions of the compilers in the tables.
 VERSIONS = {"gcc": "12", "clang": "14"}
 RUSTC = "rustc 1.95."
 
@@ -111,7 +112,7 @@ def exceptions_in(name):
 
 
 def check_rustc():
-    """How many options of rustc are in one of both, and how many aren't."""
+    """How many options of rustc are in one of the two lists, and how many aren't."""
     if not said_by_rustc("--version").startswith(RUSTC):
         print(f"{RUSTC}* isn't here: its options weren't looked at")
         return 0, 0

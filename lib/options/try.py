@@ -1,7 +1,7 @@
 #!/usr/bin/env python3
-"""try.py HOST [gcc|clang]..: calls each compiler with each word that `cache_known_options` has, and with its `no-` form, by gulmaat's host and alone:
-the status, the messages and the objects must be the same at a first call, at a second one, and after a change of the source. Words that the
-compiler doesn't take are left out, and those with which no two calls alone make the same. Its last line is 'N passed, M failed'.
+"""try.py HOST [gcc|clang]..: calls each compiler with each option that `cache_known_options` has, and with its `no-` form, by gulmaat's host and alone:
+the status, the messages and the objects must be the same at a first call, at a second one, and after a change of the source. Options that the
+compiler doesn't take are left out, and those with which two calls of the compiler alone differ. Its last line is 'N passed, M failed'.
 """
 import os
 import re
@@ -20,12 +20,12 @@ int value[4] = {{1, 2, 3, {number}}};
 double scale(double a, size_t n) {{ double all = 0; for (size_t i = 0; i < n; i++) all += a * value[i % 4]; return all; }}
 int sum(int n) {{ int unused; switch (n) {{ case 1: return twice(n); case 2: return value[n]; default: return n + {number}; }} }}
 """
-# What stands for a number and for any text behind `=`.
+# What is tried for a number, and for any text after `=`.
 NUMBER, TEXT = "16", {"-march=": ["native", "x86-64-v3"], "-mtune=": ["native", "generic"], "-std=": ["gnu11", "c99"], "--std=": ["gnu11"]}
 
 
 def words():
-    """All words: those that stand alone with their `no-` forms, and those with each value that the table names."""
+    """All options: those without a value, with their `no-` forms, and the others with each value that the table names."""
     named = tables()
     for word in sorted(words_of(named["WHOLE"])):
         yield word
@@ -48,10 +48,10 @@ def run(command, folder, env):
     return ran.returncode, ran.stdout, ran.stderr, objects, files
 
 
-def tried(host, compiler, word, room):
-    """How a word fails: nothing where it doesn't, and where the compiler doesn't take it."""
-    env = {**os.environ, "GULMAAT_DIR": f"{room}/cache"}
-    with tempfile.TemporaryDirectory(dir=room) as folder:
+def tried(host, compiler, word, work):
+    """How an option fails: nothing where it doesn't, or where the compiler doesn't take it."""
+    env = {**os.environ, "GULMAAT_DIR": f"{work}/cache"}
+    with tempfile.TemporaryDirectory(dir=work) as folder:
         for number in (1, 2):
             with open(f"{folder}/it.c", "w", encoding="ascii") as file:
                 file.write(SOURCE.format(number=number))
@@ -72,9 +72,9 @@ def tried(host, compiler, word, room):
 def main():
     host, compilers = sys.argv[1], sys.argv[2:] or ["gcc", "clang"]
     passed = failed = 0
-    with tempfile.TemporaryDirectory() as room, ThreadPoolExecutor(os.cpu_count()) as pool:
+    with tempfile.TemporaryDirectory() as work, ThreadPoolExecutor(os.cpu_count()) as pool:
         for compiler in filter(shutil.which, compilers):
-            for said in pool.map(lambda word, by=compiler: tried(host, by, word, room), words()):
+            for said in pool.map(lambda word, by=compiler: tried(host, by, word, work), words()):
                 passed += said == ""
                 failed += bool(said)
                 if said:

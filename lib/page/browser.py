@@ -1,4 +1,4 @@
-"""browser.py KIND PAGE SUMS [SHOTS]: opens a page in Chromium without a window, and says 'ok' or 'FAILED' of what was looked at, a line each.
+"""browser.py KIND PAGE SUMS [SHOTS]: opens a page in Chromium without a window, and says 'ok' or 'FAILED' of each thing that was looked at, on a line of its own.
 
 KIND is build, made or hostile; SUMS is an object in JSON of what the page must show. In the folder SHOTS it puts pictures of the page.
 """
@@ -15,7 +15,7 @@ from selenium.webdriver.support.ui import WebDriverWait
 
 KIND, PAGE, SUMS = sys.argv[1], os.path.abspath(sys.argv[2]), json.loads(sys.argv[3])
 SHOTS = sys.argv[4] if len(sys.argv) > 4 else None
-# What a text must have against its ground, by WCAG AA, of each text of the page that is in sight.
+# The contrast that a text must have with its background, by WCAG AA, for each text of the page that is in sight.
 CONTRAST = """
 const channel = (x) => (x /= 255) <= 0.04045 ? x / 12.92 : ((x + 0.055) / 1.055) ** 2.4;
 const light = (c) => 0.2126 * channel(c[0]) + 0.7152 * channel(c[1]) + 0.0722 * channel(c[2]);
@@ -99,14 +99,14 @@ class Look:
         heads = self.find("#calls, .scrolls[aria-labelledby=calls] th button")[-5:]
         heads[1].click()
         say("sorted the other way", took[self.driver.execute_script(number)] == min(took))
-        say("which is told", self.find("th[aria-sort=ascending]")[0].text.startswith("Took"))
+        say("which is shown", self.find("th[aria-sort=ascending]")[0].text.startswith("Took"))
         heads[0].click()
         starts = self.driver.execute_script(all_times % 0)
         say("sorted by beginning", starts[self.driver.execute_script(number)] == min(starts))
         heads[3].click()
         names = [it.text for it in self.find("tr[data-call] summary")]
         say("sorted by name", names == sorted(names) or KIND == "hostile", str(names[:5]))
-        say("and told", self.driver.execute_script(first % 3) != "")
+        say("and shown", self.driver.execute_script(first % 3) != "")
 
     def search(self):
         field = self.one("#search")
@@ -125,7 +125,7 @@ class Look:
         self.driver.execute_script("arguments[0].focus()", picture)
         before = self.text("#facts")
         picture.send_keys(Keys.ARROW_RIGHT)
-        say("an arrow tells of another call", self.text("#facts") not in ("", before))
+        say("an arrow shows another call", self.text("#facts") not in ("", before))
         axis = self.text("#axis")
         picture.send_keys("+", "+", "+")
         self.until("+ zooms", lambda: self.text("#axis") != axis)
@@ -135,15 +135,15 @@ class Look:
         say("a bar for each call", self.driver.execute_script(bars) == SUMS["calls"] + SUMS.get("others", 0))
         picture.send_keys(Keys.END)
         say("the focus is seen", self.driver.execute_script(OUTLINED))
-        told = self.text("#facts").split(" · ")[0]
+        facts = self.text("#facts").split(" · ")[0]
         picture.send_keys(Keys.ENTER)
         chosen = "const it = document.activeElement; return it.tagName === 'SUMMARY' && it.closest('tr.chosen') ? it.textContent : ''"
         shown = self.driver.execute_script(chosen)
-        say("Enter leads to its row", shown != "" and " ".join(shown.split()) == " ".join(told.split()), f"{told!r} {shown!r}")
+        say("Enter leads to its row", shown != "" and " ".join(shown.split()) == " ".join(facts.split()), f"{facts!r} {shown!r}")
         say("which is open", self.find("tr.chosen details[open] dd") != [])
 
     def tabs(self):
-        """Tab comes by the picture, the search and the heads, and each is seen to have the focus."""
+        """Tab goes to the picture, the search and the heads, and each shows that it has the focus."""
         self.driver.execute_script("const it = document.querySelector('h1'); it.tabIndex = -1; it.focus()")
         seen, outlined = [], True
         for _ in range(40):
@@ -179,7 +179,7 @@ class Look:
             "return document.scripts.length === 2 && !document.querySelector('img,iframe,object,embed,a,form') && "
             "!document.querySelector('[onload],[onerror]')"))
         say("names stay names", "<script>document.body" in self.driver.execute_script("return document.body.innerText"))
-        say("broken lines are told", f"{SUMS['broken']} lines are broken" in self.text("main"))
+        say("broken lines are counted", f"{SUMS['broken']} lines are broken" in self.text("main"))
         say("no control character", self.driver.execute_script(
             "return !/[\\0-\\x08\\x0b-\\x1f\\x7f-\\x9f\\u202a-\\u202e\\u2066-\\u2069]/.test(document.body.textContent.replace(/[\\n\\t]/g, ''))"))
 

@@ -1,4 +1,4 @@
-"""logs.py made COUNT FILE, or hostile FILE: writes a log of made-up calls, or one that nobody would wish to read.
+"""logs.py made COUNT FILE, or hostile FILE: writes a log of made-up calls, or a hostile one.
 
 A made-up log says by its last line on standard output what a page of it must show.
 """
@@ -67,7 +67,7 @@ def made(count, place):
 
 
 def hostile(place):
-    """Names that are markup, controls, bytes that are no text, numbers out of any range, and lines that are cut or none."""
+    """Names that are markup, control characters, bytes that aren't UTF-8, numbers out of range, and lines that are cut or empty."""
     moment = 1_700_000_000_000_000
     names = [
         "<script>document.body.innerHTML='hacked';window.hacked=1</script>.c",

@@ -1,4 +1,4 @@
-"""traces.py TRACE CALLS: says of a trace 'ok' or 'FAILED' and what was looked at, a line each."""
+"""traces.py TRACE CALLS: looks at a trace, and says 'ok' or 'FAILED' of each thing that was looked at, on a line of its own."""
 import json
 import sys
 

@@ -1,8 +1,8 @@
-/* Refuses growths of memory, as a library that stands before the C library's allocator (bin/refusals).
+/* Refuses growths of memory, as a library that is loaded before the C library's allocator (bin/refusals).
  *
  * With REFUSED_GROWTH=N the Nth growth of the process is refused, and `refused` is said on standard error.
  *
- * With REFUSED_BEHIND=TEXT each growth is refused behind the first text that the process writes to standard error and that begins so, and
+ * With REFUSED_AFTER=TEXT each growth is refused after the first text that the process writes to standard error and that begins so, and
  * `refused` is said of each.
  *
  * With EXPECTED=FILE the process begins as many others as it makes growths, each ahead of its `main`: in the first of them the first growth
@@ -19,7 +19,7 @@
 #include <sys/wait.h>
 #include <unistd.h>
 
-/* How many growths are left up to the one that is refused, and 0 behind it. */
+/* How many growths are left up to the one that is refused, and 0 after it. */
 static long left = -1;
 /* Whether each is refused from now on. */
 static int is_each = 0;
@@ -52,12 +52,12 @@ void *realloc(void *old, size_t size) {
 ssize_t write(int file, const void *bytes, size_t length) {
     static ssize_t (*real)(int, const void *, size_t);
     if (!real) real = dlsym(RTLD_NEXT, "write");
-    const char *text = getenv("REFUSED_BEHIND");
+    const char *text = getenv("REFUSED_AFTER");
     if (text && file == 2 && length >= strlen(text) && memcmp(bytes, text, strlen(text)) == 0) is_each = 1;
     return real(file, bytes, length);
 }
 
-/* The bytes of an open file, with a zero byte behind them. */
+/* The bytes of an open file, with a zero byte after them. */
 static char *bytes_of(int file, size_t *length) {
     struct stat stat;
     if (fstat(file, &stat) != 0) _exit(3);

@@ -1,6 +1,6 @@
 #!/usr/bin/env python3
 """bazel.py PORT: a store that takes nothing but GET, HEAD and PUT of /ac/ and 64 hexadecimal digits, as bazel-remote does. With TOKEN in its
-environment it wants that in each question."""
+environment it wants that in each request."""
 import http.server
 import os
 import re
@@ -16,10 +16,10 @@ class Answers(http.server.BaseHTTPRequestHandler):
     protocol_version = "HTTP/1.1"
 
     def log_message(self, *_):
-        """Says nothing."""
+        """Logs nothing."""
 
     def answer(self, code, body=b""):
-        """Gives a status and what comes with it."""
+        """Sends a status and what comes with it."""
         self.send_response(code)
         self.send_header("Content-Length", str(len(body)))
         self.end_headers()
@@ -27,7 +27,7 @@ class Answers(http.server.BaseHTTPRequestHandler):
             self.wfile.write(body)
 
     def refuses(self):
-        """Whether this is no question for such a store; it is answered then."""
+        """Whether this is no request for such a store; then it is answered here."""
         if TOKEN and self.headers["Authorization"] != f"Bearer {TOKEN}":
             self.answer(401)
         elif not re.fullmatch("/ac/[0-9a-f]{64}", self.path):
@@ -37,7 +37,7 @@ class Answers(http.server.BaseHTTPRequestHandler):
         return True
 
     def do_GET(self):
-        """What lies there."""
+        """Sends what is there."""
         if not self.refuses():
             self.answer(200, KEPT[self.path]) if self.path in KEPT else self.answer(404)
 

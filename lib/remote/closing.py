@@ -7,7 +7,7 @@ kept = {}
 
 
 class Closing(http.server.BaseHTTPRequestHandler):
-    """Answers one question of a connection."""
+    """Answers one request of a connection."""
 
     protocol_version = "HTTP/1.1"
 
@@ -15,7 +15,7 @@ class Closing(http.server.BaseHTTPRequestHandler):
         """Logs nothing."""
 
     def answer(self, status, body=b""):
-        """Answers as one who goes on, and closes."""
+        """Answers as a server does that keeps the connection open, and closes it."""
         self.send_response(status)
         self.send_header("Content-Length", str(len(body)))
         self.end_headers()

@@ -1,9 +1,9 @@
 #!/usr/bin/env python3
-"""proxy.py PORT SERVER-PORT FAULT [NUMBER]: stands before a server on this machine, and does to its answers what the fault says.
+"""proxy.py PORT SERVER-PORT FAULT [NUMBER]: a proxy for a server on this machine, which does to its answers what the fault says.
 
     none        nothing
-    cut         each connection ends behind so many bytes of answers
-    flip        a bit of the byte with that number is another one, in each connection
+    cut         each connection ends after so many bytes of answers
+    flip        a bit of the byte with that number is changed, in each connection
     slow        so many milliseconds go by before each byte
     silent      no answer comes, and nothing is read
     rubbish     so many bytes that nobody stored, for each piece of a question
@@ -70,7 +70,7 @@ def hand_on(client):
 
 
 def quietly(work, *what):
-    """Does some work, which ends where a connection does."""
+    """Does some work, which ends when a connection does."""
     try:
         work(*what)
     except OSError:

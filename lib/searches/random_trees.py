@@ -1,9 +1,9 @@
 #!/usr/bin/env python3
-"""random_trees.py HOST COMPILER [STEPS] [SEED]: makes trees of headers that are changed at random, and compiles in each behind gulmaat and
+"""random_trees.py HOST COMPILER [STEPS] [SEED]: makes trees of headers that are changed at random, and compiles in each by gulmaat and
 by the compiler alone: object, dependency file and status must be the same. Prints how many calls were direct hits. Part of bin/test-builds.
 
 A tree has some folders, some of which are searched by -I, -iquote, -isystem, -idirafter or CPATH, and headers of a few names in them, which
-take each other in by quotes, brackets or #include_next, or ask whether another one is there. A step makes, changes, touches or removes one,
+include each other by quotes, brackets or #include_next, or ask whether another one is there. A step makes, changes, touches or removes one,
 or puts a link or a folder in its place.
 """
 import os
@@ -34,7 +34,7 @@ def spell(name, chance):
         return f'#ifdef __has_include\n#if __has_include("{name}")\n#include "{name}"\n#endif\n#endif\n'
     if way < 0.95:
         return f"#define PROBE(x) __has_include(x)\n#if PROBE(<{name}>)\nint probed_@;\n#endif\n#undef PROBE\n"
-    # A macro that stands for a header, which another one may have defined first, in quotes or in brackets.
+    # A macro that names a header, in quotes or in brackets, which another header may have defined first.
     macro, spelled = f"TAKEN_{NAMES.index(name)}", chance.choice([f'"{name}"', f"<{name}>"])
     return f"#ifndef {macro}\n#define {macro} {spelled}\n#endif\n#include {macro}\n"
 
@@ -67,7 +67,7 @@ class Tree:
         return os.path.join(self.place, folder, self.chance.choice(NAMES))
 
     def write(self, path):
-        """Puts a header there, of which each has a guard, or is taken in once, or has neither and no names."""
+        """Puts a header there. Each has a guard, or `#pragma once`, or neither and no names."""
         chance = self.chance
         self.number += 1
         number = chance.randint(1, 6)

@@ -1,8 +1,8 @@
 """An LLVM module as text, as the kit translates a program for a try: what of it isn't for a program that is kept is taken out, and
 it is cut into parts that are compiled side by side.
 
-What stays of the checks are those that stand in the program itself: an index out of bounds, a failed unwrap, `unreachable!` and `prove!`
-stop it. Those of the sanitizer go, of which sums that wrap are the most.
+The checks in the program itself stay: an index out of bounds, a failed unwrap, `unreachable!` and `prove!` stop it. Those of the sanitizer
+go; most of them are for sums that wrap.
 """
 import re
 
@@ -22,16 +22,16 @@ SMALL = 60
 
 
 class Module:
-    """What stands before the functions, each function by its name, and what stands behind them."""
+    """What comes before the functions, each function by its name, and what comes after them."""
 
     def __init__(self, text):
         self.head, *pieces = BEGIN.split(text)
-        self.functions, behind = {}, []
+        self.functions, tail = {}, []
         for piece in pieces:
             end = piece.index("\n}\n") + 3
             self.functions[DEFINED.match(piece)[1]] = piece[:end]
-            behind.append(piece[end:])
-        self.tail = "".join(behind)
+            tail.append(piece[end:])
+        self.tail = "".join(tail)
 
     def take_out_checks(self):
         """Takes out what is for a try alone, and the functions that main doesn't reach."""

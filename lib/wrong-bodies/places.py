@@ -1,4 +1,4 @@
-"""Where a source's functions stand, and what they are called on the command line of `rt check --only`."""
+"""Where a source's functions are, and what they are called on the command line of `rt check --only`."""
 
 import re
 from pathlib import Path
@@ -24,7 +24,7 @@ def group_end(text, at):
 
 
 def blanked(text):
-    """A source with blanks in the place of its comments."""
+    """A source with blanks in place of its comments."""
     return TOKEN.sub(lambda found: " " * len(found[0]) if found[0].startswith("//") else found[0], text)
 
 
@@ -52,7 +52,7 @@ def functions(text):
 
 
 def without_brackets(text):
-    """A text without what stands in angle brackets."""
+    """A text without what is in angle brackets."""
     while True:
         less = re.sub(r"<[^<>]*>", "", text.replace("->", ""))
         if less == text:
@@ -60,8 +60,8 @@ def without_brackets(text):
         text = less
 
 
-def behind_parameters(head):
-    """The names of an impl's own parameters, and its head behind them."""
+def after_parameters(head):
+    """The names of an impl's own parameters, and its head after them."""
     depth = 0
     for at, byte in enumerate(head.replace("->", "  ")):
         depth += {"<": 1, ">": -1}.get(byte, 0)
@@ -82,7 +82,7 @@ def owner(text, at):
     for found in IMPL.finditer(text):
         begin = text.find("{", found.end())
         if begin < at < group_end(text, begin):
-            parameters, head = behind_parameters(text[found.end() : begin].partition(" where ")[0])
+            parameters, head = after_parameters(text[found.end() : begin].partition(" where ")[0])
             trait, _, name = head.rpartition(" for ")
             return without_brackets(name).strip().rpartition("::")[2], joined(trait, parameters)
     return "", ""
@@ -105,7 +105,7 @@ def home(folder, path, type):
 
 def holder(folder, path, text, begin, end):
     """The function of a crate's file that holds this part of it, as `--only` takes it: a type's own by where the type is declared, a trait's by
-    where it stands, with both names in one; the module where there is none, or its type has no plain name."""
+    where it is, with both names in one; the module where there is none, or its type has no plain name."""
     text = blanked(text)
     for name, start, _, last in functions(text):
         if start < end and begin < last:

@@ -20,7 +20,7 @@ TOP = os.path.dirname(os.path.dirname(os.path.dirname(os.path.realpath(__file__)
 
 
 def crates_below():
-    """All crates that each crate of crates.txt stands on, also by others, in the order of that file."""
+    """All crates that each crate of crates.txt depends on, also by others, in the order of that file."""
     named = {}
     with open(f"{TOP}/crates.txt", encoding="utf-8") as lines:
         for line in lines:
@@ -76,12 +76,12 @@ def files(crate, *parts):
 
 @functools.lru_cache(maxsize=None)
 def kit():
-    """The kit's version, as it tells it."""
+    """The kit's version, as it prints it."""
     return subprocess.run(["rt", "version"], capture_output=True, check=True).stdout
 
 
 def sum_of(crate, below):
-    """The sum of all that a verdict on the crate's edits rests on."""
+    """The sum of all that a verdict on the crate's edits depends on."""
     sum = hashlib.sha256(kit())
     for path in files(crate, "src/**/*", "specs/**/*", "proofs/**/*", "wrong-bodies/*.edit", "must-fail/*.edit"):
         sum.update(repr((os.path.relpath(path, TOP), plain(path))).encode())

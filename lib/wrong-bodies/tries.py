@@ -34,7 +34,7 @@ SAYING = threading.Lock()
 
 
 def say(text):
-    """Prints a line, which no other thread's breaks."""
+    """Prints a line that no other thread's line breaks."""
     with SAYING:
         print(text, flush=True)
 
@@ -47,13 +47,13 @@ def link_or_copy(one, other):
         shutil.copy2(one, other)
 
 
-def copy_to(room, crates):
+def copy_to(copy, crates):
     """Copies the sources of these crates there, and takes over the libraries that are built of them."""
-    shutil.copy2(f"{TOP}/HANDLES", room)
+    shutil.copy2(f"{TOP}/HANDLES", copy)
     lines = [it for it in read(f"{TOP}/crates.txt").splitlines() if re.split(r"[\s:]", it)[0] in crates]
-    write(f"{room}/crates.txt", "\n".join([*lines, ""]))
+    write(f"{copy}/crates.txt", "\n".join([*lines, ""]))
     for crate in crates:
-        one, other = f"{TOP}/crates/{crate}", f"{room}/crates/{crate}"
+        one, other = f"{TOP}/crates/{crate}", f"{copy}/crates/{crate}"
         for part in ("src", "specs", "proofs"):
             if os.path.isdir(f"{one}/{part}"):
                 shutil.copytree(f"{one}/{part}", f"{other}/{part}")
@@ -91,7 +91,7 @@ class Edit:
         for path, old, _ in self.pairs if self.fits and self.is_of_source else []:
             text = read(f"{folder}/{path}")
             self.holders.append(holder(folder, path, text, text.index(old), text.index(old) + len(old)))
-        # What stands outside functions, as a field does, is tried by the functions that the edit changes beside it, where there are any.
+        # What is outside functions, as a field, is tried by the functions that the edit changes beside it, where there are any.
         self.holders = [it for it in self.holders if it not in [module(path) for path, _, _ in self.pairs]] or self.holders
 
     def meets(self, other):
@@ -161,14 +161,14 @@ def why_refused(edit, said):
 def judged(edit, status, said):
     """Whether an edit that was tried alone was refused, and what to say."""
     why = why_refused(edit, said)
-    told = [it for it in said.split("\n") if re.search(r"error|it is not proved|^fn .*: (not|no|could)", it)][:6] or said.split("\n")[-6:]
+    shown = [it for it in said.split("\n") if re.search(r"error|it is not proved|^fn .*: (not|no|could)", it)][:6] or said.split("\n")[-6:]
     if why:
         return True, f"refused: {why}"
     if status == 0:
         return False, "NOT REFUSED: its functions are still proved"
     if re.search(r"\berror\[[\w-]+\]", said):
-        return False, "\n    ".join(["BAD EDIT: it doesn't compile", *told])
-    return False, "\n    ".join([f"NOT TRIED: its check ended with status {status}", *told])
+        return False, "\n    ".join(["BAD EDIT: it doesn't compile", *shown])
+    return False, "\n    ".join([f"NOT TRIED: its check ended with status {status}", *shown])
 
 
 def tried_whole(edit, crate, folder):
@@ -182,49 +182,49 @@ def tried_whole(edit, crate, folder):
     return status == 0 and ": refused, as it must be" in said, said.strip().split("\n")[-1]
 
 
-def try_crate(room, crate):
+def try_crate(copy, crate):
     """Tries the edits of a crate in the copy there, and returns whether all are refused."""
-    folder = f"{room}/crates/{crate}"
+    folder = f"{copy}/crates/{crate}"
     files = sorted(it for kind in ("wrong-bodies", "must-fail") for it in glob.glob(f"{TOP}/crates/{crate}/{kind}/*.edit"))
-    edits, began, told = [Edit(it, crate, folder) for it in files], time.monotonic(), {}
+    edits, began, verdicts = [Edit(it, crate, folder) for it in files], time.monotonic(), {}
     for edit in edits:
         if not edit.fits:
-            told[edit.name] = False, "BAD EDIT: an 'old:' text isn't in its file exactly once"
+            verdicts[edit.name] = False, "BAD EDIT: an 'old:' text isn't in its file exactly once"
         elif not edit.is_of_source:
-            told[edit.name] = tried_whole(edit, crate, folder)
-        if edit.name in told:
-            say(f"{edit.name}: {told[edit.name][1]}")
-    left = [it for it in edits if it.name not in told]
+            verdicts[edit.name] = tried_whole(edit, crate, folder)
+        if edit.name in verdicts:
+            say(f"{edit.name}: {verdicts[edit.name][1]}")
+    left = [it for it in edits if it.name not in verdicts]
     while left:
         together = first_round(left)
         status, said = checked(folder, together)
         known = [it for it in together if len(together) == 1 or why_refused(it, said)]
         for edit in known or together:
-            told[edit.name] = judged(edit, *((status, said) if known else checked(folder, [edit])))
-            say(f"{edit.name}: {told[edit.name][1]}")
-        left = [it for it in left if it.name not in told]
-    is_well = all(it for it, _ in told.values())
-    say(f"{crate}: {sum(it for it, _ in told.values())} of {len(told)} edits refused, in {time.monotonic() - began:.0f} seconds")
+            verdicts[edit.name] = judged(edit, *((status, said) if known else checked(folder, [edit])))
+            say(f"{edit.name}: {verdicts[edit.name][1]}")
+        left = [it for it in left if it.name not in verdicts]
+    is_well = all(it for it, _ in verdicts.values())
+    say(f"{crate}: {sum(it for it, _ in verdicts.values())} of {len(verdicts)} edits refused, in {time.monotonic() - began:.0f} seconds")
     return is_well
 
 
 def work(crates_left, below, all_crates, results):
     """Tries the crates that are left, one by one, in a copy of its own."""
-    with tempfile.TemporaryDirectory(prefix="wrong-bodies-") as room:
-        copy_to(room, all_crates)
+    with tempfile.TemporaryDirectory(prefix="wrong-bodies-") as copy:
+        copy_to(copy, all_crates)
         while True:
             try:
                 crate = crates_left.get_nowait()
             except queue.Empty:
                 return
             sum = sums.sum_of(crate, below)
-            results[crate] = try_crate(room, crate)
+            results[crate] = try_crate(copy, crate)
             if results[crate]:
                 sums.note(crate, sum)
 
 
 def with_below(crates, below):
-    """These crates and all that they stand on, in the order of crates.txt."""
+    """These crates and all that they depend on, in the order of crates.txt."""
     found, left = set(), list(crates)
     while left:
         crate = left.pop()
