@@ -7,7 +7,6 @@ import glob
 import os
 import re
 import sys
-from pathlib import Path
 
 sys.dont_write_bytecode = True
 
