@@ -83,26 +83,57 @@ impl HasKind for TaskingVXKind {
 /// TaskingVX as it is found.
 pub type TaskingVX = FoundCompiler<TaskingVXKind>;
 
-/// A compiler of each kind, of which nothing more is known.
+/// Gcc and Clang.
 #[derive(Drop)]
-pub struct EachKind {
+struct GnuKinds {
     gcc: Gcc,
     clang: Clang,
+}
+
+impl GnuKinds {
+    /// Makes their tables.
+    fn new(alloc: Global) -> Result<GnuKinds, AllocError> {
+        let gcc = Gcc::new(alloc, false, None, None)?;
+        let clang = Clang::new(alloc, false, None, None)?;
+        Ok(GnuKinds { gcc, clang })
+    }
+}
+
+/// The others.
+#[derive(Drop)]
+struct OtherKinds {
     diab: Diab,
     msvc: Msvc,
     tasking_vx: TaskingVX,
 }
 
+impl OtherKinds {
+    /// Makes their tables.
+    fn new(alloc: Global) -> Result<OtherKinds, AllocError> {
+        let diab = Diab::new(alloc, false, None, None)?;
+        let msvc = Msvc::new(alloc, false, None, None)?;
+        let tasking_vx = TaskingVX::new(alloc, false, None, None)?;
+        Ok(OtherKinds {
+            diab,
+            msvc,
+            tasking_vx,
+        })
+    }
+}
+
+/// A compiler of each kind, of which nothing more is known.
+#[derive(Drop)]
+pub struct EachKind {
+    gnu: GnuKinds,
+    others: OtherKinds,
+}
+
 impl EachKind {
     /// Makes the tables of all of them.
     pub fn new(alloc: Global) -> Result<EachKind, AllocError> {
-        Ok(EachKind {
-            gcc: Gcc::new(alloc, false, None, None)?,
-            clang: Clang::new(alloc, false, None, None)?,
-            diab: Diab::new(alloc, false, None, None)?,
-            msvc: Msvc::new(alloc, false, None, None)?,
-            tasking_vx: TaskingVX::new(alloc, false, None, None)?,
-        })
+        let gnu = GnuKinds::new(alloc)?;
+        let others = OtherKinds::new(alloc)?;
+        Ok(EachKind { gnu, others })
     }
 
     /// The one of that kind.
@@ -110,11 +141,11 @@ impl EachKind {
         ensures { result.now.kind ≡ kind }
     {
         match kind {
-            CCompilerKind::Gcc => self.gcc.found(),
-            CCompilerKind::Clang => self.clang.found(),
-            CCompilerKind::Diab => self.diab.found(),
-            CCompilerKind::Msvc => self.msvc.found(),
-            CCompilerKind::TaskingVX => self.tasking_vx.found(),
+            CCompilerKind::Gcc => self.gnu.gcc.found(),
+            CCompilerKind::Clang => self.gnu.clang.found(),
+            CCompilerKind::Diab => self.others.diab.found(),
+            CCompilerKind::Msvc => self.others.msvc.found(),
+            CCompilerKind::TaskingVX => self.others.tasking_vx.found(),
         }
     }
 }
