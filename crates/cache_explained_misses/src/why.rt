@@ -57,7 +57,9 @@ fn name_of_request<F: CallFiles>(
     };
     let words = request.words.as_slice();
     let asked = asked_of(alloc, compiler.found, words, &request.dir, files)?;
-    name_of_asked(alloc, &request.dir, &asked)
+    let name = name_of_asked(alloc, &request.dir, &asked);
+    drop(asked);
+    name
 }
 
 /// What differs in the first part in which two requests do, whose texts are in short.
@@ -255,7 +257,9 @@ fn tell<R: Print + Files + AllocGlobal>(
     outputs: &[(OsBytes, ArtifactDescriptor)],
 ) -> Result<(), HostError> {
     let found = kept_at(rt, kept, dir, outputs)?;
-    tell_of(rt, &found, object_in(outputs))
+    let told = tell_of(rt, &found, object_in(outputs));
+    drop(found);
+    told
 }
 
 /// Says that words are passed through.
@@ -272,7 +276,11 @@ fn tell_asked<R: Print + Files + AllocGlobal>(
     asked: Asked,
 ) -> Result<(), HostError> {
     match asked {
-        CompilerArguments::Ok(parsed) => tell(rt, kept, dir, parsed.outputs.as_slice()),
+        CompilerArguments::Ok(parsed) => {
+            let told = tell(rt, kept, dir, parsed.outputs.as_slice());
+            drop(parsed);
+            told
+        }
         CompilerArguments::NotCompilation => tell_pass(rt, Reason::NotCompilation),
         CompilerArguments::CannotCache(reason, more) => {
             tell_pass(rt, Reason::CannotCache(reason, more))

@@ -61,7 +61,11 @@ fn tell_asked<R: Print + Files + AllocGlobal>(
     asked: Asked,
 ) -> Result<(), HostError> {
     match asked {
-        CompilerArguments::Ok(parsed) => tell(rt, kept, dir, &parsed),
+        CompilerArguments::Ok(parsed) => {
+            let told = tell(rt, kept, dir, &parsed);
+            drop(parsed);
+            told
+        }
         CompilerArguments::NotCompilation => tell_pass(rt, Reason::NotCompilation),
         CompilerArguments::CannotCache(reason, more) => {
             tell_pass(rt, Reason::CannotCache(reason, more))

@@ -90,6 +90,22 @@ fn fetch_looked_for<D: Files>(
     Ok(is_there)
 }
 
+/// Notes what an entry asks for. What it comes to is owned here alone: it is large, and its type is written out wherever it is alive.
+fn note_asked(
+    alloc: Global,
+    compilers: &Compilers,
+    entry: &Entry,
+    asked: &mut Asked,
+) -> Result<(), ReportFault> {
+    match compilers.decide(alloc, entry, asked) {
+        Ok(decided) => {
+            drop(decided);
+            Ok(())
+        }
+        Err(fault) => Err(ReportFault::from(fault)),
+    }
+}
+
 /// Fetches all that an entry asks for.
 fn fetch_for<D: Files>(
     alloc: Global,
@@ -99,7 +115,7 @@ fn fetch_for<D: Files>(
     asked: &mut Asked,
 ) -> Result<(), ReportFault> {
     for _ in 0..DEPTH {
-        drop(compilers.decide(alloc, entry, asked)?);
+        note_asked(alloc, compilers, entry, asked)?;
         let read = fetch_read(alloc, disk, asked)?;
         let looked_for = fetch_looked_for(alloc, disk, asked)?;
         if !read && !looked_for {

@@ -6,7 +6,7 @@ use crate::texts::push_line;
 use crate::usage::Shown;
 use base_files::{FileTime, Listed, MemoryFile, MemoryFiles, OsBytes};
 use cmdlines_response_texts::split_gnu_response_file_args;
-use sccache_recorded_builds::{Compilers, Entry, EntryCompiler, reason_of};
+use sccache_recorded_builds::{Compilers, Decided, Entry, EntryCompiler, reason_of};
 use std::alloc::{AllocError, Global};
 
 /// The folder in which each line is run.
@@ -76,21 +76,71 @@ pub(crate) fn text_of_lines(
     shown: Shown,
     text: &[u8],
 ) -> Result<String, ReportFault> {
-    let (entries, mut files) = read_lines(alloc, compiler, text)?;
     let compilers = Compilers::new(alloc)?;
+    lines_by(alloc, &compilers, compiler, shown, text)
+}
+
+/// The same by these compilers.
+fn lines_by(
+    alloc: Global,
+    compilers: &Compilers,
+    compiler: EntryCompiler,
+    shown: Shown,
+    text: &[u8],
+) -> Result<String, ReportFault> {
+    let (entries, mut files) = read_lines(alloc, compiler, text)?;
     let mut lines = String::new(alloc);
     for entry in entries.as_slice() {
-        let decided = compilers.decide(alloc, entry, &mut files)?;
-        let mut line = String::new(alloc);
-        match (reason_of(alloc, &decided, &entry.executable)?, shown) {
-            (Some(reason), _) => line.push_str(reason.as_str())?,
-            (None, Shown::Lists) => write_kept(&mut line, &decided, Detail::Lists)?,
-            (None, Shown::Compile) => write_compile(alloc, &mut line, &compilers, &decided)?,
-            (None, Shown::Preprocess) => {
-                write_preprocess(alloc, &mut line, &compilers, &decided)?;
-            }
-        }
+        let line = line_of(alloc, compilers, entry, shown, &mut files)?;
         push_line(&mut lines, line.as_str())?;
     }
     Ok(lines)
+}
+
+/// What a command line comes to.
+fn line_of(
+    alloc: Global,
+    compilers: &Compilers,
+    entry: &Entry,
+    shown: Shown,
+    files: &mut MemoryFiles,
+) -> Result<String, ReportFault> {
+    match compilers.decide(alloc, entry, files) {
+        Ok(decided) => {
+            let line = decided_line(alloc, compilers, &entry.executable, &decided, shown);
+            drop(decided);
+            line
+        }
+        Err(fault) => Err(ReportFault::from(fault)),
+    }
+}
+
+/// Why a command line isn't kept, or what is shown of it.
+fn decided_line(
+    alloc: Global,
+    compilers: &Compilers,
+    executable: &OsBytes,
+    decided: &Decided,
+    shown: Shown,
+) -> Result<String, ReportFault> {
+    match reason_of(alloc, decided, executable)? {
+        Some(reason) => Ok(reason),
+        None => Ok(kept_line(alloc, compilers, decided, shown)?),
+    }
+}
+
+/// What is shown of a command line that is kept.
+fn kept_line(
+    alloc: Global,
+    compilers: &Compilers,
+    decided: &Decided,
+    shown: Shown,
+) -> Result<String, AllocError> {
+    let mut line = String::new(alloc);
+    match shown {
+        Shown::Lists => write_kept(&mut line, decided, Detail::Lists)?,
+        Shown::Compile => write_compile(alloc, &mut line, compilers, decided)?,
+        Shown::Preprocess => write_preprocess(alloc, &mut line, compilers, decided)?,
+    }
+    Ok(line)
 }

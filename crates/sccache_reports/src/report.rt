@@ -44,20 +44,39 @@ fn write_commands(
 ) -> Result<(), AllocError> {
     match decided {
         Decided::C(_, CompilerArguments::Ok(_)) => {
-            let mut compile = String::from_str(alloc, "  compile")?;
-            write_compile(alloc, &mut compile, compilers, decided)?;
-            push_line(text, compile.as_str())?;
-            let mut preprocess = String::from_str(alloc, "  preprocess")?;
-            write_preprocess(alloc, &mut preprocess, compilers, decided)?;
-            push_line(text, preprocess.as_str())
+            push_compile(alloc, text, "  compile", compilers, decided)?;
+            push_preprocess(alloc, text, compilers, decided)
         }
         Decided::Rustc(CompilerArguments::Ok(_)) => {
-            let mut compile = String::from_str(alloc, "  compile ")?;
-            write_compile(alloc, &mut compile, compilers, decided)?;
-            push_line(text, compile.as_str())
+            push_compile(alloc, text, "  compile ", compilers, decided)
         }
         _ => Ok(()),
     }
+}
+
+/// Adds the line of a compile, with that at its front.
+fn push_compile(
+    alloc: Global,
+    text: &mut String,
+    front: &str,
+    compilers: &Compilers,
+    decided: &Decided,
+) -> Result<(), AllocError> {
+    let mut line = String::from_str(alloc, front)?;
+    write_compile(alloc, &mut line, compilers, decided)?;
+    push_line(text, line.as_str())
+}
+
+/// Adds the line of a preprocessor's run.
+fn push_preprocess(
+    alloc: Global,
+    text: &mut String,
+    compilers: &Compilers,
+    decided: &Decided,
+) -> Result<(), AllocError> {
+    let mut line = String::from_str(alloc, "  preprocess")?;
+    write_preprocess(alloc, &mut line, compilers, decided)?;
+    push_line(text, line.as_str())
 }
 
 /// Adds what follows what is kept or why not: response files that aren't there, and options to beware of.

@@ -279,9 +279,11 @@ fn read_contents(
     text: Option<Value>,
     digits: Option<Value>,
 ) -> Result<OsBytes, ScenarioFault> {
-    match (text, digits) {
-        (Some(Value::String(text)), None) => Ok(OsBytes::from_vec(text.into_bytes())),
-        (None, Some(digits)) => read_hex(alloc, digits),
-        _ => Err(ScenarioFault::Unreadable),
+    let Some(text) = text else {
+        return read_hex(alloc, required(digits)?);
+    };
+    if digits.is_some() {
+        return Err(ScenarioFault::Unreadable);
     }
+    Ok(OsBytes::from_vec(into_text(text)?.into_bytes()))
 }
