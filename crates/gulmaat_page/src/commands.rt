@@ -36,13 +36,13 @@ pub fn command_of(alloc: Global, texts: &Texts, call: &Call) -> Result<String, A
 
 /// The name by which a call is shown: its input, its output or its compiler.
 pub fn name_of<'a>(texts: &'a Texts, call: &Call) -> &'a str {
-    let input = texts.text(call.input);
-    let output = texts.text(call.output);
-    let names = [input, output, texts.text(call.compiler)];
-    match names.iter().find(|name| !name.is_empty()) {
-        Some(name) => name,
-        None => "(no name)",
+    for id in [call.input, call.output, call.compiler].as_slice() {
+        let name = texts.text(*id);
+        if !name.is_empty() {
+            return name;
+        }
     }
+    "(no name)"
 }
 
 /// Why a call came to what it did: what differed, or why it was passed through or has no manifest.

@@ -2,21 +2,12 @@
 
 use crate::changes::changes_between;
 use crate::reading::Build;
+use crate::summary::COUNTS;
 use crate::times::Time;
-use cache_build_log::Kind;
 use std::alloc::{AllocError, Global};
 
 /// How many changes are reported.
 const SHOWN: usize = 7;
-
-/// The counts that are reported, beside that of all calls.
-const KINDS: [(&str, Kind); 5] = [
-    ("Direct hits", Kind::Direct),
-    ("Hits by text", Kind::ByText),
-    ("Misses", Kind::Miss),
-    ("Uncacheable", Kind::Uncacheable),
-    ("Failures of gulmaat", Kind::Failure),
-];
 
 /// Writes a count of both.
 fn push_counts(text: &mut String, name: &str, one: u64, other: u64) -> Result<(), AllocError> {
@@ -46,7 +37,7 @@ fn push_sums(
 ) -> Result<(), AllocError> {
     let (sums, others) = (&one.sums, &other.sums);
     push_counts(text, "Calls", sums.calls, others.calls)?;
-    for (name, kind) in KINDS {
+    for (name, kind) in COUNTS {
         push_counts(text, name, sums.share(kind).count, others.share(kind).count)?;
     }
     push_times(

@@ -2,39 +2,72 @@
 
 use crate::reading::Build;
 use cache_build_log::{Call, Kind, push_text};
-use std::alloc::{AllocError, Global};
+use std::alloc::AllocError;
+use std::fmt;
 
-/// Writes a list of texts.
-fn push_texts(json: &mut String, name: &str, texts: &[&str]) -> Result<(), AllocError> {
-    write!(json, "\"{name}\":[")?;
-    let mut mark = "";
-    for text in texts.iter() {
-        json.push_str(mark)?;
-        push_text(json, text)?;
-        mark = ",\n";
+/// Writes a text of a list, on a line of its own unless it is the first one.
+fn push_item(json: &mut String, place: usize, text: &str) -> Result<(), AllocError> {
+    if place > 0 {
+        json.push_str(",\n")?;
+    }
+    push_text(json, text)
+}
+
+/// Writes the names of all kinds, and those that they have in a page's style.
+fn push_kinds(json: &mut String) -> Result<(), AllocError> {
+    json.push_str("\"kinds\":[")?;
+    for (place, kind) in Kind::ALL.iter().enumerate() {
+        push_item(json, place, kind.name())?;
+    }
+    json.push_str("],\n\"classes\":[")?;
+    for (place, kind) in Kind::ALL.iter().enumerate() {
+        push_item(json, place, kind.class())?;
     }
     json.push_str("],\n")
+}
+
+/// Writes all texts.
+fn push_texts(json: &mut String, texts: &[String]) -> Result<(), AllocError> {
+    json.push_str("\"texts\":[")?;
+    for (place, text) in texts.iter().enumerate() {
+        push_item(json, place, text.as_str())?;
+    }
+    json.push_str("],\n")
+}
+
+/// Writes numbers, with a comma before each.
+fn push_numbers<T: fmt::Display>(json: &mut String, numbers: &[T]) -> Result<(), AllocError> {
+    for number in numbers {
+        write!(json, ",{number}")?;
+    }
+    Ok(())
 }
 
 /// Writes a call as a list of numbers, of which the last ones are its words.
 fn push_call(json: &mut String, build: &Build, call: &Call) -> Result<(), AllocError> {
     let start = call.start.saturating_sub(build.sums.begin);
-    let (time, lane, kind) = (call.time(), call.lane, call.kind.number());
-    let (what, status, process) = (call.what, call.status, call.process);
-    let (compiler, dir) = (call.compiler, call.dir);
-    let (input, output) = (call.input, call.output);
-    let (reason, why) = (call.reason, call.why);
-    let (text_time, compile_time) = (call.time_of(false), call.time_of(true));
-    let (bytes, saved) = (call.bytes, call.saved());
-    write!(
-        json,
-        "[{start},{time},{lane},{kind},{what},{status},{process},"
-    )?;
-    write!(json, "{compiler},{dir},{input},{output},{reason},{why},")?;
-    write!(json, "{text_time},{compile_time},{bytes},{saved}")?;
-    for word in call.words.as_slice() {
-        write!(json, ",{word}")?;
-    }
+    let (time, status, process) = (call.time(), call.status, call.process);
+    let kind = [call.lane, call.kind.number(), call.what];
+    let texts = [
+        call.compiler,
+        call.dir,
+        call.input,
+        call.output,
+        call.reason,
+        call.why,
+    ];
+    let sums = [
+        call.time_of(false),
+        call.time_of(true),
+        call.bytes,
+        call.saved(),
+    ];
+    write!(json, "[{start},{time}")?;
+    push_numbers(json, kind.as_slice())?;
+    write!(json, ",{status},{process}")?;
+    push_numbers(json, texts.as_slice())?;
+    push_numbers(json, sums.as_slice())?;
+    push_numbers(json, call.words.as_slice())?;
     json.push(']')
 }
 
@@ -51,21 +84,14 @@ fn push_calls(json: &mut String, build: &Build) -> Result<(), AllocError> {
 }
 
 /// Writes what the script reads.
-pub fn push_data(html: &mut String, alloc: Global, build: &Build) -> Result<(), AllocError> {
+pub fn push_data(html: &mut String, build: &Build) -> Result<(), AllocError> {
     let (wall, lanes) = (build.sums.wall_time(), build.lanes);
-    html.push_str("<script type=\"application/json\" id=\"build\">")?;
-    write!(html, "{{\"wall\":{wall},\"lanes\":{lanes},\n")?;
-    let names: Vec<&str> = Kind::ALL.iter().map(|kind| kind.name()).collect(alloc)?;
-    let classes: Vec<&str> = Kind::ALL.iter().map(|kind| kind.class()).collect(alloc)?;
-    let texts: Vec<&str> = build
-        .texts
-        .all()
-        .iter()
-        .map(|text| text.as_str())
-        .collect(alloc)?;
-    push_texts(html, "kinds", names.as_slice())?;
-    push_texts(html, "classes", classes.as_slice())?;
-    push_texts(html, "texts", texts.as_slice())?;
+    write!(
+        html,
+        "<script type=\"application/json\" id=\"build\">{{\"wall\":{wall},\"lanes\":{lanes},\n"
+    )?;
+    push_kinds(html)?;
+    push_texts(html, build.texts.all())?;
     push_calls(html, build)?;
     html.push_str("</script>\n")
 }

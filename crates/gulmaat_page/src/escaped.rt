@@ -2,17 +2,22 @@
 
 use std::alloc::AllocError;
 
+/// Writes a letter so that it isn't markup.
+fn push_letter(html: &mut String, letter: char) -> Result<(), AllocError> {
+    match letter {
+        '&' => html.push_str("&amp;"),
+        '<' => html.push_str("&lt;"),
+        '>' => html.push_str("&gt;"),
+        '"' => html.push_str("&quot;"),
+        '\'' => html.push_str("&#39;"),
+        _ => html.push(letter),
+    }
+}
+
 /// Writes a text of which nothing is markup.
 pub fn push_escaped(html: &mut String, text: &str) -> Result<(), AllocError> {
     for letter in text.chars() {
-        match letter {
-            '&' => html.push_str("&amp;")?,
-            '<' => html.push_str("&lt;")?,
-            '>' => html.push_str("&gt;")?,
-            '"' => html.push_str("&quot;")?,
-            '\'' => html.push_str("&#39;")?,
-            _ => html.push(letter)?,
-        }
+        push_letter(html, letter)?;
     }
     Ok(())
 }
@@ -37,11 +42,4 @@ pub fn push_cell(html: &mut String, text: &str) -> Result<(), AllocError> {
     html.push_str("<td>")?;
     push_short(html, text)?;
     html.push_str("</td>")
-}
-
-/// Writes an element without attributes, with a text in it.
-pub fn push_element(html: &mut String, name: &str, text: &str) -> Result<(), AllocError> {
-    write!(html, "<{name}>")?;
-    push_escaped(html, text)?;
-    write!(html, "</{name}>")
 }

@@ -8,17 +8,22 @@ use crate::reading::Build;
 use crate::summary::push_summary;
 use crate::tables::{push_calls, push_misses, push_passed};
 use crate::times::Moment;
+use cache_build_log::Kind;
 use std::alloc::{AllocError, Global};
+
+/// The folder in which a call ran.
+fn push_folder(html: &mut String, folder: &str) -> Result<(), AllocError> {
+    html.push_str(", in <span class=\"path\">")?;
+    push_escaped(html, folder)?;
+    html.push_str("</span>")
+}
 
 /// The title: when the build began, and where the call that took longest ran.
 fn push_title(html: &mut String, build: &Build) -> Result<(), AllocError> {
     let begin = Moment(build.sums.begin);
-    html.push_str("<header>\n<h1>Build</h1>\n<p>")?;
-    write!(html, "Began {begin} UTC")?;
-    if let Some(call) = build.calls.iter().max_by_key(|call| call.time()) {
-        html.push_str(", in <span class=\"path\">")?;
-        push_escaped(html, build.texts.text(call.dir))?;
-        html.push_str("</span>")?;
+    write!(html, "<header>\n<h1>Build</h1>\n<p>Began {begin} UTC")?;
+    if let Some(call) = build.longest_of(Kind::ALL.as_slice()) {
+        push_folder(html, build.texts.text(call.dir))?;
     }
     html.push_str("</p>\n</header>\n<main>\n")
 }
@@ -59,7 +64,7 @@ pub fn page(alloc: Global, build: &Build, script: &str, style: &str) -> Result<S
     push_passed(&mut html, alloc, build)?;
     push_calls(&mut html, alloc, build)?;
     html.push_str("</main>\n")?;
-    push_data(&mut html, alloc, build)?;
+    push_data(&mut html, build)?;
     push_end(&mut html, script)?;
     Ok(html)
 }

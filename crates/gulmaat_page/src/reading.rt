@@ -2,7 +2,9 @@
 
 use crate::asked::AskedLog;
 use crate::error::PageError;
-use cache_build_log::{Call, Sums, Texts, beginnings, chosen, other_commands, pack, read_log};
+use cache_build_log::{
+    Call, Kind, Sums, Texts, beginnings, chosen, other_commands, pack, read_log,
+};
 use std::alloc::{AllocError, Global};
 use std::fs;
 use std::rt::Files;
@@ -20,6 +22,21 @@ pub struct Build {
     pub broken: u64,
     /// Whether ninja's log was named, and has none of these calls.
     pub is_ninja_apart: bool,
+}
+
+impl Build {
+    /// The call of these kinds that took longest; the last one of several.
+    pub fn longest_of(&self, kinds: &[Kind]) -> Option<&Call> {
+        let mut longest: Option<&Call> = None;
+        let mut most = 0u64;
+        for call in self.calls.as_slice() {
+            if kinds.contains(&call.kind) && call.time() >= most {
+                longest = Some(call);
+                most = call.time();
+            }
+        }
+        longest
+    }
 }
 
 /// The bytes of a file.
@@ -56,22 +73,28 @@ fn add_others(
     Ok(true)
 }
 
-/// The build of a log that is asked for.
-pub fn read_build<R: Files + AllocGlobal>(
-    rt: &R,
+/// What ninja's log says, where one is named.
+fn read_ninja<R: Files + AllocGlobal>(rt: &R, path: &str) -> Result<String, PageError> {
+    match path.is_empty() {
+        true => Ok(String::new(rt.alloc())),
+        false => read_text(rt, path),
+    }
+}
+
+/// The build that is asked for, of a log of these bytes, with what ninja's log says.
+fn build_of(
+    alloc: Global,
     asked: &AskedLog<'_>,
-) -> Result<Build, PageError> {
-    let alloc = rt.alloc();
-    let bytes = read_bytes(rt, asked.path)?;
-    let log = read_log(alloc, bytes.as_slice())?;
-    drop(bytes);
+    bytes: &[u8],
+    ninja: &str,
+) -> Result<Build, AllocError> {
+    let log = read_log(alloc, bytes)?;
     let builds = beginnings(alloc, log.calls.as_slice())?.len();
     let mut texts = log.texts;
     let mut calls = chosen(alloc, log.calls, asked.has_all)?;
     let mut is_ninja_apart = false;
     if !asked.ninja.is_empty() {
-        let ninja = read_text(rt, asked.ninja)?;
-        is_ninja_apart = !add_others(alloc, &mut texts, &mut calls, ninja.as_str())?;
+        is_ninja_apart = !add_others(alloc, &mut texts, &mut calls, ninja)?;
     }
     let lanes = pack(alloc, calls.as_mut_slice())?;
     let sums = Sums::of(calls.as_slice());
@@ -84,4 +107,14 @@ pub fn read_build<R: Files + AllocGlobal>(
         broken: log.broken,
         is_ninja_apart,
     })
+}
+
+/// The build of a log that is asked for.
+pub fn read_build<R: Files + AllocGlobal>(
+    rt: &R,
+    asked: &AskedLog<'_>,
+) -> Result<Build, PageError> {
+    let bytes = read_bytes(rt, asked.path)?;
+    let ninja = read_ninja(rt, asked.ninja)?;
+    Ok(build_of(rt.alloc(), asked, bytes.as_slice(), ninja.as_str())?)
 }

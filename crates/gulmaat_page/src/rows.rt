@@ -1,7 +1,7 @@
 //! A row of the table of calls.
 
 use crate::commands::{command_of, explanation_of, name_of};
-use crate::escaped::{push_cell, push_element, push_short};
+use crate::escaped::{push_cell, push_escaped, push_short};
 use crate::reading::Build;
 use crate::times::Time;
 use cache_build_log::Call;
@@ -12,8 +12,9 @@ fn push_term(html: &mut String, name: &str, text: &str) -> Result<(), AllocError
     if text.is_empty() {
         return Ok(());
     }
-    write!(html, "<dt>{name}</dt>")?;
-    push_element(html, "dd", text)
+    write!(html, "<dt>{name}</dt><dd>")?;
+    push_escaped(html, text)?;
+    html.push_str("</dd>")
 }
 
 /// Writes the call itself: its name, and after it what is known of it.

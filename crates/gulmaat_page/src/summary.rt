@@ -4,12 +4,20 @@ use crate::commands::name_of;
 use crate::escaped::push_short;
 use crate::reading::Build;
 use crate::times::{Percent, Time};
-use cache_build_log::Kind;
+use cache_build_log::{Kind, Share, Sums};
 use std::alloc::{AllocError, Global};
 
-/// Writes a fact: its name, its value, and what is to be said of it.
-fn push_fact(html: &mut String, name: &str, value: &str, more: &str) -> Result<(), AllocError> {
-    write!(html, "<div><dt>{name}</dt><dd>{value}</dd>")?;
+/// The counts that are reported, beside that of all calls.
+pub const COUNTS: [(&str, Kind); 5] = [
+    ("Direct hits", Kind::Direct),
+    ("Hits by text", Kind::ByText),
+    ("Misses", Kind::Miss),
+    ("Uncacheable", Kind::Uncacheable),
+    ("Failures of gulmaat", Kind::Failure),
+];
+
+/// Writes what is to be said of a fact, unless that is empty, and the end of the fact.
+fn push_more(html: &mut String, more: &str) -> Result<(), AllocError> {
     if !more.is_empty() {
         html.push_str("<dd class=\"more\">")?;
         push_short(html, more)?;
@@ -18,95 +26,88 @@ fn push_fact(html: &mut String, name: &str, value: &str, more: &str) -> Result<(
     html.push_str("</div>\n")
 }
 
+/// Writes the name of a fact that is a count, and the count.
+fn push_number(html: &mut String, name: &str, count: u64) -> Result<(), AllocError> {
+    write!(
+        html,
+        "<div><dt>{name}</dt><dd><b data-count=\"{count}\">{count}</b></dd>"
+    )
+}
+
+/// Writes which part of all calls these are, and how long they took.
+fn push_share(html: &mut String, share: Share, all: u64) -> Result<(), AllocError> {
+    let part = share.count;
+    let (percent, time) = (Percent { part, all }, Time(share.time));
+    write!(html, "<dd class=\"more\">{percent}, {time}</dd>")
+}
+
 /// Writes how many calls there are of a kind.
-fn push_count(
-    html: &mut String,
-    alloc: Global,
-    build: &Build,
-    name: &str,
-    kind: Kind,
-) -> Result<(), AllocError> {
-    let share = build.sums.share(kind);
-    let count = share.count;
-    let percent = Percent {
-        part: count,
-        all: build.sums.calls,
-    };
-    let time = Time(share.time);
-    let value = format!(in alloc; "<b data-count=\"{count}\">{count}</b>")?;
-    let more = match count {
-        0 => String::new(alloc),
-        _ => format!(in alloc; "{percent}, {time}")?,
-    };
-    push_fact(html, name, value.as_str(), more.as_str())
+fn push_count(html: &mut String, sums: &Sums, name: &str, kind: Kind) -> Result<(), AllocError> {
+    let share = sums.share(kind);
+    push_number(html, name, share.count)?;
+    if share.count > 0 {
+        push_share(html, share, sums.calls)?;
+    }
+    html.push_str("</div>\n")
+}
+
+/// Writes how many calls there are, and of each kind.
+fn push_counts(html: &mut String, sums: &Sums) -> Result<(), AllocError> {
+    push_number(html, "Calls", sums.calls)?;
+    html.push_str("</div>\n")?;
+    for (name, kind) in COUNTS.as_slice() {
+        push_count(html, sums, name, *kind)?;
+    }
+    match sums.share(Kind::Other).count {
+        0 => Ok(()),
+        _ => push_count(html, sums, "Other commands", Kind::Other),
+    }
 }
 
 /// Writes a time.
-fn push_time(
-    html: &mut String,
-    alloc: Global,
-    name: &str,
-    time: u64,
-    more: &str,
-) -> Result<(), AllocError> {
+fn push_time(html: &mut String, name: &str, time: u64, more: &str) -> Result<(), AllocError> {
     let time = Time(time);
-    let value = format!(in alloc; "{time}")?;
-    push_fact(html, name, value.as_str(), more)
+    write!(html, "<div><dt>{name}</dt><dd>{time}</dd>")?;
+    push_more(html, more)
 }
 
 /// Writes what was saved, and of how many hits that isn't known.
-fn push_saved(html: &mut String, alloc: Global, build: &Build) -> Result<(), AllocError> {
-    let unknown = build.sums.unknown;
-    let more = match unknown {
-        0 => String::from_str(alloc, "of compilers, by hits")?,
-        _ => format!(in alloc; "of compilers, by hits; unknown of {unknown}")?,
-    };
-    push_time(html, alloc, "Time saved", build.sums.saved, more.as_str())
+fn push_saved(html: &mut String, alloc: Global, sums: &Sums) -> Result<(), AllocError> {
+    let unknown = sums.unknown;
+    if unknown == 0 {
+        return push_time(html, "Time saved", sums.saved, "of compilers, by hits");
+    }
+    let more = format!(in alloc; "of compilers, by hits; unknown of {unknown}")?;
+    push_time(html, "Time saved", sums.saved, more.as_str())
+}
+
+/// Writes the times of a build.
+fn push_times(html: &mut String, alloc: Global, sums: &Sums) -> Result<(), AllocError> {
+    let more = "in all, of all jobs";
+    push_time(html, "Wall time", sums.wall_time(), "")?;
+    push_time(html, "Compilers", sums.compilers, more)?;
+    push_time(html, "Preprocessors", sums.preprocessors, more)?;
+    push_saved(html, alloc, sums)
 }
 
 /// Writes the longest miss, where there is one.
-fn push_longest(html: &mut String, alloc: Global, build: &Build) -> Result<(), AllocError> {
-    let misses = build.calls.iter().filter(|call| call.kind == Kind::Miss);
-    let Some(call) = misses.max_by_key(|call| call.time()) else {
-        return push_fact(html, "Longest miss", "none", "");
-    };
-    let name = name_of(&build.texts, call);
-    push_time(html, alloc, "Longest miss", call.time(), name)
+fn push_longest(html: &mut String, build: &Build) -> Result<(), AllocError> {
+    match build.longest_of(&[Kind::Miss]) {
+        Some(call) => {
+            let name = name_of(&build.texts, call);
+            push_time(html, "Longest miss", call.time(), name)
+        }
+        None => html.push_str("<div><dt>Longest miss</dt><dd>none</dd></div>\n"),
+    }
 }
 
 /// Writes the sums of a build.
 pub fn push_summary(html: &mut String, alloc: Global, build: &Build) -> Result<(), AllocError> {
-    let sums = &build.sums;
-    let calls = sums.calls;
     html.push_str(
         "<section aria-labelledby=\"sums\">\n<h2 id=\"sums\">Summary</h2>\n<dl class=\"facts\">\n",
     )?;
-    let value = format!(in alloc; "<b data-count=\"{calls}\">{calls}</b>")?;
-    push_fact(html, "Calls", value.as_str(), "")?;
-    push_count(html, alloc, build, "Direct hits", Kind::Direct)?;
-    push_count(html, alloc, build, "Hits by text", Kind::ByText)?;
-    push_count(html, alloc, build, "Misses", Kind::Miss)?;
-    push_count(html, alloc, build, "Uncacheable", Kind::Uncacheable)?;
-    push_count(html, alloc, build, "Failures of gulmaat", Kind::Failure)?;
-    if sums.share(Kind::Other).count > 0 {
-        push_count(html, alloc, build, "Other commands", Kind::Other)?;
-    }
-    push_time(html, alloc, "Wall time", sums.wall_time(), "")?;
-    push_time(
-        html,
-        alloc,
-        "Compilers",
-        sums.compilers,
-        "in all, of all jobs",
-    )?;
-    push_time(
-        html,
-        alloc,
-        "Preprocessors",
-        sums.preprocessors,
-        "in all, of all jobs",
-    )?;
-    push_saved(html, alloc, build)?;
-    push_longest(html, alloc, build)?;
+    push_counts(html, &build.sums)?;
+    push_times(html, alloc, &build.sums)?;
+    push_longest(html, build)?;
     html.push_str("</dl>\n</section>\n")
 }
