@@ -3,6 +3,7 @@
 ghost use Rattle.std.specs.Prelude.{◌≡◌};
 
 use crate::search_list::SearchList;
+use crate::texts::behind_one;
 use crate::unwatched::Unwatched;
 use crate::watch_list::holds;
 use crate::watching::Watching;
@@ -11,7 +12,7 @@ use base_formats::{put_framed, read_framed};
 use cache_dir::{Kind, digest_of, state_of};
 use cache_host::{CommandLine, Host, LETTERS, Said, messages_of, push_words};
 use cache_known_options::{PlacedWords, is_read};
-use std::alloc::Global;
+use std::alloc::{AllocError, Global};
 use std::io::Read;
 use std::rt::Files;
 
@@ -27,8 +28,8 @@ const VERSION: &[u8] = b"2";
 /// Whether a word that is no value says where files are looked for.
 fn says_where(word: &[u8]) -> bool {
     word.starts_with(b"-")
-        && !FRONTS.iter().any(|front| word.starts_with(front))
-        && !STEPS.iter().any(|step| word == *step)
+        && behind_one(word, &FRONTS).is_none()
+        && !STEPS.contains(&word)
         && !word.starts_with(b"-Wp,")
 }
 
@@ -52,28 +53,59 @@ fn asking_words(
     Ok(asking)
 }
 
+/// Adds the state of the compiler's file.
+fn put_state<R: Files + AllocGlobal>(
+    rt: &R,
+    line: &CommandLine,
+    row: &mut Vec<u8>,
+) -> Result<(), Unwatched> {
+    let paths = [line.executable.clone()?];
+    put_framed(row, state_of(rt, &paths)?.as_bytes())?;
+    Ok(())
+}
+
+/// Adds these words, with an empty one behind them.
+fn put_words(words: &[OsBytes], row: &mut Vec<u8>) -> Result<(), AllocError> {
+    for word in words {
+        put_framed(row, word.as_bytes())?;
+    }
+    put_framed(row, b"")
+}
+
+/// Adds the variables that a compiler reads.
+fn put_variables(line: &CommandLine, row: &mut Vec<u8>) -> Result<(), AllocError> {
+    for (name, value) in line.env.as_slice() {
+        if is_read(name.as_bytes()) {
+            put_framed(row, name.as_bytes())?;
+            put_framed(row, value.as_bytes())?;
+        }
+    }
+    Ok(())
+}
+
+/// Adds all by which the compiler may look elsewhere: itself, its folder, its words and its variables.
+fn put_call<R: Files + AllocGlobal>(
+    rt: &R,
+    line: &CommandLine,
+    words: &[OsBytes],
+    row: &mut Vec<u8>,
+) -> Result<(), Unwatched> {
+    put_framed(row, VERSION)?;
+    put_state(rt, line, row)?;
+    put_framed(row, line.dir.as_bytes())?;
+    put_words(words, row)?;
+    put_variables(line, row)?;
+    Ok(())
+}
+
 /// The name under which it is kept where the compiler looks by these words.
 fn name_of<R: Files + AllocGlobal>(
     rt: &R,
     line: &CommandLine,
     words: &[OsBytes],
 ) -> Result<String, Unwatched> {
-    let mut paths = Vec::new(rt.alloc());
-    paths.push(line.executable.clone()?)?;
     let mut row = Vec::new(rt.alloc());
-    put_framed(&mut row, VERSION)?;
-    put_framed(&mut row, state_of(rt, paths.as_slice())?.as_bytes())?;
-    put_framed(&mut row, line.dir.as_bytes())?;
-    for word in words {
-        put_framed(&mut row, word.as_bytes())?;
-    }
-    put_framed(&mut row, b"")?;
-    for (name, value) in line.env.as_slice() {
-        if is_read(name.as_bytes()) {
-            put_framed(&mut row, name.as_bytes())?;
-            put_framed(&mut row, value.as_bytes())?;
-        }
-    }
+    put_call(rt, line, words, &mut row)?;
     Ok(digest_of(rt.alloc(), row.as_slice())?)
 }
 

@@ -15,14 +15,19 @@ pub struct EnteredNames<'a> {
 /// What a marker ends its name with by which a file is entered.
 const ENTERS: &[u8] = b"\" 1";
 
+/// What comes after the number and the quote at the front of these bytes.
+fn quoted_in(number: &[u8]) -> Option<&[u8]> {
+    for (at, byte) in number.iter().enumerate() {
+        if !byte.is_ascii_digit() {
+            return number.get(at..)?.strip_prefix(b" \"");
+        }
+    }
+    None
+}
+
 /// The name in a line, where that is a marker by which a file is entered.
 fn entered_in(line: &[u8]) -> Option<&[u8]> {
-    let number = line.strip_prefix(b"# ")?;
-    let digits = number
-        .iter()
-        .take_while(|byte| byte.is_ascii_digit())
-        .count();
-    let quoted = number.get(digits..)?.strip_prefix(b" \"")?;
+    let quoted = quoted_in(line.strip_prefix(b"# ")?)?;
     quoted.get(..memmem::rfind(quoted, ENTERS)?)
 }
 

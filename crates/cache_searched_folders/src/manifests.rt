@@ -77,6 +77,33 @@ fn is_of_folder(list: &[u8], dir: &[u8]) -> bool {
     }
 }
 
+/// Adds a row.
+fn put_row(row: Row<'_>, out: &mut Vec<u8>) -> Result<(), AllocError> {
+    put_framed(out, row.key)?;
+    put_framed(out, row.list)
+}
+
+/// Adds a new row for a call in that folder, then the rows of these keys without those that it replaces.
+fn put_rows(
+    new: Row<'_>,
+    rows: &[Row<'_>],
+    keys: &HashSet<&[u8]>,
+    dir: &[u8],
+    out: &mut Vec<u8>,
+) -> Result<(), AllocError> {
+    put_row(new, out)?;
+    let mut count: usize = 1;
+    for row in rows {
+        let is_replaced = row.key == new.key && (is_of_folder(row.list, dir) || count >= MOST);
+        if is_replaced || !(&*keys).contains(&row.key) {
+            continue;
+        }
+        count = count.saturating_add(usize::from(row.key == new.key));
+        put_row(*row, out)?;
+    }
+    Ok(())
+}
+
 /// The lists with this one of the result of that key, for a call in that folder, ahead of those that the manifest's results had.
 pub fn with_list(
     alloc: Global,
@@ -87,19 +114,9 @@ pub fn with_list(
     list: &[u8],
 ) -> Result<Vec<u8>, AllocError> {
     let keys = keys_of(alloc, entry)?;
+    let rows = rows_of(alloc, watched)?;
     let mut out = Vec::new(alloc);
-    put_framed(&mut out, key)?;
-    put_framed(&mut out, list)?;
-    let mut count: usize = 1;
-    for row in rows_of(alloc, watched)? {
-        let is_replaced = row.key == key && (is_of_folder(row.list, dir) || count >= MOST);
-        if is_replaced || !(&keys).contains(&row.key) {
-            continue;
-        }
-        count = count.saturating_add(usize::from(row.key == key));
-        put_framed(&mut out, row.key)?;
-        put_framed(&mut out, row.list)?;
-    }
+    put_rows(Row { key, list }, rows.as_slice(), &keys, dir, &mut out)?;
     Ok(out)
 }
 

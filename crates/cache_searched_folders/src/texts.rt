@@ -26,6 +26,9 @@ const OWN_WAYS: [&[u8]; 6] = [
     b"-I-",
 ];
 
+/// The options that take in a file before the input.
+const TAKING_IN: [&[u8]; 2] = [b"-include", b"-imacros"];
+
 /// What GCC takes in before all else.
 const PREDEFINED: &[u8] = b"stdc-predef.h";
 
@@ -34,6 +37,16 @@ const PREDEFINED: &[u8] = b"stdc-predef.h";
 pub struct Source<'a> {
     pub path: &'a str,
     pub contents: &'a [u8],
+}
+
+/// What comes after the first one of these at the front of a word.
+pub(crate) fn behind_one<'a>(word: &'a [u8], fronts: &[&[u8]]) -> Option<&'a [u8]> {
+    for front in fronts {
+        if let Some(rest) = word.strip_prefix(*front) {
+            return Some(rest);
+        }
+    }
+    None
 }
 
 /// What each source asks for, in their order.
@@ -178,12 +191,11 @@ fn search_all<'a, R: Files + AllocGlobal>(
 /// The file that a word takes in before the input, by an option before it or as one that has the name in it.
 fn taken_in(placed: Placed<'_>) -> Option<&[u8]> {
     let word = placed.word.as_bytes();
-    let options = [b"-include".as_slice(), b"-imacros".as_slice()];
     match placed.option {
-        Some(option) if options.contains(&option.as_bytes()) => Some(word),
+        Some(option) if TAKING_IN.contains(&option.as_bytes()) => Some(word),
         Some(_) => None,
         None if placed.takes_value() => None,
-        None => options.iter().find_map(|option| word.strip_prefix(*option)),
+        None => behind_one(word, &TAKING_IN),
     }
 }
 
@@ -207,11 +219,12 @@ fn search_words<R: Files + AllocGlobal>(
 
 /// Whether words have a compiler find files in a way of its own.
 fn are_own_ways(words: &[OsBytes]) -> bool {
-    words.iter().any(|word| {
-        OWN_WAYS
-            .iter()
-            .any(|front| word.as_bytes().starts_with(front))
-    })
+    for word in words {
+        if behind_one(word.as_bytes(), &OWN_WAYS).is_some() {
+            return true;
+        }
+    }
+    false
 }
 
 /// Takes all files that the text names.

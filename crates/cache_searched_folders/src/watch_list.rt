@@ -9,7 +9,7 @@ use base_files::{FileTime, OsBytes};
 use base_formats::{ReadFault, put_framed, put_number, read_framed, read_number};
 use cache_dir::digest_of;
 use cache_disk::{Found, State, found_at, read_of_size};
-use std::alloc::AllocError;
+use std::alloc::{AllocError, Global};
 use std::collections::BTreeSet;
 use std::fs;
 use std::rt::Files;
@@ -214,17 +214,44 @@ fn folder_holds<'a, R: Files + AllocGlobal>(
     Ok((holds, rest))
 }
 
-/// The digest of the names in a folder, as text.
-fn names_in<R: Files + AllocGlobal>(rt: &R, path: &str) -> Result<String, Unwatched> {
-    let mut names = BTreeSet::new(rt.alloc());
-    for entry in fs::read_dir(&rt, path)? {
-        names.insert(OsBytes::from_slice(rt.alloc(), entry?.file_name().as_bytes())?)?;
+/// Adds a name.
+fn add_name(alloc: Global, name: &str, names: &mut BTreeSet<OsBytes>) -> Result<(), Unwatched> {
+    names.insert(OsBytes::from_slice(alloc, name.as_bytes())?)?;
+    Ok(())
+}
+
+/// Adds the names in a folder.
+fn add_names<R: Files + AllocGlobal>(
+    rt: &R,
+    path: &str,
+    names: &mut BTreeSet<OsBytes>,
+) -> Result<(), Unwatched> {
+    let Ok(entries) = fs::read_dir(&rt, path) else {
+        return Err(Unwatched::Device);
+    };
+    for entry in entries {
+        let Ok(entry) = entry else {
+            return Err(Unwatched::Device);
+        };
+        add_name(rt.alloc(), entry.file_name(), names)?;
     }
-    let mut row = Vec::new(rt.alloc());
+    Ok(())
+}
+
+/// The digest of names, as text.
+fn digest_of_names(alloc: Global, names: &BTreeSet<OsBytes>) -> Result<String, Unwatched> {
+    let mut row = Vec::new(alloc);
     for name in names.iter() {
         put_framed(&mut row, name.as_bytes())?;
     }
-    Ok(digest_of(rt.alloc(), row.as_slice())?)
+    Ok(digest_of(alloc, row.as_slice())?)
+}
+
+/// The digest of the names in a folder, as text.
+fn names_in<R: Files + AllocGlobal>(rt: &R, path: &str) -> Result<String, Unwatched> {
+    let mut names = BTreeSet::new(rt.alloc());
+    add_names(rt, path, &mut names)?;
+    digest_of_names(rt.alloc(), &names)
 }
 
 /// The digest of the contents of a file, as text, or that of the names in a folder.

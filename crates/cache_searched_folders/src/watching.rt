@@ -2,7 +2,7 @@
 
 use crate::search_list::SearchList;
 use crate::unwatched::Unwatched;
-use crate::watch_list::{Folder, contents_at};
+use crate::watch_list::{FileRow, Folder, contents_at};
 use base_files::{FileTime, join};
 use base_formats::{put_framed, put_number};
 use cache_dir::digest_of;
@@ -413,17 +413,25 @@ impl<'d, 'a> Watching<'d, 'a> {
         Ok(())
     }
 
-    /// The list of what is watched.
-    pub fn into_list(self, alloc: Global) -> Result<Vec<u8>, Unwatched> {
+    /// The folder of the call, the folders and the files.
+    fn list(&self, alloc: Global) -> Result<Vec<u8>, Unwatched> {
         let mut out = Vec::new(alloc);
         put_framed(&mut out, self.dir)?;
         self.put_folders(alloc, &mut out)?;
         put_number(&mut out, self.files.len() as u64)?;
-        for (path, file) in self.files.iter() {
-            put_framed(&mut out, path.as_bytes())?;
-            file.0.put(&mut out)?;
-            put_framed(&mut out, file.1.as_bytes())?;
+        for (path, (state, digest)) in self.files.iter() {
+            let row = FileRow {
+                path: path.as_bytes(),
+                state: *state,
+                digest: digest.as_bytes(),
+            };
+            row.put(&mut out)?;
         }
         Ok(out)
+    }
+
+    /// The list of what is watched.
+    pub fn into_list(self, alloc: Global) -> Result<Vec<u8>, Unwatched> {
+        self.list(alloc)
     }
 }
