@@ -1,4 +1,4 @@
-"""The program of `crates/tests_bench_calls`: builds it where need be, and times calls of it and of its peers."""
+"""The program of `crates/tests_calls`: builds it where need be, and times calls of it and of its peers."""
 
 import os
 import statistics
@@ -9,8 +9,8 @@ from pathlib import Path
 from timing import in_turn, run, stop
 
 TOP = Path(__file__).resolve().parent.parent
-CRATE = TOP / "crates" / "tests_bench_calls"
-PROGRAM = CRATE / "out" / "tests_bench_calls"
+CRATE = TOP / "crates" / "tests_calls"
+PROGRAM = CRATE / "out" / "tests_calls"
 
 # A call's time is the difference of a run with many repeats and a run with few, so that start and reading don't count.
 FEW, MANY = 1, 11

@@ -22,7 +22,6 @@ PAIRS_A_BYTE = 256
 LINES = re.compile(rb"(?s)(?:1 (?:pass|fresh|stored|direct|fault)\b.*\n)?compiles [0-9]+\n")
 REFUSALS = {
     "sccache_wrap": rb"sccache-wrap: (?:scenario cannot be read|memory)\n",
-    "sccache_explain": rb"sccache-explain: (?:scenario cannot be read|memory)\n",
     "sccache_report": rb"sccache-report: [^\n]+\n",
 }
 
@@ -141,13 +140,16 @@ class Part:
 
 
 class Scenarios(Part):
-    """Scenarios, with their response files, texts with markers and texts on dependencies, changed as text or in one of their members."""
+    """Scenarios, with their response files, texts with markers and texts on dependencies, changed as text or in one of their members. They
+    are run with these arguments."""
 
     weighty = ("files", "words", "dep_info", "file_names", "env", "archives", "text", "hex", "basedirs", "zone", "version")
 
-    def __init__(self, program):
-        self.program = program
-        rows = texts_of("crates/sccache_wrap/cases") + texts_of("crates/sccache_explain/cases")
+    program = "sccache_wrap"
+
+    def __init__(self, words):
+        self.words = words
+        rows = texts_of("crates/sccache_wrap/cases")
         rows += sorted(Path(TOP, "examples").glob("*.json"))
         self.rows = [row.read_bytes() for row in rows]
 
@@ -174,7 +176,7 @@ class Scenarios(Part):
         while True:
             data, made = self.scenario(random, random.choice(self.rows))
             if made <= MOST_MADE:
-                return [], data, len(data) + made
+                return self.words, data, len(data) + made
 
     def fault(self, ended):
         """What is wrong with how it ended, or nothing."""

@@ -1,7 +1,8 @@
-//! The program `sccache-wrap`: reads a scenario from standard input and prints what its requests are answered.
+//! The program `sccache-wrap`: reads a scenario from standard input and prints what its requests are answered. With `--explain` as its first
+//! argument it also prints why they were compiled.
 #![tactic(auto)]
 
-use sccache_scenarios::{RunFault, run};
+use sccache_scenarios::{RunFault, run, run_explained};
 use std::io::{BufWriter, ErrorKind};
 use std::process::ExitCode;
 use std::rt::Env;
@@ -29,7 +30,12 @@ fn run_on<R: Print + Input + Env + AllocGlobal>(rt: &R) -> Result<(), RunFault> 
     let Ok(mut writer) = BufWriter::new(alloc, io::writer(rt)) else {
         return Err(RunFault::Memory);
     };
-    run(alloc, args.as_slice(), &mut reader, &mut writer)
+    match args.as_slice() {
+        [option, rest @ ..] if option.as_str() == "--explain" => {
+            run_explained(alloc, rest, &mut reader, &mut writer)
+        }
+        words => run(alloc, words, &mut reader, &mut writer),
+    }
 }
 
 /// An argument that is no UTF-8 is an argument all the same.

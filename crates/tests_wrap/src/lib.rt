@@ -1,13 +1,20 @@
 //! Tests of sessions over recorded answers, and of what is written over `wrap` alone: what is answered, what is run, and what is lacking; of
-//! a difference between fingerprints; and of a store of many pairs.
+//! a difference between fingerprints; and of a store of many pairs. And tests of the program over scenarios: each way in which a run ends,
+//! each call of its reader and writer failing in turn, and runs that accept running out of memory.
 #![tactic(auto)]
 
 #[cfg(test)]
 mod builds;
 #[cfg(test)]
+mod bytewise;
+#[cfg(test)]
 mod map_store;
 #[cfg(test)]
 mod marks;
+#[cfg(test)]
+mod program;
+#[cfg(test)]
+mod refused;
 #[cfg(test)]
 mod requests;
 #[cfg(test)]

@@ -1,4 +1,4 @@
-//! How a difference is reported that no row of `sccache_explain` shows: one in an output's mark alone. Only by its words does a request
+//! How a difference is reported that no row of `sccache-explain` shows: one in an output's mark alone. Only by its words does a request
 //! have an output that its compile may leave out, and where words differ that is reported.
 
 use crate::requests::one_output;

@@ -2,7 +2,7 @@ use Rattle.std.proofs.Common.{◌≡◌, ◌++◌}
 use Rattle.cmdlines_response_texts.specs.Decoding.{decoded}
 use Rattle.cmdlines_response_texts.specs.Left.{text_left}
 use Rattle.cmdlines_response_texts.specs.Scanning.{msvc_arguments}
-use Rattle.tests_bench_calls.proofs.words.split_msvc.Given as goal
+use Rattle.tests_calls.proofs.words.split_msvc.Given as goal
 
 -- the arguments so far, and those of the text that is left
 abbrev pub invariant-loop-argument : goal.invariant-loop-argument

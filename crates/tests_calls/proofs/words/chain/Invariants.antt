@@ -1,5 +1,5 @@
 use Rattle.std.proofs.Common.{◌≡◌, length}
-use Rattle.tests_bench_calls.proofs.words.chain.Given as goal
+use Rattle.tests_calls.proofs.words.chain.Given as goal
 
 -- a text for each number so far
 abbrev pub invariant-loop-number : goal.invariant-loop-number

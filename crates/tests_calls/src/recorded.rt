@@ -58,15 +58,32 @@ fn all_includes(alloc: Global, digest: &str) -> Result<Listed<IncludeEntry>, All
     Ok(Listed::from_vec(includes))
 }
 
+/// The digest of each file.
+fn digest_of_contents(alloc: Global) -> Result<String, AllocError> {
+    let contents = contents(alloc)?;
+    let mut digest: Digest<Sha256> = Digest::new();
+    digest.update(contents.as_slice());
+    digest.finish(alloc)
+}
+
+/// Records a result of that number over all files, whose digest this is.
+fn add_result(
+    alloc: Global,
+    record: &mut PreprocessorCacheEntry,
+    number: u32,
+    digest: &str,
+) -> Result<(), AllocError> {
+    let includes = all_includes(alloc, digest)?;
+    let key = KeyText::new(format!(in alloc; "{number}")?);
+    record.add_result(key, includes)
+}
+
 /// A record of so many results.
 fn record_of(alloc: Global, results: u32) -> Result<PreprocessorCacheEntry, AllocError> {
-    let mut digest: Digest<Sha256> = Digest::new();
-    digest.update(contents(alloc)?.as_slice());
-    let digest = digest.finish(alloc)?;
+    let digest = digest_of_contents(alloc)?;
     let mut record = PreprocessorCacheEntry::new(alloc);
     for number in 0..results {
-        let key = KeyText::new(format!(in alloc; "{number}")?);
-        record.add_result(key, all_includes(alloc, digest.as_str())?)?;
+        add_result(alloc, &mut record, number, digest.as_str())?;
     }
     Ok(record)
 }

@@ -1,6 +1,7 @@
 //! Calls on keys and on what is recorded: it is compared and counted.
 
-use crate::{Stop, say_ready};
+use super::say_ready;
+use crate::Fault;
 use base_files::{Listed, OsBytes};
 use ckeys_include_records::{IncludeEntry, KeyText, PreprocessorCacheEntry};
 use ckeys_records::shape::CShape;
@@ -12,7 +13,7 @@ use wrap_fingerprints::explain::explain;
 use wrap_fingerprints::{CParts, Fingerprint, Part};
 
 /// Comparisons of keys that differ in their last field.
-pub(crate) fn compare_keys<R: Eprint + AllocGlobal>(rt: &R) -> Result<bool, Stop> {
+pub(crate) fn compare_keys<R: Eprint + AllocGlobal>(rt: &R) -> Result<bool, Fault> {
     let keys = two_keys(rt.alloc())?;
     say_ready(rt);
     let [held, other] = keys.as_slice() else {
@@ -55,7 +56,7 @@ pub(crate) fn compare_moments<R: Eprint>(rt: &R) -> bool {
 }
 
 /// `number_of_entries` of a record whose one text named one file.
-pub(crate) fn count_includes<R: Eprint + AllocGlobal>(rt: &R) -> Result<bool, Stop> {
+pub(crate) fn count_includes<R: Eprint + AllocGlobal>(rt: &R) -> Result<bool, Fault> {
     let record = include_record(rt.alloc())?;
     say_ready(rt);
     Ok(record.number_of_entries() == 1)
@@ -87,7 +88,7 @@ fn digest_text(alloc: Global, text: &str) -> Result<KeyText, AllocError> {
 }
 
 /// `explain` of fingerprints that differ in their text, and of one and the same.
-pub(crate) fn explain_fingerprints<R: Eprint + AllocGlobal>(rt: &R) -> Result<bool, Stop> {
+pub(crate) fn explain_fingerprints<R: Eprint + AllocGlobal>(rt: &R) -> Result<bool, Fault> {
     let fingerprints = two_fingerprints(rt.alloc())?;
     say_ready(rt);
     let [one, other] = fingerprints.as_slice() else {

@@ -1,6 +1,7 @@
 //! Calls on words of commands: options are looked up in a table and in a tree, and what is read of words is asked.
 
-use crate::{Stop, say_ready};
+use super::say_ready;
+use crate::Fault;
 use base_files::{Listed, OsBytes};
 use cmdlines::uncached_words;
 use cmdlines_base::{
@@ -14,14 +15,14 @@ use std::alloc::{AllocError, Global};
 use tests_kit::words;
 
 /// `search` and `check` of a table.
-pub(crate) fn table<R: Eprint + AllocGlobal>(rt: &R) -> Result<bool, Stop> {
+pub(crate) fn table<R: Eprint + AllocGlobal>(rt: &R) -> Result<bool, Fault> {
     let table = gnu_table(rt.alloc())?;
     say_ready(rt);
     Ok(finds_options(&table))
 }
 
 /// `search`, `search_counted` and `check` of a tree.
-pub(crate) fn tree<R: Eprint + AllocGlobal>(rt: &R) -> Result<bool, Stop> {
+pub(crate) fn tree<R: Eprint + AllocGlobal>(rt: &R) -> Result<bool, Fault> {
     let tree = compiler_tree(rt.alloc(), CCompilerKind::Gcc)?;
     say_ready(rt);
     Ok(finds_options(&tree) && counts_steps(&tree))
@@ -48,7 +49,7 @@ fn is_include_flag(found: Option<&ArgInfo<ArgData>>) -> bool {
 }
 
 /// `normalize`, `flag_str` and `get_data` of an argument whose value may be joined or separate.
-pub(crate) fn argument<R: Eprint + AllocGlobal>(rt: &R) -> Result<bool, Stop> {
+pub(crate) fn argument<R: Eprint + AllocGlobal>(rt: &R) -> Result<bool, Fault> {
     let value = OsBytes::from_slice(rt.alloc(), b"inc")?;
     say_ready(rt);
     let argument = Argument::WithValue("-I", value, ArgDisposition::CanBeSeparated(None));
@@ -71,7 +72,7 @@ fn stands_apart(argument: &Argument<OsBytes>) -> bool {
 }
 
 /// `empty_value` of a request in which one was read.
-pub(crate) fn empty_value<R: Eprint + AllocGlobal>(rt: &R) -> Result<bool, Stop> {
+pub(crate) fn empty_value<R: Eprint + AllocGlobal>(rt: &R) -> Result<bool, Fault> {
     let request = request(rt.alloc())?;
     say_ready(rt);
     Ok(uncached_words::empty_value(&request))
@@ -103,7 +104,7 @@ fn request(alloc: Global) -> Result<ParsedArguments, AllocError> {
 }
 
 /// `opens_file` of a command with a response file.
-pub(crate) fn file_of_words<R: Eprint + AllocGlobal>(rt: &R) -> Result<bool, Stop> {
+pub(crate) fn file_of_words<R: Eprint + AllocGlobal>(rt: &R) -> Result<bool, Fault> {
     let command = words(rt.alloc(), "-c @a.rsp")?;
     say_ready(rt);
     Ok(uncached_words::opens_file(command.as_slice(), CCompilerKind::Gcc))

@@ -1,5 +1,5 @@
 use Rattle.std.proofs.Common.{◌≡◌, length}
-use Rattle.tests_bench_calls.proofs.words.copy.Given as goal
+use Rattle.tests_calls.proofs.words.copy.Given as goal
 
 -- a copy of each text so far
 abbrev pub invariant-loop-text : goal.invariant-loop-text

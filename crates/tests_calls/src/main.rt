@@ -1,8 +1,10 @@
-//! The program that `bench/run` times. On a file it copies the bytes, strips folders from them, splits them into words,
-//! walks over their markers or digests them; words in a file it cuts by a compiler's tree or tables, parses or copies; on a chain
-//! of files in memory, each of which names the next one, it opens the chain or copies it; and it makes trees, and looks into include
-//! records, makes keys, looks into stores, and reads and writes texts on dependencies and bytes of rustc's keys: as often as it is
-//! asked. It prints one line of what the last call gave.
+//! The program that `bench/run` times, and whose allocations `bin/refusals` refuses. On a file it copies the bytes, strips folders from them,
+//! splits them into words, walks over their markers or digests them; words in a file it cuts by a compiler's tree or tables, parses or
+//! copies; on a chain of files in memory, each of which names the next one, it opens the chain or copies it; and it makes trees, and looks
+//! into include records, makes keys, looks into stores, and reads and writes texts on dependencies and bytes of rustc's keys: as often as it
+//! is asked. It prints one line of what the last call gave.
+//!
+//! With the argument `rows` alone it makes calls that take no memory, by rows that it reads from standard input.
 #![tactic(auto)]
 
 ghost use Rattle.std.specs.Prelude.{◌≡◌, IfOk, length};
@@ -15,6 +17,7 @@ mod recorded;
 mod rustc;
 mod stores;
 mod walking;
+mod without_memory;
 mod words;
 
 use crate::commands::{parses, table_cuttings, tree_cuttings, trees, word_copies};
@@ -23,6 +26,7 @@ use crate::recorded::{file_digests, look_ups};
 use crate::rustc::{key_copies, key_readings, key_writings, rewritings, source_readings};
 use crate::stores::{bounded_turns, map_turns};
 use crate::walking::{byte_searches, marker_tallies, walks};
+use crate::without_memory::make_calls;
 use crate::words::{Tally, chain_copies, gnu_splittings, msvc_splittings, openings};
 use base_blake2::Blake2b256;
 use base_files::OsBytes;
@@ -46,16 +50,22 @@ const FAILED: u8 = 2;
 #[derive(Debug, Drop, Error)]
 enum Fault {
     /// The words aren't those that are wanted.
-    #[error("bench_calls: wanted are a work, a number of repeats, a file, a number of files, results or pairs, or a compiler, and folders, a file of names or a compiler")]
+    #[error("tests_calls: wanted are `rows`, or a work, a number of repeats, a file, a number of files, results or pairs, or a compiler, and folders, a file of names or a compiler")]
     Words,
     /// The file can't be read.
-    #[error("bench_calls: the file cannot be read")]
+    #[error("tests_calls: the file cannot be read")]
     File,
+    /// Standard input can't be read.
+    #[error("tests_calls: rows cannot be read")]
+    Input,
+    /// A row names no calls.
+    #[error("tests_calls: a row names no calls")]
+    Row,
     /// The line can't be written.
-    #[error("bench_calls: the line cannot be written")]
+    #[error("tests_calls: the line cannot be written")]
     Output,
     /// Out of memory.
-    #[error("bench_calls: out of memory")]
+    #[error("tests_calls: out of memory")]
     Memory,
 }
 
@@ -127,18 +137,29 @@ fn main(rt: HostRuntime) -> ExitCode {
     }
 }
 
-/// Prints the line that the arguments ask for: the work, the number of repeats, what the work is done on, and folders, a file of names
-/// or a compiler.
-fn run_on<R: Print + Files + Env + AllocGlobal>(rt: &R) -> Result<(), Fault> {
+/// Does what the arguments ask for.
+fn run_on<R: Print + Eprint + Input + Files + Env + AllocGlobal>(rt: &R) -> Result<(), Fault> {
     let words: Vec<String> = env::args(rt)
         .map_err(|_error: io::Error| Fault::Words)?
         .skip(1)
         .collect(rt.alloc())?;
-    let [work, repeats, given, others @ ..] = words.as_slice() else {
-        return Err(Fault::Words);
-    };
-    let line = line_for(rt, work, number_of(repeats)?, given, others)?;
-    println!(rt; "{line}").map_err(|_error: io::Error| Fault::Output)
+    do_words(rt, words.as_slice())
+}
+
+/// Makes the calls of rows, or prints the line that the words ask for: the work, the number of repeats, what the work is done on, and
+/// folders, a file of names or a compiler.
+fn do_words<R: Print + Eprint + Input + Files + AllocGlobal>(
+    rt: &R,
+    words: &[String],
+) -> Result<(), Fault> {
+    match words {
+        [word] if word.as_str() == "rows" => make_calls(rt),
+        [work, repeats, given, others @ ..] => {
+            let line = line_for(rt, work, number_of(repeats)?, given, others)?;
+            println!(rt; "{line}").map_err(|_error: io::Error| Fault::Output)
+        }
+        _ => Err(Fault::Words),
+    }
 }
 
 /// Does the work so often on the file of that name, or on a chain of that number of files, and gives its line.
@@ -241,17 +262,26 @@ fn text_line<R: Files + AllocGlobal>(
     given: &String,
     folders: &[String],
 ) -> Result<String, Fault> {
-    let alloc = rt.alloc();
-    let folders = list_of(alloc, folders)?;
+    let folders = list_of(rt.alloc(), folders)?;
     let text = bytes_of(rt, given)?;
-    let line = match work.as_str() {
-        "copy" => line_of(alloc, copies(alloc, &text, repeats)?)?,
-        "strip" => line_of(alloc, strippings(alloc, &text, &folders, repeats)?)?,
-        "key" => keys(alloc, &text, &folders, repeats)?,
-        "digest_text" => text_digests(alloc, &text, repeats)?,
-        _ => copy_digests(alloc, &text, &folders, repeats)?,
-    };
-    Ok(line)
+    Ok(line_on(rt.alloc(), work, repeats, &text, &folders)?)
+}
+
+/// Does the work so often on that text, perhaps without these folders. It owns nothing, so that its ends cost no proof of drops.
+fn line_on(
+    alloc: Global,
+    work: &String,
+    repeats: u32,
+    text: &[u8],
+    folders: &[OsBytes],
+) -> Result<String, AllocError> {
+    match work.as_str() {
+        "copy" => line_of(alloc, copies(alloc, text, repeats)?),
+        "strip" => line_of(alloc, strippings(alloc, text, folders, repeats)?),
+        "key" => keys(alloc, text, folders, repeats),
+        "digest_text" => text_digests(alloc, text, repeats),
+        _ => copy_digests(alloc, text, folders, repeats),
+    }
 }
 
 /// Does the work so often on a store of so many pairs.
@@ -302,16 +332,26 @@ fn word_tally<R: Files + AllocGlobal>(
     given: &String,
     others: &[String],
 ) -> Result<Tally, Fault> {
-    let alloc = rt.alloc();
-    let words = split_gnu_response_file_args(alloc, &bytes_of(rt, given)?)?;
-    let tally = match (work.as_str(), others) {
-        ("by_tree", [kind]) => tree_cuttings(alloc, kind_of(kind)?, &words, repeats)?,
-        ("by_table", [kind]) => table_cuttings(alloc, kind_of(kind)?, &words, repeats)?,
-        ("parse", []) => parses(alloc, &words, repeats)?,
-        ("copy_words", []) => word_copies(alloc, &words, repeats)?,
-        _ => return Err(Fault::Words),
-    };
-    Ok(tally)
+    let text = bytes_of(rt, given)?;
+    let words = split_gnu_response_file_args(rt.alloc(), &text)?;
+    tally_on(rt.alloc(), work, repeats, &words, others)
+}
+
+/// Does the work so often on these words, by the compiler that the other word names where it cuts them.
+fn tally_on(
+    alloc: Global,
+    work: &String,
+    repeats: u32,
+    words: &[OsBytes],
+    others: &[String],
+) -> Result<Tally, Fault> {
+    match (work.as_str(), others) {
+        ("by_tree", [kind]) => Ok(tree_cuttings(alloc, kind_of(kind)?, words, repeats)?),
+        ("by_table", [kind]) => Ok(table_cuttings(alloc, kind_of(kind)?, words, repeats)?),
+        ("parse", []) => Ok(parses(alloc, words, repeats)?),
+        ("copy_words", []) => Ok(word_copies(alloc, words, repeats)?),
+        _ => Err(Fault::Words),
+    }
 }
 
 /// The kind of compiler that the word names.

@@ -1,7 +1,8 @@
 //! Calls of stores that hold one pair.
 
-use crate::keys::{key, two_keys};
-use crate::{Stop, say_ready};
+use super::keys::{key, two_keys};
+use super::say_ready;
+use crate::Fault;
 use base_bounded_store::LruStore;
 use ckeys_base::Store;
 use std::alloc::Global;
@@ -13,24 +14,24 @@ use wrap_base::store_key::StoreKey;
 const VALUE: u64 = 7;
 
 /// The calls of a store in memory.
-pub(crate) fn map_store<R: Eprint + AllocGlobal>(rt: &R) -> Result<bool, Stop> {
+pub(crate) fn map_store<R: Eprint + AllocGlobal>(rt: &R) -> Result<bool, Fault> {
     let mut store = MapStore::new(rt.alloc());
     put(rt.alloc(), &mut store)?;
     has_its_pair(rt, &mut store)
 }
 
 /// The calls of one that has room for one pair.
-pub(crate) fn bounded_store<R: Eprint + AllocGlobal>(rt: &R) -> Result<bool, Stop> {
+pub(crate) fn bounded_store<R: Eprint + AllocGlobal>(rt: &R) -> Result<bool, Fault> {
     let mut store = LruStore::new(rt.alloc(), NonZeroUsize::MIN)?;
     put(rt.alloc(), &mut store)?;
     has_its_pair(rt, &mut store)
 }
 
 /// Puts the value under the first key.
-fn put<S: Store<StoreKey, u64>>(alloc: Global, store: &mut S) -> Result<(), Stop> {
+fn put<S: Store<StoreKey, u64>>(alloc: Global, store: &mut S) -> Result<(), Fault> {
     match store.put(key(alloc, b"held")?, VALUE) {
         Ok(()) => Ok(()),
-        Err(_) => Err(Stop::Memory),
+        Err(_) => Err(Fault::Memory),
     }
 }
 
@@ -38,7 +39,7 @@ fn put<S: Store<StoreKey, u64>>(alloc: Global, store: &mut S) -> Result<(), Stop
 fn has_its_pair<R: Eprint + AllocGlobal, S: Store<StoreKey, u64>>(
     rt: &R,
     store: &mut S,
-) -> Result<bool, Stop> {
+) -> Result<bool, Fault> {
     let keys = two_keys(rt.alloc())?;
     say_ready(rt);
     let [held, other] = keys.as_slice() else {

@@ -1,6 +1,7 @@
 //! Calls on bytes: they are digested, searched and stripped; and one call that takes memory.
 
-use crate::{Stop, say_ready};
+use super::say_ready;
+use crate::Fault;
 use base_files::OsBytes;
 use ckeys_base::{Digest, kept_slices};
 use ckeys_time_macros::TimeMacroFinder;
@@ -34,7 +35,7 @@ fn found_date_alone(finder: &TimeMacroFinder) -> bool {
 }
 
 /// The items of `kept_slices`.
-pub(crate) fn slices<R: Eprint + AllocGlobal>(rt: &R) -> Result<bool, Stop> {
+pub(crate) fn slices<R: Eprint + AllocGlobal>(rt: &R) -> Result<bool, Fault> {
     let folders = words(rt.alloc(), "/p")?;
     say_ready(rt);
     Ok(leaves_the_rest(folders.as_slice()))
@@ -49,7 +50,7 @@ fn leaves_the_rest(folders: &[OsBytes]) -> bool {
 }
 
 /// A word is copied, which takes memory.
-pub(crate) fn copy<R: Eprint + AllocGlobal>(rt: &R) -> Result<bool, Stop> {
+pub(crate) fn copy<R: Eprint + AllocGlobal>(rt: &R) -> Result<bool, Fault> {
     let alloc = rt.alloc();
     say_ready(rt);
     let copy = OsBytes::from_slice(alloc, b"word")?;

@@ -4,6 +4,7 @@ use crate::words::{Tally, copy};
 use base_files::{MemoryFiles, OsBytes};
 use cmdlines::Gcc;
 use cmdlines_base::{ArgInfo, ArgParseError, CompilerArguments, SearchableArgInfo};
+use cmdlines_requests::ParsedArguments;
 use cmdlines_response_files::ParseFault;
 use cmdlines_tables::{ArgData, CCompilerKind, arguments_of, compiler_tree};
 use std::alloc::{AllocError, Global};
@@ -86,6 +87,14 @@ pub(crate) fn parses(alloc: Global, words: &[OsBytes], repeats: u32) -> Result<T
     parses_by(alloc, &gcc, words, repeats)
 }
 
+/// Tallies the options of the preprocessor that a request has.
+fn tally_of(asked: &CompilerArguments<ParsedArguments>) -> Tally {
+    match asked {
+        CompilerArguments::Ok(parsed) => Tally::of(parsed.preprocessor_args.as_slice()),
+        _ => Tally::none(),
+    }
+}
+
 /// Parses the words by this compiler so often.
 fn parses_by(
     alloc: Global,
@@ -97,10 +106,9 @@ fn parses_by(
     let mut files = MemoryFiles::new(alloc);
     let mut last = Tally::none();
     for _ in 0..repeats {
-        last = match gcc.parse_arguments(alloc, words, &dir, &mut files)? {
-            CompilerArguments::Ok(parsed) => Tally::of(parsed.preprocessor_args.as_slice()),
-            _ => Tally::none(),
-        };
+        let asked = gcc.parse_arguments(alloc, words, &dir, &mut files)?;
+        last = tally_of(&asked);
+        drop(asked);
     }
     Ok(last)
 }
