@@ -77,7 +77,9 @@ pub(crate) fn text_of_lines(
     text: &[u8],
 ) -> Result<String, ReportFault> {
     let compilers = Compilers::new(alloc)?;
-    lines_by(alloc, &compilers, compiler, shown, text)
+    let lines = lines_by(alloc, &compilers, compiler, shown, text);
+    drop(compilers);
+    lines
 }
 
 /// The same by these compilers.

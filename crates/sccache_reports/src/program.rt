@@ -49,7 +49,9 @@ fn text_of_report<D: Files>(
     database: &[u8],
 ) -> Result<String, ReportFault> {
     let compilers = Compilers::new(alloc)?;
-    text_by(alloc, disk, &compilers, shape, database)
+    let report = text_by(alloc, disk, &compilers, shape, database);
+    drop(compilers);
+    report
 }
 
 /// The report by these compilers.

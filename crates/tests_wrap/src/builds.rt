@@ -126,7 +126,7 @@ const OTHER: Question = Question {
 };
 
 /// What was recorded, the fault, what is lacking, and the path of what it is to make.
-const LACKING: [(Recorded, &str, &str, &str); 8] = [
+const LACKING: &[(Recorded, &str, &str, &str)] = &[
     (
         Recorded {
             dependencies: DEPENDENCIES_ELSEWHERE,
