@@ -90,7 +90,7 @@ fn fetch_looked_for<D: Files>(
     Ok(is_there)
 }
 
-/// Notes what an entry asks for. What it comes to is owned here alone: it is large, and its type is written out wherever it is alive.
+/// Notes which files an entry asks for, by deciding on it. What it comes to is owned in this function alone, since its drop is costly to prove.
 fn note_asked(
     alloc: Global,
     compilers: &Compilers,
