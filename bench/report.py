@@ -14,7 +14,7 @@ from timing import in_turn, run, stop
 TOP = Path(__file__).resolve().parent.parent
 BUILD = TOP / "bin" / "build"
 REPORTER = TOP / "bin" / "sccache-report"
-PROGRAM = TOP / "crates" / "sccache_report" / "out" / "sccache_report"
+PROGRAM = TOP / "crates" / "sccache_wrap" / "out" / "sccache_wrap"
 
 COUNT, FEWER = 20_000, 2_000
 WORDS, MORE_WORDS = 60, 600
@@ -58,7 +58,7 @@ def wanted(entries):
 
 def build():
     """Has the program proved and built, where it isn't yet."""
-    subprocess.run([str(BUILD), "sccache_report"], check=True, stdout=subprocess.DEVNULL)
+    subprocess.run([str(BUILD), "sccache_wrap"], check=True, stdout=subprocess.DEVNULL)
     answer = subprocess.run([str(REPORTER)], input=b"[]", stdout=subprocess.PIPE)
     if answer.stdout != b"\nentries 0\nkept 0\n":
         stop(f"{REPORTER} printed {answer.stdout}")
@@ -66,7 +66,7 @@ def build():
 
 def reported(file, text):
     """The processor time of a run over that database, which is to print this text."""
-    seconds, printed = run([str(PROGRAM)], source=file)
+    seconds, printed = run([str(PROGRAM), "--report"], source=file)
     if printed != text:
         stop(f"the lines for {file} are others than those that are due")
     return seconds

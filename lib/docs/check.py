@@ -253,7 +253,7 @@ class Check:
         for line, what in wrong:
             self.is_so(False, f"{FORMATS}:{line}", what)
         for file, function, flag in untried():
-            self.is_so(False, "crates/sccache_report/cases", f"no command line has {flag} of {function} of {file}")
+            self.is_so(False, "crates/sccache_wrap/cases/reports", f"no command line has {flag} of {function} of {file}")
 
     def promises(self):
         """Names in backticks with a crate before them, as `wrap::serve`, or with its folder in brackets after them, are defined in that crate."""
@@ -274,8 +274,8 @@ class Check:
                 # (README.md has a compiler's name as its makers write it)
                 said = re.search(rf"\b{kind}\b", read(f"{TOP}/{path}"), re.I if path == "README.md" else 0)
                 self.is_so(said, path, f"lacks the compiler {kind}")
-            lines = glob.glob(f"{TOP}/crates/sccache_report/cases/*/*.{name}")
-            self.is_so(lines, "crates/sccache_report/cases", f"has no row of the compiler {name}")
+            lines = glob.glob(f"{TOP}/crates/sccache_wrap/cases/reports/*/*.{name}")
+            self.is_so(lines, "crates/sccache_wrap/cases/reports", f"has no row of the compiler {name}")
 
     def promise(self, text, crate, place):
         """The names of a text are defined in that crate."""

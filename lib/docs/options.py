@@ -7,7 +7,7 @@ from pictures import TOP
 PATH = "docs/FORMATS.md"
 HEADING = "## The options of the compilers"
 FOLDER = TOP / "crates/cmdlines_tables/src"
-CASES = TOP / "crates/sccache_report/cases"
+CASES = TOP / "crates/sccache_wrap/cases/reports"
 # The tables of each part of the section, by the line above it, with the characters before a flag that it doesn't show.
 PARTS = {
     "Gcc and Clang:": (("tables.rt", "gnu_table", ""),),

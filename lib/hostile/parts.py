@@ -20,10 +20,6 @@ MOST_MADE = 1 << 20
 PAIRS_A_BYTE = 256
 # Reasons hold the words of requests as they are, so a line with a reason may go on after a line end.
 LINES = re.compile(rb"(?s)(?:1 (?:pass|fresh|stored|direct|fault)\b.*\n)?compiles [0-9]+\n")
-REFUSALS = {
-    "sccache_wrap": rb"sccache-wrap: (?:scenario cannot be read|memory)\n",
-    "sccache_report": rb"sccache-report: [^\n]+\n",
-}
 
 
 def number(value):
@@ -60,7 +56,8 @@ KEYS = (
 
 def texts_of(folder, suffix=""):
     """The rows below a folder of cases, with their names."""
-    return [row for row in sorted(Path(TOP, folder).glob("*/*")) if row.suffix not in (".stdout", ".args") and row.name.endswith(suffix)]
+    rows = [row for row in sorted(Path(TOP, folder).glob("*/*")) if row.is_file()]
+    return [row for row in rows if row.suffix not in (".stdout", ".args") and row.name.endswith(suffix)]
 
 
 def dumped(random, value):
@@ -146,6 +143,7 @@ class Scenarios(Part):
     weighty = ("files", "words", "dep_info", "file_names", "env", "archives", "text", "hex", "basedirs", "zone", "version")
 
     program = "sccache_wrap"
+    refusals = re.compile(rb"sccache-wrap: (?:scenario cannot be read|memory)\n")
 
     def __init__(self, words):
         self.words = words
@@ -182,7 +180,7 @@ class Scenarios(Part):
         """What is wrong with how it ended, or nothing."""
         if ended.status == 0:
             return None if LINES.fullmatch(ended.output) else "prints other lines"
-        if ended.status == 2 and re.fullmatch(REFUSALS[self.program], ended.errors) and not ended.output:
+        if ended.status == 2 and self.refusals.fullmatch(ended.errors) and not ended.output:
             return None
         return f"ends with {ended.status}"
 
@@ -209,11 +207,12 @@ class Grown(Part):
 class Databases(Part):
     """Recorded builds, and command lines with the files that they name."""
 
-    program = "sccache_report"
+    program = "sccache_wrap"
+    refusals = re.compile(rb"sccache-report: [^\n]+\n")
 
     def __init__(self):
         self.rows = []
-        for row in texts_of("crates/sccache_report/cases"):
+        for row in texts_of("crates/sccache_wrap/cases/reports"):
             words = []
             if row.suffix != ".json":
                 names = row.name.split(".")
@@ -235,17 +234,17 @@ class Databases(Part):
             words, row = random.choice(self.rows)
             if not words:
                 row = self.build(random, row)
-                return words, row, len(row)
+                return ["--report"], row, len(row)
             row = mutations.mutated(random, row)
             made = made_of_lines(row)
             if made <= MOST_MADE:
-                return words, row, len(row) + made
+                return ["--report", *words], row, len(row) + made
 
     def fault(self, ended):
         """What is wrong with how it ended, or nothing."""
         if ended.status == 0:
             return None
-        if ended.status == 2 and re.fullmatch(REFUSALS[self.program], ended.errors):
+        if ended.status == 2 and self.refusals.fullmatch(ended.errors):
             return None
         return f"ends with {ended.status}"
 
