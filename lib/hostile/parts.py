@@ -252,7 +252,7 @@ class Databases(Part):
 class Bytes(Part):
     """The bytes of include records, or what is hashed of requests to rustc, after three lines with its shape."""
 
-    program = "tests_hostile_runs"
+    program = "tests_calls"
     said = re.compile(rb"(?:a record of [0-9]+ files|the parts of a request|no parts|refused: [^\n]+)\n")
 
     def __init__(self, word):
@@ -261,7 +261,7 @@ class Bytes(Part):
     def make(self, random):
         """The arguments and bytes of an input, and their size."""
         data = mutations.mutated(random, random.choice(self.rows))
-        return [self.word], data, len(data)
+        return ["hostile", self.word], data, len(data)
 
     def fault(self, ended):
         """What is wrong with how it ended, or nothing."""

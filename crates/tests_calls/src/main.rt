@@ -1,10 +1,11 @@
-//! The program that `bench/run` times, and whose allocations `bin/refusals` refuses. On a file it copies the bytes, strips folders from them,
-//! splits them into words, walks over their markers or digests them; words in a file it cuts by a compiler's tree or tables, parses or
-//! copies; on a chain of files in memory, each of which names the next one, it opens the chain or copies it; and it makes trees, and looks
-//! into include records, makes keys, looks into stores, and reads and writes texts on dependencies and bytes of rustc's keys: as often as it
-//! is asked. It prints one line of what the last call gave.
+//! The program that `bench/run` times, whose allocations `bin/refusals` refuses, and that serves hostile runs. On a file it copies the
+//! bytes, strips folders from them, splits them into words, walks over their markers or digests them; words in a file it cuts by a
+//! compiler's tree or tables, parses or copies; on a chain of files in memory, each of which names the next one, it opens the chain or
+//! copies it; and it makes trees, and looks into include records, makes keys, looks into stores, and reads and writes texts on dependencies
+//! and bytes of rustc's keys: as often as it is asked. It prints one line of what the last call gave.
 //!
-//! With the argument `rows` alone it makes calls that take no memory, by rows that it reads from standard input.
+//! With the argument `rows` alone it makes calls that take no memory, by rows that it reads from standard input. With `hostile`, and perhaps
+//! `growths`, `record` or `key` after it, it does what `tests_hostile_runs` does with standard input.
 #![tactic(auto)]
 
 ghost use Rattle.std.specs.Prelude.{◌≡◌, IfOk, length};
@@ -38,6 +39,8 @@ use cmdlines_tables::CCompilerKind;
 use rustc_texts::TextFault;
 use sha2::Sha256;
 use std::alloc::{AllocError, AllocFailed, Global};
+use std::fmt::Display;
+use std::io::ErrorKind;
 use std::process::ExitCode;
 use std::rt::{Env, Files};
 use std::{env, fs, io};
@@ -50,7 +53,7 @@ const FAILED: u8 = 2;
 #[derive(Debug, Drop, Error)]
 enum Fault {
     /// The words aren't those that are wanted.
-    #[error("tests_calls: wanted are `rows`, or a work, a number of repeats, a file, a number of files, results or pairs, or a compiler, and folders, a file of names or a compiler")]
+    #[error("tests_calls: wanted are `rows`, `hostile`, or a work, a number of repeats, a file, a number of files, results or pairs, or a compiler, and folders, a file of names or a compiler")]
     Words,
     /// The file can't be read.
     #[error("tests_calls: the file cannot be read")]
@@ -128,22 +131,52 @@ impl Glance {
 }
 
 fn main(rt: HostRuntime) -> ExitCode {
-    match run_on(&rt) {
-        Ok(()) => ExitCode::SUCCESS,
-        Err(fault) => {
-            let _ = eprintln!(rt; "{fault}");
-            ExitCode::from(FAILED)
-        }
+    match words_of(&rt) {
+        Ok(words) => run_words(&rt, words.as_slice()),
+        Err(fault) => failed(&rt, &fault),
     }
 }
 
-/// Does what the arguments ask for.
-fn run_on<R: Print + Eprint + Input + Files + Env + AllocGlobal>(rt: &R) -> Result<(), Fault> {
-    let words: Vec<String> = env::args(rt)
-        .map_err(|_error: io::Error| Fault::Words)?
-        .skip(1)
-        .collect(rt.alloc())?;
-    do_words(rt, words.as_slice())
+/// The arguments after the program's name.
+fn words_of<R: Env + AllocGlobal>(rt: &R) -> Result<Vec<String>, Fault> {
+    let words = env::args(rt).map_err(|error| fault_of(&error, Fault::Words))?;
+    Ok(words.skip(1).collect(rt.alloc())?)
+}
+
+/// Out of memory where that is the cause of an I/O error, and the other fault where it is anything else.
+fn fault_of(error: &io::Error, other: Fault) -> Fault {
+    if error.kind() == ErrorKind::OutOfMemory {
+        Fault::Memory
+    } else {
+        other
+    }
+}
+
+/// Does what the words ask for: hostile runs, or calls.
+fn run_words<R: Print + Eprint + Input + Files + AllocGlobal>(
+    rt: &R,
+    words: &[String],
+) -> ExitCode {
+    match words {
+        [word, rest @ ..] if word.as_str() == "hostile" => {
+            ended(rt, &tests_hostile_runs::run(rt, rest))
+        }
+        words => ended(rt, &do_words(rt, words)),
+    }
+}
+
+/// The status of what was asked for, and why it wasn't done, if so.
+fn ended<R: Eprint, E: Display + Drop>(rt: &R, done: &Result<(), E>) -> ExitCode {
+    match done {
+        Ok(()) => ExitCode::SUCCESS,
+        Err(fault) => failed(rt, fault),
+    }
+}
+
+/// Says why nothing was done, or not to its end.
+fn failed<R: Eprint, E: Display>(rt: &R, fault: &E) -> ExitCode {
+    let _ = eprintln!(rt; "{fault}");
+    ExitCode::from(FAILED)
 }
 
 /// Makes the calls of rows, or prints the line that the words ask for: the work, the number of repeats, what the work is done on, and
@@ -369,7 +402,7 @@ fn number_of(word: &String) -> Result<u32, Fault> {
 
 /// The file's bytes.
 fn bytes_of<R: Files + AllocGlobal>(rt: &R, file: &String) -> Result<Vec<u8>, Fault> {
-    fs::read(rt, file.as_str()).map_err(|_error: io::Error| Fault::File)
+    fs::read(rt, file.as_str()).map_err(|error| fault_of(&error, Fault::File))
 }
 
 /// These folders as byte strings.

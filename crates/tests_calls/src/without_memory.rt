@@ -9,10 +9,10 @@ mod stores;
 mod texts;
 mod words;
 
-use crate::Fault;
+use crate::{Fault, fault_of};
 use keys::{compare_keys, compare_moments, count_includes, explain_fingerprints};
 use std::io;
-use std::io::{ErrorKind, Read};
+use std::io::Read;
 use stores::{bounded_store, map_store};
 use texts::{copy, digest, finder, slices};
 use words::{argument, empty_value, file_of_words, table, tree};
@@ -22,21 +22,12 @@ pub(crate) fn make_calls<R: Print + Eprint + Input + AllocGlobal>(rt: &R) -> Res
     let mut rows = String::new(rt.alloc());
     rt.reader()
         .read_to_string(&mut rows)
-        .map_err(|error| input_fault(&error))?;
+        .map_err(|error| fault_of(&error, Fault::Input))?;
     for row in rows.as_str().lines() {
         let word = if is_right(rt, row)? { "right" } else { "wrong" };
         println!(rt; "{row}: {word}").map_err(|_error: io::Error| Fault::Output)?;
     }
     Ok(())
-}
-
-/// Out of memory where that is why reading failed.
-fn input_fault(error: &io::Error) -> Fault {
-    if error.kind() == ErrorKind::OutOfMemory {
-        Fault::Memory
-    } else {
-        Fault::Input
-    }
 }
 
 /// Says that what the calls are asked about is made: from here on no memory grows.

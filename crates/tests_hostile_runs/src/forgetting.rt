@@ -141,7 +141,9 @@ fn push_ordered(
     text: &mut String,
 ) -> Result<(), Stop> {
     let run = ordered_run(alloc, line, which, order, at)?;
-    Ok(push_told(&run, plain, which, order, at, text)?)
+    let pushed = push_told(&run, plain, which, order, at, text);
+    drop(run);
+    Ok(pushed?)
 }
 
 /// Adds what came of the runs in which that store gets that order at one of so many calls, or at each.
@@ -167,6 +169,7 @@ fn push_each(
 fn calls_of(alloc: Global, line: &[u8], which: Which) -> Result<u64, Stop> {
     let run = ordered_run(alloc, line, which, Order::Keep, At::Each)?;
     let seen = seen_in(&run, which);
+    drop(run);
     Ok(seen.gets.wrapping_add(seen.puts))
 }
 
@@ -195,19 +198,29 @@ fn bounded_run(alloc: Global, line: &[u8], capacity: NonZeroUsize) -> Result<Run
 }
 
 /// Adds what came of a run, and where it disagrees with the plain one.
-fn push_agreed(run: &Run, plain: &[Turn], text: &mut String) -> Result<(), Stop> {
+fn push_agreed(run: &Run, plain: &[Turn], text: &mut String) -> Result<(), AllocError> {
     push_unless_agreed(run.turns.as_slice(), plain, text)?;
-    Ok(push_run(run, run.end.outputs, text)?)
+    push_run(run, run.end.outputs, text)
+}
+
+/// How many outputs are held at most in the scenario of this line, where it says so.
+fn capacity_of(alloc: Global, line: &[u8]) -> Result<Option<NonZeroUsize>, Stop> {
+    let scenario = read_scenario(alloc, line)?;
+    let capacity = scenario.capacity;
+    drop(scenario);
+    Ok(capacity)
 }
 
 /// Adds what came of a run over a store of outputs that holds no more than the scenario's capacity, where it has one.
 fn push_bounded(alloc: Global, line: &[u8], plain: &[Turn], text: &mut String) -> Result<(), Stop> {
-    let Some(capacity) = read_scenario(alloc, line)?.capacity else {
+    let Some(capacity) = capacity_of(alloc, line)? else {
         return Ok(());
     };
     write!(text, "capacity {capacity}:")?;
     let run = bounded_run(alloc, line, capacity)?;
-    push_agreed(&run, plain, text)
+    let pushed = push_agreed(&run, plain, text);
+    drop(run);
+    Ok(pushed?)
 }
 
 /// Adds what came of the runs of the scenario of this line in which a store forgets or refuses.

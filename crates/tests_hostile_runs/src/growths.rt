@@ -102,9 +102,18 @@ fn push_two(first: &Run, second: &Run, text: &mut String) -> Result<(), AllocErr
     push_compared(run, whole, text)
 }
 
+/// Adds what came of that run and of a second one of the scenario of this line.
+fn push_second(alloc: Global, line: &[u8], first: &Run, text: &mut String) -> Result<(), Stop> {
+    let second = plain_run(alloc, line, NONE_FAILS)?;
+    let pushed = push_two(first, &second, text);
+    drop(second);
+    Ok(pushed?)
+}
+
 /// Adds what came of two runs of the scenario of this line.
 pub(crate) fn push_growths(alloc: Global, line: &[u8], text: &mut String) -> Result<(), Stop> {
     let first = plain_run(alloc, line, NONE_FAILS)?;
-    let second = plain_run(alloc, line, NONE_FAILS)?;
-    Ok(push_two(&first, &second, text)?)
+    let pushed = push_second(alloc, line, &first, text);
+    drop(first);
+    pushed
 }

@@ -20,19 +20,31 @@ fn is_written_so(
     Ok(bytes.is_empty() || written.as_slice() == bytes)
 }
 
-/// Adds what is read of these bytes as an include record, or why none is.
-pub(crate) fn push_record(alloc: Global, bytes: &[u8], text: &mut String) -> Result<(), Stop> {
-    let read = PreprocessorCacheEntry::read(alloc, bytes);
-    let entry = match &read {
-        Ok(entry) => entry,
-        Err(error) => return Ok(writeln!(text, "refused: {error}")?),
-    };
+/// Adds how many files a record has that was read of these bytes.
+fn push_entry(
+    alloc: Global,
+    entry: &PreprocessorCacheEntry,
+    bytes: &[u8],
+    text: &mut String,
+) -> Result<(), Stop> {
     if is_written_so(alloc, entry, bytes)? {
         writeln!(text, "a record of {} files", entry.number_of_entries())?;
     } else {
         text.push_str("not so: a record is written as it was read\n")?;
     }
     Ok(())
+}
+
+/// Adds what is read of these bytes as an include record, or why none is.
+pub(crate) fn push_record(alloc: Global, bytes: &[u8], text: &mut String) -> Result<(), Stop> {
+    match PreprocessorCacheEntry::read(alloc, bytes) {
+        Ok(entry) => {
+            let pushed = push_entry(alloc, &entry, bytes, text);
+            drop(entry);
+            pushed
+        }
+        Err(error) => Ok(writeln!(text, "refused: {error}")?),
+    }
 }
 
 /// The bytes up to the first line end, and those after it.
@@ -126,7 +138,11 @@ fn push_parts(
 /// Adds what is read of a key's bytes under this shape.
 fn push_read(alloc: Global, bytes: &[u8], shape: &RShape, text: &mut String) -> Result<(), Stop> {
     match read_key_bytes(alloc, bytes, shape)? {
-        Some(parts) => Ok(push_parts(alloc, &parts, bytes, text)?),
+        Some(parts) => {
+            let pushed = push_parts(alloc, &parts, bytes, text);
+            drop(parts);
+            Ok(pushed?)
+        }
         None => Ok(text.push_str("no parts\n")?),
     }
 }
@@ -137,5 +153,7 @@ pub(crate) fn push_key(alloc: Global, bytes: &[u8], text: &mut String) -> Result
     let (words, rest) = first_line(rest);
     let (env_deps, rest) = first_line(rest);
     let shape = shape_of(alloc, counts, words, env_deps)?;
-    push_read(alloc, rest, &shape, text)
+    let pushed = push_read(alloc, rest, &shape, text);
+    drop(shape);
+    pushed
 }

@@ -115,6 +115,22 @@ fn push_fault(
     Ok(true)
 }
 
+/// Adds the fault of the run in which the call of the device after that many fails. Says whether one failed.
+fn push_run_fault(
+    alloc: Global,
+    line: &[u8],
+    plain: &[Turn],
+    device: Device,
+    calls_left: u64,
+    faults: &mut String,
+    text: &mut String,
+) -> Result<bool, Stop> {
+    let run = plain_run(alloc, line, limits_of(device, calls_left))?;
+    let failed = push_fault(&run, plain, device, faults, text);
+    drop(run);
+    Ok(failed?)
+}
+
 /// Adds the faults where each call of the device fails in turn, up to the first run in which none does.
 fn push_faults(
     alloc: Global,
@@ -125,8 +141,7 @@ fn push_faults(
 ) -> Result<(), Stop> {
     let mut faults = String::new(alloc);
     for calls_left in 0..u64::MAX {
-        let run = plain_run(alloc, line, limits_of(device, calls_left))?;
-        if !push_fault(&run, plain, device, &mut faults, text)? {
+        if !push_run_fault(alloc, line, plain, device, calls_left, &mut faults, text)? {
             break;
         }
     }

@@ -21,13 +21,17 @@ use wrap_base::{MapStore, Request, Tool};
 
 /// Why nothing is printed.
 #[derive(Debug, Drop, Error)]
-pub(crate) enum Stop {
+pub enum Stop {
+    /// The words aren't those that are taken.
     #[error("hostile_runs: one argument is taken: growths, record or key")]
     Arguments,
+    /// A line is no scenario, or standard input failed.
     #[error("hostile_runs: a scenario cannot be read")]
     Scenario,
+    /// Standard output failed.
     #[error("hostile_runs: output cannot be written")]
     Output,
+    /// Out of memory outside of a request.
     #[error("hostile_runs: out of memory")]
     Memory,
 }
@@ -115,7 +119,9 @@ fn served<
     tool: &mut T,
 ) -> Result<AnswerTexts, AllocError> {
     let answer = session.serve(request, files, tool);
-    answer_texts(alloc, &answer)
+    let texts = answer_texts(alloc, &answer);
+    drop(answer);
+    texts
 }
 
 /// The state of the session and the tool.
@@ -166,24 +172,62 @@ fn turn_of<
     let answer = served(alloc, session, request, files, tool)?;
     let after = state_of(session, tool);
     let name = files.failed_name.as_ref();
-    let due = due_fault(alloc, &before, &after, tool.last_step, name)?;
-    let files_left = if name.is_some() {
+    match due_fault(alloc, &before, &after, tool.last_step, name) {
+        Ok(due) => {
+            let turn = Turn {
+                before,
+                after,
+                answer,
+                due,
+                again: None,
+                files_left: files_left(files),
+            };
+            with_again(alloc, turn, session, request, files, tool)
+        }
+        Err(error) => {
+            drop(answer);
+            Err(error)
+        }
+    }
+}
+
+/// How many calls of these files come before the one that fails, which no later one does where one has failed.
+fn files_left<F: Files>(files: &FailFiles<F>) -> u64 {
+    if files.failed_name.is_some() {
         u64::MAX
     } else {
         files.calls_left
-    };
-    let again = match due.is_some() || answer.is_fault("memory") {
-        true => Some(served(alloc, session, request, files, tool)?),
-        false => None,
-    };
-    Ok(Turn {
-        before,
-        after,
-        answer,
-        due,
-        again,
-        files_left,
-    })
+    }
+}
+
+/// The turn with what its request is answered when it is served again, where an I/O call failed or memory ran out.
+fn with_again<
+    E: Watched<EntryKey, PreprocessorCacheEntry>,
+    O: Watched<StoreKey, Pairs>,
+    F: Files,
+    T: Tool,
+>(
+    alloc: Global,
+    turn: Turn,
+    session: &mut Session<Sha256, E, O>,
+    request: &Request,
+    files: &mut FailFiles<F>,
+    tool: &mut FailTool<T>,
+) -> Result<Turn, AllocError> {
+    if turn.due.is_none() && !turn.answer.is_fault("memory") {
+        return Ok(turn);
+    }
+    match served(alloc, session, request, files, tool) {
+        Ok(again) => {
+            let mut turn = turn;
+            turn.again = Some(again);
+            Ok(turn)
+        }
+        Err(error) => {
+            drop(turn);
+            Err(error)
+        }
+    }
 }
 
 /// Serves the call. The files' call after that many fails.
@@ -207,8 +251,48 @@ fn call_turn<
     tool.tool.tell(crate_texts);
     let mut files = FailFiles::new(files, files_left);
     let turn = turn_of(alloc, session, &request, &mut files, tool);
+    drop(files);
     drop(request);
     turn
+}
+
+/// Serves the call, and adds what came of it. The files' call after that many fails. Returns after how many that is in the calls to come.
+fn push_turn<
+    E: Watched<EntryKey, PreprocessorCacheEntry>,
+    O: Watched<StoreKey, Pairs>,
+    T: RetoldTool,
+>(
+    alloc: Global,
+    call: ScenarioCall,
+    files_left: u64,
+    session: &mut Session<Sha256, E, O>,
+    tool: &mut FailTool<T>,
+    turns: &mut Vec<Turn>,
+) -> Result<u64, AllocError> {
+    let turn = call_turn(alloc, call, files_left, session, tool)?;
+    let left = turn.files_left;
+    turns.push(turn)?;
+    Ok(left)
+}
+
+/// Serves the calls in order, and adds what came of each. The files' call after that many fails.
+fn push_turns<
+    E: Watched<EntryKey, PreprocessorCacheEntry>,
+    O: Watched<StoreKey, Pairs>,
+    T: RetoldTool,
+>(
+    alloc: Global,
+    calls: Vec<ScenarioCall>,
+    files_left: u64,
+    session: &mut Session<Sha256, E, O>,
+    tool: &mut FailTool<T>,
+    turns: &mut Vec<Turn>,
+) -> Result<(), AllocError> {
+    let mut left = files_left;
+    for call in calls {
+        left = push_turn(alloc, call, left, session, tool, turns)?;
+    }
+    Ok(())
 }
 
 /// Serves the calls in order. The files' call after that many fails.
@@ -223,15 +307,17 @@ fn turns_of<
     session: &mut Session<Sha256, E, O>,
     tool: &mut FailTool<T>,
 ) -> Result<Run, AllocError> {
-    let mut left = files_left;
     let mut turns = Vec::new(alloc);
-    for call in calls {
-        let turn = call_turn(alloc, call, left, session, tool)?;
-        left = turn.files_left;
-        turns.push(turn)?;
+    match push_turns(alloc, calls, files_left, session, tool, &mut turns) {
+        Ok(()) => {
+            let end = state_of(session, tool);
+            Ok(Run { turns, end })
+        }
+        Err(error) => {
+            drop(turns);
+            Err(error)
+        }
     }
-    let end = state_of(session, tool);
-    Ok(Run { turns, end })
 }
 
 /// Serves the calls by a scripted tool of this configuration. One call of each device fails.
@@ -280,7 +366,9 @@ pub(crate) fn run_over<E: Watched<EntryKey, PreprocessorCacheEntry>, O: Watched<
         calls,
     } = read_scenario(alloc, line)?;
     let mut session = Session::new(alloc, session_config, entries, objects);
-    Ok(run_calls(alloc, tool_config, calls, limits, &mut session)?)
+    let run = run_calls(alloc, tool_config, calls, limits, &mut session);
+    drop(session);
+    Ok(run?)
 }
 
 /// A run over stores that keep all, in which one call of each device fails.

@@ -1,5 +1,5 @@
-//! Hostile use: reads scenarios, a line each, from standard input, and serves each again and again, while each I/O call fails in
-//! turn and while stores forget and refuse. It prints what came of it, and what isn't as it has to be.
+//! Hostile use, for the program `tests_calls`: reads scenarios, a line each, from standard input, and serves each again and again, while
+//! each I/O call fails in turn and while stores forget and refuse. It prints what came of it, and what isn't as it has to be.
 //!
 //! Of each scenario these lines are printed:
 //!
@@ -33,15 +33,11 @@ use crate::forgetting::push_forgetting;
 use crate::growths::push_growths;
 use crate::readings::{push_key, push_record};
 use crate::refusals::push_refusals;
-use crate::runs::{NONE_FAILS, Stop, plain_run, push_answers};
-use std::alloc::Global;
+pub use crate::runs::Stop;
+use crate::runs::{NONE_FAILS, Run, plain_run, push_answers};
+use std::alloc::{AllocError, Global};
+use std::io;
 use std::io::{ErrorKind, Read, Write};
-use std::process::ExitCode;
-use std::rt::Env;
-use std::{env, io};
-
-/// The status of a program that couldn't run.
-const FAILED: u8 = 2;
 
 /// What is done with what standard input gives.
 #[derive(Clone, Copy)]
@@ -56,29 +52,25 @@ enum Mode {
     Key,
 }
 
-fn main(rt: HostRuntime) -> ExitCode {
-    match run_on(&rt) {
-        Ok(()) => ExitCode::SUCCESS,
-        Err(stop) => {
-            let _ = eprintln!(rt; "{stop}");
-            ExitCode::from(FAILED)
-        }
-    }
-}
-
-/// Runs on standard input and output.
-fn run_on<R: Print + Input + Env + AllocGlobal>(rt: &R) -> Result<(), Stop> {
-    let alloc = rt.alloc();
-    let mode = mode_of(rt)?;
-    let mut bytes = Vec::new(alloc);
-    rt.reader()
-        .read_to_end(&mut bytes)
-        .map_err(|error| stop_of(&error, Stop::Scenario))?;
-    let mut text = String::new(alloc);
-    push_bytes(alloc, mode, bytes.as_slice(), &mut text)?;
+/// Reads standard input to its end, and prints what comes of it. `words` are no word, or one of `growths`, `record` and `key`: any others
+/// are `Stop::Arguments`. Nothing is printed where it stops before.
+pub fn run<R: Print + Input + AllocGlobal>(rt: &R, words: &[String]) -> Result<(), Stop> {
+    let mode = mode_of(words)?;
+    let bytes = input_of(rt)?;
+    let mut text = String::new(rt.alloc());
+    push_bytes(rt.alloc(), mode, bytes.as_slice(), &mut text)?;
     io::writer(rt)
         .write_all(text.as_bytes())
         .map_err(|error| stop_of(&error, Stop::Output))
+}
+
+/// The bytes of standard input.
+fn input_of<R: Input + AllocGlobal>(rt: &R) -> Result<Vec<u8>, Stop> {
+    let mut bytes = Vec::new(rt.alloc());
+    match rt.reader().read_to_end(&mut bytes) {
+        Ok(_) => Ok(bytes),
+        Err(error) => Err(stop_of(&error, Stop::Scenario)),
+    }
 }
 
 /// Out of memory where that is the cause of an I/O error, and the other reason where it is anything else.
@@ -90,16 +82,16 @@ fn stop_of(error: &io::Error, other: Stop) -> Stop {
     }
 }
 
-/// What the argument says.
-fn mode_of<R: Env + AllocGlobal>(rt: &R) -> Result<Mode, Stop> {
-    let mut words = env::args(rt).map_err(|error| stop_of(&error, Stop::Arguments))?;
-    match words.nth(1) {
-        None => Ok(Mode::Devices),
-        Some(word) => mode_named(word.as_str()),
+/// What the words say.
+fn mode_of(words: &[String]) -> Result<Mode, Stop> {
+    match words {
+        [] => Ok(Mode::Devices),
+        [word] => mode_named(word.as_str()),
+        _ => Err(Stop::Arguments),
     }
 }
 
-/// What that argument says.
+/// What that word says.
 fn mode_named(word: &str) -> Result<Mode, Stop> {
     match word {
         "growths" => Ok(Mode::Growths),
@@ -153,14 +145,26 @@ fn push_scenario(
 /// Adds what came of the runs in which I/O calls fail and stores forget and refuse.
 fn push_devices(alloc: Global, line: &[u8], text: &mut String) -> Result<(), Stop> {
     let plain = plain_run(alloc, line, NONE_FAILS)?;
+    let pushed = push_beside(alloc, line, &plain, text);
+    drop(plain);
+    pushed
+}
+
+/// Adds what came of the run in which nothing fails, and of the others beside it.
+fn push_beside(alloc: Global, line: &[u8], plain: &Run, text: &mut String) -> Result<(), Stop> {
     let turns = plain.turns.as_slice();
-    push_answers(turns, text)?;
+    push_plain(plain, text)?;
+    push_refusals(alloc, line, turns, text)?;
+    push_forgetting(alloc, line, turns, text)
+}
+
+/// Adds what came of the run in which nothing fails.
+fn push_plain(plain: &Run, text: &mut String) -> Result<(), AllocError> {
+    push_answers(plain.turns.as_slice(), text)?;
     let ticks = plain.end.ticks;
     writeln!(
         text,
         "preprocesses {}; compiles {}",
         ticks.preprocess, ticks.compile
-    )?;
-    push_refusals(alloc, line, turns, text)?;
-    push_forgetting(alloc, line, turns, text)
+    )
 }
