@@ -203,31 +203,7 @@ static int end_of(pid_t child, int from) {
     return status;
 }
 
-/* Has the program do what options say. Before them it gets this host's file, its own, the cache directory, the current folder and, for --why,
- * the compiler's file. */
-static int answer_options(int count, char **list) {
-    char **line = calloc(count + 8, sizeof *line), dir[PATH_MAX];
-    const char *program = find_program();
-    int size = 0, asks_why = count > 2 && !strcmp(list[1], "--why");
-    if (!line || !program) return 127;
-    if (find_kept()) return 2;
-    if (!getcwd(dir, sizeof dir)) { perror("gulmaat"); return 2; }
-    if (asks_why) {
-        const char *asked = list[2];
-        words = list + 2;
-        if (find_compiler(asked)) { perror(asked); return 127; }
-    }
-    char *before[] = {"gulmaat", self, (char *)program, kept, dir, asks_why ? compiler : ""};
-    for (size_t i = 0; i < sizeof before / sizeof *before; i++) line[size++] = before[i];
-    for (int i = 1; i < count; i++)
-        if (!asks_why || i != 2) line[size++] = list[i];
-    if (count < 2) line[size++] = "--help";
-    execv(program, line);
-    perror(program);
-    return 127;
-}
-
-/* Whether options ask for what gulmaat-page shows: a page, a trace or a comparison of logs. */
+/* Whether options ask for a page, a trace or a comparison of logs. */
 static int asks_for_logs(int count, char **list) {
     const char *const names[] = {"--page", "--trace", "--compare"};
     for (size_t i = 0; i < sizeof names / sizeof *names; i++)
@@ -235,19 +211,27 @@ static int asks_for_logs(int count, char **list) {
     return 0;
 }
 
-/* Has gulmaat-page, which is beside the program, show what is in logs. Its words come after the folder of both. */
-static int show_logs(int count, char **list) {
-    char folder[PATH_MAX], page[PATH_MAX + 16], **line = calloc(count + 3, sizeof *line);
+/* Has the program do what options say. Before them it gets this host's file, its own, the cache directory, the current folder and, for --why,
+ * the compiler's file. To show logs it gets its own file alone, and the others empty: logs are shown also where they can't be had. */
+static int answer_options(int count, char **list) {
+    char **line = calloc(count + 8, sizeof *line), dir[PATH_MAX] = "";
     const char *program = find_program();
+    int size = 0, asks_why = count > 2 && !strcmp(list[1], "--why"), is_of_logs = asks_for_logs(count, list);
     if (!line || !program) return 127;
-    int size = strrchr(program, '/') ? (int)(strrchr(program, '/') - program) : 0;
-    snprintf(folder, sizeof folder, "%.*s", size ? size : 1, size ? program : ".");
-    snprintf(page, sizeof page, "%s/gulmaat-page", folder);
-    line[0] = page;
-    line[1] = folder;
-    for (int i = 1; i < count; i++) line[i + 1] = list[i];
-    execv(page, line);
-    perror(page);
+    if (!is_of_logs && find_kept()) return 2;
+    if (!is_of_logs && !getcwd(dir, sizeof dir)) { perror("gulmaat"); return 2; }
+    if (asks_why) {
+        const char *asked = list[2];
+        words = list + 2;
+        if (find_compiler(asked)) { perror(asked); return 127; }
+    }
+    char *before[] = {"gulmaat", is_of_logs ? "" : self, (char *)program, kept, dir, asks_why ? compiler : ""};
+    for (size_t i = 0; i < sizeof before / sizeof *before; i++) line[size++] = before[i];
+    for (int i = 1; i < count; i++)
+        if (!asks_why || i != 2) line[size++] = list[i];
+    if (count < 2) line[size++] = "--help";
+    execv(program, line);
+    perror(program);
     return 127;
 }
 
@@ -263,8 +247,7 @@ int main(int count, char **list) {
         /* A hit is compiled too, and the program says what differs. */
         setenv("GULMAAT_AUDIT", "tell", 1);
         words++;
-    } else if (!is_link && asks_for_logs(count, list)) return show_logs(count, list);
-    else if (!is_link && (count < 2 || list[1][0] == '-')) return answer_options(count, list);
+    } else if (!is_link && (count < 2 || list[1][0] == '-')) return answer_options(count, list);
     const char *asked = is_link ? name : words[0];
     if (find_compiler(asked)) {
         int why = errno;

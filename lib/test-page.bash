@@ -104,11 +104,24 @@ page_wrong() {
     refused "--compare of one" "write --compare LOG LOG" "$host" --compare log
     refused "--page with more" "write --all or --ninja FILE" "$host" --page log more
     refused "--ninja without a file" "write --ninja FILE" "$host" --page log --ninja
+    refused "--page of a name that is no text" "an argument is no text" "$host" --page $'a\xffb'
     : >empty
     is "--page of an empty log" "$host" --page empty >empty.html
     is "--trace of an empty log" "$host" --trace empty >empty.json
     is "--trace of an empty log: JSON" python3 -m json.tool empty.json /dev/null
     is "--compare of empty logs" "$host" --compare empty empty >/dev/null
+    # A log is shown also where there is no cache directory, or no current folder.
+    is "--page without a cache directory" cmp -s empty.html <(env -u GULMAAT_DIR -u XDG_CACHE_HOME -u HOME "$host" --page empty)
+    is "--page with a wrong GULMAAT_DIR" cmp -s empty.html <(GULMAAT_DIR=nowhere "$host" --page empty)
+    is "--page without a current folder" cmp -s empty.html <(mkdir gone && cd gone && rmdir ../gone && "$host" --page "$dir/empty")
+    is "--page makes no cache directory" [ "$(GULMAAT_DIR=$PWD/nothing "$host" --page empty | cmp - empty.html; ls -d nothing 2>/dev/null)" = "" ]
+    # Script and style are beside the program.
+    mkdir -p beside
+    cp "${host%-host}" "${host%/*}/page.js" "${host%/*}/page.css" beside
+    is "--page by another program" cmp -s empty.html <(GULMAAT_BIN=$PWD/beside/gulmaat "$host" --page empty)
+    is "--page by a program in the current folder" cmp -s empty.html <(cd beside && GULMAAT_BIN=gulmaat "$host" --page ../empty)
+    rm beside/page.js
+    refused "--page without its script" "beside/page.js: " env GULMAAT_BIN="$PWD/beside/gulmaat" "$host" --page empty
 }
 
 # A page of such a log runs nothing, the program ends, and the page says how much is broken.

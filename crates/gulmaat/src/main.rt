@@ -2,7 +2,7 @@
 //!
 //! With no arguments it talks with its host over standard input and output. With them it does what a user's options ask for: they come
 //! after the host's own file, the program's, the folder of what is kept, the folder in which it is asked and, for `--why`, the compiler's
-//! file. `--help` may also be the only argument.
+//! file; where logs are to be shown, all of these but the program's are empty. `--help` may also be the only argument.
 #![tactic(auto)]
 
 ghost use Rattle.std.specs.Prelude.{◌≡◌};
@@ -22,6 +22,7 @@ use cache_user_options::help::help;
 use cache_user_options::{Caller, do_options};
 use counting::note;
 use deciding::decide;
+use gulmaat_page::{PageError, show_builds};
 use std::env;
 use std::fmt::Display;
 use std::fs::File;
@@ -39,12 +40,14 @@ const PASS: u8 = 12;
 /// The status of a program that couldn't do what its arguments say.
 const FAILED: u8 = 2;
 
+/// The place of a user's first word among the arguments, of which the first is the program's own name.
+const WORDS: usize = 6;
+
 fn main(rt: HostRuntime) -> ExitCode {
-    let args = match arguments(&rt) {
-        Ok(args) => args,
-        Err(_) => return ExitCode::from(FAILED),
-    };
-    run(&rt, args.as_slice())
+    match arguments(&rt) {
+        Ok(args) => run(&rt, args.as_slice()),
+        Err(_) => refused(&rt),
+    }
 }
 
 /// Does what the arguments say.
@@ -62,14 +65,49 @@ where
                 kept: kept.as_str(),
                 dir: dir.as_str(),
             };
-            match words.split_first() {
-                Some((word, command)) if word.as_str() == "--why" => ended(
-                    rt,
-                    &say_why(rt, &caller, compiler.as_str(), command),
-                ),
-                _ => ended(rt, &do_options(rt, &caller, words)),
-            }
+            answer(rt, &caller, compiler.as_str(), words)
         }
+        _ => ExitCode::from(FAILED),
+    }
+}
+
+/// Does what a user's words say.
+fn answer<R>(rt: &R, caller: &Caller<'_>, compiler: &str, words: &[String]) -> ExitCode
+where
+    R: Print + Eprint + Files<File = File> + Env + Clock + AllocGlobal + Clone + Drop,
+{
+    match words.split_first() {
+        Some((word, _)) if is_of_logs(word.as_bytes()) => ended(
+            rt,
+            &show_builds(rt, folder_of(caller.program), words),
+        ),
+        Some((word, command)) if word.as_str() == "--why" => ended(
+            rt,
+            &say_why(rt, caller, compiler, command),
+        ),
+        _ => ended(rt, &do_options(rt, caller, words)),
+    }
+}
+
+/// Whether that option shows logs.
+fn is_of_logs(word: &[u8]) -> bool {
+    matches!(word, b"--page" | b"--trace" | b"--compare")
+}
+
+/// The folder in which a file of this path lies.
+fn folder_of(path: &str) -> &str {
+    match path.rsplit_once('/') {
+        Some((folder, _)) => folder,
+        None => ".",
+    }
+}
+
+/// Ends where some argument is no text, which is said of options that show logs.
+fn refused<R: Eprint + Env>(rt: &R) -> ExitCode {
+    let mut word = [0u8; 16];
+    let size = rt.arg(WORDS, word.as_mut_slice()).unwrap_or(0);
+    match word.get(..size) {
+        Some(word) if is_of_logs(word) => ended(rt, &Err::<(), PageError>(PageError::Device)),
         _ => ExitCode::from(FAILED),
     }
 }

@@ -1,6 +1,6 @@
-//! The program `gulmaat-page`: shows what a log of builds reports, as a page, as a trace or beside another log.
+//! What a log of builds reports, shown as a page, as a trace or beside another log.
 //!
-//! Its first argument is the folder in which the page's script and style lie; the user's arguments come after it.
+//! Of what is here nothing is promised but that each function is safe and ends, whatever a log has in it.
 #![tactic(auto)]
 
 mod advice;
@@ -23,42 +23,32 @@ mod trace;
 
 use asked::{Asked, AskedLog, read_words};
 use compare::compare;
-use error::PageError;
+pub use error::PageError;
 use page::page;
 use reading::{Build, read_build, read_text};
-use std::env;
-use std::process::ExitCode;
-use std::rt::{Env, Files};
+use std::rt::Files;
 use trace::trace;
 
-/// The status of a program that couldn't do what its arguments say.
-const FAILED: u8 = 2;
-
-fn main(rt: HostRuntime) -> ExitCode {
-    match run(&rt) {
-        Ok(()) => ExitCode::SUCCESS,
-        Err(error) => {
-            let _ = eprintln!(rt; "gulmaat: {error}");
-            ExitCode::from(FAILED)
-        }
-    }
-}
-
-/// Does what the arguments say.
-fn run<R: Print + Env + Files + AllocGlobal>(rt: &R) -> Result<(), PageError> {
-    let words: Vec<String> = env::args(rt)?.skip(1).collect(rt.alloc())?;
-    let text = shown(rt, words.as_slice())?;
+/// Prints what a user's words ask for: `--page LOG` or `--trace LOG`, each with `--all` or `--ninja FILE` behind it, or `--compare LOG LOG`.
+/// The page's script and style lie in the folder, as `page.js` and `page.css`. Where the words are wrong, or a file can't be read, nothing is
+/// printed.
+pub fn show_builds<R: Print + Files + AllocGlobal>(
+    rt: &R,
+    folder: &str,
+    words: &[String],
+) -> Result<(), PageError> {
+    let text = shown(rt, folder, words)?;
     Ok(rt.print(text.as_str())?)
 }
 
-/// What is asked for by these arguments, as a text.
-fn shown<R: Files + AllocGlobal>(rt: &R, words: &[String]) -> Result<String, PageError> {
-    let alloc = rt.alloc();
-    let Some((folder, words)) = words.split_first() else {
-        return Err(PageError::wrong(alloc, "--page LOG, --trace LOG or --compare LOG LOG")?);
-    };
-    match read_words(alloc, words)? {
-        Asked::Page(log) => page_of(rt, folder.as_str(), &log),
+/// What is asked for by these words, as a text.
+fn shown<R: Files + AllocGlobal>(
+    rt: &R,
+    folder: &str,
+    words: &[String],
+) -> Result<String, PageError> {
+    match read_words(rt.alloc(), words)? {
+        Asked::Page(log) => page_of(rt, folder, &log),
         Asked::Trace(log) => trace_of(rt, &log),
         Asked::Compare(one, other) => comparison_of(rt, &one, &other),
     }
