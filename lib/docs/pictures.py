@@ -110,7 +110,7 @@ def call_picture():
     parts = [
         box(left, 20, 170, ["build tool", "make, ninja, cargo"]),
         box(left, 110, 170, ["gulmaat-host", "in C: runs commands,", "decides nothing"]),
-        box(middle, 20, wide, ["Is the call cacheable?", "cache_c_requests, cache_known_options", "cache_compiler_id, cache_rustc_requests"], "proved"),
+        box(middle, 20, wide, ["Is the call cacheable?", "cache_c_requests, cache_known_options", "cache_rustc_requests"], "proved"),
         box(right, 28, 230, ["the compiler alone", "uncacheable, by reason"]),
         box(middle, 130, wide, ["Is there a manifest that still fits?", "cache_files: result keys and states", "cache_searched_folders: new headers"], "proved"),
         box(right, 138, 230, ["the preprocessor", "its text, and lines as written"]),

@@ -10,7 +10,7 @@ use cache_files::name_of_manifest;
 use cache_files::results::Kept;
 use cache_host::{CommandLine, Host, HostError};
 use cache_remote_storage::{fetched, fetched_manifest};
-use ckeys_entry_keys::entry_key::EntryKey;
+use ckeys_include_records::entry_key::EntryKey;
 use ckeys_records::{Fault, Step};
 use std::fs::File;
 use std::io::Read;

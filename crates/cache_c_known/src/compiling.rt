@@ -6,7 +6,7 @@ use crate::known::{Known, printed_at};
 use base_files::OsBytes;
 use cache_disk::State;
 use cache_host::{CommandLine, Ended, Host, HostError};
-use cache_made_outputs::{lock_paths, made_since, states_of};
+use cache_source_files::{lock_paths, made_since, states_of};
 use std::fs::File;
 use std::io::Read;
 use std::rt::Files;

@@ -15,8 +15,8 @@ use cache_searched_folders::{
 };
 use cache_source_files::{load_all, settled_before};
 use cache_written_lines::NamedFile;
-use ckeys_entry_keys::entry_key::EntryKey;
 use ckeys_include_records::PreprocessorCacheEntry;
+use ckeys_include_records::entry_key::EntryKey;
 use cmdlines_tables::CCompilerKind;
 use cmdlines_tables::language::{language_to_clang_arg, language_to_gcc_arg};
 use std::alloc::Global;

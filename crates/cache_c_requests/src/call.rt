@@ -3,10 +3,10 @@
 
 ghost use Rattle.std.specs.Prelude.{◌≡◌};
 
+use crate::compilers::{KnownCompiler, add_surroundings, compiler_at};
+use crate::native::native_of;
 use base_files::{Listed, OsBytes};
-use cache_compiler_id::{KnownCompiler, add_surroundings, compiler_at, native_of};
-use cache_host::{CommandLine, Host, HostError};
-use cache_key_additions::{Additions, VARIABLE};
+use cache_host::{ADDITIONS_VARIABLE, Additions, CommandLine, Host, HostError};
 use cache_known_options::{Dependencies, dependencies_of, is_read};
 use cache_settings::Key;
 use cmdlines_tables::CCompilerKind;
@@ -39,7 +39,7 @@ fn env_of(
 ) -> Result<Listed<(OsBytes, OsBytes)>, HostError> {
     let mut read = BTreeMap::new(alloc);
     for (name, value) in env {
-        if is_read(name.as_bytes()) && name.as_bytes() != VARIABLE.as_bytes() {
+        if is_read(name.as_bytes()) && name.as_bytes() != ADDITIONS_VARIABLE.as_bytes() {
             read.insert(name.clone()?, value.clone()?)?;
         }
     }
@@ -91,7 +91,11 @@ fn additions_of(
     dependencies: Option<&Dependencies>,
 ) -> Result<Additions, HostError> {
     let mut additions = Additions::new(alloc);
-    additions.add_if_any(alloc, VARIABLE, line.value_of(VARIABLE.as_bytes()))?;
+    additions.add_if_any(
+        alloc,
+        ADDITIONS_VARIABLE,
+        line.value_of(ADDITIONS_VARIABLE.as_bytes()),
+    )?;
     add_surroundings(alloc, line, kind, &mut additions)?;
     add_place(alloc, line, &mut additions)?;
     if let Some(dependencies) = dependencies {

@@ -1,8 +1,15 @@
-//! What the session is asked about a call: its request, without what gulmaat sees to itself, or why the session isn't asked at all.
+//! The C compiler of a command line, with a digest of its driver and of the parts that this runs or loads; and what the session is asked about
+//! a call: its request, without what gulmaat sees to itself, or why the session isn't asked at all.
 #![tactic(auto)]
 
 mod call;
+mod clang_files;
+mod compilers;
+mod native;
+mod parts;
 mod passing;
 
 pub use call::{Call, call_of};
+pub use compilers::{KnownCompiler, add_surroundings, compiler_at, kind_of};
+pub use native::native_of;
 pub use passing::reason_against;

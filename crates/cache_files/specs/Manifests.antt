@@ -4,7 +4,7 @@ use Rattle.std.specs.List.{flat_map}
 use Rattle.std.specs.Option.{option_map}
 use Rattle.base_files.specs.Bytes.{Bytes}
 use Rattle.base_formats.specs.Spelling.{framed}
-use Rattle.ckeys_entry_keys.specs.declared.entry_key.EntryKey.{EntryKey}
+use Rattle.ckeys_include_records.specs.declared.entry_key.EntryKey.{EntryKey}
 use Rattle.ckeys_include_records.specs.Records.{Record}
 use Rattle.ckeys_include_records.specs.declared.entry.CachedResult.{CachedResult}
 use Rattle.ckeys_include_records.specs.declared.entry.IncludeEntry.{IncludeEntry}

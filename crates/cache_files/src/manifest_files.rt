@@ -11,8 +11,8 @@ use base_formats::put_framed;
 use cache_dir::{CacheDir, CacheDirError, Kind, digest_of};
 use cache_format::{KeptManifest, seal, unseal};
 use ckeys_base::HashState;
-use ckeys_entry_keys::entry_key::EntryKey;
 use ckeys_include_records::PreprocessorCacheEntry;
+use ckeys_include_records::entry_key::EntryKey;
 use std::alloc::Global;
 use std::rt::Files;
 

@@ -10,7 +10,7 @@ use base_files::{Listed, OsBytes};
 use cache_dir::CacheDirError;
 use cache_format::KeptManifest;
 use ckeys_base::error::Error;
-use ckeys_entry_keys::entry_key::EntryKey;
+use ckeys_include_records::entry_key::EntryKey;
 use ckeys_include_records::{CachedResult, IncludeEntry, PreprocessorCacheEntry};
 use rustc_options::in_order;
 use std::alloc::{AllocError, Global};

@@ -14,7 +14,7 @@ use cache_host::{CommandLine, Host, HostError};
 use cache_searched_folders::{lists_taken, lists_to_send};
 use cache_settings::Key;
 use cache_source_files::settled_before;
-use ckeys_entry_keys::entry_key::EntryKey;
+use ckeys_include_records::entry_key::EntryKey;
 use std::alloc::Global;
 use std::io::Read;
 use std::rt::Files;

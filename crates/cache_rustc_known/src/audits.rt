@@ -4,7 +4,7 @@ use crate::known::KnownCrate;
 use base_files::OsBytes;
 use cache_dir::Kind;
 use cache_host::{CommandLine, HostError, text_in};
-use cache_made_outputs::{
+use cache_source_files::{
     Audit, copies_of, difference_of_outputs, difference_of_texts, is_one_of, log_difference,
 };
 use std::alloc::Global;

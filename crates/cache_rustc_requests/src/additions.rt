@@ -1,12 +1,11 @@
 //! What is bound to the key of a call beside what the session hashes of it.
 
+use crate::parts::{archives_in, has_loaded};
 use base_files::{Files as CallFiles, Listed, OsBytes, join};
 use base_snapshots::SnapshotFiles;
 use cache_dir::digest_of;
 use cache_disk::read_whole;
-use cache_host::{CommandLine, HostError, into_text};
-use cache_key_additions::Additions;
-use cache_rustc_id::{archives_in, has_loaded};
+use cache_host::{Additions, CommandLine, HostError, into_text};
 use memchr::memmem;
 use std::alloc::Global;
 use std::rt::Files;

@@ -1,11 +1,18 @@
-//! What a session is asked about a call of rustc: why it isn't asked at all, for which words are known, and what is bound to the
-//! key beside what it hashes itself.
+//! The rustc of a command line: its real file behind rustup's proxy, its version, its folder of libraries, and the digest of these. What a
+//! session is asked about a call of it: why it isn't asked at all, for which words are known, and what is bound to the key beside what it
+//! hashes itself.
 #![tactic(auto)]
 
 mod additions;
+mod asking;
+mod parts;
 mod passing;
+mod rustc;
 mod tables;
 mod words;
 
 pub use additions::{additions_of, variable_of, variables_of};
+pub use asking::{printed_for, said_for, toolchain_word};
+pub use parts::{archives_in, has_loaded};
 pub use passing::{has_json, reason_against};
+pub use rustc::{is_named_rustc, rustc_at};

@@ -4,9 +4,9 @@ use Rattle.std.specs.Prelude.{IfSome}
 use Rattle.base_files.specs.Bytes.{Bytes}
 use Rattle.base_files.specs.Tree.{contents_at}
 use Rattle.ckeys_include_records.specs.Surroundings.{contents_in}
-use Rattle.ckeys_entry_keys.specs.Identity.{IdentityFits}
-use Rattle.ckeys_entry_keys.specs.Sights.{SightsFit, can_be_told, sights_of}
-use Rattle.ckeys_entry_keys.specs.Telling.{entry_key_over, entry_key_with}
+use Rattle.ckeys_include_records.specs.Identity.{IdentityFits}
+use Rattle.ckeys_include_records.specs.Sights.{SightsFit, can_be_told, sights_of}
+use Rattle.ckeys_include_records.specs.Telling.{entry_key_over, entry_key_with}
 use Rattle.ckeys.specs.Calls.{KeyCall, asks_records, input_path, missing_input}
 use Rattle.ckeys_records.specs.Faults.{first_missing}
 use Rattle.ckeys.specs.Entries.{IsFramed, entry_key_by, entry_key_of, extra_digests, has_entry_key, identity_by, input_with, is_told, sights_by}

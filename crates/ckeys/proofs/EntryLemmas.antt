@@ -20,7 +20,7 @@ use Rattle.ckeys_include_records.specs.Results.{with_result}
 use Rattle.ckeys_include_records.specs.Surroundings.{Place, are_there, contents_in, dated, fits_contents, in_front, include_with, included, includes_of, is_the, lacks_day, path_at, second_at, stamped}
 use Rattle.ckeys_include_records.specs.declared.entry.CachedResult.{CachedResult}
 use Rattle.ckeys_include_records.specs.declared.entry.IncludeEntry.{IncludeEntry}
-use Rattle.ckeys_entry_keys.specs.declared.entry_key.EntryKey.{EntryKey}
+use Rattle.ckeys_include_records.specs.declared.entry_key.EntryKey.{EntryKey}
 use Rattle.ckeys.specs.Calls.{KeyCall, PrintedCall, early_fault_of, input_path, key_fault_by, needs_preprocessing, record_by, text_by, text_fault_by, extra_paths, missing_input}
 use Rattle.ckeys_records.specs.Faults.{preprocess_fault_of, read_fault_of, first_missing, or_else}
 use Rattle.ckeys_records.specs.Meaning.{text_in}

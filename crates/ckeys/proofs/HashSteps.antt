@@ -11,7 +11,7 @@ use Rattle.base_files.specs.Tree.{Tree}
 use Rattle.cmdlines.specs.Compilers.{Traits}
 use Rattle.cmdlines_tables.specs.declared.compiler.CCompilerKind.{CCompilerKind}
 use Rattle.ckeys_base.specs.Shelf.{IsEmpty, Shelf}
-use Rattle.ckeys_entry_keys.specs.declared.entry_key.EntryKey.{EntryKey}
+use Rattle.ckeys_include_records.specs.declared.entry_key.EntryKey.{EntryKey}
 use Rattle.ckeys_include_records.specs.Records.{Record}
 use Rattle.ckeys.specs.Calls.{PrintedCall, record_by}
 use Rattle.ckeys.specs.Entries.{EntryInvariant, EntryPremises, Held, asking}

@@ -20,10 +20,10 @@ use Rattle.ckeys_marker_walk.specs.Named.{accepted, is_named, marker_names, tell
 use Rattle.ckeys_include_records.specs.Records.{Record}
 use Rattle.ckeys_include_records.specs.Surroundings.{Place, are_there, contents_in, dated, fits_contents, in_front, include_with, included, includes_of, is_the, lacks_day, path_at, second_at, stamped}
 use Rattle.ckeys_include_records.specs.declared.entry.IncludeEntry.{IncludeEntry}
-use Rattle.ckeys_entry_keys.specs.Identity.{Identity}
-use Rattle.ckeys_entry_keys.specs.Sights.{Sights}
-use Rattle.ckeys_entry_keys.specs.Telling.{AreTold, entry_key_with}
-use Rattle.ckeys_entry_keys.specs.declared.entry_key.EntryKey.{EntryKey}
+use Rattle.ckeys_include_records.specs.Identity.{Identity}
+use Rattle.ckeys_include_records.specs.Sights.{Sights}
+use Rattle.ckeys_include_records.specs.Telling.{AreTold, entry_key_with}
+use Rattle.ckeys_include_records.specs.declared.entry_key.EntryKey.{EntryKey}
 use Rattle.ckeys.specs.Calls.{KeyCall, PrintedCall, extra_paths, input_path, needs_preprocessing, record_by, text_by}
 use Rattle.ckeys_records.specs.Meaning.{text_in}
 use Rattle.ckeys.specs.Entries.{AreTrue, EntryInvariant, EntryPremises, Held, IsFramed, IsHashedAmong, IsRecorded, IsTrue, SameIdentity, asking, entry_key_by, entry_key_of, extra_digests, good_text, has_entry_key, identity_by, is_told, sights_by}

@@ -9,11 +9,11 @@ use Rattle.ckeys_include_records.specs.Records.{Record}
 use Rattle.ckeys_include_records.specs.Surroundings.{are_there, contents_in, second_at}
 use Rattle.ckeys_include_records.specs.declared.entry.CachedResult.{CachedResult}
 use Rattle.ckeys_include_records.specs.declared.entry.IncludeEntry.{IncludeEntry}
-use Rattle.ckeys_entry_keys.specs.Framing.{paths_of}
-use Rattle.ckeys_entry_keys.specs.Identity.{Identity, IdentityFits, identity_material}
-use Rattle.ckeys_entry_keys.specs.Sights.{Seen, Sights, SightsFit, can_be_told, sight_material, sights_of}
-use Rattle.ckeys_entry_keys.specs.Telling.{entry_key_with}
-use Rattle.ckeys_entry_keys.specs.declared.entry_key.EntryKey.{EntryKey}
+use Rattle.ckeys_include_records.specs.Framing.{paths_of}
+use Rattle.ckeys_include_records.specs.Identity.{Identity, IdentityFits, identity_material}
+use Rattle.ckeys_include_records.specs.Sights.{Seen, Sights, SightsFit, can_be_told, sight_material, sights_of}
+use Rattle.ckeys_include_records.specs.Telling.{entry_key_with}
+use Rattle.ckeys_include_records.specs.declared.entry_key.EntryKey.{EntryKey}
 use Rattle.ckeys.specs.Calls.{KeyCall, PrintedCall, asks_records, extra_paths, input_path, record_by}
 use Rattle.ckeys_records.specs.Meaning.{text_in}
 use Rattle.ckeys_records.specs.Folders.{Settings}

@@ -13,7 +13,7 @@ use crate::hasher::CCompilerHasher;
 use base_files::{FileFail, Files, OsBytes};
 use ckeys_base::{Digest, HashState};
 use ckeys_records::Fault;
-use cmdlines_requests::ParsedArguments;
+use cmdlines_tables::ParsedArguments;
 use std::alloc::{AllocError, Global};
 
 /// A C compiler, its executable and the digest that represents it in keys.

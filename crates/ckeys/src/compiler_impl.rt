@@ -7,7 +7,7 @@ ghost use Rattle.base_files.specs.Views.{FilesFail};
 ghost use Rattle.cmdlines_response_files.specs.Causes.{CauseOf};
 ghost use Rattle.cmdlines.specs.Opening.{IsAskedByKind, opened_words};
 ghost use Rattle.cmdlines.specs.Commands.{object_path, HasObjectIn, preprocess_words, output_path, compile_words};
-ghost use Rattle.cmdlines_requests.specs.Small.{command_at};
+ghost use Rattle.cmdlines_tables.specs.Small.{command_at};
 ghost use Rattle.cmdlines.specs.Compilers.{Traits, kind_in, text_in, traits_in};
 ghost use Rattle.cmdlines.specs.Parsing.{decision_of, parse_of, HasSafeInputIn};
 ghost use Rattle.cmdlines.specs.ReadBack.{ReadsAsCompile, ReadsAsPreprocess};
@@ -19,9 +19,8 @@ use base_files::{Files, Listed, OsBytes};
 use ckeys_records::{Preprocessor, Printed, Step, ToolFail};
 use cmdlines::{AnyFoundCompiler, CommandError, FoundCompiler, HasKind};
 use cmdlines_base::{CompilerArguments, SingleCompileCommand};
-use cmdlines_requests::{Cacheable, ParsedArguments, command_at};
 use cmdlines_response_files::ParseFault;
-use cmdlines_tables::CCompilerKind;
+use cmdlines_tables::{CCompilerKind, Cacheable, ParsedArguments, command_at};
 use std::alloc::{AllocError, Global};
 
 /// A C compiler: what is known of it, how it reads words, and the commands for it.

@@ -28,11 +28,11 @@ use crate::needed::{extra_hashes, needed_contents};
 use crate::place::CallPlace;
 use base_files::{Files, OsBytes};
 use ckeys_base::{HashState, Store};
-use ckeys_entry_keys::entry_key::{EntryKey, entry_keys_are_their_fields};
+use ckeys_include_records::entry_key::{EntryKey, entry_keys_are_their_fields};
 use ckeys_include_records::{KeyText, PreprocessorCacheEntry};
 use ckeys_records::shape::CShape;
 use ckeys_records::{Fault, HashKeyParams, Preprocessor, Step, ToolFail, tell_lengths};
-use cmdlines_requests::ParsedArguments;
+use cmdlines_tables::ParsedArguments;
 use cmdlines_tables::language::Language;
 use std::alloc::{AllocError, Global};
 

@@ -6,12 +6,12 @@ ghost use Rattle.ckeys.specs.Calls.{PrintedCall};
 ghost use Rattle.ckeys.specs.Entries.{AreTrue, EntryInvariant, EntryPremises, Held, asking};
 ghost use Rattle.ckeys.specs.EntryTurns.{EntryTurn};
 ghost use Rattle.ckeys_records.specs.Folders.{Settings};
-ghost use Rattle.ckeys_entry_keys.specs.declared.entry_key.EntryKey.{EntryKey};
+ghost use Rattle.ckeys_include_records.specs.declared.entry_key.EntryKey.{EntryKey};
 ghost use Rattle.ckeys_include_records.specs.Records.{Record};
 ghost use Rattle.ckeys_base.specs.Shelf.{Shelf};
 
 use ckeys_base::{HashState, texts_tell_digests};
-use ckeys_entry_keys::entry_keys_tell_calls;
+use ckeys_include_records::entry_keys_tell_calls;
 
 /// What the include records of earlier calls say is true of this call, where digests are distinct and texts are printed again; and
 /// each call leaves records of which that can be said again, with no premise.

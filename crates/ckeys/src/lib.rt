@@ -21,9 +21,10 @@ pub use ckeys_base::{
     normalize_path, normalize_win_path, resolve_compiler_avoiding_wrapper, strip_basedirs,
     strip_basedirs_from_arg,
 };
-pub use ckeys_entry_keys::entry_key::EntryKey;
-pub use ckeys_entry_keys::preprocessor_cache_entry_hash_key;
-pub use ckeys_include_records::{IncludeEntry, KeyText, PreprocessorCacheEntry};
+pub use ckeys_include_records::entry_key::EntryKey;
+pub use ckeys_include_records::{
+    IncludeEntry, KeyText, PreprocessorCacheEntry, preprocessor_cache_entry_hash_key,
+};
 pub use ckeys_marker_walk::walk::walk;
 pub use ckeys_marker_walk::{Markers, Walk};
 pub use ckeys_records::shape::CShape;
@@ -36,9 +37,8 @@ pub use ckeys_time_macros::{
     reader_sync_time_macros,
 };
 pub use cmdlines_base::ArtifactDescriptor;
-pub use cmdlines_requests::ParsedArguments;
-pub use cmdlines_tables::CCompilerKind;
 pub use cmdlines_tables::language::Language;
+pub use cmdlines_tables::{CCompilerKind, ParsedArguments};
 pub use compiler::CCompiler;
 pub use compiler_impl::CCompilerImpl;
 pub use contents::KeyContents;

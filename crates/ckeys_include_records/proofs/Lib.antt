@@ -5,3 +5,5 @@ pub mod WholeRecords
 pub mod Looking
 pub mod Greatest
 pub mod Listed
+mod Alike
+mod PairParts

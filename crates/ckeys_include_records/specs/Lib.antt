@@ -7,3 +7,7 @@ pub mod Surroundings
 pub mod Sightings
 pub mod LookUps
 pub mod Listing
+pub mod Framing
+pub mod Identity
+pub mod Sights
+pub mod Telling

@@ -21,8 +21,8 @@ use Rattle.cmdlines_tables.specs.declared.kind.OptionList.TheVariants as lists
 use Rattle.cmdlines.specs.Commands.{object_path, front_words, front_items, behind_words, behind_items, color_words, color_items, lacks_path, lacks_target, beside, when_words, when_items, added_words, added_items, compile_words, compile_items, preprocess_words, preprocess_items, ReadsAs}
 use Rattle.cmdlines.specs.Parsing.{parse_of, asks, HasSafeInput, IsSafeBy}
 use Rattle.cmdlines.specs.Wanted.{is_wanted, wanted, facts_of, lists_of}
-use Rattle.cmdlines_requests.specs.declared.parsed.DependencyOptions.{DependencyOptions}
-use Rattle.cmdlines_requests.specs.declared.parsed.ParsedArguments.{ParsedArguments}
+use Rattle.cmdlines_tables.specs.declared.parsed.DependencyOptions.{DependencyOptions}
+use Rattle.cmdlines_tables.specs.declared.parsed.ParsedArguments.{ParsedArguments}
 use Rattle.cmdlines.proofs.InputLemmas.{Asked, asked}
 
 -- what the layer below promises of words that are written again

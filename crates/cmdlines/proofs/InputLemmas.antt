@@ -16,14 +16,14 @@ use Rattle.cmdlines_tables.specs.declared.compiler.CCompilerKind.TheVariants.{Ms
 use Rattle.cmdlines_tables.specs.declared.kind.ArgKind.{ArgKind}
 use Rattle.cmdlines_tables.specs.declared.language.Language.{Language}
 use Rattle.cmdlines.specs.Commands.{object_path, HasObjectIn}
-use Rattle.cmdlines_requests.specs.Small.{output_named}
+use Rattle.cmdlines_tables.specs.Small.{output_named}
 use Rattle.cmdlines.specs.Parsing.{outputs_at, asks, refused, not_compilation, differ, known_language, output_for, with_output, with_language, with_inputs, decided, decision_on, parse_of, parsed_from, IsSafeBy, HasSafeInput, HasSafeInputIn, IsGivenByOption}
-use Rattle.cmdlines_requests.specs.Small.{object_name}
+use Rattle.cmdlines_tables.specs.Small.{object_name}
 use Rattle.cmdlines.specs.Wanted.{facts_of, lists_of, has_kind, input_at, input_in, is_hard}
 use Rattle.cmdlines.specs.declared.facts.Facts.{Facts}
 use Rattle.cmdlines.specs.declared.lists.Input.{Input}
 use Rattle.cmdlines.specs.declared.lists.Lists.{Lists}
-use Rattle.cmdlines_requests.specs.declared.parsed.ParsedArguments.{ParsedArguments}
+use Rattle.cmdlines_tables.specs.declared.parsed.ParsedArguments.{ParsedArguments}
 
 some_same : {X : Type 0} {x y : X} → Some x ≡ Some y → x ≡ y
 some_same h = cc

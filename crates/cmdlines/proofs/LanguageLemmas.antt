@@ -20,7 +20,7 @@ use Rattle.cmdlines_base.specs.Choices.{when}
 use Rattle.cmdlines.specs.declared.facts.Facts.{Facts}
 use Rattle.cmdlines.specs.declared.lists.Input.{Input}
 use Rattle.cmdlines.specs.declared.lists.Lists.{Lists}
-use Rattle.cmdlines_requests.specs.declared.parsed.ParsedArguments.{ParsedArguments}
+use Rattle.cmdlines_tables.specs.declared.parsed.ParsedArguments.{ParsedArguments}
 
 -- a language that an option can name
 is_c : Language → Bool

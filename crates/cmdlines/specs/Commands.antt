@@ -13,11 +13,11 @@ use Rattle.cmdlines_tables.specs.declared.kind.ArgKind.{ArgKind}
 use Rattle.cmdlines_tables.specs.declared.kind.ArgKind.TheVariants.{TooHard, DoCompilation, DepArgumentPath, DepTarget}
 use Rattle.cmdlines_tables.specs.declared.kind.OptionList.TheVariants as lists
 use Rattle.cmdlines.specs.Parsing.{Decision, asks}
-use Rattle.cmdlines_requests.specs.Small.{object_name}
-use Rattle.cmdlines_requests.specs.Small.{output_named}
+use Rattle.cmdlines_tables.specs.Small.{object_name}
+use Rattle.cmdlines_tables.specs.Small.{output_named}
 use Rattle.cmdlines.specs.Wanted.{wanted}
-use Rattle.cmdlines_requests.specs.declared.parsed.DependencyOptions.{DependencyOptions}
-use Rattle.cmdlines_requests.specs.declared.parsed.ParsedArguments.{ParsedArguments}
+use Rattle.cmdlines_tables.specs.declared.parsed.DependencyOptions.{DependencyOptions}
+use Rattle.cmdlines_tables.specs.declared.parsed.ParsedArguments.{ParsedArguments}
 
 -- where the object goes
 abbrev pub object_path : ParsedArguments → Option Bytes

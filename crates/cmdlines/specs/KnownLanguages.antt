@@ -5,7 +5,7 @@ use Rattle.cmdlines_tables.specs.declared.compiler.CCompilerKind.{CCompilerKind}
 use Rattle.cmdlines_tables.specs.declared.language.Language.{Language}
 use Rattle.cmdlines_tables.specs.declared.language.Language.TheVariants.{Rust}
 use Rattle.cmdlines.specs.Parsing.{Decision, asks}
-use Rattle.cmdlines_requests.specs.declared.parsed.ParsedArguments.{ParsedArguments}
+use Rattle.cmdlines_tables.specs.declared.parsed.ParsedArguments.{ParsedArguments}
 
 -- the compiler knows the language, and it isn't Rust
 abbrev pub IsKnownTo : CCompilerKind → Language → Type 0

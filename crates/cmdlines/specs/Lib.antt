@@ -19,7 +19,7 @@ pub use Rattle.cmdlines_base.specs.Reading
 pub use Rattle.cmdlines_base.specs.Table
 pub use Rattle.cmdlines_tables.specs.Languages
 pub use Rattle.cmdlines_tables.specs.Tables
-pub use Rattle.cmdlines_response_texts.specs.Gnu
-pub use Rattle.cmdlines_response_texts.specs.Msvc
+pub use Rattle.cmdlines_response_files.specs.Gnu
+pub use Rattle.cmdlines_response_files.specs.Msvc
 pub use Rattle.cmdlines_response_files.specs.Causes
 pub use Rattle.cmdlines_response_files.specs.Expansion

@@ -6,7 +6,7 @@ use Rattle.cmdlines_tables.specs.declared.kind.ArgKind.{ArgKind}
 use Rattle.cmdlines.specs.Wanted.{color_by, language_by}
 use Rattle.cmdlines_base.specs.Choices.{when, later, sooner}
 use Rattle.cmdlines.specs.declared.facts.Facts.{Facts}
-use Rattle.cmdlines_requests.specs.declared.parsed.DependencyOptions.{DependencyOptions}
+use Rattle.cmdlines_tables.specs.declared.parsed.DependencyOptions.{DependencyOptions}
 
 abbrev pub dependencies_with : DependencyOptions → ArgKind → DependencyOptions
 dependencies_with d kind = record {

@@ -9,7 +9,7 @@ use Rattle.cmdlines_base.specs.Artifacts.{Artifacts}
 use Rattle.cmdlines_base.specs.Reading.{Item, Reading, reading, raw, first_word, whole}
 use Rattle.cmdlines_base.specs.Table.{Entry}
 use Rattle.cmdlines_base.specs.declared.command.ArtifactDescriptor.{ArtifactDescriptor}
-use Rattle.cmdlines_requests.specs.Small.{object_name}
+use Rattle.cmdlines_tables.specs.Small.{object_name}
 use Rattle.cmdlines_tables.specs.CompilerFacts.{spelling_of}
 use Rattle.cmdlines_tables.specs.Languages.{language_of_extension, language_named, knows}
 use Rattle.cmdlines_tables.specs.Tables.{entries_of, ends_options, reading_of}
@@ -28,7 +28,7 @@ use Rattle.cmdlines_base.specs.declared.compiler_arguments.CompilerArguments.The
 use Rattle.cmdlines.specs.declared.facts.Facts.{Facts}
 use Rattle.cmdlines.specs.declared.lists.Input.{Input}
 use Rattle.cmdlines.specs.declared.lists.Lists.{Lists}
-use Rattle.cmdlines_requests.specs.declared.parsed.ParsedArguments.{ParsedArguments}
+use Rattle.cmdlines_tables.specs.declared.parsed.ParsedArguments.{ParsedArguments}
 
 -- the words ask for this, or don't compile, or can't be cached for a reason, with more text or none
 pub data Decision : Type 0 where

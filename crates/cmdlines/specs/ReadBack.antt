@@ -7,7 +7,7 @@ use Rattle.cmdlines_tables.specs.declared.compiler.CCompilerKind.{CCompilerKind}
 use Rattle.cmdlines_tables.specs.declared.kind.ArgKind.{ArgKind}
 use Rattle.cmdlines.specs.Commands.{ReadsAs, output_path, compile_items, preprocess_items}
 use Rattle.cmdlines.specs.Parsing.{parse_of, asks, HasSafeInput}
-use Rattle.cmdlines_requests.specs.declared.parsed.ParsedArguments.{ParsedArguments}
+use Rattle.cmdlines_tables.specs.declared.parsed.ParsedArguments.{ParsedArguments}
 
 -- For whatever words asked for this: where no option had an empty value and the input can be where it's written, the command is read as these items, with the wanted options of those words.
 abbrev pub ReadsAsWanted : CCompilerKind → ParsedArguments → List Bytes → (List (Item ArgKind) → List (Item ArgKind)) → Type 0

@@ -20,7 +20,7 @@ use Rattle.cmdlines_tables.specs.declared.kind.ArgKind.TheVariants.{Language, La
 use Rattle.cmdlines_tables.specs.declared.kind.OptionList.{OptionList}
 use Rattle.cmdlines_tables.specs.declared.kind.OptionList.TheVariants as lists
 use Rattle.cmdlines.specs.declared.facts.Facts.{Facts}
-use Rattle.cmdlines_requests.specs.declared.parsed.DependencyOptions.{DependencyOptions}
+use Rattle.cmdlines_tables.specs.declared.parsed.DependencyOptions.{DependencyOptions}
 use Rattle.cmdlines.specs.declared.lists.Input.{Input}
 use Rattle.cmdlines.specs.declared.lists.Lists.{Lists}
 

@@ -8,9 +8,8 @@ use crate::facts::Facts;
 use crate::lists::{Input, Lists};
 use base_files::{Listed, OsBytes, extension, file_name, with_extension};
 use cmdlines_base::{ArtifactDescriptor, ColorMode, CompilerArguments};
-use cmdlines_requests::ParsedArguments;
 use cmdlines_tables::language::Language;
-use cmdlines_tables::{CCompilerKind, Spelling};
+use cmdlines_tables::{CCompilerKind, ParsedArguments, Spelling};
 use std::alloc::{AllocError, Global};
 
 /// Refused for this reason, with no more text.

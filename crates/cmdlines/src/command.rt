@@ -5,16 +5,17 @@ ghost use Rattle.std.specs.Option.{option_copied};
 ghost use Rattle.cmdlines_tables.specs.Languages.{language_option};
 ghost use Rattle.cmdlines_tables.specs.OwnWords.{named_words, language_words, output_words};
 ghost use Rattle.cmdlines.specs.Commands.{object_path, front_words, behind_words, color_words, added_words, compile_words, preprocess_words, output_path};
-ghost use Rattle.cmdlines_requests.specs.Small.{command_at};
+ghost use Rattle.cmdlines_tables.specs.Small.{command_at};
 ghost use Rattle.cmdlines.specs.ReadBack.{ReadsAsCompile, ReadsAsPreprocess};
 
 use base_files::{Listed, OsBytes, with_extension};
 use cmdlines_base::{
     SingleCompileCommand, items_read_again, items_read_together, words_have_one_reading,
 };
-use cmdlines_requests::{Cacheable, ParsedArguments, command_at};
 use cmdlines_tables::language::{Language, language_to_gcc_arg};
-use cmdlines_tables::{ArgData, CCompilerKind, Spelling, own_words_are_read};
+use cmdlines_tables::{
+    ArgData, CCompilerKind, Cacheable, ParsedArguments, Spelling, command_at, own_words_are_read,
+};
 use std::alloc::{AllocError, Global};
 use thiserror::Error;
 

@@ -12,9 +12,10 @@ use crate::facts::Facts;
 use crate::lists::Lists;
 use base_files::OsBytes;
 use cmdlines_base::{ArgParseError, Argument, CompilerArguments, SearchableArgInfo};
-use cmdlines_requests::ParsedArguments;
 use cmdlines_tables::kind::ArgKind;
-use cmdlines_tables::{ArgData, CCompilerKind, Spelling, arguments_are_their_items, arguments_of};
+use cmdlines_tables::{
+    ArgData, CCompilerKind, ParsedArguments, Spelling, arguments_are_their_items, arguments_of,
+};
 use std::alloc::{AllocError, Global};
 
 /// Whether a word for Clang's front end is about modules or precompiled headers, or loads a plugin.

@@ -12,9 +12,8 @@ ghost use Rattle.cmdlines_tables.specs.Kinds.{blocks_preprocessor_cache};
 
 use base_files::OsBytes;
 use cmdlines_base::{ArgDisposition, ArgInfo, Argument, ColorMode, SearchableArgInfo};
-use cmdlines_requests::DependencyOptions;
-use cmdlines_tables::ArgData;
 use cmdlines_tables::kind::ArgKind;
+use cmdlines_tables::{ArgData, DependencyOptions};
 use std::alloc::{AllocError, Global};
 
 /// What the arguments say beside the lists.

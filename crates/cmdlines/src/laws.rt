@@ -6,7 +6,7 @@ ghost use Rattle.cmdlines.specs.Commands.{HasObjectIn, compile_words, output_pat
 ghost use Rattle.cmdlines.specs.KnownLanguages.{HasKnownLanguageIn};
 ghost use Rattle.cmdlines.specs.Parsing.{parse_of, HasSafeInputIn};
 ghost use Rattle.cmdlines.specs.ReadBack.{ReadsAsCompile, ReadsAsPreprocess};
-ghost use Rattle.cmdlines_requests.specs.declared.parsed.ParsedArguments.{ParsedArguments};
+ghost use Rattle.cmdlines_tables.specs.declared.parsed.ParsedArguments.{ParsedArguments};
 ghost use Rattle.cmdlines_tables.specs.declared.compiler.CCompilerKind.{CCompilerKind};
 
 use cmdlines_base::{items_read_again, items_read_together, words_have_one_reading};

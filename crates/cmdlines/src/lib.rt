@@ -25,16 +25,17 @@ pub use cmdlines_base::{
     Delimiter, FromArg, IntoArg, Iter, IterStrings, NormalizedDisposition, SearchableArgInfo,
     SingleCompileCommand, Table, split_os_string_arg,
 };
-pub use cmdlines_requests::{Cacheable, DependencyOptions, ParsedArguments};
 pub use cmdlines_response_files::gcc::GnuFiles;
 pub use cmdlines_response_files::msvc::MsvcFiles;
-pub use cmdlines_response_files::{DiabFiles, ExpandAtArgs, ExpandedWords, ParseFault};
-pub use cmdlines_response_texts::{
-    SplitMsvcResponseFileArgs, decode_response_text, split_gnu_response_file_args,
+pub use cmdlines_response_files::{
+    DiabFiles, ExpandAtArgs, ExpandedWords, ParseFault, SplitMsvcResponseFileArgs,
+    decode_response_text, split_gnu_response_file_args,
 };
 pub use cmdlines_tables::kind::ArgKind;
 pub use cmdlines_tables::language::{Language, language_to_clang_arg, language_to_gcc_arg};
-pub use cmdlines_tables::{ArgData, CCompilerKind, compiler_tree};
+pub use cmdlines_tables::{
+    ArgData, CCompilerKind, Cacheable, DependencyOptions, ParsedArguments, compiler_tree,
+};
 pub use command::CommandError;
 pub use found::{FoundCompiler, HasKind};
 pub use kinds::{

@@ -5,9 +5,8 @@ ghost use Rattle.std.specs.Prelude.{◌≡◌};
 ghost use Rattle.cmdlines.specs.Hazards.{names_file, opens_file};
 
 use base_files::OsBytes;
-use cmdlines_requests::ParsedArguments;
 use cmdlines_response_files::Style;
-use cmdlines_tables::CCompilerKind;
+use cmdlines_tables::{CCompilerKind, ParsedArguments};
 
 /// Whether an option whose value may be joined or separate was read with an empty value. It takes no memory.
 pub fn empty_value(parsed: &ParsedArguments) -> bool

@@ -6,3 +6,9 @@ pub mod Causes
 pub mod Words
 pub mod Unread
 pub mod Asking
+pub mod Gathering
+pub mod Gnu
+pub mod Msvc
+pub mod Scanning
+pub mod Decoding
+pub mod Left

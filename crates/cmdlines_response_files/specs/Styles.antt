@@ -4,8 +4,8 @@ use Rattle.std.specs.List.{list_any, starts_with}
 use Rattle.std.specs.Option.{option_map}
 use Rattle.base_files.specs.Bytes.{Bytes}
 use Rattle.base_files.specs.Path.{join}
-use Rattle.cmdlines_response_texts.specs.Decoding.{decoded}
-use Rattle.cmdlines_response_texts.specs.Scanning.{gnu_arguments, msvc_arguments}
+use Rattle.cmdlines_response_files.specs.Decoding.{decoded}
+use Rattle.cmdlines_response_files.specs.Scanning.{gnu_arguments, msvc_arguments}
 use Rattle.cmdlines_response_files.specs.declared.style.Style.{Style}
 use Rattle.cmdlines_response_files.specs.declared.style.Style.TheVariants.{Gnu, Msvc, Diab}
 

@@ -3,14 +3,14 @@
 ghost use Rattle.std.specs.Prelude.{◌≡◌, IfOk};
 ghost use Rattle.std.specs.List.{list_any};
 ghost use Rattle.std.specs.Option.{option_copied};
-ghost use Rattle.cmdlines_response_texts.specs.Decoding.{decoded};
-ghost use Rattle.cmdlines_response_texts.specs.Scanning.{gnu_arguments, msvc_arguments};
+ghost use Rattle.cmdlines_response_files.specs.Decoding.{decoded};
+ghost use Rattle.cmdlines_response_files.specs.Scanning.{gnu_arguments, msvc_arguments};
 ghost use Rattle.cmdlines_response_files.specs.Styles.{behind, is_special, mark_of, names_file, path_of, words_of};
 
+use crate::decoding::decode_response_text;
+use crate::gnu_texts::split_gnu_response_file_args;
+use crate::msvc_texts::SplitMsvcResponseFileArgs;
 use base_files::{Listed, OsBytes, join};
-use cmdlines_response_texts::{
-    SplitMsvcResponseFileArgs, decode_response_text, split_gnu_response_file_args,
-};
 use std::alloc::{AllocError, Global};
 
 /// Whose way it is to name a response file and to cut its text.

@@ -1,3 +1,4 @@
 pub mod OwnWordLemmas
 pub mod TableTests
 pub mod PlaceLemmas
+pub mod ArchLemmas

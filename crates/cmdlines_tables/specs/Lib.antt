@@ -8,3 +8,4 @@ pub mod Tables
 pub mod OwnWords
 pub mod MsvcTable
 pub mod EmbeddedTables
+pub mod Small

@@ -1,6 +1,8 @@
-//! The options of the C compilers: what each is for, the tables of each compiler, and the languages.
+//! The options of the C compilers: what each is for, the tables of each compiler, and the languages. What a request asks for by them,
+//! and a command as it is run: the values that what parses words, what writes commands and what makes keys speak of.
 #![tactic(auto)]
 
+mod command;
 mod compiler;
 mod compiler_tables;
 mod cutting;
@@ -10,9 +12,11 @@ pub mod language;
 mod language_byte;
 mod laws;
 mod msvc_table;
+mod parsed;
 mod tables;
 mod value;
 
+pub use command::{Cacheable, command_at};
 pub use compiler::{CCompilerKind, Spelling};
 pub use compiler_tables::compiler_tree;
 pub use cutting::arguments_of;
@@ -22,5 +26,6 @@ pub use laws::{
     options_are_counted, own_words_are_read, tables_share_no_flag,
 };
 pub use msvc_table::{msvc_dash_table, msvc_slash_table};
+pub use parsed::{DependencyOptions, ParsedArguments};
 pub use tables::{clang_table, gnu_table};
 pub use value::ArgData;

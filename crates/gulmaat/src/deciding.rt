@@ -6,7 +6,7 @@ use cache_c_calls::{End, What, decide_on_c};
 use cache_call_log::CallFacts;
 use cache_host::{CommandLine, Host, HostError};
 use cache_rustc_calls::{RustcEnd, RustcWhat, decide_on_rustc};
-use cache_rustc_id::is_named_rustc;
+use cache_rustc_requests::is_named_rustc;
 use cache_settings::Key;
 use std::fs::File;
 use std::io::Read;

@@ -10,14 +10,13 @@ ghost use Rattle.std.specs.Prelude.{◌≡◌};
 mod counting;
 mod deciding;
 
+use cache_c_calls::why::why;
 use cache_c_calls::{End, What};
-use cache_explained_misses::why::why;
 use cache_host::{CommandLine, Host, HostError};
-use cache_made_outputs::Audit;
-use cache_rustc_id::is_named_rustc;
 use cache_rustc_kept::why_of_rustc;
+use cache_rustc_requests::is_named_rustc;
 use cache_settings::read_settings;
-use cache_source_files::opened_words;
+use cache_source_files::{Audit, opened_words};
 use cache_user_options::help::help;
 use cache_user_options::{Caller, do_options};
 use counting::note;

@@ -15,7 +15,7 @@ ghost use Rattle.rustkeys.specs.Questions.{dep_info_of, file_names_of, question_
 use crate::place::RustPlace;
 use base_files::{Files, OsBytes};
 use ckeys_records::{Fault, Printed, RustcAnswers, Step, ToolFail};
-use cmdlines_requests::command_at;
+use cmdlines_tables::command_at;
 use rustc_texts::{dep_info_words, file_names_words};
 use std::alloc::Global;
 

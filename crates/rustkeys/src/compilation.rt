@@ -1,7 +1,7 @@
 //! What a compile of a request runs and writes, and the pieces of its key.
 
 ghost use Rattle.std.specs.Prelude.{◌≡◌, IfOk};
-ghost use Rattle.cmdlines_requests.specs.Small.{command_at};
+ghost use Rattle.cmdlines_tables.specs.Small.{command_at};
 ghost use Rattle.rustc_texts.specs.Outputs.{outputs_with};
 ghost use Rattle.rustc_texts.specs.Words.{compile_words};
 ghost use Rattle.rustc_options.specs.Asks.{asks_in};
@@ -11,7 +11,7 @@ use crate::ordered_lists::compile_env_of;
 use crate::place::RustPlace;
 use base_files::{Listed, OsBytes};
 use cmdlines_base::SingleCompileCommand;
-use cmdlines_requests::{Cacheable, command_at};
+use cmdlines_tables::{Cacheable, command_at};
 use rustc_parts::parts::Parts;
 use rustc_texts::compile_words;
 use rustc_texts::outputs::{Output, outputs};

@@ -5,7 +5,7 @@ ghost use Rattle.std.specs.Option.{option_copied, option_to_list};
 ghost use Rattle.base_files.specs.Bytes.{Bytes};
 ghost use Rattle.base_files.specs.Tree.{Tree};
 ghost use Rattle.base_formats.specs.Spelling.{FitsFrame};
-ghost use Rattle.cmdlines_requests.specs.Small.{command_at};
+ghost use Rattle.cmdlines_tables.specs.Small.{command_at};
 ghost use Rattle.rustc_parts.specs.Material.{material_of};
 ghost use Rattle.rustc_parts.specs.Shapes.{shape_of};
 ghost use Rattle.rustc_texts.specs.Outputs.{output_names, outputs_of};

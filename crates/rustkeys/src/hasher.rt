@@ -9,7 +9,7 @@ ghost use Rattle.ckeys_records.specs.Faults.{KeyCause};
 ghost use Rattle.ckeys_records.specs.Meaning.{AtMostOnce};
 ghost use Rattle.ckeys_records.specs.Views.{ToolFails};
 ghost use Rattle.ckeys_records.specs.Untouched.{Untouched};
-ghost use Rattle.cmdlines_requests.specs.Small.{command_at};
+ghost use Rattle.cmdlines_tables.specs.Small.{command_at};
 ghost use Rattle.rustc_parts.specs.Formed.{IsDigest, digest_digits};
 ghost use Rattle.rustc_texts.specs.Words.{compile_words};
 ghost use Rattle.rustc_options.specs.Asks.{asks_in};

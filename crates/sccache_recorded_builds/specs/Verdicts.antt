@@ -9,7 +9,7 @@ use Rattle.cmdlines.specs.Hazards.{opens_file}
 use Rattle.cmdlines.specs.Opening.{opened_words}
 use Rattle.cmdlines.specs.Parsing.{Decision, asks, not_compilation, cannot_cache, parse_of}
 use Rattle.cmdlines_base.specs.Reading.{begins_with_at}
-use Rattle.cmdlines_requests.specs.declared.parsed.ParsedArguments.{ParsedArguments}
+use Rattle.cmdlines_tables.specs.declared.parsed.ParsedArguments.{ParsedArguments}
 use Rattle.cmdlines_tables.specs.declared.compiler.CCompilerKind.{CCompilerKind}
 use Rattle.rustc_options.specs.Asks.{RustAsks}
 use Rattle.rustc_texts.specs.Words as rustc

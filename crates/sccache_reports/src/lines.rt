@@ -5,7 +5,7 @@ use crate::request_texts::{Detail, write_compile, write_kept, write_preprocess};
 use crate::texts::push_line;
 use crate::usage::Shown;
 use base_files::{FileTime, Listed, MemoryFile, MemoryFiles, OsBytes};
-use cmdlines_response_texts::split_gnu_response_file_args;
+use cmdlines_response_files::split_gnu_response_file_args;
 use sccache_recorded_builds::{Compilers, Decided, Entry, EntryCompiler, reason_of};
 use std::alloc::{AllocError, Global};
 

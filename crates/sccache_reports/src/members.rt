@@ -3,7 +3,7 @@
 use crate::fault::ReportFault;
 use crate::room::EntryRoom;
 use crate::skipping::skip_rest;
-use cmdlines_response_texts::split_gnu_response_file_args;
+use cmdlines_response_files::split_gnu_response_file_args;
 use json::{MAX_DEPTH, Reader, Token};
 use std::alloc::{AllocError, Global};
 

@@ -4,7 +4,7 @@ use crate::texts::{write_list, write_words};
 use base_files::{Listed, OsBytes};
 use cmdlines::AnyFoundCompiler;
 use cmdlines_base::{Argument, ColorMode, CompilerArguments};
-use cmdlines_requests::ParsedArguments;
+use cmdlines_tables::ParsedArguments;
 use rustc_options::{ArgData, parsed as rust};
 use sccache_recorded_builds::{Compilers, Decided};
 use std::alloc::{AllocError, Global};

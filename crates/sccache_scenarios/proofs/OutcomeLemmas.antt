@@ -10,7 +10,7 @@ use Rattle.cmdlines.specs.KnownLanguages.{HasKnownLanguageIn, IsKnownTo}
 use Rattle.cmdlines.specs.Parsing.{HasSafeInput, parse_of}
 use Rattle.cmdlines.specs.Parsing as parsing
 use Rattle.cmdlines.specs.ReadBack.{ReadsAsCompile, ReadsAsPreprocess}
-use Rattle.cmdlines_requests.specs.declared.parsed.ParsedArguments.{ParsedArguments}
+use Rattle.cmdlines_tables.specs.declared.parsed.ParsedArguments.{ParsedArguments}
 use Rattle.cmdlines_tables.specs.Tables.{reading_of}
 use Rattle.cmdlines_tables.specs.declared.compiler.CCompilerKind.{CCompilerKind}
 use Rattle.ckeys_base.specs.FolderPlaces.{text_places}

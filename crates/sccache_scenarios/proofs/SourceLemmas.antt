@@ -26,8 +26,8 @@ use Rattle.cmdlines_tables.specs.declared.language.Language.TheVariants.{C, Cxx,
 use Rattle.cmdlines.specs.Commands.{ReadsAs, added_items, behind_items, color_items, compile_items, front_items, front_words, preprocess_items, when_items}
 use Rattle.cmdlines.specs.KnownLanguages.{IsKnownTo}
 use Rattle.cmdlines.specs.Wanted.{is_wanted, wanted}
-use Rattle.cmdlines_requests.specs.declared.parsed.DependencyOptions.{DependencyOptions}
-use Rattle.cmdlines_requests.specs.declared.parsed.ParsedArguments.{ParsedArguments}
+use Rattle.cmdlines_tables.specs.declared.parsed.DependencyOptions.{DependencyOptions}
+use Rattle.cmdlines_tables.specs.declared.parsed.ParsedArguments.{ParsedArguments}
 use Rattle.ckeys.specs.Calls.{needs_preprocessing}
 use Rattle.ckeys_records.specs.declared.step.Step.TheVariants.{Compile}
 use Rattle.sccache_script_tool.specs.Scripted.{input_in, language_in, one_in, only, takes_as_it_stands}

@@ -4,7 +4,7 @@ use Rattle.std.specs.List.{concat}
 use Rattle.base_files.specs.Tree.{Tree}
 use Rattle.cmdlines.specs.Parsing.{HasSafeInput, IsGivenByOption, parse_of}
 use Rattle.cmdlines.specs.Parsing as parsing
-use Rattle.cmdlines_requests.specs.declared.parsed.ParsedArguments.{ParsedArguments}
+use Rattle.cmdlines_tables.specs.declared.parsed.ParsedArguments.{ParsedArguments}
 use Rattle.ckeys_records.specs.Folders.{Settings}
 use Rattle.ckeys_records.specs.Meaning.{Made, names_of}
 use Rattle.ckeys_records.specs.declared.output_name.OutputName.{OutputName}

@@ -4,12 +4,12 @@ ghost use Rattle.std.specs.Prelude.{◌≡◌, ◌⊎◌, ◌<◌, ◌↔◌, le
 ghost use Rattle.std.specs.Io.KnownBytes.{IsAtEnd};
 
 use crate::explaining::Explainer;
+use crate::scenario::{Scenario, ScenarioCall, ScenarioFault, read_scenario};
 use base_bounded_store::LruStore;
 use base_files::{Listed, MemoryFiles, OsBytes};
 use ckeys::{EntryKey, PreprocessorCacheEntry, Store};
 use ckeys_records::{Fault, Preprocessor};
 use cmdlines::EachKind;
-use sccache_scenario_texts::{Scenario, ScenarioCall, ScenarioFault, read_scenario};
 use sccache_script_tool::{
     CrateTexts, RetoldTool, ScriptTool, StatusOf, Statuses, error_status, print_status,
 };

@@ -1,7 +1,7 @@
 //! Response texts: their bytes as text, and their arguments by each grammar.
 
 use base_files::OsBytes;
-use cmdlines_response_texts::{
+use cmdlines_response_files::{
     SplitMsvcResponseFileArgs, decode_response_text, split_gnu_response_file_args,
 };
 use std::alloc::{AllocError, Global};

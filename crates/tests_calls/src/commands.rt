@@ -4,9 +4,8 @@ use crate::words::{Tally, copy};
 use base_files::{MemoryFiles, OsBytes};
 use cmdlines::Gcc;
 use cmdlines_base::{ArgInfo, ArgParseError, CompilerArguments, SearchableArgInfo};
-use cmdlines_requests::ParsedArguments;
 use cmdlines_response_files::ParseFault;
-use cmdlines_tables::{ArgData, CCompilerKind, arguments_of, compiler_tree};
+use cmdlines_tables::{ArgData, CCompilerKind, ParsedArguments, arguments_of, compiler_tree};
 use std::alloc::{AllocError, Global};
 
 /// Tallies the flags of the arguments that the words are cut into: there are as many as arguments, and no bytes of one that has none.

@@ -3,13 +3,13 @@
 ghost use Rattle.std.specs.Prelude.{◌≡◌, IfOk, length};
 ghost use Rattle.cmdlines_response_files.specs.Expansion.{expanded};
 ghost use Rattle.cmdlines_response_files.specs.declared.style.Style.TheVariants.{Gnu};
-ghost use Rattle.cmdlines_response_texts.specs.Decoding.{decoded};
-ghost use Rattle.cmdlines_response_texts.specs.Scanning.{gnu_arguments, msvc_arguments};
+ghost use Rattle.cmdlines_response_files.specs.Decoding.{decoded};
+ghost use Rattle.cmdlines_response_files.specs.Scanning.{gnu_arguments, msvc_arguments};
 
 use base_files::{FileTime, MemoryFile, MemoryFiles, OsBytes};
-use cmdlines_response_files::{ParseFault, Style, expand};
-use cmdlines_response_texts::{
-    SplitMsvcResponseFileArgs, decode_response_text, split_gnu_response_file_args,
+use cmdlines_response_files::{
+    ParseFault, SplitMsvcResponseFileArgs, Style, decode_response_text, expand,
+    split_gnu_response_file_args,
 };
 use std::alloc::{AllocError, Global};
 

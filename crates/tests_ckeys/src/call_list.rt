@@ -12,7 +12,7 @@ use ckeys_records::{Fault, KeyConfig, Preprocessor};
 use ckeys_time_macros::Zone;
 use cmdlines::Gcc;
 use cmdlines_base::CompilerArguments;
-use cmdlines_requests::ParsedArguments;
+use cmdlines_tables::ParsedArguments;
 use sha2::Sha256;
 use std::alloc::{AllocError, Global};
 use std::fmt::Write;

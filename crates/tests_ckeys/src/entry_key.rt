@@ -1,8 +1,8 @@
 //! Entry keys, as hashlib computes them of the framed parts, and inputs that have none.
 
 use crate::scene::Scene;
-use ckeys_entry_keys::entry_key::{EntryKey, entry_key};
-use ckeys_entry_keys::{Asker, SeenInput};
+use ckeys_include_records::entry_key::{EntryKey, entry_key};
+use ckeys_include_records::{Asker, SeenInput};
 use sha2::Sha256;
 use std::alloc::{AllocError, Global};
 use std::test::Fail;

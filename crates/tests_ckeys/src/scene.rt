@@ -1,11 +1,10 @@
 //! A call in `/w`, whose request has something in each of its lists.
 
 use base_files::{Listed, OsBytes};
-use ckeys_entry_keys::Asker;
+use ckeys_include_records::Asker;
 use cmdlines_base::{ArtifactDescriptor, ColorMode};
-use cmdlines_requests::{DependencyOptions, ParsedArguments};
-use cmdlines_tables::CCompilerKind;
 use cmdlines_tables::language::Language;
+use cmdlines_tables::{CCompilerKind, DependencyOptions, ParsedArguments};
 use std::alloc::{AllocError, Global};
 use tests_kit::words;
 

@@ -1,8 +1,7 @@
 //! Rows that are bound to keys: their layout, and where two lists of them differ.
 
 use base_files::OsBytes;
-use cache_host::HostError;
-use cache_key_additions::{Additions, VARIABLE, difference};
+use cache_host::{ADDITIONS_VARIABLE, Additions, HostError, difference_of_additions};
 use std::alloc::Global;
 use std::test::Fail;
 use tests_kit::{holds, is_that};
@@ -28,7 +27,7 @@ fn rows_have_a_layout(rt: HostRuntime) -> Result<(), Fail> {
         return Err("no variable".into());
     };
     holds(
-        name.as_bytes() == VARIABLE.as_bytes(),
+        name.as_bytes() == ADDITIONS_VARIABLE.as_bytes(),
         "the variable's name",
     )?;
     holds(value.as_bytes() == ROWS.as_slice(), "the layout of rows")
@@ -44,7 +43,7 @@ fn difference_of(
     here.push(variable_of(alloc, rows)?)?;
     let mut there = Vec::new(alloc);
     there.push(variable_of(alloc, earlier)?)?;
-    match difference(alloc, here.as_slice(), there.as_slice())? {
+    match difference_of_additions(alloc, here.as_slice(), there.as_slice())? {
         Some(text) => Ok(text),
         None => Ok(String::new(alloc)),
     }

@@ -4,7 +4,7 @@ use crate::answers::push_unless;
 use crate::runs::{NONE_FAILS, Run, Stop, Turn, run_over};
 use crate::stores::Seen;
 use base_bounded_store::LruStore;
-use sccache_scenario_texts::read_scenario;
+use sccache_scenarios::read_scenario;
 use std::alloc::{AllocError, Global};
 use std::num::NonZeroUsize;
 use tests_failing_kit::{Forgetful, Order};

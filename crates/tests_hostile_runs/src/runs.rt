@@ -6,7 +6,7 @@ use base_files::{Files, OsBytes};
 use ckeys::{EntryKey, PreprocessorCacheEntry};
 use ckeys_records::{KeyConfig, Preprocessor, Step, Ticks};
 use cmdlines::EachKind;
-use sccache_scenario_texts::{Scenario, ScenarioCall, ScenarioFault, read_scenario};
+use sccache_scenarios::{Scenario, ScenarioCall, ScenarioFault, read_scenario};
 use sccache_script_tool::{
     CrateTexts, RetoldTool, ScriptTool, StatusOf, Statuses, error_status, print_status,
 };

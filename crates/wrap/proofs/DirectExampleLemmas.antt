@@ -10,9 +10,9 @@ use Rattle.base_files.specs.declared.files.Metadata.{Metadata}
 use Rattle.ckeys_time_macros.specs.Days.{ZoneRule}
 use Rattle.ckeys_time_macros.specs.Macros.{holds_date, holds_time, holds_timestamp}
 use Rattle.ckeys_include_records.specs.Records.{result_with}
-use Rattle.ckeys_entry_keys.specs.Identity.{identity_material}
-use Rattle.ckeys_entry_keys.specs.Sights.{sight_material}
-use Rattle.ckeys_entry_keys.specs.Telling.{entry_key_with}
+use Rattle.ckeys_include_records.specs.Identity.{identity_material}
+use Rattle.ckeys_include_records.specs.Sights.{sight_material}
+use Rattle.ckeys_include_records.specs.Telling.{entry_key_with}
 use Rattle.ckeys.specs.Calls.{PrintedCall, record_by}
 use Rattle.ckeys.specs.Entries.{HasMatch, Held, IsHashedBy, entry_key_by, good_text, has_entry_key, identity_by, includes_by, sights_by}
 use Rattle.ckeys.specs.Entries.IsHashedBy.{of_identity, of_sights, of_extra_file, of_file}

@@ -18,7 +18,7 @@ use Rattle.ckeys.specs.EntryTurns.{EntryTurn}
 use Rattle.ckeys_records.specs.Folders.{Settings}
 use Rattle.wrap_keys.specs.CallRecords.{key_of}
 use Rattle.ckeys_records.specs.Meaning.{Meaning, names_of}
-use Rattle.ckeys_entry_keys.specs.declared.entry_key.EntryKey.{EntryKey}
+use Rattle.ckeys_include_records.specs.declared.entry_key.EntryKey.{EntryKey}
 use Rattle.ckeys_include_records.specs.Records.{Record}
 use Rattle.ckeys_records.specs.declared.fault.Fault.TheVariants.{PreprocessFailed, Read}
 use Rattle.ckeys_records.specs.declared.fault.Fault.{Fault}

@@ -9,7 +9,7 @@ use Rattle.ckeys_records.specs.Causes.{ByStage, Stage, any_time, before_compile,
 use Rattle.ckeys_records.specs.Meaning.{Meaning}
 use Rattle.ckeys_records.specs.declared.fault.Fault.{Fault}
 use Rattle.ckeys_records.specs.declared.step.Step.{Step}
-use Rattle.ckeys_entry_keys.specs.declared.entry_key.EntryKey.{EntryKey}
+use Rattle.ckeys_include_records.specs.declared.entry_key.EntryKey.{EntryKey}
 use Rattle.ckeys_include_records.specs.Records.{Record}
 use Rattle.rustc_compiler.specs.Compiler.{Rustc}
 use Rattle.wrap_keys.specs.Account.{Account, Pairs, Work, rust_account_by, rust_call_at, rust_work_at, worked}

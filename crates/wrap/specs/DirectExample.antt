@@ -4,7 +4,7 @@ use Rattle.std.specs.List.{repeat}
 use Rattle.base_files.specs.Bytes.{Bytes}
 use Rattle.base_files.specs.Tree.{Node, Tree}
 use Rattle.base_files.specs.declared.files.Metadata.{Metadata}
-use Rattle.cmdlines_requests.specs.declared.parsed.ParsedArguments.{ParsedArguments}
+use Rattle.cmdlines_tables.specs.declared.parsed.ParsedArguments.{ParsedArguments}
 use Rattle.cmdlines_tables.specs.declared.compiler.CCompilerKind.TheVariants.{Gcc}
 use Rattle.cmdlines_base.specs.declared.color_mode.ColorMode.TheVariants.{Auto}
 use Rattle.cmdlines_tables.specs.declared.language.Language.TheVariants.{C}

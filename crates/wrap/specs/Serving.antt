@@ -7,7 +7,7 @@ use Rattle.ckeys.specs.Entries.{EntryInvariant, EntryPremises}
 use Rattle.ckeys_records.specs.Folders.{Settings}
 use Rattle.ckeys_records.specs.Views.{ToolView}
 use Rattle.ckeys_records.specs.declared.fault.Fault.{Fault}
-use Rattle.ckeys_entry_keys.specs.declared.entry_key.EntryKey.{EntryKey}
+use Rattle.ckeys_include_records.specs.declared.entry_key.EntryKey.{EntryKey}
 use Rattle.ckeys_include_records.specs.Records.{Record}
 use Rattle.wrap_keys.specs.Account.{Account, account_at, direct_calls}
 use Rattle.wrap_keys.specs.Answers.{Answers}

@@ -3,7 +3,7 @@
 ghost use Rattle.std.specs.Prelude.{◌≡◌, ◌↔◌, ◌∷◌, ◌++◌, [], ℕ, ℤ, true, false, List, Option, None, Some, Result, Ok, codes, is_some, length};
 ghost use Rattle.base_files.specs.Tree.{Tree};
 ghost use Rattle.ckeys_include_records.specs.Records.{Record};
-ghost use Rattle.ckeys_entry_keys.specs.declared.entry_key.EntryKey.{EntryKey};
+ghost use Rattle.ckeys_include_records.specs.declared.entry_key.EntryKey.{EntryKey};
 ghost use Rattle.base_files.specs.declared.files.Metadata.{Metadata};
 ghost use Rattle.ckeys_time_macros.specs.Days.{ZoneRule};
 ghost use Rattle.ckeys.specs.Entries.{EntryInvariant, HasMatch, Held, entry_key_by, has_entry_key, includes_by};

@@ -3,11 +3,11 @@ use Rattle.std.specs.Prelude.{List, string_bytes}
 use Rattle.base_files.specs.Bytes.{Bytes}
 use Rattle.base_files.specs.Tree.{Tree}
 use Rattle.cmdlines.specs.Commands.{compile_words, output_path}
-use Rattle.cmdlines_requests.specs.Small.{command_at}
+use Rattle.cmdlines_tables.specs.Small.{command_at}
 use Rattle.cmdlines.specs.Compilers.{Traits}
 use Rattle.cmdlines.specs.Compilers as compilers
 use Rattle.cmdlines.specs.Opening.{opened_words}
-use Rattle.cmdlines_requests.specs.declared.parsed.ParsedArguments.{ParsedArguments}
+use Rattle.cmdlines_tables.specs.declared.parsed.ParsedArguments.{ParsedArguments}
 use Rattle.ckeys.specs.declared.compiler.CCompiler.{CCompiler}
 use Rattle.cmdlines_base.specs.declared.command.SingleCompileCommand.{SingleCompileCommand}
 use Rattle.cmdlines_tables.specs.declared.compiler.CCompilerKind.{CCompilerKind}

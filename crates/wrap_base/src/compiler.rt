@@ -6,8 +6,7 @@ ghost use Rattle.wrap_base.specs.Commands.{c_described, c_of, digest_of, executa
 use base_files::OsBytes;
 use ckeys::{CCompiler, CCompilerHasher};
 use cmdlines::{AnyFoundCompiler, Clang, Diab, FoundCompiler, Gcc, HasKind, Msvc, TaskingVX};
-use cmdlines_requests::ParsedArguments;
-use cmdlines_tables::CCompilerKind;
+use cmdlines_tables::{CCompilerKind, ParsedArguments};
 use rustc_compiler::Rust;
 use std::alloc::{AllocError, Global};
 

@@ -29,7 +29,7 @@ use ckeys::KeyContents;
 use ckeys_base::HashState;
 use ckeys_records::output_name::OutputName;
 use ckeys_records::{Fault, KeyConfig, stripped_words_lack_the_end};
-use cmdlines_requests::ParsedArguments;
+use cmdlines_tables::ParsedArguments;
 use rustc_compiler::Rust;
 use rustc_options::parsed::ParsedArguments as RustArguments;
 use rustc_parts::parts::Parts;

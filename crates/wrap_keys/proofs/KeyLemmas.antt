@@ -4,7 +4,7 @@ use Rattle.base_files.specs.Bytes.{Bytes}
 use Rattle.base_files.specs.Fails.{FailsOn}
 use Rattle.base_files.specs.Tree.{Tree}
 use Rattle.cmdlines.specs.Compilers.{Found, kind_in, traits_in}
-use Rattle.cmdlines_requests.specs.declared.parsed.ParsedArguments.{ParsedArguments}
+use Rattle.cmdlines_tables.specs.declared.parsed.ParsedArguments.{ParsedArguments}
 use Rattle.ckeys_records.specs.Folders.{Settings}
 use Rattle.ckeys.specs.Hashers.{call_by}
 use Rattle.ckeys_records.specs.Meaning.{scene_with}

@@ -6,7 +6,7 @@ use Rattle.base_files.specs.Bytes.{Bytes}
 use Rattle.base_files.specs.Tree.{Tree}
 use Rattle.cmdlines.specs.Commands.{compile_words, output_path}
 use Rattle.cmdlines_base.specs.Artifacts.{Artifacts}
-use Rattle.cmdlines_requests.specs.declared.parsed.ParsedArguments.{ParsedArguments}
+use Rattle.cmdlines_tables.specs.declared.parsed.ParsedArguments.{ParsedArguments}
 use Rattle.ckeys.specs.Calls.{KeyCall, PrintedCall, early_fault_of, key_fault_of, printed_call, record_of}
 use Rattle.ckeys.specs.Entries.{asking, has_entry_key}
 use Rattle.ckeys_records.specs.Folders.{Settings}

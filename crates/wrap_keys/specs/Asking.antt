@@ -8,7 +8,7 @@ use Rattle.ckeys.specs.EntryTurns.{EntryTurn, KeyRecorded, KeyRuns, PutsNone, Ru
 use Rattle.ckeys_records.specs.Causes.{ByStage, stage_of}
 use Rattle.ckeys_records.specs.Folders.{Settings}
 use Rattle.ckeys_records.specs.Meaning.{AtMostOnce}
-use Rattle.ckeys_entry_keys.specs.declared.entry_key.EntryKey.{EntryKey}
+use Rattle.ckeys_include_records.specs.declared.entry_key.EntryKey.{EntryKey}
 use Rattle.ckeys_include_records.specs.Records.{Record}
 use Rattle.ckeys_records.specs.declared.fault.Fault.{Fault}
 use Rattle.ckeys_records.specs.declared.fault.Fault.TheVariants.{PreprocessFailed}

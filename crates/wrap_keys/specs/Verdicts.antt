@@ -6,7 +6,7 @@ use Rattle.cmdlines.specs.Commands.{compile_words, preprocess_words, output_path
 use Rattle.cmdlines.specs.Hazards.{opens_file}
 use Rattle.cmdlines.specs.Parsing.{parse_of}
 use Rattle.cmdlines.specs.Parsing as parsing
-use Rattle.cmdlines_requests.specs.declared.parsed.ParsedArguments.{ParsedArguments}
+use Rattle.cmdlines_tables.specs.declared.parsed.ParsedArguments.{ParsedArguments}
 use Rattle.cmdlines_tables.specs.declared.compiler.CCompilerKind.{CCompilerKind}
 use Rattle.ckeys_records.specs.Records.{hold_end}
 use Rattle.wrap_base.specs.declared.reason.Reason.{Reason}

@@ -20,9 +20,8 @@ use ckeys_records::{Fault, hold_word_end};
 use cmdlines::CommandError;
 use cmdlines::uncached_words::{empty_value, opens_file};
 use cmdlines_base::{CompilerArguments, SingleCompileCommand};
-use cmdlines_requests::ParsedArguments;
 use cmdlines_response_files::ParseFault;
-use cmdlines_tables::CCompilerKind;
+use cmdlines_tables::{CCompilerKind, ParsedArguments};
 use std::alloc::{AllocError, Global};
 use wrap_base::{AnyC, Reason, Request};
 

@@ -6,7 +6,7 @@ use Rattle.ckeys_base.specs.Shelf.{Shelf}
 use Rattle.ckeys.specs.Calls.{PrintedCall}
 use Rattle.ckeys.specs.Entries.{IsRecorded}
 use Rattle.ckeys_records.specs.Folders.{Settings}
-use Rattle.ckeys_entry_keys.specs.declared.entry_key.EntryKey.{EntryKey}
+use Rattle.ckeys_include_records.specs.declared.entry_key.EntryKey.{EntryKey}
 use Rattle.ckeys_include_records.specs.Records.{Record}
 use Rattle.ckeys_include_records.specs.declared.entry.CachedResult.{CachedResult}
 use Rattle.wrap.specs.Account.{Account, Pairs, Work, direct_calls, worked}

@@ -4,7 +4,7 @@ ghost use Rattle.std.specs.Prelude.{◌≡◌, List, [], ◌∷◌, ◌++◌, Op
 ghost use Rattle.base_files.specs.Views.{FilesFail};
 ghost use Rattle.ckeys_records.specs.Meaning.{Meaning};
 ghost use Rattle.ckeys_records.specs.Views.{ToolFails};
-ghost use Rattle.ckeys_entry_keys.specs.declared.entry_key.EntryKey.{EntryKey};
+ghost use Rattle.ckeys_include_records.specs.declared.entry_key.EntryKey.{EntryKey};
 ghost use Rattle.ckeys_include_records.specs.Records.{Record};
 ghost use Rattle.wrap_replay.specs.Beside.{TellsOwnDependencies};
 ghost use Rattle.wrap_replay.specs.Kept.{Holds, IsOfEarlier, RecordIsOfEarlier};
@@ -21,7 +21,7 @@ use crate::asked_store::AskedStore;
 use crate::replayed::replayed;
 use crate::watched_records::WatchedRecords;
 use base_snapshots::SnapshotFiles;
-use ckeys_entry_keys::entry_key::entry_keys_are_their_fields;
+use ckeys_include_records::entry_key::entry_keys_are_their_fields;
 use std::alloc::Global;
 use wrap::{
     Answer, Config, EntryKey, Fault, Files, HashState, MapStore, Pairs, Preprocessor,

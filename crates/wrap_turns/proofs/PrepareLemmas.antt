@@ -10,7 +10,7 @@ use Rattle.ckeys_records.specs.Causes.{ByStage, Stage, any_time, before_compile,
 use Rattle.ckeys_records.specs.Meaning.{Meaning}
 use Rattle.ckeys_records.specs.declared.fault.Fault.{Fault}
 use Rattle.ckeys_records.specs.declared.fault.Fault.TheVariants.{Memory}
-use Rattle.ckeys_entry_keys.specs.declared.entry_key.EntryKey.{EntryKey}
+use Rattle.ckeys_include_records.specs.declared.entry_key.EntryKey.{EntryKey}
 use Rattle.ckeys_include_records.specs.Records.{Record}
 use Rattle.wrap_keys.specs.Account.{direct_at, work_at, worked}
 use Rattle.wrap_keys.specs.Asking.{EntriesBy, EntriesTurn, OnUnkeyed, WorkKeyFrom}

@@ -5,7 +5,7 @@ use Rattle.base_files.specs.Bytes.{Bytes}
 use Rattle.base_files.specs.Tree.{Tree}
 use Rattle.cmdlines_base.specs.declared.command.SingleCompileCommand.{SingleCompileCommand}
 use Rattle.cmdlines_base.specs.Artifacts.{Artifacts}
-use Rattle.cmdlines_requests.specs.declared.parsed.ParsedArguments.{ParsedArguments}
+use Rattle.cmdlines_tables.specs.declared.parsed.ParsedArguments.{ParsedArguments}
 use Rattle.cmdlines_tables.specs.declared.compiler.CCompilerKind.{CCompilerKind}
 use Rattle.ckeys_records.specs.Folders.{Settings}
 use Rattle.ckeys_records.specs.Meaning.{Meaning, Made, made_of, names_of, scene_of, asked_of}

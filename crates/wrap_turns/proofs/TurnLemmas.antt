@@ -5,7 +5,7 @@ use Rattle.std.proofs.lemmas.Result.{err_from_is_err_and}
 use Rattle.base_files.specs.Bytes.{Bytes, ticked}
 use Rattle.base_files.specs.Tree.{Tree}
 use Rattle.base_files.specs.Views.{FilesView}
-use Rattle.cmdlines_requests.specs.declared.parsed.ParsedArguments.{ParsedArguments}
+use Rattle.cmdlines_tables.specs.declared.parsed.ParsedArguments.{ParsedArguments}
 use Rattle.ckeys_base.specs.Shelf.{Shelf, Asks, Puts, Forgotten, Within}
 use Rattle.ckeys.specs.Calls.{PrintedCall, key_fault_by}
 use Rattle.ckeys_records.specs.Faults.{KeyCause}
@@ -18,7 +18,7 @@ use Rattle.ckeys.specs.EntryTurns.{IsPut, IsSpared, KeyFine, KeyRecorded, KeyRun
 use Rattle.ckeys_records.specs.Meaning.{AtMostOnce}
 use Rattle.wrap_keys.specs.CallRecords.{CallRecord, IsTold, of_c, of_rustc}
 use Rattle.ckeys_records.specs.Meaning.{Meaning, FailsIn}
-use Rattle.ckeys_entry_keys.specs.declared.entry_key.EntryKey.{EntryKey}
+use Rattle.ckeys_include_records.specs.declared.entry_key.EntryKey.{EntryKey}
 use Rattle.ckeys_include_records.specs.Records.{Record}
 use Rattle.ckeys_records.specs.declared.fault.Fault.{Fault}
 use Rattle.ckeys_records.specs.declared.fault.Fault.TheVariants.{Memory}

@@ -1,7 +1,7 @@
 -- A request to rustc with its key.
 use Rattle.std.specs.Prelude.{◌≡◌}
 use Rattle.base_files.specs.Bytes.{Bytes}
-use Rattle.cmdlines_requests.specs.Small.{command_at}
+use Rattle.cmdlines_tables.specs.Small.{command_at}
 use Rattle.cmdlines_base.specs.declared.command.SingleCompileCommand.{SingleCompileCommand}
 use Rattle.rustc_compiler.specs.Compiler.{Rustc}
 use Rattle.rustc_texts.specs.Words.{compile_words}

@@ -8,9 +8,10 @@ use cmdlines_base::{
     ArgDisposition, ArgInfo, Argument, ByteTree, ColorMode, NormalizedDisposition,
     SearchableArgInfo,
 };
-use cmdlines_requests::{DependencyOptions, ParsedArguments};
 use cmdlines_tables::language::Language;
-use cmdlines_tables::{ArgData, CCompilerKind, compiler_tree, gnu_table};
+use cmdlines_tables::{
+    ArgData, CCompilerKind, DependencyOptions, ParsedArguments, compiler_tree, gnu_table,
+};
 use std::alloc::{AllocError, Global};
 use tests_kit::words;
 

@@ -1,7 +1,7 @@
 use Rattle.std.proofs.Common.{◌≡◌, ◌++◌}
-use Rattle.cmdlines_response_texts.specs.Decoding.{decoded}
-use Rattle.cmdlines_response_texts.specs.Left.{text_left}
-use Rattle.cmdlines_response_texts.specs.Scanning.{msvc_arguments}
+use Rattle.cmdlines_response_files.specs.Decoding.{decoded}
+use Rattle.cmdlines_response_files.specs.Left.{text_left}
+use Rattle.cmdlines_response_files.specs.Scanning.{msvc_arguments}
 use Rattle.tests_calls.proofs.words.split_msvc.Given as goal
 
 -- the arguments so far, and those of the text that is left

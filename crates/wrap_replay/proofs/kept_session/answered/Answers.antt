@@ -1,5 +1,5 @@
 use Rattle.base_snapshots.specs.contracts.files.SnapshotFilesFiles.TheImpl as snapshot
-use Rattle.ckeys_entry_keys.specs.contracts.entry_key.EntryKeyPartialEq.TheImpl as entry_eq
+use Rattle.ckeys_include_records.specs.contracts.entry_key.EntryKeyPartialEq.TheImpl as entry_eq
 use Rattle.wrap_base.specs.MapStores.{shelf_of}
 use Rattle.wrap_replay.proofs.kept_session.answered.Goals as goal
 

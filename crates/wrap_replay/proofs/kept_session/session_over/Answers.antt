@@ -1,5 +1,5 @@
 use Rattle.std.proofs.Common.{ap, subst, sym, ◌∙◌}
-use Rattle.ckeys_entry_keys.specs.contracts.entry_key.EntryKeyPartialEq.TheImpl as entry_eq
+use Rattle.ckeys_include_records.specs.contracts.entry_key.EntryKeyPartialEq.TheImpl as entry_eq
 use Rattle.wrap_base.specs.MapStores.{shelf_of}
 use Rattle.wrap_base.specs.contracts.store_key.StoreKeyPartialEq.TheImpl as key_eq
 use Rattle.wrap_replay.specs.Kept.{Holds}

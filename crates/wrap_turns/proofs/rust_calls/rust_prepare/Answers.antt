@@ -2,7 +2,7 @@ use Rattle.std.specs.declared.alloc.Global.{Global}
 use Rattle.std.specs.declared.vec.Vec.{Vec}
 use Rattle.std.proofs.Common.{◌≡◌, ℕ, None, ap, subst, ◌∙◌}
 use Rattle.base_files.specs.Fails.{FailsOn}
-use Rattle.cmdlines_requests.specs.Small.{command_at}
+use Rattle.cmdlines_tables.specs.Small.{command_at}
 use Rattle.ckeys_records.specs.Faults.{KeyCause}
 use Rattle.ckeys_records.specs.Meaning.{AtMostOnce, FailsIn, Variables, names_of, scene_with}
 use Rattle.rustc_texts.specs.Words.{compile_words}

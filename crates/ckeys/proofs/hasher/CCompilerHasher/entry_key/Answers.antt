@@ -1,8 +1,8 @@
 use Rattle.std.proofs.Common.{◌≡◌, sym, subst, ◌∙◌}
 use Rattle.base_files.specs.Fails.{FailsOn}
-use Rattle.ckeys_entry_keys.specs.Identity.{IdentityFits}
-use Rattle.ckeys_entry_keys.specs.Sights.{SightsFit, seen_by, sights_of}
-use Rattle.ckeys_entry_keys.specs.Telling.{entry_key_over}
+use Rattle.ckeys_include_records.specs.Identity.{IdentityFits}
+use Rattle.ckeys_include_records.specs.Sights.{SightsFit, seen_by, sights_of}
+use Rattle.ckeys_include_records.specs.Telling.{entry_key_over}
 use Rattle.ckeys.specs.Calls.{KeyCall, missing_input}
 use Rattle.ckeys_records.specs.Faults.{FileCause}
 use Rattle.ckeys.specs.Entries.{input_with}

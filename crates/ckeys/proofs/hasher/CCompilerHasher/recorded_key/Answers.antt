@@ -14,8 +14,8 @@ use Rattle.ckeys_records.specs.Material.{shape_of}
 use Rattle.ckeys_records.specs.Meaning.{FailsIn}
 use Rattle.ckeys_records.specs.Params.{parts_handed}
 use Rattle.ckeys.specs.Surroundings.{recorded_of}
-use Rattle.ckeys_entry_keys.specs.contracts.entry_key.EntryKeyPartialEq.TheImpl as entry_eq
-use Rattle.ckeys_entry_keys.specs.declared.entry_key.EntryKey.{EntryKey}
+use Rattle.ckeys_include_records.specs.contracts.entry_key.EntryKeyPartialEq.TheImpl as entry_eq
+use Rattle.ckeys_include_records.specs.declared.entry_key.EntryKey.{EntryKey}
 use Rattle.ckeys_include_records.specs.Records.{Record}
 use Rattle.ckeys.proofs.CallLemmas.{cause_is, file_cause}
 use Rattle.ckeys_records.proofs.FaultLemmas.{since, on_exit}

@@ -1,8 +1,0 @@
-use Rattle.ckeys_entry_keys.proofs.Alike.{identities_alike, sights_alike}
-use Rattle.ckeys_entry_keys.proofs.laws.materials_tell_calls.Goals as goal
-
-pub returns-clause-identity : goal.returns-clause-identity
-returns-clause-identity c = identities_alike c.names_tell_kinds.ensures c.framed_parts_are_told.ensures
-
-pub returns-clause-sights : goal.returns-clause-sights
-returns-clause-sights c = sights_alike c.framed_parts_are_told.ensures

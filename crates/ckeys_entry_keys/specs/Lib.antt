@@ -1,4 +1,0 @@
-pub mod Framing
-pub mod Identity
-pub mod Sights
-pub mod Telling

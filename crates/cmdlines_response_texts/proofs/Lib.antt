@@ -1,3 +1,0 @@
-pub mod DecodingLemmas
-pub mod GnuReadings
-pub mod MsvcReadings

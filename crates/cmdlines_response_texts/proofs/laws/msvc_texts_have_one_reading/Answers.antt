@@ -1,8 +1,0 @@
-use Rattle.cmdlines_response_texts.proofs.MsvcReadings.{only, reads}
-use Rattle.cmdlines_response_texts.proofs.laws.msvc_texts_have_one_reading.Goals as goal
-
-pub returns-clause-reads : goal.returns-clause-reads
-returns-clause-reads c = reads
-
-pub returns-clause-only : goal.returns-clause-only
-returns-clause-only c = only
