@@ -169,7 +169,12 @@ impl Key {
 
     /// The key of that name.
     pub fn named(name: &str) -> Option<Key> {
-        Key::ALL.iter().copied().find(|key| key.name() == name)
+        for key in Key::ALL {
+            if key.name() == name {
+                return Some(key);
+            }
+        }
+        None
     }
 }
 

@@ -1,7 +1,7 @@
 //! Where results of other machines are: the address of a server or a folder, followed by attributes, each after a `|`.
 
 use crate::values::truth_named;
-use std::alloc::Global;
+use std::alloc::{AllocError, Global};
 use std::fmt;
 
 /// What addresses begin with.
@@ -12,7 +12,12 @@ const HIDDEN: &str = "***";
 
 /// Whether an address is one.
 fn is_address(text: &str) -> bool {
-    FRONTS.iter().any(|front| text.starts_with(*front))
+    for front in FRONTS {
+        if text.starts_with(front) {
+            return true;
+        }
+    }
+    false
 }
 
 /// The name and the value of an attribute; an empty value where it has none.
@@ -71,26 +76,27 @@ pub fn number_in(storage: &str, name: &str, usual: u32) -> u32 {
     }
 }
 
+/// The parts of an address round who may ask there: what comes before the first `//`, and behind the last `@`. Nothing where it names nobody.
+fn round_user(address: &str) -> Option<(&str, &str)> {
+    let (front, rest) = address.split_once("//")?;
+    let (_, server) = rest.rsplit_once('@')?;
+    Some((front, server))
+}
+
 /// Adds an address without who may ask there.
-fn put_address(shown: &mut String, address: &str) -> Result<(), fmt::Error> {
-    let (Some((front, rest)), Some((_, server))) = (
-        address.split_once("//"),
-        address.rsplit_once('@'),
-    ) else {
-        return Ok(shown.push_str(address)?);
-    };
-    match rest.contains('@') {
-        true => Ok(write!(shown, "{front}//{HIDDEN}@{server}")?),
-        false => Ok(shown.push_str(address)?),
+fn put_address(shown: &mut String, address: &str) -> Result<(), AllocError> {
+    match round_user(address) {
+        Some((front, server)) => write!(shown, "{front}//{HIDDEN}@{server}"),
+        None => shown.push_str(address),
     }
 }
 
 /// Adds an attribute without what may be shown to nobody.
-fn put_attribute(shown: &mut String, attribute: &str) -> Result<(), fmt::Error> {
+fn put_attribute(shown: &mut String, attribute: &str) -> Result<(), AllocError> {
     let (name, _) = parts_of(attribute);
     match name == "bearer-token" {
-        true => Ok(write!(shown, "|{name}={HIDDEN}")?),
-        false => Ok(write!(shown, "|{attribute}")?),
+        true => write!(shown, "|{name}={HIDDEN}"),
+        false => write!(shown, "|{attribute}"),
     }
 }
 

@@ -43,14 +43,21 @@ fn unit_named(unit: &[u8]) -> Option<u64>
     ensures { result ≡ unit_in unit.now }
 {
     match unit {
-        [] | [b'G'] => Some(1_000_000_000),
-        [b'k'] => Some(1_000),
-        [b'M'] => Some(1_000_000),
-        [b'T'] => Some(1_000_000_000_000),
-        [b'K', b'i'] => Some(1 << 10),
-        [b'M', b'i'] => Some(1 << 20),
-        [b'G', b'i'] => Some(1 << 30),
-        [b'T', b'i'] => Some(1 << 40),
+        [] => Some(1_000_000_000),
+        [letter] => match letter {
+            b'k' => Some(1_000),
+            b'M' => Some(1_000_000),
+            b'G' => Some(1_000_000_000),
+            b'T' => Some(1_000_000_000_000),
+            _ => None,
+        },
+        [letter, b'i'] => match letter {
+            b'K' => Some(1 << 10),
+            b'M' => Some(1 << 20),
+            b'G' => Some(1 << 30),
+            b'T' => Some(1 << 40),
+            _ => None,
+        },
         _ => None,
     }
 }

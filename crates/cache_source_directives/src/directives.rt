@@ -42,11 +42,19 @@ const PROBES: &[u8] = b"__has_";
 /// By what a source asks whether a file is there.
 pub const PROBE: &[u8] = b"__has_include";
 
+/// How the name of a probe goes on, and whether the probe is then a `_next` one.
+const PROBE_ENDS: &[(&str, bool)] = &[
+    ("", false),
+    ("__", false),
+    ("_next", true),
+    ("_next__", true),
+];
+
 /// The bytes that the spellings of `#` begin with.
 pub(crate) const MARKS: [u8; 3] = [b'#', b'%', b'?'];
 
 /// Other spellings of `#`, and what one may begin with whose line goes on.
-const OTHER_MARKS: [&[u8]; 3] = [b"%:", b"%\\", b"??="];
+const OTHER_MARKS: &[&[u8]] = &[b"%:", b"%\\", b"??="];
 
 /// A probe for what may be embedded.
 const EMBED_PROBE: &[u8] = b"__has_embed";
@@ -67,7 +75,7 @@ enum Kind {
 }
 
 /// The words of these directives.
-const KINDS: [(&str, Kind); 6] = [
+const KINDS: &[(&str, Kind)] = &[
     ("include", Kind::Include),
     ("include_next", Kind::IncludeNext),
     ("import", Kind::Import),
@@ -77,7 +85,7 @@ const KINDS: [(&str, Kind); 6] = [
 ];
 
 /// The pragmas that ask for a file, by their first word and their second one, where that counts.
-const FILE_PRAGMAS: [(&str, Option<&str>); 3] = [
+const FILE_PRAGMAS: &[(&str, Option<&str>)] = &[
     ("GCC", Some("dependency")),
     ("clang", Some("module")),
     ("include_alias", None),
@@ -98,24 +106,34 @@ fn is_letter(byte: u8) -> bool {
 
 /// What comes after spaces.
 pub(crate) fn behind_spaces(text: &[u8]) -> &[u8] {
-    let spaces = text.iter().take_while(|byte| is_space(**byte)).count();
-    text.get(spaces..).unwrap_or(&[])
+    for (at, byte) in text.iter().enumerate() {
+        if !is_space(*byte) {
+            return text.get(at..).unwrap_or(&[]);
+        }
+    }
+    &[]
 }
 
 /// The word that a text begins with, and what comes after it.
 pub(crate) fn word_ahead(text: &[u8]) -> (&[u8], &[u8]) {
-    let length = text.iter().take_while(|byte| is_letter(**byte)).count();
-    match text.split_at_checked(length) {
-        Some(parts) => parts,
-        None => (text, &[]),
+    for (at, byte) in text.iter().enumerate() {
+        if !is_letter(*byte) {
+            return text.split_at_checked(at).unwrap_or((text, &[]));
+        }
     }
+    (text, &[])
 }
 
 /// The text without the spaces that it ends with.
 fn before_spaces(text: &[u8]) -> &[u8] {
-    let spaces = text.iter().rev().take_while(|byte| is_space(**byte));
-    text.get(..text.len().saturating_sub(spaces.count()))
-        .unwrap_or(&[])
+    let mut length = text.len();
+    for byte in text.iter().rev() {
+        if !is_space(*byte) {
+            break;
+        }
+        length = length.saturating_sub(1);
+    }
+    text.get(..length).unwrap_or(&[])
 }
 
 /// Whether a directive may begin after these bytes of a source: before it, its line has only spaces and the end of a comment, which
@@ -127,6 +145,16 @@ pub(crate) fn may_begin_directive(front: &[u8]) -> bool {
         Some(b'/') => front.ends_with(b"*/") || front.ends_with(b"\n/"),
         Some(_) => front == BYTE_ORDER_MARK,
     }
+}
+
+/// Whether a text begins with another spelling of `#`, or with what may be one.
+fn is_other_mark(text: &[u8]) -> bool {
+    for mark in OTHER_MARKS {
+        if text.starts_with(mark) {
+            return true;
+        }
+    }
+    false
 }
 
 /// The rest of the line that a text begins in.
@@ -211,25 +239,36 @@ pub(crate) fn stands_alone(line: &[u8], at: usize) -> bool {
 
 /// What a directive of that word does, if it may take in a file.
 fn kind_of(word: &[u8]) -> Option<Kind> {
-    let row = KINDS.iter().find(|row| row.0.as_bytes() == word)?;
-    Some(row.1)
+    for (name, kind) in KINDS {
+        if name.as_bytes() == word {
+            return Some(*kind);
+        }
+    }
+    None
 }
 
 /// Whether a pragma of these two words asks for a file.
 fn asks_for_file(word: &[u8], second: &[u8]) -> bool {
-    FILE_PRAGMAS.iter().any(|row| {
-        row.0.as_bytes() == word && row.1.is_none_or(|it| it.as_bytes() == second)
-    })
+    for (first, next) in FILE_PRAGMAS {
+        if first.as_bytes() == word {
+            return match next {
+                Some(next) => next.as_bytes() == second,
+                None => true,
+            };
+        }
+    }
+    false
 }
 
 /// What comes after a probe, and whether the probe is a `_next` one. None where its name is a part of a longer word.
 fn behind_probe(behind: &[u8]) -> Option<(&[u8], bool)> {
     let (word, rest) = word_ahead(behind);
-    let word = word.strip_suffix(b"__").unwrap_or(word);
-    match word.is_empty() || word == b"_next".as_slice() {
-        true => Some((rest, !word.is_empty())),
-        false => None,
+    for (end, is_next) in PROBE_ENDS {
+        if end.as_bytes() == word {
+            return Some((rest, *is_next));
+        }
     }
+    None
 }
 
 impl<'a> Directives<'a> {
@@ -355,7 +394,7 @@ impl<'a> Directives<'a> {
                 false => Ok(true),
             };
         }
-        if OTHER_MARKS.iter().any(|mark| found.starts_with(mark)) {
+        if is_other_mark(found) {
             return Ok(!may_begin_directive(front));
         }
         Ok(!found.starts_with(b"??/"))
@@ -397,11 +436,21 @@ pub fn directives_of(alloc: Global, source: &[u8]) -> Result<Option<Directives<'
     Ok(Some(found))
 }
 
+/// Whether it is a space, or a part of a line continuation.
+fn is_gap(byte: u8) -> bool {
+    is_space(byte) || byte == b'\\' || byte == b'\n'
+}
+
 /// What comes before spaces and line continuations.
 fn before_gap(front: &[u8]) -> &[u8] {
-    let is_gap = |byte: &u8| is_space(*byte) || *byte == b'\\' || *byte == b'\n';
-    let gap = front.iter().rev().take_while(|byte| is_gap(*byte)).count();
-    front.get(..front.len().saturating_sub(gap)).unwrap_or(&[])
+    let mut length = front.len();
+    for byte in front.iter().rev() {
+        if !is_gap(*byte) {
+            break;
+        }
+        length = length.saturating_sub(1);
+    }
+    front.get(..length).unwrap_or(&[])
 }
 
 /// Whether a name that comes after these bytes may be defined there: `define` comes before it, or a comment that may come after `define`.
@@ -432,7 +481,7 @@ fn add_defined_at<'a>(
 ) -> Result<bool, AllocError> {
     let front = source.get(..at).unwrap_or(&[]);
     let behind = source.get(at.saturating_add(name.len())..).unwrap_or(&[]);
-    let is_longer = behind.first().is_some_and(|byte| is_letter(*byte));
+    let is_longer = matches!(behind, [byte, ..] if is_letter(*byte));
     if is_longer || !may_be_defined(front) {
         return Ok(true);
     }

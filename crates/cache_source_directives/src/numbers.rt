@@ -4,14 +4,25 @@ use crate::directives::{MARKS, behind_spaces, may_begin_directive};
 use memchr::memchr_iter;
 
 /// The spellings of `#`.
-const SPELLINGS: [&[u8]; 3] = [b"#", b"%:", b"??="];
+const SPELLINGS: &[&[u8]] = &[b"#", b"%:", b"??="];
 
 /// Whether such a directive, or what may be one, comes after the `#`.
 fn is_number(behind: &[u8]) -> bool {
     let behind = behind_spaces(behind);
     // A comment or a line continuation may come before the word.
-    let may_begin = |byte: &u8| byte.is_ascii_digit() || *byte == b'/' || *byte == b'\\';
-    behind.starts_with(b"line") || behind.first().is_some_and(may_begin)
+    behind.starts_with(b"line") || matches!(behind, [b'0'..=b'9' | b'/' | b'\\', ..])
+}
+
+/// Whether a text is such a directive, or what may be one, by one of the spellings of `#`.
+fn is_spelled(text: &[u8]) -> bool {
+    for mark in SPELLINGS {
+        if let Some(behind) = text.strip_prefix(*mark)
+            && is_number(behind)
+        {
+            return true;
+        }
+    }
+    false
 }
 
 /// Whether such a directive may begin at the mark at that place of a source.
@@ -20,15 +31,28 @@ fn may_number(source: &[u8], at: usize) -> bool {
         return false;
     };
     // Its line may go on after the first byte of a spelling.
-    let goes_on = found.starts_with(b"%\\");
-    let mut marks = SPELLINGS.iter();
-    if goes_on || marks.any(|mark| found.strip_prefix(*mark).is_some_and(is_number)) {
+    if found.starts_with(b"%\\") || is_spelled(found) {
         return may_begin_directive(front);
     }
     found.starts_with(b"??/")
 }
 
+/// Whether such a directive may begin with that mark in a source.
+fn may_be_marked(source: &[u8], mark: u8) -> bool {
+    for at in memchr_iter(mark, source) {
+        if may_number(source, at) {
+            return true;
+        }
+    }
+    false
+}
+
 /// Whether a source has a directive by which lines have other numbers, or what may be one.
 pub fn renumbers(source: &[u8]) -> bool {
-    MARKS.iter().any(|mark| memchr_iter(*mark, source).any(|at| may_number(source, at)))
+    for mark in MARKS {
+        if may_be_marked(source, mark) {
+            return true;
+        }
+    }
+    false
 }

@@ -5,16 +5,19 @@ use base_files::OsBytes;
 use memchr::memmem;
 
 /// The macros that give a day or a time.
-const MACROS: [&[u8]; 3] = [b"__TIME__", b"__DATE__", b"__TIMESTAMP__"];
+const MACROS: &[&[u8]] = &[b"__TIME__", b"__DATE__", b"__TIMESTAMP__"];
 
 /// What the first of two pieces begins with, of which such a macro may be pasted.
-const FRONTS: [&[u8]; 2] = [b"__TI", b"__DA"];
+const FRONTS: &[&[u8]] = &[b"__TI", b"__DA"];
 
 /// Whether a name is the first piece of such a macro.
 fn is_piece(name: &[u8]) -> bool {
-    MACROS
-        .iter()
-        .any(|it| it.len() > name.len() && it.starts_with(name))
+    for it in MACROS {
+        if it.len() > name.len() && it.starts_with(name) {
+            return true;
+        }
+    }
+    false
 }
 
 /// Whether a name before these bytes may be pasted: it is pasted there, is an argument, or is all that a macro stands for.
@@ -42,15 +45,30 @@ fn has_piece(source: &[u8], front: &[u8]) -> bool {
 
 /// Whether a source has a piece from which a macro that gives a day or a time may be pasted.
 pub fn pastes_time(source: &[u8]) -> bool {
-    FRONTS.iter().any(|front| has_piece(source, front))
+    for front in FRONTS {
+        if has_piece(source, front) {
+            return true;
+        }
+    }
+    false
+}
+
+/// Whether a text contains such a macro whole.
+fn has_macro(text: &[u8]) -> bool {
+    for it in MACROS {
+        if memmem::find(text, it).is_some() {
+            return true;
+        }
+    }
+    false
 }
 
 /// Whether a word of a command has such a macro, or a piece of one.
 pub fn tells_time(words: &[OsBytes]) -> bool {
-    words.iter().any(|word| {
-        pastes_time(word.as_bytes())
-            || MACROS
-                .iter()
-                .any(|it| memmem::find(word.as_bytes(), it).is_some())
-    })
+    for word in words {
+        if pastes_time(word.as_bytes()) || has_macro(word.as_bytes()) {
+            return true;
+        }
+    }
+    false
 }
