@@ -14,19 +14,22 @@ take_verdicts() {
 # A member of the last line of the log, as Python shows it.
 logged() { tail -n 1 log | python3 -c "import json, sys; it = json.load(sys.stdin); print($1)"; }
 
-page() {
+# Runs these in a folder of their own.
+in_page() {
     local dir=$work/page GULMAAT_DIR=$work/page/cache
     local -x GULMAAT_DIR
     mkdir -p "$dir"
     cd "$dir" || return
-    page_lines
-    page_wrong
-    page_hostile
-    page_compare
-    page_build
-    page_made
+    local each
+    for each; do "$each"; done
     cd "$work" || return
 }
+
+# What is shown of short logs.
+logs() { in_page page_lines page_wrong page_hostile page_compare; }
+
+# That, and what is shown of a real build and of a long one.
+page() { in_page page_lines page_wrong page_hostile page_compare page_build page_made; }
 
 # What a line says of a call.
 page_lines() {
