@@ -6,22 +6,27 @@ use std::fmt;
 #[derive(Clone, Copy)]
 pub struct Time(pub u64);
 
+/// Writes a time of a second or more: whole ones of its largest unit, and two digits of what is left.
+fn write_long<W: fmt::Write>(f: &mut fmt::Formatter<W>, time: u64) -> fmt::Result {
+    let seconds = time / 1_000_000;
+    let minutes = seconds / 60;
+    let (whole, between, rest, end) = match seconds {
+        0..60 => (seconds, ".", time / 10_000 % 100, " s"),
+        60..3600 => (minutes, " min ", seconds % 60, " s"),
+        _ => (minutes / 60, " h ", minutes % 60, " min"),
+    };
+    write!(f, "{whole}{between}{rest:02}{end}")
+}
+
 impl fmt::Display for Time {
     fn fmt<W: fmt::Write>(&self, f: &mut fmt::Formatter<W>) -> fmt::Result {
         let time = self.0;
-        let seconds = time / 1_000_000;
-        let minutes = seconds / 60;
-        let hours = minutes / 60;
-        let (rest_minutes, rest_seconds) = (minutes % 60, seconds % 60);
-        let hundredths = time / 10_000 % 100;
         let milliseconds = time / 1000;
         match time {
             0 => f.write_str("0 s"),
             1..1000 => write!(f, "{time} µs"),
             1000..1_000_000 => write!(f, "{milliseconds} ms"),
-            1_000_000..60_000_000 => write!(f, "{seconds}.{hundredths:02} s"),
-            60_000_000..3_600_000_000 => write!(f, "{minutes} min {rest_seconds:02} s"),
-            _ => write!(f, "{hours} h {rest_minutes:02} min"),
+            _ => write_long(f, time),
         }
     }
 }
