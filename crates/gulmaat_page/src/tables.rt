@@ -8,6 +8,7 @@ use crate::rows::push_row;
 use crate::times::Time;
 use cache_build_log::{Call, Group, Kind, Texts, groups_of};
 use std::alloc::{AllocError, Global};
+use std::cmp::Reverse;
 
 /// How many calls a page shows without its script, and how many groups at most.
 const SHOWN: usize = 500;
@@ -114,8 +115,6 @@ struct Section<'a> {
     none: &'a str,
     caption: &'a str,
     heads: &'a [&'a str],
-    /// Whether these calls are misses.
-    is_miss: bool,
 }
 
 /// Writes the table of a section.
@@ -126,9 +125,10 @@ fn push_groups(
     section: &Section<'_>,
     groups: &[Group],
 ) -> Result<(), AllocError> {
+    let is_miss = matches!(section.kinds, [Kind::Miss]);
     push_table(html, section.id, section.caption, section.heads)?;
     for group in groups.iter().take(GROUPS) {
-        push_group_row(html, alloc, build, group, section.is_miss)?;
+        push_group_row(html, alloc, build, group, is_miss)?;
     }
     push_table_end(html, groups.len())
 }
@@ -162,7 +162,6 @@ pub fn push_misses(html: &mut String, alloc: Global, build: &Build) -> Result<()
         none: "No call was a miss.",
         caption: "Misses by cause",
         heads: &["Misses", "Time", "Cause", "Longest call"],
-        is_miss: true,
     };
     push_section(html, alloc, build, &section)
 }
@@ -176,16 +175,15 @@ pub fn push_passed(html: &mut String, alloc: Global, build: &Build) -> Result<()
         none: "Each call was cacheable.",
         caption: "Calls that weren't kept, by reason",
         heads: &["Calls", "Time", "Reason", "What to do", "Longest call"],
-        is_miss: false,
     };
     push_section(html, alloc, build, &section)
 }
 
-/// The calls, those that took longest first: of each how much its time is below the largest number, and its place.
-fn longest(alloc: Global, build: &Build) -> Result<Vec<(u64, usize)>, AllocError> {
-    let mut places: Vec<(u64, usize)> = Vec::new(alloc);
+/// The calls, those that took longest first: of each its time, and its place.
+fn longest(alloc: Global, build: &Build) -> Result<Vec<(Reverse<u64>, usize)>, AllocError> {
+    let mut places: Vec<(Reverse<u64>, usize)> = Vec::new(alloc);
     for (place, call) in build.calls.iter().enumerate() {
-        places.push((u64::MAX.saturating_sub(call.time()), place))?;
+        places.push((Reverse(call.time()), place))?;
     }
     places.sort_unstable();
     Ok(places)
