@@ -5,12 +5,18 @@ use crate::reading::Build;
 use crate::summary::COUNTS;
 use crate::times::Time;
 use std::alloc::{AllocError, Global};
+use std::fmt;
 
 /// How many changes are reported.
 const SHOWN: usize = 7;
 
-/// Writes a count of both.
-fn push_counts(text: &mut String, name: &str, one: u64, other: u64) -> Result<(), AllocError> {
+/// Writes a line: a name, and what both builds have of that.
+fn push_both<T: fmt::Display + Copy>(
+    text: &mut String,
+    name: &str,
+    one: T,
+    other: T,
+) -> Result<(), AllocError> {
     write!(text, "{name:<22}{one:>14}{other:>14}\n")
 }
 
@@ -25,7 +31,7 @@ fn push_times(
     let (one, other) = (Time(one), Time(other));
     let one = format!(in alloc; "{one}")?;
     let other = format!(in alloc; "{other}")?;
-    write!(text, "{name:<22}{one:>14}{other:>14}\n")
+    push_both(text, name, one.as_str(), other.as_str())
 }
 
 /// Writes the sums of both.
@@ -36,9 +42,10 @@ fn push_sums(
     other: &Build,
 ) -> Result<(), AllocError> {
     let (sums, others) = (&one.sums, &other.sums);
-    push_counts(text, "Calls", sums.calls, others.calls)?;
-    for (name, kind) in COUNTS {
-        push_counts(text, name, sums.share(kind).count, others.share(kind).count)?;
+    push_both(text, "Calls", sums.calls, others.calls)?;
+    for (name, kind) in COUNTS.as_slice() {
+        let (share, other_share) = (sums.share(*kind), others.share(*kind));
+        push_both(text, name, share.count, other_share.count)?;
     }
     push_times(
         text,
@@ -61,8 +68,7 @@ fn push_sums(
 /// Two builds side by side: their sums, and what came to another thing.
 pub fn compare(alloc: Global, one: &Build, other: &Build) -> Result<String, AllocError> {
     let mut text = String::new(alloc);
-    let (first, second) = ("first", "second");
-    write!(text, "{first:>36}{second:>14}\n")?;
+    push_both(&mut text, "", "first", "second")?;
     push_sums(&mut text, alloc, one, other)?;
     let changes = changes_between(alloc, one, other)?;
     let (changed, common) = (changes.changed, changes.common);
