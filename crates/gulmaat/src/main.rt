@@ -9,6 +9,7 @@ ghost use Rattle.std.specs.Prelude.{◌≡◌};
 
 mod counting;
 mod deciding;
+mod options;
 
 use cache_c_calls::why::why;
 use cache_c_calls::{End, What};
@@ -17,11 +18,11 @@ use cache_rustc_kept::why_of_rustc;
 use cache_rustc_requests::is_named_rustc;
 use cache_settings::read_settings;
 use cache_source_files::{Audit, opened_words};
-use cache_user_options::help::help;
-use cache_user_options::{Caller, do_options};
 use counting::note;
 use deciding::decide;
 use gulmaat_page::{PageError, show_builds};
+use options::help::help;
+use options::{Caller, do_options};
 use std::env;
 use std::fmt::Display;
 use std::fs::File;

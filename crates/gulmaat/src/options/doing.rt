@@ -1,13 +1,13 @@
 //! What options ask for is done, in their order.
 
-use crate::asked::Asked;
-use crate::clearing::clear;
-use crate::error::OptionError;
-use crate::help::{built_lines, help, version};
-use crate::links::links;
-use crate::reading::read_options;
-use crate::settings_shown::{get, set, show_config};
-use crate::statistics_shown::{Statistics, print, show};
+use crate::options::asked::Asked;
+use crate::options::clearing::clear;
+use crate::options::error::OptionError;
+use crate::options::help::{built_lines, help, version};
+use crate::options::links::links;
+use crate::options::reading::read_options;
+use crate::options::settings_shown::{get, set, show_config};
+use crate::options::statistics_shown::{Statistics, print, show};
 use cache_dir::{CacheDir, hold_limit, remove_unused};
 use cache_disk::make_folders;
 use cache_settings::{

@@ -1,15 +1,14 @@
 //! What a user asks of the program before a real compiler beside a compile: its help, its version, its statistics, what is kept and how much,
 //! its settings, and links by which it runs in place of compilers.
-#![tactic(auto)]
 
 mod asked;
 mod clearing;
 mod doing;
 mod error;
-pub mod help;
+pub(crate) mod help;
 mod links;
 mod reading;
 mod settings_shown;
 mod statistics_shown;
 
-pub use doing::{Caller, Place, do_options};
+pub(crate) use doing::{Caller, do_options};

@@ -1,6 +1,6 @@
 //! The help, and what the program is.
 
-use crate::error::OptionError;
+use crate::options::error::OptionError;
 use std::fs;
 use std::rt::Files;
 

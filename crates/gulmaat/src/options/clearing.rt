@@ -1,6 +1,6 @@
 //! What is kept is taken away.
 
-use crate::error::OptionError;
+use crate::options::error::OptionError;
 use cache_dir::Kind;
 use std::io::ErrorKind;
 use std::rt::Files;
