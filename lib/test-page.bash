@@ -29,7 +29,7 @@ in_page() {
 logs() { in_page page_lines page_wrong page_hostile page_compare; }
 
 # That, and what is shown of a real build and of a long one.
-page() { in_page page_lines page_wrong page_hostile page_compare page_build page_made; }
+page() { logs; in_page page_build page_made; }
 
 # What a line says of a call.
 page_lines() {
