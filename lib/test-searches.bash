@@ -181,6 +181,7 @@ searches() {
     rm two/once.h
     search_spellings "$cc"
     search_names "$cc"
+    search_hidden "$cc"
     search_others "$cc"
     cd "$work" || return
 }
@@ -243,6 +244,25 @@ search_names() {
         settle
         search_none "$cc: a file that is only compared by its time" $cc
     }
+}
+
+# Files that a word's macro asks for, a probe of two pieces and a pragma in a string: there is no manifest.
+search_hidden() {
+    local cc=$1 text
+    printf '#if HAS("asked.h")\nint value = 1;\n#endif\n' >it.c
+    settle
+    search_none "$cc: a word's macro asks" $cc '-DHAS(x)=__has_include(x)'
+    search_none "$cc: a macro that is handed to the preprocessor asks" $cc -Wp,-DHAS=__has_include
+    for text in '#if PASTE(__has_, include)("asked.h")' '#if __has_inc\\\nlude("asked.h")' '#if __has_include /* a */ ("asked.h")'; do
+        printf "#define PASTE(a, b) a ## b\n$text\nint value = 1;\n#endif\n" >it.c
+        settle
+        search_none "$cc: asked by $text" $cc
+    done
+    for text in '_Pragma("GCC dependency \"late/value.h\"")' '#pragma GCC \\\ndependency "late/value.h"'; do
+        printf "$text\nint value;\n" >it.c
+        settle
+        search_none "$cc: compared by $text" $cc
+    done
 }
 
 # Precompiled headers, branches, folders with objects in them, another GCC, and calls at once.

@@ -90,6 +90,8 @@ CC -Wa,-adhln=x.lst -c foo.c
 CC -Xassembler -a=x.lst -c foo.c
 CC -Wa,--MD,x.d -c foo.c
 CC -Wa,@words -c foo.c
+CC -Wp,-DX=1,-P -c foo.c
+CC -Wp,-DX -c foo.c -o
 CC -g -Wa,-g -c asm.s
 CC --save-temps=cwd -c foo.c
 CC -save-temps=obj -c foo.c -o links/foo.o
@@ -149,6 +151,8 @@ CC -g -fmacro-prefix-map=/a=/b -ffile-prefix-map=/c=/d -fstack-protector-strong 
 CC -std=gnu11 -pthread -pipe -fPIC -isystem share -I. -iquote d\ ir -include list.h -c foo.c
 CC --param max-inline-insns-single=100 -O1 -c foo.c
 CC -Wa,--noexecstack -Wl,-z,now -c foo.c
+CC -Wp,-DX=3 -DX=2 -c foo.c
+CC -O2 -Wp,-U_FORTIFY_SOURCE,-D_FORTIFY_SOURCE=3,-DX=4 -MD -c foo.c
 CC -O2 -march=native -mtune=native -c foo.c
 END
     cd "$work" || return

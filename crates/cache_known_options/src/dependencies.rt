@@ -1,7 +1,8 @@
 //! What the words of a command say of its dependency file. The session isn't given that: what its contents depend on is bound to the key,
-//! and what the compile wrote is kept beside its messages.
+//! and what the compile wrote is kept beside its messages. Definitions for the preprocessor it is given as a driver gives them.
 
-use crate::placed::{PlacedWords, is_among};
+use crate::handed_on::definitions_in;
+use crate::placed::{Placed, PlacedWords, is_among};
 use crate::text_words::dependency_file;
 use base_files::{Listed, OsBytes};
 use std::alloc::{AllocError, Global};
@@ -35,7 +36,7 @@ pub fn for_preprocessor(word: &[u8]) -> Option<(&'static str, &[u8])> {
 /// What the words of a command say of its dependency file.
 #[derive(Drop)]
 pub struct Dependencies {
-    /// The words that say nothing of it.
+    /// The words that say nothing of it. Definitions that words hand to the preprocessor come last, each as a word of its own.
     pub others: Listed<OsBytes>,
     /// What its contents hang on beside the files that it names: the words that say something of it, but its path, and the object, which
     /// is its target where no word names one.
@@ -56,6 +57,9 @@ struct Said<'a> {
     has_target: bool,
     object: Option<&'a [u8]>,
     input: Option<&'a [u8]>,
+    /// Whether a word hands definitions to the preprocessor, and whether the last word lacks its value.
+    has_definitions: bool,
+    lacks_value: bool,
 }
 
 /// A copy of the word.
@@ -74,6 +78,8 @@ impl<'a> Said<'a> {
             has_target: false,
             object: None,
             input: None,
+            has_definitions: false,
+            lacks_value: false,
         }
     }
 
@@ -110,8 +116,13 @@ impl<'a> Said<'a> {
         is_asking || has_target || word == b"-MP".as_slice()
     }
 
-    /// Takes a word that is no value, and says whether it is one of those that say something of the dependency file.
+    /// Takes a word that is no value, and says whether it is one of those that say something of the dependency file, or one of definitions,
+    /// which are taken after all others.
     fn takes(&mut self, alloc: Global, word: &'a [u8]) -> Result<bool, AllocError> {
+        if definitions_in(word).is_some() {
+            self.has_definitions = true;
+            return Ok(true);
+        }
         if let Some((front, path)) = for_preprocessor(word) {
             self.asked_preprocessor = self.asked_preprocessor.saturating_add(1);
             self.path = Some(path);
@@ -158,6 +169,27 @@ impl<'a> Said<'a> {
                 Some(option) => self.take_value(alloc, option.as_bytes(), word)?,
                 None => self.take(alloc, word)?,
             }
+            self.lacks_value = placed.takes_value();
+        }
+        Ok(())
+    }
+
+    /// Takes the definitions that words hand to the preprocessor, in their order: drivers put them after all their own.
+    fn take_definitions(&mut self, alloc: Global, words: &[OsBytes]) -> Result<(), AllocError> {
+        for placed in PlacedWords::of(words) {
+            self.take_definitions_of(alloc, placed)?;
+        }
+        Ok(())
+    }
+
+    /// Takes those that this word hands on.
+    fn take_definitions_of(&mut self, alloc: Global, placed: Placed<'_>) -> Result<(), AllocError> {
+        let (None, Some(definitions)) = (placed.option, definitions_in(placed.word.as_bytes()))
+        else {
+            return Ok(());
+        };
+        for definition in definitions.split(|byte| *byte == b',') {
+            self.others.push(again(alloc, definition)?)?;
         }
         Ok(())
     }
@@ -167,9 +199,11 @@ impl<'a> Said<'a> {
         self.asked != 0 || self.asked_preprocessor != 0
     }
 
-    /// Whether it can't be determined to which of several files the dependencies go.
+    /// Whether it can't be determined to which of several files the dependencies go, or the first definition would be the last word's value.
     fn is_unclear(&self) -> bool {
-        self.asked_preprocessor > 1 || (self.asked_preprocessor == 1 && self.asked != 0)
+        self.asked_preprocessor > 1
+            || (self.asked_preprocessor == 1 && self.asked != 0)
+            || (self.has_definitions && self.lacks_value)
     }
 
     /// Takes the object as the target of a file that is asked for, where no word names one.
@@ -208,7 +242,8 @@ fn file_name(path: &[u8]) -> &[u8] {
     }
 }
 
-/// What the words of a command say of its dependency file; nothing where it can't be determined which of several ones is written.
+/// What the words of a command say of its dependency file; nothing where it can't be determined which of several ones is written, or where
+/// definitions for the preprocessor come before a last word that lacks its value.
 pub fn dependencies_of(
     alloc: Global,
     words: &[OsBytes],
@@ -217,6 +252,9 @@ pub fn dependencies_of(
     found.take_words(alloc, words)?;
     if found.is_unclear() {
         return Ok(None);
+    }
+    if found.has_definitions {
+        found.take_definitions(alloc, words)?;
     }
     found.take_target(alloc)?;
     let file = found.file(alloc)?;

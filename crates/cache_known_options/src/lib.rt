@@ -3,6 +3,7 @@
 #![tactic(auto)]
 
 mod dependencies;
+mod handed_on;
 mod placed;
 mod tables;
 pub mod text_words;

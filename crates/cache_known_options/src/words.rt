@@ -1,6 +1,7 @@
 //! Which words are known: with these alone the object hangs on the text, the words and the compiler, and nothing else is written.
 
 use crate::dependencies::for_preprocessor;
+use crate::handed_on::definitions_in;
 use crate::placed::{Placed, PlacedWords, is_among, takes_any, takes_next};
 use crate::tables::{ASSEMBLER, CLANG, LLVM, VALUED, WHOLE};
 use base_files::OsBytes;
@@ -178,6 +179,9 @@ fn is_known_option(alloc: Global, word: &[u8]) -> Result<bool, AllocError> {
     }
     if let Some((_, path)) = for_preprocessor(word) {
         return Ok(!path.is_empty() && !path.contains(&b',') && is_file(path));
+    }
+    if definitions_in(word).is_some() {
+        return Ok(true);
     }
     if let Some(words) = word.strip_prefix(b"-Wa,") {
         return are_for_assembler(alloc, words);

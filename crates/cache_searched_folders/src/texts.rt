@@ -8,8 +8,8 @@ use cache_disk::folder_of;
 use cache_host::CommandLine;
 use cache_known_options::{Placed, PlacedWords};
 use cache_source_directives::{
-    Asked, Directives, Search, add_defined, add_probed, add_said, directives_of, pastes_time,
-    tells_time,
+    Asked, Directives, Search, add_defined, add_probed, add_said, asks_for_files, directives_of,
+    pastes_time, tells_time,
 };
 use memchr::memmem;
 use std::alloc::Global;
@@ -302,7 +302,7 @@ pub fn list_of<R: Files + AllocGlobal>(
 ) -> Result<Vec<u8>, Unwatched> {
     let alloc = rt.alloc();
     let words = line.words.as_slice();
-    if are_own_ways(words) || tells_time(words) {
+    if are_own_ways(words) || tells_time(words) || asks_for_files(words) {
         return Err(Unwatched::Words);
     }
     let Some(list) = SearchList::read(alloc, said)? else {

@@ -16,7 +16,8 @@ pub enum Unwatched {
     /// A source asks for a file by a name that it computes, or takes in a file by other means.
     #[error("computed name")]
     Computed,
-    /// The words have the compiler look for files in a way of its own, or a day or a time may come into the text by them.
+    /// The words have the compiler look for files in a way of its own, or a macro of theirs may ask for a file, or bring a day or a time into
+    /// the text.
     #[error("option")]
     Words,
     /// A day or a time may be pasted.

@@ -3,6 +3,7 @@
 //! Which of them are live depends on macros, so all of them count: those in comments too. Where it isn't clear what is asked for, as where a
 //! macro stands for the name, there is no answer.
 
+use crate::hidden::{PIECE, has_pragma, pastes_probe};
 use memchr::{memchr, memchr_iter, memmem, memrchr};
 use std::alloc::{AllocError, Global};
 
@@ -36,11 +37,8 @@ pub struct Directives<'a> {
     pub is_once: bool,
 }
 
-/// What the names of all probes begin with.
-const PROBES: &[u8] = b"__has_";
-
 /// By what a source asks whether a file is there.
-pub const PROBE: &[u8] = b"__has_include";
+pub(crate) const PROBE: &[u8] = b"__has_include";
 
 /// How the name of a probe goes on, and whether the probe is then a `_next` one.
 const PROBE_ENDS: &[(&str, bool)] = &[
@@ -346,8 +344,9 @@ impl<'a> Directives<'a> {
                 self.probes.push(name)?;
                 Ok(takes && !is_next)
             }
-            // A line that goes on, or another name for the probe.
-            ([b'\\', ..], _) => Ok(false),
+            // A line that goes on, a comment, or a piece that is pasted to something.
+            ([b'\\' | b'/' | b',' | b'#', ..], _) => Ok(false),
+            // Another name for the probe.
             (_, Some((name, _))) => Ok(name.starts_with(PROBE)),
             (_, None) => Ok(true),
         }
@@ -361,6 +360,18 @@ impl<'a> Directives<'a> {
             }
         }
         Ok(true)
+    }
+
+    /// Takes the probes of a source. False where it can't be determined what one asks for.
+    fn take_all_probes(&mut self, source: &'a [u8]) -> Result<bool, AllocError> {
+        // Most sources have no probe at all.
+        if memmem::find(source, PIECE).is_none() {
+            return Ok(true);
+        }
+        if memmem::find(source, EMBED_PROBE).is_some() || pastes_probe(source) {
+            return Ok(false);
+        }
+        self.take_probes(source, PROBE)
     }
 
     /// Takes the probe of that name at that place of a source, except in the line that defines it. False where it can't be determined what
@@ -427,10 +438,7 @@ pub fn directives_of(alloc: Global, source: &[u8]) -> Result<Option<Directives<'
     if !found.take_directives(source)? {
         return Ok(None);
     }
-    // Most sources have no probe at all.
-    if memmem::find(source, PROBES).is_some()
-        && (memmem::find(source, EMBED_PROBE).is_some() || !found.take_probes(source, PROBE)?)
-    {
+    if has_pragma(source) || !found.take_all_probes(source)? {
         return Ok(None);
     }
     Ok(Some(found))
@@ -442,7 +450,7 @@ fn is_gap(byte: u8) -> bool {
 }
 
 /// What comes before spaces and line continuations.
-fn before_gap(front: &[u8]) -> &[u8] {
+pub(crate) fn before_gap(front: &[u8]) -> &[u8] {
     let mut length = front.len();
     for byte in front.iter().rev() {
         if !is_gap(*byte) {

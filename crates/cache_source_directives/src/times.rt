@@ -21,7 +21,7 @@ fn is_piece(name: &[u8]) -> bool {
 }
 
 /// Whether a name before these bytes may be pasted: it is pasted there, is an argument, or is all that a macro stands for.
-fn may_be_pasted(behind: &[u8]) -> bool {
+pub(crate) fn may_be_pasted(behind: &[u8]) -> bool {
     match behind_spaces(behind) {
         // By `##`, which other spellings have for `#`.
         [byte, ..] => matches!(

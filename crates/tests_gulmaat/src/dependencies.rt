@@ -7,8 +7,8 @@ use std::fmt::Write;
 use std::test::Fail;
 use tests_kit::{is_that, words, write_list, write_words};
 
-/// Words, and what they say: the others, what the file's contents hang on, and its path; `unclear` where several may be written.
-const LINES: [(&str, &str); 17] = [
+/// Words, and what they say: the others, what the file's contents hang on, and its path; `unclear` where that can't be determined.
+const LINES: [(&str, &str); 22] = [
     ("-c a.c -o a.o", " -c a.c -o a.o"),
     (
         "-MD -c a.c -o a.o",
@@ -50,6 +50,14 @@ const LINES: [(&str, &str); 17] = [
     ("-D -MD -c a.c", " -D -MD -c a.c"),
     ("-o -MD -c a.c", " -o -MD -c a.c"),
     ("-MF x.d -c a.c", " -c a.c"),
+    ("-Wp,-DA=1 -DA=2 -c a.c", " -DA=2 -c a.c -DA=1"),
+    (
+        "-Wp,-UA,-DA=3 -MD -c a.c -o a.o",
+        " -c a.c -o a.o -UA -DA=3; said -MD a.o; file a.d",
+    ),
+    ("-Wp,-DA,-P -c a.c", " -Wp,-DA,-P -c a.c"),
+    ("-D -Wp,-DA -c a.c", " -D -Wp,-DA -c a.c"),
+    ("-Wp,-DA -c a.c -o", "unclear"),
 ];
 
 /// Adds what words say.

@@ -2,7 +2,7 @@
 
 use base_files::Lossy;
 use cache_source_directives::{
-    Asked, Directives, Search, add_defined, directives_of, pastes_time, tells_time,
+    Asked, Directives, Search, add_defined, asks_for_files, directives_of, pastes_time, tells_time,
 };
 use std::alloc::{AllocError, Global};
 use std::fmt::Write;
@@ -10,7 +10,7 @@ use std::test::Fail;
 use tests_kit::{holds, is_that, words};
 
 /// Sources, and what they ask for; `none` where that can't be determined.
-const SOURCES: [(&str, &str); 62] = [
+const SOURCES: [(&str, &str); 72] = [
     ("", ""),
     ("int x;\n", ""),
     ("#include \"a.h\"\n", " \"a.h\""),
@@ -79,6 +79,16 @@ const SOURCES: [(&str, &str); 62] = [
     ("#define HAS(x) __has_include(x)\n", " asks HAS"),
     ("#define HAS __has_include\n", "none"),
     ("#define HAS_A __has_include(A)\n", "none"),
+    ("#if __has_include /* a */ (<a.h>)\n", "none"),
+    ("#if __has_inc\\\nlude(<a.h>)\n", "none"),
+    ("#if PASTE(__has_, include)(<a.h>)\n", "none"),
+    ("#if PASTE(__has_include, _next)(<a.h>)\n", "none"),
+    ("#define HAS __has_ ## include\n", "none"),
+    ("#define HAS(x) __has_##x\n", ""),
+    ("#pragma GCC \\\ndependency \"a.h\"\n", "none"),
+    ("_Pragma(\"GCC dependency \\\"a.h\\\"\")\n", "none"),
+    ("PRAGMA(GCC dependency \"a.h\")\n", "none"),
+    ("/* Each dependency of GCC, by GCC_dependency. */\n", ""),
 ];
 
 /// Adds what is asked for.
@@ -215,20 +225,30 @@ fn times_are_pasted(_rt: HostRuntime) -> Result<(), Fail> {
     Ok(())
 }
 
-/// Words, and whether one of them may bring a day or a time into a text.
-const WORDS: [(&str, bool); 5] = [
-    ("-c a.c", false),
-    ("-DNOW=__TIME__ -c a.c", true),
-    ("-D DAY=__DATE__", true),
-    ("-DFIRST=__TI", true),
-    ("-DTIME -UDATE", false),
+/// Words, whether one of them may bring a day or a time into a text, and whether a macro of theirs may ask for a file.
+const WORDS: [(&str, bool, bool); 10] = [
+    ("-c a.c", false, false),
+    ("-DNOW=__TIME__ -c a.c", true, false),
+    ("-D DAY=__DATE__", true, false),
+    ("-DFIRST=__TI", true, false),
+    ("-DTIME -UDATE", false, false),
+    ("-DHAS(x)=__has_include(x)", false, true),
+    ("-D HAS=__has_include_next", false, true),
+    ("-Wp,-DFIRST=__has_ -c a.c", false, true),
+    (
+        "-DASKS=_Pragma(\"GCC/**/dependency\\\"a.h\\\"\")",
+        false,
+        true,
+    ),
+    ("-DHAS=__has_attribute -Iinclude", false, false),
 ];
 
 #[test]
-fn words_tell_times(rt: HostRuntime) -> Result<(), Fail> {
-    for (line, want) in WORDS.iter() {
+fn words_tell_times_and_ask_for_files(rt: HostRuntime) -> Result<(), Fail> {
+    for (line, tells, asks) in WORDS.iter() {
         let list = words(rt.alloc(), line)?;
-        holds(tells_time(list.as_slice()) == *want, line)?;
+        holds(tells_time(list.as_slice()) == *tells, line)?;
+        holds(asks_for_files(list.as_slice()) == *asks, line)?;
     }
     Ok(())
 }
