@@ -46,7 +46,7 @@ pub enum HostError {
     #[error("a folder that base_dir names isn't absolute, or is only slashes")]
     Folder,
     /// There is no command to report on.
-    #[error("--why takes a compiler's command: --help tells all")]
+    #[error("--why takes a compiler's command: --help lists all options")]
     Command,
 }
 

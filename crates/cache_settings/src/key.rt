@@ -194,7 +194,7 @@ impl Kind {
         match self {
             Kind::Truth => "1, yes, true or on, or 0, no, false or off",
             Kind::Size =>
-                "a whole number with k, M, G, T, Ki, Mi, Gi or Ti behind it, or none for G; 0 is no limit",
+                "a whole number with k, M, G, T, Ki, Mi, Gi or Ti after it, or none for G; 0 is no limit",
             Kind::Path => "an absolute path",
             Kind::Paths => "absolute paths with colons between them",
             Kind::Audit => "a whole number, or tell",
@@ -203,7 +203,7 @@ impl Kind {
             Kind::LogFormat => "text or json",
             Kind::Options => "options with spaces between them, each of which begins with -",
             Kind::Storage =>
-                "redis://, redis+unix:, http://, https:// or file: with an address, and attributes behind |; rediss: isn't there",
+                "redis://, redis+unix:, http://, https:// or file: with an address, and attributes after |; rediss: isn't there",
         }
     }
 

@@ -36,7 +36,7 @@ fn take_rest<'a>(
             }
             "--all" => log.has_all = true,
             "--ninja" => names_ninja = true,
-            _ => return Err(PageError::wrong(alloc, "--all or --ninja FILE behind the log")?),
+            _ => return Err(PageError::wrong(alloc, "--all or --ninja FILE after the log")?),
         }
     }
     match names_ninja {

@@ -17,7 +17,7 @@ pub enum PageError {
 impl PageError {
     /// Words that are wrong, in place of which these are right.
     pub fn wrong(alloc: Global, right: &str) -> Result<PageError, AllocError> {
-        Ok(PageError::Said(format!(in alloc; "write {right}: gulmaat --help tells all")?))
+        Ok(PageError::Said(format!(in alloc; "write {right}: gulmaat --help lists all options")?))
     }
 }
 

@@ -29,7 +29,7 @@ use reading::{Build, read_build, read_text};
 use std::rt::Files;
 use trace::trace;
 
-/// Prints what a user's words ask for: `--page LOG` or `--trace LOG`, each with `--all` or `--ninja FILE` behind it, or `--compare LOG LOG`.
+/// Prints what a user's words ask for: `--page LOG` or `--trace LOG`, each with `--all` or `--ninja FILE` after it, or `--compare LOG LOG`.
 /// The page's script and style lie in the folder, as `page.js` and `page.css`. Where the words are wrong, or a file can't be read, nothing is
 /// printed.
 pub fn show_builds<R: Print + Files + AllocGlobal>(

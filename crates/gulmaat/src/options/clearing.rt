@@ -1,4 +1,4 @@
-//! What is kept is taken away.
+//! What is kept is removed.
 
 use crate::options::error::OptionError;
 use cache_dir::Kind;
@@ -6,10 +6,10 @@ use std::io::ErrorKind;
 use std::rt::Files;
 use std::{fs, io};
 
-/// How often a folder is tried to be taken away.
+/// How often it is tried to remove a folder.
 const TRIES: u32 = 16;
 
-/// Whether what was to be taken away is gone, by whomever.
+/// Whether what was to be removed is gone, by whomever.
 fn is_gone(done: &io::Result<()>) -> bool {
     match done {
         Ok(()) => true,
@@ -24,7 +24,7 @@ fn clear_folder<R: Files + AllocGlobal>(rt: &R, place: &str) -> Result<(), Optio
             return Ok(());
         }
     }
-    Err(OptionError::Wrong(format!(in rt.alloc(); "{place} can't be taken away")?))
+    Err(OptionError::Wrong(format!(in rt.alloc(); "{place} can't be removed")?))
 }
 
 /// Takes away what is kept under this name.

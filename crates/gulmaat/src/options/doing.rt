@@ -118,7 +118,7 @@ fn clean_up<R: Files + AllocGlobal + Clone + Drop>(
     Ok(hold_limit(rt, &made_folder(rt, place)?)?)
 }
 
-/// Sets the limit in the user's file, and takes away what is too much.
+/// Sets the limit in the user's file, and evicts what is over it.
 fn set_limit<R: Files + AllocGlobal + Clone + Drop>(
     rt: &R,
     place: &mut Place,
@@ -134,7 +134,7 @@ fn seconds_of(alloc: Global, age: &str) -> Result<u64, OptionError> {
     match age_named(age) {
         Some(seconds) => Ok(seconds),
         None => Err(OptionError::Wrong(format!(in alloc;
-            "{age}: an age is a number with s, m, h or d behind it"
+            "{age}: an age is a number with s, m, h or d after it"
         )?)),
     }
 }

@@ -5,34 +5,34 @@ use std::fs;
 use std::rt::Files;
 
 const HELP: &str = "\
-gulmaat COMPILER WORD..          runs the compiler, or gives the outputs that are kept of it
+gulmaat COMPILER WORD..          answers from the cache, or runs the compiler and keeps what it makes
 gulmaat OPTION..
 
-  -h, --help                     prints this
-  -V, --version                  version, commit, whether the program is proved, kit
-  -s, --show-stats               what calls came to, and how much is kept; with -v by reason
-      --print-stats              the same as names and numbers with a tab between them, for tools
-  -z, --zero-stats               counts from 0 again; what is kept stays
-  -C, --clear                    takes away all that is kept; the counters stay
-  -M, --max-size SIZE            keeps no more than that: a number with k, M, G, T, Ki, Mi, Gi or Ti behind it, or none for G; 0 is no limit
-  -c, --cleanup                  has the limit hold now, whatever was noted of sizes
-      --evict-older-than AGE     takes away what wasn't used for so long: a number with s, m, h or d behind it
-  -p, --show-config              each key with its value and where that comes from
-  -k, --get-config KEY           the value of a key
-  -o, --set-config KEY=VALUE     sets a key in the user's file of settings
-  -d, --dir DIR                  the options with it are of what is kept there
-      --audit COMMAND ..         runs the command; a hit is compiled too, and what differs is said
-      --why COMMAND ..           what differed, at the last call with the outputs of this command that was compiled, from the one before it
-      --page LOG                 prints a page of the last build in a log of GULMAAT_LOG_FORMAT=json; with --all of all builds, and
-                                 with --ninja FILE also with the other commands of that build, as links, by ninja's own log
-      --trace LOG                the same as a trace for Perfetto or chrome://tracing
-      --compare LOG LOG          the last builds of two logs side by side
-      --links DIR                puts links into this folder, by which gulmaat stands before the compilers that are on the path
+  -h, --help                     prints this help
+  -V, --version                  prints the version, the commit, whether the program is proved, and the kit
+  -s, --show-stats               prints hits, misses, what was uncacheable, and the size of the cache; with -v also by option
+      --print-stats              prints the counters for tools: names and numbers with a tab between them
+  -z, --zero-stats               sets the counters to 0; the cache stays
+  -C, --clear                    empties the cache; the counters and the settings stay
+  -M, --max-size SIZE            sets the limit of the cache: a number with k, M, G, T, Ki, Mi, Gi or Ti after it, or none for G; 0 is no limit
+  -c, --cleanup                  adds up all sizes anew, and evicts what is over the limit
+      --evict-older-than AGE     evicts what wasn't used for so long: a number with s, m, h or d after it
+  -p, --show-config              prints each key with its value and where that comes from
+  -k, --get-config KEY           prints the value of a key
+  -o, --set-config KEY=VALUE     sets a key in the user's file
+  -d, --dir DIR                  names the cache directory for the other options
+      --audit COMMAND ..         runs this command; a hit is compiled too, and standard error says what differs
+      --why COMMAND ..           prints what differed between the last two compiles of this command's outputs
+      --page LOG                 prints a page in HTML of the last build in a log of GULMAAT_LOG_FORMAT=json; with --all of all its
+                                 builds, and with --ninja FILE also the other commands of that build, from ninja's own log
+      --trace LOG                prints the same as a trace for Perfetto or chrome://tracing
+      --compare LOG LOG          prints the last builds of two logs side by side
+      --links DIR                makes links in this folder, named like the compilers on the path: put it ahead of theirs in PATH
 
-Other names are --show for --show-stats, and --limit for --max-size. Each key of -p has a variable, which comes before the
-user's file; that is gulmaat.conf in the folder that GULMAAT_DIR names, or else in gulmaat in the user's folder of settings. With
-direct_mode no preprocessor runs where the files that it read last are as they were: docs/WRAPPER.md says what that can't see.
-remote_storage names a server, or a folder, from which results of other machines come, and to which those of this one go.
+Other names are --show for --show-stats, and --limit for --max-size. Each key of -p has a variable, which overrides the user's
+file: gulmaat.conf in the folder that GULMAAT_DIR names, or else ~/.config/gulmaat/gulmaat.conf. In direct mode (direct_mode) a
+hit runs no preprocessor; docs/WRAPPER.md says which changes it can't see. remote_storage names a server, or a folder, by which
+machines share results.
 ";
 
 /// Prints the help.

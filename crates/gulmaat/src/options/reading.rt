@@ -7,7 +7,7 @@ use std::alloc::Global;
 /// A word that is no option, or lacks its value.
 fn wrong(alloc: Global, word: &str) -> Result<OptionError, OptionError> {
     Ok(OptionError::Wrong(format!(in alloc;
-        "{word} is no option, or lacks its value: gulmaat --help tells all"
+        "{word} is no option, or lacks its value: gulmaat --help lists all options"
     )?))
 }
 
