@@ -258,7 +258,7 @@ search_hidden() {
         settle
         search_none "$cc: asked by $text" $cc
     done
-    for text in '_Pragma("GCC dependency \"late/value.h\"")' '#pragma GCC \\\ndependency "late/value.h"'; do
+    for text in '_Pragma("GCC dependency \\"late/value.h\\"")' '#pragma GCC \\\ndependency "late/value.h"'; do
         printf "$text\nint value;\n" >it.c
         settle
         search_none "$cc: compared by $text" $cc
