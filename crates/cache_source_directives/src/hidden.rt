@@ -41,13 +41,21 @@ pub(crate) fn pastes_probe(text: &[u8]) -> bool {
     false
 }
 
-/// Whether the words of the pragma that asks for the time of a file are in a text, with spaces, the end of a line that goes on or a comment
-/// between them. `_Pragma` takes them from a string, which a macro may make of its argument.
-pub(crate) fn has_pragma(text: &[u8]) -> bool {
+/// Whether the second word of that pragma, which is at that place of a text, may come after the first one: there are spaces, the end of a line
+/// that goes on or a comment between them.
+fn has_pragma_at(text: &[u8], at: usize) -> bool {
     let (first, second) = PRAGMA;
+    let (word, _) = word_ahead(text.get(at..).unwrap_or(&[]));
+    let front = before_gap(text.get(..at).unwrap_or(&[]));
+    word == second && stands_alone(text, at) && (front.ends_with(first) || front.ends_with(b"*/"))
+}
+
+/// Whether the words of the pragma that asks for the time of a file are in a text. `_Pragma` takes them from a string, which a macro may
+/// make of its argument.
+pub(crate) fn has_pragma(text: &[u8]) -> bool {
+    let (_, second) = PRAGMA;
     for at in memmem::find_iter(text, second) {
-        let front = before_gap(text.get(..at).unwrap_or(&[]));
-        if stands_alone(text, at) && (front.ends_with(first) || front.ends_with(b"*/")) {
+        if has_pragma_at(text, at) {
             return true;
         }
     }

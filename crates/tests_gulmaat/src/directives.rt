@@ -10,7 +10,7 @@ use std::test::Fail;
 use tests_kit::{holds, is_that, words};
 
 /// Sources, and what they ask for; `none` where that can't be determined.
-const SOURCES: [(&str, &str); 72] = [
+const SOURCES: [(&str, &str); 73] = [
     ("", ""),
     ("int x;\n", ""),
     ("#include \"a.h\"\n", " \"a.h\""),
@@ -89,6 +89,7 @@ const SOURCES: [(&str, &str); 72] = [
     ("_Pragma(\"GCC dependency \\\"a.h\\\"\")\n", "none"),
     ("PRAGMA(GCC dependency \"a.h\")\n", "none"),
     ("/* Each dependency of GCC, by GCC_dependency. */\n", ""),
+    ("/* GCC's. */\ndependency_list read(void);\n", ""),
 ];
 
 /// Adds what is asked for.
