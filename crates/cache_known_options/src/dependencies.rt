@@ -1,5 +1,6 @@
 //! What the words of a command say of its dependency file. The session isn't given that: what its contents depend on is bound to the key,
-//! and what the compile wrote is kept beside its messages. Definitions for the preprocessor it is given as a driver gives them.
+//! and what the compile wrote is kept beside its messages. Definitions for the preprocessor (`-Wp,-DX`) come to the session as drivers hand
+//! them on: after all other words.
 
 use crate::handed_on::definitions_in;
 use crate::placed::{Placed, PlacedWords, is_among};

@@ -269,6 +269,28 @@ fn behind_probe(behind: &[u8]) -> Option<(&[u8], bool)> {
     None
 }
 
+/// Whether what comes after a comment may be what a probe asks for, or may go on with that. The text begins within the comment.
+fn goes_on_behind(comment: &[u8]) -> bool {
+    match memmem::find(comment, b"*/") {
+        Some(end) => {
+            let behind = comment.get(end.saturating_add(2)..).unwrap_or(&[]);
+            matches!(behind_spaces(behind), [b'(' | b'/' | b'\\', ..])
+        }
+        None => true,
+    }
+}
+
+/// Whether what comes after the name of a probe may go on with what it asks for, though it doesn't begin so: in the next line, after a
+/// comment, or where the name is pasted to the rest of another one's.
+fn may_go_on(rest: &[u8]) -> bool {
+    match rest {
+        [b'\\' | b'#', ..] => true,
+        [b',', next @ ..] => behind_spaces(next).starts_with(b"_"),
+        [b'/', b'*', comment @ ..] => goes_on_behind(comment),
+        _ => false,
+    }
+}
+
 impl<'a> Directives<'a> {
     /// Nothing is asked for yet.
     fn new(alloc: Global) -> Directives<'a> {
@@ -334,8 +356,11 @@ impl<'a> Directives<'a> {
         let Some((rest, is_next)) = behind_probe(behind) else {
             return Ok(true);
         };
-        let defined = defined_by(line);
-        match (behind_spaces(rest), defined) {
+        let rest = behind_spaces(rest);
+        if may_go_on(rest) {
+            return Ok(false);
+        }
+        match (rest, defined_by(line)) {
             ([b'(', operand @ ..], None) => self.take_name(operand, is_next),
             ([b'(', operand @ ..], Some((name, takes))) => {
                 if name.starts_with(PROBE) || self.take_name(operand, is_next)? {
@@ -344,8 +369,6 @@ impl<'a> Directives<'a> {
                 self.probes.push(name)?;
                 Ok(takes && !is_next)
             }
-            // A line that goes on, a comment, or a piece that is pasted to something.
-            ([b'\\' | b'/' | b',' | b'#', ..], _) => Ok(false),
             // Another name for the probe.
             (_, Some((name, _))) => Ok(name.starts_with(PROBE)),
             (_, None) => Ok(true),

@@ -10,7 +10,7 @@ use std::test::Fail;
 use tests_kit::{holds, is_that, words};
 
 /// Sources, and what they ask for; `none` where that can't be determined.
-const SOURCES: [(&str, &str); 73] = [
+const SOURCES: [(&str, &str); 77] = [
     ("", ""),
     ("int x;\n", ""),
     ("#include \"a.h\"\n", " \"a.h\""),
@@ -80,6 +80,10 @@ const SOURCES: [(&str, &str); 73] = [
     ("#define HAS __has_include\n", "none"),
     ("#define HAS_A __has_include(A)\n", "none"),
     ("#if __has_include /* a */ (<a.h>)\n", "none"),
+    ("#ifdef __has_include /* a */\n", ""),
+    ("#ifdef __has_include // a (<a.h>)\n", ""),
+    ("#if defined __has_include /* a\n*/\n", "none"),
+    ("/* By __has_include, where that is there. */\n", ""),
     ("#if __has_inc\\\nlude(<a.h>)\n", "none"),
     ("#if PASTE(__has_, include)(<a.h>)\n", "none"),
     ("#if PASTE(__has_include, _next)(<a.h>)\n", "none"),
