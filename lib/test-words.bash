@@ -197,6 +197,7 @@ END
     kept_case clang "CC -fsanitize=address -c foo.c"
     kept_case clang "CC -Qunused-arguments -mllvm -inline-threshold=100 -Xclang -disable-O0-optnone -c foo.c"
     kept_case gcc "CC -fsanitize=undefined,address -c foo.c"
+    kept_case gcc "CC -Wa,-mtune=generic32,-march=generic64 -Xassembler -O2 -c foo.c"
     word_case gcc "CC -gsplit-dwarf -g -c foo.c"
     configured_clang
     # A compiler that doesn't take the option for colours doesn't get it.

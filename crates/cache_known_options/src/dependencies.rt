@@ -3,7 +3,7 @@
 //! them on: after all other words.
 
 use crate::handed_on::definitions_in;
-use crate::placed::{Placed, PlacedWords, is_among};
+use crate::placed::{PlacedWords, is_among};
 use crate::text_words::dependency_file;
 use base_files::{Listed, OsBytes};
 use std::alloc::{AllocError, Global};
@@ -58,8 +58,9 @@ struct Said<'a> {
     has_target: bool,
     object: Option<&'a [u8]>,
     input: Option<&'a [u8]>,
-    /// Whether a word hands definitions to the preprocessor, and whether the last word lacks its value.
-    has_definitions: bool,
+    /// The definitions that words hand to the preprocessor.
+    definitions: Vec<&'a [u8]>,
+    /// Whether the last word lacks its value.
     lacks_value: bool,
 }
 
@@ -79,7 +80,7 @@ impl<'a> Said<'a> {
             has_target: false,
             object: None,
             input: None,
-            has_definitions: false,
+            definitions: Vec::new(alloc),
             lacks_value: false,
         }
     }
@@ -120,8 +121,8 @@ impl<'a> Said<'a> {
     /// Takes a word that is no value, and says whether it is one of those that say something of the dependency file, or one of definitions,
     /// which are taken after all others.
     fn takes(&mut self, alloc: Global, word: &'a [u8]) -> Result<bool, AllocError> {
-        if definitions_in(word).is_some() {
-            self.has_definitions = true;
+        if let Some(definitions) = definitions_in(word) {
+            self.take_definitions(definitions)?;
             return Ok(true);
         }
         if let Some((front, path)) = for_preprocessor(word) {
@@ -175,21 +176,17 @@ impl<'a> Said<'a> {
         Ok(())
     }
 
-    /// Takes the definitions that words hand to the preprocessor, in their order: drivers put them after all their own.
-    fn take_definitions(&mut self, alloc: Global, words: &[OsBytes]) -> Result<(), AllocError> {
-        for placed in PlacedWords::of(words) {
-            self.take_definitions_of(alloc, placed)?;
+    /// Takes the definitions of a word for the preprocessor, which have commas between them.
+    fn take_definitions(&mut self, definitions: &'a [u8]) -> Result<(), AllocError> {
+        for definition in definitions.split(|byte| *byte == b',') {
+            self.definitions.push(definition)?;
         }
         Ok(())
     }
 
-    /// Takes those that this word hands on.
-    fn take_definitions_of(&mut self, alloc: Global, placed: Placed<'_>) -> Result<(), AllocError> {
-        let (None, Some(definitions)) = (placed.option, definitions_in(placed.word.as_bytes()))
-        else {
-            return Ok(());
-        };
-        for definition in definitions.split(|byte| *byte == b',') {
+    /// Adds the definitions after all other words, as drivers hand them on.
+    fn add_definitions(&mut self, alloc: Global) -> Result<(), AllocError> {
+        for definition in self.definitions.as_slice() {
             self.others.push(again(alloc, definition)?)?;
         }
         Ok(())
@@ -204,7 +201,7 @@ impl<'a> Said<'a> {
     fn is_unclear(&self) -> bool {
         self.asked_preprocessor > 1
             || (self.asked_preprocessor == 1 && self.asked != 0)
-            || (self.has_definitions && self.lacks_value)
+            || (!self.definitions.is_empty() && self.lacks_value)
     }
 
     /// Takes the object as the target of a file that is asked for, where no word names one.
@@ -254,9 +251,7 @@ pub fn dependencies_of(
     if found.is_unclear() {
         return Ok(None);
     }
-    if found.has_definitions {
-        found.take_definitions(alloc, words)?;
-    }
+    found.add_definitions(alloc)?;
     found.take_target(alloc)?;
     let file = found.file(alloc)?;
     let Said { others, said, .. } = found;

@@ -186,13 +186,20 @@ pub const VALUED: &str = " \
     -mx86-used-note=yes,no -std=* -stdlib=libc++,libstdc++,platform -rtlib=libgcc,compiler-rt,platform \
     -unwindlib=none,libgcc,libunwind,platform --std=* --sysroot=* --target=* --gcc-toolchain=* ";
 
-/// Words for the assembler, after `-Wa,` or `-Xassembler`.
+/// Words for the assembler, after `-Wa,` or `-Xassembler`: whole, or up to their `=`, with what may come after it as in `VALUED`. With each an
+/// assembler takes in a file by the same directives.
 pub const ASSEMBLER: &str = " \
     --noexecstack --execstack --fatal-warnings --no-warn -W --warn --32 --64 --x32 --divide --keep-locals -L --strip-local-absolute \
-    --reduce-memory-overheads --compress-debug-sections --compress-debug-sections=none --compress-debug-sections=zlib \
-    --compress-debug-sections=zlib-gnu --compress-debug-sections=zlib-gabi --nocompress-debug-sections --elf-stt-common=yes \
-    --elf-stt-common=no --generate-missing-build-notes=yes --generate-missing-build-notes=no -mrelax-relocations=yes \
-    -mrelax-relocations=no -mx86-used-note=yes -mx86-used-note=no -mbranches-within-32B-boundaries -msse2avx -mamd64 -mintel64 ";
+    --reduce-memory-overheads --compress-debug-sections --compress-debug-sections=none,zlib,zlib-gnu,zlib-gabi,zstd \
+    --nocompress-debug-sections --elf-stt-common=yes,no --generate-missing-build-notes=yes,no --size-check=error,warning \
+    --multibyte-handling=allow,warn,warn-sym-only --hash-size=# --gsframe --sectname-subst -no-pad-sections -J -k -n -O -O0 -O1 -O2 -Os \
+    -q -Qn -Qy -R -march=* -mtune=* -mcpu=* -mfpu=* -mabi=* -mfloat-abi=soft,softfp,hard -mimplicit-it=never,always,arm,thumb -mthumb \
+    -mthumb-interwork -mbig-obj -mshared -mrelax-relocations=yes,no -mx86-used-note=yes,no -mbranches-within-32B-boundaries \
+    -malign-branch-boundary=# -malign-branch-prefix-size=# -malign-branch=* -mlfence-after-load=yes,no \
+    -mlfence-before-ret=none,or,not,shl,yes -mlfence-before-indirect-branch=none,all,register,memory -momit-lock-prefix=yes,no \
+    -mfence-as-lock-add=yes,no -msse2avx -muse-unaligned-vector-move -msse-check=none,error,warning \
+    -moperand-check=none,error,warning -mavxscalar=128,256 -mvexwig=# -mevexlig=# -mevexwig=# -mevexrcig=rne,rd,ru,rz \
+    -mmnemonic=att,intel -msyntax=att,intel -mindex-reg -mnaked-reg -madd-bnd-prefix -mamd64 -mintel64 ";
 
 /// Words for Clang's own compiler, after `-Xclang`.
 pub const CLANG: &str = " \

@@ -135,10 +135,15 @@ fn is_parameter(word: &[u8]) -> bool {
         })
 }
 
+/// Whether a word for the assembler is known.
+fn is_for_assembler(alloc: Global, word: &[u8]) -> Result<bool, AllocError> {
+    Ok(is_listed(alloc, ASSEMBLER, word)? || is_valued(alloc, ASSEMBLER, word)?)
+}
+
 /// Whether all words for the assembler are known, which have commas between them.
 fn are_for_assembler(alloc: Global, words: &[u8]) -> Result<bool, AllocError> {
     for word in words.split(|byte| *byte == b',') {
-        if !is_listed(alloc, ASSEMBLER, word)? {
+        if !is_for_assembler(alloc, word)? {
             return Ok(false);
         }
     }
@@ -204,7 +209,7 @@ fn is_known_value(alloc: Global, option: &[u8], value: &[u8]) -> Result<bool, Al
         return Ok(!is_among(&NAME_OUTPUT, option) || is_file(value));
     }
     if option == b"-Xassembler".as_slice() {
-        return is_listed(alloc, ASSEMBLER, value);
+        return is_for_assembler(alloc, value);
     }
     if option == b"-Xclang".as_slice() {
         return is_listed(alloc, CLANG, value);

@@ -82,12 +82,9 @@ const KINDS: &[(&str, Kind)] = &[
     ("__include_macros", Kind::Unfollowed),
 ];
 
-/// The pragmas that ask for a file, by their first word and their second one, where that counts.
-const FILE_PRAGMAS: &[(&str, Option<&str>)] = &[
-    ("GCC", Some("dependency")),
-    ("clang", Some("module")),
-    ("include_alias", None),
-];
+/// The pragmas that ask for a file, by their first word and their second one, where that counts. `has_pragma` finds one more wherever its
+/// words are.
+const FILE_PRAGMAS: &[(&str, Option<&str>)] = &[("clang", Some("module")), ("include_alias", None)];
 
 /// What a source in UTF-8 may begin with.
 const BYTE_ORDER_MARK: &[u8] = b"\xef\xbb\xbf";

@@ -7,7 +7,7 @@ use std::test::Fail;
 use tests_kit::is_that;
 
 /// Words, and the one that speaks against keeping; nothing where none does.
-const REASONS: [(&str, &str); 14] = [
+const REASONS: [(&str, &str); 17] = [
     ("-c a.c", ""),
     ("-c -x c++ a.c", ""),
     ("-c a.c -x c++", "-x"),
@@ -17,6 +17,9 @@ const REASONS: [(&str, &str); 14] = [
     ("-E a.c -x c++", ""),
     ("-c a.c -Wa,-adhln=x.lst", "-Wa,-adhln=x.lst"),
     ("-c a.c -Wa,--noexecstack", ""),
+    ("-c a.c -Wa,-mtune=generic32,-march=armv8.5-a+crc", ""),
+    ("-c a.c -Xassembler -msse-check=error", ""),
+    ("-c a.c -Wa,-O2,--mri", "-Wa,-O2,--mri"),
     ("-c @words", "@words"),
     ("-c a.c -o /dev/fd/3", "/dev/fd/3"),
     ("-c a.c -MD -MF -", "-"),
