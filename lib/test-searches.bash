@@ -182,6 +182,7 @@ searches() {
     search_spellings "$cc"
     search_names "$cc"
     search_hidden "$cc"
+    search_guards "$cc"
     search_others "$cc"
     cd "$work" || return
 }
@@ -263,6 +264,23 @@ search_hidden() {
         settle
         search_none "$cc: compared by $text" $cc
     done
+}
+
+# A name that is computed in a header for tracing, as the Linux kernel has one: it isn't live where its macro is defined nowhere else.
+search_guards() {
+    local cc=$1
+    {
+        printf '#ifdef CREATE_TRACE_POINTS\n#undef CREATE_TRACE_POINTS\n#define TEXT(x) #x\n#define NAMED(x) TEXT(x)\n'
+        printf '#include NAMED(value.h)\n#define CREATE_TRACE_POINTS\n#endif\n#ifndef VALUE\n#define VALUE 5\n#endif\n'
+    } >late/trace.h
+    printf '#include "trace.h"\nint value = VALUE;\n' >it.c
+    settle
+    search_case "$cc: a name that isn't live" 'printf "#define VALUE 7\n" >early/trace.h' "rm early/trace.h" $cc -Iearly -Ilate
+    search_none "$cc: a name that a word has live" $cc -Iearly -Ilate -DCREATE_TRACE_POINTS
+    printf '#define CREATE_TRACE_POINTS\n#include "trace.h"\nint value = VALUE;\n' >it.c
+    settle
+    search_none "$cc: a name that a source has live" $cc -Iearly -Ilate
+    rm late/trace.h
 }
 
 # Precompiled headers, branches, folders with objects in them, another GCC, and calls at once.

@@ -136,6 +136,7 @@ CC -c foo.cc -o foo
 CC -c asm.s
 CC -c asm.S
 CC -x c++ -c foo.c
+CC -Werror -O2 -x c -c /dev/null -o x.o
 CC -DX=2 -UX -c foo.c
 CC -MD -c foo.c
 CC -MD -c foo.c -o 'd ir/f$o#o.o'

@@ -9,7 +9,7 @@ use cache_host::CommandLine;
 use cache_known_options::{Placed, PlacedWords};
 use cache_source_directives::{
     Asked, Directives, Search, add_defined, add_probed, add_said, asks_for_files, directives_of,
-    pastes_time, tells_time,
+    may_define, pastes_time, tells_time,
 };
 use memchr::memmem;
 use std::alloc::Global;
@@ -140,6 +140,40 @@ fn add_computed<'a>(sources: &[Source<'a>], found: &mut Directives<'a>) -> Resul
     Ok(())
 }
 
+/// Whether a macro may be defined: its name is in a word of the command, or a source may define it.
+fn may_be_defined(
+    alloc: Global,
+    words: &[OsBytes],
+    sources: &[Source<'_>],
+    name: &[u8],
+) -> Result<bool, Unwatched> {
+    for source in sources {
+        if may_define(alloc, source.contents, name)? {
+            return Ok(true);
+        }
+    }
+    Ok(
+        words
+            .iter()
+            .any(|word| memmem::find(word.as_bytes(), name).is_some()),
+    )
+}
+
+/// Fails where an include of a source may be live of which it can't be determined what it includes.
+fn check_guards(
+    alloc: Global,
+    words: &[OsBytes],
+    sources: &[Source<'_>],
+    found: &Directives<'_>,
+) -> Result<(), Unwatched> {
+    for name in found.guards.iter() {
+        if may_be_defined(alloc, words, sources, name)? {
+            return Err(Unwatched::Computed);
+        }
+    }
+    Ok(())
+}
+
 /// The macros by which sources ask whether a file is there.
 fn probes_in<'a>(alloc: Global, all: &[Directives<'a>]) -> Result<Vec<&'a [u8]>, Unwatched> {
     let mut probes = Vec::new(alloc);
@@ -254,6 +288,7 @@ fn search_sources<'a, R: Files + AllocGlobal>(
     let mut said_bracketed = HashSet::new(rt.alloc());
     let mut is_input = true;
     for (source, found) in sources.iter().zip(all.iter_mut()) {
+        check_guards(rt.alloc(), words, sources, found)?;
         add_computed(sources, found)?;
         add_all_probed(source, probes.as_slice(), found)?;
         let said = said_for(rt.alloc(), words, found)?;

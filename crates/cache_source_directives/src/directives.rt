@@ -3,6 +3,7 @@
 //! Which of them are live depends on macros, so all of them count: those in comments too. Where it isn't clear what is asked for, as where a
 //! macro stands for the name, there is no answer.
 
+use crate::guards::guard_behind;
 use crate::hidden::{PIECE, has_pragma, pastes_probe};
 use memchr::{memchr, memchr_iter, memmem, memrchr};
 use std::alloc::{AllocError, Global};
@@ -33,6 +34,8 @@ pub struct Directives<'a> {
     pub probes: Vec<&'a [u8]>,
     /// The macros that stand for names that it includes.
     pub computed: Vec<&'a [u8]>,
+    /// The macros without which directives aren't live of which it can't be determined what they include: none of these may be defined.
+    pub guards: Vec<&'a [u8]>,
     /// Whether it may be taken in once alone.
     pub is_once: bool,
 }
@@ -120,7 +123,7 @@ pub(crate) fn word_ahead(text: &[u8]) -> (&[u8], &[u8]) {
 }
 
 /// The text without the spaces that it ends with.
-fn before_spaces(text: &[u8]) -> &[u8] {
+pub(crate) fn before_spaces(text: &[u8]) -> &[u8] {
     let mut length = text.len();
     for byte in text.iter().rev() {
         if !is_space(*byte) {
@@ -295,6 +298,7 @@ impl<'a> Directives<'a> {
             asked: Vec::new(alloc),
             probes: Vec::new(alloc),
             computed: Vec::new(alloc),
+            guards: Vec::new(alloc),
             is_once: false,
         }
     }
@@ -316,8 +320,30 @@ impl<'a> Directives<'a> {
             return Ok(true);
         }
         let (name, rest) = word_ahead(behind_spaces(operand));
+        if is_next || name.is_empty() || !behind_spaces(rest).is_empty() {
+            return Ok(false);
+        }
         self.computed.push(name)?;
-        Ok(!is_next && !name.is_empty() && behind_spaces(rest).is_empty())
+        Ok(true)
+    }
+
+    /// Takes what a directive that comes after these bytes includes. Where that can't be determined, takes a macro without which it isn't
+    /// live; false where there is none.
+    fn take_live(
+        &mut self,
+        alloc: Global,
+        front: &'a [u8],
+        operand: &'a [u8],
+        is_next: bool,
+    ) -> Result<bool, AllocError> {
+        if self.take_included(operand, is_next)? {
+            return Ok(true);
+        }
+        let Some(guard) = guard_behind(alloc, front)? else {
+            return Ok(false);
+        };
+        self.guards.push(guard)?;
+        Ok(true)
     }
 
     /// Takes what comes after `pragma`. False where it asks for a file.
@@ -328,19 +354,24 @@ impl<'a> Directives<'a> {
         !asks_for_file(word, second)
     }
 
-    /// Takes a directive: what comes after its `#`. False where it can't be determined what it asks for.
-    fn take_directive(&mut self, behind: &'a [u8]) -> Result<bool, AllocError> {
+    /// Takes a directive: what comes before and after its `#`. False where it can't be determined what it asks for.
+    fn take_directive(
+        &mut self,
+        alloc: Global,
+        front: &'a [u8],
+        behind: &'a [u8],
+    ) -> Result<bool, AllocError> {
         let behind = behind_spaces(behind);
         let (word, operand) = word_ahead(behind);
         if matches!(operand, [b'\\', ..]) || matches!(behind, [b'/', ..]) {
             return Ok(false);
         }
         match kind_of(word) {
-            Some(Kind::Include) => self.take_included(operand, false),
-            Some(Kind::IncludeNext) => self.take_included(operand, true),
+            Some(Kind::Include) => self.take_live(alloc, front, operand, false),
+            Some(Kind::IncludeNext) => self.take_live(alloc, front, operand, true),
             Some(Kind::Import) => {
                 self.is_once = true;
-                self.take_included(operand, false)
+                self.take_live(alloc, front, operand, false)
             }
             Some(Kind::Pragma) => Ok(self.take_pragma(operand)),
             Some(Kind::Unfollowed) => Ok(false),
@@ -415,13 +446,13 @@ impl<'a> Directives<'a> {
 
     /// Takes a directive, where one begins at the mark at that place of a source. False where it can't be determined what it asks for:
     /// that is so of other spellings of `#`, and of those of the end of a line that goes on.
-    fn take_at(&mut self, source: &'a [u8], at: usize) -> Result<bool, AllocError> {
+    fn take_at(&mut self, alloc: Global, source: &'a [u8], at: usize) -> Result<bool, AllocError> {
         let Some((front, found)) = source.split_at_checked(at) else {
             return Ok(true);
         };
         if let Some(behind) = found.strip_prefix(b"#") {
             return match may_begin_directive(front) {
-                true => self.take_directive(line_ahead(behind)),
+                true => self.take_directive(alloc, front, line_ahead(behind)),
                 false => Ok(true),
             };
         }
@@ -432,9 +463,14 @@ impl<'a> Directives<'a> {
     }
 
     /// Takes the directives of a source that begin with that mark. False where it can't be determined what one asks for.
-    fn take_marked(&mut self, source: &'a [u8], mark: u8) -> Result<bool, AllocError> {
+    fn take_marked(
+        &mut self,
+        alloc: Global,
+        source: &'a [u8],
+        mark: u8,
+    ) -> Result<bool, AllocError> {
         for at in memchr_iter(mark, source) {
-            if !self.take_at(source, at)? {
+            if !self.take_at(alloc, source, at)? {
                 return Ok(false);
             }
         }
@@ -442,9 +478,9 @@ impl<'a> Directives<'a> {
     }
 
     /// Takes the directives of a source. False where it can't be determined what one asks for.
-    fn take_directives(&mut self, source: &'a [u8]) -> Result<bool, AllocError> {
+    fn take_directives(&mut self, alloc: Global, source: &'a [u8]) -> Result<bool, AllocError> {
         for mark in MARKS {
-            if !self.take_marked(source, mark)? {
+            if !self.take_marked(alloc, source, mark)? {
                 return Ok(false);
             }
         }
@@ -455,7 +491,7 @@ impl<'a> Directives<'a> {
 /// What a source asks for. None where that can't be determined.
 pub fn directives_of(alloc: Global, source: &[u8]) -> Result<Option<Directives<'_>>, AllocError> {
     let mut found = Directives::new(alloc);
-    if !found.take_directives(source)? {
+    if !found.take_directives(alloc, source)? {
         return Ok(None);
     }
     if has_pragma(source) || !found.take_all_probes(source)? {
@@ -499,6 +535,17 @@ fn literal_ahead(behind: &[u8]) -> Option<Asked<'_>> {
     }
 }
 
+/// What comes after a name at that place of a source, where a macro of that name may be defined there.
+pub(crate) fn behind_defined<'a>(source: &'a [u8], at: usize, name: &[u8]) -> Option<&'a [u8]> {
+    let front = source.get(..at).unwrap_or(&[]);
+    let behind = source.get(at.saturating_add(name.len())..).unwrap_or(&[]);
+    let is_longer = matches!(behind, [byte, ..] if is_letter(*byte));
+    if is_longer || !may_be_defined(front) {
+        return None;
+    }
+    Some(behind)
+}
+
 /// Adds what a macro stands for whose name comes at that place of a source, if it may be defined there. False where that may be anything but
 /// a name in quotes or brackets.
 fn add_defined_at<'a>(
@@ -507,12 +554,9 @@ fn add_defined_at<'a>(
     name: &[u8],
     found: &mut Vec<Asked<'a>>,
 ) -> Result<bool, AllocError> {
-    let front = source.get(..at).unwrap_or(&[]);
-    let behind = source.get(at.saturating_add(name.len())..).unwrap_or(&[]);
-    let is_longer = matches!(behind, [byte, ..] if is_letter(*byte));
-    if is_longer || !may_be_defined(front) {
+    let Some(behind) = behind_defined(source, at, name) else {
         return Ok(true);
-    }
+    };
     let Some(asked) = literal_ahead(behind) else {
         return Ok(false);
     };

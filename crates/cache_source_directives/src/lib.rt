@@ -3,11 +3,13 @@
 #![tactic(auto)]
 
 mod directives;
+mod guards;
 mod hidden;
 mod numbers;
 mod times;
 
 pub use directives::{Asked, Directives, Search, add_defined, add_probed, add_said, directives_of};
+pub use guards::may_define;
 pub use hidden::asks_for_files;
 pub use numbers::renumbers;
 pub use times::{pastes_time, tells_time};

@@ -5,7 +5,7 @@ use base_files::{FileTime, Files as CallFiles, Metadata, OsBytes, join};
 use base_snapshots::{LoadedFile, SnapshotFiles};
 use cache_disk::{is_before, read_of_size, time_of};
 use cache_host::{CommandLine, HostError, into_text};
-use cache_written_lines::{Lying, NamedFile, NamedFiles};
+use cache_written_lines::{Lying, NamedFile, NamedFiles, reads_as_file};
 use memchr::memmem;
 use std::alloc::Global;
 use std::fs;
@@ -23,7 +23,7 @@ const EMBEDS: [&str; 2] = ["#embed", "# embed"];
 /// What the disk has under a path.
 #[derive(Drop)]
 enum OnDisk {
-    /// A regular file of these contents.
+    /// A file of these contents.
     File(OsBytes, Metadata),
     /// Nothing, or something else.
     NoFile,
@@ -31,10 +31,10 @@ enum OnDisk {
     Unknown,
 }
 
-/// What the disk says of the regular file of that path, or what it has there in its place.
-fn regular_at<R: Files>(rt: &R, path: &str) -> Result<fs::Metadata, OnDisk> {
+/// What the disk says of the file of that path, or what it has there in its place.
+fn file_at<R: Files>(rt: &R, path: &str) -> Result<fs::Metadata, OnDisk> {
     match fs::metadata(rt, path) {
-        Ok(found) if found.is_file() => Ok(found),
+        Ok(found) if reads_as_file(&found) => Ok(found),
         Ok(_) => Err(OnDisk::NoFile),
         Err(error) if error.kind() == ErrorKind::NotFound => Err(OnDisk::NoFile),
         Err(_) => Err(OnDisk::Unknown),
@@ -52,7 +52,7 @@ fn metadata_of(found: &fs::Metadata, size: u64) -> Metadata {
 
 /// Looks at the path.
 fn look_at<R: Files + AllocGlobal>(rt: &R, path: &str) -> OnDisk {
-    let found = match regular_at(rt, path) {
+    let found = match file_at(rt, path) {
         Ok(found) => found,
         Err(other) => return other,
     };
@@ -89,7 +89,7 @@ fn look_for_token<R: Files + AllocGlobal>(
     let Ok(place) = into_text(path.clone()?) else {
         return Ok(OnDisk::Unknown);
     };
-    let found = match regular_at(rt, place.as_str()) {
+    let found = match file_at(rt, place.as_str()) {
         Ok(found) => found,
         Err(other) => return Ok(other),
     };

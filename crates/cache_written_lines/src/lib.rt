@@ -9,5 +9,5 @@ mod written;
 
 pub use asked::Asked;
 pub use lines::{digest_asked, digest_of_contents};
-pub use named::{Lying, NamedFile, NamedFiles};
+pub use named::{Lying, NamedFile, NamedFiles, reads_as_file};
 pub use sources::{Source, Sources};

@@ -8,14 +8,24 @@ use std::alloc::{AllocError, Global};
 use std::collections::HashSet;
 use std::fs;
 use std::fs::Metadata;
+use std::os::unix::fs::{FileTypeExt, MetadataExt};
 use std::rt::Files;
+
+/// The number of the device `/dev/null`.
+const NULL_DEVICE: u64 = 0x103;
+
+/// Whether it reads as a file: it is a regular one, or the device that is always empty, which build systems have compiled to find out which
+/// options a compiler knows.
+pub fn reads_as_file(found: &Metadata) -> bool {
+    found.is_file() || (found.file_type().is_char_device() && found.rdev() == NULL_DEVICE)
+}
 
 /// What lay under a path.
 #[derive(Drop)]
 pub enum Lying {
     /// Nothing.
     Nothing,
-    /// A regular file, with its contents, where they were read.
+    /// A file, with its contents, where they were read.
     File(Metadata, Option<OsBytes>),
     /// A folder, or what is neither.
     Other,
@@ -56,7 +66,7 @@ fn lying_at<R: Files>(rt: &R, path: &OsBytes) -> Lying {
         return Lying::Unknown;
     };
     match fs::metadata(rt, place) {
-        Ok(found) if found.is_file() => Lying::File(found, None),
+        Ok(found) if reads_as_file(&found) => Lying::File(found, None),
         Ok(_) => Lying::Other,
         Err(error) if is_nothing(&error) => Lying::Nothing,
         Err(_) => Lying::Unknown,

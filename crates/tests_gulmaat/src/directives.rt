@@ -2,7 +2,8 @@
 
 use base_files::Lossy;
 use cache_source_directives::{
-    Asked, Directives, Search, add_defined, asks_for_files, directives_of, pastes_time, tells_time,
+    Asked, Directives, Search, add_defined, asks_for_files, directives_of, may_define, pastes_time,
+    tells_time,
 };
 use std::alloc::{AllocError, Global};
 use std::fmt::Write;
@@ -10,7 +11,7 @@ use std::test::Fail;
 use tests_kit::{holds, is_that, words};
 
 /// Sources, and what they ask for; `none` where that can't be determined.
-const SOURCES: [(&str, &str); 77] = [
+const SOURCES: [(&str, &str); 87] = [
     ("", ""),
     ("int x;\n", ""),
     ("#include \"a.h\"\n", " \"a.h\""),
@@ -33,6 +34,22 @@ const SOURCES: [(&str, &str); 77] = [
     ("#include NAME\n", " takes NAME"),
     ("#include NAME // a\n", "none"),
     ("#include NAME(a)\n", "none"),
+    (
+        "#ifdef A_B\n#if X\n#include NAME(a)\n#endif\n#endif\n",
+        " unless A_B",
+    ),
+    (
+        "/* a */\n#ifdef A_B /* b */\n/**/\n#include NAME(a)\n",
+        " unless A_B",
+    ),
+    ("#ifdef A_B\n#endif\n#include NAME(a)\n", "none"),
+    ("#ifdef A_B\n#else\n#include NAME(a)\n#endif\n", "none"),
+    ("#ifndef A_B\n#include NAME(a)\n#endif\n", "none"),
+    ("#ifdef __A_B\n#include NAME(a)\n#endif\n", "none"),
+    ("/*\n#ifdef A_B\n*/\n#include NAME(a)\n", "none"),
+    ("#ifdef A_B\n/*\n#endif\n*/\n#include NAME(a)\n", "none"),
+    ("a \\\n#ifdef A_B\n#include NAME(a)\n", "none"),
+    ("R\"(\n#ifdef A_B\n)\"\n#include NAME(a)\n", "none"),
     ("#include\n", ""),
     ("  #include's protect themselves, and so do others\n", ""),
     ("#include (a)\n", ""),
@@ -129,6 +146,7 @@ fn write_found(text: &mut String, found: &Directives<'_>) -> Result<(), AllocErr
     write_all(text, found.asked.as_slice())?;
     write_names(text, "asks", found.probes.as_slice())?;
     write_names(text, "takes", found.computed.as_slice())?;
+    write_names(text, "unless", found.guards.as_slice())?;
     text.push_str(if found.is_once { " once" } else { "" })
 }
 
@@ -193,6 +211,27 @@ fn macros_stand_for_files(rt: HostRuntime) -> Result<(), Fail> {
     for (source, want) in DEFINED.iter() {
         let text = text_of_defined(rt.alloc(), source)?;
         is_that(text.as_str(), want, source)?;
+    }
+    Ok(())
+}
+
+/// Sources, and whether they may define `A_B` where it isn't defined yet.
+const DEFINING: [(&str, bool); 6] = [
+    ("#define A_B\n", true),
+    ("#ifdef A_B\n#define A_B 1\n#endif\n", false),
+    ("#ifdef A_B\n#else\n#define A_B\n#endif\n", true),
+    ("#ifdef X_Y\n#define A_B\n#endif\n", true),
+    ("/*\n#ifdef A_B */\n#define A_B\n", true),
+    ("#define A_BC\n#undef A_B\n#define X A_B\n", false),
+];
+
+#[test]
+fn macros_are_defined_where_they_are_not(rt: HostRuntime) -> Result<(), Fail> {
+    for (source, want) in DEFINING.iter() {
+        holds(
+            may_define(rt.alloc(), source.as_bytes(), b"A_B")? == *want,
+            source,
+        )?;
     }
     Ok(())
 }
