@@ -191,7 +191,7 @@ searches() {
 search_spellings() {
     local cc=$1 text
     for text in '/* a */ #include <value.h> /* b */' '/* a *\\\n/ #include <value.h>' '\357\273\277#include <value.h>' \
-        '#include <value.h>\nconst char *mark = "%%:";'; do
+        '#include <value.h>\nconst char *mark = "%%:";' '// See asm-???/value.h.\n#include <value.h>'; do
         # Clang warns of a comment whose end goes on in the next line, and beside a message there is no manifest.
         case $cc$text in clang*'*\\\n/'*) continue ;; esac
         printf "$text\nint value = VALUE;\n" >it.c

@@ -155,6 +155,14 @@ fn is_other_mark(text: &[u8]) -> bool {
     false
 }
 
+/// Whether a text begins with the other spelling of a `\` by which a line goes on.
+fn continues_line(text: &[u8]) -> bool {
+    match text.strip_prefix(b"??/") {
+        Some(rest) => matches!(behind_spaces(rest), [] | [b'\n', ..]),
+        None => false,
+    }
+}
+
 /// The rest of the line that a text begins in.
 fn line_ahead(text: &[u8]) -> &[u8] {
     match memchr(b'\n', text) {
@@ -173,14 +181,17 @@ fn line_at(source: &[u8], at: usize) -> &[u8] {
     line_ahead(source.get(begin..).unwrap_or(&[]))
 }
 
-/// The name between these marks at the front of a text.
+/// The name between these marks at the front of a text. None where a character of it may have another spelling, which begins with `??`.
 fn between(text: &[u8], first: u8, last: u8) -> Option<&[u8]> {
     let (front, rest) = text.split_first()?;
     if *front != first {
         return None;
     }
-    let end = memchr(last, rest)?;
-    rest.get(..end)
+    let name = rest.get(..memchr(last, rest)?)?;
+    match memmem::find(name, b"??") {
+        Some(_) => None,
+        None => Some(name),
+    }
 }
 
 /// The name in quotes or brackets at the front of a text. None where the text begins with neither.
@@ -199,10 +210,11 @@ fn name_ahead(text: &[u8]) -> Option<Asked<'_>> {
 }
 
 /// Whether a name may be computed by what comes in place of a written one: a macro begins there, or a comment, a line continuation,
-/// or something in quotes that is no name. All else fails to compile, or is in a comment.
+/// or something in quotes that is no name, or a name with another spelling in it. All else fails to compile, or is in a comment.
 fn may_be_computed(operand: &[u8]) -> bool {
     match operand {
         [b'/' | b'\\', ..] | [b'"', b'<', ..] => true,
+        [b'"' | b'<', name @ ..] => memmem::find(name, b"??").is_some(),
         [byte, ..] => is_letter(*byte),
         [] => false,
     }
@@ -459,7 +471,7 @@ impl<'a> Directives<'a> {
         if is_other_mark(found) {
             return Ok(!may_begin_directive(front));
         }
-        Ok(!found.starts_with(b"??/"))
+        Ok(!continues_line(found))
     }
 
     /// Takes the directives of a source that begin with that mark. False where it can't be determined what one asks for.

@@ -11,7 +11,7 @@ use std::test::Fail;
 use tests_kit::{holds, is_that, words};
 
 /// Sources, and what they ask for; `none` where that can't be determined.
-const SOURCES: [(&str, &str); 87] = [
+const SOURCES: [(&str, &str); 90] = [
     ("", ""),
     ("int x;\n", ""),
     ("#include \"a.h\"\n", " \"a.h\""),
@@ -75,6 +75,9 @@ const SOURCES: [(&str, &str); 87] = [
     ("/* a */ ??=include <a.h>\n", "none"),
     ("x = \"??=\";\n", ""),
     ("#inc??/\nlude <a.h>\n", "none"),
+    ("int x; ??/ \r\n", "none"),
+    ("/* See asm-???/a.h. */\n#include <a.h>\n", " <a.h>"),
+    ("#include \"a??/b.h\"\n", "none"),
     ("#embed <a.bin>\n", "none"),
     ("#pragma GCC dependency \"a.h\"\n", "none"),
     ("#pragma GCC diagnostic push\n", ""),
