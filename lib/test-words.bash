@@ -153,6 +153,8 @@ CC -std=gnu11 -pthread -pipe -fPIC -isystem share -I. -iquote d\ ir -include lis
 CC --param max-inline-insns-single=100 -O1 -c foo.c
 CC -Wa,--noexecstack -Wl,-z,now -c foo.c
 CC -Wp,-DX=3 -DX=2 -c foo.c
+CC -Wp,-MD,x.d -Wp,-MT,d/x.o -c foo.c -o x.o
+CC -MD -Wp,-MQ,d/x.o -c foo.c -o links/x.o
 CC -O2 -Wp,-U_FORTIFY_SOURCE,-D_FORTIFY_SOURCE=3,-DX=4 -MD -c foo.c
 CC -O2 -march=native -mtune=native -c foo.c
 END

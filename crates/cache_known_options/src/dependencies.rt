@@ -11,6 +11,9 @@ use std::alloc::{AllocError, Global};
 /// Words that ask the preprocessor for a dependency file; its path follows in the same word.
 const FOR_PREPROCESSOR: [&str; 2] = ["-Wp,-MD,", "-Wp,-MMD,"];
 
+/// Words that give the preprocessor one more target for that file, in the same word.
+const TARGETS_FOR_PREPROCESSOR: [&str; 2] = ["-Wp,-MT,", "-Wp,-MQ,"];
+
 /// Words that ask for a dependency file.
 pub(crate) const ASKING: [&str; 2] = ["-MD", "-MMD"];
 
@@ -29,6 +32,16 @@ pub fn for_preprocessor(word: &[u8]) -> Option<(&'static str, &[u8])> {
     for front in FOR_PREPROCESSOR {
         if let Some(path) = word.strip_prefix(front.as_bytes()) {
             return Some((front, path));
+        }
+    }
+    None
+}
+
+/// The target in a word for the preprocessor.
+pub(crate) fn target_for_preprocessor(word: &[u8]) -> Option<&[u8]> {
+    for front in TARGETS_FOR_PREPROCESSOR {
+        if let Some(target) = word.strip_prefix(front.as_bytes()) {
+            return Some(target);
         }
     }
     None
@@ -115,7 +128,11 @@ impl<'a> Said<'a> {
         }
         let has_target = begins_with_target(word);
         self.has_target = self.has_target || has_target;
-        is_asking || has_target || word == b"-MP".as_slice()
+        // With a target for the preprocessor the object may be one too: Clang has it as one then, and GCC for a file that `-MD` asks for.
+        is_asking
+            || has_target
+            || word == b"-MP".as_slice()
+            || target_for_preprocessor(word).is_some()
     }
 
     /// Takes a word that is no value, and says whether it is one of those that say something of the dependency file, or one of definitions,

@@ -1,6 +1,6 @@
 //! Which words are known: with these alone the object hangs on the text, the words and the compiler, and nothing else is written.
 
-use crate::dependencies::for_preprocessor;
+use crate::dependencies::{for_preprocessor, target_for_preprocessor};
 use crate::handed_on::definitions_in;
 use crate::placed::{Placed, PlacedWords, is_among, takes_any, takes_next};
 use crate::tables::{ASSEMBLER, CLANG, LLVM, VALUED, WHOLE};
@@ -184,6 +184,9 @@ fn is_known_option(alloc: Global, word: &[u8]) -> Result<bool, AllocError> {
     }
     if let Some((_, path)) = for_preprocessor(word) {
         return Ok(!path.is_empty() && !path.contains(&b',') && is_file(path));
+    }
+    if let Some(target) = target_for_preprocessor(word) {
+        return Ok(!target.is_empty() && !target.contains(&b','));
     }
     if definitions_in(word).is_some() {
         return Ok(true);

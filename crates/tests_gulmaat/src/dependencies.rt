@@ -8,7 +8,7 @@ use std::test::Fail;
 use tests_kit::{is_that, words, write_list, write_words};
 
 /// Words, and what they say: the others, what the file's contents hang on, and its path; `unclear` where that can't be determined.
-const LINES: [(&str, &str); 22] = [
+const LINES: [(&str, &str); 23] = [
     ("-c a.c -o a.o", " -c a.c -o a.o"),
     (
         "-MD -c a.c -o a.o",
@@ -44,6 +44,10 @@ const LINES: [(&str, &str); 22] = [
         " -c a.c -o a.o; said -Wp,-MD, a.o; file x.d",
     ),
     ("-Wp,-MMD,x.d -c a.c", " -c a.c; said -Wp,-MMD,; file x.d"),
+    (
+        "-Wp,-MD,x.d -Wp,-MT,y -c a.c -o a.o",
+        " -c a.c -o a.o; said -Wp,-MD, -Wp,-MT,y a.o; file x.d",
+    ),
     ("-Wp,-MD,x.d -MD -c a.c", "unclear"),
     ("-Wp,-MD,x.d -Wp,-MD,y.d -c a.c", "unclear"),
     ("-MD -S a.c", " -S a.c; said -MD -S; file a.d"),

@@ -7,7 +7,7 @@ use std::test::Fail;
 use tests_kit::is_that;
 
 /// Words, and the one that speaks against keeping; nothing where none does.
-const REASONS: [(&str, &str); 17] = [
+const REASONS: [(&str, &str); 18] = [
     ("-c a.c", ""),
     ("-c -x c++ a.c", ""),
     ("-c a.c -x c++", "-x"),
@@ -23,6 +23,7 @@ const REASONS: [(&str, &str); 17] = [
     ("-c @words", "@words"),
     ("-c a.c -o /dev/fd/3", "/dev/fd/3"),
     ("-c a.c -MD -MF -", "-"),
+    ("-c a.c -Wp,-MD,a.d -Wp,-MT,a,b", "-Wp,-MT,a,b"),
     ("-c a.c -fno-such-thing", "-fno-such-thing"),
     ("-c a.c --param max-inline-insns-single=7", ""),
 ];
