@@ -247,11 +247,11 @@ pub(crate) fn stands_alone(line: &[u8], at: usize) -> bool {
     }
 }
 
-/// What a directive of that word does, if it may take in a file.
-fn kind_of(word: &[u8]) -> Option<Kind> {
-    for (name, kind) in KINDS {
+/// What a table has beside that word.
+pub(crate) fn value_of<T: Copy>(table: &[(&str, T)], word: &[u8]) -> Option<T> {
+    for (name, value) in table {
         if name.as_bytes() == word {
-            return Some(*kind);
+            return Some(*value);
         }
     }
     None
@@ -259,26 +259,18 @@ fn kind_of(word: &[u8]) -> Option<Kind> {
 
 /// Whether a pragma of these two words asks for a file.
 fn asks_for_file(word: &[u8], second: &[u8]) -> bool {
-    for (first, next) in FILE_PRAGMAS {
-        if first.as_bytes() == word {
-            return match next {
-                Some(next) => next.as_bytes() == second,
-                None => true,
-            };
-        }
+    match value_of(FILE_PRAGMAS, word) {
+        Some(Some(next)) => next.as_bytes() == second,
+        Some(None) => true,
+        None => false,
     }
-    false
 }
 
 /// What comes after a probe, and whether the probe is a `_next` one. None where its name is a part of a longer word.
 fn behind_probe(behind: &[u8]) -> Option<(&[u8], bool)> {
     let (word, rest) = word_ahead(behind);
-    for (end, is_next) in PROBE_ENDS {
-        if end.as_bytes() == word {
-            return Some((rest, *is_next));
-        }
-    }
-    None
+    let is_next = value_of(PROBE_ENDS, word)?;
+    Some((rest, is_next))
 }
 
 /// Whether what comes after a comment may be what a probe asks for, or may go on with that. The text begins within the comment.
@@ -378,7 +370,7 @@ impl<'a> Directives<'a> {
         if matches!(operand, [b'\\', ..]) || matches!(behind, [b'/', ..]) {
             return Ok(false);
         }
-        match kind_of(word) {
+        match value_of(KINDS, word) {
             Some(Kind::Include) => self.take_live(alloc, front, operand, false),
             Some(Kind::IncludeNext) => self.take_live(alloc, front, operand, true),
             Some(Kind::Import) => {

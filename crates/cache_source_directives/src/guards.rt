@@ -3,7 +3,7 @@
 //! One is only named where that is certain: what begins as a directive is none in a comment, in a string or in a line that goes on.
 
 use crate::directives::{
-    before_spaces, behind_defined, behind_spaces, may_begin_directive, word_ahead,
+    before_spaces, behind_defined, behind_spaces, may_begin_directive, value_of, word_ahead,
 };
 use memchr::{memchr2_iter, memmem};
 use std::alloc::{AllocError, Global};
@@ -34,16 +34,6 @@ const KINDS: &[(&str, Kind)] = &[
 
 /// What a string that may have any line in it begins with.
 const RAW_STRING: &[u8] = b"R\"";
-
-/// What a directive of that word does to groups.
-fn kind_of(word: &[u8]) -> Option<Kind> {
-    for (name, kind) in KINDS {
-        if name.as_bytes() == word {
-            return Some(*kind);
-        }
-    }
-    None
-}
 
 /// Whether a directive that comes after these bytes begins a line, which doesn't go on with the one before it.
 fn begins_line(front: &[u8]) -> bool {
@@ -103,7 +93,7 @@ impl<'a> Groups<'a> {
             return Ok(true);
         }
         let (word, operand) = word_ahead(behind_spaces(behind));
-        let Some(kind) = kind_of(word) else {
+        let Some(kind) = value_of(KINDS, word) else {
             return Ok(true);
         };
         if self.in_comment || !begins_line(front) {
