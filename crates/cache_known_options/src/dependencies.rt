@@ -3,7 +3,7 @@
 //! them on: after all other words.
 
 use crate::handed_on::definitions_in;
-use crate::placed::{PlacedWords, is_among};
+use crate::placed::{PlacedWords, behind_front, is_among};
 use crate::text_words::dependency_file;
 use base_files::{Listed, OsBytes};
 use std::alloc::{AllocError, Global};
@@ -22,29 +22,18 @@ const OF_TARGET: [&str; 2] = ["-MT", "-MQ"];
 
 /// Whether a word names the target, or takes the next one as its name.
 pub(crate) fn begins_with_target(word: &[u8]) -> bool {
-    OF_TARGET
-        .iter()
-        .any(|option| word.starts_with(option.as_bytes()))
+    behind_front(&OF_TARGET, word).is_some()
 }
 
 /// The path of the dependency file in a word for the preprocessor, and what comes before it.
 pub fn for_preprocessor(word: &[u8]) -> Option<(&'static str, &[u8])> {
-    for front in FOR_PREPROCESSOR {
-        if let Some(path) = word.strip_prefix(front.as_bytes()) {
-            return Some((front, path));
-        }
-    }
-    None
+    behind_front(&FOR_PREPROCESSOR, word)
 }
 
 /// The target in a word for the preprocessor.
 pub(crate) fn target_for_preprocessor(word: &[u8]) -> Option<&[u8]> {
-    for front in TARGETS_FOR_PREPROCESSOR {
-        if let Some(target) = word.strip_prefix(front.as_bytes()) {
-            return Some(target);
-        }
-    }
-    None
+    let (_, target) = behind_front(&TARGETS_FOR_PREPROCESSOR, word)?;
+    Some(target)
 }
 
 /// What the words of a command say of its dependency file.

@@ -42,6 +42,19 @@ pub(crate) fn is_among(words: &[&str], word: &[u8]) -> bool {
     words.iter().any(|it| word == it.as_bytes())
 }
 
+/// The first of these with which a word begins, and what comes after it.
+pub(crate) fn behind_front<'a>(
+    fronts: &[&'static str],
+    word: &'a [u8],
+) -> Option<(&'static str, &'a [u8])> {
+    for front in fronts {
+        if let Some(rest) = word.strip_prefix(front.as_bytes()) {
+            return Some((*front, rest));
+        }
+    }
+    None
+}
+
 /// Whether the word takes the next one as its value, whatever that is.
 pub(crate) fn takes_any(word: &[u8]) -> bool {
     is_among(&TAKE_NEXT, word)

@@ -2,7 +2,7 @@
 
 use crate::dependencies::{for_preprocessor, target_for_preprocessor};
 use crate::handed_on::definitions_in;
-use crate::placed::{Placed, PlacedWords, is_among, takes_any, takes_next};
+use crate::placed::{Placed, PlacedWords, behind_front, is_among, takes_any, takes_next};
 use crate::tables::{ASSEMBLER, CLANG, LLVM, VALUED, WHOLE};
 use base_files::OsBytes;
 use memchr::{memchr, memmem};
@@ -47,10 +47,8 @@ const FRONTS: [&str; 28] = [
 ];
 
 /// Whether a word begins with one of these.
-fn begins_with(fronts: &[&str], word: &[u8]) -> bool {
-    fronts
-        .iter()
-        .any(|front| word.starts_with(front.as_bytes()))
+fn begins_with(fronts: &[&'static str], word: &[u8]) -> bool {
+    behind_front(fronts, word).is_some()
 }
 
 /// What comes after a front with which a word of the table begins, up to that word's end.
@@ -168,11 +166,8 @@ fn is_file(path: &[u8]) -> bool {
 
 /// Whether a word that begins with one of `FRONTS`, and may contain a path, is known.
 fn is_known_front(word: &[u8]) -> bool {
-    let path = NAME_OUTPUT
-        .iter()
-        .find_map(|option| word.strip_prefix(option.as_bytes()));
-    match path {
-        Some(path) => is_file(path) && !begins_with(&OTHERS, word),
+    match behind_front(&NAME_OUTPUT, word) {
+        Some((_, path)) => is_file(path) && !begins_with(&OTHERS, word),
         None => !begins_with(&OTHERS, word),
     }
 }
