@@ -181,6 +181,30 @@ configured_clang() {
     kept_case "$clang" "CC -O1 -c foo.c"
 }
 
+# Build systems find out which options a compiler knows by compiling what is always empty, each time to another object.
+probe_words() {
+    local cc=$1 language
+    local words=(-Wa,--noexecstack -c /dev/null -o)
+    mkdir -p "$work/probe-words-$cc"
+    cd "$work/probe-words-$cc" || return
+    for language in c c++ assembler assembler-with-cpp; do
+        "$host" "$cc" -x "$language" "${words[@]}" one.o
+        mark
+        "$host" "$cc" -x "$language" "${words[@]}" two.o
+        is "$cc -x $language: a probe to another object" since 1 0
+        "$cc" -x "$language" "${words[@]}" wanted.o
+        is "$cc -x $language: its object" cmp -s two.o wanted.o
+    done
+    # By words that a user allows an assembler may record where its input is.
+    mkdir -p one two
+    echo "int a;" | tee one/it.c two/it.c >/dev/null
+    (cd one && GULMAAT_ALLOW_OPTIONS=-Wa,-I. "$host" "$cc" -Wa,-I. -c it.c)
+    mark
+    (cd two && GULMAAT_ALLOW_OPTIONS=-Wa,-I. "$host" "$cc" -Wa,-I. -c it.c)
+    is "$cc: words that are allowed, in another folder" since 0 1
+    cd "$work" || return
+}
+
 # What the compilers have alone.
 own_words() {
     local line

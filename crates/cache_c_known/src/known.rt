@@ -16,7 +16,7 @@ use cache_known_options::text_words::text_words;
 use cache_searched_folders::Unwatched;
 use cache_settings::Key;
 use cache_source_files::{
-    Tokens, digest_of_list, has_precompiled, load, load_named, names_files_of, regular,
+    Tokens, contents_at, digest_of_list, has_precompiled, load, load_named, names_files_of, regular,
 };
 use cache_unkept_texts::{takes_files, tells_time};
 use cache_written_lines::{Asked, NamedFiles, Sources, digest_asked, digest_of_contents};
@@ -209,7 +209,7 @@ impl Known {
             return true;
         };
         match str::from_utf8(input.path.as_bytes()) {
-            Ok(place) => regular(rt, place).as_ref() == input.contents(),
+            Ok(place) => contents_at(rt, place).as_ref() == input.contents(),
             Err(_) => false,
         }
     }

@@ -7,7 +7,7 @@ use crate::compilers::{KnownCompiler, add_surroundings, compiler_at};
 use crate::native::native_of;
 use base_files::{Listed, OsBytes};
 use cache_host::{ADDITIONS_VARIABLE, Additions, CommandLine, Host, HostError};
-use cache_known_options::{Dependencies, dependencies_of, is_read};
+use cache_known_options::{Dependencies, PlacedWords, behind_front, dependencies_of, is_read};
 use cache_settings::Key;
 use cmdlines_tables::CCompilerKind;
 use std::alloc::Global;
@@ -19,7 +19,7 @@ use wrap_base::Request;
 /// Name endings of inputs that are compiled as they are, or whose place an assembler records.
 const WITHOUT_FOLDER: [&str; 5] = [".i", ".ii", ".s", ".S", ".sx"];
 
-/// What words begin with after which an assembler may record where an input is.
+/// What words begin with by which an assembler may record where an input is, unless they are known: so where a user allows others.
 const FOR_ASSEMBLER: [&str; 2] = ["-Wa,", "-Xassembler"];
 
 /// Languages of inputs that are compiled as they are, or whose place an assembler records.
@@ -51,17 +51,32 @@ fn env_of(
     Ok(variables)
 }
 
+/// Whether a word ends with one of these.
+fn ends_with(ends: &[&str], word: &[u8]) -> bool {
+    for end in ends {
+        if word.ends_with(end.as_bytes()) {
+            return true;
+        }
+    }
+    false
+}
+
 /// Whether a word names an input, a language or an option by which an object has the input's place in it, though no text shows that.
-fn tells_place(word: &[u8]) -> bool {
-    WITHOUT_FOLDER
-        .iter()
-        .any(|end| word.ends_with(end.as_bytes()))
-        || FOR_ASSEMBLER
-            .iter()
-            .any(|front| word.starts_with(front.as_bytes()))
-        || LANGUAGES
-            .iter()
-            .any(|language| word.ends_with(language.as_bytes()))
+fn tells_place(word: &[u8], allows: bool) -> bool {
+    ends_with(&WITHOUT_FOLDER, word)
+        || ends_with(&LANGUAGES, word)
+        || (allows && behind_front(&FOR_ASSEMBLER, word).is_some())
+}
+
+/// Whether an object may have the input's place in it, though no text shows that.
+fn may_have_place(line: &CommandLine) -> bool {
+    let allows = !line.settings.value_of(Key::AllowOptions).is_empty();
+    for word in line.words.as_slice() {
+        if tells_place(word.as_bytes(), allows) {
+            return true;
+        }
+    }
+    false
 }
 
 /// Adds where the input lies, where an object may have that in it though no text shows it.
@@ -70,14 +85,13 @@ fn add_place(
     line: &CommandLine,
     additions: &mut Additions,
 ) -> Result<(), HostError> {
-    let words = line.words.as_slice();
-    if !words.iter().any(|word| tells_place(word.as_bytes())) {
+    if !may_have_place(line) {
         return Ok(());
     }
     additions.add(alloc, "folder", line.dir.as_bytes())?;
-    for word in words {
-        if !word.as_bytes().starts_with(b"-") {
-            additions.add(alloc, "path", word.as_bytes())?;
+    for placed in PlacedWords::of(line.words.as_slice()) {
+        if placed.is_input() {
+            additions.add(alloc, "path", placed.word.as_bytes())?;
         }
     }
     Ok(())

@@ -11,6 +11,6 @@ mod variables;
 mod words;
 
 pub use dependencies::{Dependencies, dependencies_of, for_preprocessor};
-pub use placed::{Placed, PlacedWords};
+pub use placed::{Placed, PlacedWords, behind_front, is_among};
 pub use variables::is_read;
 pub use words::unknown_word;

@@ -38,12 +38,12 @@ const TAKE_NEXT: [&str; 25] = [
 const TAKE_KNOWN: [&str; 4] = ["-Xassembler", "-Xclang", "-mllvm", "--param"];
 
 /// Whether a word is one of these.
-pub(crate) fn is_among(words: &[&str], word: &[u8]) -> bool {
+pub fn is_among(words: &[&str], word: &[u8]) -> bool {
     words.iter().any(|it| word == it.as_bytes())
 }
 
 /// The first of these with which a word begins, and what comes after it.
-pub(crate) fn behind_front<'a>(
+pub fn behind_front<'a>(
     fronts: &[&'static str],
     word: &'a [u8],
 ) -> Option<(&'static str, &'a [u8])> {

@@ -3,7 +3,6 @@
 ghost use Rattle.std.specs.Prelude.{◌≡◌};
 
 use crate::search_list::SearchList;
-use crate::texts::behind_one;
 use crate::unwatched::Unwatched;
 use crate::watch_list::holds;
 use crate::watching::Watching;
@@ -11,13 +10,13 @@ use base_files::{FileTime, Listed, OsBytes};
 use base_formats::{put_framed, read_framed};
 use cache_dir::{Kind, digest_of, state_of};
 use cache_host::{CommandLine, Host, LETTERS, Said, messages_of, push_words};
-use cache_known_options::{PlacedWords, is_read};
+use cache_known_options::{PlacedWords, behind_front, is_read};
 use std::alloc::{AllocError, Global};
 use std::io::Read;
 use std::rt::Files;
 
 /// What words begin with that say nothing of where files are looked for.
-const FRONTS: [&[u8]; 6] = [b"-D", b"-U", b"-o", b"-M", b"-include", b"-imacros"];
+const FRONTS: [&str; 6] = ["-D", "-U", "-o", "-M", "-include", "-imacros"];
 
 /// Words that are used alone and say what is to be made.
 const STEPS: [&[u8]; 4] = [b"-c", b"-S", b"-E", b"-v"];
@@ -28,7 +27,7 @@ const VERSION: &[u8] = b"2";
 /// Whether a word that is no value says where files are looked for.
 fn says_where(word: &[u8]) -> bool {
     word.starts_with(b"-")
-        && behind_one(word, &FRONTS).is_none()
+        && behind_front(&FRONTS, word).is_none()
         && !STEPS.contains(&word)
         && !word.starts_with(b"-Wp,")
 }

@@ -6,7 +6,7 @@ use crate::watching::Watching;
 use base_files::{FileTime, OsBytes};
 use cache_disk::folder_of;
 use cache_host::CommandLine;
-use cache_known_options::{Placed, PlacedWords};
+use cache_known_options::{Placed, PlacedWords, behind_front, is_among};
 use cache_source_directives::{
     Asked, Directives, Search, add_defined, add_probed, add_said, asks_for_files, directives_of,
     may_define, pastes_time, tells_time,
@@ -17,17 +17,17 @@ use std::collections::HashSet;
 use std::rt::Files;
 
 /// What words begin with by which a compiler finds files in a way of its own.
-const OWN_WAYS: [&[u8]; 6] = [
-    b"-remap",
-    b"-traditional",
-    b"-fmodule",
-    b"-fms-compatibility",
-    b"-ivfsoverlay",
-    b"-I-",
+const OWN_WAYS: [&str; 6] = [
+    "-remap",
+    "-traditional",
+    "-fmodule",
+    "-fms-compatibility",
+    "-ivfsoverlay",
+    "-I-",
 ];
 
 /// The options that take in a file before the input.
-const TAKING_IN: [&[u8]; 2] = [b"-include", b"-imacros"];
+const TAKING_IN: [&str; 2] = ["-include", "-imacros"];
 
 /// What GCC takes in before all else.
 const PREDEFINED: &[u8] = b"stdc-predef.h";
@@ -37,16 +37,6 @@ const PREDEFINED: &[u8] = b"stdc-predef.h";
 pub struct Source<'a> {
     pub path: &'a str,
     pub contents: &'a [u8],
-}
-
-/// What comes after the first one of these at the front of a word.
-pub(crate) fn behind_one<'a>(word: &'a [u8], fronts: &[&[u8]]) -> Option<&'a [u8]> {
-    for front in fronts {
-        if let Some(rest) = word.strip_prefix(*front) {
-            return Some(rest);
-        }
-    }
-    None
 }
 
 /// What each source asks for, in their order.
@@ -140,23 +130,32 @@ fn add_computed<'a>(sources: &[Source<'a>], found: &mut Directives<'a>) -> Resul
     Ok(())
 }
 
-/// Whether a macro may be defined: its name is in a word of the command, or a source may define it.
-fn may_be_defined(
+/// Whether one of the words has that name in it.
+fn name_macro(words: &[OsBytes], name: &[u8]) -> bool {
+    for word in words {
+        if memmem::find(word.as_bytes(), name).is_some() {
+            return true;
+        }
+    }
+    false
+}
+
+/// Whether what comes in a macro's groups may be live: its name is in a word of the command, or a source may define it.
+fn may_be_live(
     alloc: Global,
     words: &[OsBytes],
     sources: &[Source<'_>],
     name: &[u8],
 ) -> Result<bool, Unwatched> {
+    if name_macro(words, name) {
+        return Ok(true);
+    }
     for source in sources {
         if may_define(alloc, source.contents, name)? {
             return Ok(true);
         }
     }
-    Ok(
-        words
-            .iter()
-            .any(|word| memmem::find(word.as_bytes(), name).is_some()),
-    )
+    Ok(false)
 }
 
 /// Fails where an include of a source may be live of which it can't be determined what it includes.
@@ -167,7 +166,7 @@ fn check_guards(
     found: &Directives<'_>,
 ) -> Result<(), Unwatched> {
     for name in found.guards.iter() {
-        if may_be_defined(alloc, words, sources, name)? {
+        if may_be_live(alloc, words, sources, name)? {
             return Err(Unwatched::Computed);
         }
     }
@@ -226,10 +225,10 @@ fn search_all<'a, R: Files + AllocGlobal>(
 fn taken_in(placed: Placed<'_>) -> Option<&[u8]> {
     let word = placed.word.as_bytes();
     match placed.option {
-        Some(option) if TAKING_IN.contains(&option.as_bytes()) => Some(word),
+        Some(option) if is_among(&TAKING_IN, option.as_bytes()) => Some(word),
         Some(_) => None,
         None if placed.takes_value() => None,
-        None => behind_one(word, &TAKING_IN),
+        None => Some(behind_front(&TAKING_IN, word)?.1),
     }
 }
 
@@ -254,7 +253,7 @@ fn search_words<R: Files + AllocGlobal>(
 /// Whether words have a compiler find files in a way of its own.
 fn are_own_ways(words: &[OsBytes]) -> bool {
     for word in words {
-        if behind_one(word.as_bytes(), &OWN_WAYS).is_some() {
+        if behind_front(&OWN_WAYS, word.as_bytes()).is_some() {
             return true;
         }
     }

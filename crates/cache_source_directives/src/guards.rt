@@ -2,9 +2,8 @@
 //!
 //! One is only named where that is certain: what begins as a directive is none in a comment, in a string or in a line that goes on.
 
-use crate::directives::{
-    before_spaces, behind_defined, behind_spaces, may_begin_directive, value_of, word_ahead,
-};
+use crate::definitions::behind_defined;
+use crate::directives::{before_spaces, behind_spaces, may_begin_directive, value_of, word_ahead};
 use memchr::{memchr2_iter, memmem};
 use std::alloc::{AllocError, Global};
 

@@ -1,7 +1,8 @@
 //! What asks for a file though no directive and no whole probe shows it: a probe of two pieces, a pragma in a string or a macro's argument,
 //! and a definition by a word of a command.
 
-use crate::directives::{PROBE, before_gap, behind_spaces, stands_alone, word_ahead};
+use crate::definitions::before_gap;
+use crate::directives::{PROBE, behind_spaces, stands_alone, word_ahead};
 use crate::times::may_be_pasted;
 use base_files::OsBytes;
 use memchr::memmem;

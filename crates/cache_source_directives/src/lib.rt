@@ -2,13 +2,15 @@
 //! text.
 #![tactic(auto)]
 
+mod definitions;
 mod directives;
 mod guards;
 mod hidden;
 mod numbers;
 mod times;
 
-pub use directives::{Asked, Directives, Search, add_defined, add_probed, add_said, directives_of};
+pub use definitions::{add_defined, add_said};
+pub use directives::{Asked, Directives, Search, add_probed, directives_of};
 pub use guards::may_define;
 pub use hidden::asks_for_files;
 pub use numbers::renumbers;

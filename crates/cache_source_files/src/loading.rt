@@ -63,6 +63,14 @@ fn look_at<R: Files + AllocGlobal>(rt: &R, path: &str) -> OnDisk {
     OnDisk::File(OsBytes::from_vec(contents), metadata)
 }
 
+/// The contents of what reads as a file under that path, where something does.
+pub fn contents_at<R: Files + AllocGlobal>(rt: &R, path: &str) -> Option<OsBytes> {
+    match look_at(rt, path) {
+        OnDisk::File(contents, _) => Some(contents),
+        OnDisk::NoFile | OnDisk::Unknown => None,
+    }
+}
+
 /// The token of a header of these contents, in their place. One that was changed before that moment is known again.
 fn as_token<R: Files + AllocGlobal>(
     rt: &R,

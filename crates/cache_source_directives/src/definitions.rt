@@ -1,0 +1,101 @@
+//! What a macro stands for: the name of a file, by its definitions in sources and by those of a command.
+
+use crate::directives::{Asked, behind_spaces, is_letter, is_space, name_ahead};
+use memchr::memmem;
+use std::alloc::AllocError;
+
+/// Whether it is a space, or a part of a line continuation.
+fn is_gap(byte: u8) -> bool {
+    is_space(byte) || byte == b'\\' || byte == b'\n'
+}
+
+/// What comes before spaces and line continuations.
+pub(crate) fn before_gap(front: &[u8]) -> &[u8] {
+    let mut length = front.len();
+    for byte in front.iter().rev() {
+        if !is_gap(*byte) {
+            break;
+        }
+        length = length.saturating_sub(1);
+    }
+    front.get(..length).unwrap_or(&[])
+}
+
+/// Whether a name that comes after these bytes may be defined there: `define` comes before it, or a comment that may come after `define`.
+fn may_be_defined(front: &[u8]) -> bool {
+    let before = before_gap(front);
+    before.ends_with(b"define") || before.ends_with(b"*/")
+}
+
+/// The name of a file, where a macro stands for nothing else. The text is what comes after the macro's own name.
+fn literal_ahead(behind: &[u8]) -> Option<Asked<'_>> {
+    let operand = behind_spaces(behind);
+    let asked = name_ahead(operand)?;
+    // The name has a mark on each side.
+    let rest = operand.get(asked.name.len().saturating_add(2)..)?;
+    match behind_spaces(rest) {
+        [] | [b'\n', ..] | [b'/', b'*' | b'/', ..] => Some(asked),
+        _ => None,
+    }
+}
+
+/// What comes after a name at that place of a source, where a macro of that name may be defined there.
+pub(crate) fn behind_defined<'a>(source: &'a [u8], at: usize, name: &[u8]) -> Option<&'a [u8]> {
+    let front = source.get(..at).unwrap_or(&[]);
+    let behind = source.get(at.saturating_add(name.len())..).unwrap_or(&[]);
+    let is_longer = matches!(behind, [byte, ..] if is_letter(*byte));
+    if is_longer || !may_be_defined(front) {
+        return None;
+    }
+    Some(behind)
+}
+
+/// Adds what a macro stands for whose name comes at that place of a source, if it may be defined there. False where that may be anything but
+/// a name in quotes or brackets.
+fn add_defined_at<'a>(
+    source: &'a [u8],
+    at: usize,
+    name: &[u8],
+    found: &mut Vec<Asked<'a>>,
+) -> Result<bool, AllocError> {
+    let Some(behind) = behind_defined(source, at, name) else {
+        return Ok(true);
+    };
+    let Some(asked) = literal_ahead(behind) else {
+        return Ok(false);
+    };
+    found.push(asked)?;
+    Ok(true)
+}
+
+/// Adds what a macro may stand for by its definitions in a source, live or not. False where one of them may be anything but a name in
+/// quotes or brackets.
+pub fn add_defined<'a>(
+    source: &'a [u8],
+    name: &[u8],
+    found: &mut Vec<Asked<'a>>,
+) -> Result<bool, AllocError> {
+    for at in memmem::find_iter(source, name) {
+        if !add_defined_at(source, at, name, found)? {
+            return Ok(false);
+        }
+    }
+    Ok(true)
+}
+
+/// Adds what a macro stands for by a command's definition, as `NAME="file"`. False where it defines another macro, or may be something other
+/// than a name in quotes or brackets.
+pub fn add_said<'a>(
+    definition: &'a [u8],
+    name: &[u8],
+    found: &mut Vec<Asked<'a>>,
+) -> Result<bool, AllocError> {
+    let value = definition
+        .strip_prefix(name)
+        .and_then(|behind| behind.strip_prefix(b"="));
+    let Some(asked) = value.and_then(literal_ahead) else {
+        return Ok(false);
+    };
+    found.push(asked)?;
+    Ok(true)
+}
