@@ -112,7 +112,7 @@ def call_picture():
         box(left, 110, 170, ["gulmaat-host", "in C: runs commands,", "decides nothing"]),
         box(middle, 20, wide, ["Is the call cacheable?", "cache_c_requests, cache_known_options", "cache_rustc_requests"], "proved"),
         box(right, 28, 230, ["the compiler alone", "uncacheable, by reason"]),
-        box(middle, 130, wide, ["Is there a manifest that still fits?", "cache_files: result keys and states", "cache_searched_folders: new headers"], "proved"),
+        box(middle, 130, wide, ["Is there a manifest that still fits?", "cache_files: result keys and states", "cache_watch_lists: new headers"], "proved"),
         box(right, 138, 230, ["the preprocessor", "its text, and lines as written"]),
         box(middle, 240, wide, ["Which key, and what is answered?", "wrap_replay: `serve` over recorded answers", "wrap, wrap_turns, ckeys, rustkeys"], "proved"),
         box(middle, 350, wide, ["Is there a result of this key?", "cache_dir, cache_format: kept here", "cache_remote_storage: on a server"], "proved"),

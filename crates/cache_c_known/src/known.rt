@@ -13,12 +13,12 @@ use cache_format::KeptMessages;
 use cache_host::{CommandLine, Ended, Host, HostError, text_in};
 use cache_known_options::Dependencies;
 use cache_known_options::text_words::text_words;
-use cache_searched_folders::Unwatched;
 use cache_settings::Key;
 use cache_source_files::{
     Tokens, contents_at, digest_of_list, has_precompiled, load, load_named, names_files_of, regular,
 };
 use cache_unkept_texts::{takes_files, tells_time};
+use cache_watch_lists::Unwatched;
 use cache_written_lines::{Asked, NamedFiles, Sources, digest_asked, digest_of_contents};
 use ckeys::needs_c_preprocessing;
 use ckeys_records::{Printed, Step};

@@ -9,11 +9,9 @@ use cache_dir::CacheDirError;
 use cache_files::manifests::FoundManifest;
 use cache_files::{manifest_under, put_manifest};
 use cache_host::{CommandLine, Host, HostError};
-use cache_searched_folders::{
-    EnteredNames, Source, Unwatched, list_of, result_holds, said_of, with_list, with_results_of,
-    without,
-};
-use cache_source_files::{load_all, settled_before};
+use cache_searched_folders::{EnteredNames, Source, list_of, said_of};
+use cache_source_files::load_all;
+use cache_watch_lists::{Unwatched, result_holds, with_list, with_results_of, without};
 use cache_written_lines::NamedFile;
 use ckeys_include_records::PreprocessorCacheEntry;
 use ckeys_include_records::entry_key::EntryKey;
@@ -283,7 +281,7 @@ impl Known {
         let Some(language) = language_of(self.kind, key) else {
             return Err(Unwatched::List);
         };
-        let before = settled_before(line.moment);
+        let before = line.settled_before();
         self.named.read(rt);
         self.are_unchanged = self.named.are_unchanged(rt);
         if !self.are_unchanged {

@@ -2,11 +2,20 @@
 
 use crate::fields::Fields;
 use crate::host_error::HostError;
-use base_files::{Listed, OsBytes};
+use base_files::{FileTime, Listed, OsBytes};
 use cache_dir::CacheDir;
+use cache_disk::time_of;
 use cache_settings::{Key, Settings, Variables};
 use std::alloc::Global;
+use std::fs;
+use std::os::unix::fs::MetadataExt;
+use std::rt::Files;
 use std::time::{SystemTime, UNIX_EPOCH};
+
+/// By how many nanoseconds the times of files may be off where another machine gives them, and how many of a second are left then.
+const OFF: u32 = 20_000_000;
+
+const LEFT: i64 = 980_000_000;
 
 /// A command line, with where it would run, and where this process keeps things.
 #[derive(Drop)]
@@ -15,6 +24,8 @@ pub struct CommandLine {
     pub folder: CacheDir,
     /// When it is asked about.
     pub moment: SystemTime,
+    /// When the call began, by the clock that the times of files are of: what is changed from then on has this time or a later one.
+    pub began: FileTime,
     /// Where the host puts a preprocessed text.
     pub text: String,
     /// Where it puts what a command printed on its standard error, and what a compile printed on its standard output. What lies there
@@ -53,13 +64,23 @@ impl<'a> Variables for LineVariables<'a> {
     }
 }
 
+/// When the host made the file of that path, which nothing was written into yet. That clock goes on by the ticks of the kernel, so it may be
+/// well behind the other one. Where it can't be read, at a moment before which no file was changed.
+fn made_at<R: Files>(rt: &R, path: &str) -> FileTime {
+    match fs::metadata(rt, path) {
+        Ok(found) => time_of(found.mtime(), found.mtime_nsec()),
+        Err(_) => FileTime::from_seconds(0),
+    }
+}
+
 impl CommandLine {
-    /// The command line in the message, at that moment. Nothing is set yet.
-    pub fn read(
-        alloc: Global,
+    /// The command line in the message, at that moment, before the host does anything for it. Nothing is set yet.
+    pub fn read<R: Files + AllocGlobal>(
+        rt: &R,
         message: &[u8],
         moment: SystemTime,
     ) -> Result<CommandLine, HostError> {
+        let alloc = rt.alloc();
         let mut fields = Fields::of(message);
         let path = fields.text(alloc)?;
         let text = fields.text(alloc)?;
@@ -75,6 +96,7 @@ impl CommandLine {
         Ok(CommandLine {
             folder: CacheDir::new(path, own),
             moment,
+            began: made_at(rt, errors.as_str()),
             text,
             errors,
             printed,
@@ -114,6 +136,16 @@ impl CommandLine {
             return 0;
         };
         i64::try_from(since.as_secs()).unwrap_or(i64::MAX)
+    }
+
+    /// Until when something must have been changed last so that it's certain to have been the same since the call began, also where the clock
+    /// of its file system isn't this machine's.
+    pub fn settled_before(&self) -> FileTime {
+        let seconds = self.began.seconds;
+        match self.began.nanoseconds.checked_sub(OFF) {
+            Some(nanoseconds) => time_of(seconds, i64::from(nanoseconds)),
+            None => time_of(seconds.saturating_sub(1), LEFT),
+        }
     }
 
     /// The value of a variable, or nothing.

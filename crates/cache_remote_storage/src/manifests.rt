@@ -11,9 +11,8 @@ use cache_dir::Kind;
 use cache_files::manifests::{FoundManifest, found_in};
 use cache_format::{KeptManifest, Sealed, seal, unseal};
 use cache_host::{CommandLine, Host, HostError};
-use cache_searched_folders::{lists_taken, lists_to_send};
 use cache_settings::Key;
-use cache_source_files::settled_before;
+use cache_watch_lists::{lists_taken, lists_to_send};
 use ckeys_include_records::entry_key::EntryKey;
 use std::alloc::Global;
 use std::io::Read;
@@ -109,7 +108,7 @@ fn watched_here<R: Files + AllocGlobal>(
     line: &CommandLine,
     watched: &OsBytes,
 ) -> Result<OsBytes, HostError> {
-    let before = settled_before(line.moment);
+    let before = line.settled_before();
     let lists = lists_in(watched.as_bytes());
     let taken = lists_taken(rt, line.dir.as_bytes(), lists, before)?;
     watched_with(rt.alloc(), taken.as_slice())

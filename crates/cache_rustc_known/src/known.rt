@@ -188,7 +188,7 @@ impl KnownCrate {
         &mut self,
         rt: &R,
         path: OsBytes,
-        before: FileTime,
+        began: FileTime,
     ) -> Result<bool, HostError> {
         self.note_state(rt, &path)?;
         let place = text_in(&path)?;
@@ -197,7 +197,7 @@ impl KnownCrate {
             return Ok(false);
         };
         let token = token_for(rt.alloc(), &contents)?;
-        self.tokens.note(rt, &path, &found, &token, before)?;
+        self.tokens.note(rt, &path, &found, &token, began)?;
         let is_noted = self.tokens.get(&path, &found).is_some();
         self.put_file(path, Some(token))?;
         Ok(is_noted)

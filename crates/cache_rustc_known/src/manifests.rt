@@ -8,7 +8,6 @@ use cache_dir::Kind;
 use cache_format::{KeptManifest, seal, unseal};
 use cache_host::{CommandLine, HostError, text_in};
 use cache_settings::Key;
-use cache_source_files::settled_before;
 use rustc_parts::parts::EnvDep;
 use rustc_texts::{parse_dep_info, parse_env_dep_info};
 use std::alloc::Global;
@@ -161,10 +160,9 @@ impl KnownCrate {
         let Ok(sources) = parse_dep_info(alloc, readable, line.dir.as_bytes()) else {
             return Ok(());
         };
-        let before = settled_before(line.moment);
         let mut are_noted = true;
         for path in sources.into_vec() {
-            are_noted = self.load_and_note(rt, path, before)? && are_noted;
+            are_noted = self.load_and_note(rt, path, line.began)? && are_noted;
         }
         if are_noted && line.settings.is_on(Key::DirectMode) {
             let _ = self.keep_manifest(rt, line, name, text);

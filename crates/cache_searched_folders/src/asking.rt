@@ -3,14 +3,13 @@
 ghost use Rattle.std.specs.Prelude.{◌≡◌};
 
 use crate::search_list::SearchList;
-use crate::unwatched::Unwatched;
-use crate::watch_list::holds;
 use crate::watching::Watching;
 use base_files::{FileTime, Listed, OsBytes};
 use base_formats::{put_framed, read_framed};
 use cache_dir::{Kind, digest_of, state_of};
 use cache_host::{CommandLine, Host, LETTERS, Said, messages_of, push_words};
 use cache_known_options::{PlacedWords, behind_front, is_read};
+use cache_watch_lists::{Unwatched, holds};
 use std::alloc::{AllocError, Global};
 use std::io::Read;
 use std::rt::Files;

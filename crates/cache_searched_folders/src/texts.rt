@@ -1,7 +1,6 @@
 //! What to watch of a text: all that its sources ask for, and where the compiler looks for it.
 
 use crate::search_list::SearchList;
-use crate::unwatched::Unwatched;
 use crate::watching::Watching;
 use base_files::{FileTime, OsBytes};
 use cache_disk::folder_of;
@@ -11,6 +10,7 @@ use cache_source_directives::{
     Asked, Directives, Search, add_defined, add_probed, add_said, asks_for_files, directives_of,
     may_define, pastes_time, tells_time,
 };
+use cache_watch_lists::Unwatched;
 use memchr::memmem;
 use std::alloc::Global;
 use std::collections::HashSet;

@@ -1,13 +1,12 @@
 //! Looking where a compiler looks, and noting what is there.
 
 use crate::search_list::SearchList;
-use crate::unwatched::Unwatched;
-use crate::watch_list::{FileRow, Folder, contents_at};
 use base_files::{FileTime, join};
 use base_formats::{put_framed, put_number};
 use cache_dir::digest_of;
 use cache_disk::{Found, State, found_at, is_nothing, read_of_size};
 use cache_source_directives::{Asked, Search};
+use cache_watch_lists::{FileRow, Folder, Unwatched, contents_at};
 use std::alloc::Global;
 use std::collections::{BTreeMap, HashMap, HashSet};
 use std::fs;
@@ -93,11 +92,9 @@ impl<'d, 'a> Watching<'d, 'a> {
             return Ok(known.is_some());
         }
         let folder = match fs::metadata(rt, path) {
-            Ok(metadata) if metadata.is_dir() => Some(Folder {
-                state: State::of(&metadata),
-                names: Vec::new(rt.alloc()),
-                twin: String::new(rt.alloc()),
-            }),
+            Ok(metadata) if metadata.is_dir() => {
+                Some(Folder::new(rt.alloc(), State::of(&metadata)))
+            }
             Ok(_) => None,
             Err(error) if is_nothing(&error) && found_at(rt, path) == Some(Found::Nothing) => None,
             Err(_) => return Err(Unwatched::Path),

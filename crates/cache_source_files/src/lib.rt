@@ -17,7 +17,7 @@ pub use differences::{
     Audit, copies_of, difference_of_outputs, difference_of_texts, is_one_of, log_difference,
 };
 pub use lists::{digest_of_list, names_files_of};
-pub use loading::{contents_at, load, load_all, load_named, settled_before};
+pub use loading::{contents_at, load, load_all, load_named};
 pub use logging::log;
 pub use made_outputs::{Locks, lock_paths, made_since, states_of};
 pub use mounts::devices_in;

@@ -1,9 +1,9 @@
 //! Files that are loaded from the disk, and those that a text names.
 
-use crate::tokens::{Tokens, token_of};
+use crate::tokens::{Tokens, is_settled, token_of};
 use base_files::{FileTime, Files as CallFiles, Metadata, OsBytes, join};
 use base_snapshots::{LoadedFile, SnapshotFiles};
-use cache_disk::{is_before, read_of_size, time_of};
+use cache_disk::{read_of_size, time_of};
 use cache_host::{CommandLine, HostError, into_text};
 use cache_written_lines::{Lying, NamedFile, NamedFiles, reads_as_file};
 use memchr::memmem;
@@ -12,10 +12,6 @@ use std::fs;
 use std::io::ErrorKind;
 use std::os::unix::fs::MetadataExt;
 use std::rt::Files;
-use std::time::{Duration, SystemTime, UNIX_EPOCH};
-
-/// How many milliseconds the times of files may lag behind the clock: they advance with a kernel's ticks.
-const TICK: u64 = 20;
 
 /// What a file has in it that takes in another one.
 const EMBEDS: [&str; 2] = ["#embed", "# embed"];
@@ -77,13 +73,13 @@ fn as_token<R: Files + AllocGlobal>(
     path: &OsBytes,
     found: &fs::Metadata,
     contents: &[u8],
-    before: FileTime,
+    began: FileTime,
     tokens: &mut Tokens,
 ) -> Result<OnDisk, HostError> {
     let Some(token) = token_of(rt.alloc(), contents)? else {
         return Ok(OnDisk::Unknown);
     };
-    tokens.note(rt, path, found, &token, before)?;
+    tokens.note(rt, path, found, &token, began)?;
     Ok(OnDisk::File(token, metadata_of(found, found.len())))
 }
 
@@ -91,7 +87,7 @@ fn as_token<R: Files + AllocGlobal>(
 fn look_for_token<R: Files + AllocGlobal>(
     rt: &R,
     path: &OsBytes,
-    before: FileTime,
+    began: FileTime,
     tokens: &mut Tokens,
 ) -> Result<OnDisk, HostError> {
     let Ok(place) = into_text(path.clone()?) else {
@@ -107,7 +103,7 @@ fn look_for_token<R: Files + AllocGlobal>(
     let Ok(contents) = read_of_size(rt, place.as_str(), found.len()) else {
         return Ok(OnDisk::Unknown);
     };
-    as_token(rt, path, &found, contents.as_slice(), before, tokens)
+    as_token(rt, path, &found, contents.as_slice(), began, tokens)
 }
 
 /// Loads what was found at a path. False where that couldn't be determined.
@@ -156,11 +152,6 @@ fn embeds(contents: &OsBytes) -> bool {
             .any(|word| memmem::find(contents, word.as_bytes()).is_some())
 }
 
-/// Whether a file of that state was changed before that moment.
-fn is_settled(metadata: &Metadata, before: FileTime) -> bool {
-    is_before(metadata.mtime, before) && is_before(metadata.ctime, before)
-}
-
 /// Whether a file that was loaded before the preprocessor ran has that state and these contents still. They are what the preprocessor read then,
 /// though the file may be too young for its times alone to say so, as the source of a test that a configure script wrote just now.
 fn is_as_loaded(
@@ -176,16 +167,6 @@ fn is_as_loaded(
     }
 }
 
-/// Until when a file must have been changed so that it's certain to have been the same since that moment.
-pub fn settled_before(moment: SystemTime) -> FileTime {
-    let Ok(since) = moment.duration_since(UNIX_EPOCH) else {
-        return FileTime::from_seconds(0);
-    };
-    let since = since.saturating_sub(Duration::from_millis(TICK));
-    let seconds = i64::try_from(since.as_secs()).unwrap_or(0);
-    time_of(seconds, i64::from(since.subsec_nanos()))
-}
-
 /// Loads the headers of these names, by their tokens. False where one of them can't be determined. What was loaded as it is stays.
 pub fn load_all<R: Files + AllocGlobal>(
     rt: &R,
@@ -194,13 +175,12 @@ pub fn load_all<R: Files + AllocGlobal>(
     files: &mut SnapshotFiles,
     tokens: &mut Tokens,
 ) -> Result<bool, HostError> {
-    let before = settled_before(line.moment);
     for name in names {
         let path = join(rt.alloc(), line.dir.as_bytes(), name.as_bytes())?;
         if tokens.has_whole(&path) {
             continue;
         }
-        let found = look_for_token(rt, &path, before, tokens)?;
+        let found = look_for_token(rt, &path, line.began, tokens)?;
         if !take(path, found, files)? {
             return Ok(false);
         }
@@ -214,12 +194,12 @@ fn token_for<R: Files + AllocGlobal>(
     path: &OsBytes,
     found: &fs::Metadata,
     contents: &OsBytes,
-    before: FileTime,
+    began: FileTime,
     tokens: &mut Tokens,
 ) -> Result<OnDisk, HostError> {
     match tokens.get(path, found) {
         Some(token) => Ok(OnDisk::File(token.clone()?, metadata_of(found, found.len()))),
-        None => as_token(rt, path, found, contents.as_bytes(), before, tokens),
+        None => as_token(rt, path, found, contents.as_bytes(), began, tokens),
     }
 }
 
@@ -227,15 +207,16 @@ fn token_for<R: Files + AllocGlobal>(
 /// read: it takes in a file that no marker names, or may have been changed since.
 fn load_regular<R: Files + AllocGlobal>(
     rt: &R,
+    line: &CommandLine,
     path: &OsBytes,
     found: &fs::Metadata,
     contents: &OsBytes,
-    before: FileTime,
     files: &mut SnapshotFiles,
     tokens: &mut Tokens,
 ) -> Result<bool, HostError> {
     let metadata = metadata_of(found, found.len());
-    let is_settled = is_settled(&metadata, before);
+    let is_settled = is_settled(found, line.settled_before())
+        || tokens.is_same_since(rt, found, line.began)?;
     if tokens.has_whole(path) {
         let is_same = is_settled || is_as_loaded(rt.alloc(), path, &metadata, contents, files);
         return Ok(is_same && !embeds(contents));
@@ -243,7 +224,7 @@ fn load_regular<R: Files + AllocGlobal>(
     if !is_settled {
         return Ok(false);
     }
-    let token = token_for(rt, path, found, contents, before, tokens)?;
+    let token = token_for(rt, path, found, contents, line.began, tokens)?;
     let takes_in = match &token {
         // A token has these words too.
         OnDisk::File(held, _) => embeds(held),
@@ -255,15 +236,15 @@ fn load_regular<R: Files + AllocGlobal>(
 /// Loads a file that a text names. False where it can't be recorded.
 fn load_named_file<R: Files + AllocGlobal>(
     rt: &R,
+    line: &CommandLine,
     file: &NamedFile,
-    before: FileTime,
     files: &mut SnapshotFiles,
     tokens: &mut Tokens,
 ) -> Result<bool, HostError> {
     let path = &file.path;
     match &file.lying {
         Lying::File(found, Some(contents)) => {
-            load_regular(rt, path, found, contents, before, files, tokens)
+            load_regular(rt, line, path, found, contents, files, tokens)
         }
         Lying::File(_, None) | Lying::Unknown => Ok(false),
         Lying::Nothing | Lying::Other => {
@@ -284,9 +265,8 @@ pub fn load_named<R: Files + AllocGlobal>(
     if !named.are_all {
         return Ok(false);
     }
-    let before = settled_before(line.moment);
     for file in named.files.iter() {
-        if !load_named_file(rt, file, before, files, tokens)? {
+        if !load_named_file(rt, line, file, files, tokens)? {
             return Ok(false);
         }
     }

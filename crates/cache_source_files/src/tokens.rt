@@ -73,10 +73,12 @@ pub struct Tokens {
 }
 
 /// Whether a file was changed long enough before that moment that each later change gives it another time.
-fn is_settled(found: &Metadata, before: FileTime) -> bool {
-    let has_parts = found.mtime_nsec() != 0 && found.ctime_nsec() != 0;
-    let early = FileTime::from_seconds(before.seconds.saturating_sub(COARSE));
-    State::of(found).is_before(if has_parts { before } else { early })
+pub(crate) fn is_settled(found: &Metadata, before: FileTime) -> bool {
+    let before = match found.ctime_nsec() {
+        0 => FileTime::from_seconds(before.seconds.saturating_sub(COARSE)),
+        _ => before,
+    };
+    State::of(found).is_before(before)
 }
 
 impl Tokens {
@@ -125,17 +127,27 @@ impl Tokens {
         })
     }
 
-    /// Notes the token of a file, where it can be known again.
+    /// Whether a file was changed last before that moment, at which the call began, and each later change gives it another time.
+    pub(crate) fn is_same_since<R: Files + AllocGlobal>(
+        &mut self,
+        rt: &R,
+        found: &Metadata,
+        began: FileTime,
+    ) -> Result<bool, AllocError> {
+        Ok(is_settled(found, began) && self.is_trusted(rt, found.dev())?)
+    }
+
+    /// Notes the token of a file, where it can be known again, in a call that began at that moment.
     pub fn note<R: Files + AllocGlobal>(
         &mut self,
         rt: &R,
         path: &OsBytes,
         found: &Metadata,
         token: &OsBytes,
-        before: FileTime,
+        began: FileTime,
     ) -> Result<(), AllocError> {
         let has_room = self.noted.len() < MOST;
-        if !has_room || !is_settled(found, before) || !self.is_trusted(rt, found.dev())? {
+        if !has_room || !self.is_same_since(rt, found, began)? {
             return Ok(());
         }
         let state = State::of(found);

@@ -145,14 +145,14 @@ fn arguments<R: Env + AllocGlobal>(rt: &R) -> Result<Vec<String>, HostError> {
 }
 
 /// The command line that the host asks about.
-fn line_from<R: Clock + AllocGlobal, I: Read>(
+fn line_from<R: Clock + Files + AllocGlobal, I: Read>(
     rt: &R,
     host: &mut Host<I>,
 ) -> Result<CommandLine, HostError>
     ensures { host.new.compiled ≡ host.old.compiled }
 {
     let message = host.message(rt.alloc())?;
-    CommandLine::read(rt.alloc(), message.as_slice(), SystemTime::now(rt)?)
+    CommandLine::read(rt, message.as_slice(), SystemTime::now(rt)?)
 }
 
 /// Has the line take what a user sets. False where that is wrong, which is said.

@@ -88,9 +88,13 @@ fn message_of(alloc: Global, dir: &str, words: &str) -> Result<Vec<u8>, AllocErr
 }
 
 /// The command line of these words in a folder, without variables.
-pub fn line_of(alloc: Global, dir: &str, words: &str) -> Result<CommandLine, Fail> {
-    let message = message_of(alloc, dir, words)?;
-    match CommandLine::read(alloc, message.as_slice(), UNIX_EPOCH) {
+pub fn line_of<R: Files + AllocGlobal>(
+    rt: &R,
+    dir: &str,
+    words: &str,
+) -> Result<CommandLine, Fail> {
+    let message = message_of(rt.alloc(), dir, words)?;
+    match CommandLine::read(rt, message.as_slice(), UNIX_EPOCH) {
         Ok(line) => Ok(line),
         Err(_) => Err("no command line".into()),
     }

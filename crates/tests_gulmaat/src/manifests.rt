@@ -2,7 +2,7 @@
 
 use base_files::Listed;
 use base_formats::{put_framed, put_number};
-use cache_searched_folders::{result_holds, with_list, with_results_of, without};
+use cache_watch_lists::{result_holds, with_list, with_results_of, without};
 use ckeys_include_records::{KeyText, PreprocessorCacheEntry};
 use std::alloc::{AllocError, Global};
 use std::rt::Files;

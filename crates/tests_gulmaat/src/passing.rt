@@ -2,7 +2,7 @@
 
 use crate::disks::line_of;
 use cache_c_requests::reason_against;
-use std::alloc::Global;
+use std::rt::Files;
 use std::test::Fail;
 use tests_kit::is_that;
 
@@ -29,13 +29,13 @@ const REASONS: [(&str, &str); 18] = [
 ];
 
 /// The one that speaks against keeping.
-fn reason_of(alloc: Global, words: &str) -> Result<String, Fail> {
-    let line = line_of(alloc, "/d", words)?;
-    let reason = reason_against(alloc, &line);
+fn reason_of<R: Files + AllocGlobal>(rt: &R, words: &str) -> Result<String, Fail> {
+    let line = line_of(rt, "/d", words)?;
+    let reason = reason_against(rt.alloc(), &line);
     drop(line);
     match reason {
         Ok(Some(reason)) => Ok(reason),
-        Ok(None) => Ok(String::new(alloc)),
+        Ok(None) => Ok(String::new(rt.alloc())),
         Err(_) => Err("no memory".into()),
     }
 }
@@ -43,7 +43,7 @@ fn reason_of(alloc: Global, words: &str) -> Result<String, Fail> {
 #[test]
 fn words_speak_against_keeping(rt: HostRuntime) -> Result<(), Fail> {
     for (words, wanted) in REASONS.iter() {
-        is_that(reason_of(rt.alloc(), words)?.as_str(), wanted, words)?;
+        is_that(reason_of(&rt, words)?.as_str(), wanted, words)?;
     }
     Ok(())
 }

@@ -147,7 +147,7 @@ fn locks_object<R: Files<File = File> + AllocGlobal>(
     name: &str,
 ) -> Result<bool, Fail> {
     let alloc = rt.alloc();
-    let line = line_of(alloc, folder, "-c a.c")?;
+    let line = line_of(rt, folder, "-c a.c")?;
     let paths = alone(alloc, name)?;
     let real = fs::canonicalize(rt, folder)?;
     let object = format!(in alloc; "{}/real/a.o", real.as_str())?;

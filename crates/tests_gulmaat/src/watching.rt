@@ -2,8 +2,9 @@
 
 use crate::disks::{change, change_all, line_of, make_fresh};
 use base_files::{FileTime, OsBytes};
-use cache_searched_folders::{SearchList, Source, Watching, holds as list_holds, list_of};
+use cache_searched_folders::{SearchList, Source, Watching, list_of};
 use cache_source_directives::{Asked, Search};
+use cache_watch_lists::holds as list_holds;
 use std::alloc::Global;
 use std::rt::Files;
 use std::test::Fail;
@@ -209,7 +210,7 @@ fn why_none<R: Files + AllocGlobal>(
     source: &str,
 ) -> Result<String, Fail> {
     let alloc: Global = rt.alloc();
-    let line = line_of(alloc, folder, words)?;
+    let line = line_of(rt, folder, words)?;
     let path = "gulmaat_tests_lists/a.c";
     let contents = source.as_bytes();
     let before = FileTime::from_seconds(i64::MAX);

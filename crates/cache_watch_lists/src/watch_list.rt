@@ -84,15 +84,15 @@ pub(crate) fn folder_ahead(bytes: &[u8]) -> Result<(FolderRow<'_>, &[u8]), ReadF
 
 /// A file in a list, or a folder with the digest of the names in it.
 #[derive(Clone, Copy)]
-pub(crate) struct FileRow<'a> {
-    pub(crate) path: &'a [u8],
-    pub(crate) state: State,
-    pub(crate) digest: &'a [u8],
+pub struct FileRow<'a> {
+    pub path: &'a [u8],
+    pub state: State,
+    pub digest: &'a [u8],
 }
 
 impl FileRow<'_> {
     /// Adds it.
-    pub(crate) fn put(&self, out: &mut Vec<u8>) -> Result<(), AllocError> {
+    pub fn put(&self, out: &mut Vec<u8>) -> Result<(), AllocError> {
         put_framed(out, self.path)?;
         self.state.put(out)?;
         put_framed(out, self.digest)
@@ -114,28 +114,32 @@ pub(crate) fn file_ahead(bytes: &[u8]) -> Result<(FileRow<'_>, &[u8]), ReadFault
 
 /// A folder in which names were looked for.
 #[derive(Drop)]
-pub(crate) struct Folder {
-    pub(crate) state: State,
+pub struct Folder {
+    pub state: State,
     /// The names, each preceded by its length and followed by the number of what was there.
-    pub(crate) names: Vec<u8>,
+    names: Vec<u8>,
     /// The path of the folder that it must be the same as; empty where it needn't.
-    pub(crate) twin: String,
+    pub twin: String,
 }
 
 impl Folder {
+    /// One in that state, in which nothing was looked for yet.
+    pub fn new(alloc: Global, state: State) -> Folder {
+        Folder {
+            state,
+            names: Vec::new(alloc),
+            twin: String::new(alloc),
+        }
+    }
+
     /// Adds a name with what lies there.
-    pub(crate) fn note(&mut self, name: &str, found: Found) -> Result<(), AllocError> {
+    pub fn note(&mut self, name: &str, found: Found) -> Result<(), AllocError> {
         put_framed(&mut self.names, name.as_bytes())?;
         put_number(&mut self.names, found.code())
     }
 
-    /// Adds the folder of that path.
-    pub(crate) fn put(
-        &self,
-        path: &str,
-        before: FileTime,
-        out: &mut Vec<u8>,
-    ) -> Result<(), AllocError> {
+    /// Adds the folder of that path, for a call that began at that moment.
+    pub fn put(&self, path: &str, before: FileTime, out: &mut Vec<u8>) -> Result<(), AllocError> {
         let row = FolderRow {
             path: path.as_bytes(),
             state: self.state,
@@ -255,7 +259,7 @@ fn names_in<R: Files + AllocGlobal>(rt: &R, path: &str) -> Result<String, Unwatc
 }
 
 /// The digest of the contents of a file, as text, or that of the names in a folder.
-pub(crate) fn contents_at<R: Files + AllocGlobal>(rt: &R, path: &str) -> Result<String, Unwatched> {
+pub fn contents_at<R: Files + AllocGlobal>(rt: &R, path: &str) -> Result<String, Unwatched> {
     let found = fs::metadata(rt, path)?;
     if found.is_dir() {
         return names_in(rt, path);
@@ -325,6 +329,6 @@ pub fn holds<R: Files + AllocGlobal>(rt: &R, dir: &[u8], list: &[u8]) -> Result<
 }
 
 /// The folder of the call whose list these bytes are.
-pub fn folder_of(list: &[u8]) -> Result<&[u8], ReadFault> {
+pub(crate) fn folder_of(list: &[u8]) -> Result<&[u8], ReadFault> {
     Ok(read_framed(list)?.0)
 }
