@@ -1,10 +1,11 @@
-//! States of files: tokens that stand for contents, outputs that were made, locks on their paths, and devices that are trusted.
+//! States of files: tokens that stand for contents, outputs that were made, locks on their paths, devices that are trusted, and since when a file
+//! is the same.
 
 use crate::disks::{change, line_of, make_fresh};
-use base_files::OsBytes;
+use base_files::{FileTime, OsBytes};
 use base_formats::put_framed;
 use cache_dir::digest_of;
-use cache_disk::State;
+use cache_disk::{State, time_of};
 use cache_host::CommandLine;
 use cache_source_files::{Tokens, devices_in, lock_paths, made_since, states_of};
 use std::alloc::Global;
@@ -195,4 +196,28 @@ fn devices_are_trusted(rt: HostRuntime) -> Result<(), Fail> {
         holds(first == *want, line)?;
     }
     Ok(())
+}
+
+/// A moment by its seconds and nanoseconds.
+type Moment = (i64, u32);
+
+/// When a call began, and before which moment a file of any file system must have been changed last to have been the same since.
+const BEGINNINGS: [(Moment, Moment); 3] = [
+    ((5, 20_000_001), (5, 1)),
+    ((5, 20_000_000), (5, 0)),
+    ((5, 19_999_999), (4, 980_000_000)),
+];
+
+#[test]
+fn files_are_the_same_since_a_call_began(rt: HostRuntime) -> Result<(), Fail> {
+    let mut line = line_of(&rt, "/d", "-c a.c")?;
+    let start = FileTime::from_seconds(0);
+    let mut are_right = line.began == start;
+    for (began, wanted) in BEGINNINGS.iter() {
+        line.began = time_of(began.0, i64::from(began.1));
+        let found = line.settled_before();
+        are_right = are_right && (found.seconds, found.nanoseconds) == *wanted;
+    }
+    drop(line);
+    holds(are_right, "when a file must have been changed last")
 }
