@@ -217,7 +217,12 @@ fn why_none<R: Files + AllocGlobal>(
     let listed = list_of(
         rt,
         &line,
-        &[Source { path, contents }],
+        &[Source {
+            name: b"a.c",
+            path,
+            contents,
+        }],
+        b"# 1 \"a.c\"\n",
         SAID.as_bytes(),
         before,
     );
