@@ -40,13 +40,8 @@ fn source_of(file: &NamedFile) -> Result<Option<Source<'_>>, Unwatched> {
     };
     match file.contents() {
         Some(contents) => {
-            let name = file.name.as_bytes();
             let contents = contents.as_bytes();
-            Ok(Some(Source {
-                name,
-                path,
-                contents,
-            }))
+            Ok(Some(Source { path, contents }))
         }
         None => Ok(None),
     }
@@ -256,19 +251,17 @@ impl Known {
         said: &[u8],
         before: FileTime,
     ) -> Result<Vec<u8>, Unwatched> {
-        let Some(recorded) = &self.tool.text else {
-            return Err(Unwatched::Computed);
-        };
-        let text = recorded.printed.text.as_bytes();
         let sources = self.sources(rt.alloc())?;
-        let list = list_of(rt, line, sources.as_slice(), text, said, before);
-        if !matches!(&list, Err(Unwatched::Computed | Unwatched::Pasted)) {
-            return list;
-        }
+        let list = list_of(rt, line, sources.as_slice(), said, before);
+        let is_unclear = matches!(&list, Err(Unwatched::Computed | Unwatched::Pasted));
+        let text = match &self.tool.text {
+            Some(recorded) if is_unclear => recorded.printed.text.as_bytes(),
+            _ => return list,
+        };
         let entered = self.entered_sources(rt.alloc(), text)?;
         match entered.len() == sources.len() {
             true => list,
-            false => list_of(rt, line, entered.as_slice(), text, said, before),
+            false => list_of(rt, line, entered.as_slice(), said, before),
         }
     }
 

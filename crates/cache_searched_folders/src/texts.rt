@@ -1,20 +1,19 @@
 //! What to watch of a text: all that its sources ask for, and where the compiler looks for it.
 
-use crate::entered::TakenIn;
 use crate::search_list::SearchList;
-use crate::watching::{Watching, above};
+use crate::watching::Watching;
 use base_files::{FileTime, OsBytes};
 use cache_disk::folder_of;
 use cache_host::CommandLine;
 use cache_known_options::{Placed, PlacedWords, behind_front, is_among};
 use cache_source_directives::{
     Asked, Directives, Search, add_defined, add_probed, add_said, asks_for_files, directives_of,
-    has_markers, pastes_time, tells_time,
+    may_define, pastes_time, tells_time,
 };
 use cache_watch_lists::Unwatched;
 use memchr::memmem;
 use std::alloc::Global;
-use std::collections::{HashMap, HashSet};
+use std::collections::HashSet;
 use std::rt::Files;
 
 /// What words begin with by which a compiler finds files in a way of its own.
@@ -36,8 +35,6 @@ const PREDEFINED: &[u8] = b"stdc-predef.h";
 /// A regular file that a text names.
 #[derive(Clone, Copy)]
 pub struct Source<'a> {
-    /// Its name, as markers have it.
-    pub name: &'a [u8],
     pub path: &'a str,
     pub contents: &'a [u8],
 }
@@ -93,18 +90,19 @@ fn add_all_said<'a>(
     Ok(true)
 }
 
-/// Adds the names that words of the command define for the macros that stand for what a source includes. False where that can't be determined.
-fn add_said_for<'a>(
+/// The names that words of the command define for the macros that stand for what a source includes.
+fn said_for<'a>(
+    alloc: Global,
     words: &'a [OsBytes],
     found: &Directives<'_>,
-    said: &mut Vec<Asked<'a>>,
-) -> Result<bool, Unwatched> {
+) -> Result<Vec<Asked<'a>>, Unwatched> {
+    let mut said = Vec::new(alloc);
     for name in found.computed.iter() {
-        if !add_all_said(words, name, said)? {
-            return Ok(false);
+        if !add_all_said(words, name, &mut said)? {
+            return Err(Unwatched::Computed);
         }
     }
-    Ok(true)
+    Ok(said)
 }
 
 /// Adds what a macro may stand for by its definitions in these sources. False where that can't be determined.
@@ -122,20 +120,57 @@ fn add_all_defined<'a>(
 }
 
 /// Adds what a source includes by these macros: each name that sources define them to be. One that no source defines isn't live, or
-/// nothing is made. False where that can't be determined.
-fn add_computed<'a>(sources: &[Source<'a>], found: &mut Directives<'a>) -> Result<bool, Unwatched> {
-    let mut last: &[u8] = &[];
+/// nothing is made.
+fn add_computed<'a>(sources: &[Source<'a>], found: &mut Directives<'a>) -> Result<(), Unwatched> {
     for name in found.computed.iter() {
-        // A header that goes on as long as a macro says so has one name many times.
-        if *name == last {
-            continue;
-        }
-        last = name;
         if may_be_compilers(name) || !add_all_defined(sources, name, &mut found.asked)? {
-            return Ok(false);
+            return Err(Unwatched::Computed);
         }
     }
-    Ok(true)
+    Ok(())
+}
+
+/// Whether one of the words has that name in it.
+fn name_macro(words: &[OsBytes], name: &[u8]) -> bool {
+    for word in words {
+        if memmem::find(word.as_bytes(), name).is_some() {
+            return true;
+        }
+    }
+    false
+}
+
+/// Whether what comes in a macro's groups may be live: its name is in a word of the command, or a source may define it.
+fn may_be_live(
+    alloc: Global,
+    words: &[OsBytes],
+    sources: &[Source<'_>],
+    name: &[u8],
+) -> Result<bool, Unwatched> {
+    if name_macro(words, name) {
+        return Ok(true);
+    }
+    for source in sources {
+        if may_define(alloc, source.contents, name)? {
+            return Ok(true);
+        }
+    }
+    Ok(false)
+}
+
+/// Fails where an include of a source may be live of which it can't be determined what it includes.
+fn check_guards(
+    alloc: Global,
+    words: &[OsBytes],
+    sources: &[Source<'_>],
+    found: &Directives<'_>,
+) -> Result<(), Unwatched> {
+    for name in found.guards.iter() {
+        if may_be_live(alloc, words, sources, name)? {
+            return Err(Unwatched::Computed);
+        }
+    }
+    Ok(())
 }
 
 /// The macros by which sources ask whether a file is there.
@@ -238,91 +273,24 @@ fn take_sources<'a>(
     Ok(())
 }
 
-/// The paths of sources by their names.
-fn paths_of<'a>(
-    alloc: Global,
-    sources: &[Source<'a>],
-) -> Result<HashMap<&'a [u8], &'a str>, Unwatched> {
-    let mut paths = HashMap::new(alloc);
-    for source in sources {
-        // Its markers would be taken for the compiler's, which say which file takes in another.
-        if has_markers(source.contents) {
-            return Err(Unwatched::Computed);
-        }
-        paths.insert(source.name, source.path)?;
-    }
-    Ok(paths)
-}
-
-/// Looks for what the text takes in from sources of which it isn't clear what they include, under all names by which they may have asked
-/// for that.
-fn search_unclear<'a, R: Files + AllocGlobal>(
-    rt: &R,
-    list: &SearchList<'_>,
-    sources: &[Source<'a>],
-    unclear: &[Source<'a>],
-    text: &'a [u8],
-    watching: &mut Watching<'_, '_>,
-) -> Result<(), Unwatched> {
-    let alloc = rt.alloc();
-    let paths = paths_of(alloc, sources)?;
-    let bases = watching.bases_of(rt, list)?;
-    let mut names = Vec::new(alloc);
-    for source in unclear {
-        names.push(source.name)?;
-    }
-    let Some(taken) = TakenIn::of(alloc, text, names.as_slice())? else {
-        return Err(Unwatched::Computed);
-    };
-    for (number, name) in taken.files.iter() {
-        let (Some(source), Some(path)) = (unclear.get(*number), paths.get(name)) else {
-            return Err(Unwatched::Computed);
-        };
-        watching.search_taken(rt, list, bases.as_slice(), above(source.path), path)?;
-    }
-    Ok(())
-}
-
-/// Adds the names that macros stand for in what a source includes, and returns those that words of the command say, and whether it is clear
-/// then what it includes.
-fn add_made<'w, 'a>(
-    alloc: Global,
-    words: &'w [OsBytes],
-    sources: &[Source<'a>],
-    found: &mut Directives<'a>,
-) -> Result<(Vec<Asked<'w>>, bool), Unwatched> {
-    let mut said = Vec::new(alloc);
-    let is_clear = !found.is_unclear
-        && add_computed(sources, found)?
-        && add_said_for(words, found, &mut said)?;
-    Ok((said, is_clear))
-}
-
-/// Looks for all that these sources ask for, of which the first is the input. Of that it must be clear what it includes.
+/// Looks for all that these sources ask for, of which the first is the input.
 fn search_sources<'a, R: Files + AllocGlobal>(
     rt: &R,
     words: &[OsBytes],
     list: &SearchList<'_>,
     sources: &[Source<'a>],
     all: &mut [Directives<'a>],
-    text: &'a [u8],
     watching: &mut Watching<'_, '_>,
 ) -> Result<(), Unwatched> {
-    let alloc = rt.alloc();
-    let probes = probes_in(alloc, all)?;
-    let mut bracketed = HashSet::new(alloc);
-    let mut said_bracketed = HashSet::new(alloc);
-    let mut unclear = Vec::new(alloc);
+    let probes = probes_in(rt.alloc(), all)?;
+    let mut bracketed = HashSet::new(rt.alloc());
+    let mut said_bracketed = HashSet::new(rt.alloc());
     let mut is_input = true;
     for (source, found) in sources.iter().zip(all.iter_mut()) {
-        let (said, is_clear) = add_made(alloc, words, sources, found)?;
-        if !is_clear {
-            unclear.push(*source)?;
-        }
-        if is_input && !is_clear {
-            return Err(Unwatched::Computed);
-        }
+        check_guards(rt.alloc(), words, sources, found)?;
+        add_computed(sources, found)?;
         add_all_probed(source, probes.as_slice(), found)?;
+        let said = said_for(rt.alloc(), words, found)?;
         let asked = found.asked.as_slice();
         search_all(rt, source, list, asked, is_input, &mut bracketed, watching)?;
         let asked = said.as_slice();
@@ -337,10 +305,7 @@ fn search_sources<'a, R: Files + AllocGlobal>(
         )?;
         is_input = false;
     }
-    if unclear.is_empty() {
-        return Ok(());
-    }
-    search_unclear(rt, list, sources, unclear.as_slice(), text, watching)
+    Ok(())
 }
 
 /// Has all watched that a text hangs on which is made of these sources, of which the first is the input.
@@ -350,7 +315,6 @@ fn watch_all<'a, R: Files + AllocGlobal>(
     list: &SearchList<'_>,
     sources: &[Source<'a>],
     all: &mut [Directives<'a>],
-    text: &'a [u8],
     watching: &mut Watching<'_, 'a>,
 ) -> Result<(), Unwatched> {
     take_sources(rt.alloc(), sources, all, watching)?;
@@ -359,15 +323,14 @@ fn watch_all<'a, R: Files + AllocGlobal>(
     let name = PREDEFINED;
     let search = Search::Bracketed;
     watching.search(rt, list, b"", Asked { name, search })?;
-    search_sources(rt, words, list, sources, all, text, watching)
+    search_sources(rt, words, list, sources, all, watching)
 }
 
 /// What to watch of a text that is made of these sources, of which the first is the input, by what its compiler said of where it looks.
-pub fn list_of<'a, R: Files + AllocGlobal>(
+pub fn list_of<R: Files + AllocGlobal>(
     rt: &R,
     line: &CommandLine,
-    sources: &[Source<'a>],
-    text: &'a [u8],
+    sources: &[Source<'_>],
     said: &[u8],
     before: FileTime,
 ) -> Result<Vec<u8>, Unwatched> {
@@ -381,14 +344,6 @@ pub fn list_of<'a, R: Files + AllocGlobal>(
     };
     let mut all = directives_in(alloc, sources)?;
     let mut watching = Watching::new(alloc, line.dir.as_bytes(), before);
-    watch_all(
-        rt,
-        words,
-        &list,
-        sources,
-        all.as_mut_slice(),
-        text,
-        &mut watching,
-    )?;
+    watch_all(rt, words, &list, sources, all.as_mut_slice(), &mut watching)?;
     watching.into_list(alloc)
 }

@@ -43,7 +43,7 @@ fn path_in(alloc: Global, dir: &[u8], folder: &[u8], name: &[u8]) -> Result<Stri
 }
 
 /// The path of the folder above that one.
-pub(crate) fn above(path: &str) -> &str {
+fn above(path: &str) -> &str {
     match path.rsplit_once('/') {
         Some((front, _)) => front,
         None => "",
@@ -221,79 +221,6 @@ impl<'d, 'a> Watching<'d, 'a> {
         }
         self.is_in_one(rt, list.bracketed.as_slice(), name, in_all)?;
         Ok(())
-    }
-
-    /// Adds the paths of these folders, as they are given and with all links followed.
-    fn add_bases<R: Files + AllocGlobal>(
-        &self,
-        rt: &R,
-        folders: &[&str],
-        bases: &mut Vec<String>,
-    ) -> Result<(), Unwatched> {
-        for folder in folders {
-            let path = path_in(rt.alloc(), self.dir, folder.as_bytes(), b"")?;
-            let real = fs::canonicalize(rt, path.as_str())?;
-            bases.push(String::from_str(rt.alloc(), real.as_str())?)?;
-            bases.push(path)?;
-        }
-        Ok(())
-    }
-
-    /// The paths of the folders in which the compiler looks, by which it may name what lies in them: GCC follows the links to a header of the
-    /// system where that makes its path shorter.
-    pub fn bases_of<R: Files + AllocGlobal>(
-        &self,
-        rt: &R,
-        list: &SearchList<'_>,
-    ) -> Result<Vec<String>, Unwatched> {
-        let mut bases = Vec::new(rt.alloc());
-        self.add_bases(rt, list.quoted.as_slice(), &mut bases)?;
-        self.add_bases(rt, list.bracketed.as_slice(), &mut bases)?;
-        Ok(bases)
-    }
-
-    /// Looks for a file of that path as a source in a folder asks for it that found it in another one. False where it doesn't lie in that.
-    fn search_below<R: Files + AllocGlobal>(
-        &mut self,
-        rt: &R,
-        list: &SearchList<'_>,
-        beside: &[u8],
-        base: &str,
-        path: &str,
-    ) -> Result<bool, Unwatched> {
-        let Some(rest) = path.strip_prefix(base.trim_end_matches('/')) else {
-            return Ok(false);
-        };
-        if !rest.starts_with('/') {
-            return Ok(false);
-        }
-        let name = rest.trim_start_matches('/').as_bytes();
-        for search in [Search::Bracketed, Search::Quoted].iter() {
-            let search = *search;
-            self.search(rt, list, beside, Asked { name, search })?;
-        }
-        Ok(true)
-    }
-
-    /// Looks for a file that the text takes in from a source in that folder, under each name by which that may have asked for it: what comes
-    /// after the folder in its path, or after one of those in which the compiler looks.
-    pub fn search_taken<R: Files + AllocGlobal>(
-        &mut self,
-        rt: &R,
-        list: &SearchList<'_>,
-        bases: &[String],
-        beside: &str,
-        path: &str,
-    ) -> Result<(), Unwatched> {
-        let mut is_found = self.search_below(rt, list, beside.as_bytes(), beside, path)?;
-        for base in bases {
-            is_found = self.search_below(rt, list, beside.as_bytes(), base.as_str(), path)?
-                || is_found;
-        }
-        match is_found {
-            true => Ok(()),
-            false => Err(Unwatched::Computed),
-        }
     }
 
     /// Has a folder of that path watched, or that there is none.

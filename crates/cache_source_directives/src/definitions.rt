@@ -4,9 +4,6 @@ use crate::directives::{Asked, behind_spaces, is_letter, is_space, name_ahead};
 use memchr::memmem;
 use std::alloc::AllocError;
 
-/// The spellings of `#`, and the end of a comment.
-const MARKS: &[&[u8]] = &[b"#", b"%:", b"??=", b"*/"];
-
 /// Whether it is a space, or a part of a line continuation.
 fn is_gap(byte: u8) -> bool {
     is_space(byte) || byte == b'\\' || byte == b'\n'
@@ -24,24 +21,10 @@ pub(crate) fn before_gap(front: &[u8]) -> &[u8] {
     front.get(..length).unwrap_or(&[])
 }
 
-/// Whether these bytes may end with a `#`, and a comment that may come after it.
-fn ends_with_mark(front: &[u8]) -> bool {
-    for mark in MARKS {
-        if front.ends_with(mark) {
-            return true;
-        }
-    }
-    false
-}
-
-/// Whether a name that comes after these bytes may be defined there: `define` comes before it, after a `#`, or a comment does that may come
-/// after `define`.
+/// Whether a name that comes after these bytes may be defined there: `define` comes before it, or a comment that may come after `define`.
 fn may_be_defined(front: &[u8]) -> bool {
     let before = before_gap(front);
-    match before.strip_suffix(b"define") {
-        Some(front) => ends_with_mark(before_gap(front)),
-        None => before.ends_with(b"*/"),
-    }
+    before.ends_with(b"define") || before.ends_with(b"*/")
 }
 
 /// The name of a file, where a macro stands for nothing else. The text is what comes after the macro's own name.
@@ -57,7 +40,7 @@ fn literal_ahead(behind: &[u8]) -> Option<Asked<'_>> {
 }
 
 /// What comes after a name at that place of a source, where a macro of that name may be defined there.
-fn behind_defined<'a>(source: &'a [u8], at: usize, name: &[u8]) -> Option<&'a [u8]> {
+pub(crate) fn behind_defined<'a>(source: &'a [u8], at: usize, name: &[u8]) -> Option<&'a [u8]> {
     let front = source.get(..at).unwrap_or(&[]);
     let behind = source.get(at.saturating_add(name.len())..).unwrap_or(&[]);
     let is_longer = matches!(behind, [byte, ..] if is_letter(*byte));

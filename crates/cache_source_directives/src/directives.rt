@@ -3,6 +3,7 @@
 //! Which of them are live depends on macros, so all of them count: those in comments too. Where it isn't clear what is asked for, as where a
 //! macro stands for the name, there is no answer.
 
+use crate::guards::guard_behind;
 use crate::hidden::{PIECE, has_pragma, pastes_probe};
 use memchr::{memchr, memchr_iter, memmem, memrchr};
 use std::alloc::{AllocError, Global};
@@ -33,8 +34,8 @@ pub struct Directives<'a> {
     pub probes: Vec<&'a [u8]>,
     /// The macros that stand for names that it includes.
     pub computed: Vec<&'a [u8]>,
-    /// Whether it includes something else of which it isn't clear what that is. The text shows what it took in.
-    pub is_unclear: bool,
+    /// The macros without which directives aren't live of which it can't be determined what they include: none of these may be defined.
+    pub guards: Vec<&'a [u8]>,
     /// Whether it may be taken in once alone.
     pub is_once: bool,
 }
@@ -111,26 +112,6 @@ pub(crate) fn behind_spaces(text: &[u8]) -> &[u8] {
     &[]
 }
 
-/// What comes after the comment at the front of a text. None where it isn't certain where that ends.
-fn behind_comment(text: &[u8]) -> Option<&[u8]> {
-    let inside = text.strip_prefix(b"/*")?;
-    let (comment, behind) = inside.split_at_checked(memmem::find(inside, b"*/")?)?;
-    // The end of a line that goes on may cut the end of a comment in two.
-    if comment.contains(&b'\\') || memmem::find(comment, b"??/").is_some() {
-        return None;
-    }
-    behind.strip_prefix(b"*/")
-}
-
-/// What comes after spaces, and after a comment if one comes then.
-pub(crate) fn behind_gap(text: &[u8]) -> &[u8] {
-    let text = behind_spaces(text);
-    match behind_comment(text) {
-        Some(behind) => behind_spaces(behind),
-        None => text,
-    }
-}
-
 /// The word that a text begins with, and what comes after it.
 pub(crate) fn word_ahead(text: &[u8]) -> (&[u8], &[u8]) {
     for (at, byte) in text.iter().enumerate() {
@@ -142,7 +123,7 @@ pub(crate) fn word_ahead(text: &[u8]) -> (&[u8], &[u8]) {
 }
 
 /// The text without the spaces that it ends with.
-fn before_spaces(text: &[u8]) -> &[u8] {
+pub(crate) fn before_spaces(text: &[u8]) -> &[u8] {
     let mut length = text.len();
     for byte in text.iter().rev() {
         if !is_space(*byte) {
@@ -267,7 +248,7 @@ pub(crate) fn stands_alone(line: &[u8], at: usize) -> bool {
 }
 
 /// What a table has beside that word.
-fn value_of<T: Copy>(table: &[(&str, T)], word: &[u8]) -> Option<T> {
+pub(crate) fn value_of<T: Copy>(table: &[(&str, T)], word: &[u8]) -> Option<T> {
     for (name, value) in table {
         if name.as_bytes() == word {
             return Some(*value);
@@ -321,7 +302,7 @@ impl<'a> Directives<'a> {
             asked: Vec::new(alloc),
             probes: Vec::new(alloc),
             computed: Vec::new(alloc),
-            is_unclear: false,
+            guards: Vec::new(alloc),
             is_once: false,
         }
     }
@@ -337,18 +318,36 @@ impl<'a> Directives<'a> {
         Ok(true)
     }
 
-    /// Takes what a directive includes, which macros may stand for. False where it can't be determined where that is looked for.
+    /// Takes what a directive includes, which a macro may stand for. False where it can't be determined what it is.
     fn take_included(&mut self, operand: &'a [u8], is_next: bool) -> Result<bool, AllocError> {
         if self.take_name(operand, is_next)? {
             return Ok(true);
         }
         let (name, rest) = word_ahead(behind_spaces(operand));
-        if name.is_empty() || !behind_spaces(rest).is_empty() {
-            self.is_unclear = true;
-        } else {
-            self.computed.push(name)?;
+        if is_next || name.is_empty() || !behind_spaces(rest).is_empty() {
+            return Ok(false);
         }
-        Ok(!is_next)
+        self.computed.push(name)?;
+        Ok(true)
+    }
+
+    /// Takes what a directive that comes after these bytes includes. Where that can't be determined, takes a macro without which it isn't
+    /// live; false where there is none.
+    fn take_live(
+        &mut self,
+        alloc: Global,
+        front: &'a [u8],
+        operand: &'a [u8],
+        is_next: bool,
+    ) -> Result<bool, AllocError> {
+        if self.take_included(operand, is_next)? {
+            return Ok(true);
+        }
+        let Some(guard) = guard_behind(alloc, front)? else {
+            return Ok(false);
+        };
+        self.guards.push(guard)?;
+        Ok(true)
     }
 
     /// Takes what comes after `pragma`. False where it asks for a file.
@@ -359,21 +358,24 @@ impl<'a> Directives<'a> {
         !asks_for_file(word, second)
     }
 
-    /// Takes a directive: what comes after its `#`, and after a comment there. False where it can't be determined what it asks for.
-    fn take_directive(&mut self, behind: &'a [u8]) -> Result<bool, AllocError> {
-        if behind.starts_with(b"//") {
-            return Ok(true);
-        }
+    /// Takes a directive: what comes before and after its `#`. False where it can't be determined what it asks for.
+    fn take_directive(
+        &mut self,
+        alloc: Global,
+        front: &'a [u8],
+        behind: &'a [u8],
+    ) -> Result<bool, AllocError> {
+        let behind = behind_spaces(behind);
         let (word, operand) = word_ahead(behind);
         if matches!(operand, [b'\\', ..]) || matches!(behind, [b'/', ..]) {
             return Ok(false);
         }
         match value_of(KINDS, word) {
-            Some(Kind::Include) => self.take_included(operand, false),
-            Some(Kind::IncludeNext) => self.take_included(operand, true),
+            Some(Kind::Include) => self.take_live(alloc, front, operand, false),
+            Some(Kind::IncludeNext) => self.take_live(alloc, front, operand, true),
             Some(Kind::Import) => {
                 self.is_once = true;
-                self.take_included(operand, false)
+                self.take_live(alloc, front, operand, false)
             }
             Some(Kind::Pragma) => Ok(self.take_pragma(operand)),
             Some(Kind::Unfollowed) => Ok(false),
@@ -448,13 +450,13 @@ impl<'a> Directives<'a> {
 
     /// Takes a directive, where one begins at the mark at that place of a source. False where it can't be determined what it asks for:
     /// that is so of other spellings of `#`, and of those of the end of a line that goes on.
-    fn take_at(&mut self, source: &'a [u8], at: usize) -> Result<bool, AllocError> {
+    fn take_at(&mut self, alloc: Global, source: &'a [u8], at: usize) -> Result<bool, AllocError> {
         let Some((front, found)) = source.split_at_checked(at) else {
             return Ok(true);
         };
         if let Some(behind) = found.strip_prefix(b"#") {
             return match may_begin_directive(front) {
-                true => self.take_directive(line_ahead(behind_gap(behind))),
+                true => self.take_directive(alloc, front, line_ahead(behind)),
                 false => Ok(true),
             };
         }
@@ -465,9 +467,14 @@ impl<'a> Directives<'a> {
     }
 
     /// Takes the directives of a source that begin with that mark. False where it can't be determined what one asks for.
-    fn take_marked(&mut self, source: &'a [u8], mark: u8) -> Result<bool, AllocError> {
+    fn take_marked(
+        &mut self,
+        alloc: Global,
+        source: &'a [u8],
+        mark: u8,
+    ) -> Result<bool, AllocError> {
         for at in memchr_iter(mark, source) {
-            if !self.take_at(source, at)? {
+            if !self.take_at(alloc, source, at)? {
                 return Ok(false);
             }
         }
@@ -475,9 +482,9 @@ impl<'a> Directives<'a> {
     }
 
     /// Takes the directives of a source. False where it can't be determined what one asks for.
-    fn take_directives(&mut self, source: &'a [u8]) -> Result<bool, AllocError> {
+    fn take_directives(&mut self, alloc: Global, source: &'a [u8]) -> Result<bool, AllocError> {
         for mark in MARKS {
-            if !self.take_marked(source, mark)? {
+            if !self.take_marked(alloc, source, mark)? {
                 return Ok(false);
             }
         }
@@ -488,7 +495,7 @@ impl<'a> Directives<'a> {
 /// What a source asks for. None where that can't be determined.
 pub fn directives_of(alloc: Global, source: &[u8]) -> Result<Option<Directives<'_>>, AllocError> {
     let mut found = Directives::new(alloc);
-    if !found.take_directives(source)? {
+    if !found.take_directives(alloc, source)? {
         return Ok(None);
     }
     if has_pragma(source) || !found.take_all_probes(source)? {

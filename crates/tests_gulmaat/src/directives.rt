@@ -2,7 +2,8 @@
 
 use base_files::Lossy;
 use cache_source_directives::{
-    Asked, Directives, Search, add_defined, asks_for_files, directives_of, pastes_time, tells_time,
+    Asked, Directives, Search, add_defined, asks_for_files, directives_of, may_define, pastes_time,
+    tells_time,
 };
 use std::alloc::{AllocError, Global};
 use std::fmt::Write;
@@ -10,7 +11,7 @@ use std::test::Fail;
 use tests_kit::{holds, is_that, words};
 
 /// Sources, and what they ask for; `none` where that can't be determined.
-const SOURCES: [(&str, &str); 86] = [
+const SOURCES: [(&str, &str); 90] = [
     ("", ""),
     ("int x;\n", ""),
     ("#include \"a.h\"\n", " \"a.h\""),
@@ -31,23 +32,33 @@ const SOURCES: [(&str, &str); 86] = [
     ("#includes <a.h>\n", ""),
     ("#define X include <a.h>\n", ""),
     ("#include NAME\n", " takes NAME"),
-    ("#include NAME // a\n", " unclear"),
-    ("#include NAME(a)\n", " unclear"),
-    ("#include_next NAME\n", "none"),
-    ("#include_next NAME(a)\n", "none"),
+    ("#include NAME // a\n", "none"),
+    ("#include NAME(a)\n", "none"),
+    (
+        "#ifdef A_B\n#if X\n#include NAME(a)\n#endif\n#endif\n",
+        " unless A_B",
+    ),
+    (
+        "/* a */\n#ifdef A_B /* b */\n/**/\n#include NAME(a)\n",
+        " unless A_B",
+    ),
+    ("#ifdef A_B\n#endif\n#include NAME(a)\n", "none"),
+    ("#ifdef A_B\n#else\n#include NAME(a)\n#endif\n", "none"),
+    ("#ifndef A_B\n#include NAME(a)\n#endif\n", "none"),
+    ("#ifdef __A_B\n#include NAME(a)\n#endif\n", "none"),
+    ("/*\n#ifdef A_B\n*/\n#include NAME(a)\n", "none"),
+    ("#ifdef A_B\n/*\n#endif\n*/\n#include NAME(a)\n", "none"),
+    ("a \\\n#ifdef A_B\n#include NAME(a)\n", "none"),
+    ("R\"(\n#ifdef A_B\n)\"\n#include NAME(a)\n", "none"),
     ("#include\n", ""),
     ("  #include's protect themselves, and so do others\n", ""),
     ("#include (a)\n", ""),
-    ("#include /* a */ <a.h>\n", " unclear"),
-    ("#/* a */include <a.h>\n", " <a.h>"),
-    ("# // a\n#include <a.h>\n", " <a.h>"),
-    ("# /* a\n# b\n*/\n#include <a.h>\n", " <a.h>"),
-    ("# /* a\n*/ include <a.h>\n", " <a.h>"),
-    ("# /* a *\\\n/ include <a.h>\n", "none"),
+    ("#include /* a */ <a.h>\n", "none"),
+    ("#/* a */include <a.h>\n", "none"),
     ("#inc\\\nlude <a.h>\n", "none"),
     ("#\\\ninclude <a.h>\n", "none"),
     ("#include \\\n<a.h>\n", "none"),
-    ("#include \"<a.h>\"\n", " unclear"),
+    ("#include \"<a.h>\"\n", "none"),
     ("#include <a.h\n", ""),
     ("/* a */ #include <a.h> /* b */\n", " <a.h>"),
     ("/* a *\\\n/ #include <a.h>\n", " <a.h>"),
@@ -66,7 +77,7 @@ const SOURCES: [(&str, &str); 86] = [
     ("#inc??/\nlude <a.h>\n", "none"),
     ("int x; ??/ \r\n", "none"),
     ("/* See asm-???/a.h. */\n#include <a.h>\n", " <a.h>"),
-    ("#include \"a??/b.h\"\n", " unclear"),
+    ("#include \"a??/b.h\"\n", "none"),
     ("#embed <a.bin>\n", "none"),
     ("#pragma GCC dependency \"a.h\"\n", "none"),
     ("#pragma GCC diagnostic push\n", ""),
@@ -138,7 +149,7 @@ fn write_found(text: &mut String, found: &Directives<'_>) -> Result<(), AllocErr
     write_all(text, found.asked.as_slice())?;
     write_names(text, "asks", found.probes.as_slice())?;
     write_names(text, "takes", found.computed.as_slice())?;
-    text.push_str(if found.is_unclear { " unclear" } else { "" })?;
+    write_names(text, "unless", found.guards.as_slice())?;
     text.push_str(if found.is_once { " once" } else { "" })
 }
 
@@ -165,7 +176,7 @@ fn sources_ask_for_files(rt: HostRuntime) -> Result<(), Fail> {
 }
 
 /// Sources, and what `NAME` stands for in them; `none` where that may be something other than the name of a file.
-const DEFINED: [(&str, &str); 20] = [
+const DEFINED: [(&str, &str); 17] = [
     ("", ""),
     ("#define NAME <a.h>\n", " <a.h>"),
     ("#define NAME \"a.h\"", " \"a.h\""),
@@ -183,9 +194,6 @@ const DEFINED: [(&str, &str); 20] = [
     ("#define \\\n NAME OTHER\n", "none"),
     ("#define /* a */ NAME OTHER\n", "none"),
     ("#define NAME \\\n <a.h>\n", "none"),
-    ("%: /* a */ define NAME OTHER\n", "none"),
-    ("??=\\\ndefine NAME OTHER\n", "none"),
-    ("// They define NAME as needed.\n", ""),
 ];
 
 /// What a macro stands for in a source, as text.
@@ -206,6 +214,27 @@ fn macros_stand_for_files(rt: HostRuntime) -> Result<(), Fail> {
     for (source, want) in DEFINED.iter() {
         let text = text_of_defined(rt.alloc(), source)?;
         is_that(text.as_str(), want, source)?;
+    }
+    Ok(())
+}
+
+/// Sources, and whether they may define `A_B` where it isn't defined yet.
+const DEFINING: [(&str, bool); 6] = [
+    ("#define A_B\n", true),
+    ("#ifdef A_B\n#define A_B 1\n#endif\n", false),
+    ("#ifdef A_B\n#else\n#define A_B\n#endif\n", true),
+    ("#ifdef X_Y\n#define A_B\n#endif\n", true),
+    ("/*\n#ifdef A_B */\n#define A_B\n", true),
+    ("#define A_BC\n#undef A_B\n#define X A_B\n", false),
+];
+
+#[test]
+fn macros_are_defined_where_they_are_not(rt: HostRuntime) -> Result<(), Fail> {
+    for (source, want) in DEFINING.iter() {
+        holds(
+            may_define(rt.alloc(), source.as_bytes(), b"A_B")? == *want,
+            source,
+        )?;
     }
     Ok(())
 }

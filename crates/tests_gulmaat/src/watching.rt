@@ -217,12 +217,7 @@ fn why_none<R: Files + AllocGlobal>(
     let listed = list_of(
         rt,
         &line,
-        &[Source {
-            name: b"a.c",
-            path,
-            contents,
-        }],
-        b"# 1 \"a.c\"\n",
+        &[Source { path, contents }],
         SAID.as_bytes(),
         before,
     );
