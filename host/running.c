@@ -43,7 +43,8 @@ int hold_closed(void) {
     return 0;
 }
 
-/* Makes the files in memory. The program has them under the same numbers; a compiler hasn't. */
+/* Makes the files in memory. The program has them under the same numbers; a compiler hasn't. It takes the time of messages for that at which
+ * the call began, so they are made before anything runs, and nothing is written into that one before the program starts. */
 int make_files(void) {
     text = memfd_create("text", 0);
     messages = memfd_create("messages", 0);
