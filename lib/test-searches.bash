@@ -155,6 +155,10 @@ searches() {
     printf '#include <value.h>\nint value = VALUE;\n' >it.c
     settle
     search_case "$cc: the next one" "$new early/value.h" "rm early/value.h" $cc -Ibeside -Iearly -Ilate
+    # The input was found in no folder: the next one is looked for as any other. The compilers warn of that.
+    printf '#include_next "value.h"\nint value = VALUE;\n' >it.c
+    settle
+    search_case "$cc: the next one in the input" "$new value.h" "rm value.h" $cc -w -Ilate
     # An option that includes one: it is looked for in the call's folder first.
     printf 'int value = VALUE;\n' >it.c
     settle
@@ -182,7 +186,7 @@ searches() {
     search_spellings "$cc"
     search_names "$cc"
     search_hidden "$cc"
-    search_guards "$cc"
+    search_unclear "$cc"
     search_others "$cc"
     cd "$work" || return
 }
@@ -205,7 +209,7 @@ search_spellings() {
     done
 }
 
-# Names that are computed, and times that are pasted: there is no manifest.
+# Names that macros stand for, and times that are pasted: of these there is no manifest.
 search_names() {
     local cc=$1
     printf '#define NAME "value.h"\n#include NAME\nint value = VALUE;\n' >it.c
@@ -217,10 +221,12 @@ search_names() {
         $cc -DNAME='"value.h"' -Iearly -Ilate
     search_case "$cc: a name that a word of its own defines" 'printf "#define VALUE 7\n" >early/value.h' "rm early/value.h" \
         $cc -D 'NAME=<value.h>' -Iearly -Ilate
-    search_none "$cc: a name that a word computes" $cc -DOTHER='"value.h"' -DNAME=OTHER -Ilate
-    printf '#define OTHER "late/value.h"\n#define NAME OTHER\n#include NAME\nint value = VALUE;\n' >it.c
+    search_case "$cc: a name that words define" 'printf "#define VALUE 7\n" >early/value.h' "rm early/value.h" \
+        $cc -DOTHER='"value.h"' -DNAME=OTHER -Iearly -Ilate
+    printf '#define OTHER "value.h"\n#define NAME OTHER\n#include NAME\nint value = VALUE;\n' >it.c
     settle
-    search_none "$cc: a name that is computed" $cc
+    search_case "$cc: a name that is defined by another one" 'printf "#define VALUE 7\n" >early/value.h' "rm early/value.h" \
+        $cc -Iearly -Ilate
     printf '#define NAME <stdio.h>\n#if __has_include(NAME)\nint value = 1;\n#endif\n' >it.c
     settle
     search_none "$cc: a name that is computed, asked for" $cc
@@ -232,7 +238,7 @@ search_names() {
     printf '#if 0\n#include $name\n#endif\n' >script
     printf '#line 7 "script"\n#include "script"\nint value = 1;\n' >it.c
     settle
-    search_none "$cc: a script that is included too" $cc
+    search_case "$cc: a script that is included too" 'echo "#define VALUE" >>script' 'printf "#if 0\n#include \$name\n#endif\n" >script' $cc
     rm script
     printf '#define PASTE(a, b) a ## b\nint value = sizeof(PASTE(__DA, TE__));\n' >it.c
     settle
@@ -266,21 +272,64 @@ search_hidden() {
     done
 }
 
-# A name that is computed in a header for tracing, as the Linux kernel has one: it isn't live where its macro is defined nowhere else.
-search_guards() {
-    local cc=$1
-    {
-        printf '#ifdef CREATE_TRACE_POINTS\n#undef CREATE_TRACE_POINTS\n#define TEXT(x) #x\n#define NAMED(x) TEXT(x)\n'
-        printf '#include NAMED(value.h)\n#define CREATE_TRACE_POINTS\n#endif\n#ifndef VALUE\n#define VALUE 5\n#endif\n'
-    } >late/trace.h
-    printf '#include "trace.h"\nint value = VALUE;\n' >it.c
+# Names that macros make, as in headers of Boost and the Linux kernel: the preprocessor shows which these are.
+search_unclear() {
+    local cc=$1 form front
+    local made='printf "#undef VALUE\n#define VALUE 7\n" >'
+    search_tree
+    for form in '#x' '<x>'; do
+        printf '#ifdef LIVE\n#define TEXT(x) %s\n#define NAMED(x) TEXT(x)\n#include NAMED(value.h)\n#else\n#define VALUE 5\n#endif\n' "$form" \
+            >beside/trace.h
+        printf '#include "beside/trace.h"\nint value = VALUE;\n' >it.c
+        settle
+        search_case "$cc: $form that isn't live" "${made}early/value.h" "rm early/value.h" $cc -Iearly -Ilate
+        search_case "$cc: $form" "${made}early/value.h" "rm early/value.h" $cc -DLIVE -Iearly -Ilate
+        search_case "$cc: $form beside it" "${made}beside/value.h" "rm beside/value.h" $cc -DLIVE -Iearly -Ilate
+        search_case "$cc: $form for quotes" "${made}quoted/value.h" "rm quoted/value.h" $cc -DLIVE -iquote quoted -Iearly -Ilate
+        search_case "$cc: $form, a folder in a folder" "mkdir early/d; ${made}early/d/value.h" "rm -r early/d" $cc -DLIVE -Iearly -Ilate
+        search_case "$cc: $form that changes" "printf '#define VALUE 9\n' >late/value.h" "printf '#define VALUE 1\n' >late/value.h" \
+            $cc -DLIVE -Ilate
+        printf '#define LIVE\n#include "beside/trace.h"\nint value = VALUE;\n' >it.c
+        settle
+        search_case "$cc: $form by the source" "${made}early/value.h" "rm early/value.h" $cc -Iearly -Ilate
+    done
+    # In a file that takes in itself, and in one that is in a deeper folder.
+    printf '#ifndef VALUE\n#define VALUE 3\n#include __FILE__\n#else\nint more;\n#endif\n' >late/self.h
+    printf '#include <self.h>\nint value = VALUE;\n' >it.c
     settle
-    search_case "$cc: a name that isn't live" 'printf "#define VALUE 7\n" >early/trace.h' "rm early/trace.h" $cc -Iearly -Ilate
-    search_none "$cc: a name that a word has live" $cc -Iearly -Ilate -DCREATE_TRACE_POINTS
-    printf '#define CREATE_TRACE_POINTS\n#include "trace.h"\nint value = VALUE;\n' >it.c
+    search_case "$cc: itself" "${made}early/self.h" "rm early/self.h" $cc -I. -Iearly -Ilate
+    mkdir -p late/deep
+    printf '#define VALUE 4\n' >late/deep/value.h
+    printf '#define NAMED(x) <deep/x>\n#include NAMED(value.h)\n' >late/asks.h
+    printf '#include <asks.h>\nint value = VALUE;\n' >it.c
     settle
-    search_none "$cc: a name that a source has live" $cc -Iearly -Ilate
-    rm late/trace.h
+    search_case "$cc: in a deeper folder" "mkdir early/deep; ${made}early/deep/value.h" "rm -r early/deep" $cc -Iearly -Ilate
+    printf 'int value = VALUE;\n' >it.c
+    settle
+    search_case "$cc: in a file that a word takes in" "mkdir early/deep; ${made}early/deep/value.h" "rm -r early/deep" \
+        $cc -include asks.h -Iearly -Ilate
+    search_case "$cc: in a file of which a word takes the macros" "mkdir early/deep; ${made}early/deep/value.h" "rm -r early/deep" \
+        $cc -imacros asks.h -Iearly -Ilate
+    printf '#define NAMED(x) <deep/x>\n#include NAMED(value.h)\nint value = VALUE;\n' >it.c
+    settle
+    search_case "$cc: in the input" "mkdir early/deep; ${made}early/deep/value.h" "rm -r early/deep" $cc -Iearly -Ilate
+    # A file that was taken in before, and isn't again: the text doesn't say that it was asked for.
+    printf '#include <asks.h>\nint value = VALUE;\n' >it.c
+    printf '#include "value.h"\n#define NAMED(x) <x>\n#include NAMED(value.h)\n' >late/asks.h
+    for front in '#pragma once\n#define VALUE 1\n' '#ifndef GUARD\n#define GUARD\n#define VALUE 1\n#endif\n'; do
+        printf "$front" >late/value.h
+        settle
+        search_case "$cc: a file that was taken in before" "${made}early/value.h" "rm early/value.h" $cc -Iearly -Ilate
+    done
+    # The next one, in a file with comments and lines that have other numbers.
+    printf '# /* one\n# two */\n# // three\n#line 7 "other.h"\n#define NAMED(x) <x>\n#include_next NAMED(asks.h)\n' >early/asks.h
+    settle
+    search_case "$cc: the next one" "mkdir later; ${made}later/asks.h" "rm -r later" $cc -Iearly -Ilater -Ilate
+    # Markers in a source may be taken for those of the text.
+    printf '# 7 "other.h" 1\n#define NAMED(x) <x>\n#include NAMED(value.h)\n# 9 "early/asks.h" 2\n' >early/asks.h
+    settle
+    search_none "$cc: in a file with markers" $cc -Iearly -Ilate
+    rm -r late/deep late/self.h late/asks.h early/asks.h beside/trace.h
 }
 
 # Precompiled headers, branches, folders with objects in them, another GCC, and calls at once.

@@ -266,7 +266,7 @@ impl Known {
     }
 
     /// The words by which the compiler prints the text, and lists the files that it read where a dependency file is asked for.
-    fn words_for_text(
+    pub(crate) fn words_for_text(
         &self,
         alloc: Global,
         line: &CommandLine,

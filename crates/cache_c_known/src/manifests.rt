@@ -6,10 +6,11 @@ use crate::known::Known;
 use base_files::{FileTime, OsBytes};
 use base_formats::{put_framed, read_framed};
 use cache_dir::CacheDirError;
+use cache_disk::read_whole;
 use cache_files::manifests::FoundManifest;
 use cache_files::{manifest_under, put_manifest};
-use cache_host::{CommandLine, Host, HostError};
-use cache_searched_folders::{EnteredNames, Source, list_of, said_of};
+use cache_host::{CommandLine, Host, HostError, messages_of, words_of};
+use cache_searched_folders::{AskingSources, EnteredNames, Source, said_of};
 use cache_source_files::load_all;
 use cache_watch_lists::{Unwatched, result_holds, with_list, with_results_of, without};
 use cache_written_lines::NamedFile;
@@ -40,8 +41,12 @@ fn source_of(file: &NamedFile) -> Result<Option<Source<'_>>, Unwatched> {
     };
     match file.contents() {
         Some(contents) => {
-            let contents = contents.as_bytes();
-            Ok(Some(Source { path, contents }))
+            let (name, contents) = (file.name.as_bytes(), contents.as_bytes());
+            Ok(Some(Source {
+                name,
+                path,
+                contents,
+            }))
         }
         None => Ok(None),
     }
@@ -242,30 +247,49 @@ impl Known {
         Ok(sources)
     }
 
-    /// What to watch of the text, by what the compiler says of where it looks. Where it isn't clear what a source asks for, files that the
-    /// text doesn't take in don't count.
-    fn list_by<R: Files + AllocGlobal>(
-        &self,
-        rt: &R,
-        line: &CommandLine,
-        said: &[u8],
-        before: FileTime,
-    ) -> Result<Vec<u8>, Unwatched> {
-        let sources = self.sources(rt.alloc())?;
-        let list = list_of(rt, line, sources.as_slice(), said, before);
-        let is_unclear = matches!(&list, Err(Unwatched::Computed | Unwatched::Pasted));
+    /// The sources of the text, and what they ask for. Where that can't be determined, files that the text doesn't take in don't count.
+    fn asking_sources<'a>(
+        &'a self,
+        alloc: Global,
+        line: &'a CommandLine,
+    ) -> Result<AskingSources<'a>, Unwatched> {
+        let words = line.words.as_slice();
+        let sources = self.sources(alloc)?;
+        let count = sources.len();
+        let asking = AskingSources::of(alloc, words, sources);
+        let is_unclear = matches!(&asking, Err(Unwatched::Computed | Unwatched::Pasted));
         let text = match &self.tool.text {
             Some(recorded) if is_unclear => recorded.printed.text.as_bytes(),
-            _ => return list,
+            _ => return asking,
         };
-        let entered = self.entered_sources(rt.alloc(), text)?;
-        match entered.len() == sources.len() {
-            true => list,
-            false => list_of(rt, line, entered.as_slice(), said, before),
+        let entered = self.entered_sources(alloc, text)?;
+        match entered.len() == count {
+            true => asking,
+            false => AskingSources::of(alloc, words, entered),
         }
     }
 
-    /// What to watch of the text that was printed. The compiler runs where it didn't say yet where it looks.
+    /// The text once more, with a line for each include. None where the preprocessor fails.
+    fn text_with_includes<P: Print + Files + AllocGlobal, I: Read>(
+        &self,
+        rt: &P,
+        line: &CommandLine,
+        host: &mut Host<I>,
+    ) -> Result<Option<Vec<u8>>, HostError>
+        ensures { host.new.compiled ≡ host.old.compiled }
+    {
+        let mut words = words_of(rt.alloc(), &["-dI"])?;
+        for word in self.words_for_text(rt.alloc(), line)?.as_slice() {
+            words.push(word.clone()?)?;
+        }
+        match messages_of(rt, line, host, words.as_slice())?.status {
+            0 => Ok(Some(read_whole(rt, line.text.as_str())?)),
+            _ => Ok(None),
+        }
+    }
+
+    /// What to watch of the text that was printed. The compiler runs where it didn't say yet where it looks, and prints the text once more
+    /// where it isn't clear what its sources include.
     pub fn list_to_watch<P: Print + Files + AllocGlobal, I: Read>(
         &mut self,
         rt: &P,
@@ -288,7 +312,15 @@ impl Known {
             return Err(Unwatched::Changed);
         }
         let said = said_of(rt, line, host, language, before)?;
-        self.list_by(rt, line, said.as_slice(), before)
+        let asking = self.asking_sources(rt.alloc(), line)?;
+        let mut text = Some(Vec::new(rt.alloc()));
+        if !asking.are_clear {
+            text = self.text_with_includes(rt, line, host).unwrap_or(None);
+        }
+        let Some(text) = text else {
+            return Err(Unwatched::Computed);
+        };
+        asking.list(rt, line, said.as_slice(), text.as_slice(), before)
     }
 
     /// Keeps a manifest that the session put, in which the text of this key has that list, with the results that were left out.

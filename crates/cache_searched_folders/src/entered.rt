@@ -1,6 +1,5 @@
 //! Which files a text takes in, by its markers. A `#line` directive makes a marker too, of a file that the preprocessor didn't read.
 
-use memchr::memmem;
 use std::alloc::{AllocError, Global};
 use std::collections::HashSet;
 
@@ -12,8 +11,14 @@ pub struct EnteredNames<'a> {
     are_unclear: bool,
 }
 
-/// What a marker ends its name with by which a file is entered.
-const ENTERS: &[u8] = b"\" 1";
+/// What a marker says of its file.
+#[derive(Clone, Copy)]
+pub(crate) enum Step<'a> {
+    /// It begins there, and has that name.
+    Enters(&'a [u8]),
+    /// The one that it was taken in by goes on.
+    Returns,
+}
 
 /// What comes after the number and the quote at the front of these bytes.
 fn quoted_in(number: &[u8]) -> Option<&[u8]> {
@@ -25,10 +30,16 @@ fn quoted_in(number: &[u8]) -> Option<&[u8]> {
     None
 }
 
-/// The name in a line, where that is a marker by which a file is entered.
-fn entered_in(line: &[u8]) -> Option<&[u8]> {
+/// What a line says, where it is a marker by which a file begins or goes on.
+pub(crate) fn step_in(line: &[u8]) -> Option<Step<'_>> {
     let quoted = quoted_in(line.strip_prefix(b"# ")?)?;
-    quoted.get(..memmem::rfind(quoted, ENTERS)?)
+    let end = quoted.iter().rposition(|byte| *byte == b'"')?;
+    let (name, flags) = quoted.split_at_checked(end)?;
+    match flags {
+        [b'"', b' ', b'1', ..] => Some(Step::Enters(name)),
+        [b'"', b' ', b'2', ..] => Some(Step::Returns),
+        _ => None,
+    }
 }
 
 impl<'a> EnteredNames<'a> {
@@ -38,7 +49,7 @@ impl<'a> EnteredNames<'a> {
         let mut are_unclear = false;
         for line in text.split(|byte| *byte == b'\n') {
             are_unclear = are_unclear || line.starts_with(b"#line");
-            if let Some(name) = entered_in(line) {
+            if let Some(Step::Enters(name)) = step_in(line) {
                 names.insert(name)?;
             }
         }

@@ -4,11 +4,12 @@
 mod asking;
 mod entered;
 mod search_list;
+mod shown;
 mod texts;
 mod watching;
 
 pub use asking::said_of;
 pub use entered::EnteredNames;
 pub use search_list::SearchList;
-pub use texts::{Source, list_of};
+pub use texts::{AskingSources, Source};
 pub use watching::Watching;

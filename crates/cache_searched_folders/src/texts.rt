@@ -1,6 +1,7 @@
 //! What to watch of a text: all that its sources ask for, and where the compiler looks for it.
 
 use crate::search_list::SearchList;
+use crate::shown::ShownIncludes;
 use crate::watching::Watching;
 use base_files::{FileTime, OsBytes};
 use cache_disk::folder_of;
@@ -8,7 +9,7 @@ use cache_host::CommandLine;
 use cache_known_options::{Placed, PlacedWords, behind_front, is_among};
 use cache_source_directives::{
     Asked, Directives, Search, add_defined, add_probed, add_said, asks_for_files, directives_of,
-    may_define, pastes_time, tells_time,
+    has_markers, may_define, pastes_time, tells_time,
 };
 use cache_watch_lists::Unwatched;
 use memchr::memmem;
@@ -35,6 +36,8 @@ const PREDEFINED: &[u8] = b"stdc-predef.h";
 /// A regular file that a text names.
 #[derive(Clone, Copy)]
 pub struct Source<'a> {
+    /// Its name, as markers have it.
+    pub name: &'a [u8],
     pub path: &'a str,
     pub contents: &'a [u8],
 }
@@ -90,21 +93,6 @@ fn add_all_said<'a>(
     Ok(true)
 }
 
-/// The names that words of the command define for the macros that stand for what a source includes.
-fn said_for<'a>(
-    alloc: Global,
-    words: &'a [OsBytes],
-    found: &Directives<'_>,
-) -> Result<Vec<Asked<'a>>, Unwatched> {
-    let mut said = Vec::new(alloc);
-    for name in found.computed.iter() {
-        if !add_all_said(words, name, &mut said)? {
-            return Err(Unwatched::Computed);
-        }
-    }
-    Ok(said)
-}
-
 /// Adds what a macro may stand for by its definitions in these sources. False where that can't be determined.
 fn add_all_defined<'a>(
     sources: &[Source<'a>],
@@ -119,15 +107,28 @@ fn add_all_defined<'a>(
     Ok(true)
 }
 
-/// Adds what a source includes by these macros: each name that sources define them to be. One that no source defines isn't live, or
-/// nothing is made.
-fn add_computed<'a>(sources: &[Source<'a>], found: &mut Directives<'a>) -> Result<(), Unwatched> {
+/// Adds what a source includes by these macros: each name that sources and words define them to be. One that none of these defines isn't
+/// live, or nothing is made. False where that can't be determined.
+fn add_computed<'a>(
+    words: &'a [OsBytes],
+    sources: &[Source<'a>],
+    found: &mut Directives<'a>,
+) -> Result<bool, Unwatched> {
+    let mut last: &[u8] = &[];
     for name in found.computed.iter() {
-        if may_be_compilers(name) || !add_all_defined(sources, name, &mut found.asked)? {
-            return Err(Unwatched::Computed);
+        // A header that goes on as long as a macro says so has one name many times.
+        if *name == last {
+            continue;
+        }
+        last = name;
+        if may_be_compilers(name)
+            || !add_all_defined(sources, name, &mut found.asked)?
+            || !add_all_said(words, name, &mut found.asked)?
+        {
+            return Ok(false);
         }
     }
-    Ok(())
+    Ok(true)
 }
 
 /// Whether one of the words has that name in it.
@@ -158,19 +159,19 @@ fn may_be_live(
     Ok(false)
 }
 
-/// Fails where an include of a source may be live of which it can't be determined what it includes.
-fn check_guards(
+/// Whether an include of a source may be live of which it isn't clear what it includes.
+fn has_unclear(
     alloc: Global,
     words: &[OsBytes],
     sources: &[Source<'_>],
     found: &Directives<'_>,
-) -> Result<(), Unwatched> {
+) -> Result<bool, Unwatched> {
     for name in found.guards.iter() {
         if may_be_live(alloc, words, sources, name)? {
-            return Err(Unwatched::Computed);
+            return Ok(true);
         }
     }
-    Ok(())
+    Ok(found.is_unclear)
 }
 
 /// The macros by which sources ask whether a file is there.
@@ -198,8 +199,56 @@ fn add_all_probed<'a>(
     Ok(())
 }
 
-/// Looks for all that a source asks for, except names in brackets already looked for: which source asks for these doesn't matter. For the
-/// input has it watched that no precompiled header lies beside that.
+/// Adds what sources ask for by macros. False where it isn't clear what one of them includes.
+fn add_made<'a>(
+    alloc: Global,
+    words: &'a [OsBytes],
+    sources: &[Source<'a>],
+    all: &mut [Directives<'a>],
+) -> Result<bool, Unwatched> {
+    let probes = probes_in(alloc, all)?;
+    let mut are_clear = true;
+    for (source, found) in sources.iter().zip(all.iter_mut()) {
+        add_all_probed(source, probes.as_slice(), found)?;
+        are_clear = are_clear
+            && !has_unclear(alloc, words, sources, found)?
+            && add_computed(words, sources, found)?;
+    }
+    Ok(are_clear)
+}
+
+/// Whether one of the sources has markers of its own: those of the text don't say then which source a line is of.
+fn have_markers(sources: &[Source<'_>]) -> bool {
+    for source in sources {
+        if has_markers(source.contents) {
+            return true;
+        }
+    }
+    false
+}
+
+/// Looks for what a source asks for, except a name in brackets already looked for: which source asks for that doesn't matter. For the input
+/// has it watched that no precompiled header lies beside that.
+fn search_asked<'a, R: Files + AllocGlobal>(
+    rt: &R,
+    source: &Source<'_>,
+    list: &SearchList<'_>,
+    asked: Asked<'a>,
+    is_input: bool,
+    bracketed: &mut HashSet<&'a [u8]>,
+    watching: &mut Watching<'_, '_>,
+) -> Result<(), Unwatched> {
+    let beside = folder_of(source.path.as_bytes());
+    if asked.search != Search::Bracketed || bracketed.insert(asked.name)? {
+        watching.search(rt, list, beside, asked)?;
+    }
+    if is_input {
+        watching.look_for_precompiled(rt, list, beside, asked.name, b".gch")?;
+    }
+    Ok(())
+}
+
+/// Looks for all that a source asks for.
 fn search_all<'a, R: Files + AllocGlobal>(
     rt: &R,
     source: &Source<'_>,
@@ -209,14 +258,8 @@ fn search_all<'a, R: Files + AllocGlobal>(
     bracketed: &mut HashSet<&'a [u8]>,
     watching: &mut Watching<'_, '_>,
 ) -> Result<(), Unwatched> {
-    let beside = folder_of(source.path.as_bytes());
     for asked in all_asked {
-        if asked.search != Search::Bracketed || bracketed.insert(asked.name)? {
-            watching.search(rt, list, beside, *asked)?;
-        }
-        if is_input {
-            watching.look_for_precompiled(rt, list, beside, asked.name, b".gch")?;
-        }
+        search_asked(rt, source, list, *asked, is_input, bracketed, watching)?;
     }
     Ok(())
 }
@@ -276,74 +319,114 @@ fn take_sources<'a>(
 /// Looks for all that these sources ask for, of which the first is the input.
 fn search_sources<'a, R: Files + AllocGlobal>(
     rt: &R,
-    words: &[OsBytes],
     list: &SearchList<'_>,
     sources: &[Source<'a>],
-    all: &mut [Directives<'a>],
+    all: &[Directives<'a>],
+    bracketed: &mut HashSet<&'a [u8]>,
     watching: &mut Watching<'_, '_>,
 ) -> Result<(), Unwatched> {
-    let probes = probes_in(rt.alloc(), all)?;
-    let mut bracketed = HashSet::new(rt.alloc());
-    let mut said_bracketed = HashSet::new(rt.alloc());
     let mut is_input = true;
-    for (source, found) in sources.iter().zip(all.iter_mut()) {
-        check_guards(rt.alloc(), words, sources, found)?;
-        add_computed(sources, found)?;
-        add_all_probed(source, probes.as_slice(), found)?;
-        let said = said_for(rt.alloc(), words, found)?;
+    for (source, found) in sources.iter().zip(all.iter()) {
         let asked = found.asked.as_slice();
-        search_all(rt, source, list, asked, is_input, &mut bracketed, watching)?;
-        let asked = said.as_slice();
-        search_all(
-            rt,
-            source,
-            list,
-            asked,
-            is_input,
-            &mut said_bracketed,
-            watching,
-        )?;
+        search_all(rt, source, list, asked, is_input, bracketed, watching)?;
         is_input = false;
     }
     Ok(())
 }
 
-/// Has all watched that a text hangs on which is made of these sources, of which the first is the input.
-fn watch_all<'a, R: Files + AllocGlobal>(
+/// Looks for all that a text shows that these sources include, of which the first is the input.
+fn search_shown<'a, R: Files + AllocGlobal>(
     rt: &R,
-    words: &[OsBytes],
     list: &SearchList<'_>,
     sources: &[Source<'a>],
-    all: &mut [Directives<'a>],
-    watching: &mut Watching<'_, 'a>,
+    text: &'a [u8],
+    bracketed: &mut HashSet<&'a [u8]>,
+    watching: &mut Watching<'_, '_>,
 ) -> Result<(), Unwatched> {
-    take_sources(rt.alloc(), sources, all, watching)?;
-    watching.take_folders(rt, list)?;
-    search_words(rt, list, words, watching)?;
-    let name = PREDEFINED;
-    let search = Search::Bracketed;
-    watching.search(rt, list, b"", Asked { name, search })?;
-    search_sources(rt, words, list, sources, all, watching)
+    let Some(shown) = ShownIncludes::of(rt.alloc(), sources, text)? else {
+        return Err(Unwatched::Computed);
+    };
+    for (number, asked) in shown.asked.iter() {
+        let Some(source) = sources.get(*number) else {
+            return Err(Unwatched::Computed);
+        };
+        search_asked(rt, source, list, *asked, *number == 0, bracketed, watching)?;
+    }
+    Ok(())
 }
 
-/// What to watch of a text that is made of these sources, of which the first is the input, by what its compiler said of where it looks.
-pub fn list_of<R: Files + AllocGlobal>(
-    rt: &R,
-    line: &CommandLine,
-    sources: &[Source<'_>],
-    said: &[u8],
-    before: FileTime,
-) -> Result<Vec<u8>, Unwatched> {
-    let alloc = rt.alloc();
-    let words = line.words.as_slice();
-    if are_own_ways(words) || tells_time(words) || asks_for_files(words) {
-        return Err(Unwatched::Words);
+/// The sources of a text, of which the first is the input, and what they ask for.
+#[derive(Drop)]
+pub struct AskingSources<'a> {
+    words: &'a [OsBytes],
+    sources: Vec<Source<'a>>,
+    all: Vec<Directives<'a>>,
+    /// Whether it is clear what they include, without a text that shows it.
+    pub are_clear: bool,
+}
+
+impl<'a> AskingSources<'a> {
+    /// Those of a call of these words.
+    pub fn of(
+        alloc: Global,
+        words: &'a [OsBytes],
+        sources: Vec<Source<'a>>,
+    ) -> Result<AskingSources<'a>, Unwatched> {
+        if are_own_ways(words) || tells_time(words) || asks_for_files(words) {
+            return Err(Unwatched::Words);
+        }
+        let mut all = directives_in(alloc, sources.as_slice())?;
+        let are_clear = add_made(alloc, words, sources.as_slice(), all.as_mut_slice())?;
+        if !are_clear && have_markers(sources.as_slice()) {
+            return Err(Unwatched::Computed);
+        }
+        Ok(AskingSources {
+            words,
+            sources,
+            all,
+            are_clear,
+        })
     }
-    let Some(list) = SearchList::read(alloc, said)? else {
-        return Err(Unwatched::List);
-    };
-    let mut all = directives_in(alloc, sources)?;
-    let mut watching = Watching::new(alloc, line.dir.as_bytes(), before);
-    watch_all(rt, words, &list, sources, all.as_mut_slice(), &mut watching)?;
-    watching.into_list(alloc)
+
+    /// Has all watched that a text hangs on which is made of these sources. It has a line for each include where these aren't clear.
+    fn watch<R: Files + AllocGlobal>(
+        &self,
+        rt: &R,
+        list: &SearchList<'_>,
+        text: &'a [u8],
+        watching: &mut Watching<'_, 'a>,
+    ) -> Result<(), Unwatched> {
+        let (sources, all) = (self.sources.as_slice(), self.all.as_slice());
+        take_sources(rt.alloc(), sources, all, watching)?;
+        watching.take_folders(rt, list)?;
+        search_words(rt, list, self.words, watching)?;
+        let name = PREDEFINED;
+        let search = Search::Bracketed;
+        watching.search(rt, list, b"", Asked { name, search })?;
+        let mut bracketed = HashSet::new(rt.alloc());
+        search_sources(rt, list, sources, all, &mut bracketed, watching)?;
+        if self.are_clear {
+            return Ok(());
+        }
+        search_shown(rt, list, sources, text, &mut bracketed, watching)
+    }
+
+    /// What to watch of a text that is made of these sources, by what its compiler said of where it looks. Where it isn't clear what they
+    /// include, the text has a line for each include (`-dI`).
+    pub fn list<R: Files + AllocGlobal>(
+        self,
+        rt: &R,
+        line: &CommandLine,
+        said: &[u8],
+        text: &'a [u8],
+        before: FileTime,
+    ) -> Result<Vec<u8>, Unwatched> {
+        let alloc = rt.alloc();
+        let Some(list) = SearchList::read(alloc, said)? else {
+            return Err(Unwatched::List);
+        };
+        let mut watching = Watching::new(alloc, line.dir.as_bytes(), before);
+        self.watch(rt, &list, text, &mut watching)?;
+        watching.into_list(alloc)
+    }
 }

@@ -6,7 +6,7 @@ use base_formats::{put_framed, put_number};
 use cache_dir::digest_of;
 use cache_disk::{Found, State, found_at, is_nothing, read_of_size};
 use cache_source_directives::{Asked, Search};
-use cache_watch_lists::{FileRow, Folder, Unwatched, contents_at};
+use cache_watch_lists::{FileRow, Folder, Unwatched, digest_at};
 use std::alloc::Global;
 use std::collections::{BTreeMap, HashMap, HashSet};
 use std::fs;
@@ -210,10 +210,11 @@ impl<'d, 'a> Watching<'d, 'a> {
             self.is_in(rt, beside, name)?;
             return Ok(());
         }
-        if search == Search::Quoted && self.is_in(rt, beside, name)? {
+        let in_all = search == Search::Next;
+        // The next one is looked for as any other where the source was found in none of the folders.
+        if search != Search::Bracketed && self.is_in(rt, beside, name)? && !in_all {
             return Ok(());
         }
-        let in_all = search == Search::Next;
         if search != Search::Bracketed
             && self.is_in_one(rt, list.quoted.as_slice(), name, in_all)?
         {
@@ -336,7 +337,7 @@ impl<'d, 'a> Watching<'d, 'a> {
         for installation in list.installations.as_slice() {
             for folder in [above(installation), above(above(installation))] {
                 let state = State::at(rt, folder)?;
-                let digest = contents_at(rt, folder)?;
+                let digest = digest_at(rt, folder)?;
                 self.files
                     .insert(String::from_str(rt.alloc(), folder)?, (state, digest))?;
             }

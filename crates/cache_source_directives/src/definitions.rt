@@ -4,6 +4,9 @@ use crate::directives::{Asked, behind_spaces, is_letter, is_space, name_ahead};
 use memchr::memmem;
 use std::alloc::AllocError;
 
+/// The spellings of `#`, and the end of a comment.
+const MARKS: &[&[u8]] = &[b"#", b"%:", b"??=", b"*/"];
+
 /// Whether it is a space, or a part of a line continuation.
 fn is_gap(byte: u8) -> bool {
     is_space(byte) || byte == b'\\' || byte == b'\n'
@@ -11,24 +14,34 @@ fn is_gap(byte: u8) -> bool {
 
 /// What comes before spaces and line continuations.
 pub(crate) fn before_gap(front: &[u8]) -> &[u8] {
-    let mut length = front.len();
-    for byte in front.iter().rev() {
-        if !is_gap(*byte) {
-            break;
-        }
-        length = length.saturating_sub(1);
+    match front.iter().rposition(|byte| !is_gap(*byte)) {
+        Some(last) => front.get(..last.saturating_add(1)).unwrap_or(front),
+        None => &[],
     }
-    front.get(..length).unwrap_or(&[])
 }
 
-/// Whether a name that comes after these bytes may be defined there: `define` comes before it, or a comment that may come after `define`.
+/// Whether these bytes may end with a `#`, and a comment that may come after it.
+fn ends_with_mark(front: &[u8]) -> bool {
+    for mark in MARKS {
+        if front.ends_with(mark) {
+            return true;
+        }
+    }
+    false
+}
+
+/// Whether a name that comes after these bytes may be defined there: `define` comes before it, after a `#`, or a comment does that may come
+/// after `define`.
 fn may_be_defined(front: &[u8]) -> bool {
     let before = before_gap(front);
-    before.ends_with(b"define") || before.ends_with(b"*/")
+    match before.strip_suffix(b"define") {
+        Some(front) => ends_with_mark(before_gap(front)),
+        None => before.ends_with(b"*/"),
+    }
 }
 
-/// The name of a file, where a macro stands for nothing else. The text is what comes after the macro's own name.
-fn literal_ahead(behind: &[u8]) -> Option<Asked<'_>> {
+/// The name of a file in quotes or brackets, where a line has nothing else but a comment after it.
+pub fn name_alone(behind: &[u8]) -> Option<Asked<'_>> {
     let operand = behind_spaces(behind);
     let asked = name_ahead(operand)?;
     // The name has a mark on each side.
@@ -61,7 +74,7 @@ fn add_defined_at<'a>(
     let Some(behind) = behind_defined(source, at, name) else {
         return Ok(true);
     };
-    let Some(asked) = literal_ahead(behind) else {
+    let Some(asked) = name_alone(behind) else {
         return Ok(false);
     };
     found.push(asked)?;
@@ -93,7 +106,7 @@ pub fn add_said<'a>(
     let value = definition
         .strip_prefix(name)
         .and_then(|behind| behind.strip_prefix(b"="));
-    let Some(asked) = value.and_then(literal_ahead) else {
+    let Some(asked) = value.and_then(name_alone) else {
         return Ok(false);
     };
     found.push(asked)?;

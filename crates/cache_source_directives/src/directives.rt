@@ -15,7 +15,7 @@ pub enum Search {
     Quoted,
     /// In the folders for names in brackets.
     Bracketed,
-    /// In the folders that come after the one in which the source that asks was found.
+    /// In the folders that come after the one in which the source that asks was found; where that was found in none, as by one of the others.
     Next,
 }
 
@@ -34,8 +34,10 @@ pub struct Directives<'a> {
     pub probes: Vec<&'a [u8]>,
     /// The macros that stand for names that it includes.
     pub computed: Vec<&'a [u8]>,
-    /// The macros without which directives aren't live of which it can't be determined what they include: none of these may be defined.
+    /// The macros without which directives aren't live of which it isn't clear what they include.
     pub guards: Vec<&'a [u8]>,
+    /// Whether it isn't clear either what others include, which have no such macro.
+    pub is_unclear: bool,
     /// Whether it may be taken in once alone.
     pub is_once: bool,
 }
@@ -112,6 +114,26 @@ pub(crate) fn behind_spaces(text: &[u8]) -> &[u8] {
     &[]
 }
 
+/// What comes after the comment at the front of a text. None where it isn't certain where that ends.
+fn behind_comment(text: &[u8]) -> Option<&[u8]> {
+    let inside = text.strip_prefix(b"/*")?;
+    let (comment, behind) = inside.split_at_checked(memmem::find(inside, b"*/")?)?;
+    // The end of a line that goes on may cut the end of a comment in two.
+    if comment.contains(&b'\\') || memmem::find(comment, b"??/").is_some() {
+        return None;
+    }
+    behind.strip_prefix(b"*/")
+}
+
+/// What comes after spaces, and after a comment if one comes then.
+pub(crate) fn behind_gap(text: &[u8]) -> &[u8] {
+    let text = behind_spaces(text);
+    match behind_comment(text) {
+        Some(behind) => behind_spaces(behind),
+        None => text,
+    }
+}
+
 /// The word that a text begins with, and what comes after it.
 pub(crate) fn word_ahead(text: &[u8]) -> (&[u8], &[u8]) {
     for (at, byte) in text.iter().enumerate() {
@@ -124,14 +146,10 @@ pub(crate) fn word_ahead(text: &[u8]) -> (&[u8], &[u8]) {
 
 /// The text without the spaces that it ends with.
 pub(crate) fn before_spaces(text: &[u8]) -> &[u8] {
-    let mut length = text.len();
-    for byte in text.iter().rev() {
-        if !is_space(*byte) {
-            break;
-        }
-        length = length.saturating_sub(1);
+    match text.iter().rposition(|byte| !is_space(*byte)) {
+        Some(last) => text.get(..last.saturating_add(1)).unwrap_or(text),
+        None => &[],
     }
-    text.get(..length).unwrap_or(&[])
 }
 
 /// Whether a directive may begin after these bytes of a source: before it, its line has only spaces and the end of a comment, which
@@ -303,6 +321,7 @@ impl<'a> Directives<'a> {
             probes: Vec::new(alloc),
             computed: Vec::new(alloc),
             guards: Vec::new(alloc),
+            is_unclear: false,
             is_once: false,
         }
     }
@@ -318,36 +337,35 @@ impl<'a> Directives<'a> {
         Ok(true)
     }
 
-    /// Takes what a directive includes, which a macro may stand for. False where it can't be determined what it is.
-    fn take_included(&mut self, operand: &'a [u8], is_next: bool) -> Result<bool, AllocError> {
-        if self.take_name(operand, is_next)? {
-            return Ok(true);
+    /// Takes a directive after these bytes of which it isn't clear what it includes, by a macro without which it isn't live if there is one.
+    fn take_unclear(&mut self, alloc: Global, front: &'a [u8]) -> Result<(), AllocError> {
+        if self.is_unclear {
+            return Ok(());
         }
-        let (name, rest) = word_ahead(behind_spaces(operand));
-        if is_next || name.is_empty() || !behind_spaces(rest).is_empty() {
-            return Ok(false);
+        match guard_behind(alloc, front)? {
+            Some(guard) => self.guards.push(guard)?,
+            None => self.is_unclear = true,
         }
-        self.computed.push(name)?;
-        Ok(true)
+        Ok(())
     }
 
-    /// Takes what a directive that comes after these bytes includes. Where that can't be determined, takes a macro without which it isn't
-    /// live; false where there is none.
-    fn take_live(
+    /// Takes what a directive that comes after these bytes includes, which macros may stand for.
+    fn take_included(
         &mut self,
         alloc: Global,
         front: &'a [u8],
         operand: &'a [u8],
         is_next: bool,
-    ) -> Result<bool, AllocError> {
-        if self.take_included(operand, is_next)? {
-            return Ok(true);
+    ) -> Result<(), AllocError> {
+        if self.take_name(operand, is_next)? {
+            return Ok(());
         }
-        let Some(guard) = guard_behind(alloc, front)? else {
-            return Ok(false);
-        };
-        self.guards.push(guard)?;
-        Ok(true)
+        let (name, rest) = word_ahead(behind_spaces(operand));
+        if is_next || name.is_empty() || !behind_spaces(rest).is_empty() {
+            return self.take_unclear(alloc, front);
+        }
+        self.computed.push(name)?;
+        Ok(())
     }
 
     /// Takes what comes after `pragma`. False where it asks for a file.
@@ -358,29 +376,33 @@ impl<'a> Directives<'a> {
         !asks_for_file(word, second)
     }
 
-    /// Takes a directive: what comes before and after its `#`. False where it can't be determined what it asks for.
+    /// Takes a directive: what comes before its `#`, and what after that and after a comment there. False where it can't be determined what
+    /// it asks for.
     fn take_directive(
         &mut self,
         alloc: Global,
         front: &'a [u8],
         behind: &'a [u8],
     ) -> Result<bool, AllocError> {
-        let behind = behind_spaces(behind);
+        if behind.starts_with(b"//") {
+            return Ok(true);
+        }
         let (word, operand) = word_ahead(behind);
         if matches!(operand, [b'\\', ..]) || matches!(behind, [b'/', ..]) {
             return Ok(false);
         }
         match value_of(KINDS, word) {
-            Some(Kind::Include) => self.take_live(alloc, front, operand, false),
-            Some(Kind::IncludeNext) => self.take_live(alloc, front, operand, true),
+            Some(Kind::Include) => self.take_included(alloc, front, operand, false)?,
+            Some(Kind::IncludeNext) => self.take_included(alloc, front, operand, true)?,
             Some(Kind::Import) => {
                 self.is_once = true;
-                self.take_live(alloc, front, operand, false)
+                self.take_included(alloc, front, operand, false)?;
             }
-            Some(Kind::Pragma) => Ok(self.take_pragma(operand)),
-            Some(Kind::Unfollowed) => Ok(false),
-            None => Ok(true),
+            Some(Kind::Pragma) => return Ok(self.take_pragma(operand)),
+            Some(Kind::Unfollowed) => return Ok(false),
+            None => {}
         }
+        Ok(true)
     }
 
     /// Takes what comes after one probe in a line. False where it can't be determined what it asks for.
@@ -456,7 +478,7 @@ impl<'a> Directives<'a> {
         };
         if let Some(behind) = found.strip_prefix(b"#") {
             return match may_begin_directive(front) {
-                true => self.take_directive(alloc, front, line_ahead(behind)),
+                true => self.take_directive(alloc, front, line_ahead(behind_gap(behind))),
                 false => Ok(true),
             };
         }

@@ -3,7 +3,9 @@
 //! One is only named where that is certain: what begins as a directive is none in a comment, in a string or in a line that goes on.
 
 use crate::definitions::behind_defined;
-use crate::directives::{before_spaces, behind_spaces, may_begin_directive, value_of, word_ahead};
+use crate::directives::{
+    before_spaces, behind_gap, behind_spaces, may_begin_directive, value_of, word_ahead,
+};
 use memchr::{memchr2_iter, memmem};
 use std::alloc::{AllocError, Global};
 
@@ -91,7 +93,7 @@ impl<'a> Groups<'a> {
         if !may_begin_directive(front) {
             return Ok(true);
         }
-        let (word, operand) = word_ahead(behind_spaces(behind));
+        let (word, operand) = word_ahead(behind_gap(behind));
         let Some(kind) = value_of(KINDS, word) else {
             return Ok(true);
         };

@@ -9,9 +9,9 @@ mod hidden;
 mod numbers;
 mod times;
 
-pub use definitions::{add_defined, add_said};
+pub use definitions::{add_defined, add_said, name_alone};
 pub use directives::{Asked, Directives, Search, add_probed, directives_of};
 pub use guards::may_define;
 pub use hidden::asks_for_files;
-pub use numbers::renumbers;
+pub use numbers::{has_markers, renumbers};
 pub use times::{pastes_time, tells_time};

@@ -10,4 +10,4 @@ mod watch_list;
 pub use manifests::{result_holds, with_list, with_results_of, without};
 pub use shared_lists::{lists_taken, lists_to_send};
 pub use unwatched::Unwatched;
-pub use watch_list::{FileRow, Folder, contents_at, holds};
+pub use watch_list::{FileRow, Folder, digest_at, holds};

@@ -259,7 +259,7 @@ fn names_in<R: Files + AllocGlobal>(rt: &R, path: &str) -> Result<String, Unwatc
 }
 
 /// The digest of the contents of a file, as text, or that of the names in a folder.
-pub fn contents_at<R: Files + AllocGlobal>(rt: &R, path: &str) -> Result<String, Unwatched> {
+pub fn digest_at<R: Files + AllocGlobal>(rt: &R, path: &str) -> Result<String, Unwatched> {
     let found = fs::metadata(rt, path)?;
     if found.is_dir() {
         return names_in(rt, path);
@@ -275,8 +275,7 @@ fn file_holds<'a, R: Files + AllocGlobal>(
 ) -> Result<(bool, &'a [u8]), Unwatched> {
     let (row, rest) = file_ahead(bytes)?;
     let path = text_of(row.path)?;
-    let holds = State::at(rt, path)? == row.state
-        || contents_at(rt, path)?.as_bytes() == row.digest;
+    let holds = State::at(rt, path)? == row.state || digest_at(rt, path)?.as_bytes() == row.digest;
     Ok((holds, rest))
 }
 

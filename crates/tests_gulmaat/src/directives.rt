@@ -11,7 +11,7 @@ use std::test::Fail;
 use tests_kit::{holds, is_that, words};
 
 /// Sources, and what they ask for; `none` where that can't be determined.
-const SOURCES: [(&str, &str); 90] = [
+const SOURCES: [(&str, &str); 98] = [
     ("", ""),
     ("int x;\n", ""),
     ("#include \"a.h\"\n", " \"a.h\""),
@@ -32,8 +32,10 @@ const SOURCES: [(&str, &str); 90] = [
     ("#includes <a.h>\n", ""),
     ("#define X include <a.h>\n", ""),
     ("#include NAME\n", " takes NAME"),
-    ("#include NAME // a\n", "none"),
-    ("#include NAME(a)\n", "none"),
+    ("#include NAME // a\n", " unclear"),
+    ("#include NAME(a)\n", " unclear"),
+    ("#include_next NAME\n", " unclear"),
+    ("#include_next NAME(a)\n", " unclear"),
     (
         "#ifdef A_B\n#if X\n#include NAME(a)\n#endif\n#endif\n",
         " unless A_B",
@@ -42,23 +44,32 @@ const SOURCES: [(&str, &str); 90] = [
         "/* a */\n#ifdef A_B /* b */\n/**/\n#include NAME(a)\n",
         " unless A_B",
     ),
-    ("#ifdef A_B\n#endif\n#include NAME(a)\n", "none"),
-    ("#ifdef A_B\n#else\n#include NAME(a)\n#endif\n", "none"),
-    ("#ifndef A_B\n#include NAME(a)\n#endif\n", "none"),
-    ("#ifdef __A_B\n#include NAME(a)\n#endif\n", "none"),
-    ("/*\n#ifdef A_B\n*/\n#include NAME(a)\n", "none"),
-    ("#ifdef A_B\n/*\n#endif\n*/\n#include NAME(a)\n", "none"),
-    ("a \\\n#ifdef A_B\n#include NAME(a)\n", "none"),
-    ("R\"(\n#ifdef A_B\n)\"\n#include NAME(a)\n", "none"),
+    ("#ifdef A_B\n# /* a */\n#include_next NAME\n", " unless A_B"),
+    ("#ifdef A_B\n#endif\n#include NAME(a)\n", " unclear"),
+    (
+        "#ifdef A_B\n# /* a */ endif\n#include NAME(a)\n",
+        " unclear",
+    ),
+    ("#ifdef A_B\n#else\n#include NAME(a)\n#endif\n", " unclear"),
+    ("#ifndef A_B\n#include NAME(a)\n#endif\n", " unclear"),
+    ("#ifdef __A_B\n#include NAME(a)\n#endif\n", " unclear"),
+    ("/*\n#ifdef A_B\n*/\n#include NAME(a)\n", " unclear"),
+    ("#ifdef A_B\n/*\n#endif\n*/\n#include NAME(a)\n", " unclear"),
+    ("a \\\n#ifdef A_B\n#include NAME(a)\n", " unclear"),
+    ("R\"(\n#ifdef A_B\n)\"\n#include NAME(a)\n", " unclear"),
     ("#include\n", ""),
     ("  #include's protect themselves, and so do others\n", ""),
     ("#include (a)\n", ""),
-    ("#include /* a */ <a.h>\n", "none"),
-    ("#/* a */include <a.h>\n", "none"),
+    ("#include /* a */ <a.h>\n", " unclear"),
+    ("#/* a */include <a.h>\n", " <a.h>"),
+    ("# // a\n#include <a.h>\n", " <a.h>"),
+    ("# /* a\n# b\n*/\n#include <a.h>\n", " <a.h>"),
+    ("# /* a\n*/ include <a.h>\n", " <a.h>"),
+    ("# /* a *\\\n/ include <a.h>\n", "none"),
     ("#inc\\\nlude <a.h>\n", "none"),
     ("#\\\ninclude <a.h>\n", "none"),
     ("#include \\\n<a.h>\n", "none"),
-    ("#include \"<a.h>\"\n", "none"),
+    ("#include \"<a.h>\"\n", " unclear"),
     ("#include <a.h\n", ""),
     ("/* a */ #include <a.h> /* b */\n", " <a.h>"),
     ("/* a *\\\n/ #include <a.h>\n", " <a.h>"),
@@ -77,7 +88,7 @@ const SOURCES: [(&str, &str); 90] = [
     ("#inc??/\nlude <a.h>\n", "none"),
     ("int x; ??/ \r\n", "none"),
     ("/* See asm-???/a.h. */\n#include <a.h>\n", " <a.h>"),
-    ("#include \"a??/b.h\"\n", "none"),
+    ("#include \"a??/b.h\"\n", " unclear"),
     ("#embed <a.bin>\n", "none"),
     ("#pragma GCC dependency \"a.h\"\n", "none"),
     ("#pragma GCC diagnostic push\n", ""),
@@ -150,6 +161,7 @@ fn write_found(text: &mut String, found: &Directives<'_>) -> Result<(), AllocErr
     write_names(text, "asks", found.probes.as_slice())?;
     write_names(text, "takes", found.computed.as_slice())?;
     write_names(text, "unless", found.guards.as_slice())?;
+    text.push_str(if found.is_unclear { " unclear" } else { "" })?;
     text.push_str(if found.is_once { " once" } else { "" })
 }
 
@@ -176,7 +188,7 @@ fn sources_ask_for_files(rt: HostRuntime) -> Result<(), Fail> {
 }
 
 /// Sources, and what `NAME` stands for in them; `none` where that may be something other than the name of a file.
-const DEFINED: [(&str, &str); 17] = [
+const DEFINED: [(&str, &str); 20] = [
     ("", ""),
     ("#define NAME <a.h>\n", " <a.h>"),
     ("#define NAME \"a.h\"", " \"a.h\""),
@@ -194,6 +206,9 @@ const DEFINED: [(&str, &str); 17] = [
     ("#define \\\n NAME OTHER\n", "none"),
     ("#define /* a */ NAME OTHER\n", "none"),
     ("#define NAME \\\n <a.h>\n", "none"),
+    ("%: /* a */ define NAME OTHER\n", "none"),
+    ("??=\\\ndefine NAME OTHER\n", "none"),
+    ("// They define NAME as needed.\n", ""),
 ];
 
 /// What a macro stands for in a source, as text.
@@ -219,9 +234,10 @@ fn macros_stand_for_files(rt: HostRuntime) -> Result<(), Fail> {
 }
 
 /// Sources, and whether they may define `A_B` where it isn't defined yet.
-const DEFINING: [(&str, bool); 6] = [
+const DEFINING: [(&str, bool); 7] = [
     ("#define A_B\n", true),
     ("#ifdef A_B\n#define A_B 1\n#endif\n", false),
+    ("#ifdef A_B\n# /* a */ endif\n#define A_B 1\n", true),
     ("#ifdef A_B\n#else\n#define A_B\n#endif\n", true),
     ("#ifdef X_Y\n#define A_B\n#endif\n", true),
     ("/*\n#ifdef A_B */\n#define A_B\n", true),

@@ -2,7 +2,7 @@
 
 use crate::disks::{change, change_all, line_of, make_fresh};
 use base_files::{FileTime, OsBytes};
-use cache_searched_folders::{SearchList, Source, Watching, list_of};
+use cache_searched_folders::{AskingSources, SearchList, Source, Watching};
 use cache_source_directives::{Asked, Search};
 use cache_watch_lists::holds as list_holds;
 use std::alloc::Global;
@@ -166,68 +166,64 @@ fn changes_are_watched(rt: HostRuntime) -> Result<(), Fail> {
     Ok(())
 }
 
-/// Words, a source, and why there is no list of what to watch, if so.
-const SOURCES: [(&str, &str, &str); 16] = [
+/// Words, a source, and why there is no list of what to watch, if so; `unclear` where a text has to show what the source includes.
+const SOURCES: [(&str, &str, &str); 18] = [
     ("-c a.c", "int x;\n", ""),
     ("-c a.c", "#include NAME\n", ""),
     ("-c a.c -DNAME=<x.h>", "#include NAME\n", ""),
     ("-c a.c -D NAME=<x.h>", "#include NAME\n", ""),
-    ("-c a.c -DNAME=OTHER", "#include NAME\n", "computed name"),
-    ("-c a.c -UNAME", "#include NAME\n", "computed name"),
-    ("-c a.c -DNAME_2=<x.h>", "#include NAME\n", "computed name"),
+    ("-c a.c -DNAME=OTHER", "#include NAME\n", "unclear"),
+    ("-c a.c -UNAME", "#include NAME\n", "unclear"),
+    ("-c a.c -DNAME_2=<x.h>", "#include NAME\n", "unclear"),
     ("-c a.c", "#define NAME <x.h>\n#include NAME\n", ""),
     (
         "-c a.c",
         "#define NAME(x) <x.h>\n#include NAME\n",
-        "computed name",
+        "unclear",
     ),
-    (
-        "-c a.c",
-        "#define NAME OTHER\n#include NAME\n",
-        "computed name",
-    ),
+    ("-c a.c", "#define NAME OTHER\n#include NAME\n", "unclear"),
     (
         "-c a.c",
         "#define __NAME <x.h>\n#include __NAME\n",
-        "computed name",
+        "unclear",
     ),
-    (
-        "-c a.c",
-        "#define name <x.h>\n#include name\n",
-        "computed name",
-    ),
+    ("-c a.c", "#define name <x.h>\n#include name\n", "unclear"),
+    ("-c a.c", "#line 7 \"b.c\"\n#include NAME(a)\n", "unclear"),
+    ("-c a.c", "# 7 \"b.c\"\n#include NAME(a)\n", "computed name"),
     ("-c a.c -DNOW=__TIME__", "int x;\n", "option"),
     ("-c a.c -I-", "int x;\n", "option"),
     ("-c a.c", "PASTE(__TI, ME__)\n", "pasted time"),
     ("-c a.c", "#embed <x.bin>\n", "computed name"),
 ];
 
-/// Why there is no list of what to watch, as text; an empty one where there is one.
+/// Why there is no list of what to watch of a source and of the text that shows what it includes; an empty text where there is one.
 fn why_none<R: Files + AllocGlobal>(
     rt: &R,
     folder: &str,
     words: &str,
     source: &str,
+    shown: &str,
 ) -> Result<String, Fail> {
     let alloc: Global = rt.alloc();
     let line = line_of(rt, folder, words)?;
-    let path = "gulmaat_tests_lists/a.c";
-    let contents = source.as_bytes();
+    let mut sources = Vec::new(alloc);
+    sources.push(Source {
+        name: b"a.c",
+        path: "gulmaat_tests_lists/a.c",
+        contents: source.as_bytes(),
+    })?;
     let before = FileTime::from_seconds(i64::MAX);
-    let listed = list_of(
-        rt,
-        &line,
-        &[Source { path, contents }],
-        SAID.as_bytes(),
-        before,
-    );
-    drop(line);
-    let text = match &listed {
-        Ok(_) => Ok(String::new(alloc)),
-        Err(why) => format!(in alloc; "{why}"),
+    let listed = match AskingSources::of(alloc, line.words.as_slice(), sources) {
+        Ok(asking) if shown.is_empty() && !asking.are_clear => {
+            return Ok(String::from_str(alloc, "unclear")?);
+        }
+        Ok(asking) => asking.list(rt, &line, SAID.as_bytes(), shown.as_bytes(), before),
+        Err(why) => Err(why),
     };
-    drop(listed);
-    Ok(text?)
+    match listed {
+        Ok(_) => Ok(String::new(alloc)),
+        Err(why) => Ok(format!(in alloc; "{why}")?),
+    }
 }
 
 #[test]
@@ -236,8 +232,39 @@ fn sources_have_lists(rt: HostRuntime) -> Result<(), Fail> {
     make_fresh(&rt, folder)?;
     change_all(&rt, folder, &TREE)?;
     for (words, source, want) in SOURCES.iter() {
-        let why = why_none(&rt, folder, words, source)?;
+        let why = why_none(&rt, folder, words, source, "")?;
         is_that(why.as_str(), want, source)?;
+    }
+    Ok(())
+}
+
+/// Texts that show what a source includes, and why there is no list of what to watch by them, if so.
+const SHOWN: [(&str, &str); 9] = [
+    ("#include <x.h>\n", ""),
+    ("#include_next \"x.h\" /* clang -E -dI */\n", ""),
+    (
+        "# 1 \"<built-in>\" 1\n#include \"x.h\"\n# 1 \"a.c\" 2\n",
+        "",
+    ),
+    ("# 1 \"b.h\" 1\n# 7 \"c.h\"\n# 2 \"a.c\" 2\n", ""),
+    (
+        "# 1 \"b.h\" 1\n#include <x.h>\n# 2 \"a.c\" 2\n",
+        "computed name",
+    ),
+    ("# 1 \"b.h\" 1\n", "computed name"),
+    ("# 2 \"a.c\" 2\n", "computed name"),
+    ("#include \"x\\\".h\"\n", "computed name"),
+    ("#include NAME\n", "computed name"),
+];
+
+#[test]
+fn texts_show_what_is_included(rt: HostRuntime) -> Result<(), Fail> {
+    let folder = "gulmaat_tests_lists";
+    make_fresh(&rt, folder)?;
+    change_all(&rt, folder, &TREE)?;
+    for (shown, want) in SHOWN.iter() {
+        let why = why_none(&rt, folder, "-c a.c", "#include NAME(a)\n", shown)?;
+        is_that(why.as_str(), want, shown)?;
     }
     Ok(())
 }
