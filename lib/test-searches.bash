@@ -278,18 +278,20 @@ search_unclear() {
     local made='printf "#undef VALUE\n#define VALUE 7\n" >'
     search_tree
     for form in '#x' '<x>'; do
-        printf '#ifdef LIVE\n#define TEXT(x) %s\n#define NAMED(x) TEXT(x)\n#include NAMED(value.h)\n#else\n#define VALUE 5\n#endif\n' "$form" \
-            >beside/trace.h
+        {
+            printf '#ifdef CREATE_TRACE_POINTS\n#undef CREATE_TRACE_POINTS\n#define TEXT(x) %s\n#define NAMED(x) TEXT(x)\n' "$form"
+            printf '#include NAMED(value.h)\n#define CREATE_TRACE_POINTS\n#else\n#define VALUE 5\n#endif\n'
+        } >beside/trace.h
         printf '#include "beside/trace.h"\nint value = VALUE;\n' >it.c
         settle
         search_case "$cc: $form that isn't live" "${made}early/value.h" "rm early/value.h" $cc -Iearly -Ilate
-        search_case "$cc: $form" "${made}early/value.h" "rm early/value.h" $cc -DLIVE -Iearly -Ilate
-        search_case "$cc: $form beside it" "${made}beside/value.h" "rm beside/value.h" $cc -DLIVE -Iearly -Ilate
-        search_case "$cc: $form for quotes" "${made}quoted/value.h" "rm quoted/value.h" $cc -DLIVE -iquote quoted -Iearly -Ilate
-        search_case "$cc: $form, a folder in a folder" "mkdir early/d; ${made}early/d/value.h" "rm -r early/d" $cc -DLIVE -Iearly -Ilate
+        search_case "$cc: $form" "${made}early/value.h" "rm early/value.h" $cc -DCREATE_TRACE_POINTS -Iearly -Ilate
+        search_case "$cc: $form beside it" "${made}beside/value.h" "rm beside/value.h" $cc -DCREATE_TRACE_POINTS -Iearly -Ilate
+        search_case "$cc: $form for quotes" "${made}quoted/value.h" "rm quoted/value.h" $cc -DCREATE_TRACE_POINTS -iquote quoted -Iearly -Ilate
+        search_case "$cc: $form, a folder in a folder" "mkdir early/d; ${made}early/d/value.h" "rm -r early/d" $cc -DCREATE_TRACE_POINTS -Iearly -Ilate
         search_case "$cc: $form that changes" "printf '#define VALUE 9\n' >late/value.h" "printf '#define VALUE 1\n' >late/value.h" \
-            $cc -DLIVE -Ilate
-        printf '#define LIVE\n#include "beside/trace.h"\nint value = VALUE;\n' >it.c
+            $cc -DCREATE_TRACE_POINTS -Ilate
+        printf '#define CREATE_TRACE_POINTS\n#include "beside/trace.h"\nint value = VALUE;\n' >it.c
         settle
         search_case "$cc: $form by the source" "${made}early/value.h" "rm early/value.h" $cc -Iearly -Ilate
     done
