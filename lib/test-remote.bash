@@ -208,13 +208,9 @@ two_machines() {
 # ---- Servers as they are.
 
 remote_builds() {
-    local wanted
     for remote_cc in gcc clang; do
         for remote_words in "-O1 -I include" "-O1 -I include -g -Wall"; do
-            # Of Clang no manifest goes to others: it has the states of folders in it.
-            wanted="6 0"
-            [ $remote_cc = gcc ] || wanted="0 6"
-            two_machines "$remote_cc $remote_words, $1" "$wanted" "$2"
+            two_machines "$remote_cc $remote_words, $1" "6 0" "$2"
             "${@:3}"
         done
     done

@@ -186,6 +186,7 @@ searches() {
     search_spellings "$cc"
     search_names "$cc"
     search_hidden "$cc"
+    search_messages "$cc"
     search_unclear "$cc"
     search_others "$cc"
     cd "$work" || return
@@ -196,8 +197,6 @@ search_spellings() {
     local cc=$1 text
     for text in '/* a */ #include <value.h> /* b */' '/* a *\\\n/ #include <value.h>' '\357\273\277#include <value.h>' \
         '#include <value.h>\nconst char *mark = "%%:";' '// See asm-???/value.h.\n#include <value.h>'; do
-        # Clang warns of a comment whose end goes on in the next line, and beside a message there is no manifest.
-        case $cc$text in clang*'*\\\n/'*) continue ;; esac
         printf "$text\nint value = VALUE;\n" >it.c
         settle
         search_case "$cc: written as $text" 'printf "#define VALUE 7\n" >early/value.h' "rm early/value.h" $cc -Iearly -Ilate
@@ -270,6 +269,25 @@ search_hidden() {
         settle
         search_none "$cc: compared by $text" $cc
     done
+}
+
+# Messages beside texts that don't show what they say, and lines that they quote: each call prints its own.
+search_messages() {
+    local cc=$1
+    search_tree
+    printf '#warning one\n#define VALUE 1\n' >late/value.h
+    settle
+    search_case "$cc: a message of the preprocessor" "printf '#warning two\n#define VALUE 1\n' >late/value.h" \
+        "printf '#warning one\n#define VALUE 1\n' >late/value.h" $cc -Ilate
+    search_case "$cc: a message of the preprocessor that goes" "printf '#define VALUE 1\n' >late/value.h" \
+        "printf '#warning one\n#define VALUE 1\n' >late/value.h" $cc -Ilate
+    printf 'int value(void) { return 1 / 0; } /* one */\n' >it.c
+    settle
+    search_case "$cc: a quoted comment" "printf 'int value(void) { return 1 / 0; } /* two */\n' >it.c" \
+        "printf 'int value(void) { return 1 / 0; } /* one */\n' >it.c" $cc
+    # Clang says that it doesn't use this.
+    search_tree
+    search_case "$cc: a message of the driver" 'printf "#define VALUE 7\n" >early/value.h' "rm early/value.h" $cc -Wl,-z,now -Iearly -Ilate
 }
 
 # Names that macros make, as in headers of Boost and the Linux kernel: the preprocessor shows which these are.

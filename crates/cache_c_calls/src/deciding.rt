@@ -128,7 +128,10 @@ fn turn_of<R: Files + AllocGlobal>(
     given: &Given<'_>,
     known: &mut Known,
 ) -> Result<Turn, HostError> {
-    if !known.may_go_by_manifest(rt, call.line, key)? || !known.may_give(rt, key, given.messages)? {
+    let messages = given.messages;
+    if !known.may_go_by_manifest(rt, call.line, key, messages)?
+        || !known.may_give(rt, key, messages)?
+    {
         return Ok(Turn::Ask);
     }
     if !have_plain_places(rt, given.outputs)? {

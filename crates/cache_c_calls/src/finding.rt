@@ -69,11 +69,11 @@ fn look_up<P: Print + Files + AllocGlobal, I: Read>(
         return Ok(false);
     }
     known.looked_up = Some(key.digest.clone()?);
-    let kept = found(rt, line, key.digest.clone()?, known.preprocessor.as_bytes())?;
+    let kept = found(rt, line, key.digest.clone()?, known.messages_beside_text())?;
     if take_kept(kept, known) {
         return Ok(true);
     }
-    let fetched = fetched(rt, line, host, key, known.preprocessor.as_bytes())?;
+    let fetched = fetched(rt, line, host, key, known.messages_beside_text())?;
     Ok(take_kept(fetched, known))
 }
 
@@ -175,7 +175,7 @@ fn load_result<R: Files + AllocGlobal>(
         return Ok(());
     };
     let digest = had.digest.clone()?;
-    let kept = kept_under(rt, call.line, digest, known.preprocessor.as_bytes())?;
+    let kept = kept_under(rt, call.line, digest, known.messages_beside_text())?;
     take_kept(kept, known);
     known.hint = Some(had);
     Ok(())
@@ -196,7 +196,7 @@ pub(crate) fn load_ahead<R: Files + AllocGlobal>(
     };
     let manifest_name = String::from_str(rt.alloc(), had.manifest_name.as_str())?;
     if known.look_up_manifest(rt, call.line, manifest_name)? {
-        let kept = kept_under(rt, call.line, had.digest.clone()?, &[])?;
+        let kept = kept_under(rt, call.line, had.digest.clone()?, None)?;
         take_kept(kept, known);
     }
     known.hint = Some(had);

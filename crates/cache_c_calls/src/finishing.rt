@@ -5,7 +5,7 @@ ghost use Rattle.std.specs.Prelude.{◌≡◌};
 use crate::deciding::{AskedCall, End, What};
 use base_blake2::Blake2b256;
 use base_files::{Listed, OsBytes};
-use cache_c_known::{Given, Known, keep, note_hint, renew};
+use cache_c_known::{Given, Known, Watched, keep, note_hint, renew};
 use cache_call_log::CallFacts;
 use cache_dir::{Kind, make_room};
 use cache_host::{CommandLine, Host, HostError, into_text};
@@ -70,10 +70,10 @@ fn finish_manifest<R: Files + AllocGlobal>(
     line: &CommandLine,
     newest: Option<&(EntryKey, PreprocessorCacheEntry)>,
     key: &StoreKey,
-    list: Option<&[u8]>,
+    watched: Option<Watched<'_>>,
     known: &Known,
 ) -> Result<bool, HostError> {
-    match (newest, list) {
+    match (newest, watched) {
         (None, _) => {
             if known.keep_noted(rt, line)? {
                 return Ok(true);
@@ -82,8 +82,8 @@ fn finish_manifest<R: Files + AllocGlobal>(
             line.folder.renew(rt, Kind::Manifests, name, line.moment)?;
             Ok(false)
         }
-        (Some(newest), Some(list)) => {
-            known.keep_manifest(rt, line, newest, key, list)?;
+        (Some(newest), Some(watched)) => {
+            known.keep_manifest(rt, line, newest, key, watched)?;
             Ok(true)
         }
         (Some(_), None) => Ok(false),
@@ -97,7 +97,7 @@ fn note_call<R: Files + AllocGlobal>(
     answered: &SessionAnswer<Blake2b256>,
     key: &StoreKey,
     is_kept: bool,
-    list: Option<&[u8]>,
+    watched: Option<Watched<'_>>,
     known: &Known,
 ) -> Result<(), HostError> {
     let AskedCall { line, hint, .. } = call;
@@ -110,7 +110,7 @@ fn note_call<R: Files + AllocGlobal>(
     }
     if !name.is_empty() {
         let newest = answered.session.entries().newest();
-        if let Ok(true) = finish_manifest(rt, line, newest, key, list, known) {
+        if let Ok(true) = finish_manifest(rt, line, newest, key, watched, known) {
             names.push(name)?;
         }
     }
@@ -202,9 +202,10 @@ pub(crate) fn keep_or_give<P: Print + Files<File = File> + AllocGlobal, I: Read>
     }
     // What was made is there, whatever becomes of this.
     if !matches!(audit, Audit::Differs(_)) {
-        let list = list.as_deref();
-        let _ = note_call(rt, call, answered, key, is_kept, list, known);
-        let _ = share_call(rt, line, host, key, is_kept, list.is_some(), known);
+        let messages = given.messages;
+        let watched = list.as_deref().map(|list| Watched { list, messages });
+        let _ = note_call(rt, call, answered, key, is_kept, watched, known);
+        let _ = share_call(rt, line, host, key, is_kept, watched.is_some(), known);
     }
     let how = match (&audit, &known.audited) {
         (Audit::Alike, Some(audited)) => audited.how,

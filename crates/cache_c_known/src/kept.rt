@@ -47,13 +47,13 @@ fn entry_under<R: Files + AllocGlobal>(
     }
 }
 
-/// What is kept under this digest, where the preprocessor printed these messages then: it may print others beside the same text. Nothing
-/// where all is to be kept anew.
+/// What is kept under this digest, where the preprocessor printed these messages then, if it ran: it may print others beside the same text.
+/// Nothing where all is to be kept anew.
 pub fn found<R: Files + AllocGlobal>(
     rt: &R,
     line: &CommandLine,
     digest: OsBytes,
-    messages: &[u8],
+    messages: Option<&[u8]>,
 ) -> Result<Option<Kept>, HostError> {
     if line.settings.is_on(Key::Recache) {
         return Ok(None);
@@ -61,7 +61,7 @@ pub fn found<R: Files + AllocGlobal>(
     let Some(entry) = entry_under(rt, line, digest)? else {
         return Ok(None);
     };
-    if entry.messages.preprocessor.as_bytes() != messages {
+    if messages.is_some_and(|messages| entry.messages.preprocessor.as_bytes() != messages) {
         drop(entry);
         return Ok(None);
     }
@@ -99,7 +99,7 @@ pub fn kept_under<R: Files + AllocGlobal>(
     rt: &R,
     line: &CommandLine,
     digest: OsBytes,
-    messages: &[u8],
+    messages: Option<&[u8]>,
 ) -> Result<Option<Kept>, HostError> {
     match found(rt, line, digest, messages) {
         Err(HostError::Memory) => Err(HostError::Memory),

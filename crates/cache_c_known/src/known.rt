@@ -6,7 +6,9 @@ use crate::audits::Audited;
 use crate::kept::Hint;
 use crate::manifests::KnownManifest;
 use base_files::{Files as CallFiles, Listed, OsBytes};
+use base_formats::put_framed;
 use base_snapshots::SnapshotFiles;
+use cache_dir::digest_of;
 use cache_disk::read_whole;
 use cache_files::results::Kept;
 use cache_format::KeptMessages;
@@ -79,7 +81,7 @@ pub struct Known {
     /// The dependency file that the compile wrote.
     pub(crate) written: Option<OsBytes>,
     /// What the preprocessor printed on its standard error; nothing where it didn't run.
-    pub preprocessor: OsBytes,
+    preprocessor: OsBytes,
     /// What the compile printed on its standard output and its standard error; nothing where it didn't run.
     pub printed: OsBytes,
     pub errors: OsBytes,
@@ -166,17 +168,12 @@ impl Known {
         Ok(true)
     }
 
-    /// Loads what the text printed last names. Direct mode is turned off where it isn't certain what was read for it, or the preprocessor
-    /// printed messages, which no manifest has.
+    /// Loads what the text printed last names. Direct mode is turned off where it isn't certain what was read for it.
     pub fn follow_text<R: Files + AllocGlobal>(
         &mut self,
         rt: &R,
         line: &CommandLine,
     ) -> Result<(), HostError> {
-        if !self.preprocessor.as_bytes().is_empty() {
-            self.turn_off(Unwatched::Messages);
-            return Ok(());
-        }
         self.named.read(rt);
         if !load_named(rt, line, &self.named, &mut self.files, &mut self.tokens)? {
             self.turn_off(Unwatched::Changed);
@@ -355,6 +352,31 @@ impl Known {
             printed: Printed { status, text },
         });
         Ok(())
+    }
+
+    /// What the preprocessor printed on its standard error, where it ran.
+    pub fn messages_beside_text(&self) -> Option<&[u8]> {
+        self.tool
+            .text
+            .as_ref()
+            .map(|_| self.preprocessor.as_bytes())
+    }
+
+    /// The digest of messages: those of a kept result, or else those of this call.
+    pub(crate) fn digest_of_messages(
+        &self,
+        alloc: Global,
+        kept: Option<&KeptMessages>,
+    ) -> Result<String, HostError> {
+        let all = match kept {
+            Some(kept) => [&kept.preprocessor, &kept.printed, &kept.errors],
+            None => [&self.preprocessor, &self.printed, &self.errors],
+        };
+        let mut row = Vec::new(alloc);
+        for messages in all {
+            put_framed(&mut row, messages.as_bytes())?;
+        }
+        Ok(digest_of(alloc, row.as_slice())?)
     }
 
     /// Whether the preprocessor printed a text: an input that it only hands on to a linker has none.

@@ -9,3 +9,4 @@ mod manifests;
 
 pub use kept::{Hint, found, hint_at, hint_name, keep, kept_under, note_hint, renew};
 pub use known::{Given, Known};
+pub use manifests::Watched;

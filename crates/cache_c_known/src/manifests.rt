@@ -4,15 +4,18 @@ ghost use Rattle.std.specs.Prelude.{◌≡◌};
 
 use crate::known::Known;
 use base_files::{FileTime, OsBytes};
-use base_formats::{put_framed, read_framed};
+use base_formats::put_framed;
 use cache_dir::CacheDirError;
 use cache_disk::read_whole;
 use cache_files::manifests::FoundManifest;
 use cache_files::{manifest_under, put_manifest};
+use cache_format::KeptMessages;
 use cache_host::{CommandLine, Host, HostError, messages_of, words_of};
 use cache_searched_folders::{AskingSources, EnteredNames, Source, said_of};
 use cache_source_files::load_all;
-use cache_watch_lists::{Unwatched, result_holds, with_list, with_results_of, without};
+use cache_watch_lists::{
+    Unwatched, WatchedResult, noted_and_rows, result_holds, with_list, with_results_of, without,
+};
 use cache_written_lines::NamedFile;
 use ckeys_include_records::PreprocessorCacheEntry;
 use ckeys_include_records::entry_key::EntryKey;
@@ -52,6 +55,15 @@ fn source_of(file: &NamedFile) -> Result<Option<Source<'_>>, Unwatched> {
     }
 }
 
+/// What a direct hit hangs on beside the files that a text names.
+#[derive(Clone, Copy)]
+pub struct Watched<'a> {
+    /// What to watch of the text.
+    pub list: &'a [u8],
+    /// What was printed beside its result, where that was a hit.
+    pub messages: Option<&'a KeptMessages>,
+}
+
 /// The manifest that a disk keeps, which may fit.
 #[derive(Drop)]
 pub(crate) struct KnownManifest {
@@ -89,20 +101,6 @@ impl KnownManifest {
     }
 }
 
-/// What is noted of headers in what a manifest has beside its results, and the lists after it.
-fn noted_in(watched: &[u8]) -> (&[u8], &[u8]) {
-    let Ok((key, rest)) = read_framed(watched) else {
-        return (&[], watched);
-    };
-    if !key.is_empty() {
-        return (&[], watched);
-    }
-    match read_framed(rest) {
-        Ok((noted, lists)) => (noted, lists),
-        Err(_) => (&[], watched),
-    }
-}
-
 impl Known {
     /// A copy of the manifest that is kept, where direct mode is on.
     pub fn manifest_again(&self) -> Result<Option<(EntryKey, PreprocessorCacheEntry)>, HostError> {
@@ -124,7 +122,7 @@ impl Known {
         line: &CommandLine,
         found: &FoundManifest,
     ) -> Result<bool, HostError> {
-        let noted = noted_in(found.watched.as_bytes()).0;
+        let noted = noted_and_rows(found.watched.as_bytes()).0;
         self.tokens.take_rows(rt.alloc(), noted)?;
         let names = found.names.as_slice();
         load_all(rt, line, names, &mut self.files, &mut self.tokens)
@@ -192,13 +190,14 @@ impl Known {
         true
     }
 
-    /// Whether what lies under this key may be given, where it is known by a manifest alone: the compiler would find the same files now. Where
-    /// it wouldn't, that result is left out from now on.
+    /// Whether what lies under this key may be given with these messages, where it is known by a manifest alone: the compiler would find the same
+    /// files now, and print the same. Where it wouldn't, that result is left out from now on.
     pub fn may_go_by_manifest<R: Files + AllocGlobal>(
         &mut self,
         rt: &R,
         line: &CommandLine,
         key: Option<&StoreKey>,
+        messages: Option<&KeptMessages>,
     ) -> Result<bool, HostError> {
         let (Some(key), None) = (key, &self.tool.text) else {
             return Ok(true);
@@ -207,7 +206,9 @@ impl Known {
             return Ok(true);
         };
         let (dir, digest) = (line.dir.as_bytes(), key.digest.as_bytes());
-        if result_holds(rt, dir, self.record.watched.as_bytes(), digest)? {
+        let messages = self.digest_of_messages(rt.alloc(), messages)?;
+        let rows = noted_and_rows(self.record.watched.as_bytes()).1;
+        if result_holds(rt, dir, rows, digest, messages.as_bytes())? {
             return Ok(true);
         }
         let rest = without(rt.alloc(), entry, digest)?;
@@ -257,9 +258,9 @@ impl Known {
         let sources = self.sources(alloc)?;
         let count = sources.len();
         let asking = AskingSources::of(alloc, words, sources);
-        let is_unclear = matches!(&asking, Err(Unwatched::Computed | Unwatched::Pasted));
+        let is_unknown = matches!(&asking, Err(Unwatched::Computed | Unwatched::Pasted));
         let text = match &self.tool.text {
-            Some(recorded) if is_unclear => recorded.printed.text.as_bytes(),
+            Some(recorded) if is_unknown => recorded.printed.text.as_bytes(),
             _ => return asking,
         };
         let entered = self.entered_sources(alloc, text)?;
@@ -323,29 +324,32 @@ impl Known {
         asking.list(rt, line, said.as_slice(), text.as_slice(), before)
     }
 
-    /// Keeps a manifest that the session put, in which the text of this key has that list, with the results that were left out.
+    /// Keeps a manifest that the session put, in which that is what to watch of the text of this key, with the results that were left out.
     pub fn keep_manifest<R: Files + AllocGlobal>(
         &self,
         rt: &R,
         line: &CommandLine,
         newest: &(EntryKey, PreprocessorCacheEntry),
         key: &StoreKey,
-        list: &[u8],
+        watched: Watched<'_>,
     ) -> Result<(), HostError> {
         let alloc = rt.alloc();
         let whole = match &self.record.whole {
             Some(whole) => with_results_of(alloc, &newest.1, whole)?,
             None => newest.1.clone()?,
         };
-        let dir = line.dir.as_bytes();
-        let digest = key.digest.as_bytes();
+        let messages = self.digest_of_messages(alloc, watched.messages)?;
+        let result = WatchedResult {
+            key: key.digest.as_bytes(),
+            messages: messages.as_bytes(),
+            list: watched.list,
+        };
         let lists = with_list(
             alloc,
-            self.record.watched.as_bytes(),
+            noted_and_rows(self.record.watched.as_bytes()).1,
             &whole,
-            dir,
-            digest,
-            list,
+            line.dir.as_bytes(),
+            result,
         )?;
         self.put_whole(rt, line, &newest.0, &whole, lists.as_slice())
     }
@@ -387,7 +391,7 @@ impl Known {
             line,
             key,
             entry,
-            noted_in(self.record.watched.as_bytes()).1,
+            noted_and_rows(self.record.watched.as_bytes()).1,
         )?;
         Ok(true)
     }

@@ -28,9 +28,9 @@ impl Sealed for KeptResult {
 }
 
 impl Sealed for KeptManifest {
-    const VERSION: u8 = 5;
+    const VERSION: u8 = 6;
 
-    ghost VERSION = { 5 };
+    ghost VERSION = { 6 };
 }
 
 impl Sealed for KeptParts {

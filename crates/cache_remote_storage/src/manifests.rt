@@ -6,13 +6,13 @@ use crate::asking::{Fetched, fetch, name_of, note_failure, note_sealed};
 use crate::results::keep_here;
 use base_blake2::Blake2b256;
 use base_files::OsBytes;
-use base_formats::{put_framed, read_framed};
+use base_formats::put_framed;
 use cache_dir::Kind;
 use cache_files::manifests::{FoundManifest, found_in};
 use cache_format::{KeptManifest, Sealed, seal, unseal};
 use cache_host::{CommandLine, Host, HostError};
 use cache_settings::Key;
-use cache_watch_lists::{lists_taken, lists_to_send};
+use cache_watch_lists::{lists_taken, lists_to_send, noted_and_rows};
 use ckeys_include_records::entry_key::EntryKey;
 use std::alloc::Global;
 use std::io::Read;
@@ -21,17 +21,6 @@ use std::rt::Files;
 /// The name under which the manifest of that name lies.
 pub(crate) fn name_of_manifest(alloc: Global, own: &str) -> Result<String, HostError> {
     name_of(alloc, "m", KeptManifest::VERSION, "c", own)
-}
-
-/// The lists in what a manifest has beside its results, after what is noted of headers.
-fn lists_in(watched: &[u8]) -> &[u8] {
-    let Ok((empty, rest)) = read_framed(watched) else {
-        return watched;
-    };
-    match read_framed(rest) {
-        Ok((_, lists)) if empty.is_empty() => lists,
-        _ => watched,
-    }
 }
 
 /// What a manifest has beside its results, with these lists and nothing noted of headers.
@@ -45,7 +34,8 @@ fn watched_with(alloc: Global, lists: &[u8]) -> Result<OsBytes, HostError> {
 
 /// Takes from a manifest what is noted of headers and its states, and gives its bytes. None where nothing of it is of use then.
 fn sealed_to_send(alloc: Global, kept: &mut KeptManifest) -> Result<Option<Vec<u8>>, HostError> {
-    let Some(lists) = lists_to_send(alloc, lists_in(kept.watched.as_bytes()))? else {
+    let rows = noted_and_rows(kept.watched.as_bytes()).1;
+    let Some(lists) = lists_to_send(alloc, rows)? else {
         return Ok(None);
     };
     kept.watched = watched_with(alloc, lists.as_slice())?;
@@ -109,8 +99,8 @@ fn watched_here<R: Files + AllocGlobal>(
     watched: &OsBytes,
 ) -> Result<OsBytes, HostError> {
     let before = line.settled_before();
-    let lists = lists_in(watched.as_bytes());
-    let taken = lists_taken(rt, line.dir.as_bytes(), lists, before)?;
+    let rows = noted_and_rows(watched.as_bytes()).1;
+    let taken = lists_taken(rt, line.dir.as_bytes(), rows, before)?;
     watched_with(rt.alloc(), taken.as_slice())
 }
 

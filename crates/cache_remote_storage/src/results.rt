@@ -43,14 +43,14 @@ pub(crate) fn keep_here<R: Files + AllocGlobal>(
     }
 }
 
-/// What another machine made under this key, where the preprocessor printed these messages then. It is kept here too. Nothing where all is to be
-/// kept anew.
+/// What another machine made under this key, where the preprocessor printed these messages then, if it ran. It is kept here too. Nothing where
+/// all is to be kept anew.
 pub fn fetched<P: Print + Files + AllocGlobal, I: Read>(
     rt: &P,
     line: &CommandLine,
     host: &mut Host<I>,
     key: &StoreKey,
-    messages: &[u8],
+    messages: Option<&[u8]>,
 ) -> Result<Option<Kept>, HostError>
     ensures { host.new.compiled ≡ host.old.compiled }
 {
@@ -88,11 +88,11 @@ fn keep_result<R: Files + AllocGlobal>(
     Ok(())
 }
 
-/// Counts a result as a hit where the preprocessor printed these messages then.
-fn take_kept<I>(host: &mut Host<I>, entry: KeptResult, messages: &[u8]) -> Option<Kept>
+/// Counts a result as a hit where the preprocessor printed these messages then, if it ran.
+fn take_kept<I>(host: &mut Host<I>, entry: KeptResult, messages: Option<&[u8]>) -> Option<Kept>
     ensures { host.new.compiled ≡ host.old.compiled }
 {
-    if entry.messages.preprocessor.as_bytes() != messages {
+    if messages.is_some_and(|messages| entry.messages.preprocessor.as_bytes() != messages) {
         drop(entry);
         return None;
     }
@@ -106,7 +106,7 @@ fn take_result<R: Files + AllocGlobal, I>(
     line: &CommandLine,
     host: &mut Host<I>,
     key: &StoreKey,
-    messages: &[u8],
+    messages: Option<&[u8]>,
     bytes: &[u8],
 ) -> Result<Option<Kept>, HostError>
     ensures { host.new.compiled ≡ host.old.compiled }

@@ -1,5 +1,5 @@
-//! The lists of what to watch of a manifest's results, kept beside the manifest: the key of a result and its list, each after its length.
-//! A result may have a list for each of several folders in which calls were made.
+//! The lists of what to watch of a manifest's results, kept beside the manifest: the key of a result, which messages were printed beside it,
+//! and its list, each after its length. A result may have a list for each of several folders in which calls were made.
 
 use crate::watch_list::{folder_of, holds};
 use base_formats::{put_framed, read_framed};
@@ -11,26 +11,36 @@ use std::rt::Files;
 /// How many lists are kept of one result.
 const MOST: usize = 4;
 
-/// A result's key and a list.
+/// What to watch of a result.
 #[derive(Clone, Copy)]
-pub(crate) struct Row<'a> {
-    pub(crate) key: &'a [u8],
-    pub(crate) list: &'a [u8],
+pub struct WatchedResult<'a> {
+    pub key: &'a [u8],
+    /// The digest of the messages that were printed beside it: those that are kept beside it may be another call's by now.
+    pub messages: &'a [u8],
+    pub list: &'a [u8],
 }
 
 /// The row at the front of these bytes, and what comes after it.
-fn row_ahead(bytes: &[u8]) -> Option<(Row<'_>, &[u8])> {
+fn row_ahead(bytes: &[u8]) -> Option<(WatchedResult<'_>, &[u8])> {
     let (key, rest) = read_framed(bytes).ok()?;
+    let (messages, rest) = read_framed(rest).ok()?;
     let (list, rest) = read_framed(rest).ok()?;
-    Some((Row { key, list }, rest))
+    Some((
+        WatchedResult {
+            key,
+            messages,
+            list,
+        },
+        rest,
+    ))
 }
 
 /// The rows of these bytes, up to the first that is none.
-pub(crate) fn rows_of(alloc: Global, watched: &[u8]) -> Result<Vec<Row<'_>>, AllocError> {
+pub(crate) fn rows_of(alloc: Global, bytes: &[u8]) -> Result<Vec<WatchedResult<'_>>, AllocError> {
     let mut rows = Vec::new(alloc);
-    let mut rest = watched;
+    let mut rest = bytes;
     // Each turn takes a byte at least.
-    for _ in 0..watched.len() {
+    for _ in 0..bytes.len() {
         let Some((row, behind)) = row_ahead(rest) else {
             break;
         };
@@ -40,15 +50,27 @@ pub(crate) fn rows_of(alloc: Global, watched: &[u8]) -> Result<Vec<Row<'_>>, All
     Ok(rows)
 }
 
-/// Whether a call in that folder finds all files where the text of this key has them from.
+/// What is noted of headers in what a manifest has beside its results, and the rows after that.
+pub fn noted_and_rows(watched: &[u8]) -> (&[u8], &[u8]) {
+    let Ok((empty, rest)) = read_framed(watched) else {
+        return (&[], watched);
+    };
+    match read_framed(rest) {
+        Ok(parts) if empty.is_empty() => parts,
+        _ => (&[], watched),
+    }
+}
+
+/// Whether a call in that folder finds all files where the text of this key has them from, and would print these messages.
 pub fn result_holds<R: Files + AllocGlobal>(
     rt: &R,
     dir: &[u8],
-    watched: &[u8],
+    rows: &[u8],
     key: &[u8],
+    messages: &[u8],
 ) -> Result<bool, AllocError> {
-    for row in rows_of(rt.alloc(), watched)? {
-        if row.key == key && holds(rt, dir, row.list)? {
+    for row in rows_of(rt.alloc(), rows)? {
+        if row.key == key && row.messages == messages && holds(rt, dir, row.list)? {
             return Ok(true);
         }
     }
@@ -77,21 +99,29 @@ fn is_of_folder(list: &[u8], dir: &[u8]) -> bool {
     }
 }
 
-/// Adds a row.
-fn put_row(row: Row<'_>, out: &mut Vec<u8>) -> Result<(), AllocError> {
-    put_framed(out, row.key)?;
-    put_framed(out, row.list)
+impl<'a> WatchedResult<'a> {
+    /// It with another list.
+    pub(crate) fn with(self, list: &'a [u8]) -> WatchedResult<'a> {
+        WatchedResult { list, ..self }
+    }
+
+    /// Adds it as a row.
+    pub(crate) fn put(self, out: &mut Vec<u8>) -> Result<(), AllocError> {
+        put_framed(out, self.key)?;
+        put_framed(out, self.messages)?;
+        put_framed(out, self.list)
+    }
 }
 
 /// Adds a new row for a call in that folder, then the rows of these keys without those that it replaces.
 fn put_rows(
-    new: Row<'_>,
-    rows: &[Row<'_>],
+    new: WatchedResult<'_>,
+    rows: &[WatchedResult<'_>],
     keys: &HashSet<&[u8]>,
     dir: &[u8],
     out: &mut Vec<u8>,
 ) -> Result<(), AllocError> {
-    put_row(new, out)?;
+    new.put(out)?;
     let mut count: usize = 1;
     for row in rows {
         let is_replaced = row.key == new.key && (is_of_folder(row.list, dir) || count >= MOST);
@@ -99,24 +129,23 @@ fn put_rows(
             continue;
         }
         count = count.saturating_add(usize::from(row.key == new.key));
-        put_row(*row, out)?;
+        row.put(out)?;
     }
     Ok(())
 }
 
-/// The lists with this one of the result of that key, for a call in that folder, ahead of those that the manifest's results had.
+/// The rows with that of this result, for a call in that folder, ahead of those that the manifest's results had.
 pub fn with_list(
     alloc: Global,
-    watched: &[u8],
+    rows: &[u8],
     entry: &PreprocessorCacheEntry,
     dir: &[u8],
-    key: &[u8],
-    list: &[u8],
+    new: WatchedResult<'_>,
 ) -> Result<Vec<u8>, AllocError> {
     let keys = keys_of(alloc, entry)?;
-    let rows = rows_of(alloc, watched)?;
+    let rows = rows_of(alloc, rows)?;
     let mut out = Vec::new(alloc);
-    put_rows(Row { key, list }, rows.as_slice(), &keys, dir, &mut out)?;
+    put_rows(new, rows.as_slice(), &keys, dir, &mut out)?;
     Ok(out)
 }
 

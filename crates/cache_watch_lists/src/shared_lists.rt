@@ -80,8 +80,7 @@ pub fn lists_to_send(alloc: Global, lists: &[u8]) -> Result<Option<Vec<u8>>, All
     let mut out = Vec::new(alloc);
     for row in rows_of(alloc, lists)? {
         if let Some(list) = list_to_send(alloc, row.list)? {
-            put_framed(&mut out, row.key)?;
-            put_framed(&mut out, list.as_slice())?;
+            row.with(list.as_slice()).put(&mut out)?;
         }
     }
     match out.is_empty() {
@@ -177,10 +176,9 @@ pub fn lists_taken<R: Files + AllocGlobal>(
     for row in rows_of(rt.alloc(), lists)? {
         let filled = with_states(rt, row.list, before);
         let fits = holds(rt, dir, row.list)?;
-        put_framed(&mut out, row.key)?;
         match &filled {
-            Ok(list) if fits => put_framed(&mut out, list.as_slice())?,
-            _ => put_framed(&mut out, row.list)?,
+            Ok(list) if fits => row.with(list.as_slice()).put(&mut out)?,
+            _ => row.put(&mut out)?,
         }
     }
     Ok(out)

@@ -26,9 +26,6 @@ pub enum Unwatched {
     /// A path can't be asked, or a link leads nowhere.
     #[error("unclear path")]
     Path,
-    /// The preprocessor printed messages, which no manifest has.
-    #[error("message of the preprocessor")]
-    Messages,
     /// A file was changed since the call began, or it isn't certain that it wasn't.
     #[error("changed file")]
     Changed,

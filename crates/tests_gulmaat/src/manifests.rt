@@ -2,12 +2,12 @@
 
 use base_files::Listed;
 use base_formats::{put_framed, put_number};
-use cache_watch_lists::{result_holds, with_list, with_results_of, without};
+use cache_watch_lists::{WatchedResult, result_holds, with_list, with_results_of, without};
 use ckeys_include_records::{KeyText, PreprocessorCacheEntry};
 use std::alloc::{AllocError, Global};
 use std::rt::Files;
 use std::test::Fail;
-use tests_kit::is_that;
+use tests_kit::{holds, is_that};
 
 /// A manifest with results of these letters: the key of each is its letter 64 times.
 fn record_of(alloc: Global, letters: &[&str]) -> Result<PreprocessorCacheEntry, Fail> {
@@ -52,20 +52,26 @@ fn more_lists(
     let key = letter.repeat(alloc, 64)?;
     let list = list_for(alloc, folder)?;
     let record = record_of(alloc, letters)?;
-    let (dir, key) = (folder.as_bytes(), key.as_bytes());
-    let more = with_list(alloc, lists, &record, dir, key, list.as_slice());
+    let result = WatchedResult {
+        key: key.as_bytes(),
+        messages: b"messages",
+        list: list.as_slice(),
+    };
+    let more = with_list(alloc, lists, &record, folder.as_bytes(), result);
     drop(record);
     Ok(more?)
 }
 
-/// Which results hold for a call in a folder, by their letters.
+/// Which results hold for a call in a folder, by their letters. None does where other messages are kept beside it.
 fn holding<R: Files + AllocGlobal>(rt: &R, lists: &[u8], folder: &str) -> Result<String, Fail> {
     let mut letters = String::new(rt.alloc());
     for letter in ["a", "b"] {
         let key = letter.repeat(rt.alloc(), 64)?;
-        if result_holds(rt, folder.as_bytes(), lists, key.as_bytes())? {
+        let (dir, key) = (folder.as_bytes(), key.as_bytes());
+        if result_holds(rt, dir, lists, key, b"messages")? {
             letters.push_str(letter)?;
         }
+        holds(!result_holds(rt, dir, lists, key, b"")?, letter)?;
     }
     Ok(letters)
 }
