@@ -245,6 +245,10 @@ search_names() {
     printf '#ifdef NOW\nint value = 1;\n#endif\n' >it.c
     settle
     search_none "$cc: a time in a word" $cc -DNOW=__TIME__
+    printf '#include "value.h"\nint value = VALUE;\nconst char day[] = __DATE__;\n' >it.c
+    settle
+    search_case "$cc: a day that a word defines" 'printf "#define VALUE 7\n" >early/value.h' "rm early/value.h" \
+        $cc -Wno-builtin-macro-redefined -D__DATE__='"then"' -Iearly -Ilate
     [ "$cc" != gcc ] || {
         printf '#pragma GCC dependency "late/value.h"\nint value;\n' >it.c
         settle

@@ -63,10 +63,23 @@ fn has_macro(text: &[u8]) -> bool {
     false
 }
 
-/// Whether a word of a command has such a macro, or a piece of one.
+/// What of a word may bring a day or a time into a text: all of it, except the name of such a macro that it defines.
+fn telling_part(word: &[u8]) -> &[u8] {
+    let definition = word.strip_prefix(b"-D").unwrap_or(word);
+    for it in MACROS {
+        let behind = definition.strip_prefix(*it);
+        if let Some(value) = behind.and_then(|behind| behind.strip_prefix(b"=")) {
+            return value;
+        }
+    }
+    word
+}
+
+/// Whether a word of a command has such a macro, or a piece of one, but for the name of one that it defines.
 pub fn tells_time(words: &[OsBytes]) -> bool {
     for word in words {
-        if pastes_time(word.as_bytes()) || has_macro(word.as_bytes()) {
+        let text = telling_part(word.as_bytes());
+        if pastes_time(text) || has_macro(text) {
             return true;
         }
     }

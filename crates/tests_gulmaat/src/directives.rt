@@ -289,7 +289,7 @@ fn times_are_pasted(_rt: HostRuntime) -> Result<(), Fail> {
 }
 
 /// Words, whether one of them may bring a day or a time into a text, and whether a macro of theirs may ask for a file.
-const WORDS: [(&str, bool, bool); 10] = [
+const WORDS: [(&str, bool, bool); 15] = [
     ("-c a.c", false, false),
     ("-DNOW=__TIME__ -c a.c", true, false),
     ("-D DAY=__DATE__", true, false),
@@ -304,6 +304,11 @@ const WORDS: [(&str, bool, bool); 10] = [
         true,
     ),
     ("-DHAS=__has_attribute -Iinclude", false, false),
+    ("-D__DATE__= -D__TIME__=\"now\"", false, false),
+    ("-D __TIMESTAMP__=then", false, false),
+    ("-D__DATE__=__TIME__", true, false),
+    ("-D__DATE__=__TI", true, false),
+    ("-Wp,-D__DATE__=then", true, false),
 ];
 
 #[test]
