@@ -68,7 +68,7 @@ const SOURCES: [(&str, &str); 98] = [
     ("# /* a *\\\n/ include <a.h>\n", "none"),
     ("#inc\\\nlude <a.h>\n", "none"),
     ("#\\\ninclude <a.h>\n", "none"),
-    ("#include \\\n<a.h>\n", "none"),
+    ("#include \\\n<a.h>\n", " unclear"),
     ("#include \"<a.h>\"\n", " unclear"),
     ("#include <a.h\n", ""),
     ("/* a */ #include <a.h> /* b */\n", " <a.h>"),
