@@ -368,15 +368,20 @@ impl Known {
         alloc: Global,
         kept: Option<&KeptMessages>,
     ) -> Result<String, HostError> {
-        let all = match kept {
-            Some(kept) => [&kept.preprocessor, &kept.printed, &kept.errors],
-            None => [&self.preprocessor, &self.printed, &self.errors],
-        };
-        let mut row = Vec::new(alloc);
-        for messages in all {
-            put_framed(&mut row, messages.as_bytes())?;
+        match kept {
+            Some(kept) => digest_printed(
+                alloc,
+                kept.preprocessor.as_bytes(),
+                kept.printed.as_bytes(),
+                kept.errors.as_bytes(),
+            ),
+            None => digest_printed(
+                alloc,
+                self.preprocessor.as_bytes(),
+                self.printed.as_bytes(),
+                self.errors.as_bytes(),
+            ),
         }
-        Ok(digest_of(alloc, row.as_slice())?)
     }
 
     /// Whether the preprocessor printed a text: an input that it only hands on to a linker has none.
@@ -534,6 +539,20 @@ impl Known {
             (_, _) => Ok(false),
         }
     }
+}
+
+/// The digest of what a preprocessor printed on its standard error, and a compiler on its standard output and its standard error.
+fn digest_printed(
+    alloc: Global,
+    preprocessor: &[u8],
+    printed: &[u8],
+    errors: &[u8],
+) -> Result<String, HostError> {
+    let mut row = Vec::new(alloc);
+    put_framed(&mut row, preprocessor)?;
+    put_framed(&mut row, printed)?;
+    put_framed(&mut row, errors)?;
+    Ok(digest_of(alloc, row.as_slice())?)
 }
 
 /// Appends a digest to a text, as lines of a file that doesn't exist. An empty digest isn't appended.

@@ -199,6 +199,7 @@ impl Known {
         key: Option<&StoreKey>,
         messages: Option<&KeptMessages>,
     ) -> Result<bool, HostError> {
+        let messages = self.digest_of_messages(rt.alloc(), messages)?;
         let (Some(key), None) = (key, &self.tool.text) else {
             return Ok(true);
         };
@@ -206,7 +207,6 @@ impl Known {
             return Ok(true);
         };
         let (dir, digest) = (line.dir.as_bytes(), key.digest.as_bytes());
-        let messages = self.digest_of_messages(rt.alloc(), messages)?;
         let rows = noted_and_rows(self.record.watched.as_bytes()).1;
         if result_holds(rt, dir, rows, digest, messages.as_bytes())? {
             return Ok(true);
