@@ -6,9 +6,7 @@ use crate::audits::Audited;
 use crate::kept::Hint;
 use crate::manifests::KnownManifest;
 use base_files::{Files as CallFiles, Listed, OsBytes};
-use base_formats::put_framed;
 use base_snapshots::SnapshotFiles;
-use cache_dir::digest_of;
 use cache_disk::read_whole;
 use cache_files::results::Kept;
 use cache_format::KeptMessages;
@@ -81,7 +79,7 @@ pub struct Known {
     /// The dependency file that the compile wrote.
     pub(crate) written: Option<OsBytes>,
     /// What the preprocessor printed on its standard error; nothing where it didn't run.
-    preprocessor: OsBytes,
+    pub(crate) preprocessor: OsBytes,
     /// What the compile printed on its standard output and its standard error; nothing where it didn't run.
     pub printed: OsBytes,
     pub errors: OsBytes,
@@ -318,14 +316,15 @@ impl Known {
         digest_asked(alloc, asked, text, Sources::of(alloc, &mut self.named)?)
     }
 
-    /// The digest of all files that the text names; nothing where a line may be of another file than a marker says.
+    /// The digest of what lies under all names that the text has: a message quotes a line of the file that a marker or a `#line` names, where
+    /// it lies there. Nothing where that can't be determined.
     fn digest_of_sources<R: Files + AllocGlobal>(
         &mut self,
         rt: &R,
     ) -> Result<Option<OsBytes>, HostError> {
         self.named.read(rt);
         let sources = Sources::of(rt.alloc(), &mut self.named)?;
-        if sources.are_renumbered() {
+        if !sources.are_known() {
             return Ok(None);
         }
         Ok(Some(digest_of_contents(rt.alloc(), &sources)?))
@@ -360,28 +359,6 @@ impl Known {
             .text
             .as_ref()
             .map(|_| self.preprocessor.as_bytes())
-    }
-
-    /// The digest of messages: those of a kept result, or else those of this call.
-    pub(crate) fn digest_of_messages(
-        &self,
-        alloc: Global,
-        kept: Option<&KeptMessages>,
-    ) -> Result<String, HostError> {
-        match kept {
-            Some(kept) => digest_printed(
-                alloc,
-                kept.preprocessor.as_bytes(),
-                kept.printed.as_bytes(),
-                kept.errors.as_bytes(),
-            ),
-            None => digest_printed(
-                alloc,
-                self.preprocessor.as_bytes(),
-                self.printed.as_bytes(),
-                self.errors.as_bytes(),
-            ),
-        }
     }
 
     /// Whether the preprocessor printed a text: an input that it only hands on to a linker has none.
@@ -539,20 +516,6 @@ impl Known {
             (_, _) => Ok(false),
         }
     }
-}
-
-/// The digest of what a preprocessor printed on its standard error, and a compiler on its standard output and its standard error.
-fn digest_printed(
-    alloc: Global,
-    preprocessor: &[u8],
-    printed: &[u8],
-    errors: &[u8],
-) -> Result<String, HostError> {
-    let mut row = Vec::new(alloc);
-    put_framed(&mut row, preprocessor)?;
-    put_framed(&mut row, printed)?;
-    put_framed(&mut row, errors)?;
-    Ok(digest_of(alloc, row.as_slice())?)
 }
 
 /// Appends a digest to a text, as lines of a file that doesn't exist. An empty digest isn't appended.

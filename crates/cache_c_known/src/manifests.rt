@@ -5,13 +5,13 @@ ghost use Rattle.std.specs.Prelude.{◌≡◌};
 use crate::known::Known;
 use base_files::{FileTime, OsBytes};
 use base_formats::put_framed;
-use cache_dir::CacheDirError;
+use cache_dir::{CacheDirError, digest_of};
 use cache_disk::read_whole;
 use cache_files::manifests::FoundManifest;
 use cache_files::{manifest_under, put_manifest};
 use cache_format::KeptMessages;
 use cache_host::{CommandLine, Host, HostError, messages_of, words_of};
-use cache_searched_folders::{AskingSources, EnteredNames, Source, said_of};
+use cache_searched_folders::{AskingSources, EnteredNames, Source, TextFiles, said_of};
 use cache_source_files::load_all;
 use cache_watch_lists::{
     Unwatched, WatchedResult, noted_and_rows, result_holds, with_list, with_results_of, without,
@@ -37,22 +37,39 @@ fn language_of(kind: CCompilerKind, key: &StoreKey) -> Option<&'static str> {
     }
 }
 
-/// A file that a text names as a source, if it is a regular one that was read.
-fn source_of(file: &NamedFile) -> Result<Option<Source<'_>>, Unwatched> {
+/// Adds a file that a text names. One that couldn't be read is an error.
+fn add_file<'a>(file: &'a NamedFile, files: &mut TextFiles<'a>) -> Result<(), Unwatched> {
     let Ok(path) = str::from_utf8(file.path.as_bytes()) else {
         return Err(Unwatched::Path);
     };
-    match file.contents() {
-        Some(contents) => {
-            let (name, contents) = (file.name.as_bytes(), contents.as_bytes());
-            Ok(Some(Source {
-                name,
-                path,
-                contents,
-            }))
-        }
-        None => Ok(None),
+    if file.is_missing() {
+        return Ok(files.missing.push(path)?);
     }
+    let Some(contents) = file.contents() else {
+        return Err(Unwatched::Path);
+    };
+    let (name, contents) = (file.name.as_bytes(), contents.as_bytes());
+    Ok(
+        files.sources.push(Source {
+            name,
+            path,
+            contents,
+        })?,
+    )
+}
+
+/// The digest of what a preprocessor printed on its standard error, and a compiler on its standard output and its standard error.
+fn digest_printed(
+    alloc: Global,
+    preprocessor: &[u8],
+    printed: &[u8],
+    errors: &[u8],
+) -> Result<String, HostError> {
+    let mut row = Vec::new(alloc);
+    put_framed(&mut row, preprocessor)?;
+    put_framed(&mut row, printed)?;
+    put_framed(&mut row, errors)?;
+    Ok(digest_of(alloc, row.as_slice())?)
 }
 
 /// What a direct hit hangs on beside the files that a text names.
@@ -190,6 +207,28 @@ impl Known {
         true
     }
 
+    /// The digest of messages: those of a kept result, or else those of this call.
+    fn digest_of_messages(
+        &self,
+        alloc: Global,
+        kept: Option<&KeptMessages>,
+    ) -> Result<String, HostError> {
+        match kept {
+            Some(kept) => digest_printed(
+                alloc,
+                kept.preprocessor.as_bytes(),
+                kept.printed.as_bytes(),
+                kept.errors.as_bytes(),
+            ),
+            None => digest_printed(
+                alloc,
+                self.preprocessor.as_bytes(),
+                self.printed.as_bytes(),
+                self.errors.as_bytes(),
+            ),
+        }
+    }
+
     /// Whether what lies under this key may be given with these messages, where it is known by a manifest alone: the compiler would find the same
     /// files now, and print the same. Where it wouldn't, that result is left out from now on.
     pub fn may_go_by_manifest<R: Files + AllocGlobal>(
@@ -199,13 +238,13 @@ impl Known {
         key: Option<&StoreKey>,
         messages: Option<&KeptMessages>,
     ) -> Result<bool, HostError> {
-        let messages = self.digest_of_messages(rt.alloc(), messages)?;
         let (Some(key), None) = (key, &self.tool.text) else {
             return Ok(true);
         };
         let Some((_, entry)) = &self.record.kept else {
             return Ok(true);
         };
+        let messages = self.digest_of_messages(rt.alloc(), messages)?;
         let (dir, digest) = (line.dir.as_bytes(), key.digest.as_bytes());
         let rows = noted_and_rows(self.record.watched.as_bytes()).1;
         if result_holds(rt, dir, rows, digest, messages.as_bytes())? {
@@ -217,35 +256,30 @@ impl Known {
         Ok(false)
     }
 
-    /// The regular files that the text names, of which the first is the input.
-    fn sources(&self, alloc: Global) -> Result<Vec<Source<'_>>, Unwatched> {
+    /// The files that the text names.
+    fn text_files(&self, alloc: Global) -> Result<TextFiles<'_>, Unwatched> {
         if !self.named.are_all {
             return Err(Unwatched::Computed);
         }
-        let mut sources = Vec::new(alloc);
+        let mut files = TextFiles::new(alloc);
         for file in self.named.files.iter() {
-            if let Some(source) = source_of(file)? {
-                sources.push(source)?;
-            }
+            add_file(file, &mut files)?;
         }
-        Ok(sources)
+        Ok(files)
     }
 
-    /// Those of them that the text takes in, or may take in: a file that only a `#line` directive names isn't read.
-    fn entered_sources(&self, alloc: Global, text: &[u8]) -> Result<Vec<Source<'_>>, Unwatched> {
+    /// Those of them that aren't there, or that the text takes in, or may take in: a file that only a `#line` directive names isn't read.
+    fn entered_files(&self, alloc: Global, text: &[u8]) -> Result<TextFiles<'_>, Unwatched> {
         let names = EnteredNames::of(alloc, text)?;
-        let mut sources = Vec::new(alloc);
+        let mut files = TextFiles::new(alloc);
         let mut is_input = true;
         for file in self.named.files.iter() {
-            if !is_input && !names.may_have(file.name.as_bytes()) {
-                continue;
+            if is_input || file.is_missing() || names.may_have(file.name.as_bytes()) {
+                add_file(file, &mut files)?;
             }
             is_input = false;
-            if let Some(source) = source_of(file)? {
-                sources.push(source)?;
-            }
         }
-        Ok(sources)
+        Ok(files)
     }
 
     /// The sources of the text, and what they ask for. Where that can't be determined, files that the text doesn't take in don't count.
@@ -255,16 +289,16 @@ impl Known {
         line: &'a CommandLine,
     ) -> Result<AskingSources<'a>, Unwatched> {
         let words = line.words.as_slice();
-        let sources = self.sources(alloc)?;
-        let count = sources.len();
-        let asking = AskingSources::of(alloc, words, sources);
+        let files = self.text_files(alloc)?;
+        let count = files.sources.len();
+        let asking = AskingSources::of(alloc, words, files);
         let is_unknown = matches!(&asking, Err(Unwatched::Computed | Unwatched::Pasted));
         let text = match &self.tool.text {
             Some(recorded) if is_unknown => recorded.printed.text.as_bytes(),
             _ => return asking,
         };
-        let entered = self.entered_sources(alloc, text)?;
-        match entered.len() == count {
+        let entered = self.entered_files(alloc, text)?;
+        match entered.sources.len() == count {
             true => asking,
             false => AskingSources::of(alloc, words, entered),
         }
@@ -314,14 +348,15 @@ impl Known {
         }
         let said = said_of(rt, line, host, language, before)?;
         let asking = self.asking_sources(rt.alloc(), line)?;
-        let mut text = Some(Vec::new(rt.alloc()));
-        if !asking.are_clear {
-            text = self.text_with_includes(rt, line, host).unwrap_or(None);
-        }
-        let Some(text) = text else {
-            return Err(Unwatched::Computed);
+        let text = match asking.are_clear {
+            true => Ok(Some(Vec::new(rt.alloc()))),
+            false => self.text_with_includes(rt, line, host),
         };
-        asking.list(rt, line, said.as_slice(), text.as_slice(), before)
+        match text {
+            Ok(Some(text)) => asking.list(rt, line, said.as_slice(), text.as_slice(), before),
+            Err(HostError::Memory) => Err(Unwatched::Memory),
+            Ok(None) | Err(_) => Err(Unwatched::Computed),
+        }
     }
 
     /// Keeps a manifest that the session put, in which that is what to watch of the text of this key, with the results that were left out.

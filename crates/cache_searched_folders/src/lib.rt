@@ -11,5 +11,5 @@ mod watching;
 pub use asking::said_of;
 pub use entered::EnteredNames;
 pub use search_list::SearchList;
-pub use texts::{AskingSources, Source};
+pub use texts::{AskingSources, Source, TextFiles};
 pub use watching::Watching;

@@ -42,6 +42,25 @@ pub struct Source<'a> {
     pub contents: &'a [u8],
 }
 
+/// The files that a text names.
+#[derive(Drop)]
+pub struct TextFiles<'a> {
+    /// Those that are there, of which the first is the input.
+    pub sources: Vec<Source<'a>>,
+    /// The paths of those that aren't, which only a `#line` names: a message quotes lines of one that is there.
+    pub missing: Vec<&'a str>,
+}
+
+impl<'a> TextFiles<'a> {
+    /// None yet.
+    pub fn new(alloc: Global) -> TextFiles<'a> {
+        TextFiles {
+            sources: Vec::new(alloc),
+            missing: Vec::new(alloc),
+        }
+    }
+}
+
 /// What each source asks for, in their order.
 fn directives_in<'a>(
     alloc: Global,
@@ -316,6 +335,18 @@ fn take_sources<'a>(
     Ok(())
 }
 
+/// Has it watched that nothing lies under these paths.
+fn take_missing<R: Files + AllocGlobal>(
+    rt: &R,
+    paths: &[&str],
+    watching: &mut Watching<'_, '_>,
+) -> Result<(), Unwatched> {
+    for path in paths {
+        watching.take_missing(rt, path)?;
+    }
+    Ok(())
+}
+
 /// Looks for all that these sources ask for, of which the first is the input.
 fn search_sources<'a, R: Files + AllocGlobal>(
     rt: &R,
@@ -355,11 +386,12 @@ fn search_shown<'a, R: Files + AllocGlobal>(
     Ok(())
 }
 
-/// The sources of a text, of which the first is the input, and what they ask for.
+/// The files that a text names, and what they ask for.
 #[derive(Drop)]
 pub struct AskingSources<'a> {
     words: &'a [OsBytes],
-    sources: Vec<Source<'a>>,
+    files: TextFiles<'a>,
+    /// What each of those that are there asks for.
     all: Vec<Directives<'a>>,
     /// Whether it is clear what they include, without a text that shows it.
     pub are_clear: bool,
@@ -370,19 +402,20 @@ impl<'a> AskingSources<'a> {
     pub fn of(
         alloc: Global,
         words: &'a [OsBytes],
-        sources: Vec<Source<'a>>,
+        files: TextFiles<'a>,
     ) -> Result<AskingSources<'a>, Unwatched> {
         if are_own_ways(words) || tells_time(words) || asks_for_files(words) {
             return Err(Unwatched::Words);
         }
-        let mut all = directives_in(alloc, sources.as_slice())?;
-        let are_clear = add_made(alloc, words, sources.as_slice(), all.as_mut_slice())?;
-        if !are_clear && have_markers(sources.as_slice()) {
+        let sources = files.sources.as_slice();
+        let mut all = directives_in(alloc, sources)?;
+        let are_clear = add_made(alloc, words, sources, all.as_mut_slice())?;
+        if !are_clear && have_markers(sources) {
             return Err(Unwatched::Computed);
         }
         Ok(AskingSources {
             words,
-            sources,
+            files,
             all,
             are_clear,
         })
@@ -396,8 +429,9 @@ impl<'a> AskingSources<'a> {
         text: &'a [u8],
         watching: &mut Watching<'_, 'a>,
     ) -> Result<(), Unwatched> {
-        let (sources, all) = (self.sources.as_slice(), self.all.as_slice());
+        let (sources, all) = (self.files.sources.as_slice(), self.all.as_slice());
         take_sources(rt.alloc(), sources, all, watching)?;
+        take_missing(rt, self.files.missing.as_slice(), watching)?;
         watching.take_folders(rt, list)?;
         search_words(rt, list, self.words, watching)?;
         let name = PREDEFINED;

@@ -237,6 +237,18 @@ impl<'d, 'a> Watching<'d, 'a> {
         Ok(is_there)
     }
 
+    /// Has it watched that nothing lies under a path.
+    pub fn take_missing<R: Files + AllocGlobal>(
+        &mut self,
+        rt: &R,
+        path: &str,
+    ) -> Result<(), Unwatched> {
+        match self.look(rt, path)? {
+            Found::Nothing => Ok(()),
+            _ => Err(Unwatched::Changed),
+        }
+    }
+
     /// The path of the folder among these that is the same as one in that state, if one of them is.
     fn same_in<R: Files + AllocGlobal>(
         &self,

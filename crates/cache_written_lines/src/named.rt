@@ -96,6 +96,11 @@ impl NamedFile {
         Ok(NamedFile::new(name, path, lying))
     }
 
+    /// Whether nothing lies there.
+    pub fn is_missing(&self) -> bool {
+        matches!(self.lying, Lying::Nothing)
+    }
+
     /// Its contents, where it is a regular file that was read.
     pub fn contents(&self) -> Option<&OsBytes> {
         match &self.lying {

@@ -71,10 +71,10 @@ impl<'a> Source<'a> {
 #[derive(Drop)]
 pub struct Sources<'a> {
     files: HashMap<&'a [u8], Source<'a>>,
-    /// Their names, in the order in which they come first.
+    /// Their names and those under which nothing lies, in the order in which they come first.
     names: Vec<&'a [u8]>,
-    /// Whether one that is named isn't there.
-    lacks: bool,
+    /// Whether it could be determined under each name whether a file lies there.
+    are_known: bool,
 }
 
 impl<'a> Sources<'a> {
@@ -83,21 +83,22 @@ impl<'a> Sources<'a> {
         let mut sources = Sources {
             files: HashMap::new(alloc),
             names: Vec::new(alloc),
-            lacks: false,
+            are_known: true,
         };
         if !named.are_all {
             return Err(HostError::Unreadable);
         }
         named.note_numbers();
         for file in named.files.as_slice() {
+            let name = file.name.as_bytes();
+            sources.names.push(name)?;
             match &file.lying {
                 Lying::File(_, Some(contents)) => {
-                    let name = file.name.as_bytes();
-                    sources.names.push(name)?;
                     let source = Source::new(alloc, contents.as_bytes(), file.renumbers);
                     sources.files.insert(name, source)?;
                 }
-                Lying::Nothing | Lying::Unknown => sources.lacks = true,
+                Lying::Nothing => {}
+                Lying::Unknown => sources.are_known = false,
                 Lying::File(_, None) | Lying::Other => return Err(HostError::Unreadable),
             }
         }
@@ -115,7 +116,7 @@ impl<'a> Sources<'a> {
 
     /// Refuses a text of which a file isn't there, unless a directive may have named it.
     fn check(&self) -> Result<(), HostError> {
-        if self.lacks && !self.are_renumbered() {
+        if self.files.len() < self.names.len() && !self.are_renumbered() {
             return Err(HostError::Changed);
         }
         Ok(())
@@ -134,25 +135,33 @@ impl<'a> Sources<'a> {
         self.files.get(name)
     }
 
-    /// A digest of the contents of all files, in the order in which the text names them, or of those alone by whose directives lines have
-    /// other numbers.
+    /// A digest of what lies under all names, in the order in which the text has them, or of those files alone by whose directives lines
+    /// have other numbers.
     pub fn digest_of(&self, all: bool) -> Digest<Blake2b256> {
         let mut digest = Digest::new();
         for name in self.names.iter() {
-            if let Some(source) = self.files.get(name) {
-                if all || source.renumbers {
-                    feed(&mut digest, source.contents());
-                }
+            match self.files.get(name) {
+                Some(source) if all || source.renumbers => feed(&mut digest, source.contents()),
+                None if all => digest.update(&NOTHING.to_le_bytes()),
+                _ => {}
             }
         }
         digest
     }
 
+    /// Whether it could be determined under each name whether a file lies there.
+    pub fn are_known(&self) -> bool {
+        self.are_known
+    }
+
     /// Whether a directive in one of the files gives lines other numbers.
-    pub fn are_renumbered(&self) -> bool {
+    fn are_renumbered(&self) -> bool {
         self.names.iter().any(|name| self.renumbers(name))
     }
 }
+
+/// Stands for the length of a file that isn't there.
+const NOTHING: u64 = u64::MAX;
 
 /// Feeds the length of bytes, then the bytes.
 fn feed(digest: &mut Digest<Blake2b256>, bytes: &[u8]) {

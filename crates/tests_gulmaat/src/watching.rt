@@ -2,7 +2,7 @@
 
 use crate::disks::{change, change_all, line_of, make_fresh};
 use base_files::{FileTime, OsBytes};
-use cache_searched_folders::{AskingSources, SearchList, Source, Watching};
+use cache_searched_folders::{AskingSources, SearchList, Source, TextFiles, Watching};
 use cache_source_directives::{Asked, Search};
 use cache_watch_lists::holds as list_holds;
 use std::alloc::Global;
@@ -206,14 +206,14 @@ fn why_none<R: Files + AllocGlobal>(
 ) -> Result<String, Fail> {
     let alloc: Global = rt.alloc();
     let line = line_of(rt, folder, words)?;
-    let mut sources = Vec::new(alloc);
-    sources.push(Source {
+    let mut files = TextFiles::new(alloc);
+    files.sources.push(Source {
         name: b"a.c",
         path: "gulmaat_tests_lists/a.c",
         contents: source.as_bytes(),
     })?;
     let before = FileTime::from_seconds(i64::MAX);
-    let listed = match AskingSources::of(alloc, line.words.as_slice(), sources) {
+    let listed = match AskingSources::of(alloc, line.words.as_slice(), files) {
         Ok(asking) if shown.is_empty() && !asking.are_clear => {
             return Ok(String::from_str(alloc, "unclear")?);
         }
