@@ -9,6 +9,7 @@
 #include "host.h"
 #include <errno.h>
 #include <poll.h>
+#include <pwd.h>
 #include <stdint.h>
 #include <stdio.h>
 #include <stdlib.h>
@@ -63,9 +64,21 @@ static int is_empty(int file) {
 
 /* ---- What the program gets, and what it asks for. */
 
+/* The user's home directory: HOME, or else that of /etc/passwd. The host is linked statically, where the library's other ways would load more. */
+static const char *find_home(void) {
+    const char *home = getenv("HOME");
+    FILE *users = home ? NULL : fopen("/etc/passwd", "re");
+    if (!users) return home;
+    struct passwd *user;
+    do user = fgetpwent(users);
+    while (user && user->pw_uid != getuid());
+    fclose(users);
+    return user ? user->pw_dir : NULL;
+}
+
 /* Finds the cache directory: GULMAAT_DIR, or gulmaat in the user's cache folder. Says why there is none. */
 static int find_kept(void) {
-    const char *dir = getenv("GULMAAT_DIR"), *cache = getenv("XDG_CACHE_HOME"), *home = getenv("HOME");
+    const char *dir = getenv("GULMAAT_DIR"), *cache = getenv("XDG_CACHE_HOME"), *home = dir && *dir ? NULL : find_home();
     int size = 0;
     if (dir && *dir) size = snprintf(kept, sizeof kept, "%s", dir);
     else if (cache && *cache == '/') size = snprintf(kept, sizeof kept, "%s/gulmaat", cache);

@@ -32,7 +32,8 @@ static volatile int fault;                  /* why a process couldn't be started
 /* Signals that are handled in another way here than in a compiler, and how the caller handles them. */
 static struct { int number; void (*ours)(int), (*callers)(int); } kinds[3];
 
-/* Opens those of the first three files that the caller had closed, so that no other file gets their numbers. */
+/* Opens those of the first three files that the caller had closed, so that no other file gets their numbers. -1 where that can't be, and where
+ * there is no standard error: a GCC that has something to print there fails then. */
 int hold_closed(void) {
     struct pollfd files[3] = {{0, 0, 0}, {1, 0, 0}, {2, 0, 0}};
     if (poll(files, 3, 0) <= 0) return 0;
@@ -40,7 +41,7 @@ int hold_closed(void) {
         was_closed[file] = (files[file].revents & POLLNVAL) != 0;
         if (was_closed[file] && open("/dev/null", O_RDWR) < 0) return -1;
     }
-    return 0;
+    return was_closed[2] ? -1 : 0;
 }
 
 /* Makes the files in memory. The program has them under the same numbers; a compiler hasn't. It takes the time of messages for that at which

@@ -263,6 +263,9 @@ habits_settings() {
     prints "cache_dir in the user's file" "cache_dir = $PWD/third"$'\n'"$PWD/third" cat found
     is "cache_dir in the user's file: that is where things are kept" [ -d third/results ]
     rm -r "$XDG_CONFIG_HOME"
+    # Without HOME it is in the home directory of the account.
+    env -i PATH="$PATH" "$host" --show-stats >/dev/null
+    is "no HOME" [ $? = 0 ]
 }
 
 # All that is made in the cache directory has the rights that the umask setting leaves, and an object those of the caller's umask.

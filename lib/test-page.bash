@@ -78,7 +78,7 @@ page_lines() {
     printf '[ -t 0 ] && exec 0<&-; read -r line; echo "$line"; echo here >&2; exit 7\n' | stand_in speaks
     is "log: what a compiler prints goes on" [ "$(echo said | "$host" ./speaks 2>errors) $?" = "said 7" ]
     is "log: on both streams" [ "$(cat errors)" = here ]
-    "$host" gcc -c it.c -o it.o >&- 2>&-
+    "$host" gcc -c it.c -o it.o >&- <&-
     is "log: closed streams" [ "$(logged 'it["status"]')" = 0 ]
     # Bytes that aren't UTF-8.
     cp it.c $'a\xffb.c'
