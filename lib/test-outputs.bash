@@ -6,9 +6,11 @@ output_places() {
     local cc=$1 place make
     printf 'int value = 3;\n' >place.c
     "$host" $cc -c place.c -o place.o
-    for place in "a file" "a link to a file" "a link that leads nowhere" "a file of two names" "a read-only file" "a folder" "nothing"; do
+    for place in "a file" "a file of other rights" "an empty file of other rights" "a link to a file" "a link that leads nowhere" "a file of two names" "a read-only file" "a folder" "nothing"; do
         case $place in
             "a file") make='echo old >place.o' ;;
+            "a file of other rights") make='echo old >place.o; chmod 640 place.o' ;;
+            "an empty file of other rights") make=': >place.o; chmod 640 place.o' ;;
             "a link to a file") make='echo old >target; ln -s target place.o' ;;
             "a link that leads nowhere") make='ln -s target place.o' ;;
             "a file of two names") make='echo old >target; ln target place.o' ;;

@@ -75,6 +75,8 @@ rustc_words() {
     passed_by_rustc "another name" --crate-name it --crate-type lib it.rs -o out/other.rlib
     passed_by_rustc "an option that isn't known" $json $lib --emit=link -C llvm-args=-inline-threshold=10
     passed_by_rustc "crates that are searched" $json $lib --emit=link -L .
+    GULMAAT_LOGFILE=$PWD/searched "$host" "$rustc" $json $lib --emit=link -L . 2>/dev/null
+    is "rustc: crates that are searched: the log" grep -q ' unsupported_compiler_option .*(pass: -L \.)$' searched
     echo "--crate-name it it.rs --crate-type lib --out-dir out --emit=link" | tr ' ' '\n' >words
     passed_by_rustc "a file of words" @words
     mark

@@ -10,9 +10,12 @@ use cache_call_log::CallFacts;
 use cache_dir::{Kind, make_room};
 use cache_host::{CommandLine, Host, HostError, into_text};
 use cache_remote_storage::{Shared, share};
-use cache_source_files::{Audit, lock_paths, print_again, write_dependencies, write_outputs};
+use cache_source_files::{
+    Audit, OldFile, lock_paths, print_again, write_dependencies, write_outputs,
+};
 use ckeys_include_records::PreprocessorCacheEntry;
 use ckeys_include_records::entry_key::EntryKey;
+use cmdlines_tables::CCompilerKind;
 use std::alloc::Global;
 use std::fs::File;
 use std::io::Read;
@@ -58,7 +61,11 @@ fn give<R: Files<File = File> + AllocGlobal>(
     let dependency_file = known.dependency_file();
     let locks = lock_paths(rt, line, paths.as_slice(), dependency_file);
     write_dependencies(rt, dependency_file, messages)?;
-    write_outputs(rt, given.outputs)?;
+    let old = match known.kind {
+        CCompilerKind::Gcc => OldFile::IsKeptWhereEmpty,
+        _ => OldFile::IsReplaced,
+    };
+    write_outputs(rt, given.outputs, old)?;
     drop(locks);
     print_again(rt, line, messages)
 }

@@ -1,10 +1,11 @@
 //! What is passed through before the session is asked: words and variables of which it isn't known what rustc makes by them, and messages that
 //! would be written for a terminal. docs/WRAPPER.md says what each does.
 
-use crate::words::unknown_word;
+use crate::words::{UnknownWord, unknown_word};
 use base_files::OsBytes;
 use cache_host::{CommandLine, HostError};
 use cache_settings::Key;
+use std::alloc::Global;
 use std::fs;
 use std::rt::Files;
 
@@ -57,6 +58,16 @@ fn depend_on_terminal<R: Files + AllocGlobal>(rt: &R, line: &CommandLine) -> boo
     !is_told && is_at_terminal(rt)
 }
 
+/// The word, after the option whose value it is.
+fn written(alloc: Global, unknown: UnknownWord<'_>) -> Result<String, HostError> {
+    let word = unknown.word.clone()?;
+    let Some(option) = unknown.option else {
+        return Ok(format!(in alloc; "{word}")?);
+    };
+    let option = option.clone()?;
+    Ok(format!(in alloc; "{option} {word}")?)
+}
+
 /// The variable that speaks against keeping, or the word that isn't known, or that messages are written for a terminal.
 pub fn reason_against<R: Files + AllocGlobal>(
     rt: &R,
@@ -73,9 +84,8 @@ pub fn reason_against<R: Files + AllocGlobal>(
             return Ok(Some(format!(in alloc; "{name}")?));
         }
     }
-    if let Some(word) = unknown_word(words, line.settings.value_of(Key::AllowOptions)) {
-        let word = word.clone()?;
-        return Ok(Some(format!(in alloc; "{word}")?));
+    if let Some(unknown) = unknown_word(words, line.settings.value_of(Key::AllowOptions)) {
+        return Ok(Some(written(alloc, unknown)?));
     }
     match depend_on_terminal(rt, line) {
         true => Ok(Some(String::from_str(alloc, "messages for a terminal")?)),

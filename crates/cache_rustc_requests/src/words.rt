@@ -83,8 +83,15 @@ fn is_allowed(allowed: &str, word: &[u8]) -> bool {
     allowed.split(' ').any(|it| it.as_bytes() == word)
 }
 
+/// A word that isn't known, with the option whose value it is, if it is one.
+#[derive(Clone, Copy)]
+pub struct UnknownWord<'a> {
+    pub option: Option<&'a OsBytes>,
+    pub word: &'a OsBytes,
+}
+
 /// The first word of a command that isn't known, and isn't one of those that a user allows, with spaces between them.
-pub fn unknown_word<'a>(words: &'a [OsBytes], allowed: &str) -> Option<&'a OsBytes> {
+pub fn unknown_word<'a>(words: &'a [OsBytes], allowed: &str) -> Option<UnknownWord<'a>> {
     let mut option: Option<&OsBytes> = None;
     for word in words {
         let bytes = word.as_bytes();
@@ -93,7 +100,7 @@ pub fn unknown_word<'a>(words: &'a [OsBytes], allowed: &str) -> Option<&'a OsByt
             None => is_known(bytes),
         };
         if !is_fine && !is_allowed(allowed, bytes) {
-            return Some(word);
+            return Some(UnknownWord { option, word });
         }
         option = match option {
             None if takes_next(bytes) => Some(word),

@@ -21,7 +21,9 @@ pub use loading::{contents_at, load, load_all, load_named};
 pub use logging::log;
 pub use made_outputs::{Locks, lock_paths, made_since, states_of};
 pub use mounts::devices_in;
-pub use outputs::{have_plain_places, print_again, regular, write_dependencies, write_outputs};
+pub use outputs::{
+    OldFile, have_plain_places, print_again, regular, write_dependencies, write_outputs,
+};
 pub use precompiled::has_precompiled;
 pub use response_words::opened_words;
 pub use tokens::{Tokens, token_of};

@@ -41,9 +41,33 @@ pub fn have_plain_places<R: Files>(rt: &R, outputs: &[Output]) -> Result<bool, H
     Ok(true)
 }
 
-/// Writes a file in the place of an old one. Where it can't be written whole nothing is left of it.
-fn write_anew<R: Files>(rt: &R, path: &str, contents: &[u8]) -> Result<(), HostError> {
-    let _ = fs::remove_file(rt, path);
+/// What becomes of an old file that lies where an output is written.
+#[derive(Clone, Copy, PartialEq, Eq)]
+pub enum OldFile {
+    /// Another one takes its place.
+    IsReplaced,
+    /// One that is empty is written over, and keeps its rights, as by the assembler that GCC runs: `mktemp` makes one that only its user may read.
+    IsKeptWhereEmpty,
+}
+
+/// Whether an empty file lies there.
+fn is_empty<R: Files>(rt: &R, path: &str) -> bool {
+    match fs::metadata(rt, path) {
+        Ok(found) => found.len() == 0,
+        Err(_) => false,
+    }
+}
+
+/// Writes a file where an old one may lie. Where it can't be written whole nothing is left of it.
+fn write_anew<R: Files>(
+    rt: &R,
+    path: &str,
+    contents: &[u8],
+    old: OldFile,
+) -> Result<(), HostError> {
+    if old == OldFile::IsReplaced || !is_empty(rt, path) {
+        let _ = fs::remove_file(rt, path);
+    }
     if let Err(error) = fs::write(rt, path, contents) {
         let _ = fs::remove_file(rt, path);
         return Err(error.into());
@@ -52,9 +76,9 @@ fn write_anew<R: Files>(rt: &R, path: &str, contents: &[u8]) -> Result<(), HostE
 }
 
 /// Writes each output where the request wants it, as compilers do.
-pub fn write_outputs<R: Files>(rt: &R, outputs: &[Output]) -> Result<(), HostError> {
+pub fn write_outputs<R: Files>(rt: &R, outputs: &[Output], old: OldFile) -> Result<(), HostError> {
     for output in outputs {
-        write_anew(rt, text_in(&output.path)?, output.contents.as_bytes())?;
+        write_anew(rt, text_in(&output.path)?, output.contents.as_bytes(), old)?;
     }
     Ok(())
 }
