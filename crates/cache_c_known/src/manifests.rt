@@ -229,6 +229,11 @@ impl Known {
         }
     }
 
+    /// Whether the key is known by a manifest alone.
+    fn goes_by_manifest(&self) -> bool {
+        self.tool.text.is_none() && self.record.kept.is_some()
+    }
+
     /// Whether what lies under this key may be given with these messages, where it is known by a manifest alone: the compiler would find the same
     /// files now, and print the same. Where it wouldn't, that result is left out from now on.
     pub fn may_go_by_manifest<R: Files + AllocGlobal>(
@@ -238,13 +243,13 @@ impl Known {
         key: Option<&StoreKey>,
         messages: Option<&KeptMessages>,
     ) -> Result<bool, HostError> {
-        let (Some(key), None) = (key, &self.tool.text) else {
-            return Ok(true);
-        };
-        let Some((_, entry)) = &self.record.kept else {
+        let (Some(key), true) = (key, self.goes_by_manifest()) else {
             return Ok(true);
         };
         let messages = self.digest_of_messages(rt.alloc(), messages)?;
+        let Some((_, entry)) = &self.record.kept else {
+            return Ok(true);
+        };
         let (dir, digest) = (line.dir.as_bytes(), key.digest.as_bytes());
         let rows = noted_and_rows(self.record.watched.as_bytes()).1;
         if result_holds(rt, dir, rows, digest, messages.as_bytes())? {
