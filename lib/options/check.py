@@ -18,9 +18,12 @@ HELPS = {
     "clang": [["--help-hidden"]],
 }
 
+# The GCCs for other processors, of which those on this machine are looked at.
+OTHERS = [f"{name}-gcc" for name in ("aarch64-linux-gnu", "arm-none-eabi", "mips-linux-gnu", "powerpc64le-linux-gnu", "riscv64-linux-gnu", "s390x-linux-gnu")]
+HELPS.update({name: [["--help=target"]] for name in OTHERS if shutil.which(name)})
 
 # The versions of the compilers in the tables.
-VERSIONS = {"gcc": "12", "clang": "14"}
+VERSIONS = {name: "12" for name in HELPS} | {"clang": "14"}
 RUSTC = "rustc 1.95."
 
 

@@ -1,7 +1,7 @@
 //! The words of GCC and Clang that are known, as texts with a space on both sides of each: with each the object and what is printed hang on
 //! the text, the words and the compiler alone, and nothing is written but the object and what is kept beside it. They are of the help texts
-//! of GCC 12 and Clang 14 (`--help=common,optimizers,c,c++,target`, `--help-hidden`) and of their manuals; lib/options/exceptions says of
-//! each other option there why it isn't here, and bin/check-options that none is forgotten.
+//! of GCC 12, also of those for other processors, and Clang 14 (`--help=common,optimizers,c,c++,target`, `--help-hidden`) and of their
+//! manuals; lib/options/exceptions says of each other option there why it isn't here, and bin/check-options that none is forgotten.
 
 /// Words that are used alone. For `-fno-NAME`, `-mno-NAME` and `-gno-NAME` the form without `no-` is listed.
 pub const WHOLE: &str = " \
@@ -110,30 +110,59 @@ pub const WHOLE: &str = " \
     -fvirtual-function-elimination -fvisibility-from-dllstorageclass -fvisibility-global-new-delete-hidden -fvisibility-inlines-hidden \
     -fvisibility-inlines-hidden-static-local-var -fvisibility-ms-compat -fvtable-gc -fvtable-thunks -fwasm-exceptions -fweak -fweb \
     -fwhole-program -fwhole-program-vtables -fwrapv -fwrapv-pointer -fwritable-strings -fxl-pragma-pack -fzee \
-    -fzero-initialized-in-bss -fzvector -m128bit-long-double -m16 -m32 -m3dnow -m3dnowa -m64 -m80387 -m8bit-idiv -m96bit-long-double \
-    -mabicalls -mabm -maccumulate-outgoing-args -madx -maes -malign-double -malign-stringops -mamdgpu-ieee -mamx-bf16 -mamx-int8 \
-    -mamx-tile -mandroid -mavx -mavx2 -mavx256-split-unaligned-load -mavx256-split-unaligned-store -mavx5124fmaps -mavx5124vnniw \
-    -mavx512bf16 -mavx512bitalg -mavx512bw -mavx512cd -mavx512dq -mavx512er -mavx512f -mavx512fp16 -mavx512ifma -mavx512pf \
-    -mavx512vbmi -mavx512vbmi2 -mavx512vl -mavx512vnni -mavx512vp2intersect -mavx512vpopcntdq -mavxvnni -mbackchain -mbionic -mbmi \
-    -mbmi2 -mbranches-within-32B-boundaries -mbti-at-return-twice -mcall-ms2sysv-xlogues -mcet-switch -mcld -mcldemote -mclflushopt \
-    -mclwb -mclzero -mcmse -mcode-object-v3 -mcrc -mcrc32 -mcumode -mcx16 -mdirect-extern-access -mdispatch-scheduler -meabi \
-    -membedded-data -menable-experimental-extensions -menable-unsafe-fp-math -menqcmd -mexecute-only -mextern-sdata -mf16c \
-    -mfancy-math-387 -mfentry -mfix-cmse-cve-2021-35465 -mfix-cortex-a53-835769 -mfma -mfma4 -mforce-drap -mforce-indirect-call \
-    -mfp-ret-in-387 -mfp32 -mfp64 -mfpxx -mfsgsbase -mfused-madd -mfxsr -mgeneral-regs-only -mgfni -mglibc -mglobal-merge -mgpopt \
-    -mhard-float -mhle -mhreset -mhvx -mhvx-ieee-fp -mhvx-qfloat -miamcu -mibt-seal -mieee-fp -mimplicit-float \
-    -mincremental-linker-compatible -mindirect-branch-cs-prefix -mindirect-branch-register -minline-all-stringops \
-    -minline-stringops-dynamically -mintel-syntax -mips1 -mips2 -mips3 -mips32 -mips32r2 -mips32r3 -mips32r5 -mips32r6 -mips4 -mips5 \
-    -mips64 -mips64r2 -mips64r3 -mips64r5 -mips64r6 -mkl -mlocal-sdata -mlong-calls -mlong-double-128 -mlong-double-64 \
-    -mlong-double-80 -mlvi-cfi -mlvi-hardening -mlwp -mlzcnt -mmadd4 -mmanual-endbr -mmark-bti-property -mmemops -mmitigate-rop -mmmx \
-    -mmovbe -mmovdir64b -mmovdiri -mmovt -mmpx -mms-bitfields -mmsa -mmt -mmusl -mmwait -mmwaitx -mneeded -mneg-immediates -mnocrc \
-    -mnop-mcount -mnvj -mnvs -modd-spreg -momit-leaf-frame-pointer -moutline -moutline-atomics -mpacked-stack -mpackets -mpc32 -mpc64 \
-    -mpc80 -mpclmul -mpcommit -mpconfig -mpku -mpopcnt -mprefer-avx128 -mprefetchwt1 -mprfchw -mptwrite -mpush-args -mqdsp6-compat \
-    -mrdpid -mrdrnd -mrdseed -mrecip -mrecord-mcount -mrecord-return -mred-zone -mrelax -mrelax-all -mrelax-cmpxchg-loop \
-    -mrelax-pic-calls -mrestrict-it -mrtd -mrtm -msahf -msave-restore -mserialize -mseses -msgx -msha -mshstk -mskip-rax-setup \
-    -msoft-float -msse -msse2 -msse2avx -msse3 -msse4 -msse4.1 -msse4.2 -msse4a -msse5 -msseregparm -mssse3 -mstack-arg-probe \
-    -mstackrealign -mstrict-align -mstv -mtbm -mtgsplit -mthread-model -mtls-direct-seg-refs -mtsxldtrk -muclibc -muintr \
-    -munaligned-access -munsafe-fp-atomics -mvaes -mvect8-ret-in-mem -mvpclmulqdq -mvzeroupper -mwaitpkg -mwavefrontsize64 -mwbnoinvd \
-    -mwidekl -mx32 -mxop -mxsave -mxsavec -mxsaveopt -mxsaves ";
+    -fzero-initialized-in-bss -fzvector -m128bit-long-double -m16 -m31 -m32 -m3dnow -m3dnowa -m64 -m80387 -m8bit-idiv \
+    -m96bit-long-double -mabicalls -mabm -mabort-on-noreturn -mabsdata -maccumulate-args -maccumulate-outgoing-args -mads -madx -maes \
+    -malign-branch-targets -malign-double -malign-natural -malign-power -malign-stringops -mallow-movmisalign -maltivec -malways-hint \
+    -mamdgpu-ieee -mamx-bf16 -mamx-int8 -mamx-tile -mandroid -mapcs -mapcs-frame -mapcs-reentrant -mapcs-stack-check -marm \
+    -masm-syntax-unified -mauto-litpools -mavoid-indexed-addresses -mavx -mavx2 -mavx256-split-unaligned-load \
+    -mavx256-split-unaligned-store -mavx5124fmaps -mavx5124vnniw -mavx512bf16 -mavx512bitalg -mavx512bw -mavx512cd -mavx512dq \
+    -mavx512er -mavx512f -mavx512fp16 -mavx512ifma -mavx512pf -mavx512vbmi -mavx512vbmi2 -mavx512vl -mavx512vnni -mavx512vp2intersect \
+    -mavx512vpopcntdq -mavxvnni -mbackchain -mbe32 -mbe8 -mbig -mbig-endian -mbionic -mbit-align -mbit-word -mblock-ops-unaligned-vsx \
+    -mblock-ops-vector-pair -mbmi -mbmi2 -mbranch-likely -mbranches-within-32B-boundaries -mbss-plt -mbti-at-return-twice \
+    -mcall-aixdesc -mcall-eabi -mcall-freebsd -mcall-linux -mcall-ms2sysv-xlogues -mcall-netbsd -mcall-openbsd -mcall-prologues \
+    -mcall-sysv -mcall-sysv-eabi -mcall-sysv-noeabi -mcallee-super-interworking -mcaller-super-interworking -mcet-switch \
+    -mcheck-zero-division -mcld -mcldemote -mclflushopt -mclwb -mclzero -mcmpb -mcmse -mcode-object-v3 -mcompat-align-parm \
+    -mcond-move-float -mcond-move-int -mconst16 -mcrc -mcrc32 -mcrypto -mcumode -mcx16 -mdirect-extern-access -mdirect-move \
+    -mdispatch-scheduler -mdiv -mdivide-breaks -mdivide-traps -mdlmzb -mdmx -mdouble-float -mdsp -mdspr2 -meabi -meb \
+    -mefficient-unaligned-vsx -mel -memb -membedded-data -menable-experimental-extensions -menable-unsafe-fp-math -menqcmd -mesa -meva \
+    -mexecute-only -mexplicit-relocs -mextern-sdata -mf16c -mfancy-math-387 -mfdiv -mfdpic -mfentry -mfix-24k \
+    -mfix-cmse-cve-2021-35465 -mfix-cortex-a53-835769 -mfix-cortex-a53-843419 -mfix-cortex-a57-aes-1742098 \
+    -mfix-cortex-a72-aes-1655431 -mfix-cortex-m3-ldrd -mfix-esp32-psram-cache-issue -mfix-r10000 -mfix-r4000 -mfix-r4400 -mfix-r5900 \
+    -mfix-rm7000 -mfix-sb1 -mfix-vr4120 -mfix-vr4130 -mfix4300 -mflip-mips16 -mflip-thumb -mfloat128 -mfloat128-convert \
+    -mfloat128-hardware -mflush-func -mfma -mfma4 -mforce-drap -mforce-indirect-call -mforce-no-pic -mfp-exceptions -mfp-in-toc \
+    -mfp-ret-in-387 -mfp32 -mfp64 -mfprnd -mfpxx -mfract-convert-truncate -mframe-header-opt -mfriz -mfsgsbase -mfull-toc -mfused-madd \
+    -mfxsr -mgen-cell-microcode -mgeneral-regs-only -mgfni -mginv -mglibc -mglobal-merge -mgnu-attribute -mgp32 -mgp64 -mgpopt \
+    -mhard-dfp -mhard-float -mhle -mhreset -mhtm -mhvx -mhvx-ieee-fp -mhvx-qfloat -miamcu -mibt-seal -mieee-fp -mieee128-constant \
+    -mimadd -mimplicit-float -mincremental-linker-compatible -mindirect-branch-cs-prefix -mindirect-branch-register \
+    -mindirect-branch-table -minline-all-stringops -minline-stringops-dynamically -mint8 -mintel-syntax -minterlink-compressed \
+    -minterlink-mips16 -minterrupts -mips1 -mips16 -mips2 -mips3 -mips32 -mips32r2 -mips32r3 -mips32r5 -mips32r6 -mips3d -mips4 -mips5 \
+    -mips64 -mips64r2 -mips64r3 -mips64r5 -mips64r6 -misel -mkl -mlittle -mlittle-endian -mllsc -mload-store-pairs -mlocal-sdata \
+    -mlong-calls -mlong-double-128 -mlong-double-64 -mlong-double-80 -mlong32 -mlong64 -mlongcall -mlongcalls -mloongson-ext \
+    -mloongson-ext2 -mloongson-mmi -mlow-precision-div -mlow-precision-recip-sqrt -mlow-precision-sqrt -mlra -mlvi-cfi -mlvi-hardening \
+    -mlwp -mlxc1-sxc1 -mlzcnt -mmad -mmadd4 -mmanual-endbr -mmark-bti-property -mmcount-ra-address -mmcu -mmdmx -mmemcpy -mmemops -mmfcrf \
+    -mmfpgpr -mmicromips -mminimal-toc -mmips16 -mmips3d -mmitigate-rop -mmma -mmmx -mmodulo -mmovbe -mmovdir64b -mmovdiri -mmovt \
+    -mmpx -mms-bitfields -mmsa -mmt -mmulhw -mmultiple -mmusl -mmvcle -mmvme -mmwait -mmwaitx -mneeded -mneg-immediates \
+    -mneon-for-64bits -mnewlib -mnocrc -mnop-mcount -mnvj -mnvs -modd-spreg -momit-leaf-frame-pointer -moptimize-swaps -morder1 \
+    -morder2 -moutline -moutline-atomics -mpacked-stack -mpackets -mpaired-single -mpc-relative-literal-loads -mpc32 -mpc64 -mpc80 \
+    -mpclmul -mpcommit -mpconfig -mpcrel -mpcrel-opt -mpic-data-is-text-relative -mpku -mplt -mpltseq -mpmem-wrap-around \
+    -mpointers-to-nested-functions -mpoke-function-name -mpopcnt -mpopcntb -mpopcntd -mpower10 -mpower10-fusion -mpower8-fusion \
+    -mpower8-fusion-sign -mpower8-vector -mpower9-minmax -mpower9-misc -mpower9-vector -mpowerpc -mpowerpc-gfxopt -mpowerpc-gpopt \
+    -mpowerpc64 -mprefer-avx128 -mprefetchwt1 -mprefixed -mprfchw -mprivileged -mprofile-kernel -mprototype -mptwrite -mpure-code \
+    -mpush-args -mqdsp6-compat -mquad-memory -mquad-memory-atomic -mrdpid -mrdrnd -mrdseed -mreadonly-in-sdata -mrecip \
+    -mrecip-precision -mrecord-mcount -mrecord-return -mred-zone -mregnames -mrelative-jumptables -mrelax -mrelax-all \
+    -mrelax-cmpxchg-loop -mrelax-pic-calls -mrelocatable -mrelocatable-lib -mrestrict-it -mriscv-attribute -mrmw -mrop-protect -mrtd \
+    -mrtm -msahf -msave-restore -msave-toc-indirect -msched-epilog -msched-groups -msched-prolog -msdata -msecure-plt -mserialize \
+    -mserialize-volatile -mseses -msgx -msha -mshared -mshlib -mshort-calls -mshorten-memrefs -mshstk -msim -msingle-float \
+    -msingle-pic-base -mskip-bug -mskip-rax-setup -mslow-flash-data -msmall-exec -msmartmips -msoft-float -msp8 \
+    -mspeculate-indirect-jumps -msplat-float-constant -msplat-word-constant -msplit-addresses -msse -msse2 -msse2avx -msse3 -msse4 \
+    -msse4.1 -msse4.2 -msse4a -msse5 -msseregparm -mssse3 -mstack-arg-probe -mstack-guard -mstack-size -mstackrealign -mstrict-X \
+    -mstrict-align -mstring -mstv -msum-in-toc -msym32 -msynci -mtarget-align -mtbm -mtext-section-literals -mtgsplit -mthread-model \
+    -mthumb -mthumb-interwork -mtiny-stack -mtls-direct-seg-refs -mtoc -mtpcs-frame -mtpcs-leaf-frame -mtraceback -mtrack-speculation \
+    -mtsxldtrk -muclibc -muintr -munaligned-access -muninit-const-in-rodata -munroll-only-small-loops -munsafe-fp-atomics -mupdate \
+    -mvaes -mvect8-ret-in-mem -mvectorize-with-neon-double -mvectorize-with-neon-quad -mvirt -mvpclmulqdq -mvr4130-align -mvrsave \
+    -mvsx -mvsx-align-128 -mvsx-timode -mvx -mvx-long-double-fma -mvzeroupper -mwaitpkg -mwarn-altivec-long -mwarn-dynamicstack \
+    -mwavefrontsize64 -mwbnoinvd -mwidekl -mword-relocations -mx32 -mxgot -mxl-compat -mxop -mxpa -mxsave -mxsavec -mxsaveopt -mxsaves \
+    -myellowknife -mzarch -mzvector -nodevicelib ";
 
 /// Words up to their first `=`, with what may come after it: `#` is a number, or several with colons or commas between them, `*` is any text,
 /// and else it is one or more of these names, with commas between them.
@@ -181,9 +210,18 @@ pub const VALUED: &str = " \
     -mmacosx-version-min=* -mmemcpy-strategy=* -mmemset-strategy=* -mmnemonic=att,intel -mmove-max=# -mpad-max-prefix-size=# \
     -mprefer-vector-width=none,128,256,512 -mpreferred-stack-boundary=# -mrecip=* -mregparm=# -mrelax-relocations=yes,no \
     -msmall-data-limit=# -mstack-alignment=# -mstack-probe-size=# -mstack-protector-guard-offset=* -mstack-protector-guard-reg=* \
-    -mstack-protector-guard-symbol=* -mstack-protector-guard=global,tls -mstore-max=# -mstringop-strategy=* -msve-vector-bits=* \
-    -msyntax=att,intel -mtls-dialect=* -mtls-size=# -mtp=* -mtune-ctrl=* -mtune=* -mveclibabi=* -mvscale-max=# -mvscale-min=# \
-    -mx86-used-note=yes,no -std=* -stdlib=libc++,libstdc++,platform -rtlib=libgcc,compiler-rt,platform \
+    -mstack-protector-guard-symbol=* -mstack-protector-guard=global,tls,sysreg,canary -mstore-max=# -mstringop-strategy=* \
+    -msve-vector-bits=* -msyntax=att,intel -mtls-dialect=* -mtls-size=# -mtp=* -mtune-ctrl=* -mtune=* -mveclibabi=* -mvscale-max=# \
+    -mvscale-min=# -mx86-used-note=yes,no \
+    -mabs=2008,legacy -mblock-compare-inline-limit=# -mblock-compare-inline-loop-limit=# -mblock-move-inline-limit=# \
+    -mcode-readable=yes,no,pcrel -mcompact-branches=never,optimal,always -mextra-l32r-costs=# \
+    -mfix-esp32-psram-cache-strategy=memw,nops,dupldst -mflush-func=* -mfp16-format=none,ieee,alternative -mfunction-return-mem=* \
+    -mfunction-return-reg=* -mhotpatch=# -mindirect-branch-call=* -mindirect-branch-jump=* -minsert-sched-nops=* -misa-spec=* \
+    -mmax-inline-memcpy-size=# -mmcu=* -mn-flash=# -mnan=2008,legacy -mnon-bit-addressable-registers-mask=* -moverride=* \
+    -mpic-register=* -mprioritize-restricted-insns=# -mr10k-cache-barrier=none,store,load-store -msched-costly-dep=* \
+    -msdata=none,data,sysv,eabi -msign-return-address=none,non-leaf,all -mstack-guard=# -mstack-size=# -mstring-compare-inline-limit=# \
+    -mstructure-size-boundary=# -mtraceback=full,part,no -mvrsave=yes,no -mwarn-framesize=# \
+    -std=* -stdlib=libc++,libstdc++,platform -rtlib=libgcc,compiler-rt,platform \
     -unwindlib=none,libgcc,libunwind,platform --std=* --sysroot=* --target=* --gcc-toolchain=* ";
 
 /// Words for the assembler, after `-Wa,` or `-Xassembler`: whole, or up to their `=`, with what may come after it as in `VALUED`. With each an
@@ -194,7 +232,8 @@ pub const ASSEMBLER: &str = " \
     --nocompress-debug-sections --elf-stt-common=yes,no --generate-missing-build-notes=yes,no --size-check=error,warning \
     --multibyte-handling=allow,warn,warn-sym-only --hash-size=# --gsframe --sectname-subst -no-pad-sections -J -k -n -O -O0 -O1 -O2 -Os \
     -q -Qn -Qy -R -march=* -mtune=* -mcpu=* -mfpu=* -mabi=* -mfloat-abi=soft,softfp,hard -mimplicit-it=never,always,arm,thumb -mthumb \
-    -mthumb-interwork -mbig-obj -mshared -mrelax-relocations=yes,no -mx86-used-note=yes,no -mbranches-within-32B-boundaries \
+    -mthumb-interwork -mno-warn-deprecated -mwarn-deprecated -EB -EL -mlittle-endian -mbig-endian -mbig-obj -mshared \
+    -mrelax-relocations=yes,no -mx86-used-note=yes,no -mbranches-within-32B-boundaries \
     -malign-branch-boundary=# -malign-branch-prefix-size=# -malign-branch=* -mlfence-after-load=yes,no \
     -mlfence-before-ret=none,or,not,shl,yes -mlfence-before-indirect-branch=none,all,register,memory -momit-lock-prefix=yes,no \
     -mfence-as-lock-add=yes,no -msse2avx -muse-unaligned-vector-move -msse-check=none,error,warning \
