@@ -231,5 +231,9 @@ END
     printf 'for word; do case $word in -fdiagnostics-color*) echo "no such word" >&2; exit 1 ;; esac; done\nexec gcc "$@"\n' | stand_in old-gcc
     ln -sf old-gcc gcc
     kept_case "$PWD/gcc" "CC -Wall -c foo.c"
+    # One for another processor has options of its own.
+    mkdir -p other
+    printf 'for word; do shift; case $word in -mthumb | -mcpu=*) ;; *) set -- "$@" "$word" ;; esac; done\nexec gcc "$@"\n' | stand_in other/gcc
+    kept_case "$PWD/other/gcc" "CC -O2 -mcpu=cortex-m4 -mthumb -c foo.c"
     cd "$work" || return
 }
