@@ -53,11 +53,14 @@ class Known:
         self.valued = {word.partition("=")[0] for word in words_of(named["VALUED"])}
         self.take = set(re.findall(r'"([^"]*)"', lists["TAKE_NEXT"] + lists["TAKE_KNOWN"]))
         self.fronts = tuple(re.findall(r'"([^"]*)"', lists["FRONTS"]))
+        self.off = set(re.findall(r'"([^"]*)"', lists["OFF"]))
         self.others = tuple(re.findall(r'"([^"]*)"', lists["OTHERS"]))
 
     def has(self, word):
         """Whether an option is known, as a help text writes it."""
         option = re.sub(r"[=<\[].*", "", word)
+        if option in self.off:
+            return True
         option = re.sub(r"^-([fmg])no-", r"-\1", option)
         if word in self.take or option in self.take:
             return True

@@ -1,7 +1,9 @@
 //! The words of GCC and Clang that are known, as texts with a space on both sides of each: with each the object and what is printed hang on
 //! the text, the words and the compiler alone, and nothing is written but the object and what is kept beside it. They are of the help texts
 //! of GCC 12, also of those for other processors, and Clang 14 (`--help=common,optimizers,c,c++,target`, `--help-hidden`) and of their
-//! manuals; lib/options/exceptions says of each other option there why it isn't here, and bin/check-options that none is forgotten.
+//! manuals; lib/options/exceptions says of each other option there why it isn't here, and bin/check-options that none is forgotten. Of the
+//! manuals of later versions are those that kernels and distributions have in each call: `-fhardened`, `-fmin-function-alignment`,
+//! `-fstrict-flex-arrays` and `-fzero-init-padding-bits`.
 
 /// Words that are used alone. For `-fno-NAME`, `-mno-NAME` and `-gno-NAME` the form without `no-` is listed.
 pub const WHOLE: &str = " \
@@ -11,7 +13,7 @@ pub const WHOLE: &str = " \
     -shared-libgcc -static-openmp -Qunused-arguments -Qn -Qy -canonical-prefixes -no-canonical-prefixes --start-no-unused-arguments \
     --end-no-unused-arguments -g -g0 -g1 -g2 -g3 -ggdb -ggdb0 -ggdb1 -ggdb2 -ggdb3 -gdwarf -gdwarf-2 -gdwarf-3 -gdwarf-4 -gdwarf-5 \
     -gdwarf32 -gdwarf64 -gstabs -gstabs0 -gstabs1 -gstabs2 -gstabs3 -gstabs+ -gas-loc-support -gas-locview-support -gbtf -gctf -gctf0 \
-    -gctf1 -gctf2 -gcolumn-info -gdescribe-dies -ggnu-pubnames -gpubnames -ginline-points -ginternal-reset-location-views \
+    -gctf1 -gctf2 -gcolumn-info -gdescribe-dies -gdwarf-aranges -ggnu-pubnames -gpubnames -ginline-points -ginternal-reset-location-views \
     -gsplit-dwarf -gstatement-frontiers -gstrict-dwarf -gtoggle -gvariable-location-views -gz -gline-tables-only \
     -gline-directives-only -ginline-line-tables -glldb -gsce -gdbx -gvms -fversion-loops-for-strides -fPIC -fPIE -faapcs-bitfield-load \
     -faapcs-bitfield-width -faccess-control -faddrsig -faggressive-loop-optimizations -falign-functions -falign-jumps -falign-labels \
@@ -52,7 +54,7 @@ pub const WHOLE: &str = " \
     -ffixed-x26 -ffixed-x27 -ffixed-x28 -ffixed-x29 -ffixed-x3 -ffixed-x30 -ffixed-x31 -ffixed-x4 -ffixed-x5 -ffixed-x6 -ffixed-x7 \
     -ffixed-x8 -ffixed-x9 -ffloat-store -ffold-simple-inlines -ffor-scope -fforce-addr -fforce-dwarf-frame -fforce-emit-vtables \
     -fforce-enable-int128 -fforward-propagate -ffp-int-builtin-inexact -ffreestanding -ffriend-injection -ffunction-cse \
-    -ffunction-sections -fgcse -fgcse-after-reload -fgcse-las -fgcse-lm -fgcse-sm -fglobal-isel -fgnu-inline-asm -fgnu-keywords \
+    -ffunction-sections -fhardened -fgcse -fgcse-after-reload -fgcse-las -fgcse-lm -fgcse-sm -fglobal-isel -fgnu-inline-asm -fgnu-keywords \
     -fgnu-tm -fgnu-unique -fgnu89-inline -fgraphite -fgraphite-identity -fguess-branch-probability -fguiding-decls -fhandle-exceptions \
     -fharden-compares -fharden-conditional-branches -fhoist-adjacent-loads -fhonor-std -fhosted -fhuge-objects -fident -fif-conversion \
     -fif-conversion2 -fignore-exceptions -fimplement-inlines -fimplicit-constexpr -fimplicit-inline-templates -fimplicit-templates \
@@ -63,7 +65,8 @@ pub const WHOLE: &str = " \
     -fipa-reference -fipa-reference-addressable -fipa-sra -fipa-stack-alignment -fipa-strict-aliasing -fipa-struct-reorg -fipa-vrp \
     -fira-hoist-pressure -fira-loop-pressure -fira-share-save-slots -fira-share-spill-slots -fisolate-erroneous-paths-attribute \
     -fisolate-erroneous-paths-dereference -fivopts -fjump-tables -fkeep-gc-roots-live -fkeep-inline-functions -fkeep-static-consts \
-    -fkeep-static-functions -flabels-ok -flarge-source-files -flax-vector-conversions -fleading-underscore -flegacy-pass-manager \
+    -fkeep-static-functions -flabels-ok -flimit-debug-info -fstandalone-debug -flarge-source-files -flax-vector-conversions \
+    -fleading-underscore -flegacy-pass-manager \
     -flifetime-dse -flimit-function-alignment -flive-patching -flive-range-shrinkage -floop-block -floop-flatten -floop-interchange \
     -floop-nest-optimize -floop-optimize -floop-parallelize-all -floop-strip-mine -floop-unroll-and-jam -flra-remat -flto \
     -flto-odr-type-merging -fmath-errno -fmerge-all-constants -fmerge-constants -fmerge-debug-strings -fmodulo-sched \
@@ -93,7 +96,7 @@ pub const WHOLE: &str = " \
     -fsplit-loops -fsplit-lto-unit -fsplit-machine-functions -fsplit-paths -fsplit-stack -fsplit-wide-types -fsplit-wide-types-early \
     -fsquangle -fssa-backprop -fssa-phiopt -fstack-check -fstack-clash-protection -fstack-limit -fstack-protector \
     -fstack-protector-all -fstack-protector-explicit -fstack-protector-strong -fstack-size-section -fstandalone-debug -fstdarg-opt \
-    -fstore-merging -fstrength-reduce -fstrict-aliasing -fstrict-enums -fstrict-float-cast-overflow -fstrict-overflow \
+    -fstore-merging -fstrength-reduce -fstrict-aliasing -fstrict-enums -fstrict-flex-arrays -fstrict-float-cast-overflow -fstrict-overflow \
     -fstrict-prototype -fstrict-return -fstrict-volatile-bitfields -fstrict-vtable-pointers -fstrong-eval-order -fsync-libcalls \
     -fthis-is-variable -fthread-jumps -fthreadsafe-statics -ftoplevel-reorder -ftracer -ftrack-macro-expansion -ftrampolines \
     -ftrapping-math -ftrapv -ftree-bit-ccp -ftree-builtin-call-dce -ftree-ccp -ftree-ch -ftree-coalesce-inlined-vars \
@@ -195,7 +198,8 @@ pub const VALUED: &str = " \
     -ftrivial-auto-var-init=uninitialized,pattern,zero -ftrivial-auto-var-init-stop-after=# -fuse-ld=* \
     -fvect-cost-model=unlimited,dynamic,cheap,very-cheap -fvisibility=default,internal,hidden,protected -fwide-exec-charset=* \
     -fzero-call-used-regs=* -faltivec-src-compat=xl,gcc,mixed -fbinutils-version=* -fc++-abi=* -fclang-abi-compat=* \
-    -fcomment-block-commands=* -fdebug-compilation-dir=* -fdebug-default-version=# -fextend-arguments=32,64 -ffile-compilation-dir=* \
+    -fcomment-block-commands=* -fcrash-diagnostics-dir=* -fdebug-compilation-dir=* -fdebug-default-version=# \
+    -fextend-arguments=32,64 -ffile-compilation-dir=* \
     -ffp-exception-behavior=ignore,maytrap,strict -ffp-eval-method=source,double,extended -ffp-model=strict,precise,fast \
     -ffuchsia-api-level=# -fgnuc-version=* -flax-vector-conversions=none,integer,all -fmax-tokens=# -fmax-type-align=# \
     -fms-compatibility-version=* -fmsc-version=* -fnew-alignment=# -fshow-overloads=best,all -fswift-async-fp=auto,always,never \
@@ -221,6 +225,7 @@ pub const VALUED: &str = " \
     -mpic-register=* -mprioritize-restricted-insns=# -mr10k-cache-barrier=none,store,load-store -msched-costly-dep=* \
     -msdata=none,data,sysv,eabi -msign-return-address=none,non-leaf,all -mstack-guard=# -mstack-size=# -mstring-compare-inline-limit=# \
     -mstructure-size-boundary=# -mtraceback=full,part,no -mvrsave=yes,no -mwarn-framesize=# \
+    -fmin-function-alignment=# -fstrict-flex-arrays=# -fzero-init-padding-bits=standard,unions,all \
     -std=* -stdlib=libc++,libstdc++,platform -rtlib=libgcc,compiler-rt,platform \
     -unwindlib=none,libgcc,libunwind,platform --std=* --sysroot=* --target=* --gcc-toolchain=* ";
 
@@ -232,19 +237,23 @@ pub const ASSEMBLER: &str = " \
     --nocompress-debug-sections --elf-stt-common=yes,no --generate-missing-build-notes=yes,no --size-check=error,warning \
     --multibyte-handling=allow,warn,warn-sym-only --hash-size=# --gsframe --sectname-subst -no-pad-sections -J -k -n -O -O0 -O1 -O2 -Os \
     -q -Qn -Qy -R -march=* -mtune=* -mcpu=* -mfpu=* -mabi=* -mfloat-abi=soft,softfp,hard -mimplicit-it=never,always,arm,thumb -mthumb \
-    -mthumb-interwork -mno-warn-deprecated -mwarn-deprecated -EB -EL -mlittle-endian -mbig-endian -mbig-obj -mshared \
+    -mthumb-interwork -mwarn-deprecated -EB -EL -mlittle-endian -mbig-endian -mbig-obj -mshared \
     -mrelax-relocations=yes,no -mx86-used-note=yes,no -mbranches-within-32B-boundaries \
     -malign-branch-boundary=# -malign-branch-prefix-size=# -malign-branch=* -mlfence-after-load=yes,no \
     -mlfence-before-ret=none,or,not,shl,yes -mlfence-before-indirect-branch=none,all,register,memory -momit-lock-prefix=yes,no \
     -mfence-as-lock-add=yes,no -msse2avx -muse-unaligned-vector-move -msse-check=none,error,warning \
     -moperand-check=none,error,warning -mavxscalar=128,256 -mvexwig=# -mevexlig=# -mevexwig=# -mevexrcig=rne,rd,ru,rz \
-    -mmnemonic=att,intel -msyntax=att,intel -mindex-reg -mnaked-reg -madd-bnd-prefix -mamd64 -mintel64 ";
+    -mmnemonic=att,intel -msyntax=att,intel -mindex-reg -mnaked-reg -madd-bnd-prefix -mamd64 -mintel64 \
+    -march-attr -mrelax -mcsr-check -misa-spec=* -mpriv-spec=* -maltivec -many -mppc -mppc64 -mpower4 -mpower5 -mpower6 -mpower7 \
+    -mpower8 -mpower9 -mpower10 -mvsx -ma2 -mbooke -mcell -me500 -me500mc -m405 -m440 -m476 -msoft-float -mhard-float -mdsp -mmsa \
+    -mips32 -mips32r2 -mips64 -mips64r2 --trap --no-trap --break --no-break ";
 
 /// Words for Clang's own compiler, after `-Xclang`.
 pub const CLANG: &str = " \
-    -disable-O0-optnone -disable-lifetime-markers -disable-llvm-passes -fno-pch-timestamp -opaque-pointers -no-opaque-pointers ";
+    -disable-O0-optnone -disable-lifetime-markers -disable-llvm-passes -fno-pch-timestamp -fuse-ctor-homing -opaque-pointers \
+    -no-opaque-pointers ";
 
 /// Words for Clang's back end, after `-mllvm`: up to their `=`, with what may come after it.
 pub const LLVM: &str = " \
     -inline-threshold=# -inlinehint-threshold=# -unroll-count=# -unroll-threshold=# -align-all-functions=# \
-    -align-all-nofallthru-blocks=# ";
+    -align-all-nofallthru-blocks=# -instcombine-lower-dbg-declare=# ";

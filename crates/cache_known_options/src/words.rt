@@ -46,6 +46,14 @@ const FRONTS: [&str; 28] = [
     "-stdlib++-isystem",
 ];
 
+/// Words that are known though the options aren't that they turn off: by these an object has the command line in it.
+const OFF: [&str; 4] = [
+    "-fno-record-command-line",
+    "-fno-record-gcc-switches",
+    "-gno-record-command-line",
+    "-gno-record-gcc-switches",
+];
+
 /// Whether a word begins with one of these.
 fn begins_with(fronts: &[&'static str], word: &[u8]) -> bool {
     behind_front(fronts, word).is_some()
@@ -198,7 +206,7 @@ fn is_known_option(alloc: Global, word: &[u8]) -> Result<bool, AllocError> {
     if let Some(parameter) = word.strip_prefix(b"--param=") {
         return Ok(is_parameter(parameter));
     }
-    Ok(is_listed(alloc, WHOLE, word)? || is_valued(alloc, VALUED, word)?)
+    Ok(is_among(&OFF, word) || is_listed(alloc, WHOLE, word)? || is_valued(alloc, VALUED, word)?)
 }
 
 /// Whether the value of an option is known.
