@@ -78,11 +78,14 @@ static const char *find_home(void) {
 
 /* Finds the cache directory: GULMAAT_DIR, or gulmaat in the user's cache folder. Says why there is none. */
 static int find_kept(void) {
-    const char *dir = getenv("GULMAAT_DIR"), *cache = getenv("XDG_CACHE_HOME"), *home = dir && *dir ? NULL : find_home();
+    const char *dir = getenv("GULMAAT_DIR"), *cache = getenv("XDG_CACHE_HOME");
     int size = 0;
     if (dir && *dir) size = snprintf(kept, sizeof kept, "%s", dir);
     else if (cache && *cache == '/') size = snprintf(kept, sizeof kept, "%s/gulmaat", cache);
-    else if (home && *home == '/') size = snprintf(kept, sizeof kept, "%s/.cache/gulmaat", home);
+    else {
+        const char *home = find_home();
+        if (home && *home == '/') size = snprintf(kept, sizeof kept, "%s/.cache/gulmaat", home);
+    }
     if (kept[0] == '/' && size < PATH_MAX - 64) return 0;
     if (size) fprintf(stderr, "gulmaat: GULMAAT_DIR is %s: set it to an absolute path\n", dir && *dir ? dir : "too long");
     else fputs("gulmaat: no folder to keep anything in: set GULMAAT_DIR to an absolute path, or HOME\n", stderr);

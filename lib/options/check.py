@@ -19,8 +19,8 @@ HELPS = {
 }
 
 # The GCCs for other processors, of which those on this machine are looked at.
-OTHERS = [f"{name}-gcc" for name in ("aarch64-linux-gnu", "arm-none-eabi", "mips-linux-gnu", "powerpc64le-linux-gnu", "riscv64-linux-gnu", "s390x-linux-gnu")]
-HELPS.update({name: [["--help=target"]] for name in OTHERS if shutil.which(name)})
+CROSS = [f"{name}-gcc" for name in ("aarch64-linux-gnu", "arm-none-eabi", "mips-linux-gnu", "powerpc64le-linux-gnu", "riscv64-linux-gnu", "s390x-linux-gnu")]
+HELPS.update({name: [["--help=target"]] for name in CROSS if shutil.which(name)})
 
 # The versions of the compilers in the tables.
 VERSIONS = {name: "12" for name in HELPS} | {"clang": "14"}
