@@ -127,8 +127,8 @@ habits_counters() {
     counts "no input" no_input_file "$host" gcc -c
     counts "no compile" no_input_file "$host" gcc --version
     counts "a language" unsupported_source_language "$host" gcc -c -x nothing it.c
-    counts "an option" unsupported_compiler_option "$host" gcc -fstack-usage -DCOUNT=1 -c it.c
-    counts "which option" option_fstack_usage "$host" gcc -fstack-usage -DCOUNT=1 -c it.c
+    counts "an option" unsupported_compiler_option "$host" gcc -fverbose-asm -DCOUNT=1 -c it.c
+    counts "which option" option_fverbose_asm "$host" gcc -fverbose-asm -DCOUNT=1 -c it.c
     counts "a variable" unsupported_environment_variable env LD_PRELOAD=/nowhere.so "$host" gcc -DCOUNT=1 -c it.c
     counts "which variable" variable_ld_preload env LD_PRELOAD=/nowhere.so "$host" gcc -DCOUNT=1 -c it.c
     counts "a file that the assembler takes in" unsupported_code_directive "$host" gcc -c takes.c

@@ -99,7 +99,7 @@ END
 # The compiler has the same files and signals alone, in a compile and where it is passed through.
 same_state() {
     local name=$1 cc=$2 words
-    for words in "-c it.c -o it.o" "-c it.c -o it.o -fstack-usage"; do
+    for words in "-c it.c -o it.o" "-c it.c -o it.o -fverbose-asm"; do
         # shellcheck disable=SC2086
         run_before "$PWD/fake/$cc" $words
         mv state wanted
@@ -302,7 +302,7 @@ host_deaths() {
     "$host" "$PWD/fake/$cc" -Wall -c it.c -o it.o 2>ours.err
     is "$cc: the program and the compiler" [ "$(wc -l <beside)" = 2 ]
     is "$cc: no zombie" [ "$(grep -c ' Z' beside)" = 0 ]
-    "$host" "$PWD/fake/$cc" -Wall -c it.c -o it.o -fstack-usage 2>ours.err
+    "$host" "$PWD/fake/$cc" -Wall -c it.c -o it.o -fverbose-asm 2>ours.err
     is "$cc: no zombie after a pass" [ "$(grep -c . below) $(grep -c ' Z' below)" = "1 0" ]
     # A signal while a text is printed.
     stand_in_always "$cc" <<<'case " $* " in *" -E "*) echo $$ >text; exec sleep 300 ;; esac'

@@ -114,7 +114,8 @@ CC -g3 -c foo.c
 CC -fdiagnostics-format=sarif-file -c foo.c
 CC -fmemory-profile-use=x -c foo.c
 CC -frandomize-layout-seed-file=x -c foo.c
-CC -fstack-usage -c foo.c
+CC -fcallgraph-info=su -c foo.c
+CC -gsplit-dwarf=single -g -c foo.c
 CC -fverbose-asm -S foo.c
 CC -S foo.c
 CC -fsyntax-only -c foo.c
@@ -225,7 +226,7 @@ END
     kept_case clang "CC -Qunused-arguments -mllvm -inline-threshold=100 -Xclang -disable-O0-optnone -c foo.c"
     kept_case gcc "CC -fsanitize=undefined,address -c foo.c"
     kept_case gcc "CC -Wa,-mtune=generic32,-march=generic64 -Xassembler -O2 -c foo.c"
-    word_case gcc "CC -gsplit-dwarf -g -c foo.c"
+    kept_case gcc "CC -gsplit-dwarf -g -c foo.c"
     configured_clang
     # A compiler that doesn't take the option for colours doesn't get it.
     printf 'for word; do case $word in -fdiagnostics-color*) echo "no such word" >&2; exit 1 ;; esac; done\nexec gcc "$@"\n' | stand_in old-gcc

@@ -48,18 +48,21 @@ class Known:
     def __init__(self):
         named = tables()
         sources = text_of(f"{SOURCES}/placed.rt") + text_of(f"{SOURCES}/words.rt")
+        beside = text_of(f"{SOURCES}/side_files.rt")
         lists = dict(re.findall(r"const (\w+): \[&str; \d+\] = \[(.*?)\];", sources, re.S))
         self.whole = words_of(named["WHOLE"])
         self.valued = {word.partition("=")[0] for word in words_of(named["VALUED"])}
         self.take = set(re.findall(r'"([^"]*)"', lists["TAKE_NEXT"] + lists["TAKE_KNOWN"]))
         self.fronts = tuple(re.findall(r'"([^"]*)"', lists["FRONTS"]))
         self.off = set(re.findall(r'"([^"]*)"', lists["OFF"]))
+        self.beside = set(re.findall(r'\("(-[^"]*)", "[^"]*"\)', beside))
+        self.profiles = tuple(re.findall(r'"(-[^"]*=)"', beside))
         self.others = tuple(re.findall(r'"([^"]*)"', lists["OTHERS"]))
 
     def has(self, word):
         """Whether an option is known, as a help text writes it."""
         option = re.sub(r"[=<\[].*", "", word)
-        if option in self.off:
+        if option in self.off or word in self.beside or word.startswith(self.profiles):
             return True
         option = re.sub(r"^-([fmg])no-", r"-\1", option)
         if word in self.take or option in self.take:

@@ -3,7 +3,7 @@
 ghost use Rattle.std.specs.Prelude.{◌≡◌, ◌≤◌};
 
 use crate::finding::{find_out, lacking_by, load_ahead};
-use crate::finishing::keep_or_give;
+use crate::finishing::{keep_or_give, paths_of};
 use crate::why::note_fingerprint;
 use base_blake2::Blake2b256;
 use base_files::{Listed, OsBytes};
@@ -13,7 +13,7 @@ use cache_call_log::CallFacts;
 use cache_files::results::Kept;
 use cache_format::KeptMessages;
 use cache_host::{CommandLine, Host, HostError};
-use cache_known_options::Dependencies;
+use cache_known_options::Beside;
 use cache_settings::Key;
 use cache_source_files::{Audit, have_plain_places};
 use cache_watch_lists::Unwatched;
@@ -134,7 +134,8 @@ fn turn_of<R: Files + AllocGlobal>(
     {
         return Ok(Turn::Ask);
     }
-    if !have_plain_places(rt, given.outputs)? {
+    let paths = known.with_side_paths(&paths_of(rt.alloc(), given.outputs)?)?;
+    if !have_plain_places(rt, paths.as_slice())? {
         return Ok(Turn::Pass);
     }
     match known.is_to_audit(rt.alloc(), call.line, call.hint, key, given)? {
@@ -337,11 +338,11 @@ fn known_of(
     line: &CommandLine,
     kind: CCompilerKind,
     takes_color: bool,
-    dependencies: Option<Dependencies>,
+    beside: Option<Beside>,
 ) -> Result<Box<Known>, HostError> {
     let basedirs = basedirs_of(alloc, line)?;
     let zone = zone_of(line);
-    let known = Known::new(alloc, kind, takes_color, dependencies, zone, basedirs);
+    let known = Known::new(alloc, kind, takes_color, beside, zone, basedirs);
     Ok(Box::new(alloc, known)?)
 }
 
@@ -377,8 +378,8 @@ fn ask_about<P: Print + Files<File = File> + AllocGlobal, I: Read>(
     requires { host.old.compiled ≡ 0 }
     ensures once { host.new.compiled ≤ 1 }
 {
-    let dependencies = call.dependencies.take();
-    let mut known = known_of(rt.alloc(), line, kind, call.takes_color, dependencies)?;
+    let beside = call.beside.take();
+    let mut known = known_of(rt.alloc(), line, kind, call.takes_color, beside)?;
     ask_with(rt, line, host, &call.request, known.as_mut())
 }
 

@@ -11,7 +11,7 @@ use cache_dir::{Kind, make_room};
 use cache_host::{CommandLine, Host, HostError, into_text};
 use cache_remote_storage::{Shared, share};
 use cache_source_files::{
-    Audit, OldFile, lock_paths, print_again, write_dependencies, write_outputs,
+    Audit, OldFile, lock_paths, print_again, write_dependencies, write_outputs, write_side_files,
 };
 use ckeys_include_records::PreprocessorCacheEntry;
 use ckeys_include_records::entry_key::EntryKey;
@@ -25,7 +25,7 @@ use wrap_base::{How, Output};
 use wrap_replay::SessionAnswer;
 
 /// The paths of outputs.
-fn paths_of(alloc: Global, outputs: &[Output]) -> Result<Listed<OsBytes>, HostError> {
+pub(crate) fn paths_of(alloc: Global, outputs: &[Output]) -> Result<Listed<OsBytes>, HostError> {
     let mut paths = Listed::new(alloc);
     for output in outputs {
         paths.push(output.path.clone()?)?;
@@ -46,7 +46,7 @@ fn facts_of(outputs: &[Output], known: &Known) -> CallFacts {
     }
 }
 
-/// Puts kept outputs and a dependency file where the request wants them, and has printed again what was printed beside them. A hit is given
+/// Puts kept outputs and the files beside them where the request wants them, and has printed again what was printed beside them. A hit is given
 /// without locks where none can be had.
 fn give<R: Files<File = File> + AllocGlobal>(
     rt: &R,
@@ -57,10 +57,13 @@ fn give<R: Files<File = File> + AllocGlobal>(
     let Some(messages) = given.messages else {
         return Err(HostError::Unreadable);
     };
-    let paths = paths_of(rt.alloc(), given.outputs)?;
+    let paths = known.with_side_paths(&paths_of(rt.alloc(), given.outputs)?)?;
     let dependency_file = known.dependency_file();
     let locks = lock_paths(rt, line, paths.as_slice(), dependency_file);
     write_dependencies(rt, dependency_file, messages)?;
+    if let Some(side_files) = known.side_files() {
+        write_side_files(rt, known.kind, side_files, messages)?;
+    }
     let old = match known.kind {
         CCompilerKind::Gcc => OldFile::IsKeptWhereEmpty,
         _ => OldFile::IsReplaced,

@@ -8,7 +8,7 @@ use cache_files::short_text::{TextDifference, short_text};
 use cache_files::{kept_parts, name_of_parts, parts_of, parts_under, put_parts};
 use cache_format::KeptParts;
 use cache_host::{CommandLine, HostError, difference_of_additions};
-use cache_known_options::dependencies_of;
+use cache_known_options::beside_of;
 use cache_source_files::opened_words;
 use cmdlines::AnyFoundCompiler;
 use cmdlines_base::{ArtifactDescriptor, CompilerArguments};
@@ -326,10 +326,11 @@ fn tell_command<R: Print + Files + AllocGlobal>(
         println!(rt; "nothing is known: {word} isn't opened")?;
         return Ok(());
     }
-    match dependencies_of(rt.alloc(), words.as_slice())? {
-        Some(found) => tell_words(rt, kept, kind, &dir, found.others.as_slice()),
-        None => tell_words(rt, kept, kind, &dir, words.as_slice()),
-    }
+    let words = match beside_of(rt.alloc(), words.as_slice())? {
+        Some(beside) => beside.session_words(rt.alloc())?,
+        None => words,
+    };
+    tell_words(rt, kept, kind, &dir, words.as_slice())
 }
 
 /// Says in a line, of the last call in that folder with the outputs of this command that was compiled, what differed from the one before

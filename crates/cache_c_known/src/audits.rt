@@ -1,7 +1,7 @@
 //! Hits that are compiled too, so that what is kept is compared with what the compiler makes: some of them, or all, as a user sets it.
 
 use crate::known::{Given, Known};
-use base_files::OsBytes;
+use base_files::{Listed, OsBytes};
 use cache_dir::Kind;
 use cache_format::KeptMessages;
 use cache_host::{CommandLine, HostError, text_in};
@@ -23,6 +23,7 @@ pub struct Audited {
     printed: OsBytes,
     errors: OsBytes,
     dependencies: Option<OsBytes>,
+    side_files: Listed<(OsBytes, OsBytes)>,
 }
 
 /// The bytes, where there are some.
@@ -68,7 +69,10 @@ impl Audited {
                 return Ok(found);
             }
         }
-        Ok(None)
+        match self.side_files == known.side_made {
+            true => Ok(None),
+            false => Ok(Some(format!(in alloc; "files beside the object")?)),
+        }
     }
 }
 
@@ -86,6 +90,7 @@ fn audited_of(
         printed: messages.printed.clone()?,
         errors: messages.errors.clone()?,
         dependencies: messages.dependencies.clone()?,
+        side_files: messages.side_files.clone()?,
     })
 }
 

@@ -44,7 +44,8 @@ impl Known {
         Ok(())
     }
 
-    /// Takes what a compile printed and wrote, and gives what it made at these paths, which had those states before.
+    /// Takes what a compile printed and wrote, and gives what it made at these paths, which had those states before; after them come those of
+    /// the files beside.
     fn take_made<R: Files + AllocGlobal>(
         &mut self,
         rt: &R,
@@ -59,6 +60,7 @@ impl Known {
         let status = ended.status;
         if status == 0 {
             self.take_written(rt, key)?;
+            self.take_side_files(rt, before.get(paths.len()..).unwrap_or(&[]))?;
         }
         Ok(Compiled { status, contents })
     }
@@ -76,9 +78,10 @@ impl Known {
         ensures { host.new.compiled ≤ 1 }
     {
         let paths = wanted.paths.as_slice();
+        let all = self.with_side_paths(&wanted.paths)?;
         // Until what was made is read no other call writes these files.
-        let _locks = lock_paths(rt, line, paths, self.dependency_file())?;
-        let before = states_of(rt, paths)?;
+        let _locks = lock_paths(rt, line, all.as_slice(), self.dependency_file())?;
+        let before = states_of(rt, all.as_slice())?;
         let ended = self.compile(rt, line, host, wanted.words.as_slice())?;
         self.take_made(rt, line, key, &ended, paths, before.as_slice())
     }

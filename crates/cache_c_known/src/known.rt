@@ -11,8 +11,8 @@ use cache_disk::read_whole;
 use cache_files::results::Kept;
 use cache_format::KeptMessages;
 use cache_host::{CommandLine, Ended, Host, HostError, text_in};
-use cache_known_options::Dependencies;
 use cache_known_options::text_words::text_words;
+use cache_known_options::{Beside, Dependencies};
 use cache_settings::Key;
 use cache_source_files::{
     Tokens, contents_at, digest_of_list, has_precompiled, load, load_named, names_files_of, regular,
@@ -46,8 +46,8 @@ pub struct Known {
     pub kind: CCompilerKind,
     /// Whether the compiler takes the word by which its messages are in colour.
     takes_color: bool,
-    /// What the words say of a dependency file; nothing where those words are passed to the session.
-    dependencies: Option<Dependencies>,
+    /// What the words say of files beside the object; nothing where those words are passed to the session.
+    pub beside: Option<Beside>,
     /// The time zone of dates, where direct mode is on.
     pub zone: Option<Zone>,
     /// Why no manifest says of what the text is made, where direct mode was on.
@@ -78,6 +78,8 @@ pub struct Known {
     list: OsBytes,
     /// The dependency file that the compile wrote.
     pub(crate) written: Option<OsBytes>,
+    /// The other files that it wrote beside the object, each by its ending and its contents.
+    pub(crate) side_made: Listed<(OsBytes, OsBytes)>,
     /// What the preprocessor printed on its standard error; nothing where it didn't run.
     pub(crate) preprocessor: OsBytes,
     /// What the compile printed on its standard output and its standard error; nothing where it didn't run.
@@ -93,14 +95,14 @@ impl Known {
         alloc: Global,
         kind: CCompilerKind,
         takes_color: bool,
-        dependencies: Option<Dependencies>,
+        beside: Option<Beside>,
         zone: Option<Zone>,
         basedirs: Listed<OsBytes>,
     ) -> Known {
         Known {
             kind,
             takes_color,
-            dependencies,
+            beside,
             zone,
             unwatched: None,
             basedirs,
@@ -117,6 +119,7 @@ impl Known {
             are_unchanged: false,
             list: OsBytes::empty(alloc),
             written: None,
+            side_made: Listed::new(alloc),
             preprocessor: OsBytes::empty(alloc),
             printed: OsBytes::empty(alloc),
             errors: OsBytes::empty(alloc),
@@ -211,8 +214,8 @@ impl Known {
 
     /// The path of the dependency file, where one is asked for.
     pub fn dependency_file(&self) -> Option<&OsBytes> {
-        match &self.dependencies {
-            Some(dependencies) => dependencies.file.as_ref(),
+        match &self.beside {
+            Some(beside) => beside.dependencies.file.as_ref(),
             None => None,
         }
     }
@@ -266,11 +269,12 @@ impl Known {
         alloc: Global,
         line: &CommandLine,
     ) -> Result<Listed<OsBytes>, HostError> {
-        let Some(dependencies) = &self.dependencies else {
+        let Some(beside) = &self.beside else {
             return Ok(text_words(alloc, line.words.as_slice(), None)?);
         };
-        let list = dependencies.file.as_ref().map(|_| line.list.as_str());
-        Ok(text_words(alloc, dependencies.others.as_slice(), list)?)
+        let Dependencies { others, file, .. } = &beside.dependencies;
+        let list = file.as_ref().map(|_| line.list.as_str());
+        Ok(text_words(alloc, others.as_slice(), list)?)
     }
 
     /// The text that was printed, followed by what it doesn't say of its sources: the digest of lines as they were written, and that of the
@@ -490,6 +494,7 @@ impl Known {
                 None => None,
             },
             sources,
+            side_files: self.side_made.clone()?,
         })
     }
 

@@ -1,5 +1,5 @@
-//! The request of a call. Words that ask for a dependency file aren't passed to the session: what is in that file is bound to the key, and
-//! the file that a compile wrote is kept beside its messages.
+//! The request of a call. Words that ask for a dependency file, or another file beside the object, aren't passed to the session: what is in
+//! these files is bound to the key, and those that a compile wrote are kept beside its messages.
 
 ghost use Rattle.std.specs.Prelude.{◌≡◌};
 
@@ -7,7 +7,7 @@ use crate::compilers::{KnownCompiler, add_surroundings, compiler_at};
 use crate::native::native_of;
 use base_files::{Listed, OsBytes};
 use cache_host::{ADDITIONS_VARIABLE, Additions, CommandLine, Host, HostError};
-use cache_known_options::{Dependencies, PlacedWords, behind_front, dependencies_of, is_read};
+use cache_known_options::{Beside, PlacedWords, behind_front, beside_of, is_read};
 use cache_settings::Key;
 use cmdlines_tables::CCompilerKind;
 use std::alloc::Global;
@@ -97,12 +97,33 @@ fn add_place(
     Ok(())
 }
 
+/// Adds what the files beside the object hang on. Coverage's and split debug information's names are in the object too, with the folder.
+fn add_beside(
+    alloc: Global,
+    line: &CommandLine,
+    beside: &Beside,
+    additions: &mut Additions,
+) -> Result<(), HostError> {
+    for word in beside.dependencies.said.as_slice() {
+        additions.add(alloc, "dependency file", word.as_bytes())?;
+    }
+    let side_files = &beside.side_files;
+    if side_files.words.is_empty() {
+        return Ok(());
+    }
+    for word in side_files.words.as_slice() {
+        additions.add(alloc, "file beside the object", word.as_bytes())?;
+    }
+    additions.add(alloc, "object", side_files.object.as_bytes())?;
+    additions.add(alloc, "folder", line.dir.as_bytes())
+}
+
 /// What is bound to the key of a call beside text, words and compiler.
 fn additions_of(
     alloc: Global,
     line: &CommandLine,
     kind: CCompilerKind,
-    dependencies: Option<&Dependencies>,
+    beside: Option<&Beside>,
 ) -> Result<Additions, HostError> {
     let mut additions = Additions::new(alloc);
     additions.add_if_any(
@@ -112,21 +133,19 @@ fn additions_of(
     )?;
     add_surroundings(alloc, line, kind, &mut additions)?;
     add_place(alloc, line, &mut additions)?;
-    if let Some(dependencies) = dependencies {
-        for word in dependencies.said.as_slice() {
-            additions.add(alloc, "dependency file", word.as_bytes())?;
-        }
+    if let Some(beside) = beside {
+        add_beside(alloc, line, beside, &mut additions)?;
     }
     Ok(additions)
 }
 
-/// What the words say of a dependency file; nothing where the preprocessor is to write it in each call. So it is where folders don't count:
-/// lines of the file are as long as their names.
-fn dependencies_in(alloc: Global, line: &CommandLine) -> Result<Option<Dependencies>, HostError> {
+/// What the words say of files beside the object; nothing where the preprocessor is to write a dependency file in each call. So it is where
+/// folders don't count: lines of the file are as long as their names.
+fn beside_in(alloc: Global, line: &CommandLine) -> Result<Option<Beside>, HostError> {
     if !line.settings.value_of(Key::BaseDir).is_empty() {
         return Ok(None);
     }
-    Ok(dependencies_of(alloc, line.words.as_slice())?)
+    Ok(beside_of(alloc, line.words.as_slice())?)
 }
 
 /// What the session is asked about a call, and what isn't passed to it.
@@ -135,8 +154,8 @@ pub struct Call {
     pub request: Request,
     /// Whether the compiler takes the word by which its messages are in colour.
     pub takes_color: bool,
-    /// What the words say of a dependency file; nothing where those words are passed to the session.
-    pub dependencies: Option<Dependencies>,
+    /// What the words say of files beside the object; nothing where those words are passed to the session.
+    pub beside: Option<Beside>,
 }
 
 /// The variables that are passed to the session, with the one that stands for all additions.
@@ -145,13 +164,13 @@ fn env_with<P: Print + Files + AllocGlobal, I: Read>(
     line: &CommandLine,
     host: &mut Host<I>,
     kind: CCompilerKind,
-    dependencies: Option<&Dependencies>,
+    beside: Option<&Beside>,
 ) -> Result<Listed<(OsBytes, OsBytes)>, HostError>
     requires { host.old.compiled ≡ 0 }
     ensures { host.new.compiled ≡ 0 }
 {
     let alloc = rt.alloc();
-    let mut additions = additions_of(alloc, line, kind, dependencies)?;
+    let mut additions = additions_of(alloc, line, kind, beside)?;
     if let Some(native) = native_of(rt, line, host)? {
         additions.add(alloc, "native", native.as_bytes())?;
     }
@@ -160,11 +179,12 @@ fn env_with<P: Print + Files + AllocGlobal, I: Read>(
 
 /// Copies of the words that are passed to the session, and of the folder.
 fn words_and_dir(
+    alloc: Global,
     line: &CommandLine,
-    dependencies: Option<&Dependencies>,
+    beside: Option<&Beside>,
 ) -> Result<(Listed<OsBytes>, OsBytes), HostError> {
-    let words = match dependencies {
-        Some(dependencies) => dependencies.others.clone()?,
+    let words = match beside {
+        Some(beside) => beside.session_words(alloc)?,
         None => line.words.clone()?,
     };
     Ok((words, line.dir.clone()?))
@@ -176,13 +196,13 @@ fn request_of<P: Print + Files + AllocGlobal, I: Read>(
     line: &CommandLine,
     host: &mut Host<I>,
     kind: CCompilerKind,
-    dependencies: Option<&Dependencies>,
+    beside: Option<&Beside>,
 ) -> Result<(Request, bool), HostError>
     requires { host.old.compiled ≡ 0 }
     ensures { host.new.compiled ≡ 0 }
 {
-    let env = env_with(rt, line, host, kind, dependencies)?;
-    let (words, dir) = words_and_dir(line, dependencies)?;
+    let env = env_with(rt, line, host, kind, beside)?;
+    let (words, dir) = words_and_dir(rt.alloc(), line, beside)?;
     let KnownCompiler {
         compiler,
         takes_color,
@@ -207,11 +227,11 @@ pub fn call_of<P: Print + Files + AllocGlobal, I: Read>(
     requires { host.old.compiled ≡ 0 }
     ensures { host.new.compiled ≡ 0 }
 {
-    let dependencies = dependencies_in(rt.alloc(), line)?;
-    let (request, takes_color) = request_of(rt, line, host, kind, dependencies.as_ref())?;
+    let beside = beside_in(rt.alloc(), line)?;
+    let (request, takes_color) = request_of(rt, line, host, kind, beside.as_ref())?;
     Ok(Call {
         request,
         takes_color,
-        dependencies,
+        beside,
     })
 }

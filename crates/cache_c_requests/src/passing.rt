@@ -3,7 +3,7 @@
 
 use base_files::OsBytes;
 use cache_host::{CommandLine, HostError};
-use cache_known_options::{PlacedWords, dependencies_of, for_preprocessor, unknown_word};
+use cache_known_options::{PlacedWords, beside_of, for_preprocessor, side_ending, unknown_word};
 use cache_settings::Key;
 use cache_statistics::TO_STANDARD_OUTPUT;
 use sccache_recorded_builds::options_in;
@@ -37,6 +37,11 @@ fn has_word(words: &[OsBytes], word: &[u8]) -> bool {
     words.iter().any(|it| it.as_bytes() == word)
 }
 
+/// Whether a word asks for a file beside the object to which gulmaat sees itself.
+fn asks_beside(word: &[u8]) -> bool {
+    for_preprocessor(word).is_some() || side_ending(word).is_some()
+}
+
 /// Whether the words ask for an object, and for it on standard output.
 fn is_on_standard_output(words: &[OsBytes]) -> bool {
     let behind = words.iter().skip(1);
@@ -60,10 +65,9 @@ pub fn reason_against(alloc: Global, line: &CommandLine) -> Result<Option<String
         return Ok(Some(String::from_str(alloc, TO_STANDARD_OUTPUT)?));
     }
     let options = options_in(alloc, line.words.as_slice(), &[])?;
-    // Of words that ask the preprocessor for a dependency file gulmaat sees to itself.
     let option = options
         .iter()
-        .find(|option| for_preprocessor(option.as_bytes()).is_none());
+        .find(|option| !asks_beside(option.as_bytes()));
     match option {
         Some(option) => Ok(Some(String::from_str(alloc, option)?)),
         None => unknown_in(alloc, line),
@@ -111,17 +115,15 @@ fn late_language(words: &[OsBytes]) -> Option<&OsBytes> {
     None
 }
 
-/// The word by which it isn't clear which dependency file is written, or is that of a preprocessor which is to write it in each call.
+/// The word by which it isn't clear which file is written beside the object, or is that of a dependency file which a preprocessor is to write
+/// in each call.
 fn unclear_word(alloc: Global, line: &CommandLine) -> Result<Option<&OsBytes>, HostError> {
     let words = line.words.as_slice();
-    let Some(word) = words
-        .iter()
-        .find(|word| for_preprocessor(word.as_bytes()).is_some())
-    else {
+    let Some(word) = words.iter().find(|word| asks_beside(word.as_bytes())) else {
         return Ok(None);
     };
     let folders_count = line.settings.value_of(Key::BaseDir).is_empty();
-    if folders_count && dependencies_of(alloc, words)?.is_some() {
+    if folders_count && beside_of(alloc, words)?.is_some() {
         return Ok(None);
     }
     Ok(Some(word))

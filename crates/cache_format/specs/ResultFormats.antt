@@ -8,7 +8,8 @@ use Rattle.cache_format.specs.Layout.{EntryFits, MessagesFit, contents_at, conte
 pub messages_format : IsFormat messages_at messages_bytes MessagesFit
 unfolding messages_at
 messages_format =
-    let last = both_format _ _ _ _ _ _ (optional_format _ _ _ framed_format) (optional_format _ _ _ framed_format) in
+    let side_files = counted_format _ _ _ (both_format _ _ _ _ _ _ framed_format framed_format) in
+    let last = both_format _ _ _ _ _ _ (optional_format _ _ _ framed_format) (both_format _ _ _ _ _ _ (optional_format _ _ _ framed_format) side_files) in
     let fields = both_format _ _ _ _ _ _ framed_format (both_format _ _ _ _ _ _ framed_format (both_format _ _ _ _ _ _ framed_format last)) in
     made_format messages_from messages_fields _ _ _ (λ x. refl) (λ y. refl) fields
 

@@ -17,6 +17,8 @@ pub struct KeptMessages {
     pub dependencies: Option<OsBytes>,
     /// A digest of all files that the text names, where the compile printed something: it may quote any line of them.
     pub sources: Option<OsBytes>,
+    /// The other files that the compile wrote beside the object, each by its ending and its contents.
+    pub side_files: Listed<(OsBytes, OsBytes)>,
 }
 
 /// What a compile of a C compiler made, under its whole key.

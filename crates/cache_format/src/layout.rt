@@ -10,8 +10,8 @@ use ckeys_records::output_name::OutputName;
 use ckeys_records::shape::CShape;
 use std::alloc::{AllocError, Global};
 
-/// The preprocessor's messages, what the compile printed on its standard output and its standard error, its dependency file, and the digest
-/// of the sources.
+/// The preprocessor's messages, what the compile printed on its standard output and its standard error, its dependency file, the digest of the
+/// sources, and the files beside the object.
 impl Field for KeptMessages {
     ghost reads = { messages_at };
 
@@ -28,12 +28,14 @@ impl Field for KeptMessages {
         let (errors, rest) = OsBytes::read(alloc, rest)?;
         let (dependencies, rest) = Option::<OsBytes>::read(alloc, rest)?;
         let (sources, rest) = Option::<OsBytes>::read(alloc, rest)?;
+        let (side_files, rest) = Listed::<(OsBytes, OsBytes)>::read(alloc, rest)?;
         let messages = KeptMessages {
             preprocessor,
             printed,
             errors,
             dependencies,
             sources,
+            side_files,
         };
         Ok((messages, rest))
     }
@@ -44,6 +46,7 @@ impl Field for KeptMessages {
         self.errors.put(out)?;
         self.dependencies.put(out)?;
         self.sources.put(out)?;
+        self.side_files.put(out)?;
         Ok(())
     }
 }

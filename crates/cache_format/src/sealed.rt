@@ -22,9 +22,9 @@ pub trait Sealed: Field {
 }
 
 impl Sealed for KeptResult {
-    const VERSION: u8 = 4;
+    const VERSION: u8 = 5;
 
-    ghost VERSION = { 4 };
+    ghost VERSION = { 5 };
 }
 
 impl Sealed for KeptManifest {

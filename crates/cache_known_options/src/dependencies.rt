@@ -4,7 +4,7 @@
 
 use crate::handed_on::definitions_in;
 use crate::placed::{PlacedWords, behind_front, is_among};
-use crate::text_words::dependency_file;
+use crate::text_words::{OF_DEPENDENCIES, with_ending};
 use base_files::{Listed, OsBytes};
 use std::alloc::{AllocError, Global};
 
@@ -230,8 +230,8 @@ impl<'a> Said<'a> {
             return Ok(Some(again(alloc, path)?));
         }
         let path = match (self.object, self.input) {
-            (Some(object), _) => dependency_file(alloc, object)?,
-            (None, Some(input)) => dependency_file(alloc, file_name(input))?,
+            (Some(object), _) => with_ending(alloc, object, OF_DEPENDENCIES)?,
+            (None, Some(input)) => with_ending(alloc, file_name(input), OF_DEPENDENCIES)?,
             (None, None) => return Ok(None),
         };
         Ok(Some(OsBytes::from_vec(path)))
@@ -239,7 +239,7 @@ impl<'a> Said<'a> {
 }
 
 /// The name of a file, without the folders of its path.
-fn file_name(path: &[u8]) -> &[u8] {
+pub(crate) fn file_name(path: &[u8]) -> &[u8] {
     match path.rsplit(|byte| *byte == b'/').next() {
         Some(name) => name,
         None => path,

@@ -35,7 +35,7 @@ impl<'a> Dependencies<'a> {
 }
 
 /// The object that a word names, by the option before it or in itself.
-fn object_in(placed: Placed<'_>) -> Option<&[u8]> {
+pub(crate) fn object_in(placed: Placed<'_>) -> Option<&[u8]> {
     let word = placed.word.as_bytes();
     match placed.option {
         Some(option) if option.as_bytes() == b"-o".as_slice() => Some(word),
@@ -86,8 +86,11 @@ fn push_without_object(
     Ok(())
 }
 
-/// The path of the dependency file of an object: the object's path with `d` in place of what comes after the last dot of its name.
-pub(crate) fn dependency_file(alloc: Global, object: &[u8]) -> Result<Vec<u8>, AllocError> {
+/// The ending of a dependency file.
+pub(crate) const OF_DEPENDENCIES: &str = ".d";
+
+/// The path of a file beside an object: the object's path with that ending in place of the last dot of its name and what comes after it.
+pub(crate) fn with_ending(alloc: Global, object: &[u8], with: &str) -> Result<Vec<u8>, AllocError> {
     let name = match object.rsplit(|byte| *byte == b'/').next() {
         Some(name) => name,
         None => object,
@@ -99,7 +102,7 @@ pub(crate) fn dependency_file(alloc: Global, object: &[u8]) -> Result<Vec<u8>, A
     let stem = object.get(..object.len().saturating_sub(ending));
     let mut path = Vec::with_capacity(alloc, object.len())?;
     path.extend_from_slice(stem.unwrap_or(object))?;
-    path.extend_from_slice(b".d")?;
+    path.extend_from_slice(with.as_bytes())?;
     Ok(path)
 }
 
@@ -115,7 +118,7 @@ fn push_dependencies(
         return Ok(());
     };
     if !found.is_named {
-        let path = dependency_file(alloc, object)?;
+        let path = with_ending(alloc, object, OF_DEPENDENCIES)?;
         push(alloc, pushed, b"-MF")?;
         push(alloc, pushed, path.as_slice())?;
     }

@@ -3,6 +3,7 @@
 use crate::dependencies::{for_preprocessor, target_for_preprocessor};
 use crate::handed_on::definitions_in;
 use crate::placed::{Placed, PlacedWords, behind_front, is_among, takes_any, takes_next};
+use crate::side_files::side_ending;
 use crate::tables::{ASSEMBLER, CLANG, LLVM, VALUED, WHOLE};
 use base_files::OsBytes;
 use memchr::{memchr, memmem};
@@ -191,7 +192,7 @@ fn is_known_option(alloc: Global, word: &[u8]) -> Result<bool, AllocError> {
     if let Some(target) = target_for_preprocessor(word) {
         return Ok(!target.is_empty() && !target.contains(&b','));
     }
-    if definitions_in(word).is_some() {
+    if definitions_in(word).is_some() || side_ending(word).is_some() {
         return Ok(true);
     }
     if let Some(words) = word.strip_prefix(b"-Wa,") {

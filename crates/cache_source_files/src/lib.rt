@@ -23,6 +23,7 @@ pub use made_outputs::{Locks, lock_paths, made_since, states_of};
 pub use mounts::devices_in;
 pub use outputs::{
     OldFile, have_plain_places, print_again, regular, write_dependencies, write_outputs,
+    write_side_files,
 };
 pub use precompiled::has_precompiled;
 pub use response_words::opened_words;

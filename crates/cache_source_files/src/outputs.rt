@@ -4,6 +4,8 @@ use base_files::OsBytes;
 use cache_disk::read_of_size;
 use cache_format::KeptMessages;
 use cache_host::{CommandLine, HostError, text_in};
+use cache_known_options::SideFiles;
+use cmdlines_tables::CCompilerKind;
 use std::fs;
 use std::io::ErrorKind;
 use std::os::unix::fs::MetadataExt;
@@ -30,11 +32,10 @@ fn is_plain<R: Files>(rt: &R, path: &str) -> bool {
     }
 }
 
-/// Whether kept outputs can be put where the request wants them as a compiler would: onto what is something else compilers write in ways of
-/// their own.
-pub fn have_plain_places<R: Files>(rt: &R, outputs: &[Output]) -> Result<bool, HostError> {
-    for output in outputs {
-        if !is_plain(rt, text_in(&output.path)?) {
+/// Whether kept files can be put under these paths as a compiler would: onto what is something else compilers write in ways of their own.
+pub fn have_plain_places<R: Files>(rt: &R, paths: &[OsBytes]) -> Result<bool, HostError> {
+    for path in paths {
+        if !is_plain(rt, text_in(path)?) {
             return Ok(false);
         }
     }
@@ -48,6 +49,8 @@ pub enum OldFile {
     IsReplaced,
     /// One that is empty is written over, and keeps its rights, as by the assembler that GCC runs: `mktemp` makes one that only its user may read.
     IsKeptWhereEmpty,
+    /// It is written over, and keeps its rights.
+    IsKept,
 }
 
 /// Whether an empty file lies there.
@@ -65,7 +68,12 @@ fn write_anew<R: Files>(
     contents: &[u8],
     old: OldFile,
 ) -> Result<(), HostError> {
-    if old == OldFile::IsReplaced || !is_empty(rt, path) {
+    let is_removed = match old {
+        OldFile::IsReplaced => true,
+        OldFile::IsKeptWhereEmpty => !is_empty(rt, path),
+        OldFile::IsKept => false,
+    };
+    if is_removed {
         let _ = fs::remove_file(rt, path);
     }
     if let Err(error) = fs::write(rt, path, contents) {
@@ -93,6 +101,42 @@ pub fn write_dependencies<R: Files>(
         return Ok(());
     };
     Ok(fs::write(rt, text_in(path)?, contents.as_bytes())?)
+}
+
+/// The file of that ending among those that were kept beside outputs, where one was made.
+fn side_file<'a>(messages: &'a KeptMessages, ending: &str) -> Option<&'a OsBytes> {
+    for (kept, contents) in messages.side_files.as_slice() {
+        if kept.as_bytes() == ending.as_bytes() {
+            return Some(contents);
+        }
+    }
+    None
+}
+
+/// What becomes of an old file where a compiler of that kind writes the file of that ending. GCC has debug information split off by a program,
+/// which does as its assembler; all others are written by the compilers themselves.
+fn old_side_file(kind: CCompilerKind, ending: &str) -> OldFile {
+    match (kind, ending) {
+        (CCompilerKind::Gcc, ".dwo") => OldFile::IsKeptWhereEmpty,
+        (_, _) => OldFile::IsKept,
+    }
+}
+
+/// Writes the files beside kept outputs where the request wants them, as a compiler of that kind does.
+pub fn write_side_files<R: Files>(
+    rt: &R,
+    kind: CCompilerKind,
+    wanted: &SideFiles,
+    messages: &KeptMessages,
+) -> Result<(), HostError> {
+    let paths = wanted.paths.as_slice();
+    for (ending, path) in wanted.endings.iter().zip(paths.iter()) {
+        if let Some(contents) = side_file(messages, ending) {
+            let old = old_side_file(kind, ending);
+            write_anew(rt, text_in(path)?, contents.as_bytes(), old)?;
+        }
+    }
+    Ok(())
 }
 
 /// Has the host print what was printed beside kept outputs, in place of what the preprocessor printed in this call.

@@ -16,7 +16,7 @@ pub enum Asked {
 }
 
 /// What words begin with under which a line counts as it was written: warnings and checks.
-const OF_LINES: [&str; 10] = [
+const OF_LINES: [&str; 13] = [
     "-W",
     "-pedantic",
     "--pedantic",
@@ -27,7 +27,13 @@ const OF_LINES: [&str; 10] = [
     "-ftest-coverage",
     "-fxray",
     "--coverage",
+    "-coverage",
+    "-fstack-usage",
+    "-fcallgraph-info",
 ];
+
+/// Words under which an object has the places of all that a source has, also of comments and of what is left out.
+const OF_CONTENTS: [&str; 1] = ["-fcoverage-mapping"];
 
 /// What words begin with that hand something on to other programs.
 const HANDED_ON: [&str; 3] = ["-Wa,", "-Wl,", "-Wp,"];
@@ -53,7 +59,9 @@ fn is_debug(word: &[u8]) -> bool {
 /// What one word asks for. The debug information of Clang has a digest of each file.
 fn asked_by_word(kind: CCompilerKind, word: &[u8]) -> Asked {
     let is_clang = kind == CCompilerKind::Clang;
-    if is_clang && (is_debug(word) || begins_with(word, &OF_COMMENTS)) {
+    if is_clang && (is_debug(word) || begins_with(word, &OF_COMMENTS))
+        || begins_with(word, &OF_CONTENTS)
+    {
         return Asked::Contents;
     }
     if begins_with(word, &HANDED_ON) {

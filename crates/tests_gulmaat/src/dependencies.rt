@@ -1,7 +1,7 @@
-//! What words say of a dependency file, and by which words a compiler prints a text.
+//! What words say of a dependency file and of other files beside an object, and by which words a compiler prints a text.
 
 use cache_known_options::text_words::text_words;
-use cache_known_options::{Dependencies, dependencies_of};
+use cache_known_options::{Beside, Dependencies, beside_of, dependencies_of};
 use std::alloc::{AllocError, Global};
 use std::fmt::Write;
 use std::test::Fail;
@@ -92,6 +92,58 @@ fn text_of(alloc: Global, line: &str) -> Result<String, AllocError> {
 fn words_say_what_is_written(rt: HostRuntime) -> Result<(), Fail> {
     for (line, want) in LINES.iter() {
         let text = text_of(rt.alloc(), line)?;
+        is_that(text.as_str(), want, line)?;
+    }
+    Ok(())
+}
+
+/// Words, and what they say of other files beside the object: the words for the session, those that ask for such files, the object, and the
+/// paths of the files; `unclear` where these can't be determined.
+const SIDE_LINES: [(&str, &str); 10] = [
+    ("-MD -c a.c -o a.o", " -c a.c -o a.o"),
+    (
+        "--coverage -c a.c -o d/a.o",
+        " -c a.c -o d/a.o; asked --coverage; object d/a.o; files d/a.gcno",
+    ),
+    (
+        "-g -gsplit-dwarf -MD -fstack-usage -c d/a.c",
+        " -g -c d/a.c; asked -gsplit-dwarf -fstack-usage; object a.c; files a.dwo a.su",
+    ),
+    (
+        "--coverage -ftest-coverage -fprofile-arcs -c a.c -oa.b.o",
+        " -c a.c -oa.b.o; asked --coverage -ftest-coverage -fprofile-arcs; object a.b.o; files a.b.gcno",
+    ),
+    (
+        "-fprofile-generate=p -c a.c -o d.x/a",
+        " -c a.c -o d.x/a; asked -fprofile-generate=p; object d.x/a",
+    ),
+    ("-D --coverage -c a.c", " -D --coverage -c a.c"),
+    ("-fstack-usage -c a.c -o d/.a", "unclear"),
+    ("-fstack-usage -c a.c -o /dev/null", "unclear"),
+    ("-fstack-usage -c", "unclear"),
+    ("-fstack-usage -Wp,-MD,x.d -MD -c a.c", "unclear"),
+];
+
+/// Adds what words say of files beside the object.
+fn write_beside(alloc: Global, text: &mut String, beside: &Beside) -> Result<(), AllocError> {
+    write_words(text, beside.session_words(alloc)?.as_slice())?;
+    let side_files = &beside.side_files;
+    write_list(text, "asked", side_files.words.as_slice())?;
+    if !side_files.words.is_empty() {
+        write!(text, "; object {}", side_files.object)?;
+    }
+    write_list(text, "files", side_files.paths.as_slice())
+}
+
+#[test]
+fn words_say_what_lies_beside(rt: HostRuntime) -> Result<(), Fail> {
+    for (line, want) in SIDE_LINES.iter() {
+        let list = words(rt.alloc(), line)?;
+        let mut text = String::new(rt.alloc());
+        match beside_of(rt.alloc(), list.as_slice())? {
+            Some(beside) => write_beside(rt.alloc(), &mut text, &beside)?,
+            None => text.push_str("unclear")?,
+        }
         is_that(text.as_str(), want, line)?;
     }
     Ok(())
