@@ -211,8 +211,13 @@ fn attempt<P: Print + Files<File = File> + AllocGlobal, I: Read>(
 {
     let (answered, messages) = answer_by(rt.alloc(), call.request, known)?;
     let end = act_on(rt, call, host, &answered, messages.as_ref(), known);
+    let noted = match &end {
+        Ok(None) => known.take_put(answered.session.entries().newest()),
+        _ => Ok(()),
+    };
     drop(answered);
     drop(messages);
+    noted?;
     end
 }
 

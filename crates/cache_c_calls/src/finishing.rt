@@ -100,6 +100,17 @@ fn finish_manifest<R: Files + AllocGlobal>(
     }
 }
 
+/// The manifest that the session put, in this attempt or in the one before the compile.
+fn newest_of<'a>(
+    answered: &'a SessionAnswer<Blake2b256>,
+    known: &'a Known,
+) -> Option<&'a (EntryKey, PreprocessorCacheEntry)> {
+    match answered.session.entries().newest() {
+        Some(newest) => Some(newest),
+        None => known.put_before(),
+    }
+}
+
 /// Keeps the manifest and the hint of a call, and sees to it that the limit holds, once for all that the call put.
 fn note_call<R: Files + AllocGlobal>(
     rt: &R,
@@ -119,7 +130,7 @@ fn note_call<R: Files + AllocGlobal>(
         names.push(hint)?;
     }
     if !name.is_empty() {
-        let newest = answered.session.entries().newest();
+        let newest = newest_of(answered, known);
         if let Ok(true) = finish_manifest(rt, line, newest, key, watched, known) {
             names.push(name)?;
         }
@@ -162,7 +173,9 @@ fn list_to_watch<P: Print + Files + AllocGlobal, I: Read>(
 ) -> Option<Vec<u8>>
     ensures { host.new.compiled ≡ host.old.compiled }
 {
-    answered.session.entries().newest()?;
+    if newest_of(answered, known).is_none() {
+        return None;
+    }
     match known.list_to_watch(rt, line, host, key) {
         Ok(list) => Some(list),
         Err(why) => {

@@ -90,6 +90,8 @@ pub(crate) struct KnownManifest {
     kept: Option<(EntryKey, PreprocessorCacheEntry)>,
     /// It with them, where some were.
     whole: Option<PreprocessorCacheEntry>,
+    /// The one that the session put, once it knew the text.
+    put: Option<(EntryKey, PreprocessorCacheEntry)>,
     /// What is noted of headers, and what to watch of its results.
     watched: OsBytes,
 }
@@ -101,6 +103,7 @@ impl KnownManifest {
             name: String::new(alloc),
             kept: None,
             whole: None,
+            put: None,
             watched: OsBytes::empty(alloc),
         }
     }
@@ -125,6 +128,22 @@ impl Known {
             (Some(_), Some((key, entry))) => Ok(Some((key.clone()?, entry.clone()?))),
             (_, _) => Ok(None),
         }
+    }
+
+    /// Takes a copy of the manifest that the session put, where it did.
+    pub fn take_put(
+        &mut self,
+        newest: Option<&(EntryKey, PreprocessorCacheEntry)>,
+    ) -> Result<(), HostError> {
+        if let Some((key, entry)) = newest {
+            self.record.put = Some((key.clone()?, entry.clone()?));
+        }
+        Ok(())
+    }
+
+    /// The manifest that the session put in an earlier attempt, where it did.
+    pub fn put_before(&self) -> Option<&(EntryKey, PreprocessorCacheEntry)> {
+        self.record.put.as_ref()
     }
 
     /// Whether no manifest is known of those calls.
