@@ -21,6 +21,31 @@ token_case() {
     search_call "$name, again" $cc -I.
 }
 
+# A header that the call of one source noted is changed before another source takes it in, and then is as at first again: each call is as by the
+# compiler alone.
+shared_case() {
+    local name=$1 change=$2 cc=$3 turn
+    "$host" --clear
+    printf '#define VALUE 1\n' >value.h
+    touch -d '1 hour ago' value.h
+    printf '#include <value.h>\nint one = VALUE;\n' >it.c
+    settle
+    search_call "$name, one source" $cc -I.
+    settle
+    eval "$change"
+    printf '#include <value.h>\nint other = VALUE;\n' >it.c
+    settle
+    for turn in first second third; do
+        [ $turn != third ] || mark
+        search_call "$name, another source, $turn" $cc -I.
+        settle
+    done
+    is "$name: a direct hit" since 0 0 1
+    printf '#define VALUE 1\n' >value.h
+    settle
+    search_call "$name, as at first" $cc -I.
+}
+
 tokens() {
     local cc=$1 dir=$work/tokens-$1 other
     mkdir -p "$dir"
@@ -43,6 +68,13 @@ tokens() {
             "echo '#define VALUE 6' >$other/value.h; touch -r value.h $other/value.h; ln -sf $other/value.h value.h" "0 1 0" $cc
         rm -rf "$other" value.h
     fi
+    shared_case "$cc: noted by another source" "true" $cc
+    shared_case "$cc: noted by another source, another one of its size and time" \
+        "echo '#define VALUE 2' >new.h; touch -r value.h new.h; mv new.h value.h" $cc
+    shared_case "$cc: noted by another source, its time put back" \
+        "touch -r value.h time; echo '#define VALUE 3' >value.h; touch -r time value.h" $cc
+    rm -f value.h
+    printf '#include <value.h>\nint value = VALUE;\n' >it.c
     # A header from the future, as where the clock was set back since: it can't be told from one that changes within this moment.
     printf '#define VALUE 1\n' >value.h
     touch -d 'next year' value.h

@@ -12,7 +12,7 @@ use cache_files::{manifest_under, put_manifest};
 use cache_format::KeptMessages;
 use cache_host::{CommandLine, Host, HostError, messages_of, words_of};
 use cache_searched_folders::{AskingSources, EnteredNames, Source, TextFiles, said_of};
-use cache_source_files::load_all;
+use cache_source_files::{keep_shared, load_all};
 use cache_watch_lists::{
     Unwatched, WatchedResult, noted_and_rows, result_holds, with_list, with_results_of, without,
 };
@@ -122,9 +122,14 @@ impl KnownManifest {
 }
 
 impl Known {
-    /// A copy of the manifest that is kept, where direct mode is on.
+    /// A copy of the manifest that the session is to have, where direct mode is on: the one that is kept, or, once the compiler ran, the one
+    /// that it put before. By that the key is known without another walk over the text.
     pub fn manifest_again(&self) -> Result<Option<(EntryKey, PreprocessorCacheEntry)>, HostError> {
-        match (&self.zone, &self.record.kept) {
+        let held = match self.tool.outputs.is_some() && self.record.put.is_some() {
+            true => &self.record.put,
+            false => &self.record.kept,
+        };
+        match (&self.zone, held) {
             (Some(_), Some((key, entry))) => Ok(Some((key.clone()?, entry.clone()?))),
             (_, _) => Ok(None),
         }
@@ -410,7 +415,10 @@ impl Known {
             line.dir.as_bytes(),
             result,
         )?;
-        self.put_whole(rt, line, &newest.0, &whole, lists.as_slice())
+        self.put_whole(rt, line, &newest.0, &whole, lists.as_slice())?;
+        // What isn't kept is digested again.
+        let _ = keep_shared(rt, line, &self.tokens);
+        Ok(())
     }
 
     /// Puts a manifest with these lists, which come after what is noted of its headers.

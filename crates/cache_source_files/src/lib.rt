@@ -3,6 +3,7 @@
 #![tactic(auto)]
 
 mod differences;
+mod headers;
 mod lists;
 mod loading;
 mod logging;
@@ -16,6 +17,7 @@ mod tokens;
 pub use differences::{
     Audit, copies_of, difference_of_outputs, difference_of_texts, is_one_of, log_difference,
 };
+pub use headers::keep_shared;
 pub use lists::{digest_of_list, names_files_of};
 pub use loading::{contents_at, load, load_all, load_named};
 pub use logging::log;

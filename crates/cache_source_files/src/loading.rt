@@ -1,5 +1,6 @@
 //! Files that are loaded from the disk, and those that a text names.
 
+use crate::headers::look_up_shared;
 use crate::tokens::{Tokens, is_settled, token_of};
 use base_files::{FileTime, Files as CallFiles, Metadata, OsBytes, join};
 use base_snapshots::{LoadedFile, SnapshotFiles};
@@ -188,19 +189,43 @@ pub fn load_all<R: Files + AllocGlobal>(
     Ok(true)
 }
 
+/// The token that another call in this folder noted of a file that a text names, which this call notes too.
+fn token_shared<R: Files + AllocGlobal>(
+    rt: &R,
+    line: &CommandLine,
+    path: &OsBytes,
+    found: &fs::Metadata,
+    tokens: &mut Tokens,
+) -> Result<Option<OsBytes>, HostError> {
+    look_up_shared(rt, line, tokens)?;
+    let token = match tokens.get_shared(path, found) {
+        Some(token) => token.clone()?,
+        None => return Ok(None),
+    };
+    tokens.note(rt, path, found, &token, line.began)?;
+    Ok(Some(token))
+}
+
 /// The token of a file that a text names, where none is known of it one of what was read of it.
 fn token_for<R: Files + AllocGlobal>(
     rt: &R,
+    line: &CommandLine,
     path: &OsBytes,
     found: &fs::Metadata,
     contents: &OsBytes,
-    began: FileTime,
     tokens: &mut Tokens,
 ) -> Result<OnDisk, HostError> {
-    match tokens.get(path, found) {
-        Some(token) => Ok(OnDisk::File(token.clone()?, metadata_of(found, found.len()))),
-        None => as_token(rt, path, found, contents.as_bytes(), began, tokens),
+    let metadata = metadata_of(found, found.len());
+    if let Some(token) = tokens.get(path, found) {
+        return Ok(OnDisk::File(token.clone()?, metadata));
     }
+    if let Some(token) = token_shared(rt, line, path, found, tokens)? {
+        return Ok(OnDisk::File(token, metadata));
+    }
+    let made = as_token(rt, path, found, contents.as_bytes(), line.began, tokens)?;
+    // One that can't be known again isn't noted.
+    tokens.are_unshared = tokens.are_unshared || tokens.get(path, found).is_some();
+    Ok(made)
 }
 
 /// Loads a regular file that a text names, by its token unless it was loaded as it is. False where it can't be recorded as what a preprocessor
@@ -224,7 +249,7 @@ fn load_regular<R: Files + AllocGlobal>(
     if !is_settled {
         return Ok(false);
     }
-    let token = token_for(rt, path, found, contents, line.began, tokens)?;
+    let token = token_for(rt, line, path, found, contents, tokens)?;
     let takes_in = match &token {
         // A token has these words too.
         OnDisk::File(held, _) => embeds(held),

@@ -55,15 +55,29 @@ pub fn token_of(alloc: Global, contents: &[u8]) -> Result<Option<OsBytes>, Alloc
 
 /// The token of a file in a state.
 #[derive(Drop)]
-struct Noted {
+pub(crate) struct Noted {
     state: State,
     token: OsBytes,
+}
+
+impl Noted {
+    /// The token, where the file is in that state.
+    fn token_in(&self, state: State) -> Option<&OsBytes> {
+        match self.state == state {
+            true => Some(&self.token),
+            false => None,
+        }
+    }
 }
 
 /// Tokens by the paths of their files.
 #[derive(Drop)]
 pub struct Tokens {
     noted: BTreeMap<OsBytes, Noted>,
+    /// Those that other calls in this folder noted, once they were looked up.
+    pub(crate) shared: Option<BTreeMap<OsBytes, Noted>>,
+    /// Whether one was noted that these lack.
+    pub(crate) are_unshared: bool,
     /// The paths of files whose contents a session has as they are.
     whole: BTreeSet<OsBytes>,
     /// The devices of file systems on which a file of the same state has the same contents, once they were looked up.
@@ -81,11 +95,57 @@ pub(crate) fn is_settled(found: &Metadata, before: FileTime) -> bool {
     State::of(found).is_before(before)
 }
 
+/// Adds the row of a file.
+fn put_row(path: &OsBytes, noted: &Noted, rows: &mut Vec<u8>) -> Result<(), AllocError> {
+    put_framed(rows, path.as_bytes())?;
+    noted.state.put(rows)?;
+    put_framed(rows, noted.token.as_bytes())
+}
+
+/// Adds the token of the row at the front of these bytes, and returns what comes after it.
+fn add_row<'a>(
+    alloc: Global,
+    bytes: &'a [u8],
+    tokens: &mut BTreeMap<OsBytes, Noted>,
+) -> Result<Option<&'a [u8]>, AllocError> {
+    let Ok((path, rest)) = read_framed(bytes) else {
+        return Ok(None);
+    };
+    let Ok((state, rest)) = State::read(rest) else {
+        return Ok(None);
+    };
+    let Ok((token, rest)) = read_framed(rest) else {
+        return Ok(None);
+    };
+    let token = OsBytes::from_slice(alloc, token)?;
+    let path = OsBytes::from_slice(alloc, path)?;
+    tokens.insert(path, Noted { state, token })?;
+    Ok(Some(rest))
+}
+
+/// Adds the tokens of these rows.
+pub(crate) fn add_rows(
+    alloc: Global,
+    bytes: &[u8],
+    tokens: &mut BTreeMap<OsBytes, Noted>,
+) -> Result<(), AllocError> {
+    let mut rest = bytes;
+    for _ in 0..MOST {
+        let Some(behind) = add_row(alloc, rest, tokens)? else {
+            break;
+        };
+        rest = behind;
+    }
+    Ok(())
+}
+
 impl Tokens {
     /// None are known.
     pub fn new(alloc: Global) -> Tokens {
         Tokens {
             noted: BTreeMap::new(alloc),
+            shared: None,
+            are_unshared: false,
             whole: BTreeSet::new(alloc),
             devices: None,
             are_new: false,
@@ -105,11 +165,13 @@ impl Tokens {
 
     /// The token of the file of that path, where it is in the state in which it was.
     pub fn get(&self, path: &OsBytes, found: &Metadata) -> Option<&OsBytes> {
-        let noted = self.noted.get(path)?;
-        if noted.state != State::of(found) {
-            return None;
-        }
-        Some(&noted.token)
+        self.noted.get(path)?.token_in(State::of(found))
+    }
+
+    /// The token that another call in this folder noted of the file of that path, where it is in the state in which it was.
+    pub(crate) fn get_shared(&self, path: &OsBytes, found: &Metadata) -> Option<&OsBytes> {
+        let shared = self.shared.as_ref()?;
+        shared.get(path)?.token_in(State::of(found))
     }
 
     /// Whether files of that device have the same contents in the same state.
@@ -157,46 +219,34 @@ impl Tokens {
         Ok(())
     }
 
-    /// Takes the row at the front of these bytes, and returns what comes after it.
-    fn take_row<'a>(
-        &mut self,
-        alloc: Global,
-        bytes: &'a [u8],
-    ) -> Result<Option<&'a [u8]>, AllocError> {
-        let Ok((path, rest)) = read_framed(bytes) else {
-            return Ok(None);
-        };
-        let Ok((state, rest)) = State::read(rest) else {
-            return Ok(None);
-        };
-        let Ok((token, rest)) = read_framed(rest) else {
-            return Ok(None);
-        };
-        let token = OsBytes::from_slice(alloc, token)?;
-        let path = OsBytes::from_slice(alloc, path)?;
-        self.noted.insert(path, Noted { state, token })?;
-        Ok(Some(rest))
-    }
-
     /// Takes the rows of these bytes: of each file the path, its state and its token.
     pub fn take_rows(&mut self, alloc: Global, bytes: &[u8]) -> Result<(), AllocError> {
-        let mut rest = bytes;
-        for _ in 0..MOST {
-            let Some(behind) = self.take_row(alloc, rest)? else {
-                break;
-            };
-            rest = behind;
-        }
-        Ok(())
+        add_rows(alloc, bytes, &mut self.noted)
     }
 
     /// The rows of all tokens.
     pub fn rows(&self, alloc: Global) -> Result<Vec<u8>, AllocError> {
         let mut rows = Vec::new(alloc);
         for (path, noted) in self.noted.iter() {
-            put_framed(&mut rows, path.as_bytes())?;
-            noted.state.put(&mut rows)?;
-            put_framed(&mut rows, noted.token.as_bytes())?;
+            put_row(path, noted, &mut rows)?;
+        }
+        Ok(rows)
+    }
+
+    /// The rows for other calls in this folder: of all tokens, and after them of those that other calls noted of other files, as long as these aren't
+    /// more than so many.
+    pub(crate) fn rows_to_share(&self, alloc: Global, most: usize) -> Result<Vec<u8>, AllocError> {
+        let mut rows = self.rows(alloc)?;
+        let Some(shared) = &self.shared else {
+            return Ok(rows);
+        };
+        if shared.len() > most {
+            return Ok(rows);
+        }
+        for (path, noted) in shared.iter() {
+            if !self.noted.contains_key(path) {
+                put_row(path, noted, &mut rows)?;
+            }
         }
         Ok(rows)
     }
