@@ -79,6 +79,16 @@ fn may_have_place(line: &CommandLine) -> bool {
     false
 }
 
+/// Adds the folder of the call, by its name and by the one that the caller has for it, which compilers and assemblers prefer.
+fn add_folder(
+    alloc: Global,
+    line: &CommandLine,
+    additions: &mut Additions,
+) -> Result<(), HostError> {
+    additions.add(alloc, "folder", line.dir.as_bytes())?;
+    additions.add_if_any(alloc, "PWD", line.value_of(b"PWD"))
+}
+
 /// Adds where the input lies, where an object may have that in it though no text shows it.
 fn add_place(
     alloc: Global,
@@ -88,7 +98,7 @@ fn add_place(
     if !may_have_place(line) {
         return Ok(());
     }
-    additions.add(alloc, "folder", line.dir.as_bytes())?;
+    add_folder(alloc, line, additions)?;
     for placed in PlacedWords::of(line.words.as_slice()) {
         if placed.is_input() {
             additions.add(alloc, "path", placed.word.as_bytes())?;
@@ -115,7 +125,7 @@ fn add_beside(
         additions.add(alloc, "file beside the object", word.as_bytes())?;
     }
     additions.add(alloc, "object", side_files.object.as_bytes())?;
-    additions.add(alloc, "folder", line.dir.as_bytes())
+    add_folder(alloc, line, additions)
 }
 
 /// What is bound to the key of a call beside text, words and compiler.
