@@ -91,6 +91,21 @@ static int source_has_escape(const char *path) {
 
 enum { NO_NAME, GOES_IN, GOES_BACK, UNREADABLE };
 
+static int is_octal(char letter, char most) { return letter >= '0' && letter <= most; }
+
+/* The byte that is written at a place of a name, or -1; the place goes on to the last letter that it took. After a backslash comes that byte, or,
+   as Clang writes it, a t for a tab or three octal digits. */
+static int written_byte(const char **at, const char *end) {
+    if (**at != '\\') return (unsigned char)**at;
+    const char *next = ++*at;
+    if (next == end) return -1;
+    if (*next == '\\' || *next == '"') return *next;
+    if (*next == 't') return '\t';
+    if (end - next < 3 || !is_octal(next[0], '3') || !is_octal(next[1], '7') || !is_octal(next[2], '7')) return -1;
+    *at += 2;
+    return (next[0] - '0') << 6 | (next[1] - '0') << 3 | (next[2] - '0');
+}
+
 /* Reads the name in a line of the text, where it is a marker: # 12 "name" 1, with a 2 at its end where a file goes on that was named before. */
 static int name_in(const char *line, const char *end, char *name) {
     const char *at = line + 2, *last = name + PATH_MAX - 1;
@@ -98,9 +113,9 @@ static int name_in(const char *line, const char *end, char *name) {
     while (at < end && *at >= '0' && *at <= '9') at++;
     if (at == line + 2 || end - at < 2 || at[0] != ' ' || at[1] != '"') return NO_NAME;
     for (at += 2; at < end && *at != '"'; at++) {
-        if (*at == '\\' && (++at == end || (*at != '\\' && *at != '"'))) return UNREADABLE;
-        if (name == last) return UNREADABLE;
-        *name++ = *at;
+        int byte = written_byte(&at, end);
+        if (byte < 0 || name == last) return UNREADABLE;
+        *name++ = (char)byte;
     }
     *name = 0;
     return end - at < 3 || at[2] != '2' ? GOES_IN : GOES_BACK;

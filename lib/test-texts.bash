@@ -34,12 +34,38 @@ precompiled_ahead() {
     echo 'int it;' >it.c
 }
 
+# Names that aren't ASCII, which Clang writes into texts with digits: a second call is a direct hit, one after a change of the header is none.
+names_of_bytes() {
+    local cc=$1 words name turn
+    for name in jürgen "a	tab" 'a"quote' 'a\123' plain; do
+        mkdir -p "$name"
+        printf '#define ONE 1\n' >"$name/one.h"
+        printf '#include "one.h"\nint f(int a) { int unused; return a + ONE; }\n' >"$name/it.c"
+        settle
+        for words in "" "-g" "-Wall" "-MD -g -Wall"; do
+            for turn in first second changed; do
+                [ $turn != changed ] || { printf '#define ONE 2\n' >"$name/one.h"; settle; }
+                (cd "$name" && $cc $words -c "$PWD/it.c" -o it.o 2>it.err; mv it.o plain.o; mv it.err plain.err)
+                mark
+                (cd "$name" && "$host" "$cc" $words -c "$PWD/it.c" -o it.o 2>it.err)
+                is "$cc $words: a folder $name, $turn: object" cmp -s "$name/plain.o" "$name/it.o"
+                is "$cc $words: a folder $name, $turn: messages" cmp -s "$name/plain.err" "$name/it.err"
+                [ $turn != second ] || is "$cc $words: a folder $name: a direct hit" since 0 0 1
+                [ $turn != changed ] || is "$cc $words: a folder $name: a changed header" since 0 1
+            done
+            printf '#define ONE 1\n' >"$name/one.h"
+        done
+        rm -r "$name"
+    done
+}
+
 texts() {
     local cc=$1 dir=$work/texts-$1 directive
     local -x TZ
     TZ=$(noon_zone)
     mkdir -p "$dir/parts.include"
     cd "$dir" || return
+    names_of_bytes "$cc"
     echo one >d.bin
     echo nop >s.inc
     # Files that the assembler takes in, however that is written.

@@ -19,7 +19,9 @@ use cache_source_files::{
 };
 use cache_unkept_texts::{takes_files, tells_time};
 use cache_watch_lists::Unwatched;
-use cache_written_lines::{Asked, NamedFiles, Sources, digest_asked, digest_of_contents};
+use cache_written_lines::{
+    Asked, NamedFiles, Sources, digest_asked, digest_of_contents, with_plain_names,
+};
 use ckeys::needs_c_preprocessing;
 use ckeys_records::{Printed, Step};
 use ckeys_time_macros::Zone;
@@ -277,6 +279,19 @@ impl Known {
         Ok(text_words(alloc, others.as_slice(), list)?)
     }
 
+    /// The text that a preprocessor printed, with the names of files as they are.
+    pub(crate) fn printed_text<R: Files + AllocGlobal>(
+        &self,
+        rt: &R,
+        line: &CommandLine,
+    ) -> Result<Vec<u8>, HostError> {
+        let text = read_whole(rt, line.text.as_str())?;
+        match self.kind {
+            CCompilerKind::Clang => Ok(with_plain_names(rt.alloc(), text)?),
+            _ => Ok(text),
+        }
+    }
+
     /// The text that was printed, followed by what it doesn't say of its sources: the digest of lines as they were written, and that of the
     /// list of its files, where a dependency file is asked for.
     fn text_at<R: Files + AllocGlobal>(
@@ -285,7 +300,7 @@ impl Known {
         line: &CommandLine,
     ) -> Result<Vec<u8>, HostError> {
         let alloc = rt.alloc();
-        let mut text = read_whole(rt, line.text.as_str())?;
+        let mut text = self.printed_text(rt, line)?;
         refuse_text(line, text.as_slice())?;
         if text.is_empty() {
             return Ok(text);

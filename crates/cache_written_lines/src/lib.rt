@@ -4,10 +4,12 @@
 mod asked;
 mod lines;
 mod named;
+mod plain_names;
 mod sources;
 mod written;
 
 pub use asked::Asked;
 pub use lines::{digest_asked, digest_of_contents};
 pub use named::{Lying, NamedFile, NamedFiles, reads_as_file};
+pub use plain_names::with_plain_names;
 pub use sources::{Source, Sources};
