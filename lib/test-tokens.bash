@@ -46,10 +46,47 @@ shared_case() {
     search_call "$name, as at first" $cc -I.
 }
 
+# The sums of all manifests.
+manifests_now() { find "$GULMAAT_DIR/manifests" -type f -exec sha256sum {} + | sort; }
+
+# All folders change, as by a checkout: the first hit after that looks at names, and notes the folders' states, so that the next one needs no look.
+renewed_case() {
+    local cc=$1 number words= before after
+    "$host" --clear
+    mkdir -p many
+    printf '#define VALUE 1\n' >many/value.h
+    for number in $(seq 12); do
+        mkdir -p many/$number
+        words="$words -Imany/$number"
+    done
+    printf '#include <value.h>\nint it = VALUE;\n' >it.c
+    settle
+    search_call "$cc: many folders" $cc $words -Imany
+    settle
+    search_call "$cc: many folders, a hit" $cc $words -Imany
+    for number in $(seq 12); do echo >many/$number/new.h; done
+    settle
+    before=$(manifests_now)
+    mark
+    search_call "$cc: many folders changed" $cc $words -Imany
+    is "$cc: many folders changed: a direct hit" since 0 0 1
+    after=$(manifests_now)
+    is "$cc: many folders changed: noted" [ "$before" != "$after" ]
+    settle
+    search_call "$cc: many folders, as they are noted" $cc $words -Imany
+    is "$cc: many folders, as they are noted: nothing is written" [ "$after" = "$(manifests_now)" ]
+    printf '#define VALUE 2\n' >many/7/value.h
+    search_call "$cc: many folders, a header before the other one" $cc $words -Imany
+    rm many/7/value.h
+    search_call "$cc: many folders, that header gone" $cc $words -Imany
+    rm -r many
+}
+
 tokens() {
     local cc=$1 dir=$work/tokens-$1 other
     mkdir -p "$dir"
     cd "$dir" || return
+    renewed_case $cc
     printf '#include <value.h>\nint value = VALUE;\n' >it.c
     token_case "$cc: as it was" "true" "0 0 1" $cc
     token_case "$cc: touched" "touch value.h" "0 0 1" $cc

@@ -6,7 +6,6 @@ use crate::known::Known;
 use base_files::{FileTime, OsBytes};
 use base_formats::put_framed;
 use cache_dir::{CacheDirError, digest_of};
-use cache_disk::read_whole;
 use cache_files::manifests::FoundManifest;
 use cache_files::{manifest_under, put_manifest};
 use cache_format::KeptMessages;
@@ -14,7 +13,8 @@ use cache_host::{CommandLine, Host, HostError, messages_of, words_of};
 use cache_searched_folders::{AskingSources, EnteredNames, Source, TextFiles, said_of};
 use cache_source_files::{keep_shared, load_all};
 use cache_watch_lists::{
-    Unwatched, WatchedResult, noted_and_rows, result_holds, with_list, with_results_of, without,
+    Unwatched, WatchedResult, lists_renewed, looks_for_result, noted_and_rows, with_list,
+    with_results_of, without,
 };
 use cache_written_lines::NamedFile;
 use ckeys_include_records::PreprocessorCacheEntry;
@@ -25,6 +25,10 @@ use std::alloc::Global;
 use std::io::Read;
 use std::rt::Files;
 use wrap_base::store_key::{Shape, StoreKey};
+
+/// From how many looks on the states of folders are noted anew: after a checkout all are others, while those into which objects are written
+/// change with each call.
+const MANY_LOOKS: u64 = 8;
 
 /// The word by which a compiler of that kind takes a source of the language of what is compiled under this key.
 fn language_of(kind: CCompilerKind, key: &StoreKey) -> Option<&'static str> {
@@ -94,6 +98,8 @@ pub(crate) struct KnownManifest {
     put: Option<(EntryKey, PreprocessorCacheEntry)>,
     /// What is noted of headers, and what to watch of its results.
     watched: OsBytes,
+    /// The digest of the result that was used, where much had to be looked at for it.
+    looked_at: Option<OsBytes>,
 }
 
 impl KnownManifest {
@@ -105,6 +111,7 @@ impl KnownManifest {
             whole: None,
             put: None,
             watched: OsBytes::empty(alloc),
+            looked_at: None,
         }
     }
 }
@@ -276,7 +283,10 @@ impl Known {
         };
         let (dir, digest) = (line.dir.as_bytes(), key.digest.as_bytes());
         let rows = noted_and_rows(self.record.watched.as_bytes()).1;
-        if result_holds(rt, dir, rows, digest, messages.as_bytes())? {
+        if let Some(looks) = looks_for_result(rt, dir, rows, digest, messages.as_bytes())? {
+            if looks >= MANY_LOOKS {
+                self.record.looked_at = Some(key.digest.clone()?);
+            }
             return Ok(true);
         }
         let rest = without(rt.alloc(), entry, digest)?;
@@ -347,7 +357,7 @@ impl Known {
             words.push(word.clone()?)?;
         }
         match messages_of(rt, line, host, words.as_slice())?.status {
-            0 => Ok(Some(read_whole(rt, line.text.as_str())?)),
+            0 => Ok(Some(self.printed_text(rt, line)?)),
             _ => Ok(None),
         }
     }
@@ -440,26 +450,38 @@ impl Known {
         Ok(put_manifest(rt, folder, zone, self.name_to_note(), key, entry, watched)?)
     }
 
-    /// Keeps what was noted anew of the headers of a manifest that was used. False where nothing was.
+    /// The lists of the manifest that was used, with the present states for its result where much had to be looked at.
+    fn lists_now<R: Files + AllocGlobal>(
+        &self,
+        rt: &R,
+        line: &CommandLine,
+    ) -> Result<Vec<u8>, HostError> {
+        let rows = noted_and_rows(self.record.watched.as_bytes()).1;
+        let Some(digest) = &self.record.looked_at else {
+            return Ok(Vec::from_slice(rt.alloc(), rows)?);
+        };
+        let (dir, digest) = (line.dir.as_bytes(), digest.as_bytes());
+        Ok(lists_renewed(rt, dir, rows, digest, line.settled_before())?)
+    }
+
+    /// Keeps what was noted anew of the headers and the folders of a manifest that was used. False where nothing was.
     pub fn keep_noted<R: Files + AllocGlobal>(
         &self,
         rt: &R,
         line: &CommandLine,
     ) -> Result<bool, HostError> {
-        let (true, Some((key, entry))) = (self.tokens.are_new, &self.record.kept) else {
+        let Some((key, entry)) = &self.record.kept else {
             return Ok(false);
         };
+        if !self.tokens.are_new && self.record.looked_at.is_none() {
+            return Ok(false);
+        }
         let entry = match &self.record.whole {
             Some(whole) => whole,
             None => entry,
         };
-        self.put_whole(
-            rt,
-            line,
-            key,
-            entry,
-            noted_and_rows(self.record.watched.as_bytes()).1,
-        )?;
+        let lists = self.lists_now(rt, line)?;
+        self.put_whole(rt, line, key, entry, lists.as_slice())?;
         Ok(true)
     }
 }

@@ -8,8 +8,8 @@ mod unwatched;
 mod watch_list;
 
 pub use manifests::{
-    WatchedResult, noted_and_rows, result_holds, with_list, with_results_of, without,
+    WatchedResult, looks_for_result, noted_and_rows, with_list, with_results_of, without,
 };
-pub use shared_lists::{lists_taken, lists_to_send};
+pub use shared_lists::{lists_renewed, lists_taken, lists_to_send};
 pub use unwatched::Unwatched;
 pub use watch_list::{FileRow, Folder, digest_at, holds};

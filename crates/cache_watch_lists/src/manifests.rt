@@ -1,7 +1,7 @@
 //! The lists of what to watch of a manifest's results, kept beside the manifest: the key of a result, which messages were printed beside it,
 //! and its list, each after its length. A result may have a list for each of several folders in which calls were made.
 
-use crate::watch_list::{folder_of, holds};
+use crate::watch_list::{folder_of, looks_for};
 use base_formats::{put_framed, read_framed};
 use ckeys_include_records::{CachedResult, PreprocessorCacheEntry};
 use std::alloc::{AllocError, Global};
@@ -61,20 +61,24 @@ pub fn noted_and_rows(watched: &[u8]) -> (&[u8], &[u8]) {
     }
 }
 
-/// Whether a call in that folder finds all files where the text of this key has them from, and would print these messages.
-pub fn result_holds<R: Files + AllocGlobal>(
+/// How many folders and files had to be looked at, where a call in that folder finds all files where the text of this key has them from, and
+/// would print these messages. Nothing where it doesn't.
+pub fn looks_for_result<R: Files + AllocGlobal>(
     rt: &R,
     dir: &[u8],
     rows: &[u8],
     key: &[u8],
     messages: &[u8],
-) -> Result<bool, AllocError> {
+) -> Result<Option<u64>, AllocError> {
     for row in rows_of(rt.alloc(), rows)? {
-        if row.key == key && row.messages == messages && holds(rt, dir, row.list)? {
-            return Ok(true);
+        if row.key != key || row.messages != messages {
+            continue;
+        }
+        if let Some(looks) = looks_for(rt, dir, row.list)? {
+            return Ok(Some(looks));
         }
     }
-    Ok(false)
+    Ok(None)
 }
 
 /// The bytes of a result's key.
@@ -92,7 +96,7 @@ fn keys_of(alloc: Global, entry: &PreprocessorCacheEntry) -> Result<HashSet<&[u8
 }
 
 /// Whether the list is of a call in that folder.
-fn is_of_folder(list: &[u8], dir: &[u8]) -> bool {
+pub(crate) fn is_of_folder(list: &[u8], dir: &[u8]) -> bool {
     match folder_of(list) {
         Ok(folder) => folder == dir,
         Err(_) => false,

@@ -1,7 +1,8 @@
 //! Lists that several machines share. A state of a file or a folder is one machine's own, so lists go without them: each name is looked at, and
-//! each file is read. Who takes a list from another machine puts its own states there, once all is as the list says.
+//! each file is read. Who takes a list from another machine puts its own states there, once all is as the list says; and so does who finds most
+//! states changed, as after a checkout.
 
-use crate::manifests::rows_of;
+use crate::manifests::{WatchedResult, is_of_folder, rows_of};
 use crate::unwatched::Unwatched;
 use crate::watch_list::{FileRow, Looking, file_ahead, folder_ahead, holds, text_of};
 use base_files::FileTime;
@@ -164,8 +165,24 @@ fn with_states<R: Files + AllocGlobal>(
     Ok(out)
 }
 
-/// The lists of another machine, with the states of this one where a call in that folder finds all as they say. States are read before that is looked
-/// at, so that what changes meanwhile is seen the next time.
+/// Adds a row with the present states where a call in that folder finds all as it says. States are read before that is looked at, so that what
+/// changes meanwhile is seen the next time.
+fn put_filled<R: Files + AllocGlobal>(
+    rt: &R,
+    dir: &[u8],
+    row: WatchedResult<'_>,
+    before: FileTime,
+    out: &mut Vec<u8>,
+) -> Result<(), AllocError> {
+    let filled = with_states(rt, row.list, before);
+    let fits = holds(rt, dir, row.list)?;
+    match &filled {
+        Ok(list) if fits => row.with(list.as_slice()).put(out),
+        _ => row.put(out),
+    }
+}
+
+/// The lists of another machine, with the states of this one where a call in that folder finds all as they say.
 pub fn lists_taken<R: Files + AllocGlobal>(
     rt: &R,
     dir: &[u8],
@@ -174,11 +191,24 @@ pub fn lists_taken<R: Files + AllocGlobal>(
 ) -> Result<Vec<u8>, AllocError> {
     let mut out = Vec::new(rt.alloc());
     for row in rows_of(rt.alloc(), lists)? {
-        let filled = with_states(rt, row.list, before);
-        let fits = holds(rt, dir, row.list)?;
-        match &filled {
-            Ok(list) if fits => row.with(list.as_slice()).put(&mut out)?,
-            _ => row.put(&mut out)?,
+        put_filled(rt, dir, row, before, &mut out)?;
+    }
+    Ok(out)
+}
+
+/// The lists with the present states in those of that result for calls in that folder, where a call there finds all as they say.
+pub fn lists_renewed<R: Files + AllocGlobal>(
+    rt: &R,
+    dir: &[u8],
+    lists: &[u8],
+    key: &[u8],
+    before: FileTime,
+) -> Result<Vec<u8>, AllocError> {
+    let mut out = Vec::new(rt.alloc());
+    for row in rows_of(rt.alloc(), lists)? {
+        match row.key == key && is_of_folder(row.list, dir) {
+            true => put_filled(rt, dir, row, before, &mut out)?,
+            false => row.put(&mut out)?,
         }
     }
     Ok(out)

@@ -205,17 +205,25 @@ fn is_as_twin<R: Files>(rt: &R, row: FolderRow<'_>, now: State) -> Result<bool, 
     }
 }
 
-/// Whether the folder at the front of these bytes is as it was, as far as something was looked for in it, and what comes after it.
+/// Whether the folder at the front of these bytes is as it was, as far as something was looked for in it: how often something was looked at for
+/// that, and nothing where it isn't. And what comes after it.
 fn folder_holds<'a, R: Files + AllocGlobal>(
     rt: &R,
     bytes: &'a [u8],
-) -> Result<(bool, &'a [u8]), Unwatched> {
+) -> Result<(Option<u64>, &'a [u8]), Unwatched> {
     let (row, rest) = folder_ahead(bytes)?;
     let path = text_of(row.path)?;
     let now = State::at(rt, path)?;
-    let is_unchanged = row.looking == Looking::Settled.code() && now == row.state;
-    let holds = is_as_twin(rt, row, now)? && (is_unchanged || names_hold(rt, path, row.names)?);
-    Ok((holds, rest))
+    if !is_as_twin(rt, row, now)? {
+        return Ok((None, rest));
+    }
+    if row.looking == Looking::Settled.code() && now == row.state {
+        return Ok((Some(0), rest));
+    }
+    match names_hold(rt, path, row.names)? {
+        true => Ok((Some(1), rest)),
+        false => Ok((None, rest)),
+    }
 }
 
 /// Adds a name.
@@ -268,63 +276,96 @@ pub fn digest_at<R: Files + AllocGlobal>(rt: &R, path: &str) -> Result<String, U
     Ok(digest_of(rt.alloc(), contents.as_slice())?)
 }
 
-/// Whether the file at the front of these bytes is as it was, and what comes after it. One in another state may have the same contents.
+/// Whether the file at the front of these bytes is as it was, and what comes after it, as `folder_holds` says. One in another state may have the
+/// same contents.
 fn file_holds<'a, R: Files + AllocGlobal>(
     rt: &R,
     bytes: &'a [u8],
-) -> Result<(bool, &'a [u8]), Unwatched> {
+) -> Result<(Option<u64>, &'a [u8]), Unwatched> {
     let (row, rest) = file_ahead(bytes)?;
     let path = text_of(row.path)?;
-    let holds = State::at(rt, path)? == row.state || digest_at(rt, path)?.as_bytes() == row.digest;
-    Ok((holds, rest))
+    if State::at(rt, path)? == row.state {
+        return Ok((Some(0), rest));
+    }
+    match digest_at(rt, path)?.as_bytes() == row.digest {
+        true => Ok((Some(1), rest)),
+        false => Ok((None, rest)),
+    }
 }
 
-/// Whether the folders at the front of these bytes are as they were, and what comes after them.
+/// Whether the folders at the front of these bytes are as they were, and what comes after them, as `folder_holds` says.
 fn folders_hold<'a, R: Files + AllocGlobal>(
     rt: &R,
     bytes: &'a [u8],
-) -> Result<(bool, &'a [u8]), Unwatched> {
+) -> Result<(Option<u64>, &'a [u8]), Unwatched> {
     let (count, mut rest) = read_number(bytes)?;
+    let mut looks = 0u64;
     for _ in 0..count {
-        let (holds, behind) = folder_holds(rt, rest)?;
-        if !holds {
-            return Ok((false, behind));
-        }
+        let (found, behind) = folder_holds(rt, rest)?;
+        let Some(more) = found else {
+            return Ok((None, behind));
+        };
+        looks = looks.saturating_add(more);
         rest = behind;
     }
-    Ok((true, rest))
+    Ok((Some(looks), rest))
 }
 
-/// Whether the files ahead in these bytes are as they were.
-fn files_hold<R: Files + AllocGlobal>(rt: &R, bytes: &[u8]) -> Result<bool, Unwatched> {
+/// Whether the files ahead in these bytes are as they were, as `folder_holds` says.
+fn files_hold<R: Files + AllocGlobal>(rt: &R, bytes: &[u8]) -> Result<Option<u64>, Unwatched> {
     let (count, mut rest) = read_number(bytes)?;
+    let mut looks = 0u64;
     for _ in 0..count {
-        let (holds, behind) = file_holds(rt, rest)?;
-        if !holds {
-            return Ok(false);
-        }
+        let (found, behind) = file_holds(rt, rest)?;
+        let Some(more) = found else {
+            return Ok(None);
+        };
+        looks = looks.saturating_add(more);
         rest = behind;
     }
-    Ok(rest.is_empty())
+    match rest.is_empty() {
+        true => Ok(Some(looks)),
+        false => Ok(None),
+    }
 }
 
-/// Whether all is as it was, for a call in that folder.
-fn all_holds<R: Files + AllocGlobal>(rt: &R, dir: &[u8], list: &[u8]) -> Result<bool, Unwatched> {
+/// Whether all is as it was, for a call in that folder, as `folder_holds` says.
+fn all_holds<R: Files + AllocGlobal>(
+    rt: &R,
+    dir: &[u8],
+    list: &[u8],
+) -> Result<Option<u64>, Unwatched> {
     let (own, rest) = read_framed(list)?;
     if own != dir {
-        return Ok(false);
+        return Ok(None);
     }
-    let (holds, rest) = folders_hold(rt, rest)?;
-    Ok(holds && files_hold(rt, rest)?)
+    let (found, rest) = folders_hold(rt, rest)?;
+    let Some(folders) = found else {
+        return Ok(None);
+    };
+    let Some(files) = files_hold(rt, rest)? else {
+        return Ok(None);
+    };
+    Ok(Some(folders.saturating_add(files)))
+}
+
+/// How many folders and files had to be looked at, since they are in another state, where a call in that folder finds all files where the call
+/// that made this list found them. Nothing where it doesn't, or that can't be determined.
+pub fn looks_for<R: Files + AllocGlobal>(
+    rt: &R,
+    dir: &[u8],
+    list: &[u8],
+) -> Result<Option<u64>, AllocError> {
+    match all_holds(rt, dir, list) {
+        Ok(looks) => Ok(looks),
+        Err(Unwatched::Memory) => Err(AllocError),
+        Err(_) => Ok(None),
+    }
 }
 
 /// Whether a call in that folder finds all files where the call that made this list found them. False where that can't be determined.
 pub fn holds<R: Files + AllocGlobal>(rt: &R, dir: &[u8], list: &[u8]) -> Result<bool, AllocError> {
-    match all_holds(rt, dir, list) {
-        Ok(holds) => Ok(holds),
-        Err(Unwatched::Memory) => Err(AllocError),
-        Err(_) => Ok(false),
-    }
+    Ok(looks_for(rt, dir, list)?.is_some())
 }
 
 /// The folder of the call whose list these bytes are.

@@ -2,7 +2,7 @@
 
 use base_files::Listed;
 use base_formats::{put_framed, put_number};
-use cache_watch_lists::{WatchedResult, result_holds, with_list, with_results_of, without};
+use cache_watch_lists::{WatchedResult, looks_for_result, with_list, with_results_of, without};
 use ckeys_include_records::{KeyText, PreprocessorCacheEntry};
 use std::alloc::{AllocError, Global};
 use std::rt::Files;
@@ -68,10 +68,11 @@ fn holding<R: Files + AllocGlobal>(rt: &R, lists: &[u8], folder: &str) -> Result
     for letter in ["a", "b"] {
         let key = letter.repeat(rt.alloc(), 64)?;
         let (dir, key) = (folder.as_bytes(), key.as_bytes());
-        if result_holds(rt, dir, lists, key, b"messages")? {
+        if looks_for_result(rt, dir, lists, key, b"messages")?.is_some() {
             letters.push_str(letter)?;
         }
-        holds(!result_holds(rt, dir, lists, key, b"")?, letter)?;
+        let other = looks_for_result(rt, dir, lists, key, b"")?;
+        holds(other.is_none(), letter)?;
     }
     Ok(letters)
 }
