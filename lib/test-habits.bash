@@ -147,7 +147,7 @@ habits_counters() {
     is "the reasons are in falling order" [ "$(sed -n '/^Uncacheable/,/^Errors/p' shown | awk '/^  / { print $2 }')" = \
         "$(sed -n '/^Uncacheable/,/^Errors/p' shown | awk '/^  / { print $2 }' | sort -rn)" ]
     is "-s has no options" [ "$(grep -c option_ shown)" = 0 ]
-    for cc in -sv "-s -v" "--show-stats --verbose"; do is "$cc has options" grep -q "^  option_fstack_usage *2\$" <("$host" $cc); done
+    for cc in -sv "-s -v" "--show-stats --verbose"; do is "$cc has options" grep -q "^  option_fverbose_asm *2\$" <("$host" $cc); done
 }
 
 habits_keeping() {

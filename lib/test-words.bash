@@ -223,6 +223,11 @@ CC -MJ x.json -c foo.c
 CC -emit-interface-stubs -c foo.c
 END
     kept_case clang "CC -fsanitize=address -c foo.c"
+    # What a kernel has in each call, and options that no help text lists.
+    kept_case clang "CC -O2 -mretpoline-external-thunk -ftrivial-auto-var-init=zero -enable-trivial-auto-var-init-zero-knowing-it-will-be-removed-from-clang -c foo.c"
+    kept_case clang "CC -ferror-limit=3 -fmacro-backtrace-limit=0 -fno-caret-diagnostics -fspell-checking-limit=2 -mspeculative-load-hardening -c foo.c"
+    kept_case clang "CC -g -gmlt -gsimple-template-names -no-integrated-as -c foo.c"
+    kept_case clang "CC -fsanitize-coverage=trace-pc-guard,pc-table,inline-8bit-counters -fdenormal-fp-math=preserve-sign --rtlib=libgcc -c foo.c"
     kept_case clang "CC -Qunused-arguments -mllvm -inline-threshold=100 -Xclang -disable-O0-optnone -c foo.c"
     kept_case gcc "CC -fsanitize=undefined,address -c foo.c"
     kept_case gcc "CC -Wa,-mtune=generic32,-march=generic64 -Xassembler -O2 -c foo.c"

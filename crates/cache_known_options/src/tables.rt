@@ -8,13 +8,14 @@
 /// Words that are used alone. For `-fno-NAME`, `-mno-NAME` and `-gno-NAME` the form without `no-` is listed.
 pub const WHOLE: &str = " \
     -c -S -E -M -MM -MD -MMD -MP -ansi -pedantic -pedantic-errors -w -pipe -pthread -p -pg -undef -trigraphs -remap -nostdinc \
+    -enable-trivial-auto-var-init-zero-knowing-it-will-be-removed-from-clang -integrated-as -no-integrated-as \
     -nostdinc++ -nostdlibinc -nobuiltininc -s -static -shared -pie -no-pie -static-pie -rdynamic -symbolic -nostdlib -nodefaultlibs \
     -nostartfiles -nolibc -static-libgcc -static-libstdc++ -static-libasan -static-libubsan -static-libtsan -static-liblsan \
     -shared-libgcc -static-openmp -Qunused-arguments -Qn -Qy -canonical-prefixes -no-canonical-prefixes --start-no-unused-arguments \
     --end-no-unused-arguments -g -g0 -g1 -g2 -g3 -ggdb -ggdb0 -ggdb1 -ggdb2 -ggdb3 -gdwarf -gdwarf-2 -gdwarf-3 -gdwarf-4 -gdwarf-5 \
     -gdwarf32 -gdwarf64 -gstabs -gstabs0 -gstabs1 -gstabs2 -gstabs3 -gstabs+ -gas-loc-support -gas-locview-support -gbtf -gctf -gctf0 \
     -gctf1 -gctf2 -gcolumn-info -gdescribe-dies -gdwarf-aranges -ggnu-pubnames -gpubnames -ginline-points -ginternal-reset-location-views \
-    -gsplit-dwarf -gstatement-frontiers -gstrict-dwarf -gtoggle -gvariable-location-views -gz -gline-tables-only \
+    -gsplit-dwarf -gmlt -gsimple-template-names -gstatement-frontiers -gstrict-dwarf -gtoggle -gvariable-location-views -gz -gline-tables-only \
     -gline-directives-only -ginline-line-tables -glldb -gsce -gdbx -gvms -fversion-loops-for-strides -fPIC -fPIE -faapcs-bitfield-load \
     -faapcs-bitfield-width -faccess-control -faddrsig -faggressive-loop-optimizations -falign-functions -falign-jumps -falign-labels \
     -falign-loops -faligned-allocation -faligned-new -fall-virtual -fallocation-dce -fallow-editor-placeholders \
@@ -26,7 +27,7 @@ pub const WHOLE: &str = " \
     -fasynchronous-unwind-tables -fauto-inc-dec -fautolink -fbit-tests -fblocks -fborland-extensions -fbranch-count-reg \
     -fbranch-target-load-optimize -fbranch-target-load-optimize2 -fbtr-bb-exclusive -fbuiltin -fc++-static-destructors \
     -fcall-saved-x10 -fcall-saved-x11 -fcall-saved-x12 -fcall-saved-x13 -fcall-saved-x14 -fcall-saved-x15 -fcall-saved-x18 \
-    -fcall-saved-x8 -fcall-saved-x9 -fcaller-saves -fcanonical-system-headers -fcf-protection -fchar8_t -fcheck-data-deps -fcheck-new \
+    -fcall-saved-x8 -fcall-saved-x9 -fcaller-saves -fcaret-diagnostics -fcanonical-system-headers -fcf-protection -fchar8_t -fcheck-data-deps -fcheck-new \
     -fcheck-pointer-bounds -fchkp-check-incomplete-type -fchkp-check-read -fchkp-check-write -fchkp-first-field-has-own-bounds \
     -fchkp-flexible-struct-trailing-arrays -fchkp-instrument-calls -fchkp-instrument-marked-only -fchkp-narrow-bounds \
     -fchkp-narrow-to-innermost-array -fchkp-optimize -fchkp-store-bounds -fchkp-treat-zero-dynamic-size-as-infinite \
@@ -83,7 +84,7 @@ pub const WHOLE: &str = " \
     -fsanitize-address-globals-dead-stripping -fsanitize-address-outline-instrumentation -fsanitize-address-poison-custom-array-cookie \
     -fsanitize-address-use-after-scope -fsanitize-address-use-odr-indicator -fsanitize-cfi-canonical-jump-tables \
     -fsanitize-cfi-cross-dso -fsanitize-cfi-icall-generalize-pointers -fsanitize-hwaddress-experimental-aliasing \
-    -fsanitize-memory-param-retval -fsanitize-memory-track-origins -fsanitize-memory-use-after-dtor -fsanitize-recover \
+    -fsanitize-memory-param-retval -fsanitize-memory-track-origins -fsanitize-memory-use-after-dtor -fsanitize-minimal-runtime -fsanitize-recover \
     -fsanitize-stats -fsanitize-thread-atomics -fsanitize-thread-func-entry-exit -fsanitize-thread-memory-access -fsanitize-trap \
     -fsanitize-undefined-trap-on-error -fsched-critical-path-heuristic -fsched-dep-count-heuristic -fsched-group-heuristic \
     -fsched-interblock -fsched-last-insn-heuristic -fsched-pressure -fsched-rank-heuristic -fsched-spec -fsched-spec-insn-heuristic \
@@ -153,13 +154,13 @@ pub const WHOLE: &str = " \
     -mpowerpc64 -mprefer-avx128 -mprefetchwt1 -mprefixed -mprfchw -mprivileged -mprofile-kernel -mprototype -mptwrite -mpure-code \
     -mpush-args -mqdsp6-compat -mquad-memory -mquad-memory-atomic -mrdpid -mrdrnd -mrdseed -mreadonly-in-sdata -mrecip \
     -mrecip-precision -mrecord-mcount -mrecord-return -mred-zone -mregnames -mrelative-jumptables -mrelax -mrelax-all \
-    -mrelax-cmpxchg-loop -mrelax-pic-calls -mrelocatable -mrelocatable-lib -mrestrict-it -mriscv-attribute -mrmw -mrop-protect -mrtd \
+    -mrelax-cmpxchg-loop -mrelax-pic-calls -mrelocatable -mrelocatable-lib -mrestrict-it -mretpoline -mretpoline-external-thunk -mriscv-attribute -mrmw -mrop-protect -mrtd \
     -mrtm -msahf -msave-restore -msave-toc-indirect -msched-epilog -msched-groups -msched-prolog -msdata -msecure-plt -mserialize \
     -mserialize-volatile -mseses -msgx -msha -mshared -mshlib -mshort-calls -mshorten-memrefs -mshstk -msim -msingle-float \
     -msingle-pic-base -mskip-bug -mskip-rax-setup -mslow-flash-data -msmall-exec -msmartmips -msoft-float -msp8 \
     -mspeculate-indirect-jumps -msplat-float-constant -msplat-word-constant -msplit-addresses -msse -msse2 -msse2avx -msse3 -msse4 \
     -msse4.1 -msse4.2 -msse4a -msse5 -msseregparm -mssse3 -mstack-arg-probe -mstack-guard -mstack-size -mstackrealign -mstrict-X \
-    -mstrict-align -mstring -mstv -msum-in-toc -msym32 -msynci -mtarget-align -mtbm -mtext-section-literals -mtgsplit -mthread-model \
+    -mspeculative-load-hardening -mstrict-align -mstring -mstv -msum-in-toc -msym32 -msynci -mtarget-align -mtbm -mtext-section-literals -mtgsplit -mthread-model \
     -mthumb -mthumb-interwork -mtiny-stack -mtls-direct-seg-refs -mtoc -mtpcs-frame -mtpcs-leaf-frame -mtraceback -mtrack-speculation \
     -mtsxldtrk -muclibc -muintr -munaligned-access -muninit-const-in-rodata -munroll-only-small-loops -munsafe-fp-atomics -mupdate \
     -mvaes -mvect8-ret-in-mem -mvectorize-with-neon-double -mvectorize-with-neon-quad -mvirt -mvpclmulqdq -mvr4130-align -mvrsave \
@@ -173,7 +174,7 @@ pub const VALUED: &str = " \
     -fabi-compat-version=# -fabi-version=# -falign-functions=# -falign-jumps=# -falign-labels=# -falign-loops=# -faligned-new=# \
     -fanalyzer-checker=* -fanalyzer-verbosity=# -fasan-shadow-offset=* -fcf-protection=full,branch,return,none,check \
     -fconcepts-diagnostics-depth=# -fconstexpr-cache-depth=# -fconstexpr-depth=# -fconstexpr-steps=# -fconstexpr-loop-limit=# \
-    -fconstexpr-ops-limit=# -fbracket-depth=# -fdebug-prefix-map=* -fdiagnostics-color=never,always,auto -fdiagnostics-column-origin=# \
+    -fconstexpr-backtrace-limit=# -fconstexpr-ops-limit=# -fdenormal-fp-math=ieee,preserve-sign,positive-zero -ferror-limit=# -fbracket-depth=# -fdebug-prefix-map=* -fdiagnostics-color=never,always,auto -fdiagnostics-column-origin=# \
     -fdiagnostics-column-unit=display,byte -fdiagnostics-escape-format=unicode,bytes -fdiagnostics-format=text,json,clang,msvc,vi \
     -fdiagnostics-minimum-margin-width=# -fdiagnostics-path-format=none,separate-events,inline-events \
     -fdiagnostics-show-category=none,id,name -fdiagnostics-show-location=once,every-line -fdiagnostics-urls=never,always,auto \
@@ -182,17 +183,17 @@ pub const VALUED: &str = " \
     -finstrument-functions-exclude-file-list=* -finstrument-functions-exclude-function-list=* -fira-algorithm=CB,priority \
     -fira-region=one,all,mixed -flifetime-dse=# -flive-patching=inline-only-static,inline-clone -flto-compression-level=# \
     -flto-partition=1to1,balanced,max,one,none -flto=auto,jobserver,full,thin,1,2,3,4,5,6,7,8,9,10,11,12,13,14,15,16,24,32,48,64 \
-    -flto-jobs=# -fmacro-prefix-map=* -fmax-errors=# -fmax-include-depth=# -fmessage-length=0 -fopenacc-dim=* \
+    -flto-jobs=# -fmacro-backtrace-limit=# -fmacro-prefix-map=* -fmax-errors=# -fmax-include-depth=# -fmessage-length=0 -fopenacc-dim=* \
     -fopenmp=libomp,libgomp,libiomp5 -fopenmp-version=# -fpack-struct=# -fpatchable-function-entry=# \
     -fpermitted-flt-eval-methods=c11,ts-18661 -fplugin=* -fprofile-update=single,atomic,prefer-atomic -frandom-seed=* -freorder-blocks-algorithm=simple,stc \
     -fsanitize=address,undefined,thread,leak,hwaddress,kernel-address,kernel-hwaddress,pointer-compare,pointer-subtract,shadow-call-stack,shift,shift-exponent,shift-base,integer-divide-by-zero,unreachable,vla-bound,null,return,signed-integer-overflow,bounds,bounds-strict,alignment,object-size,float-divide-by-zero,float-cast-overflow,nonnull-attribute,returns-nonnull-attribute,bool,enum,vptr,pointer-overflow,builtin,memory,memtag,safe-stack,integer,implicit-conversion,implicit-integer-truncation,implicit-integer-arithmetic-value-change,implicit-signed-integer-truncation,implicit-unsigned-integer-truncation,implicit-integer-sign-change,unsigned-integer-overflow,unsigned-shift-base,nullability,nullability-arg,nullability-assign,nullability-return,local-bounds,array-bounds,function,fuzzer,fuzzer-no-link,all \
     -fsanitize-recover=address,undefined,thread,leak,hwaddress,kernel-address,kernel-hwaddress,pointer-compare,pointer-subtract,shadow-call-stack,shift,shift-exponent,shift-base,integer-divide-by-zero,unreachable,vla-bound,null,return,signed-integer-overflow,bounds,bounds-strict,alignment,object-size,float-divide-by-zero,float-cast-overflow,nonnull-attribute,returns-nonnull-attribute,bool,enum,vptr,pointer-overflow,builtin,memory,memtag,safe-stack,integer,implicit-conversion,implicit-integer-truncation,implicit-integer-arithmetic-value-change,implicit-signed-integer-truncation,implicit-unsigned-integer-truncation,implicit-integer-sign-change,unsigned-integer-overflow,unsigned-shift-base,nullability,nullability-arg,nullability-assign,nullability-return,local-bounds,array-bounds,function,fuzzer,fuzzer-no-link,all \
     -fsanitize-trap=address,undefined,thread,leak,hwaddress,kernel-address,kernel-hwaddress,pointer-compare,pointer-subtract,shadow-call-stack,shift,shift-exponent,shift-base,integer-divide-by-zero,unreachable,vla-bound,null,return,signed-integer-overflow,bounds,bounds-strict,alignment,object-size,float-divide-by-zero,float-cast-overflow,nonnull-attribute,returns-nonnull-attribute,bool,enum,vptr,pointer-overflow,builtin,memory,memtag,safe-stack,integer,implicit-conversion,implicit-integer-truncation,implicit-integer-arithmetic-value-change,implicit-signed-integer-truncation,implicit-unsigned-integer-truncation,implicit-integer-sign-change,unsigned-integer-overflow,unsigned-shift-base,nullability,nullability-arg,nullability-assign,nullability-return,local-bounds,array-bounds,function,fuzzer,fuzzer-no-link,all \
-    -fsanitize-coverage=trace-pc,trace-cmp -fsanitize-sections=* -fsanitize-address-destructor=none,global \
+    -fsanitize-coverage=trace-pc,trace-cmp,trace-pc-guard,trace-div,trace-gep,trace-loads,trace-stores,inline-8bit-counters,inline-bool-flag,pc-table,stack-depth,func,bb,edge,indirect-calls,no-prune -fsanitize-sections=* -fsanitize-address-destructor=none,global \
     -fsanitize-address-field-padding=# -fsanitize-address-use-after-return=never,runtime,always \
     -fsanitize-hwaddress-abi=platform,interceptor -fsanitize-memory-track-origins=# -fsanitize-undefined-strip-path-components=* \
     -fsched-stalled-insns-dep=# -fsched-stalled-insns=# -fsimd-cost-model=unlimited,dynamic,cheap,very-cheap \
-    -fsso-struct=big-endian,little-endian,native -fstack-check=no,generic,specific -fstack-limit-register=* -fstack-limit-symbol=* \
+    -fspell-checking-limit=# -fsso-struct=big-endian,little-endian,native -fstack-check=no,generic,specific -fstack-limit-register=* -fstack-limit-symbol=* \
     -fstack-reuse=all,named_vars,none -fstrong-eval-order=none,some,all -ftabstop=# -ftemplate-backtrace-limit=# -ftemplate-depth=# \
     -ftls-model=global-dynamic,local-dynamic,initial-exec,local-exec -ftrack-macro-expansion=# -ftree-parallelize-loops=# \
     -ftrivial-auto-var-init=uninitialized,pattern,zero -ftrivial-auto-var-init-stop-after=# -fuse-ld=* \
@@ -226,7 +227,8 @@ pub const VALUED: &str = " \
     -msdata=none,data,sysv,eabi -msign-return-address=none,non-leaf,all -mstack-guard=# -mstack-size=# -mstring-compare-inline-limit=# \
     -mstructure-size-boundary=# -mtraceback=full,part,no -mvrsave=yes,no -mwarn-framesize=# \
     -fmin-function-alignment=# -fstrict-flex-arrays=# -fzero-init-padding-bits=standard,unions,all \
-    -std=* -stdlib=libc++,libstdc++,platform -rtlib=libgcc,compiler-rt,platform \
+    -std=* -stdlib=libc++,libstdc++,platform --stdlib=libc++,libstdc++,platform -rtlib=libgcc,compiler-rt,platform \
+    --rtlib=libgcc,compiler-rt,platform --unwindlib=none,libgcc,libunwind,platform \
     -unwindlib=none,libgcc,libunwind,platform --std=* --sysroot=* --target=* --gcc-toolchain=* ";
 
 /// Words for the assembler, after `-Wa,` or `-Xassembler`: whole, or up to their `=`, with what may come after it as in `VALUED`. With each an
