@@ -59,6 +59,17 @@ names_of_bytes() {
     done
 }
 
+# A line of a string that looks like a marker: a byte in it and the digits for that byte aren't the same.
+marker_in_string() {
+    local cc=$1 name
+    for name in 'a\tb' "a	b" 'a\303b' $'a\303b' 'a\tb'; do
+        printf 'extern const char *const text = R"(\n# 1 "%s"\n)";\n' "$name" >string.cc
+        $cc -c string.cc -o plain.o 2>/dev/null
+        "$host" "$cc" -c string.cc -o it.o 2>/dev/null
+        is "$cc: a marker in a string, $name" cmp -s plain.o it.o
+    done
+}
+
 texts() {
     local cc=$1 dir=$work/texts-$1 directive
     local -x TZ
@@ -66,6 +77,7 @@ texts() {
     mkdir -p "$dir/parts.include"
     cd "$dir" || return
     names_of_bytes "$cc"
+    marker_in_string "$cc"
     echo one >d.bin
     echo nop >s.inc
     # Files that the assembler takes in, however that is written.

@@ -7,6 +7,7 @@ use crate::kept::Hint;
 use crate::manifests::KnownManifest;
 use base_files::{Files as CallFiles, Listed, OsBytes};
 use base_snapshots::SnapshotFiles;
+use cache_dir::digest_of;
 use cache_disk::read_whole;
 use cache_files::results::Kept;
 use cache_format::KeptMessages;
@@ -27,6 +28,7 @@ use ckeys_records::{Printed, Step};
 use ckeys_time_macros::Zone;
 use cmdlines_tables::CCompilerKind;
 use std::alloc::Global;
+use std::fs;
 use std::fs::File;
 use std::io::Read;
 use std::rt::Files;
@@ -292,6 +294,23 @@ impl Known {
         }
     }
 
+    /// The digest of the text as it was printed, where that isn't the one with the names of files as they are: what looks like a marker may be a
+    /// line of a string, in which a byte and the digits for it aren't the same. An empty one else.
+    fn digest_of_printed<R: Files + AllocGlobal>(
+        &self,
+        rt: &R,
+        line: &CommandLine,
+        text: &[u8],
+    ) -> Result<String, HostError> {
+        let size = fs::metadata(rt, line.text.as_str())?.len();
+        // A name that is written in another way is longer.
+        if size == text.len() as u64 {
+            return Ok(String::new(rt.alloc()));
+        }
+        let printed = read_whole(rt, line.text.as_str())?;
+        Ok(digest_of(rt.alloc(), printed.as_slice())?)
+    }
+
     /// The text that was printed, followed by what it doesn't say of its sources: the digest of lines as they were written, and that of the
     /// list of its files, where a dependency file is asked for.
     fn text_at<R: Files + AllocGlobal>(
@@ -309,7 +328,9 @@ impl Known {
         if has_precompiled(rt, line, &self.named)? {
             return Err(HostError::Precompiled);
         }
+        let printed = self.digest_of_printed(rt, line, text.as_slice())?;
         let lines = self.lines_of(rt, line, text.as_slice())?;
+        push_digest(&mut text, "text as it was printed", printed.as_bytes())?;
         push_digest(&mut text, "lines as they were written", lines.as_bytes())?;
         if self.dependency_file().is_some() {
             self.list = OsBytes::from_vec(read_whole(rt, line.list.as_str())?);
