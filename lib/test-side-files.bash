@@ -72,6 +72,17 @@ side_contents() {
     $cc -fstack-usage -c column.c -o other/column.o
     is "$cc: another column" cmp -s made/column.su other/column.su
     [ $cc = gcc ] || return
+    # Of two words that contradict each other the last one counts.
+    for words in "-gsplit-dwarf -gno-split-dwarf" "-gno-split-dwarf -gsplit-dwarf" "-gsplit-dwarf -gno-split-dwarf"; do
+        rm -f made/order.dwo other/order.dwo
+        "$host" clang -g $words -c it.c -o made/order.o
+        cp made/order.o ours.o
+        cp made/order.dwo ours.dwo 2>/dev/null || rm -f ours.dwo
+        rm -f made/order.dwo
+        clang -g $words -c it.c -o made/order.o
+        is "clang -g $words: object" cmp -s made/order.o ours.o
+        is "clang -g $words: file beside it" [ "$(cat made/order.dwo 2>/dev/null | sha256sum)" = "$(cat ours.dwo 2>/dev/null | sha256sum)" ]
+    done
     # A comment is a region of what coverage is mapped to.
     printf 'int f(int a) {\n#if 0\n#endif\n  return a; }\n' >region.c
     "$host" clang -fprofile-instr-generate -fcoverage-mapping -c region.c -o made/region.o

@@ -107,7 +107,9 @@ fn add_place(
     Ok(())
 }
 
-/// Adds what the files beside the object hang on. Coverage's and split debug information's names are in the object too, with the folder.
+/// Adds what the files beside the object hang on. Coverage's and split debug information's names are in the object too, with the folder. The
+/// session's words don't show where the words stood that ask for such files, and the last of two that contradict each other counts: so all words
+/// are bound in their order.
 fn add_beside(
     alloc: Global,
     line: &CommandLine,
@@ -121,8 +123,8 @@ fn add_beside(
     if side_files.words.is_empty() {
         return Ok(());
     }
-    for word in side_files.words.as_slice() {
-        additions.add(alloc, "file beside the object", word.as_bytes())?;
+    for word in beside.dependencies.others.as_slice() {
+        additions.add(alloc, "argument", word.as_bytes())?;
     }
     additions.add(alloc, "object", side_files.object.as_bytes())?;
     add_folder(alloc, line, additions)
