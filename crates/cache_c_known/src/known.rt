@@ -319,7 +319,7 @@ impl Known {
         line: &CommandLine,
     ) -> Result<Vec<u8>, HostError> {
         let alloc = rt.alloc();
-        let mut text = self.printed_text(rt, line)?;
+        let text = self.printed_text(rt, line)?;
         refuse_text(line, text.as_slice())?;
         if text.is_empty() {
             return Ok(text);
@@ -330,8 +330,10 @@ impl Known {
         }
         let printed = self.digest_of_printed(rt, line, text.as_slice())?;
         let lines = self.lines_of(rt, line, text.as_slice())?;
+        let (mut text, maps) = self.without_folder(alloc, line, text)?;
         push_digest(&mut text, "text as it was printed", printed.as_bytes())?;
         push_digest(&mut text, "lines as they were written", lines.as_bytes())?;
+        push_digest(&mut text, "maps of names", maps.as_slice())?;
         if self.dependency_file().is_some() {
             self.list = OsBytes::from_vec(read_whole(rt, line.list.as_str())?);
             let digest = digest_of_list(alloc, self.list.as_bytes())?;
@@ -512,6 +514,9 @@ impl Known {
     /// in another call are an error.
     pub fn messages<R: Files + AllocGlobal>(&mut self, rt: &R) -> Result<KeptMessages, HostError> {
         self.check_sources(rt)?;
+        if self.shows_names() {
+            return Err(HostError::Quotes);
+        }
         let mut sources = None;
         if !self.was_silent() {
             if self.tool.text.is_some() {

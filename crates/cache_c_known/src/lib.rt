@@ -6,6 +6,7 @@ mod compiling;
 mod kept;
 mod known;
 mod manifests;
+mod mapped_names;
 mod side_files;
 
 pub use kept::{Hint, found, hint_at, hint_name, keep, kept_under, note_hint, renew};

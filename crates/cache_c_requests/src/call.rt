@@ -107,9 +107,9 @@ fn add_place(
     Ok(())
 }
 
-/// Adds what the files beside the object hang on. Coverage's and split debug information's names are in the object too, with the folder. The
-/// session's words don't show where the words stood that ask for such files, and the last of two that contradict each other counts: so all words
-/// are bound in their order.
+/// Adds what words come to that map names of files, and what the files beside the object hang on. Coverage's and split debug information's names
+/// are in the object too, with the folder. The session's words don't show where the words stood that ask for such files, and the last of two that
+/// contradict each other counts: so all words are bound in their order.
 fn add_beside(
     alloc: Global,
     line: &CommandLine,
@@ -118,6 +118,9 @@ fn add_beside(
 ) -> Result<(), HostError> {
     for word in beside.dependencies.said.as_slice() {
         additions.add(alloc, "dependency file", word.as_bytes())?;
+    }
+    for (name, value) in beside.maps.rows.as_slice() {
+        additions.add(alloc, name, value.as_bytes())?;
     }
     let side_files = &beside.side_files;
     if side_files.words.is_empty() {
@@ -151,13 +154,31 @@ fn additions_of(
     Ok(additions)
 }
 
-/// What the words say of files beside the object; nothing where the preprocessor is to write a dependency file in each call. So it is where
-/// folders don't count: lines of the file are as long as their names.
-fn beside_in(alloc: Global, line: &CommandLine) -> Result<Option<Beside>, HostError> {
+/// Whether an object of such a call has a name that its words map only as they say: so with a GCC's, of which all words are known, and whose
+/// input is preprocessed.
+fn may_have_maps(line: &CommandLine, kind: CCompilerKind) -> bool {
+    kind == CCompilerKind::Gcc
+        && line.settings.value_of(Key::AllowOptions).is_empty()
+        && !may_have_place(line)
+}
+
+/// What the words say of files beside the object, and of names of files in it; nothing where the preprocessor is to write a dependency file in
+/// each call. So it is where folders don't count: lines of the file are as long as their names.
+fn beside_in(
+    alloc: Global,
+    line: &CommandLine,
+    kind: CCompilerKind,
+) -> Result<Option<Beside>, HostError> {
     if !line.settings.value_of(Key::BaseDir).is_empty() {
         return Ok(None);
     }
-    Ok(beside_of(alloc, line.words.as_slice())?)
+    let Some(mut beside) = beside_of(alloc, line.words.as_slice())? else {
+        return Ok(None);
+    };
+    if may_have_maps(line, kind) {
+        beside.take_maps(alloc, line.dir.as_bytes())?;
+    }
+    Ok(Some(beside))
 }
 
 /// What the session is asked about a call, and what isn't passed to it.
@@ -166,7 +187,7 @@ pub struct Call {
     pub request: Request,
     /// Whether the compiler takes the word by which its messages are in colour.
     pub takes_color: bool,
-    /// What the words say of files beside the object; nothing where those words are passed to the session.
+    /// What the words say of files beside the object, and of names of files in it; nothing where those words are passed to the session.
     pub beside: Option<Beside>,
 }
 
@@ -239,7 +260,7 @@ pub fn call_of<P: Print + Files + AllocGlobal, I: Read>(
     requires { host.old.compiled ≡ 0 }
     ensures { host.new.compiled ≡ 0 }
 {
-    let beside = beside_in(rt.alloc(), line)?;
+    let beside = beside_in(rt.alloc(), line, kind)?;
     let (request, takes_color) = request_of(rt, line, host, kind, beside.as_ref())?;
     Ok(Call {
         request,

@@ -1,25 +1,39 @@
-//! What the words of a command say of the files that a compile writes beside its object.
+//! What the words of a command say of the files that a compile writes beside its object, and of names of files in the object.
 
 use crate::dependencies::{Dependencies, dependencies_of};
 use crate::placed::PlacedWords;
+use crate::prefix_maps::{PrefixMaps, prefix_maps_of};
 use crate::side_files::{SideFiles, asked_by, side_files_of};
 use base_files::{Listed, OsBytes};
 use std::alloc::{AllocError, Global};
 
-/// What the words of a command say of the files that a compile writes beside its object.
+/// What the words of a command say of the files that a compile writes beside its object, and of names of files in the object.
 #[derive(Drop)]
 pub struct Beside {
     pub dependencies: Dependencies,
     pub side_files: SideFiles,
+    /// The words that map names of files, once they were taken.
+    pub maps: PrefixMaps,
 }
 
 impl Beside {
-    /// The words that say nothing of these files, as they are given to the session.
+    /// Takes the words by which a GCC that runs in that folder maps names of files. In files beside the object it doesn't.
+    pub fn take_maps(&mut self, alloc: Global, dir: &[u8]) -> Result<(), AllocError> {
+        if self.side_files.words.is_empty() {
+            self.maps = prefix_maps_of(alloc, dir, self.dependencies.others.as_slice())?;
+        }
+        Ok(())
+    }
+
+    /// The words that say nothing of these, as they are given to the session.
     pub fn session_words(&self, alloc: Global) -> Result<Listed<OsBytes>, AllocError> {
         let mut words = Listed::new(alloc);
         for placed in PlacedWords::of(self.dependencies.others.as_slice()) {
-            if asked_by(placed).is_none() {
-                words.push(placed.word.clone()?)?;
+            if asked_by(placed).is_some() {
+                continue;
+            }
+            if let Some(word) = self.maps.session_word(alloc, placed)? {
+                words.push(word)?;
             }
         }
         Ok(words)
@@ -37,5 +51,6 @@ pub fn beside_of(alloc: Global, words: &[OsBytes]) -> Result<Option<Beside>, All
     Ok(Some(Beside {
         dependencies,
         side_files,
+        maps: PrefixMaps::new(alloc),
     }))
 }

@@ -1,5 +1,5 @@
 //! Tests of what gulmaat builds on, by example: what sources ask for, where compilers look, what is watched, states of files, lines as they were
-//! written, manifests, dependency files, variables, what is bound to keys, what is passed through, and what isn't kept.
+//! written, manifests, dependency files, names that are mapped, variables, what is bound to keys, what is passed through, and what isn't kept.
 #![tactic(auto)]
 
 #[cfg(test)]
@@ -16,6 +16,8 @@ mod lines;
 mod lists;
 #[cfg(test)]
 mod manifests;
+#[cfg(test)]
+mod mapped;
 #[cfg(test)]
 mod passing;
 #[cfg(test)]

@@ -1,0 +1,284 @@
+//! Words that have GCC write names of files in another way: `-ffile-prefix-map=OLD=NEW` and the like. Where no name in the text begins with OLD,
+//! nor the object has it, such a word counts only by what the name of the call's folder comes to. So the session isn't given OLD: calls in other
+//! folders, and calls with other names that don't occur, have the same key.
+
+use crate::placed::{Placed, PlacedWords, behind_front};
+use base_files::OsBytes;
+use memchr::{memchr, memchr2, memmem};
+use std::alloc::{AllocError, Global};
+
+/// What such a word begins with that is for the names in macros alone.
+const OF_MACROS: &str = "-fmacro-prefix-map=";
+
+/// What such words begin with.
+const FRONTS: [&str; 3] = ["-fdebug-prefix-map=", "-ffile-prefix-map=", OF_MACROS];
+
+/// What words begin with that ask for debug information as maps apply to it; that of other forms, and link-time optimisation, have names in the
+/// object all the same.
+const OF_DWARF: [&str; 9] = [
+    "-gas-loc",
+    "-gcolumn-info",
+    "-gdescribe-dies",
+    "-gdwarf",
+    "-ggdb",
+    "-gno-",
+    "-gstatement-frontiers",
+    "-gstrict-dwarf",
+    "-gvariable-location-views",
+];
+
+/// What else begins with `-g` and asks for debug information of that kind.
+const LEVELS: [&str; 5] = ["-g", "-g0", "-g1", "-g2", "-g3"];
+
+/// What the marker begins with by which a text has the folder of its call, and how it ends.
+const MARKER: &[u8] = b"# 1 \"";
+
+const MARKER_END: &[u8] = b"//\"\n";
+
+/// What stands in its place where debug information has another name for the folder.
+const WITHOUT_NAME: &[u8] = b"# 1 \"<folder>\"\n";
+
+/// What the session is given such a word behind, so that include records alone hang on it: by their key the text isn't known yet.
+const AS_FOLDER: &[u8] = b"-I";
+
+/// Whether a name is in markers as it is.
+fn is_plain(name: &[u8]) -> bool {
+    let is_printed = |byte: &u8| matches!(*byte, b' '..=b'~') && !matches!(*byte, b'"' | b'\\');
+    name.iter().all(is_printed)
+}
+
+/// Whether by that word an object may have names of folders whatever maps say.
+fn keeps_names(word: &[u8]) -> bool {
+    let is_debug = word.starts_with(b"-g");
+    let is_dwarf = behind_front(&OF_DWARF, word).is_some()
+        || LEVELS.iter().any(|level| word == level.as_bytes());
+    word.starts_with(b"-flto") || (is_debug && !is_dwarf)
+}
+
+/// The two names in what comes after such a word's front; nothing where it isn't certain where the second one begins, or the next word.
+fn names_in(value: &[u8]) -> Option<(&[u8], &[u8])> {
+    let (old, new) = value.split_at_checked(memchr(b'=', value)?)?;
+    let new = new.strip_prefix(b"=")?;
+    match memchr2(b'=', b'\n', new) {
+        Some(_) => None,
+        None => Some((old, new)),
+    }
+}
+
+/// What a word maps, for a call in some folder.
+enum Mapped<'a> {
+    /// That folder, or one above it: how the folder's path goes on after that name.
+    Folder(&'a [u8]),
+    /// Another name.
+    Other,
+    /// Names as they are written, from the call's folder on.
+    Relative,
+    /// It isn't certain what.
+    Unclear,
+}
+
+/// What a word with these names maps for a call in that folder. GCC maps each name that begins so, wherever its parts end. Where the folder's name
+/// comes to nothing, an assembler writes the folder that it runs in.
+fn mapped_by<'a>(dir: &'a [u8], old: &[u8], new: &[u8]) -> Mapped<'a> {
+    if !old.starts_with(b"/") {
+        return Mapped::Relative;
+    }
+    if !is_plain(old) {
+        return Mapped::Unclear;
+    }
+    match dir.strip_prefix(old) {
+        None => Mapped::Other,
+        Some([]) if new.is_empty() => Mapped::Unclear,
+        Some(rest) if rest.is_empty() || rest.starts_with(b"/") => Mapped::Folder(rest),
+        Some(_) => Mapped::Unclear,
+    }
+}
+
+/// A word that maps names.
+#[derive(Drop)]
+struct PrefixMap {
+    word: OsBytes,
+    /// What the names begin with.
+    old: OsBytes,
+    /// Whether one of them is that of the call's folder.
+    is_of_folder: bool,
+}
+
+/// The words of a call that map names.
+#[derive(Drop)]
+pub struct PrefixMaps {
+    /// In the order in which they come.
+    maps: Vec<PrefixMap>,
+    /// What is bound to the key for them: names of rows and their values.
+    pub rows: Vec<(&'static str, OsBytes)>,
+    /// Whether debug information has another name for the call's folder.
+    is_of_debug: bool,
+}
+
+impl PrefixMaps {
+    /// None.
+    pub(crate) fn new(alloc: Global) -> PrefixMaps {
+        PrefixMaps {
+            maps: Vec::new(alloc),
+            rows: Vec::new(alloc),
+            is_of_debug: false,
+        }
+    }
+
+    /// Whether there are none.
+    pub fn is_empty(&self) -> bool {
+        self.maps.is_empty()
+    }
+
+    /// Adds a row.
+    fn push_row(
+        &mut self,
+        alloc: Global,
+        name: &'static str,
+        value: &[u8],
+    ) -> Result<(), AllocError> {
+        let value = OsBytes::from_slice(alloc, value)?;
+        Ok(self.rows.push((name, value))?)
+    }
+
+    /// Adds a word that maps what begins with that name.
+    fn push(
+        &mut self,
+        alloc: Global,
+        word: &OsBytes,
+        old: &[u8],
+        is_of_folder: bool,
+    ) -> Result<(), AllocError> {
+        let map = PrefixMap {
+            word: word.clone()?,
+            old: OsBytes::from_slice(alloc, old)?,
+            is_of_folder,
+        };
+        Ok(self.maps.push(map)?)
+    }
+
+    /// Adds the rows of a word that begins so and has that name for the call's folder, up to how the folder's path goes on.
+    fn push_folder(
+        &mut self,
+        alloc: Global,
+        front: &'static str,
+        new: &[u8],
+        rest: &[u8],
+    ) -> Result<(), AllocError> {
+        self.is_of_debug = self.is_of_debug || front != OF_MACROS;
+        self.push_row(alloc, "prefix map", front.as_bytes())?;
+        self.push_row(alloc, "name", new)?;
+        self.push_row(alloc, "after it", rest)
+    }
+
+    /// Takes a word of a call in that folder. False where it isn't certain of which names an object has others.
+    fn take(&mut self, alloc: Global, dir: &[u8], placed: Placed<'_>) -> Result<bool, AllocError> {
+        let word = placed.word.as_bytes();
+        if placed.option.is_some() {
+            return Ok(true);
+        }
+        let Some((front, value)) = behind_front(&FRONTS, word) else {
+            return Ok(!keeps_names(word));
+        };
+        let Some((old, new)) = names_in(value) else {
+            return Ok(false);
+        };
+        match mapped_by(dir, old, new) {
+            Mapped::Folder(rest) => {
+                self.push_folder(alloc, front, new, rest)?;
+                self.push(alloc, placed.word, old, true)?;
+            }
+            Mapped::Other => {
+                self.push_row(alloc, "prefix map", b"")?;
+                self.push(alloc, placed.word, old, false)?;
+            }
+            Mapped::Relative => self.push_row(alloc, "prefix map", word)?,
+            Mapped::Unclear => return Ok(false),
+        }
+        Ok(true)
+    }
+
+    /// What the session is given for a word; nothing for one that maps the call's folder.
+    pub(crate) fn session_word(
+        &self,
+        alloc: Global,
+        placed: Placed<'_>,
+    ) -> Result<Option<OsBytes>, AllocError> {
+        let map = match placed.option {
+            None => self.maps.iter().find(|map| map.word == *placed.word),
+            Some(_) => None,
+        };
+        match map {
+            None => Ok(Some(placed.word.clone()?)),
+            Some(map) if map.is_of_folder => Ok(None),
+            Some(map) => {
+                let mut word = Vec::from_slice(alloc, AS_FOLDER)?;
+                word.extend_from_slice(map.word.as_bytes())?;
+                Ok(Some(OsBytes::from_vec(word)))
+            }
+        }
+    }
+
+    /// Whether a text, or what was made of it, may have a name that is mapped.
+    pub fn are_in(&self, bytes: &[u8]) -> bool {
+        self.maps
+            .iter()
+            .any(|map| memmem::find(bytes, map.old.as_bytes()).is_some())
+    }
+
+    /// The words, each after a line end.
+    pub fn words(&self, alloc: Global) -> Result<Vec<u8>, AllocError> {
+        let mut words = Vec::new(alloc);
+        for map in self.maps.as_slice() {
+            words.push(b'\n')?;
+            words.extend_from_slice(map.word.as_bytes())?;
+        }
+        Ok(words)
+    }
+
+    /// The text of a call in that folder, without the folder's name in the marker for debug information, where that has another name for it.
+    pub fn text_without(
+        &self,
+        alloc: Global,
+        dir: &[u8],
+        text: Vec<u8>,
+    ) -> Result<Vec<u8>, AllocError> {
+        match marked(text.as_slice(), dir) {
+            Some((before, behind)) if self.is_of_debug => {
+                let mut without = Vec::with_capacity(alloc, text.len())?;
+                without.extend_from_slice(before)?;
+                without.extend_from_slice(WITHOUT_NAME)?;
+                without.extend_from_slice(behind)?;
+                Ok(without)
+            }
+            _ => Ok(text),
+        }
+    }
+}
+
+/// What comes before the marker of a folder in a text, and after it. GCC prints it second, where there is debug information.
+fn marked<'a>(text: &'a [u8], dir: &[u8]) -> Option<(&'a [u8], &'a [u8])> {
+    let first = memchr(b'\n', text)?.checked_add(1)?;
+    let (before, marker) = text.split_at_checked(first)?;
+    let name = marker.strip_prefix(MARKER)?;
+    let behind = name.strip_prefix(dir)?.strip_prefix(MARKER_END)?;
+    Some((before, behind))
+}
+
+/// The words of a call of GCC that map names, for that folder, in which it runs; none where an object may have these names all the same.
+pub(crate) fn prefix_maps_of(
+    alloc: Global,
+    dir: &[u8],
+    words: &[OsBytes],
+) -> Result<PrefixMaps, AllocError> {
+    let mut maps = PrefixMaps::new(alloc);
+    for placed in PlacedWords::of(words) {
+        if !maps.take(alloc, dir, placed)? {
+            return Ok(PrefixMaps::new(alloc));
+        }
+    }
+    match maps.is_empty() {
+        true => Ok(PrefixMaps::new(alloc)),
+        false => Ok(maps),
+    }
+}
