@@ -226,6 +226,10 @@ search_names() {
     settle
     search_case "$cc: a name that is defined by another one" 'printf "#define VALUE 7\n" >early/value.h' "rm early/value.h" \
         $cc -Iearly -Ilate
+    printf '#define OTHER "value.h"\n#define NAME OTHER\n// See asm-???/value.h.\n#include NAME\nint value = VALUE;\n' >it.c
+    settle
+    search_case "$cc: a name that is defined by another one, beside a ??/" 'printf "#define VALUE 7\n" >early/value.h' "rm early/value.h" \
+        $cc -Iearly -Ilate
     printf '#define NAME <stdio.h>\n#if __has_include(NAME)\nint value = 1;\n#endif\n' >it.c
     settle
     search_none "$cc: a name that is computed, asked for" $cc

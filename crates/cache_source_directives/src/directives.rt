@@ -174,7 +174,7 @@ fn is_other_mark(text: &[u8]) -> bool {
 }
 
 /// Whether a text begins with the other spelling of a `\` by which a line goes on.
-fn continues_line(text: &[u8]) -> bool {
+pub(crate) fn continues_line(text: &[u8]) -> bool {
     match text.strip_prefix(b"??/") {
         Some(rest) => matches!(behind_spaces(rest), [] | [b'\n', ..]),
         None => false,

@@ -1,6 +1,6 @@
 //! Directives by which lines of a source have other numbers, or are of another file.
 
-use crate::directives::{MARKS, behind_gap, may_begin_directive};
+use crate::directives::{MARKS, behind_gap, continues_line, may_begin_directive};
 use memchr::memchr_iter;
 
 /// The spellings of `#`.
@@ -39,7 +39,7 @@ fn form_of(text: &[u8]) -> Option<Form> {
 /// The form of the directive that begins, or may begin, at the mark at that place of a source.
 fn form_at(source: &[u8], at: usize) -> Option<Form> {
     let (front, found) = source.split_at_checked(at)?;
-    if found.starts_with(b"??/") {
+    if continues_line(found) {
         return Some(Form::Marker);
     }
     // Its line may go on after the first byte of a spelling.
