@@ -8,7 +8,6 @@ mod lists;
 mod loading;
 mod logging;
 mod made_outputs;
-mod mounts;
 mod outputs;
 mod precompiled;
 mod response_words;
@@ -22,7 +21,6 @@ pub use lists::{digest_of_list, names_files_of};
 pub use loading::{contents_at, load, load_all, load_named};
 pub use logging::log;
 pub use made_outputs::{Locks, lock_paths, made_since, states_of};
-pub use mounts::devices_in;
 pub use outputs::{
     OldFile, have_plain_places, print_again, regular, write_dependencies, write_outputs,
     write_side_files,

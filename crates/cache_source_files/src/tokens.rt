@@ -1,11 +1,11 @@
 //! Tokens: what stands for the contents of a header. A token has the digest of the contents, and of the words that a session looks for those
 //! that occur in them. It is recognized by the state of the file, so that an unchanged header isn't read.
 
-use crate::mounts::devices;
 use base_blake2::Blake2b256;
 use base_files::{FileTime, OsBytes};
 use base_formats::{put_framed, read_framed};
 use cache_disk::State;
+use cache_watch_lists::TrustedDevices;
 use ckeys_base::Digest;
 use memchr::memmem;
 use std::alloc::{AllocError, Global};
@@ -80,8 +80,8 @@ pub struct Tokens {
     pub(crate) are_unshared: bool,
     /// The paths of files whose contents a session has as they are.
     whole: BTreeSet<OsBytes>,
-    /// The devices of file systems on which a file of the same state has the same contents, once they were looked up.
-    devices: Option<BTreeSet<u64>>,
+    /// The devices of file systems on which a file of the same state has the same contents.
+    devices: TrustedDevices,
     /// Whether there are others than those that were read.
     pub are_new: bool,
 }
@@ -147,7 +147,7 @@ impl Tokens {
             shared: None,
             are_unshared: false,
             whole: BTreeSet::new(alloc),
-            devices: None,
+            devices: TrustedDevices::new(),
             are_new: false,
         }
     }
@@ -174,21 +174,6 @@ impl Tokens {
         shared.get(path)?.token_in(State::of(found))
     }
 
-    /// Whether files of that device have the same contents in the same state.
-    fn is_trusted<R: Files + AllocGlobal>(
-        &mut self,
-        rt: &R,
-        device: u64,
-    ) -> Result<bool, AllocError> {
-        if self.devices.is_none() {
-            self.devices = Some(devices(rt)?);
-        }
-        Ok(match &self.devices {
-            Some(devices) => devices.contains(&device),
-            None => false,
-        })
-    }
-
     /// Whether a file was changed last before that moment, at which the call began, and each later change gives it another time.
     pub(crate) fn is_same_since<R: Files + AllocGlobal>(
         &mut self,
@@ -196,7 +181,7 @@ impl Tokens {
         found: &Metadata,
         began: FileTime,
     ) -> Result<bool, AllocError> {
-        Ok(is_settled(found, began) && self.is_trusted(rt, found.dev())?)
+        Ok(is_settled(found, began) && self.devices.have(rt, found.dev())?)
     }
 
     /// Notes the token of a file, where it can be known again, in a call that began at that moment.

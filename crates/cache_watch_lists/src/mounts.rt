@@ -53,9 +53,38 @@ pub fn devices_in(alloc: Global, list: &[u8]) -> Result<BTreeSet<u64>, AllocErro
 }
 
 /// Those of this machine. None where there is no list.
-pub(crate) fn devices<R: Files + AllocGlobal>(rt: &R) -> Result<BTreeSet<u64>, AllocError> {
+fn devices<R: Files + AllocGlobal>(rt: &R) -> Result<BTreeSet<u64>, AllocError> {
     match fs::read(rt, LIST) {
         Ok(list) => devices_in(rt.alloc(), list.as_slice()),
         Err(_) => Ok(BTreeSet::new(rt.alloc())),
+    }
+}
+
+/// The devices of this machine that are trusted.
+#[derive(Drop)]
+pub struct TrustedDevices {
+    /// They, once one was asked for.
+    devices: Option<BTreeSet<u64>>,
+}
+
+impl TrustedDevices {
+    /// None was asked for yet.
+    pub fn new() -> TrustedDevices {
+        TrustedDevices { devices: None }
+    }
+
+    /// Whether that device is among them.
+    pub fn have<R: Files + AllocGlobal>(
+        &mut self,
+        rt: &R,
+        device: u64,
+    ) -> Result<bool, AllocError> {
+        if self.devices.is_none() {
+            self.devices = Some(devices(rt)?);
+        }
+        Ok(match &self.devices {
+            Some(devices) => devices.contains(&device),
+            None => false,
+        })
     }
 }
