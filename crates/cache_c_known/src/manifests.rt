@@ -283,7 +283,8 @@ impl Known {
         };
         let (dir, digest) = (line.dir.as_bytes(), key.digest.as_bytes());
         let rows = noted_and_rows(self.record.watched.as_bytes()).1;
-        if let Some(looks) = looks_for_result(rt, dir, rows, digest, messages.as_bytes())? {
+        let (messages, before) = (messages.as_bytes(), line.settled_before());
+        if let Some(looks) = looks_for_result(rt, dir, rows, digest, messages, before)? {
             if looks >= MANY_LOOKS {
                 self.record.looked_at = Some(key.digest.clone()?);
             }

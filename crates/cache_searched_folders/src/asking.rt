@@ -131,7 +131,7 @@ fn said_before<R: Files + AllocGlobal>(
     let Some((said, list)) = unsealed(rt.alloc(), bytes.as_slice())? else {
         return Ok(None);
     };
-    if !holds(rt, line.dir.as_bytes(), list)? {
+    if !holds(rt, line.dir.as_bytes(), list, line.settled_before())? {
         return Ok(None);
     }
     Ok(Some(Vec::from_slice(rt.alloc(), said)?))
@@ -148,7 +148,7 @@ fn list_of_folders<R: Files + AllocGlobal>(
         return Err(Unwatched::List);
     };
     let mut watching = Watching::new(rt.alloc(), line.dir.as_bytes(), before);
-    watching.take_folders(rt, &list)?;
+    let _places = watching.take_folders(rt, &list)?;
     watching.into_list(rt.alloc())
 }
 

@@ -3,6 +3,8 @@
 
 mod asking;
 mod entered;
+mod noted;
+mod places;
 mod search_list;
 mod shown;
 mod texts;
@@ -10,6 +12,7 @@ mod watching;
 
 pub use asking::said_of;
 pub use entered::EnteredNames;
+pub use places::Places;
 pub use search_list::SearchList;
 pub use texts::{AskingSources, Source, TextFiles};
 pub use watching::Watching;

@@ -1,5 +1,6 @@
 //! What to watch of a text: all that its sources ask for, and where the compiler looks for it.
 
+use crate::places::Places;
 use crate::search_list::SearchList;
 use crate::shown::ShownIncludes;
 use crate::watching::Watching;
@@ -251,7 +252,7 @@ fn have_markers(sources: &[Source<'_>]) -> bool {
 fn search_asked<'a, R: Files + AllocGlobal>(
     rt: &R,
     source: &Source<'_>,
-    list: &SearchList<'_>,
+    places: &Places,
     asked: Asked<'a>,
     is_input: bool,
     bracketed: &mut HashSet<&'a [u8]>,
@@ -259,10 +260,10 @@ fn search_asked<'a, R: Files + AllocGlobal>(
 ) -> Result<(), Unwatched> {
     let beside = folder_of(source.path.as_bytes());
     if asked.search != Search::Bracketed || bracketed.insert(asked.name)? {
-        watching.search(rt, list, beside, asked)?;
+        watching.search(rt, places, beside, asked)?;
     }
     if is_input {
-        watching.look_for_precompiled(rt, list, beside, asked.name, b".gch")?;
+        watching.look_for_precompiled(rt, places, beside, asked.name, b".gch")?;
     }
     Ok(())
 }
@@ -271,14 +272,14 @@ fn search_asked<'a, R: Files + AllocGlobal>(
 fn search_all<'a, R: Files + AllocGlobal>(
     rt: &R,
     source: &Source<'_>,
-    list: &SearchList<'_>,
+    places: &Places,
     all_asked: &[Asked<'a>],
     is_input: bool,
     bracketed: &mut HashSet<&'a [u8]>,
     watching: &mut Watching<'_, '_>,
 ) -> Result<(), Unwatched> {
     for asked in all_asked {
-        search_asked(rt, source, list, *asked, is_input, bracketed, watching)?;
+        search_asked(rt, source, places, *asked, is_input, bracketed, watching)?;
     }
     Ok(())
 }
@@ -297,16 +298,16 @@ fn taken_in(placed: Placed<'_>) -> Option<&[u8]> {
 /// Looks for what words take in before the input: in the call's folder, and then as names in quotes are looked for.
 fn search_words<R: Files + AllocGlobal>(
     rt: &R,
-    list: &SearchList<'_>,
+    places: &Places,
     words: &[OsBytes],
     watching: &mut Watching<'_, '_>,
 ) -> Result<(), Unwatched> {
     for placed in PlacedWords::of(words) {
         if let Some(name) = taken_in(placed) {
             let search = Search::Quoted;
-            watching.search(rt, list, b"", Asked { name, search })?;
-            watching.look_for_precompiled(rt, list, b"", name, b".gch")?;
-            watching.look_for_precompiled(rt, list, b"", name, b".pch")?;
+            watching.search(rt, places, b"", Asked { name, search })?;
+            watching.look_for_precompiled(rt, places, b"", name, b".gch")?;
+            watching.look_for_precompiled(rt, places, b"", name, b".pch")?;
         }
     }
     Ok(())
@@ -350,7 +351,7 @@ fn take_missing<R: Files + AllocGlobal>(
 /// Looks for all that these sources ask for, of which the first is the input.
 fn search_sources<'a, R: Files + AllocGlobal>(
     rt: &R,
-    list: &SearchList<'_>,
+    places: &Places,
     sources: &[Source<'a>],
     all: &[Directives<'a>],
     bracketed: &mut HashSet<&'a [u8]>,
@@ -359,7 +360,7 @@ fn search_sources<'a, R: Files + AllocGlobal>(
     let mut is_input = true;
     for (source, found) in sources.iter().zip(all.iter()) {
         let asked = found.asked.as_slice();
-        search_all(rt, source, list, asked, is_input, bracketed, watching)?;
+        search_all(rt, source, places, asked, is_input, bracketed, watching)?;
         is_input = false;
     }
     Ok(())
@@ -368,7 +369,7 @@ fn search_sources<'a, R: Files + AllocGlobal>(
 /// Looks for all that a text shows that these sources include, of which the first is the input.
 fn search_shown<'a, R: Files + AllocGlobal>(
     rt: &R,
-    list: &SearchList<'_>,
+    places: &Places,
     sources: &[Source<'a>],
     text: &'a [u8],
     bracketed: &mut HashSet<&'a [u8]>,
@@ -381,7 +382,15 @@ fn search_shown<'a, R: Files + AllocGlobal>(
         let Some(source) = sources.get(*number) else {
             return Err(Unwatched::Computed);
         };
-        search_asked(rt, source, list, *asked, *number == 0, bracketed, watching)?;
+        search_asked(
+            rt,
+            source,
+            places,
+            *asked,
+            *number == 0,
+            bracketed,
+            watching,
+        )?;
     }
     Ok(())
 }
@@ -432,17 +441,17 @@ impl<'a> AskingSources<'a> {
         let (sources, all) = (self.files.sources.as_slice(), self.all.as_slice());
         take_sources(rt.alloc(), sources, all, watching)?;
         take_missing(rt, self.files.missing.as_slice(), watching)?;
-        watching.take_folders(rt, list)?;
-        search_words(rt, list, self.words, watching)?;
+        let places = watching.take_folders(rt, list)?;
+        search_words(rt, &places, self.words, watching)?;
         let name = PREDEFINED;
         let search = Search::Bracketed;
-        watching.search(rt, list, b"", Asked { name, search })?;
+        watching.search(rt, &places, b"", Asked { name, search })?;
         let mut bracketed = HashSet::new(rt.alloc());
-        search_sources(rt, list, sources, all, &mut bracketed, watching)?;
+        search_sources(rt, &places, sources, all, &mut bracketed, watching)?;
         if self.are_clear {
             return Ok(());
         }
-        search_shown(rt, list, sources, text, &mut bracketed, watching)
+        search_shown(rt, &places, sources, text, &mut bracketed, watching)
     }
 
     /// What to watch of a text that is made of these sources, by what its compiler said of where it looks. Where it isn't clear what they

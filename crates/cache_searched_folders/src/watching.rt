@@ -1,12 +1,14 @@
 //! Looking where a compiler looks, and noting what is there.
 
+use crate::noted::Noted;
+use crate::places::{Name, Place, Places, above, or_topmost, path_of};
 use crate::search_list::SearchList;
-use base_files::{FileTime, join};
+use base_files::FileTime;
 use base_formats::{put_framed, put_number};
 use cache_dir::digest_of;
 use cache_disk::{Found, State, found_at, is_nothing, read_of_size};
 use cache_source_directives::{Asked, Search};
-use cache_watch_lists::{FileRow, Folder, Unwatched, digest_at};
+use cache_watch_lists::{FileRow, Folder, Listings, PlainName, Unwatched, digest_at};
 use std::alloc::Global;
 use std::collections::{BTreeMap, HashMap, HashSet};
 use std::fs;
@@ -18,10 +20,13 @@ pub struct Watching<'d, 'a> {
     dir: &'d [u8],
     /// Until when something must have been changed so that it's certain to have been the same since the call began.
     before: FileTime,
-    /// The folders in which something was looked for; nothing where there is none.
-    folders: HashMap<String, Option<Folder>>,
-    /// What lies under the paths that were looked at.
-    looked_at: HashMap<String, Found>,
+    /// The folders in which something was looked for.
+    folders: Vec<Folder>,
+    /// Their numbers, by their paths; nothing where there is none.
+    numbers: HashMap<String, Option<usize>>,
+    /// What lies in them under the names that were looked for.
+    noted: Noted,
+    listings: Listings,
     /// Files that must be as they are, with the digest of their contents, and folders, with that of the names in them.
     files: BTreeMap<String, (State, String)>,
     /// The paths of the files that the text names.
@@ -32,32 +37,16 @@ pub struct Watching<'d, 'a> {
     once: HashSet<&'a [u8]>,
 }
 
-/// The path of a name in a folder, which may be one of the call's.
-fn path_in(alloc: Global, dir: &[u8], folder: &[u8], name: &[u8]) -> Result<String, Unwatched> {
-    let folder = join(alloc, dir, folder)?;
-    let path = join(alloc, folder.as_bytes(), name)?;
-    match String::from_utf8(path.into_vec()) {
-        Ok(path) => Ok(path),
-        Err(_) => Err(Unwatched::Path),
-    }
-}
-
-/// The path of the folder above that one.
-fn above(path: &str) -> &str {
-    match path.rsplit_once('/') {
-        Some((front, _)) => front,
-        None => "",
-    }
-}
-
 impl<'d, 'a> Watching<'d, 'a> {
     /// Nothing was looked at for a call in that folder.
     pub fn new(alloc: Global, dir: &'d [u8], before: FileTime) -> Watching<'d, 'a> {
         Watching {
             dir,
             before,
-            folders: HashMap::new(alloc),
-            looked_at: HashMap::new(alloc),
+            folders: Vec::new(alloc),
+            numbers: HashMap::new(alloc),
+            noted: Noted::new(alloc),
+            listings: Listings::new(before),
             files: BTreeMap::new(alloc),
             named: HashSet::new(alloc),
             lengths: HashSet::new(alloc),
@@ -86,60 +75,138 @@ impl<'d, 'a> Watching<'d, 'a> {
         usize::try_from(size).is_ok_and(|size| self.lengths.contains(&size))
     }
 
-    /// Whether a folder of that path is there.
-    fn is_there<R: Files + AllocGlobal>(&mut self, rt: &R, path: &str) -> Result<bool, Unwatched> {
-        if let Some(known) = self.folders.get(path) {
-            return Ok(known.is_some());
+    /// The number of the folder of that path, where there is one.
+    fn number_at<R: Files + AllocGlobal>(
+        &mut self,
+        rt: &R,
+        path: &str,
+    ) -> Result<Option<usize>, Unwatched> {
+        if let Some(known) = self.numbers.get(path) {
+            return Ok(*known);
         }
-        let folder = match fs::metadata(rt, path) {
+        let number = match fs::metadata(rt, path) {
             Ok(metadata) if metadata.is_dir() => {
-                Some(Folder::new(rt.alloc(), State::of(&metadata)))
+                let folder = Folder::new(rt.alloc(), State::of(&metadata));
+                self.folders.push(folder)?;
+                Some(self.folders.len().saturating_sub(1))
             }
             Ok(_) => None,
             Err(error) if is_nothing(&error) && found_at(rt, path) == Some(Found::Nothing) => None,
             Err(_) => return Err(Unwatched::Path),
         };
-        let there = folder.is_some();
-        self.folders
-            .insert(String::from_str(rt.alloc(), path)?, folder)?;
-        Ok(there)
+        self.numbers
+            .insert(String::from_str(rt.alloc(), path)?, number)?;
+        Ok(number)
     }
 
-    /// The nearest existing folder above a path, and what comes after it in the path.
+    /// The number of the nearest existing folder above a path, and what comes after it in the path.
     fn place<'p, R: Files + AllocGlobal>(
         &mut self,
         rt: &R,
         path: &'p str,
-    ) -> Result<(&'p str, &'p str), Unwatched> {
+    ) -> Result<(usize, &'p str), Unwatched> {
         let mut front = path;
         // Each turn takes a byte at least.
         for _ in 0..path.len() {
             front = above(front);
-            let folder = if front.is_empty() { "/" } else { front };
-            if self.is_there(rt, folder)? {
+            if let Some(number) = self.number_at(rt, or_topmost(front))? {
                 let rest = path.get(front.len().saturating_add(1)..).unwrap_or("");
-                return Ok((folder, rest));
+                return Ok((number, rest));
             }
         }
         Err(Unwatched::Path)
     }
 
+    /// Notes what lies under a name in a folder, by their numbers.
+    fn note(
+        &mut self,
+        folder: usize,
+        name: usize,
+        text: &str,
+        found: Found,
+    ) -> Result<Found, Unwatched> {
+        if let Some(folder) = self.folders.get_mut(folder) {
+            folder.note(text, found)?;
+        }
+        self.noted.put(name, folder, found)?;
+        Ok(found)
+    }
+
     /// What lies under a path, which is watched from now on.
     fn look<R: Files + AllocGlobal>(&mut self, rt: &R, path: &str) -> Result<Found, Unwatched> {
-        if let Some(found) = self.looked_at.get(path) {
-            return Ok(*found);
-        }
         let (folder, rest) = self.place(rt, path)?;
+        let name = self.noted.number_of(rt.alloc(), rest)?;
+        if let Some(found) = self.noted.get(name, folder) {
+            return Ok(found);
+        }
         let found = match rest.contains('/') {
             true => Found::Nothing,
             false => found_at(rt, path).ok_or(Unwatched::Path)?,
         };
-        if let Some(Some(folder)) = self.folders.get_mut(folder) {
-            folder.note(rest, found)?;
+        self.note(folder, name, rest, found)
+    }
+
+    /// Whether it is certain, without a look, that nothing lies under a name in that folder.
+    fn lacks<R: Files + AllocGlobal>(
+        &mut self,
+        rt: &R,
+        place: &Place,
+        number: usize,
+        name: &Name<'_>,
+    ) -> Result<bool, Unwatched> {
+        match (&name.plain, self.folders.get_mut(number)) {
+            (Some(plain), Some(folder)) => {
+                let path = or_topmost(place.path.as_str());
+                Ok(folder.lacks(rt, path, plain, &mut self.listings)?)
+            }
+            (_, _) => Ok(false),
         }
-        self.looked_at
-            .insert(String::from_str(rt.alloc(), path)?, found)?;
-        Ok(found)
+    }
+
+    /// What lies under a name in a folder, which is watched from now on.
+    fn look_in<R: Files + AllocGlobal>(
+        &mut self,
+        rt: &R,
+        place: &Place,
+        name: &Name<'_>,
+    ) -> Result<Found, Unwatched> {
+        if let Some(number) = place.number {
+            if let Some(found) = self.noted.get(name.number, number) {
+                return Ok(found);
+            }
+            if self.lacks(rt, place, number, name)? {
+                return self.note(number, name.number, name.text, Found::Nothing);
+            }
+        }
+        let path = place.path_of(rt.alloc(), name.text)?;
+        self.look(rt, path.as_str())
+    }
+
+    /// A folder in which names are looked for, which may be one of the call's.
+    fn place_at(&self, alloc: Global, folder: &[u8]) -> Result<Place, Unwatched> {
+        let mut path = path_of(alloc, self.dir, folder)?;
+        if path.ends_with('/') {
+            let _ = path.pop();
+        }
+        let number = match self.numbers.get(or_topmost(path.as_str())) {
+            Some(number) => *number,
+            None => None,
+        };
+        Ok(Place { path, number })
+    }
+
+    /// A name that is looked for.
+    fn name_of<'n>(&mut self, alloc: Global, name: &'n [u8]) -> Result<Name<'n>, Unwatched> {
+        let Ok(text) = str::from_utf8(name) else {
+            return Err(Unwatched::Path);
+        };
+        let number = self.noted.number_of(alloc, text)?;
+        let plain = PlainName::of(alloc, text)?;
+        Ok(Name {
+            text,
+            number,
+            plain,
+        })
     }
 
     /// Takes a file that was found. One that the text doesn't name was only asked for, or in a line that isn't live; or it was skipped as
@@ -170,13 +237,13 @@ impl<'d, 'a> Watching<'d, 'a> {
     fn is_in<R: Files + AllocGlobal>(
         &mut self,
         rt: &R,
-        folder: &[u8],
-        name: &[u8],
+        place: &Place,
+        name: &Name<'_>,
     ) -> Result<bool, Unwatched> {
-        let path = path_in(rt.alloc(), self.dir, folder, name)?;
-        if self.look(rt, path.as_str())? != Found::File {
+        if self.look_in(rt, place, name)? != Found::File {
             return Ok(false);
         }
+        let path = place.path_of(rt.alloc(), name.text)?;
         self.take_found(rt, path.as_str())?;
         Ok(true)
     }
@@ -185,12 +252,12 @@ impl<'d, 'a> Watching<'d, 'a> {
     fn is_in_one<R: Files + AllocGlobal>(
         &mut self,
         rt: &R,
-        folders: &[&str],
-        name: &[u8],
+        places: &[Place],
+        name: &Name<'_>,
         in_all: bool,
     ) -> Result<bool, Unwatched> {
-        for folder in folders {
-            if self.is_in(rt, folder.as_bytes(), name)? && !in_all {
+        for place in places {
+            if self.is_in(rt, place, name)? && !in_all {
                 return Ok(true);
             }
         }
@@ -201,40 +268,40 @@ impl<'d, 'a> Watching<'d, 'a> {
     pub fn search<R: Files + AllocGlobal>(
         &mut self,
         rt: &R,
-        list: &SearchList<'_>,
+        places: &Places,
         beside: &[u8],
         asked: Asked<'_>,
     ) -> Result<(), Unwatched> {
-        let Asked { name, search } = asked;
-        if name.starts_with(b"/") {
-            self.is_in(rt, beside, name)?;
+        let beside = self.place_at(rt.alloc(), beside)?;
+        let name = self.name_of(rt.alloc(), asked.name)?;
+        if name.text.starts_with('/') {
+            self.is_in(rt, &beside, &name)?;
             return Ok(());
         }
-        let in_all = search == Search::Next;
+        let in_all = asked.search == Search::Next;
+        let is_quoted = asked.search != Search::Bracketed;
         // The next one is looked for as any other where the source was found in none of the folders.
-        if search != Search::Bracketed && self.is_in(rt, beside, name)? && !in_all {
+        if is_quoted && self.is_in(rt, &beside, &name)? && !in_all {
             return Ok(());
         }
-        if search != Search::Bracketed
-            && self.is_in_one(rt, list.quoted.as_slice(), name, in_all)?
-        {
+        if is_quoted && self.is_in_one(rt, places.quoted.as_slice(), &name, in_all)? {
             return Ok(());
         }
-        self.is_in_one(rt, list.bracketed.as_slice(), name, in_all)?;
+        self.is_in_one(rt, places.bracketed.as_slice(), &name, in_all)?;
         Ok(())
     }
 
-    /// Has a folder of that path watched, or that there is none.
+    /// Has a folder of that path watched, or that there is none. Its number, where there is one.
     fn take_folder<R: Files + AllocGlobal>(
         &mut self,
         rt: &R,
         path: &str,
-    ) -> Result<bool, Unwatched> {
-        let is_there = self.is_there(rt, path)?;
-        if !is_there {
+    ) -> Result<Option<usize>, Unwatched> {
+        let number = self.number_at(rt, path)?;
+        if number.is_none() {
             self.look(rt, path)?;
         }
-        Ok(is_there)
+        Ok(number)
     }
 
     /// Has it watched that nothing lies under a path.
@@ -249,19 +316,25 @@ impl<'d, 'a> Watching<'d, 'a> {
         }
     }
 
+    /// The state of the folder of that path, where something was looked for there.
+    fn state_at(&self, path: &str) -> Option<State> {
+        let number = (*self.numbers.get(path)?)?;
+        Some(self.folders.get(number)?.state)
+    }
+
     /// The path of the folder among these that is the same as one in that state, if one of them is.
-    fn same_in<R: Files + AllocGlobal>(
+    fn same_in(
         &self,
-        rt: &R,
+        alloc: Global,
         folders: &[&str],
         state: State,
     ) -> Result<Option<String>, Unwatched> {
         for folder in folders {
-            let path = path_in(rt.alloc(), self.dir, folder.as_bytes(), b"")?;
+            let path = path_of(alloc, self.dir, folder.as_bytes())?;
             let path = path.trim_end_matches('/');
-            match self.folders.get(path) {
-                Some(Some(found)) if found.state.is_same(state) => {
-                    return Ok(Some(String::from_str(rt.alloc(), path)?));
+            match self.state_at(path) {
+                Some(found) if found.is_same(state) => {
+                    return Ok(Some(String::from_str(alloc, path)?));
                 }
                 _ => {}
             }
@@ -270,16 +343,16 @@ impl<'d, 'a> Watching<'d, 'a> {
     }
 
     /// The path of the folder in which the compiler looks that is the same as one in that state.
-    fn twin_of<R: Files + AllocGlobal>(
+    fn twin_of(
         &self,
-        rt: &R,
+        alloc: Global,
         list: &SearchList<'_>,
         state: State,
     ) -> Result<String, Unwatched> {
-        if let Some(twin) = self.same_in(rt, list.bracketed.as_slice(), state)? {
+        if let Some(twin) = self.same_in(alloc, list.bracketed.as_slice(), state)? {
             return Ok(twin);
         }
-        match self.same_in(rt, list.quoted.as_slice(), state)? {
+        match self.same_in(alloc, list.quoted.as_slice(), state)? {
             Some(twin) => Ok(twin),
             None => Err(Unwatched::List),
         }
@@ -292,20 +365,19 @@ impl<'d, 'a> Watching<'d, 'a> {
         list: &SearchList<'_>,
         folder: &str,
     ) -> Result<(), Unwatched> {
-        let path = path_in(rt.alloc(), self.dir, folder.as_bytes(), b"")?;
+        let path = path_of(rt.alloc(), self.dir, folder.as_bytes())?;
         let path = path.trim_end_matches('/');
-        if !self.take_folder(rt, path)? {
+        let Some(number) = self.take_folder(rt, path)? else {
             return Ok(());
-        }
-        let state = match self.folders.get(path) {
-            Some(Some(found)) => found.state,
-            _ => return Err(Unwatched::List),
         };
-        let twin = self.twin_of(rt, list, state)?;
+        let Some(state) = self.state_at(path) else {
+            return Err(Unwatched::List);
+        };
+        let twin = self.twin_of(rt.alloc(), list, state)?;
         if twin.as_str() == path {
             return Ok(());
         }
-        if let Some(Some(folder)) = self.folders.get_mut(path) {
+        if let Some(folder) = self.folders.get_mut(number) {
             folder.twin = twin;
         }
         Ok(())
@@ -316,14 +388,16 @@ impl<'d, 'a> Watching<'d, 'a> {
         &mut self,
         rt: &R,
         folders: &[&str],
-    ) -> Result<(), Unwatched> {
+    ) -> Result<Vec<Place>, Unwatched> {
+        let mut places = Vec::new(rt.alloc());
         for folder in folders {
-            let path = path_in(rt.alloc(), self.dir, folder.as_bytes(), b"")?;
-            if !self.take_folder(rt, path.trim_end_matches('/'))? {
+            let path = path_of(rt.alloc(), self.dir, folder.as_bytes())?;
+            if self.take_folder(rt, path.trim_end_matches('/'))?.is_none() {
                 return Err(Unwatched::List);
             }
+            places.push(self.place_at(rt.alloc(), folder.as_bytes())?)?;
         }
-        Ok(())
+        Ok(places)
     }
 
     /// Has the folders watched in which the compiler looks, and those that it leaves out.
@@ -331,13 +405,14 @@ impl<'d, 'a> Watching<'d, 'a> {
         &mut self,
         rt: &R,
         list: &SearchList<'_>,
-    ) -> Result<(), Unwatched> {
-        self.take_searched(rt, list.quoted.as_slice())?;
-        self.take_searched(rt, list.bracketed.as_slice())?;
+    ) -> Result<Places, Unwatched> {
+        let quoted = self.take_searched(rt, list.quoted.as_slice())?;
+        let bracketed = self.take_searched(rt, list.bracketed.as_slice())?;
         for folder in list.left_out.as_slice() {
             self.take_left_out(rt, list, folder)?;
         }
-        self.take_installations(rt, list)
+        self.take_installations(rt, list)?;
+        Ok(Places { quoted, bracketed })
     }
 
     /// Has the folders watched in which the compiler found a GCC: another one there may be taken in its place.
@@ -361,11 +436,10 @@ impl<'d, 'a> Watching<'d, 'a> {
     fn is_not_in<R: Files + AllocGlobal>(
         &mut self,
         rt: &R,
-        folder: &[u8],
-        name: &[u8],
+        place: &Place,
+        name: &Name<'_>,
     ) -> Result<(), Unwatched> {
-        let path = path_in(rt.alloc(), self.dir, folder, name)?;
-        match self.look(rt, path.as_str())? {
+        match self.look_in(rt, place, name)? {
             Found::Nothing => Ok(()),
             _ => Err(Unwatched::Precompiled),
         }
@@ -375,11 +449,11 @@ impl<'d, 'a> Watching<'d, 'a> {
     fn is_in_none<R: Files + AllocGlobal>(
         &mut self,
         rt: &R,
-        folders: &[&str],
-        name: &[u8],
+        places: &[Place],
+        name: &Name<'_>,
     ) -> Result<(), Unwatched> {
-        for folder in folders {
-            self.is_not_in(rt, folder.as_bytes(), name)?;
+        for place in places {
+            self.is_not_in(rt, place, name)?;
         }
         Ok(())
     }
@@ -388,7 +462,7 @@ impl<'d, 'a> Watching<'d, 'a> {
     pub fn look_for_precompiled<R: Files + AllocGlobal>(
         &mut self,
         rt: &R,
-        list: &SearchList<'_>,
+        places: &Places,
         beside: &[u8],
         name: &[u8],
         ending: &[u8],
@@ -396,17 +470,18 @@ impl<'d, 'a> Watching<'d, 'a> {
         let mut precompiled = Vec::new(rt.alloc());
         precompiled.extend_from_slice(name)?;
         precompiled.extend_from_slice(ending)?;
-        let name = precompiled.as_slice();
-        self.is_in_none(rt, list.quoted.as_slice(), name)?;
-        self.is_in_none(rt, list.bracketed.as_slice(), name)?;
-        self.is_not_in(rt, beside, name)
+        let name = self.name_of(rt.alloc(), precompiled.as_slice())?;
+        self.is_in_none(rt, places.quoted.as_slice(), &name)?;
+        self.is_in_none(rt, places.bracketed.as_slice(), &name)?;
+        let beside = self.place_at(rt.alloc(), beside)?;
+        self.is_not_in(rt, &beside, &name)
     }
 
     /// The folders that are there, by their paths.
     fn folders_there(&self, alloc: Global) -> Result<BTreeMap<&str, &Folder>, Unwatched> {
         let mut there = BTreeMap::new(alloc);
-        for (path, folder) in self.folders.iter() {
-            if let Some(folder) = folder {
+        for (path, number) in self.numbers.iter() {
+            if let Some(folder) = number.and_then(|number| self.folders.get(number)) {
                 there.insert(path.as_str(), folder)?;
             }
         }

@@ -2,12 +2,14 @@
 //! and for others. And which file systems are trusted to tell of changes.
 #![tactic(auto)]
 
+mod listings;
 mod manifests;
 mod mounts;
 mod shared_lists;
 mod unwatched;
 mod watch_list;
 
+pub use listings::{Listings, PlainName};
 pub use manifests::{
     WatchedResult, looks_for_result, noted_and_rows, with_list, with_results_of, without,
 };

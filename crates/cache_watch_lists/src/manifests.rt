@@ -2,6 +2,7 @@
 //! and its list, each after its length. A result may have a list for each of several folders in which calls were made.
 
 use crate::watch_list::{folder_of, looks_for};
+use base_files::FileTime;
 use base_formats::{put_framed, read_framed};
 use ckeys_include_records::{CachedResult, PreprocessorCacheEntry};
 use std::alloc::{AllocError, Global};
@@ -61,20 +62,21 @@ pub fn noted_and_rows(watched: &[u8]) -> (&[u8], &[u8]) {
     }
 }
 
-/// How many folders and files had to be looked at, where a call in that folder finds all files where the text of this key has them from, and
-/// would print these messages. Nothing where it doesn't.
+/// How many folders and files had to be looked at, where a call in that folder, which began at that moment, finds all files where the text of
+/// this key has them from, and would print these messages. Nothing where it doesn't.
 pub fn looks_for_result<R: Files + AllocGlobal>(
     rt: &R,
     dir: &[u8],
     rows: &[u8],
     key: &[u8],
     messages: &[u8],
+    before: FileTime,
 ) -> Result<Option<u64>, AllocError> {
     for row in rows_of(rt.alloc(), rows)? {
         if row.key != key || row.messages != messages {
             continue;
         }
-        if let Some(looks) = looks_for(rt, dir, row.list)? {
+        if let Some(looks) = looks_for(rt, dir, row.list, before)? {
             return Ok(Some(looks));
         }
     }

@@ -8,7 +8,8 @@ use std::rt::Files;
 /// Where the kernel lists what is mounted.
 const LIST: &str = "/proc/self/mountinfo";
 
-/// The types of file systems on which each change of a file gives it another time.
+/// The types of file systems on which each change of a file gives it another time, and each change of the names in a folder gives that one
+/// another; and whose folders list all names that a look finds there, in large or small letters.
 const TYPES: [&[u8]; 9] = [
     b"btrfs", b"ext2", b"ext3", b"ext4", b"f2fs", b"overlay", b"tmpfs", b"xfs", b"zfs",
 ];

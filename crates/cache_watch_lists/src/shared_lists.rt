@@ -175,7 +175,7 @@ fn put_filled<R: Files + AllocGlobal>(
     out: &mut Vec<u8>,
 ) -> Result<(), AllocError> {
     let filled = with_states(rt, row.list, before);
-    let fits = holds(rt, dir, row.list)?;
+    let fits = holds(rt, dir, row.list, before)?;
     match &filled {
         Ok(list) if fits => row.with(list.as_slice()).put(out),
         _ => row.put(out),

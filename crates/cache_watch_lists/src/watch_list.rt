@@ -4,6 +4,7 @@
 //! has its path, its state, when its names are looked at, its twin, and its names with what was there, all of them after their length; a
 //! file has its path, its state and the digest of its contents. docs/FORMATS.md has the layout.
 
+use crate::listings::{Listing, Listings, PlainName};
 use crate::unwatched::Unwatched;
 use base_files::{FileTime, OsBytes};
 use base_formats::{ReadFault, put_framed, put_number, read_framed, read_number};
@@ -120,6 +121,7 @@ pub struct Folder {
     names: Vec<u8>,
     /// The path of the folder that it must be the same as; empty where it needn't.
     pub twin: String,
+    listing: Listing,
 }
 
 impl Folder {
@@ -129,11 +131,26 @@ impl Folder {
             state,
             names: Vec::new(alloc),
             twin: String::new(alloc),
+            listing: Listing::new(),
         }
+    }
+
+    /// Whether it is certain, without a look, that nothing lies under a name in this folder, of that path.
+    pub fn lacks<R: Files + AllocGlobal>(
+        &mut self,
+        rt: &R,
+        path: &str,
+        name: &PlainName<'_>,
+        listings: &mut Listings,
+    ) -> Result<bool, AllocError> {
+        self.listing.lacks(rt, path, name, listings)
     }
 
     /// Adds a name with what lies there.
     pub fn note(&mut self, name: &str, found: Found) -> Result<(), AllocError> {
+        if found == Found::Nothing {
+            self.listing.take_in_vain();
+        }
         put_framed(&mut self.names, name.as_bytes())?;
         put_number(&mut self.names, found.code())
     }
@@ -159,17 +176,38 @@ pub(crate) fn text_of(path: &[u8]) -> Result<&str, Unwatched> {
     }
 }
 
+/// What lies under a name in a folder, as `found_at` says.
+fn found_in<R: Files + AllocGlobal>(
+    rt: &R,
+    folder: &str,
+    name: &str,
+    listing: &mut Listing,
+    listings: &mut Listings,
+) -> Result<Option<Found>, Unwatched> {
+    if let Some(plain) = PlainName::of(rt.alloc(), name)? {
+        if listing.lacks(rt, folder, &plain, listings)? {
+            return Ok(Some(Found::Nothing));
+        }
+    }
+    let path = format!(in rt.alloc(); "{folder}/{name}")?;
+    let found = found_at(rt, path.as_str());
+    if found == Some(Found::Nothing) {
+        listing.take_in_vain();
+    }
+    Ok(found)
+}
+
 /// Whether the same as then is still at the name at the front of these bytes, and what comes after that name.
 fn name_holds<'a, R: Files + AllocGlobal>(
     rt: &R,
     folder: &str,
     names: &'a [u8],
+    listing: &mut Listing,
+    listings: &mut Listings,
 ) -> Result<(bool, &'a [u8]), Unwatched> {
     let (name, rest) = read_framed(names)?;
     let (code, rest) = read_number(rest)?;
-    let name = text_of(name)?;
-    let path = format!(in rt.alloc(); "{folder}/{name}")?;
-    let holds = match found_at(rt, path.as_str()) {
+    let holds = match found_in(rt, folder, text_of(name)?, listing, listings)? {
         Some(found) => found.code() == code,
         None => false,
     };
@@ -181,14 +219,16 @@ fn names_hold<R: Files + AllocGlobal>(
     rt: &R,
     folder: &str,
     names: &[u8],
+    listings: &mut Listings,
 ) -> Result<bool, Unwatched> {
+    let mut listing = Listing::new();
     let mut rest = names;
     // Each turn takes a byte at least.
     for _ in 0..names.len() {
         if rest.is_empty() {
             break;
         }
-        let (holds, behind) = name_holds(rt, folder, rest)?;
+        let (holds, behind) = name_holds(rt, folder, rest, &mut listing, listings)?;
         if !holds {
             return Ok(false);
         }
@@ -210,6 +250,7 @@ fn is_as_twin<R: Files>(rt: &R, row: FolderRow<'_>, now: State) -> Result<bool, 
 fn folder_holds<'a, R: Files + AllocGlobal>(
     rt: &R,
     bytes: &'a [u8],
+    listings: &mut Listings,
 ) -> Result<(Option<u64>, &'a [u8]), Unwatched> {
     let (row, rest) = folder_ahead(bytes)?;
     let path = text_of(row.path)?;
@@ -220,7 +261,7 @@ fn folder_holds<'a, R: Files + AllocGlobal>(
     if row.looking == Looking::Settled.code() && now == row.state {
         return Ok((Some(0), rest));
     }
-    match names_hold(rt, path, row.names)? {
+    match names_hold(rt, path, row.names, listings)? {
         true => Ok((Some(1), rest)),
         false => Ok((None, rest)),
     }
@@ -297,11 +338,13 @@ fn file_holds<'a, R: Files + AllocGlobal>(
 fn folders_hold<'a, R: Files + AllocGlobal>(
     rt: &R,
     bytes: &'a [u8],
+    before: FileTime,
 ) -> Result<(Option<u64>, &'a [u8]), Unwatched> {
+    let mut listings = Listings::new(before);
     let (count, mut rest) = read_number(bytes)?;
     let mut looks = 0u64;
     for _ in 0..count {
-        let (found, behind) = folder_holds(rt, rest)?;
+        let (found, behind) = folder_holds(rt, rest, &mut listings)?;
         let Some(more) = found else {
             return Ok((None, behind));
         };
@@ -334,12 +377,13 @@ fn all_holds<R: Files + AllocGlobal>(
     rt: &R,
     dir: &[u8],
     list: &[u8],
+    before: FileTime,
 ) -> Result<Option<u64>, Unwatched> {
     let (own, rest) = read_framed(list)?;
     if own != dir {
         return Ok(None);
     }
-    let (found, rest) = folders_hold(rt, rest)?;
+    let (found, rest) = folders_hold(rt, rest, before)?;
     let Some(folders) = found else {
         return Ok(None);
     };
@@ -350,22 +394,29 @@ fn all_holds<R: Files + AllocGlobal>(
 }
 
 /// How many folders and files had to be looked at, since they are in another state, where a call in that folder finds all files where the call
-/// that made this list found them. Nothing where it doesn't, or that can't be determined.
+/// that made this list found them. Nothing where it doesn't, or that can't be determined. The call began at that moment.
 pub fn looks_for<R: Files + AllocGlobal>(
     rt: &R,
     dir: &[u8],
     list: &[u8],
+    before: FileTime,
 ) -> Result<Option<u64>, AllocError> {
-    match all_holds(rt, dir, list) {
+    match all_holds(rt, dir, list, before) {
         Ok(looks) => Ok(looks),
         Err(Unwatched::Memory) => Err(AllocError),
         Err(_) => Ok(None),
     }
 }
 
-/// Whether a call in that folder finds all files where the call that made this list found them. False where that can't be determined.
-pub fn holds<R: Files + AllocGlobal>(rt: &R, dir: &[u8], list: &[u8]) -> Result<bool, AllocError> {
-    Ok(looks_for(rt, dir, list)?.is_some())
+/// Whether a call in that folder, which began at that moment, finds all files where the call that made this list found them. False where that
+/// can't be determined.
+pub fn holds<R: Files + AllocGlobal>(
+    rt: &R,
+    dir: &[u8],
+    list: &[u8],
+    before: FileTime,
+) -> Result<bool, AllocError> {
+    Ok(looks_for(rt, dir, list, before)?.is_some())
 }
 
 /// The folder of the call whose list these bytes are.

@@ -1,6 +1,6 @@
 //! Lists of what to watch beside a manifest, and manifests that lose results and get them back.
 
-use base_files::Listed;
+use base_files::{FileTime, Listed};
 use base_formats::{put_framed, put_number};
 use cache_watch_lists::{WatchedResult, looks_for_result, with_list, with_results_of, without};
 use ckeys_include_records::{KeyText, PreprocessorCacheEntry};
@@ -68,10 +68,11 @@ fn holding<R: Files + AllocGlobal>(rt: &R, lists: &[u8], folder: &str) -> Result
     for letter in ["a", "b"] {
         let key = letter.repeat(rt.alloc(), 64)?;
         let (dir, key) = (folder.as_bytes(), key.as_bytes());
-        if looks_for_result(rt, dir, lists, key, b"messages")?.is_some() {
+        let before = FileTime::from_seconds(0);
+        if looks_for_result(rt, dir, lists, key, b"messages", before)?.is_some() {
             letters.push_str(letter)?;
         }
-        let other = looks_for_result(rt, dir, lists, key, b"")?;
+        let other = looks_for_result(rt, dir, lists, key, b"", before)?;
         holds(other.is_none(), letter)?;
     }
     Ok(letters)

@@ -2,9 +2,9 @@
 
 use crate::disks::{change, change_all, line_of, make_fresh};
 use base_files::{FileTime, OsBytes};
-use cache_searched_folders::{AskingSources, SearchList, Source, TextFiles, Watching};
+use cache_searched_folders::{AskingSources, Places, SearchList, Source, TextFiles, Watching};
 use cache_source_directives::{Asked, Search};
-use cache_watch_lists::holds as list_holds;
+use cache_watch_lists::{PlainName, Unwatched, holds as list_holds};
 use std::alloc::Global;
 use std::rt::Files;
 use std::test::Fail;
@@ -14,10 +14,28 @@ use tests_kit::{holds, is_that};
 const SAID: &str = "ignoring nonexistent directory \"c\"\nignoring duplicate directory \"d\"\n\
     #include \"...\" search starts here:\n#include <...> search starts here:\n a\n b\nEnd of search list.\n";
 
+/// The names that are asked for in turn: so many aren't in the first folder that it is listed before the last ones are looked for.
+const ASKED: [&str; 6] = ["p.h", "q.h", "r.h", "s/y.h", "t.h", "x.h"];
+
 /// Folders, a header in the second one, and a link to that.
 const TREE: [&str; 4] = ["folder a", "folder b", "write b/x.h one", "link d b"];
 
-/// A list of what is watched where `<x.h>` is asked for in that folder, of a text that names a file with these contents; what was changed
+/// Looks for these names, in brackets.
+fn search_all<R: Files + AllocGlobal>(
+    rt: &R,
+    places: &Places,
+    names: &[&str],
+    watching: &mut Watching<'_, '_>,
+) -> Result<(), Unwatched> {
+    for name in names {
+        let name = name.as_bytes();
+        let search = Search::Bracketed;
+        watching.search(rt, places, b"", Asked { name, search })?;
+    }
+    Ok(())
+}
+
+/// A list of what is watched where these names are asked for in that folder, of a text that names a file with these contents; what was changed
 /// before that moment is settled.
 fn list_in<R: Files + AllocGlobal>(
     rt: &R,
@@ -31,15 +49,15 @@ fn list_in<R: Files + AllocGlobal>(
         return Err("no search list".into());
     };
     let mut watching = Watching::new(alloc, folder.as_bytes(), before);
-    let name: &[u8] = b"x.h";
-    let search = Search::Bracketed;
     let taken = watching.take_named(alloc, named, contents.as_bytes(), false);
-    let folders = watching.take_folders(rt, &list);
-    let searched = watching.search(rt, &list, b"", Asked { name, search });
+    let Ok(places) = watching.take_folders(rt, &list) else {
+        return Err("nothing can be watched".into());
+    };
+    let searched = search_all(rt, &places, &ASKED, &mut watching);
     let list = watching.into_list(alloc);
-    match (taken, folders, searched, list) {
-        (Ok(()), Ok(()), Ok(()), Ok(list)) => Ok(list),
-        (_, _, _, _) => Err("nothing can be watched".into()),
+    match (taken, searched, list) {
+        (Ok(()), Ok(()), Ok(list)) => Ok(list),
+        (_, _, _) => Err("nothing can be watched".into()),
     }
 }
 
@@ -50,19 +68,29 @@ fn hold_as<R: Files + AllocGlobal>(
     list: &[u8],
     changes: &[(&str, bool)],
 ) -> Result<(), Fail> {
+    let before = FileTime::from_seconds(i64::MAX);
     for (row, want) in changes {
         change(rt, folder, row)?;
-        let found = list_holds(rt, folder.as_bytes(), list)?;
+        let found = list_holds(rt, folder.as_bytes(), list, before)?;
         holds(found == *want, row)?;
     }
-    let found = list_holds(rt, b"elsewhere", list)?;
+    let found = list_holds(rt, b"elsewhere", list, before)?;
     holds(!found, "a call in another folder")
 }
 
 /// Changes of names, and whether the compiler finds what it found.
-const NAMES: [(&str, bool); 15] = [
+const NAMES: [(&str, bool); 24] = [
     ("", true),
     ("write a/y.h new", true),
+    ("write a/X.H other", true),
+    ("write a/größe.h other", true),
+    ("write a/t.h new", false),
+    ("remove a/größe.h", false),
+    ("remove a/t.h", true),
+    ("folder a/s", true),
+    ("write a/s/y.h new", false),
+    ("remove a/s/y.h", true),
+    ("unfold a/s", true),
     ("write a/x.h earlier", false),
     ("remove a/x.h", true),
     ("remove b/x.h", false),
@@ -267,4 +295,35 @@ fn texts_show_what_is_included(rt: HostRuntime) -> Result<(), Fail> {
         is_that(why.as_str(), want, shown)?;
     }
     Ok(())
+}
+
+/// Names, and whether a listing says that they aren't in a folder.
+const PLAIN: [(&str, bool); 16] = [
+    ("x.h", true),
+    ("X-1_2+3.H", true),
+    ("s/y.h", true),
+    ("s/../y.h", true),
+    ("vector", true),
+    ("", false),
+    (".", false),
+    ("..", false),
+    ("../x.h", false),
+    ("./x.h", false),
+    ("/x.h", false),
+    (".x.h", false),
+    ("x.", false),
+    ("LONGNA~1.H", false),
+    ("größe.h", false),
+    ("a b.h", false),
+];
+
+#[test]
+fn names_are_plain(rt: HostRuntime) -> Result<(), Fail> {
+    for (name, want) in PLAIN.iter() {
+        let plain = PlainName::of(rt.alloc(), name)?;
+        holds(plain.is_some() == *want, name)?;
+    }
+    let long = "x".repeat(rt.alloc(), 256)?;
+    let plain = PlainName::of(rt.alloc(), long.as_str())?;
+    holds(plain.is_none(), "a name that no folder has")
 }
