@@ -66,12 +66,16 @@ search_tree() {
 
 # Rights that are taken away: by a user other than root, with a cache directory of its own.
 search_rights() {
-    local cc=$1
+    local cc=$1 words
+    words=$(search_many_words)
     search_tree
     search_case "$cc: a folder that can't be looked into" "chmod 000 early" "chmod 700 early" $cc -Iearly -Ilate
     search_case "$cc: a header that can't be read" "chmod 000 late/value.h" "chmod 600 late/value.h" $cc -Iearly -Ilate
     search_case "$cc: a source that can't be read" "chmod 000 it.c" "chmod 600 it.c" $cc -Iearly -Ilate
     search_case "$cc: a folder that can't be listed" "chmod 300 early" "chmod 700 early" $cc -Iearly -Ilate
+    search_many_tree
+    chmod 311 many/folder-75
+    search_case "$cc: a header in a folder that can't be listed" 'printf "#define VALUE 7\n" >many/folder-75/value.h' "rm many/folder-75/value.h" $cc $words
 }
 # Runs these as another user, and adds their counts of what passed and failed.
 search_as_another() {
@@ -79,7 +83,7 @@ search_as_another() {
     chmod 711 "$work"
     mkdir -p "$dir"
     chown 65534 "$dir"
-    functions=$(declare -f is counted mark since settle search_call search_case search_tree search_rights)
+    functions=$(declare -f is counted mark since settle search_call search_case search_tree search_many_tree search_many_words search_rights)
     cd "$dir" || return
     setpriv --reuid=65534 --regid=65534 --clear-groups env GULMAAT_DIR="$dir/cache" \
         bash -c "$functions; host=$host passed=0 failed=0; search_rights $cc; echo \$passed \$failed >counts"
@@ -183,6 +187,7 @@ searches() {
     printf '#pragma once\nstatic int other;\n' >two/once.h
     search_call "$cc: and a file of its own" $cc
     rm two/once.h
+    search_many "$cc"
     search_spellings "$cc"
     search_names "$cc"
     search_hidden "$cc"
@@ -190,6 +195,59 @@ searches() {
     search_unclear "$cc"
     search_others "$cc"
     cd "$work" || return
+}
+
+# Many folders, of which the last one has what is asked for: each is listed once some names were looked for in it.
+search_many_tree() {
+    local number
+    rm -rf many it.c
+    for number in {1..150}; do mkdir -p "many/folder-$number"; done
+    for number in {1..8}; do
+        printf 'static int of_%s;\n' "$number" >"many/folder-150/name-$number.h"
+        printf '#include <name-%s.h>\n' "$number" >>it.c
+    done
+    mkdir many/folder-150/deep
+    printf '#define VALUE 1\n' | tee many/folder-150/value.h many/folder-150/Value.hh >many/folder-150/deep/value.h
+    printf '#include <value.h>\nint value = VALUE;\n' >>it.c
+    settle
+}
+search_many_words() { printf -- '-Imany/folder-%s ' {1..150}; }
+search_many() {
+    local cc=$1 words name middle=many/folder-75 made='printf "#undef VALUE\n#define VALUE 7\n" >'
+    words=$(search_many_words)
+    search_many_tree
+    search_case "$cc: in the middle of many" "${made}$middle/value.h" "rm $middle/value.h" $cc $words
+    search_case "$cc: a link in the middle of many" "ln -s ../folder-150/name-1.h $middle/value.h" "rm $middle/value.h" $cc -DVALUE=3 $words
+    search_case "$cc: a folder in the middle of many" "mkdir $middle/value.h" "rmdir $middle/value.h" $cc $words
+    search_case "$cc: many folders that change" "touch many/folder-{1..149}/other.h; ${made}$middle/value.h" "rm many/folder-{1..149}/other.h $middle/value.h" \
+        $cc $words
+    mark
+    touch many/folder-{1..149}/other.h
+    settle
+    search_call "$cc: many folders that change, and no name" $cc $words
+    is "$cc: a direct hit where many folders change" since 0 0 1
+    # Names that no listing tells: the folder is looked at as without one.
+    for name in $'\377.h' größe.h; do
+        touch "$middle/$name"
+        settle
+        search_case "$cc: beside $name" "${made}$middle/value.h" "rm $middle/value.h" $cc $words
+        rm "$middle/$name"
+    done
+    for name in deep/value.h Value.hh ../folder-75/asked.h; do
+        sed -i /value/d it.c
+        printf '#if __has_include(<%s>)\n#include <%s>\n#else\n#define VALUE 2\n#endif\nint value = VALUE;\n' "$name" "$name" >>it.c
+        settle
+        search_case "$cc: $name in the middle of many" "mkdir -p $middle/deep; ${made}$middle/${name#../folder-75/}" \
+            "rm $middle/${name#../folder-75/}; rmdir $middle/deep" $cc $words
+        search_many_tree
+    done
+    # A link there that leads nowhere, and then somewhere.
+    ln -s ../nowhere.h $middle/value.h
+    search_none "$cc: a link that leads nowhere in the middle of many" $cc $words
+    printf '#define VALUE 9\n' >many/nowhere.h
+    search_call "$cc: it leads somewhere now, in the middle of many" $cc $words
+    rm -r many
+    search_tree
 }
 
 # How a directive may be written, and what looks like one in a string.
