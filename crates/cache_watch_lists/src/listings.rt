@@ -14,10 +14,11 @@ use std::fs::Metadata;
 use std::os::unix::fs::MetadataExt;
 use std::rt::Files;
 
-/// From how many looks in vain on a folder is listed. Those come first since a folder that can't be searched can't be listed in place of that.
+/// From how many looks in vain on a folder is listed. They show too that it can be searched: where it can't, a look fails, and a list may not.
 const LOOKS: u64 = 3;
 
-/// For how many bytes of a folder there must have been a look in vain: a large one is listed only where it is asked for much.
+/// For how many bytes of a folder there must have been a look in vain: a large one is listed only where it is asked for much. A look takes as
+/// long as some five names of a list, and a name some 40 bytes; but what was looked for in vain thrice is mostly looked for a hundred times.
 const BYTES: u64 = 2048;
 
 /// How many bytes a name in a folder has at most: longer ones can't be looked up.
