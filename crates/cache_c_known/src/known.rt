@@ -7,28 +7,21 @@ use crate::kept::Hint;
 use crate::manifests::KnownManifest;
 use base_files::{Files as CallFiles, Listed, OsBytes};
 use base_snapshots::SnapshotFiles;
-use cache_dir::digest_of;
 use cache_disk::read_whole;
 use cache_files::results::Kept;
 use cache_format::KeptMessages;
 use cache_host::{CommandLine, Ended, Host, HostError, text_in};
 use cache_known_options::text_words::text_words;
 use cache_known_options::{Beside, Dependencies};
-use cache_settings::Key;
-use cache_source_files::{
-    Tokens, contents_at, digest_of_list, has_precompiled, load, load_named, names_files_of, regular,
-};
-use cache_unkept_texts::{takes_files, tells_time};
+use cache_source_files::{Tokens, contents_at, load, load_named, names_files_of, regular};
+use cache_unkept_texts::takes_files;
 use cache_watch_lists::Unwatched;
-use cache_written_lines::{
-    Asked, NamedFiles, Sources, digest_asked, digest_of_contents, with_plain_names,
-};
+use cache_written_lines::{NamedFiles, Sources, digest_of_contents};
 use ckeys::needs_c_preprocessing;
 use ckeys_records::{Printed, Step};
 use ckeys_time_macros::Zone;
 use cmdlines_tables::CCompilerKind;
 use std::alloc::Global;
-use std::fs;
 use std::fs::File;
 use std::io::Read;
 use std::rt::Files;
@@ -79,7 +72,7 @@ pub struct Known {
     /// Whether these were found unchanged, after the compile where one ran.
     pub(crate) are_unchanged: bool,
     /// The files of the text, as the compiler lists them for a dependency file; nothing where none is asked for.
-    list: OsBytes,
+    pub(crate) list: OsBytes,
     /// The dependency file that the compile wrote.
     pub(crate) written: Option<OsBytes>,
     /// The other files that it wrote beside the object, each by its ending and its contents.
@@ -279,83 +272,6 @@ impl Known {
         let Dependencies { others, file, .. } = &beside.dependencies;
         let list = file.as_ref().map(|_| line.list.as_str());
         Ok(text_words(alloc, others.as_slice(), list)?)
-    }
-
-    /// The text that a preprocessor printed, with the names of files as they are.
-    pub(crate) fn printed_text<R: Files + AllocGlobal>(
-        &self,
-        rt: &R,
-        line: &CommandLine,
-    ) -> Result<Vec<u8>, HostError> {
-        let text = read_whole(rt, line.text.as_str())?;
-        match self.kind {
-            CCompilerKind::Clang => Ok(with_plain_names(rt.alloc(), text)?),
-            _ => Ok(text),
-        }
-    }
-
-    /// The digest of the text as it was printed, where that isn't the one with the names of files as they are: what looks like a marker may be a
-    /// line of a string, in which a byte and the digits for it aren't the same. An empty one else.
-    fn digest_of_printed<R: Files + AllocGlobal>(
-        &self,
-        rt: &R,
-        line: &CommandLine,
-        text: &[u8],
-    ) -> Result<String, HostError> {
-        let size = fs::metadata(rt, line.text.as_str())?.len();
-        // A name that is written in another way is longer.
-        if size == text.len() as u64 {
-            return Ok(String::new(rt.alloc()));
-        }
-        let printed = read_whole(rt, line.text.as_str())?;
-        Ok(digest_of(rt.alloc(), printed.as_slice())?)
-    }
-
-    /// The text that was printed, followed by what it doesn't say of its sources: the digest of lines as they were written, and that of the
-    /// list of its files, where a dependency file is asked for.
-    fn text_at<R: Files + AllocGlobal>(
-        &mut self,
-        rt: &R,
-        line: &CommandLine,
-    ) -> Result<Vec<u8>, HostError> {
-        let alloc = rt.alloc();
-        let text = self.printed_text(rt, line)?;
-        refuse_text(line, text.as_slice())?;
-        if text.is_empty() {
-            return Ok(text);
-        }
-        self.named = NamedFiles::of(rt, line.dir.as_bytes(), text.as_slice())?;
-        if has_precompiled(rt, line, &self.named)? {
-            return Err(HostError::Precompiled);
-        }
-        let printed = self.digest_of_printed(rt, line, text.as_slice())?;
-        let lines = self.lines_of(rt, line, text.as_slice())?;
-        let (mut text, maps) = self.without_folder(alloc, line, text)?;
-        push_digest(&mut text, "text as it was printed", printed.as_bytes())?;
-        push_digest(&mut text, "lines as they were written", lines.as_bytes())?;
-        push_digest(&mut text, "maps of names", maps.as_slice())?;
-        if self.dependency_file().is_some() {
-            self.list = OsBytes::from_vec(read_whole(rt, line.list.as_str())?);
-            let digest = digest_of_list(alloc, self.list.as_bytes())?;
-            push_digest(&mut text, "files for Make", digest.as_bytes())?;
-        }
-        Ok(text)
-    }
-
-    /// The digest of what a text doesn't say of its sources, as far as what is made of it hangs on that; an empty one where nothing does.
-    fn lines_of<R: Files + AllocGlobal>(
-        &mut self,
-        rt: &R,
-        line: &CommandLine,
-        text: &[u8],
-    ) -> Result<OsBytes, HostError> {
-        let alloc = rt.alloc();
-        let asked = Asked::by(self.kind, line.words.as_slice(), text);
-        if asked == Asked::Nothing || !line.settings.value_of(Key::Sloppiness).is_empty() {
-            return Ok(OsBytes::empty(alloc));
-        }
-        self.named.read(rt);
-        digest_asked(alloc, asked, text, Sources::of(alloc, &mut self.named)?)
     }
 
     /// The digest of what lies under all names that the text has: a message quotes a line of the file that a marker or a `#line` names, where
@@ -562,28 +478,6 @@ impl Known {
             (_, _) => Ok(false),
         }
     }
-}
-
-/// Appends a digest to a text, as lines of a file that doesn't exist. An empty digest isn't appended.
-fn push_digest(text: &mut Vec<u8>, name: &str, digest: &[u8]) -> Result<(), HostError> {
-    if digest.is_empty() {
-        return Ok(());
-    }
-    text.extend_from_slice(b"\n# 1 \"<")?;
-    text.extend_from_slice(name.as_bytes())?;
-    text.extend_from_slice(b">\"\n")?;
-    Ok(text.extend_from_slice(digest)?)
-}
-
-/// Refuses a text by which what is made of it can't be found again.
-fn refuse_text(line: &CommandLine, text: &[u8]) -> Result<(), HostError> {
-    if takes_files(text) {
-        return Err(HostError::TakesFiles);
-    }
-    if tells_time(text, line.second(), line.zone.as_str()) {
-        return Err(HostError::TellsTime);
-    }
-    Ok(())
 }
 
 /// Whether a word is among these.

@@ -6,8 +6,8 @@ mod compiling;
 mod kept;
 mod known;
 mod manifests;
-mod mapped_names;
 mod side_files;
+mod texts;
 
 pub use kept::{Hint, found, hint_at, hint_name, keep, kept_under, note_hint, renew};
 pub use known::{Given, Known};
