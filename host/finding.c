@@ -15,7 +15,7 @@
 #define INSIDE "GULMAAT_INSIDE"
 
 char **words, compiler[PATH_MAX], self[PATH_MAX];
-int is_inside;
+int is_inside, met_self;
 
 static struct stat own;                 /* what this host's own file is */
 static const char *inherited = "";      /* which files hosts ran so far, in this chain of calls */
@@ -80,7 +80,8 @@ static enum { NONE, SKIPPED, FOUND } look_at(const char *path, int most) {
     struct stat file;
     if (stat(path, &file) || access(path, X_OK)) return NONE;
     if (!S_ISREG(file.st_mode)) { errno = EACCES; return NONE; }
-    return is_self(path, &file) || runs_of(&file) > most ? SKIPPED : FOUND;
+    if (is_self(path, &file)) { met_self = 1; return SKIPPED; }
+    return runs_of(&file) > most ? SKIPPED : FOUND;
 }
 
 /* The first file of that name on the path that can be run and isn't skipped. A driver that is called by its name looks for its parts beside the

@@ -251,13 +251,28 @@ static int answer_options(int count, char **list) {
     return 127;
 }
 
+static const char *name_of(const char *path) { return strrchr(path, '/') ? strrchr(path, '/') + 1 : path; }
+
+/* Whether a word's name is that of a host, and not of a link that is named like a compiler. */
+static int is_hosts(const char *word) { return !strncmp(name_of(word), "gulmaat", 7); }
+
+/* Finds the compiler. Where a host is named once more before it, as by CC and by a launcher of CMake, that word is left out. */
+static int find_asked(const char *asked, int is_link) {
+    while (find_compiler(asked)) {
+        if (is_link || errno != ENOENT || !met_self || !is_hosts(asked) || !words[1] || *words[1] == '-') return -1;
+        asked = *++words;
+        met_self = 0;
+    }
+    return 0;
+}
+
 int main(int count, char **list) {
     if (count < 1) return 127;
     began = now();
     int is_poor = hold_closed();
     find_self();
-    const char *name = strrchr(list[0], '/') ? strrchr(list[0], '/') + 1 : list[0];
-    int is_link = strncmp(name, "gulmaat", 7) != 0;
+    const char *name = name_of(list[0]);
+    int is_link = !is_hosts(name);
     words = is_link ? list : list + 1;
     if (!is_link && count > 2 && !strcmp(list[1], "--audit")) {
         /* A hit is compiled too, and the program says what differs. */
@@ -265,7 +280,7 @@ int main(int count, char **list) {
         words++;
     } else if (!is_link && (count < 2 || list[1][0] == '-')) return answer_options(count, list);
     const char *asked = is_link ? name : words[0];
-    if (find_compiler(asked)) {
+    if (find_asked(asked, is_link)) {
         int why = errno;
         perror(asked);
         return why == ENOENT ? 127 : 126;

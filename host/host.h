@@ -14,6 +14,7 @@ extern char **words;                /* the compiler's own words, its name first 
 extern char compiler[PATH_MAX];     /* the file that is run */
 extern char self[PATH_MAX];         /* this host's own file */
 extern int is_inside;               /* whether another host started this one, directly or through other programs */
+extern int met_self;                /* whether this host was met where a compiler was looked for */
 
 void find_self(void);
 int find_compiler(const char *name);

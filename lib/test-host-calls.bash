@@ -178,6 +178,10 @@ host_itself() {
     ends_on_path "$cc: two builds" "$cc" "$PWD/other:$links"
     ends_on_path "$cc: two builds, the link first" "$cc" "$links:$PWD/other:$PWD/copy"
     for folder in links copy other; do as_alone "$cc: before $folder" 2 "$PWD/$folder/$cc" -Wall -c it.c -o it.o; done
+    # A host that is named twice, as by CC and by a launcher of CMake.
+    mark
+    as_alone "$cc: before itself" 2 "$host" "$cc" -Wall -O1 -c it.c -o it.o
+    is "$cc: before itself: kept" since 2 1
     # A script of that name that calls the host.
     printf '#!/bin/sh\nexec %s %s "$@"\n' "$host" "$cc" >"script/$cc"
     chmod +x "script/$cc"
