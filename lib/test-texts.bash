@@ -71,7 +71,7 @@ marker_in_string() {
 }
 
 texts() {
-    local cc=$1 dir=$work/texts-$1 directive
+    local cc=$1 words dir=$work/texts-$1 directive
     local -x TZ
     TZ=$(noon_zone)
     mkdir -p "$dir/parts.include"
@@ -112,6 +112,16 @@ texts() {
     text_case "$cc" "a precompiled header of the second one" $'#include "first.h"\n#include "second.h"\nint a = ONE;' 2 0
     "$cc" -x c-header first.h -o first.h.gch
     text_case "$cc" "a precompiled header" $'#include "first.h"\n#include "second.h"\nint a = ONE;' 0 0
+    # Where words name the header, as CMake's, the text isn't even asked for.
+    for words in "-include first.h" "-include$PWD/first.h" "-Winvalid-pch -include $PWD/first.h -include second.h"; do
+        printf 'int a = ONE;\n' >it.c
+        rm -f first.log
+        $cc $words -c it.c -o plain.o 2>plain.err
+        GULMAAT_LOGFILE=$PWD/first.log GULMAAT_LOG_FORMAT=json "$host" "$cc" $words -c it.c -o it.o 2>it.err
+        is "$cc $words: a precompiled header: object" cmp -s plain.o it.o
+        is "$cc $words: a precompiled header: messages" cmp -s plain.err it.err
+        is "$cc $words: a precompiled header: only the compile runs" grep -q '"ran":\[\["C",[0-9,]*\]\]' first.log
+    done
     rm first.h.gch second.h.gch
     precompiled_ahead "$cc"
     # An option that a user allows.

@@ -82,11 +82,53 @@ renewed_case() {
     rm -r many
 }
 
+# The sums of what is kept of where a compiler looks, and of headers.
+searches_now() { find "$GULMAAT_DIR/searches" -type f -exec sha256sum {} + | sort; }
+
+# All headers are in other states, as after a checkout: the first source's hit notes them for the other one, which needn't read them.
+checkout_case() {
+    local cc=$1 number source before after
+    "$host" --clear
+    mkdir -p checkout
+    for number in $(seq 20); do printf '#define V%d %d\n' $number $number >checkout/$number.h; done
+    for number in $(seq 20); do printf '#include "%d.h"\n' $number; done >checkout/all.h
+    printf '#include <all.h>\nint one = V7;\n' >it.c
+    cp it.c one.c
+    printf '#include <all.h>\nint other = V7;\n' >other.c
+    settle
+    for number in 1 2; do
+        for source in one other; do "$host" $cc -Icheckout -c $source.c -o $source.o; done
+        settle
+    done
+    touch checkout/*.h
+    settle
+    before=$(searches_now)
+    mark
+    "$host" $cc -Icheckout -c one.c -o one.o
+    after=$(searches_now)
+    is "$cc: after a checkout: noted for others" [ "$before" != "$after" ]
+    "$host" $cc -Icheckout -c other.c -o other.o
+    is "$cc: after a checkout: direct hits" since 0 0 2
+    is "$cc: after a checkout: nothing is noted twice" [ "$after" = "$(searches_now)" ]
+    $cc -Icheckout -c other.c -o plain.o
+    is "$cc: after a checkout: object" cmp -s plain.o other.o
+    # A header with other contents, and one that was only touched: the contents count.
+    touch checkout/*.h
+    printf '#define V7 8\n' >checkout/7.h
+    settle
+    "$host" $cc -Icheckout -c one.c -o one.o
+    "$host" $cc -Icheckout -c other.c -o other.o
+    $cc -Icheckout -c other.c -o plain.o
+    is "$cc: after a checkout, another header: object" cmp -s plain.o other.o
+    rm -r checkout
+}
+
 tokens() {
     local cc=$1 dir=$work/tokens-$1 other
     mkdir -p "$dir"
     cd "$dir" || return
     renewed_case $cc
+    checkout_case $cc
     printf '#include <value.h>\nint value = VALUE;\n' >it.c
     token_case "$cc: as it was" "true" "0 0 1" $cc
     token_case "$cc: touched" "touch value.h" "0 0 1" $cc

@@ -426,13 +426,10 @@ impl Known {
             line.dir.as_bytes(),
             result,
         )?;
-        self.put_whole(rt, line, &newest.0, &whole, lists.as_slice())?;
-        // What isn't kept is digested again.
-        let _ = keep_shared(rt, line, &self.tokens);
-        Ok(())
+        self.put_whole(rt, line, &newest.0, &whole, lists.as_slice())
     }
 
-    /// Puts a manifest with these lists, which come after what is noted of its headers.
+    /// Puts a manifest with these lists, which come after what is noted of its headers, and keeps what is noted for other calls in the folder.
     fn put_whole<R: Files + AllocGlobal>(
         &self,
         rt: &R,
@@ -448,7 +445,10 @@ impl Known {
         watched.extend_from_slice(lists)?;
         let (folder, zone) = (&line.folder, line.zone.as_str());
         let watched = OsBytes::from_vec(watched);
-        Ok(put_manifest(rt, folder, zone, self.name_to_note(), key, entry, watched)?)
+        put_manifest(rt, folder, zone, self.name_to_note(), key, entry, watched)?;
+        // What isn't kept is digested again.
+        let _ = keep_shared(rt, line, &self.tokens);
+        Ok(())
     }
 
     /// The lists of the manifest that was used, with the present states for its result where much had to be looked at.

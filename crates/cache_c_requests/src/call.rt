@@ -5,6 +5,7 @@ ghost use Rattle.std.specs.Prelude.{◌≡◌};
 
 use crate::compilers::{KnownCompiler, add_surroundings, compiler_at};
 use crate::native::native_of;
+use crate::precompiled::refuse_precompiled;
 use base_files::{Listed, OsBytes};
 use cache_host::{ADDITIONS_VARIABLE, Additions, CommandLine, Host, HostError};
 use cache_known_options::{Beside, PlacedWords, behind_front, beside_of, is_read};
@@ -260,6 +261,7 @@ pub fn call_of<P: Print + Files + AllocGlobal, I: Read>(
     requires { host.old.compiled ≡ 0 }
     ensures { host.new.compiled ≡ 0 }
 {
+    refuse_precompiled(rt, line)?;
     let beside = beside_in(rt.alloc(), line, kind)?;
     let (request, takes_color) = request_of(rt, line, host, kind, beside.as_ref())?;
     Ok(Call {

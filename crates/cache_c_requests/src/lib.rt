@@ -8,6 +8,7 @@ mod compilers;
 mod native;
 mod parts;
 mod passing;
+mod precompiled;
 
 pub use call::{Call, call_of};
 pub use compilers::{KnownCompiler, add_surroundings, compiler_at, kind_of};

@@ -17,6 +17,9 @@ use std::rt::Files;
 /// What a file has in it that takes in another one.
 const EMBEDS: [&str; 2] = ["#embed", "# embed"];
 
+/// How many headers in states that a call doesn't know are read before it looks for what other calls noted: that is a large file.
+const FEW: usize = 8;
+
 /// What the disk has under a path.
 #[derive(Drop)]
 enum OnDisk {
@@ -84,11 +87,35 @@ fn as_token<R: Files + AllocGlobal>(
     Ok(OnDisk::File(token, metadata_of(found, found.len())))
 }
 
+/// What stands for a header in a state that this call doesn't know: the token that another call noted, once many are in such states, as after a
+/// checkout, or one of what is read.
+fn token_anew<R: Files + AllocGlobal>(
+    rt: &R,
+    line: &CommandLine,
+    path: &OsBytes,
+    place: &str,
+    found: &fs::Metadata,
+    tokens: &mut Tokens,
+) -> Result<OnDisk, HostError> {
+    let are_many = tokens.count_unknown() > FEW;
+    if are_many {
+        if let Some(token) = token_shared(rt, line, path, found, tokens)? {
+            return Ok(OnDisk::File(token, metadata_of(found, found.len())));
+        }
+    }
+    let Ok(contents) = read_of_size(rt, place, found.len()) else {
+        return Ok(OnDisk::Unknown);
+    };
+    let made = as_token(rt, path, found, contents.as_slice(), line.began, tokens)?;
+    tokens.are_unshared = tokens.are_unshared || (are_many && tokens.get(path, found).is_some());
+    Ok(made)
+}
+
 /// Looks at the path of a header, which is read where no token is known of it.
 fn look_for_token<R: Files + AllocGlobal>(
     rt: &R,
+    line: &CommandLine,
     path: &OsBytes,
-    began: FileTime,
     tokens: &mut Tokens,
 ) -> Result<OnDisk, HostError> {
     let Ok(place) = into_text(path.clone()?) else {
@@ -101,10 +128,7 @@ fn look_for_token<R: Files + AllocGlobal>(
     if let Some(token) = tokens.get(path, &found) {
         return Ok(OnDisk::File(token.clone()?, metadata_of(&found, found.len())));
     }
-    let Ok(contents) = read_of_size(rt, place.as_str(), found.len()) else {
-        return Ok(OnDisk::Unknown);
-    };
-    as_token(rt, path, &found, contents.as_slice(), began, tokens)
+    token_anew(rt, line, path, place.as_str(), &found, tokens)
 }
 
 /// Loads what was found at a path. False where that couldn't be determined.
@@ -181,7 +205,7 @@ pub fn load_all<R: Files + AllocGlobal>(
         if tokens.has_whole(&path) {
             continue;
         }
-        let found = look_for_token(rt, &path, line.began, tokens)?;
+        let found = look_for_token(rt, line, &path, tokens)?;
         if !take(path, found, files)? {
             return Ok(false);
         }

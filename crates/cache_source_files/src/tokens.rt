@@ -78,6 +78,8 @@ pub struct Tokens {
     pub(crate) shared: Option<BTreeMap<OsBytes, Noted>>,
     /// Whether one was noted that these lack.
     pub(crate) are_unshared: bool,
+    /// How many files of a manifest were in states that this call doesn't know.
+    unknown: usize,
     /// The paths of files whose contents a session has as they are.
     whole: BTreeSet<OsBytes>,
     /// The devices of file systems on which a file of the same state has the same contents.
@@ -146,6 +148,7 @@ impl Tokens {
             noted: BTreeMap::new(alloc),
             shared: None,
             are_unshared: false,
+            unknown: 0,
             whole: BTreeSet::new(alloc),
             devices: TrustedDevices::new(),
             are_new: false,
@@ -161,6 +164,12 @@ impl Tokens {
     /// Whether a session has the contents of that path as they are.
     pub fn has_whole(&self, path: &OsBytes) -> bool {
         self.whole.contains(path)
+    }
+
+    /// Counts a file of a manifest in a state that this call doesn't know, and says how many there were.
+    pub(crate) fn count_unknown(&mut self) -> usize {
+        self.unknown = self.unknown.saturating_add(1);
+        self.unknown
     }
 
     /// The token of the file of that path, where it is in the state in which it was.
