@@ -182,6 +182,7 @@ host_itself() {
     mark
     as_alone "$cc: before itself" 2 "$host" "$cc" -Wall -O1 -c it.c -o it.o
     is "$cc: before itself: kept" since 2 1
+    "$cc" -Wall -c it.c -o alone.o 2>alone.err
     # A script of that name that calls the host.
     printf '#!/bin/sh\nexec %s %s "$@"\n' "$host" "$cc" >"script/$cc"
     chmod +x "script/$cc"
