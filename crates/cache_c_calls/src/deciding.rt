@@ -426,11 +426,11 @@ pub fn decide_on_c<P: Print + Files<File = File> + AllocGlobal, I: Read>(
     // The host is asked to compile at most once, whatever it, the disk and the compiler do.
     ensures once { host.new.compiled ≤ 1 }
 {
-    if let Some(reason) = reason_against(rt.alloc(), line)? {
-        return Ok(End::pass(format!(in rt.alloc(); "pass: {reason}")?));
-    }
-    match kind_of(rt, line.executable.as_str())? {
-        Some(kind) => ask(rt, line, host, kind),
-        None => pass(rt.alloc(), "pass: unknown compiler"),
+    let Some(kind) = kind_of(rt, line.executable.as_str())? else {
+        return pass(rt.alloc(), "pass: unknown compiler");
+    };
+    match reason_against(rt.alloc(), line, kind)? {
+        Some(reason) => Ok(End::pass(format!(in rt.alloc(); "pass: {reason}")?)),
+        None => ask(rt, line, host, kind),
     }
 }

@@ -38,6 +38,17 @@ fn refuse_text(line: &CommandLine, text: &[u8]) -> Result<(), HostError> {
     Ok(())
 }
 
+/// Whether an output may have a name that is mapped.
+fn are_in_outputs(maps: &PrefixMaps, outputs: &[Option<OsBytes>]) -> bool {
+    for output in outputs {
+        match output {
+            Some(bytes) if maps.are_in(bytes.as_bytes()) => return true,
+            _ => {}
+        }
+    }
+    false
+}
+
 impl Known {
     /// The text that a preprocessor printed, with the names of files as they are.
     pub(crate) fn printed_text<R: Files + AllocGlobal>(
@@ -82,22 +93,44 @@ impl Known {
         if text.is_empty() {
             return Ok(text);
         }
-        self.named = NamedFiles::of(rt, line.dir.as_bytes(), text.as_slice())?;
-        if has_precompiled(rt, line, &self.named)? {
-            return Err(HostError::Precompiled);
-        }
+        self.take_names(rt, line, text.as_slice())?;
         let printed = self.digest_of_printed(rt, line, text.as_slice())?;
         let lines = self.lines_of(rt, line, text.as_slice())?;
         let (mut text, maps) = self.without_folder(alloc, line, text)?;
         push_digest(&mut text, "text as it was printed", printed.as_bytes())?;
         push_digest(&mut text, "lines as they were written", lines.as_bytes())?;
         push_digest(&mut text, "maps of names", maps.as_slice())?;
-        if self.dependency_file().is_some() {
-            self.list = OsBytes::from_vec(read_whole(rt, line.list.as_str())?);
-            let digest = digest_of_list(alloc, self.list.as_bytes())?;
-            push_digest(&mut text, "files for Make", digest.as_bytes())?;
-        }
+        self.push_list(rt, line, &mut text)?;
         Ok(text)
+    }
+
+    /// Takes the files that a text names. One that may be a precompiled header's is refused.
+    fn take_names<R: Files + AllocGlobal>(
+        &mut self,
+        rt: &R,
+        line: &CommandLine,
+        text: &[u8],
+    ) -> Result<(), HostError> {
+        self.named = NamedFiles::of(rt, line.dir.as_bytes(), text)?;
+        match has_precompiled(rt, line, &self.named)? {
+            true => Err(HostError::Precompiled),
+            false => Ok(()),
+        }
+    }
+
+    /// Appends the digest of the list of the text's files, where a dependency file is asked for.
+    fn push_list<R: Files + AllocGlobal>(
+        &mut self,
+        rt: &R,
+        line: &CommandLine,
+        text: &mut Vec<u8>,
+    ) -> Result<(), HostError> {
+        if self.dependency_file().is_none() {
+            return Ok(());
+        }
+        self.list = OsBytes::from_vec(read_whole(rt, line.list.as_str())?);
+        let digest = digest_of_list(rt.alloc(), self.list.as_bytes())?;
+        push_digest(text, "files for Make", digest.as_bytes())
     }
 
     /// The digest of what a text doesn't say of its sources, as far as what is made of it hangs on that; an empty one where nothing does.
@@ -155,9 +188,9 @@ impl Known {
         if maps.are_in(text.printed.text.as_bytes()) {
             return false;
         }
-        let made = outputs.made.contents.as_slice().iter().flatten();
-        let printed = [&self.preprocessor, &self.printed, &self.errors];
-        made.chain(printed)
-            .any(|bytes| maps.are_in(bytes.as_bytes()))
+        maps.are_in(self.preprocessor.as_bytes())
+            || maps.are_in(self.printed.as_bytes())
+            || maps.are_in(self.errors.as_bytes())
+            || are_in_outputs(maps, outputs.made.contents.as_slice())
     }
 }

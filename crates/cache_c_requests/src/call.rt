@@ -6,6 +6,7 @@ ghost use Rattle.std.specs.Prelude.{◌≡◌};
 use crate::compilers::{KnownCompiler, add_surroundings, compiler_at};
 use crate::native::native_of;
 use crate::precompiled::refuse_precompiled;
+use crate::specs::add_specs;
 use base_files::{Listed, OsBytes};
 use cache_host::{ADDITIONS_VARIABLE, Additions, CommandLine, Host, HostError};
 use cache_known_options::{Beside, PlacedWords, behind_front, beside_of, is_read};
@@ -205,6 +206,7 @@ fn env_with<P: Print + Files + AllocGlobal, I: Read>(
 {
     let alloc = rt.alloc();
     let mut additions = additions_of(alloc, line, kind, beside)?;
+    add_specs(rt, line, host, kind, &mut additions)?;
     if let Some(native) = native_of(rt, line, host)? {
         additions.add(alloc, "native", native.as_bytes())?;
     }

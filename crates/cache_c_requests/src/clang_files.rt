@@ -47,7 +47,7 @@ fn libraries_beside<R: Files + AllocGlobal>(
     let Some((above, _)) = folder.rsplit_once('/') else {
         return Ok(libraries);
     };
-    for name in ["lib", "lib64"] {
+    for name in &["lib", "lib64"] {
         let folder = format!(in alloc; "{above}/{name}")?;
         add_libraries(rt, folder.as_str(), &mut libraries)?;
     }

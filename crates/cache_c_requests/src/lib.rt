@@ -9,6 +9,7 @@ mod native;
 mod parts;
 mod passing;
 mod precompiled;
+mod specs;
 
 pub use call::{Call, call_of};
 pub use compilers::{KnownCompiler, add_surroundings, compiler_at, kind_of};

@@ -35,7 +35,7 @@ const LISTS: [&str; 8] = [
 const USUAL_PATH: &[u8] = b"/bin:/usr/bin";
 
 /// The text without the end of its line.
-fn without_line_end(text: &[u8]) -> &[u8] {
+pub(crate) fn without_line_end(text: &[u8]) -> &[u8] {
     match text.split_last() {
         Some((b'\n', front)) => front,
         _ => text,
@@ -87,7 +87,7 @@ fn ask_lists<P: Print + Files + AllocGlobal, I: Read>(
     ensures { host.new.compiled ≡ 0 }
 {
     let said = ask(rt, line, host, "-print-resource-dir")?;
-    for list in LISTS {
+    for list in &LISTS {
         let mut path = Vec::new(rt.alloc());
         path.extend_from_slice(without_line_end(&said))?;
         path.extend_from_slice(b"/share/")?;
@@ -211,7 +211,7 @@ fn ask_names<P: Print + Files + AllocGlobal, I: Read>(
         ask_lists(rt, line, host, &mut names)?;
         return Ok(names);
     }
-    for name in RUNS {
+    for name in &RUNS {
         names.push(ask_name(rt, line, host, name)?)?;
     }
     ask_specs(rt, line, host, &mut names)?;

@@ -3,9 +3,12 @@
 
 use base_files::OsBytes;
 use cache_host::{CommandLine, HostError};
-use cache_known_options::{PlacedWords, beside_of, for_preprocessor, side_ending, unknown_word};
+use cache_known_options::{
+    PlacedWords, beside_of, for_preprocessor, is_among, side_ending, unknown_word,
+};
 use cache_settings::Key;
 use cache_statistics::TO_STANDARD_OUTPUT;
+use cmdlines_tables::CCompilerKind;
 use sccache_recorded_builds::options_in;
 use std::alloc::Global;
 
@@ -29,7 +32,7 @@ const VARIABLES: [&str; 14] = [
 
 /// Whether it is a variable that speaks against keeping.
 fn is_variable(name: &[u8]) -> bool {
-    VARIABLES.iter().any(|variable| name == variable.as_bytes())
+    is_among(&VARIABLES, name)
 }
 
 /// Whether a word is among them.
@@ -40,6 +43,20 @@ fn has_word(words: &[OsBytes], word: &[u8]) -> bool {
 /// Whether a word asks for a file beside the object to which gulmaat sees itself.
 fn asks_beside(word: &[u8]) -> bool {
     for_preprocessor(word).is_some() || side_ending(word).is_some()
+}
+
+/// Whether gulmaat sees itself to an option that the session passes through.
+fn is_seen_to(option: &[u8]) -> bool {
+    asks_beside(option) || option == b"-specs".as_slice()
+}
+
+/// The words that a user allows, with those that a compiler of that kind takes for granted: a GCC records its options unless it is told not to.
+fn allowed_in(alloc: Global, line: &CommandLine, kind: CCompilerKind) -> Result<String, HostError> {
+    let allowed = line.settings.value_of(Key::AllowOptions);
+    match kind {
+        CCompilerKind::Gcc => Ok(format!(in alloc; "{allowed} -grecord-gcc-switches")?),
+        _ => Ok(String::from_str(alloc, allowed)?),
+    }
 }
 
 /// Whether the words ask for an object, and for it on standard output.
@@ -53,8 +70,12 @@ fn is_on_standard_output(words: &[OsBytes]) -> bool {
         && !has_word(words, b"-S")
 }
 
-/// The variable that speaks against keeping, or the option, or the word that isn't known.
-pub fn reason_against(alloc: Global, line: &CommandLine) -> Result<Option<String>, HostError> {
+/// The variable that speaks against keeping in a call of a compiler of that kind, or the option, or the word that isn't known.
+pub fn reason_against(
+    alloc: Global,
+    line: &CommandLine,
+    kind: CCompilerKind,
+) -> Result<Option<String>, HostError> {
     for (name, value) in line.env.as_slice() {
         if is_variable(name.as_bytes()) && !value.as_bytes().is_empty() {
             let name = name.clone()?;
@@ -65,12 +86,10 @@ pub fn reason_against(alloc: Global, line: &CommandLine) -> Result<Option<String
         return Ok(Some(String::from_str(alloc, TO_STANDARD_OUTPUT)?));
     }
     let options = options_in(alloc, line.words.as_slice(), &[])?;
-    let option = options
-        .iter()
-        .find(|option| !asks_beside(option.as_bytes()));
+    let option = options.iter().find(|option| !is_seen_to(option.as_bytes()));
     match option {
         Some(option) => Ok(Some(String::from_str(alloc, option)?)),
-        None => unknown_in(alloc, line),
+        None => unknown_in(alloc, line, kind),
     }
 }
 
@@ -82,13 +101,17 @@ fn may_ask_for_object(words: &[OsBytes]) -> bool {
 }
 
 /// The first word that isn't known, where an object may be asked for; any other command is the session's to pass through.
-fn unknown_in(alloc: Global, line: &CommandLine) -> Result<Option<String>, HostError> {
+fn unknown_in(
+    alloc: Global,
+    line: &CommandLine,
+    kind: CCompilerKind,
+) -> Result<Option<String>, HostError> {
     let words = line.words.as_slice();
     if !may_ask_for_object(words) {
         return Ok(None);
     }
-    let allowed = line.settings.value_of(Key::AllowOptions);
-    let word = match unknown_word(alloc, words, allowed)? {
+    let allowed = allowed_in(alloc, line, kind)?;
+    let word = match unknown_word(alloc, words, allowed.as_str())? {
         Some(word) => Some(word),
         None => unclear_word(alloc, line)?,
     };

@@ -57,7 +57,7 @@ pub(crate) fn refuse_precompiled<R: Files + AllocGlobal>(
         return Ok(());
     };
     let header = join(rt.alloc(), line.dir.as_bytes(), name)?;
-    for ending in ENDINGS {
+    for ending in &ENDINGS {
         if is_there(rt, &header, ending)? {
             return Err(HostError::Precompiled);
         }

@@ -33,11 +33,21 @@ impl Beside {
                 continue;
             }
             if let Some(word) = self.maps.session_word(alloc, placed)? {
-                words.push(word)?;
+                words.push(with_long_name(alloc, word)?)?;
             }
         }
         Ok(words)
     }
+}
+
+/// A word as it is given to the session, which passes a call with `-specs=` through, and has no rule for the option's other name, `--specs=`.
+fn with_long_name(alloc: Global, word: OsBytes) -> Result<OsBytes, AllocError> {
+    if !word.as_bytes().starts_with(b"-specs=") {
+        return Ok(word);
+    }
+    let mut long = Vec::from_slice(alloc, b"-")?;
+    long.extend_from_slice(word.as_bytes())?;
+    Ok(OsBytes::from_vec(long))
 }
 
 /// What the words of a command say of the files beside its object; nothing where it can't be determined which are written.

@@ -2,7 +2,7 @@
 //! nor the object has it, such a word counts only by what the name of the call's folder comes to. So the session isn't given OLD: calls in other
 //! folders, and calls with other names that don't occur, have the same key.
 
-use crate::placed::{Placed, PlacedWords, behind_front};
+use crate::placed::{Placed, PlacedWords, behind_front, is_among};
 use base_files::OsBytes;
 use memchr::{memchr, memchr2, memmem};
 use std::alloc::{AllocError, Global};
@@ -50,8 +50,7 @@ fn is_plain(name: &[u8]) -> bool {
 /// Whether by that word an object may have names of folders whatever maps say.
 fn keeps_names(word: &[u8]) -> bool {
     let is_debug = word.starts_with(b"-g");
-    let is_dwarf = behind_front(&OF_DWARF, word).is_some()
-        || LEVELS.iter().any(|level| word == level.as_bytes());
+    let is_dwarf = behind_front(&OF_DWARF, word).is_some() || is_among(&LEVELS, word);
     word.starts_with(b"-flto") || (is_debug && !is_dwarf)
 }
 
@@ -77,13 +76,13 @@ enum Mapped<'a> {
     Unclear,
 }
 
-/// What a word with these names maps for a call in that folder. GCC maps each name that begins so, wherever its parts end. Where the folder's name
-/// comes to nothing, an assembler writes the folder that it runs in.
+/// What a word with these names maps for a call in that folder. GCC maps each name that begins so, wherever its parts end, so that an empty one
+/// stands for all. Where the folder's name comes to nothing, an assembler writes the folder that it runs in.
 fn mapped_by<'a>(dir: &'a [u8], old: &[u8], new: &[u8]) -> Mapped<'a> {
-    if !old.starts_with(b"/") {
+    if !old.is_empty() && !old.starts_with(b"/") {
         return Mapped::Relative;
     }
-    if !is_plain(old) {
+    if old.is_empty() || !is_plain(old) {
         return Mapped::Unclear;
     }
     match dir.strip_prefix(old) {
@@ -167,8 +166,8 @@ impl PrefixMaps {
     ) -> Result<(), AllocError> {
         self.is_of_debug = self.is_of_debug || front != OF_MACROS;
         self.push_row(alloc, "prefix map", front.as_bytes())?;
-        self.push_row(alloc, "name", new)?;
-        self.push_row(alloc, "after it", rest)
+        self.push_row(alloc, "name in its place", new)?;
+        self.push_row(alloc, "folder below the mapped one", rest)
     }
 
     /// Takes a word of a call in that folder. False where it isn't certain of which names an object has others.
@@ -221,9 +220,12 @@ impl PrefixMaps {
 
     /// Whether a text, or what was made of it, may have a name that is mapped.
     pub fn are_in(&self, bytes: &[u8]) -> bool {
-        self.maps
-            .iter()
-            .any(|map| memmem::find(bytes, map.old.as_bytes()).is_some())
+        for map in self.maps.as_slice() {
+            if memmem::find(bytes, map.old.as_bytes()).is_some() {
+                return true;
+            }
+        }
+        false
     }
 
     /// The words, each after a line end.

@@ -27,12 +27,15 @@ const OF_PROFILES: [&str; 2] = ["-fprofile-generate=", "-fprofile-instr-generate
 
 /// The ending of the file that a word asks for; an empty one where it asks for none, and has the object say where it is.
 pub fn side_ending(word: &[u8]) -> Option<&'static str> {
-    for (asking, ending) in ASKING {
+    for (asking, ending) in &ASKING {
         if word == asking.as_bytes() {
-            return Some(ending);
+            return Some(*ending);
         }
     }
-    behind_front(&OF_PROFILES, word).map(|_| "")
+    match behind_front(&OF_PROFILES, word) {
+        Some(_) => Some(""),
+        None => None,
+    }
 }
 
 /// The ending of the file that a word asks for in its place.

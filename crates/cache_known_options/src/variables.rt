@@ -1,5 +1,7 @@
 //! The variables that compilers read. Others, which shells and Make set from call to call, change nothing of what a compiler makes.
 
+use crate::placed::{behind_front, is_among};
+
 /// Variables by their names: of GCC's and Clang's manuals, and what GCC 12, Clang 14 and GNU's assembler ask for as they run. What they ask
 /// for besides isn't here: where temporary files lie (`TMPDIR`, `TMP`, `TEMP`, `TEMPDIR`), whether a terminal has colours (`TERM`), where
 /// programs are searched (`PATH`: the digest of a compiler is that of the parts that it runs too), how many jobs Make has (`MAKEFLAGS`), and
@@ -38,11 +40,17 @@ const FRONTS: [&str; 9] = [
 /// What the names of others end with.
 const ENDINGS: [&str; 2] = ["_DEPLOYMENT_TARGET", "_ROOT"];
 
+/// Whether a name ends with one of these.
+fn ends_with(ends: &[&'static str], name: &[u8]) -> bool {
+    for end in ends {
+        if name.ends_with(end.as_bytes()) {
+            return true;
+        }
+    }
+    false
+}
+
 /// Whether a compiler reads the variable of that name.
 pub fn is_read(name: &[u8]) -> bool {
-    NAMES.iter().any(|it| name == it.as_bytes())
-        || FRONTS
-            .iter()
-            .any(|front| name.starts_with(front.as_bytes()))
-        || ENDINGS.iter().any(|end| name.ends_with(end.as_bytes()))
+    is_among(&NAMES, name) || behind_front(&FRONTS, name).is_some() || ends_with(&ENDINGS, name)
 }

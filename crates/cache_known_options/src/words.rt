@@ -16,7 +16,7 @@ const OTHERS: [&str; 4] = ["-obj", "-lang", "-include-pch", "-fbuiltin-module-ma
 const NAME_OUTPUT: [&str; 2] = ["-o", "-MF"];
 
 /// What words begin with that may go on in any way.
-const FRONTS: [&str; 28] = [
+const FRONTS: [&str; 30] = [
     "-D",
     "-U",
     "-I",
@@ -45,6 +45,8 @@ const FRONTS: [&str; 28] = [
     "-finline-limit-",
     "-ftemplate-depth-",
     "-stdlib++-isystem",
+    "-specs=",
+    "--specs=",
 ];
 
 /// Words that are known though the options aren't that they turn off: by these an object has the command line in it.
@@ -159,7 +161,7 @@ fn are_for_assembler(alloc: Global, words: &[u8]) -> Result<bool, AllocError> {
 
 /// Whether it is the name of a warning, or of a group of these.
 fn is_warning(name: &[u8]) -> bool {
-    name.iter().all(|byte| *byte != b',')
+    !name.contains(&b',')
 }
 
 /// Whether it is a level of optimisation.

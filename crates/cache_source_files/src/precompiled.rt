@@ -57,7 +57,7 @@ fn folders_of<'a>(
             folders.insert(folder)?;
         }
     }
-    for variable in VARIABLES {
+    for variable in &VARIABLES {
         let list = line.value_of(variable);
         for folder in list
             .split(|byte| *byte == b':')
@@ -84,7 +84,7 @@ fn is_precompiled<R: Files + AllocGlobal>(rt: &R, path: &[u8]) -> Result<bool, H
     let Ok(path) = str::from_utf8(path) else {
         return Ok(false);
     };
-    for ending in ENDINGS {
+    for ending in &ENDINGS {
         let precompiled = format!(in rt.alloc(); "{path}{ending}")?;
         if fs::metadata(rt, precompiled.as_str()).is_ok() {
             return Ok(true);

@@ -58,7 +58,7 @@ fn put_message(
     dir: &str,
     words: &str,
 ) -> Result<(), AllocError> {
-    for field in [
+    for field in &[
         kept,
         "text",
         "errors",

@@ -65,7 +65,7 @@ fn more_lists(
 /// Which results hold for a call in a folder, by their letters. None does where other messages are kept beside it.
 fn holding<R: Files + AllocGlobal>(rt: &R, lists: &[u8], folder: &str) -> Result<String, Fail> {
     let mut letters = String::new(rt.alloc());
-    for letter in ["a", "b"] {
+    for letter in &["a", "b"] {
         let key = letter.repeat(rt.alloc(), 64)?;
         let (dir, key) = (folder.as_bytes(), key.as_bytes());
         let before = FileTime::from_seconds(0);

@@ -2,12 +2,13 @@
 
 use crate::disks::line_of;
 use cache_c_requests::reason_against;
+use cmdlines_tables::CCompilerKind;
 use std::rt::Files;
 use std::test::Fail;
 use tests_kit::is_that;
 
 /// Words, and the one that speaks against keeping; nothing where none does.
-const REASONS: [(&str, &str); 18] = [
+const REASONS: [(&str, &str); 21] = [
     ("-c a.c", ""),
     ("-c -x c++ a.c", ""),
     ("-c a.c -x c++", "-x"),
@@ -25,13 +26,16 @@ const REASONS: [(&str, &str); 18] = [
     ("-c a.c -MD -MF -", "-"),
     ("-c a.c -Wp,-MD,a.d -Wp,-MT,a,b", "-Wp,-MT,a,b"),
     ("-c a.c -fno-such-thing", "-fno-such-thing"),
+    ("-c a.c -specs=a.specs --specs=b.specs", ""),
+    ("-c a.c -g -grecord-gcc-switches", ""),
+    ("-c a.c -frecord-gcc-switches", "-frecord-gcc-switches"),
     ("-c a.c --param max-inline-insns-single=7", ""),
 ];
 
 /// The one that speaks against keeping.
 fn reason_of<R: Files + AllocGlobal>(rt: &R, words: &str) -> Result<String, Fail> {
     let line = line_of(rt, "/d", words)?;
-    let reason = reason_against(rt.alloc(), &line);
+    let reason = reason_against(rt.alloc(), &line, CCompilerKind::Gcc);
     drop(line);
     match reason {
         Ok(Some(reason)) => Ok(reason),
