@@ -3,7 +3,9 @@
 
 ghost use Rattle.std.specs.Prelude.{◌≡◌};
 
-use crate::compilers::{KnownCompiler, add_surroundings, compiler_at};
+use crate::compilers::{
+    KnownCompiler, add_folder, add_surroundings, compiler_at, folder_by_caller,
+};
 use crate::native::native_of;
 use crate::precompiled::refuse_precompiled;
 use crate::specs::add_specs;
@@ -32,16 +34,25 @@ const LANGUAGES: [&str; 4] = [
     "cpp-output",
 ];
 
+/// Whether a variable is passed to the session as it is. `PWD` isn't where compilers don't take it.
+fn is_passed(name: &[u8], by_caller: &[u8]) -> bool {
+    if name == b"PWD".as_slice() {
+        return !by_caller.is_empty();
+    }
+    is_read(name) && name != ADDITIONS_VARIABLE.as_bytes()
+}
+
 /// The variables that are passed to the session: those that compilers read, in the order of their names, and the one that stands for all
 /// additions.
 fn env_of(
     alloc: Global,
     env: &[(OsBytes, OsBytes)],
+    by_caller: &[u8],
     additions: &Additions,
 ) -> Result<Listed<(OsBytes, OsBytes)>, HostError> {
     let mut read = BTreeMap::new(alloc);
     for (name, value) in env {
-        if is_read(name.as_bytes()) && name.as_bytes() != ADDITIONS_VARIABLE.as_bytes() {
+        if is_passed(name.as_bytes(), by_caller) {
             read.insert(name.clone()?, value.clone()?)?;
         }
     }
@@ -81,26 +92,17 @@ fn may_have_place(line: &CommandLine) -> bool {
     false
 }
 
-/// Adds the folder of the call, by its name and by the one that the caller has for it, which compilers and assemblers prefer.
-fn add_folder(
-    alloc: Global,
-    line: &CommandLine,
-    additions: &mut Additions,
-) -> Result<(), HostError> {
-    additions.add(alloc, "folder", line.dir.as_bytes())?;
-    additions.add_if_any(alloc, "PWD", line.value_of(b"PWD"))
-}
-
 /// Adds where the input lies, where an object may have that in it though no text shows it.
 fn add_place(
     alloc: Global,
     line: &CommandLine,
+    by_caller: &[u8],
     additions: &mut Additions,
 ) -> Result<(), HostError> {
     if !may_have_place(line) {
         return Ok(());
     }
-    add_folder(alloc, line, additions)?;
+    add_folder(alloc, line, by_caller, additions)?;
     for placed in PlacedWords::of(line.words.as_slice()) {
         if placed.is_input() {
             additions.add(alloc, "path", placed.word.as_bytes())?;
@@ -115,6 +117,7 @@ fn add_place(
 fn add_beside(
     alloc: Global,
     line: &CommandLine,
+    by_caller: &[u8],
     beside: &Beside,
     additions: &mut Additions,
 ) -> Result<(), HostError> {
@@ -132,7 +135,7 @@ fn add_beside(
         additions.add(alloc, "argument", word.as_bytes())?;
     }
     additions.add(alloc, "object", side_files.object.as_bytes())?;
-    add_folder(alloc, line, additions)
+    add_folder(alloc, line, by_caller, additions)
 }
 
 /// What is bound to the key of a call beside text, words and compiler.
@@ -140,6 +143,7 @@ fn additions_of(
     alloc: Global,
     line: &CommandLine,
     kind: CCompilerKind,
+    by_caller: &[u8],
     beside: Option<&Beside>,
 ) -> Result<Additions, HostError> {
     let mut additions = Additions::new(alloc);
@@ -148,10 +152,10 @@ fn additions_of(
         ADDITIONS_VARIABLE,
         line.value_of(ADDITIONS_VARIABLE.as_bytes()),
     )?;
-    add_surroundings(alloc, line, kind, &mut additions)?;
-    add_place(alloc, line, &mut additions)?;
+    add_surroundings(alloc, line, kind, by_caller, &mut additions)?;
+    add_place(alloc, line, by_caller, &mut additions)?;
     if let Some(beside) = beside {
-        add_beside(alloc, line, beside, &mut additions)?;
+        add_beside(alloc, line, by_caller, beside, &mut additions)?;
     }
     Ok(additions)
 }
@@ -205,12 +209,13 @@ fn env_with<P: Print + Files + AllocGlobal, I: Read>(
     ensures { host.new.compiled ≡ 0 }
 {
     let alloc = rt.alloc();
-    let mut additions = additions_of(alloc, line, kind, beside)?;
+    let by_caller = folder_by_caller(rt, line);
+    let mut additions = additions_of(alloc, line, kind, by_caller, beside)?;
     add_specs(rt, line, host, kind, &mut additions)?;
     if let Some(native) = native_of(rt, line, host)? {
         additions.add(alloc, "native", native.as_bytes())?;
     }
-    env_of(alloc, line.env.as_slice(), &additions)
+    env_of(alloc, line.env.as_slice(), by_caller, &additions)
 }
 
 /// Copies of the words that are passed to the session, and of the folder.

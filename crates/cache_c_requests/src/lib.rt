@@ -12,6 +12,6 @@ mod precompiled;
 mod specs;
 
 pub use call::{Call, call_of};
-pub use compilers::{KnownCompiler, add_surroundings, compiler_at, kind_of};
+pub use compilers::{KnownCompiler, compiler_at, kind_of};
 pub use native::native_of;
 pub use passing::reason_against;
