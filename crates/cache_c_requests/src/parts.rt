@@ -35,7 +35,7 @@ const LISTS: [&str; 8] = [
 const USUAL_PATH: &[u8] = b"/bin:/usr/bin";
 
 /// The text without the end of its line.
-pub(crate) fn without_line_end(text: &[u8]) -> &[u8] {
+fn without_line_end(text: &[u8]) -> &[u8] {
     match text.split_last() {
         Some((b'\n', front)) => front,
         _ => text,

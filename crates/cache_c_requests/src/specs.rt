@@ -3,11 +3,10 @@
 
 ghost use Rattle.std.specs.Prelude.{◌≡◌};
 
-use crate::parts::without_line_end;
 use base_files::OsBytes;
 use cache_dir::digest_of;
 use cache_disk::read_whole;
-use cache_host::{Additions, CommandLine, Host, HostError};
+use cache_host::{Additions, CommandLine, Host, HostError, messages_of, push_words};
 use cmdlines_tables::CCompilerKind;
 use memchr::memmem;
 use std::io::Read;
@@ -16,8 +15,11 @@ use std::rt::Files;
 /// What a word that names such a file begins with.
 const FRONTS: [&[u8]; 2] = [b"-specs=", b"--specs="];
 
-/// What a text has by which a driver reads other files, or has a program load some.
-const TAKING: [&[u8]; 4] = [b"%include", b"-include", b"-imacros", b"plugin"];
+/// What a driver says of each file of specs that it reads, before its path.
+const READING: &[u8] = b"Reading specs from ";
+
+/// What a text of specs has by which a program reads other files.
+const TAKING: [&[u8]; 3] = [b"-include", b"-imacros", b"plugin"];
 
 /// How a call of a function of specs begins: most of these look at files or variables.
 const CALL: &[u8] = b"%:";
@@ -25,14 +27,15 @@ const CALL: &[u8] = b"%:";
 /// How those begin that hang on the words and the driver alone.
 const CLEAR: [&[u8]; 2] = [b"%:replace-outfile(", b"%:getenv(GCC_EXEC_PREFIX "];
 
-/// The name of the file of specs that a word names.
-fn named_by(word: &[u8]) -> Option<&[u8]> {
-    for front in &FRONTS {
-        if let Some(name) = word.strip_prefix(*front) {
-            return Some(name);
+/// How many words name a file of specs.
+fn count_in(words: &[OsBytes]) -> usize {
+    let mut count: usize = 0;
+    for word in words {
+        if begins_with(word.as_bytes(), &FRONTS) {
+            count = count.saturating_add(1);
         }
     }
-    None
+    count
 }
 
 /// Whether a text has one of these.
@@ -68,42 +71,56 @@ fn calls_clear_ones(text: &[u8]) -> bool {
     true
 }
 
-/// Where a driver finds the file of specs of that name, by all words of the call.
-fn place_of<P: Print + Files + AllocGlobal, I: Read>(
-    rt: &P,
-    line: &CommandLine,
-    host: &mut Host<I>,
-    name: &[u8],
-) -> Result<String, HostError>
-    requires { host.old.compiled ≡ 0 }
-    ensures { host.new.compiled ≡ 0 }
-{
-    let alloc = rt.alloc();
-    let mut asking = Vec::from_slice(alloc, b"-print-file-name=")?;
-    asking.extend_from_slice(name)?;
-    let mut words = line.words.clone()?;
-    words.push(OsBytes::from_vec(asking))?;
-    let ended = host.preprocess(rt, alloc, words.as_slice())?;
-    if ended.status != 0 || !ended.silent {
-        return Err(HostError::Parts);
-    }
-    let said = read_whole(rt, line.text.as_str())?;
-    match str::from_utf8(without_line_end(&said)) {
-        Ok(place) => Ok(String::from_str(alloc, place)?),
-        Err(_) => Err(HostError::Unreadable),
-    }
-}
-
-/// The digest of the specs at that path. Those by which a driver reads other files or variables are refused.
-fn digest_at<R: Files + AllocGlobal>(rt: &R, place: &str) -> Result<String, HostError> {
-    let text = read_whole(rt, place)?;
+/// The digest of the specs at that path. Those by which other files or variables are read are refused.
+fn digest_at<R: Files + AllocGlobal>(rt: &R, path: &[u8]) -> Result<String, HostError> {
+    let Ok(path) = str::from_utf8(path) else {
+        return Err(HostError::Unreadable);
+    };
+    let text = read_whole(rt, path)?;
     if has_any(text.as_slice(), &TAKING) || !calls_clear_ones(text.as_slice()) {
         return Err(HostError::Configuration);
     }
     Ok(digest_of(rt.alloc(), text.as_slice())?)
 }
 
-/// Binds the files of specs that words name, each in its place. The driver is asked in each call: a file may come to lie where it looks first.
+/// Adds the files of specs that a driver said it reads, in their order, and counts them.
+fn add_read<R: Files + AllocGlobal>(
+    rt: &R,
+    said: &[u8],
+    additions: &mut Additions,
+) -> Result<usize, HostError> {
+    let mut count: usize = 0;
+    for line in said.split(|byte| *byte == b'\n') {
+        if let Some(path) = line.strip_prefix(READING) {
+            let digest = digest_at(rt, path)?;
+            additions.add(rt.alloc(), "specs", digest.as_bytes())?;
+            count = count.saturating_add(1);
+        }
+    }
+    Ok(count)
+}
+
+/// What the driver says of the call: which specs it reads, also in other ones, and what it would run.
+fn ask<P: Print + Files + AllocGlobal, I: Read>(
+    rt: &P,
+    line: &CommandLine,
+    host: &mut Host<I>,
+) -> Result<Vec<u8>, HostError>
+    requires { host.old.compiled ≡ 0 }
+    ensures { host.new.compiled ≡ 0 }
+{
+    let alloc = rt.alloc();
+    let mut words = line.words.clone()?;
+    push_words(alloc, &mut words, &["-###"])?;
+    let said = messages_of(rt, line, host, words.as_slice())?;
+    match said.status {
+        0 => Ok(said.messages),
+        _ => Err(HostError::Parts),
+    }
+}
+
+/// Binds the files of specs that words name, each in its place. The driver is asked in each call, since a file may come to lie where it looks
+/// first. Where it doesn't say of each which one it reads, as in another language than English, the call is refused.
 pub(crate) fn add_specs<P: Print + Files + AllocGlobal, I: Read>(
     rt: &P,
     line: &CommandLine,
@@ -114,16 +131,16 @@ pub(crate) fn add_specs<P: Print + Files + AllocGlobal, I: Read>(
     requires { host.old.compiled ≡ 0 }
     ensures { host.new.compiled ≡ 0 }
 {
-    for word in line.words.as_slice() {
-        let Some(name) = named_by(word.as_bytes()) else {
-            continue;
-        };
-        if kind != CCompilerKind::Gcc {
-            return Err(HostError::Configuration);
-        }
-        let place = place_of(rt, line, host, name)?;
-        let digest = digest_at(rt, place.as_str())?;
-        additions.add(rt.alloc(), "specs", digest.as_bytes())?;
+    let named = count_in(line.words.as_slice());
+    if named == 0 {
+        return Ok(());
     }
-    Ok(())
+    if kind != CCompilerKind::Gcc {
+        return Err(HostError::Configuration);
+    }
+    let said = ask(rt, line, host)?;
+    match add_read(rt, said.as_slice(), additions)? >= named {
+        true => Ok(()),
+        false => Err(HostError::Configuration),
+    }
 }
