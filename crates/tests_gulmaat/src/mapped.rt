@@ -7,16 +7,16 @@ use std::test::Fail;
 use tests_kit::{is_that, words, write_words};
 
 /// A folder, words of a call there, and what they come to: the words for the session, and the rows that are bound to the key.
-const MAPS: [(&str, &str, &str); 10] = [
+const MAPS: [(&str, &str, &str); 11] = [
     (
         "/w",
         "-ffile-prefix-map=/w=. -c a.c -g",
-        " -c a.c -g; prefix map -ffile-prefix-map=; name .; after it ",
+        " -c a.c -g; prefix map -ffile-prefix-map=; name in its place .; folder below the mapped one ",
     ),
     (
         "/w/x/y",
         "-fdebug-prefix-map=/w=/u -fmacro-prefix-map=/w/x= -c a.c",
-        " -c a.c; prefix map -fdebug-prefix-map=; name /u; after it /x/y; prefix map -fmacro-prefix-map=; name ; after it /y",
+        " -c a.c; prefix map -fdebug-prefix-map=; name in its place /u; folder below the mapped one /x/y; prefix map -fmacro-prefix-map=; name in its place ; folder below the mapped one /y",
     ),
     (
         "/w",
@@ -26,7 +26,13 @@ const MAPS: [(&str, &str, &str); 10] = [
     (
         "/w",
         "-fmacro-prefix-map=./= -ffile-prefix-map=/w=. -c a.c",
-        " -fmacro-prefix-map=./= -c a.c; prefix map -fmacro-prefix-map=./=; prefix map -ffile-prefix-map=; name .; after it ",
+        " -fmacro-prefix-map=./= -c a.c; prefix map -fmacro-prefix-map=./=; prefix map -ffile-prefix-map=; name in its place .; folder below the mapped one ",
+    ),
+    // An empty name stands for all.
+    (
+        "/w",
+        "-ffile-prefix-map==x -ffile-prefix-map=/w=. -c a.c",
+        " -ffile-prefix-map==x -ffile-prefix-map=/w=. -c a.c",
     ),
     // A folder's name that begins so is mapped in a part of it.
     (
