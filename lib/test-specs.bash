@@ -41,6 +41,7 @@ specs_of_gcc() {
 # Specs that read others are bound with these; those by which a program reads other files or variables are passed through.
 specs_that_read() {
     local text
+    local -x GULMAAT_TRIED=
     printf '%%include <more.specs>\n' >own.specs
     printf '*cc1:\n+ -O1\n' >more.specs
     specs_case "specs that include others" "gcc -specs=own.specs" 0 1 0
@@ -50,7 +51,7 @@ specs_that_read() {
     echo '#define ONE 2' >one.h
     for text in '-include one.h' '-imacros one.h' '-fplugin=none' '%:getenv(GULMAAT_TRIED -O1)' '%:if-exists(one.h)'; do
         printf '*cc1:\n+ %s\n' "$text" >own.specs
-        specs_case "specs with $text" "env GULMAAT_TRIED= gcc -specs=own.specs" 0 0 0
+        specs_case "specs with $text" "gcc -specs=own.specs" 0 0 0
     done
     printf '*cc1:\n+ -O1\n' >own.specs
     specs_case "Clang and specs" "clang --specs=own.specs" 0 0 0
