@@ -4,11 +4,11 @@ ghost use Rattle.std.specs.Prelude.{◌≡◌, ◌≤◌};
 
 use crate::finding::{find_out, lacking_by, load_ahead};
 use crate::finishing::{keep_or_give, paths_of};
-use crate::why::note_fingerprint;
 use base_blake2::Blake2b256;
 use base_files::{Listed, OsBytes};
 use cache_c_known::{Given, Known, hint_name};
 use cache_c_requests::{Call, call_of, kind_of, reason_against};
+use cache_c_why::note_fingerprint;
 use cache_call_log::CallFacts;
 use cache_files::results::Kept;
 use cache_format::KeptMessages;
