@@ -24,11 +24,11 @@ specs_of_gcc() {
     for front in "-fno-gcse -specs=" "-fno-ivopts --specs="; do
         printf '*cc1:\n+ -O1\n' >own.specs
         specs_case "gcc ${front}own.specs" "gcc ${front}own.specs" 0 1 0
-        specs_case "gcc ${front}own.specs again" "gcc ${front}own.specs" 1 0 0
+        specs_case "gcc ${front}own.specs again" "gcc ${front}own.specs" 0 0 1
         printf '*cc1:\n+ -O0\n' >own.specs
         specs_case "gcc ${front}own.specs, changed" "gcc ${front}own.specs" 0 1 0
         printf '*cc1:\n+ -O1\n' >own.specs
-        specs_case "gcc ${front}own.specs, as before" "gcc ${front}own.specs" 1 0 0
+        specs_case "gcc ${front}own.specs, as before" "gcc ${front}own.specs" 0 0 1
         specs_case "gcc $front and a path" "gcc ${front}$PWD/own.specs -MMD -MF it.d" 0 1 0
         printf '*cc1:\n+ -fno-builtin\n' >more.specs
         specs_case "gcc, two of $front" "gcc ${front}own.specs ${front#* }more.specs" 0 1 0
@@ -47,9 +47,10 @@ specs_that_read() {
     specs_case "specs that include others" "gcc -specs=own.specs" 0 1 0
     printf '*cc1:\n+ -O0\n' >more.specs
     specs_case "specs that include others, changed" "gcc -specs=own.specs" 0 1 0
-    specs_case "specs that include others, again" "gcc -specs=own.specs" 1 0 0
+    specs_case "specs that include others, again" "gcc -specs=own.specs" 0 0 1
     echo '#define ONE 2' >one.h
-    for text in '-include one.h' '-imacros one.h' '-fplugin=none' '%:getenv(GULMAAT_TRIED -O1)' '%:if-exists(one.h)'; do
+    for text in '-include one.h' '-imacros one.h' '-fplugin=none' '%:getenv(GULMAAT_TRIED -O1)' '%:if-exists(one.h)' \
+        -remap -fstack-usage -fdump-tree-optimized; do
         printf '*cc1:\n+ %s\n' "$text" >own.specs
         specs_case "specs with $text" "gcc -specs=own.specs" 0 0 0
     done
@@ -65,8 +66,25 @@ specs_of_others() {
         words="arm-none-eabi-gcc $words -mcpu=cortex-m4 -mthumb -g"
         $words -c it.c -o it.o 2>/dev/null || continue
         specs_case "$words" "$words" 0 1 0
-        specs_case "$words, again" "$words" 1 0 0
+        specs_case "$words, again" "$words" 0 0 1
     done
+}
+
+# A header that comes into a folder of which specs alone say that the compiler looks there is found as by the compiler.
+specs_of_headers() {
+    local words="gcc -specs=own.specs -idirafter late"
+    mkdir -p early late
+    printf '*cpp:\n+ -isystem early\n' >own.specs
+    echo '#define TWO 2' >late/two.h
+    printf '#include <two.h>\nint two = TWO;\n' >it.c
+    settle
+    specs_case "specs with a folder" "$words" 0 1 0
+    specs_case "specs with a folder, again" "$words" 0 0 1
+    echo '#define TWO 3' >early/two.h
+    settle
+    specs_case "specs with a folder, and a header there" "$words" 0 1 0
+    rm early/two.h
+    specs_case "specs with a folder, and no header there" "$words" 0 0 1
 }
 
 specs() {
@@ -81,5 +99,6 @@ specs() {
     specs_case "gcc -grecord-gcc-switches" "gcc -g -grecord-gcc-switches" 0 1 0
     specs_case "gcc -grecord-gcc-switches again" "gcc -g -grecord-gcc-switches" 0 0 1
     specs_case "clang -grecord-gcc-switches" "clang -g -grecord-gcc-switches" 0 0 0
+    specs_of_headers
     cd "$top" || exit
 }

@@ -209,7 +209,7 @@ class Check:
         helped = set(re.findall(OPTION, self.sources.text_of("crates/gulmaat/stdout")))
         places = [("manual", MANUAL, set(re.findall(OPTION, self.manual.text)))]
         places += [("completions", path, self.completed(path)) for path in COMPLETIONS]
-        places.append(("program", "crates/gulmaat/src/options/asked.rt", self.sources.taken_options()))
+        places.append(("program", "crates/gulmaat_options/src/asked.rt", self.sources.taken_options()))
         for kind, path, options in places:
             for option in sorted(helped - options):
                 self.is_so(self.exceptions.has("option of the help", f"{kind} {option}"), path, f"lacks the option {option} of the help")

@@ -85,7 +85,7 @@ class Sources:
     @functools.lru_cache(maxsize=None)
     def taken_options(self):
         """The options that the program and its host take."""
-        places = ["crates/gulmaat/src/options/asked.rt", "crates/gulmaat_page/src/asked.rt", "host/gulmaat.c"]
+        places = ["crates/gulmaat_options/src/asked.rt", "crates/gulmaat_page/src/asked.rt", "host/gulmaat.c"]
         return set().union(*(re.findall(r'"(--?[a-zA-Z][\w-]*)"', self.text_of(it)) for it in places))
 
     def script_texts(self, script):

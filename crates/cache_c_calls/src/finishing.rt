@@ -162,18 +162,20 @@ fn share_call<P: Print + Files + AllocGlobal, I: Read>(
     share(rt, line, host, key, result, known.name_to_note(), manifest)
 }
 
-/// What to watch of the text, where the session put a manifest. Where that isn't known there is none, and it is noted why.
+/// What to watch of the text, where the session put a manifest. Where that isn't known, or it put none, it is noted why.
 fn list_to_watch<P: Print + Files + AllocGlobal, I: Read>(
     rt: &P,
     line: &CommandLine,
     host: &mut Host<I>,
     answered: &SessionAnswer<Blake2b256>,
     key: &StoreKey,
+    how: How,
     known: &mut Known,
 ) -> Option<Vec<u8>>
     ensures { host.new.compiled ≡ host.old.compiled }
 {
     if newest_of(answered, known).is_none() {
+        known.note_unrecorded(rt.alloc(), how);
         return None;
     }
     match known.list_to_watch(rt, line, host, key) {
@@ -216,7 +218,7 @@ pub(crate) fn keep_or_give<P: Print + Files<File = File> + AllocGlobal, I: Read>
     };
     let audit = known.compare(rt, line, key, given.outputs)?;
     // What the compiler prints for this isn't a message of the call.
-    let list = list_to_watch(rt, line, host, answered, key, known);
+    let list = list_to_watch(rt, line, host, answered, key, given.how, known);
     let is_kept = given.how == How::Fresh && matches!(audit, Audit::None);
     if is_kept {
         keep(rt, line, key, given.outputs, known.messages(rt)?)?;

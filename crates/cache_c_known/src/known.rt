@@ -20,6 +20,7 @@ use cache_written_lines::{NamedFiles, Sources, digest_of_contents};
 use ckeys::needs_c_preprocessing;
 use ckeys_records::{Printed, Step};
 use ckeys_time_macros::Zone;
+use ckeys_time_macros::holds::holds;
 use cmdlines_tables::CCompilerKind;
 use std::alloc::Global;
 use std::fs::File;
@@ -145,6 +146,25 @@ impl Known {
     fn turn_off(&mut self, why: Unwatched) {
         if self.zone.take().is_some() {
             self.unwatched = Some(why);
+        }
+    }
+
+    /// Whether a file that the text names has the macro of the time of day: of such a text the session puts no manifest.
+    fn has_time(&mut self, alloc: Global) -> bool {
+        for file in self.named.files.iter() {
+            if let Ok(Some(contents)) = self.files.read(alloc, &file.path) {
+                if holds(contents.as_bytes(), b"__TIME__") {
+                    return true;
+                }
+            }
+        }
+        false
+    }
+
+    /// Notes why the session put no manifest for outputs that come from there, where that is known.
+    pub fn note_unrecorded(&mut self, alloc: Global, how: How) {
+        if self.zone.is_some() && how != How::Direct && self.has_time(alloc) {
+            self.unwatched = Some(Unwatched::Time);
         }
     }
 

@@ -3,15 +3,14 @@
 
 ghost use Rattle.std.specs.Prelude.{◌≡◌};
 
-use crate::compilers::{
-    KnownCompiler, add_folder, add_surroundings, compiler_at, folder_by_caller,
-};
+use crate::compilers::{KnownCompiler, add_folder, add_surroundings, compiler_at};
 use crate::native::native_of;
+use crate::passing::may_ask_for_object;
 use crate::precompiled::refuse_precompiled;
 use crate::specs::add_specs;
 use base_files::{Listed, OsBytes};
 use cache_host::{ADDITIONS_VARIABLE, Additions, CommandLine, Host, HostError};
-use cache_known_options::{Beside, PlacedWords, behind_front, beside_of, is_read};
+use cache_known_options::{Beside, PlacedWords, behind_front, beside_of, ends_with, is_read};
 use cache_settings::Key;
 use cmdlines_tables::CCompilerKind;
 use std::alloc::Global;
@@ -34,11 +33,8 @@ const LANGUAGES: [&str; 4] = [
     "cpp-output",
 ];
 
-/// Whether a variable is passed to the session as it is. `PWD` isn't where compilers don't take it.
-fn is_passed(name: &[u8], by_caller: &[u8]) -> bool {
-    if name == b"PWD".as_slice() {
-        return !by_caller.is_empty();
-    }
+/// Whether a variable is passed to the session as it is.
+fn is_passed(name: &[u8]) -> bool {
     is_read(name) && name != ADDITIONS_VARIABLE.as_bytes()
 }
 
@@ -47,12 +43,11 @@ fn is_passed(name: &[u8], by_caller: &[u8]) -> bool {
 fn env_of(
     alloc: Global,
     env: &[(OsBytes, OsBytes)],
-    by_caller: &[u8],
     additions: &Additions,
 ) -> Result<Listed<(OsBytes, OsBytes)>, HostError> {
     let mut read = BTreeMap::new(alloc);
     for (name, value) in env {
-        if is_passed(name.as_bytes(), by_caller) {
+        if is_passed(name.as_bytes()) {
             read.insert(name.clone()?, value.clone()?)?;
         }
     }
@@ -62,16 +57,6 @@ fn env_of(
     }
     variables.push(additions.variable(alloc)?)?;
     Ok(variables)
-}
-
-/// Whether a word ends with one of these.
-fn ends_with(ends: &[&str], word: &[u8]) -> bool {
-    for end in ends {
-        if word.ends_with(end.as_bytes()) {
-            return true;
-        }
-    }
-    false
 }
 
 /// Whether a word names an input, a language or an option by which an object has the input's place in it, though no text shows that.
@@ -96,13 +81,12 @@ fn may_have_place(line: &CommandLine) -> bool {
 fn add_place(
     alloc: Global,
     line: &CommandLine,
-    by_caller: &[u8],
     additions: &mut Additions,
 ) -> Result<(), HostError> {
     if !may_have_place(line) {
         return Ok(());
     }
-    add_folder(alloc, line, by_caller, additions)?;
+    add_folder(alloc, line, additions)?;
     for placed in PlacedWords::of(line.words.as_slice()) {
         if placed.is_input() {
             additions.add(alloc, "path", placed.word.as_bytes())?;
@@ -117,7 +101,6 @@ fn add_place(
 fn add_beside(
     alloc: Global,
     line: &CommandLine,
-    by_caller: &[u8],
     beside: &Beside,
     additions: &mut Additions,
 ) -> Result<(), HostError> {
@@ -135,7 +118,7 @@ fn add_beside(
         additions.add(alloc, "argument", word.as_bytes())?;
     }
     additions.add(alloc, "object", side_files.object.as_bytes())?;
-    add_folder(alloc, line, by_caller, additions)
+    add_folder(alloc, line, additions)
 }
 
 /// What is bound to the key of a call beside text, words and compiler.
@@ -143,7 +126,6 @@ fn additions_of(
     alloc: Global,
     line: &CommandLine,
     kind: CCompilerKind,
-    by_caller: &[u8],
     beside: Option<&Beside>,
 ) -> Result<Additions, HostError> {
     let mut additions = Additions::new(alloc);
@@ -152,10 +134,10 @@ fn additions_of(
         ADDITIONS_VARIABLE,
         line.value_of(ADDITIONS_VARIABLE.as_bytes()),
     )?;
-    add_surroundings(alloc, line, kind, by_caller, &mut additions)?;
-    add_place(alloc, line, by_caller, &mut additions)?;
+    add_surroundings(alloc, line, kind, &mut additions)?;
+    add_place(alloc, line, &mut additions)?;
     if let Some(beside) = beside {
-        add_beside(alloc, line, by_caller, beside, &mut additions)?;
+        add_beside(alloc, line, beside, &mut additions)?;
     }
     Ok(additions)
 }
@@ -197,6 +179,24 @@ pub struct Call {
     pub beside: Option<Beside>,
 }
 
+/// Adds what only the driver says: which files of specs it reads, and what it makes of `native`.
+fn add_from_driver<P: Print + Files + AllocGlobal, I: Read>(
+    rt: &P,
+    line: &CommandLine,
+    host: &mut Host<I>,
+    kind: CCompilerKind,
+    additions: &mut Additions,
+) -> Result<(), HostError>
+    requires { host.old.compiled ≡ 0 }
+    ensures { host.new.compiled ≡ 0 }
+{
+    add_specs(rt, line, host, kind, additions)?;
+    match native_of(rt, line, host)? {
+        Some(native) => additions.add(rt.alloc(), "native", native.as_bytes()),
+        None => Ok(()),
+    }
+}
+
 /// The variables that are passed to the session, with the one that stands for all additions.
 fn env_with<P: Print + Files + AllocGlobal, I: Read>(
     rt: &P,
@@ -209,13 +209,12 @@ fn env_with<P: Print + Files + AllocGlobal, I: Read>(
     ensures { host.new.compiled ≡ 0 }
 {
     let alloc = rt.alloc();
-    let by_caller = folder_by_caller(rt, line);
-    let mut additions = additions_of(alloc, line, kind, by_caller, beside)?;
-    add_specs(rt, line, host, kind, &mut additions)?;
-    if let Some(native) = native_of(rt, line, host)? {
-        additions.add(alloc, "native", native.as_bytes())?;
+    let mut additions = additions_of(alloc, line, kind, beside)?;
+    // The session passes any other command through, so the driver isn't asked about it.
+    if may_ask_for_object(line.words.as_slice()) {
+        add_from_driver(rt, line, host, kind, &mut additions)?;
     }
-    env_of(alloc, line.env.as_slice(), by_caller, &additions)
+    env_of(alloc, line.env.as_slice(), &additions)
 }
 
 /// Copies of the words that are passed to the session, and of the folder.

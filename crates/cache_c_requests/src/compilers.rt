@@ -10,7 +10,6 @@ use sccache_recorded_builds::{EntryCompiler, compiler_of};
 use std::alloc::Global;
 use std::fs;
 use std::io::Read;
-use std::os::unix::fs::MetadataExt;
 use std::rt::Files;
 use wrap_base::{CDescription, Compiler};
 
@@ -64,37 +63,14 @@ pub(crate) fn file_name(path: &str) -> &str {
     }
 }
 
-/// Whether these are paths of one folder.
-fn are_of_one<R: Files>(rt: &R, one: &str, other: &str) -> bool {
-    match (fs::metadata(rt, one), fs::metadata(rt, other)) {
-        (Ok(one), Ok(other)) => one.dev() == other.dev() && one.ino() == other.ino(),
-        _ => false,
-    }
-}
-
-/// The path that the caller has for the call's folder by `PWD`. An empty one where that names another folder, as in a recipe of a Make that was
-/// called with `-C`: compilers and assemblers don't take it then.
-pub(crate) fn folder_by_caller<'a, R: Files>(rt: &R, line: &'a CommandLine) -> &'a [u8] {
-    let path = line.value_of(b"PWD");
-    let dir = line.dir.as_bytes();
-    let (Ok(asked), Ok(own)) = (str::from_utf8(path), str::from_utf8(dir)) else {
-        return path;
-    };
-    match asked == own || (asked.starts_with('/') && are_of_one(rt, asked, own)) {
-        true => path,
-        false => &[],
-    }
-}
-
 /// Adds the folder of the call, by its name and by the one that the caller has for it, which compilers and assemblers prefer.
 pub(crate) fn add_folder(
     alloc: Global,
     line: &CommandLine,
-    by_caller: &[u8],
     additions: &mut Additions,
 ) -> Result<(), HostError> {
     additions.add(alloc, "folder", line.dir.as_bytes())?;
-    additions.add_if_any(alloc, "PWD", by_caller)
+    additions.add_if_any(alloc, "PWD", line.value_of(b"PWD"))
 }
 
 /// Adds what a compiler does differently by its name, as a Clang that is called as one of C++ or for another machine, and by variables, though
@@ -103,7 +79,6 @@ pub(crate) fn add_surroundings(
     alloc: Global,
     line: &CommandLine,
     kind: CCompilerKind,
-    by_caller: &[u8],
     additions: &mut Additions,
 ) -> Result<(), HostError> {
     additions.add(
@@ -115,7 +90,7 @@ pub(crate) fn add_surroundings(
         additions.add_if_any(alloc, name, line.value_of(name.as_bytes()))?;
     }
     match kind {
-        CCompilerKind::Clang => add_folder(alloc, line, by_caller, additions),
+        CCompilerKind::Clang => add_folder(alloc, line, additions),
         _ => Ok(()),
     }
 }

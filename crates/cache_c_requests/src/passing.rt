@@ -50,12 +50,14 @@ fn is_seen_to(option: &[u8]) -> bool {
     asks_beside(option) || option == b"-specs".as_slice()
 }
 
-/// The words that a user allows, with those that a compiler of that kind takes for granted: a GCC records its options unless it is told not to.
-fn allowed_in(alloc: Global, line: &CommandLine, kind: CCompilerKind) -> Result<String, HostError> {
-    let allowed = line.settings.value_of(Key::AllowOptions);
+/// The words that a GCC takes for granted: it records its options unless it is told not to.
+const OF_GCC: [&str; 1] = ["-grecord-gcc-switches"];
+
+/// The words that a compiler of that kind takes for granted.
+fn granted_by(kind: CCompilerKind) -> &'static [&'static str] {
     match kind {
-        CCompilerKind::Gcc => Ok(format!(in alloc; "{allowed} -grecord-gcc-switches")?),
-        _ => Ok(String::from_str(alloc, allowed)?),
+        CCompilerKind::Gcc => &OF_GCC,
+        _ => &[],
     }
 }
 
@@ -94,7 +96,7 @@ pub fn reason_against(
 }
 
 /// Whether an object may be asked for, by these words or those in a response file.
-fn may_ask_for_object(words: &[OsBytes]) -> bool {
+pub(crate) fn may_ask_for_object(words: &[OsBytes]) -> bool {
     has_word(words, b"-c")
         || has_word(words, b"-S")
         || words.iter().any(|it| it.as_bytes().starts_with(b"@"))
@@ -110,8 +112,8 @@ fn unknown_in(
     if !may_ask_for_object(words) {
         return Ok(None);
     }
-    let allowed = allowed_in(alloc, line, kind)?;
-    let word = match unknown_word(alloc, words, allowed.as_str())? {
+    let allowed = line.settings.value_of(Key::AllowOptions);
+    let word = match unknown_word(alloc, words, granted_by(kind), allowed)? {
         Some(word) => Some(word),
         None => unclear_word(alloc, line)?,
     };

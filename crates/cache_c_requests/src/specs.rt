@@ -7,51 +7,59 @@ use base_files::OsBytes;
 use cache_dir::digest_of;
 use cache_disk::read_whole;
 use cache_host::{Additions, CommandLine, Host, HostError, messages_of, push_words};
+use cache_known_options::{behind_front, names_specs};
 use cmdlines_tables::CCompilerKind;
 use memchr::memmem;
 use std::io::Read;
 use std::rt::Files;
 
-/// What a word that names such a file begins with.
-const FRONTS: [&[u8]; 2] = [b"-specs=", b"--specs="];
-
 /// What a driver says of each file of specs that it reads, before its path.
 const READING: &[u8] = b"Reading specs from ";
 
-/// What a text of specs has by which a program reads other files.
-const TAKING: [&[u8]; 3] = [b"-include", b"-imacros", b"plugin"];
+/// What a text of specs has by which a program reads files that no text names, looks for them in a way of its own, or writes some beside the object.
+const REFUSED: [&str; 19] = [
+    "-include",
+    "-imacros",
+    "plugin",
+    "-remap",
+    "-traditional",
+    "-fmodule",
+    "-fauto-profile",
+    "-fprofile",
+    "-fbranch-probabilities",
+    "-ftest-coverage",
+    "-coverage",
+    "-gsplit-dwarf",
+    "-save-temps",
+    "-fdump",
+    "-dump",
+    "-fstack-usage",
+    "-fcallgraph-info",
+    "-aux-info",
+    "-M",
+];
 
 /// How a call of a function of specs begins: most of these look at files or variables.
 const CALL: &[u8] = b"%:";
 
 /// How those begin that hang on the words and the driver alone.
-const CLEAR: [&[u8]; 2] = [b"%:replace-outfile(", b"%:getenv(GCC_EXEC_PREFIX "];
+const CLEAR: [&str; 2] = ["%:replace-outfile(", "%:getenv(GCC_EXEC_PREFIX "];
 
 /// How many words name a file of specs.
 fn count_in(words: &[OsBytes]) -> usize {
     let mut count: usize = 0;
     for word in words {
-        if begins_with(word.as_bytes(), &FRONTS) {
+        if names_specs(word.as_bytes()) {
             count = count.saturating_add(1);
         }
     }
     count
 }
 
-/// Whether a text has one of these.
-fn has_any(text: &[u8], asked: &[&'static [u8]]) -> bool {
-    for it in asked {
-        if memmem::find(text, it).is_some() {
-            return true;
-        }
-    }
-    false
-}
-
-/// Whether a text begins with one of these.
-fn begins_with(text: &[u8], fronts: &[&'static [u8]]) -> bool {
-    for front in fronts {
-        if text.starts_with(front) {
+/// Whether a text of specs has something by which a program reads or writes other files.
+fn takes_files(text: &[u8]) -> bool {
+    for it in &REFUSED {
+        if memmem::find(text, it.as_bytes()).is_some() {
             return true;
         }
     }
@@ -64,20 +72,20 @@ fn calls_clear_ones(text: &[u8]) -> bool {
         let Some(call) = text.get(at..) else {
             return false;
         };
-        if !begins_with(call, &CLEAR) {
+        if behind_front(&CLEAR, call).is_none() {
             return false;
         }
     }
     true
 }
 
-/// The digest of the specs at that path. Those by which other files or variables are read are refused.
+/// The digest of the specs at that path. Those by which other files are read or written, or variables are read, are refused.
 fn digest_at<R: Files + AllocGlobal>(rt: &R, path: &[u8]) -> Result<String, HostError> {
     let Ok(path) = str::from_utf8(path) else {
         return Err(HostError::Unreadable);
     };
     let text = read_whole(rt, path)?;
-    if has_any(text.as_slice(), &TAKING) || !calls_clear_ones(text.as_slice()) {
+    if takes_files(text.as_slice()) || !calls_clear_ones(text.as_slice()) {
         return Err(HostError::Configuration);
     }
     Ok(digest_of(rt.alloc(), text.as_slice())?)

@@ -335,7 +335,7 @@ fn tell_command<R: Print + Files + AllocGlobal>(
 
 /// Says in a line, of the last call in that folder with the outputs of this command that was compiled, what differed from the one before
 /// it.
-pub fn why<R: Print + Files + AllocGlobal>(
+pub fn why_of_c<R: Print + Files + AllocGlobal>(
     rt: &R,
     kept: &str,
     executable: &str,

@@ -38,6 +38,7 @@ pub struct CommandLine {
     pub dir: OsBytes,
     /// The words after the executable.
     pub words: Listed<OsBytes>,
+    /// Its variables. `PWD` is there only where it names the folder.
     pub env: Listed<(OsBytes, OsBytes)>,
     /// How far local clocks are from UTC now, as the rule of a zone.
     pub zone: String,
@@ -73,6 +74,44 @@ fn made_at<R: Files>(rt: &R, path: &str) -> FileTime {
     }
 }
 
+/// Whether these are paths of one folder.
+fn are_of_one<R: Files>(rt: &R, one: &str, other: &str) -> bool {
+    match (fs::metadata(rt, one), fs::metadata(rt, other)) {
+        (Ok(one), Ok(other)) => one.dev() == other.dev() && one.ino() == other.ino(),
+        _ => false,
+    }
+}
+
+/// Whether a variable is a `PWD` that names another folder than the call's.
+fn names_other_folder<R: Files>(rt: &R, dir: &OsBytes, name: &OsBytes, value: &OsBytes) -> bool {
+    if name.as_bytes() != b"PWD".as_slice() || value == dir {
+        return false;
+    }
+    match (
+        str::from_utf8(value.as_bytes()),
+        str::from_utf8(dir.as_bytes()),
+    ) {
+        (Ok(asked), Ok(own)) => !asked.starts_with('/') || !are_of_one(rt, asked, own),
+        _ => false,
+    }
+}
+
+/// The variables of a call in that folder, but for a `PWD` that names another one, as in a recipe of a Make that was called with `-C`: compilers and
+/// assemblers don't take it.
+fn own_variables<R: Files + AllocGlobal>(
+    rt: &R,
+    dir: &OsBytes,
+    pairs: Listed<(OsBytes, OsBytes)>,
+) -> Result<Listed<(OsBytes, OsBytes)>, HostError> {
+    let mut env = Listed::new(rt.alloc());
+    for (name, value) in pairs.into_vec() {
+        if !names_other_folder(rt, dir, &name, &value) {
+            env.push((name, value))?;
+        }
+    }
+    Ok(env)
+}
+
 impl CommandLine {
     /// The command line in the message, at that moment, before the host does anything for it. Nothing is set yet.
     pub fn read<R: Files + AllocGlobal>(
@@ -91,7 +130,7 @@ impl CommandLine {
         let executable = fields.text(alloc)?;
         let dir = fields.bytes(alloc)?;
         let words = fields.words(alloc)?;
-        let env = fields.pairs(alloc)?;
+        let env = own_variables(rt, &dir, fields.pairs(alloc)?)?;
         let zone = fields.text(alloc)?;
         Ok(CommandLine {
             folder: CacheDir::new(path, own),

@@ -15,8 +15,8 @@ mod words;
 
 pub use beside::{Beside, beside_of};
 pub use dependencies::{Dependencies, dependencies_of, for_preprocessor};
-pub use placed::{Placed, PlacedWords, behind_front, is_among};
+pub use placed::{Placed, PlacedWords, behind_front, ends_with, is_among};
 pub use prefix_maps::PrefixMaps;
 pub use side_files::{SideFiles, side_ending};
 pub use variables::is_read;
-pub use words::unknown_word;
+pub use words::{names_specs, unknown_word};

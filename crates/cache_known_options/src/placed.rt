@@ -55,6 +55,16 @@ pub fn behind_front<'a>(
     None
 }
 
+/// Whether a word ends with one of these.
+pub fn ends_with(ends: &[&'static str], word: &[u8]) -> bool {
+    for end in ends {
+        if word.ends_with(end.as_bytes()) {
+            return true;
+        }
+    }
+    false
+}
+
 /// Whether the word takes the next one as its value, whatever that is.
 pub(crate) fn takes_any(word: &[u8]) -> bool {
     is_among(&TAKE_NEXT, word)

@@ -79,11 +79,11 @@ enum Mapped<'a> {
 /// What a word with these names maps for a call in that folder. GCC maps each name that begins so, wherever its parts end, so that an empty one
 /// stands for all. Where the folder's name comes to nothing, an assembler writes the folder that it runs in.
 fn mapped_by<'a>(dir: &'a [u8], old: &[u8], new: &[u8]) -> Mapped<'a> {
-    if !old.is_empty() && !old.starts_with(b"/") {
-        return Mapped::Relative;
-    }
-    if old.is_empty() || !is_plain(old) {
-        return Mapped::Unclear;
+    match old.first() {
+        None => return Mapped::Unclear,
+        Some(b'/') if is_plain(old) => {}
+        Some(b'/') => return Mapped::Unclear,
+        Some(_) => return Mapped::Relative,
     }
     match dir.strip_prefix(old) {
         None => Mapped::Other,

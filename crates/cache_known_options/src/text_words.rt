@@ -131,7 +131,7 @@ fn push_dependencies(
 
 /// Pushes what has a list of the files that are read written to that place.
 fn push_list(alloc: Global, list: &str, pushed: &mut Listed<OsBytes>) -> Result<(), AllocError> {
-    for word in ["-MD", "-MF", list, "-MT", "x"] {
+    for word in ["-MD", "-MF", list, "-MT", "x"].iter() {
         push(alloc, pushed, word.as_bytes())?;
     }
     Ok(())

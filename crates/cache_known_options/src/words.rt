@@ -16,7 +16,7 @@ const OTHERS: [&str; 4] = ["-obj", "-lang", "-include-pch", "-fbuiltin-module-ma
 const NAME_OUTPUT: [&str; 2] = ["-o", "-MF"];
 
 /// What words begin with that may go on in any way.
-const FRONTS: [&str; 30] = [
+const FRONTS: [&str; 28] = [
     "-D",
     "-U",
     "-I",
@@ -45,9 +45,10 @@ const FRONTS: [&str; 30] = [
     "-finline-limit-",
     "-ftemplate-depth-",
     "-stdlib++-isystem",
-    "-specs=",
-    "--specs=",
 ];
+
+/// What a word begins with that names a file of specs, in which a driver reads what it hands to the programs that it runs.
+const OF_SPECS: [&str; 2] = ["-specs=", "--specs="];
 
 /// Words that are known though the options aren't that they turn off: by these an object has the command line in it.
 const OFF: [&str; 4] = [
@@ -60,6 +61,11 @@ const OFF: [&str; 4] = [
 /// Whether a word begins with one of these.
 fn begins_with(fronts: &[&'static str], word: &[u8]) -> bool {
     behind_front(fronts, word).is_some()
+}
+
+/// Whether a word names a file of specs.
+pub fn names_specs(word: &[u8]) -> bool {
+    begins_with(&OF_SPECS, word)
 }
 
 /// What comes after a front with which a word of the table begins, up to that word's end.
@@ -194,7 +200,7 @@ fn is_known_option(alloc: Global, word: &[u8]) -> Result<bool, AllocError> {
     if let Some(target) = target_for_preprocessor(word) {
         return Ok(!target.is_empty() && !target.contains(&b','));
     }
-    if definitions_in(word).is_some() || side_ending(word).is_some() {
+    if definitions_in(word).is_some() || side_ending(word).is_some() || names_specs(word) {
         return Ok(true);
     }
     if let Some(words) = word.strip_prefix(b"-Wa,") {
@@ -247,14 +253,17 @@ fn is_allowed(allowed: &str, word: &[u8]) -> bool {
     allowed.split(|byte| *byte == b' ').any(|it| it == word)
 }
 
-/// The first of the words that isn't known, and that a user doesn't allow, by a list with spaces between its words.
+/// The first of the words that isn't known, isn't among those that the compiler takes for granted, and that a user doesn't allow, by a list with
+/// spaces between its words.
 pub fn unknown_word<'a>(
     alloc: Global,
     words: &'a [OsBytes],
+    granted: &[&str],
     allowed: &str,
 ) -> Result<Option<&'a OsBytes>, AllocError> {
     for placed in PlacedWords::of(words) {
-        if !is_known(alloc, placed)? && !is_allowed(allowed, placed.word.as_bytes()) {
+        let word = placed.word.as_bytes();
+        if !is_known(alloc, placed)? && !is_among(granted, word) && !is_allowed(allowed, word) {
             return Ok(Some(placed.word));
         }
     }

@@ -1,4 +1,5 @@
-//! Asking a compiler where it looks for what sources take in, once for each set of words, as long as no folder comes or goes.
+//! Asking a compiler where it looks for what sources take in, once for each set of words, as long as no folder comes or goes. It is asked each
+//! time where words name a file of specs, which may say by its contents where it looks.
 
 ghost use Rattle.std.specs.Prelude.{◌≡◌};
 
@@ -8,7 +9,7 @@ use base_files::{FileTime, Listed, OsBytes};
 use base_formats::{put_framed, read_framed};
 use cache_dir::{Kind, digest_of, state_of};
 use cache_host::{CommandLine, Host, LETTERS, Said, messages_of, push_words};
-use cache_known_options::{PlacedWords, behind_front, is_read};
+use cache_known_options::{PlacedWords, behind_front, is_read, names_specs};
 use cache_watch_lists::{Unwatched, holds};
 use std::alloc::{AllocError, Global};
 use std::io::Read;
@@ -170,6 +171,36 @@ fn keep<R: Files + AllocGlobal>(
     Ok(())
 }
 
+/// Whether words name a file of specs.
+fn have_specs(words: &[OsBytes]) -> bool {
+    for word in words {
+        if names_specs(word.as_bytes()) {
+            return true;
+        }
+    }
+    false
+}
+
+/// What the compiler says as it runs with these words.
+fn ask<P: Print + Files + AllocGlobal, I: Read>(
+    rt: &P,
+    line: &CommandLine,
+    host: &mut Host<I>,
+    words: &[OsBytes],
+) -> Result<Vec<u8>, Unwatched>
+    ensures { host.new.compiled ≡ host.old.compiled }
+{
+    match messages_of(rt, line, host, words) {
+        Ok(
+            Said {
+                status: 0,
+                messages,
+            },
+        ) => Ok(messages),
+        _ => Err(Unwatched::List),
+    }
+}
+
 /// What the compiler of a call says of where it looks for a source of that language. It runs where it wasn't asked yet.
 pub fn said_of<P: Print + Files + AllocGlobal, I: Read>(
     rt: &P,
@@ -180,21 +211,15 @@ pub fn said_of<P: Print + Files + AllocGlobal, I: Read>(
 ) -> Result<Vec<u8>, Unwatched>
     ensures { host.new.compiled ≡ host.old.compiled }
 {
-    let alloc = rt.alloc();
-    let words = asking_words(alloc, line.words.as_slice(), language)?;
+    let words = asking_words(rt.alloc(), line.words.as_slice(), language)?;
+    if have_specs(words.as_slice()) {
+        return ask(rt, line, host, words.as_slice());
+    }
     let name = name_of(rt, line, words.as_slice())?;
     if let Some(said) = said_before(rt, line, name.as_str())? {
         return Ok(said);
     }
-    let Ok(
-        Said {
-            status: 0,
-            messages,
-        },
-    ) = messages_of(rt, line, host, words.as_slice())
-    else {
-        return Err(Unwatched::List);
-    };
-    keep(rt, line, name.as_str(), messages.as_slice(), before)?;
-    Ok(messages)
+    let said = ask(rt, line, host, words.as_slice())?;
+    keep(rt, line, name.as_str(), said.as_slice(), before)?;
+    Ok(said)
 }

@@ -19,15 +19,13 @@ use std::collections::HashSet;
 use std::rt::Files;
 
 /// What words begin with by which a compiler finds files in a way of its own.
-const OWN_WAYS: [&str; 8] = [
+const OWN_WAYS: [&str; 6] = [
     "-remap",
     "-traditional",
     "-fmodule",
     "-fms-compatibility",
     "-ivfsoverlay",
     "-I-",
-    "-specs=",
-    "--specs=",
 ];
 
 /// The options that take in a file before the input.

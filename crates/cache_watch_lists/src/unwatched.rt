@@ -20,6 +20,9 @@ pub enum Unwatched {
     /// the text.
     #[error("option")]
     Words,
+    /// A source has the macro of the time of day.
+    #[error("time macro")]
+    Time,
     /// A day or a time may be pasted.
     #[error("pasted time")]
     Pasted,

@@ -9,10 +9,9 @@ ghost use Rattle.std.specs.Prelude.{◌≡◌};
 
 mod counting;
 mod deciding;
-mod options;
 
-use cache_c_calls::why::why;
 use cache_c_calls::{End, What};
+use cache_c_why::why_of_c;
 use cache_host::{CommandLine, Host, HostError};
 use cache_rustc_kept::why_of_rustc;
 use cache_rustc_requests::is_named_rustc;
@@ -20,9 +19,8 @@ use cache_settings::read_settings;
 use cache_source_files::{Audit, opened_words};
 use counting::note;
 use deciding::decide;
+use gulmaat_options::{Caller, do_options, print_help};
 use gulmaat_page::{PageError, show_builds};
-use options::help::help;
-use options::{Caller, do_options};
 use std::env;
 use std::fmt::Display;
 use std::fs::File;
@@ -57,7 +55,7 @@ where
 {
     match args {
         [] => talk(rt),
-        [_] => ended(rt, &help(rt)),
+        [_] => ended(rt, &print_help(rt)),
         [host, program, kept, dir, compiler, words @ ..] => {
             let caller = Caller {
                 host: host.as_str(),
@@ -123,7 +121,7 @@ fn say_why<R: Print + Files + AllocGlobal>(
     match compiler.is_empty() {
         true => Err(HostError::Command),
         false if is_named_rustc(compiler) => { why_of_rustc(rt, caller.kept, caller.dir, command) }
-        false => why(rt, caller.kept, compiler, caller.dir, command),
+        false => why_of_c(rt, caller.kept, compiler, caller.dir, command),
     }
 }
 

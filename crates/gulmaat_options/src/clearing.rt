@@ -1,6 +1,6 @@
 //! What is kept is removed.
 
-use crate::options::error::OptionError;
+use crate::error::OptionError;
 use cache_dir::Kind;
 use std::io::ErrorKind;
 use std::rt::Files;

@@ -1,13 +1,13 @@
 //! What options ask for is done, in their order.
 
-use crate::options::asked::Asked;
-use crate::options::clearing::clear;
-use crate::options::error::OptionError;
-use crate::options::help::{built_lines, help, version};
-use crate::options::links::links;
-use crate::options::reading::read_options;
-use crate::options::settings_shown::{get, set, show_config};
-use crate::options::statistics_shown::{Statistics, print, show};
+use crate::asked::Asked;
+use crate::clearing::clear;
+use crate::error::OptionError;
+use crate::help::{built_lines, print_help, version};
+use crate::links::links;
+use crate::reading::read_options;
+use crate::settings_shown::{get, set, show_config};
+use crate::statistics_shown::{Statistics, print, show};
 use cache_dir::{CacheDir, hold_limit, remove_unused};
 use cache_disk::make_folders;
 use cache_settings::{
@@ -224,7 +224,7 @@ where
     R: Print + Files<File = File> + Env + Clock + AllocGlobal + Clone + Drop,
 {
     match option {
-        Asked::Help => help(rt),
+        Asked::Help => print_help(rt),
         Asked::Version => version(rt, caller.program),
         Asked::ShowStats => show_now(rt, caller, place),
         Asked::PrintStats => print_now(rt, place),

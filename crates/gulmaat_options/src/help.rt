@@ -1,6 +1,6 @@
 //! The help, and what the program is.
 
-use crate::options::error::OptionError;
+use crate::error::OptionError;
 use std::fs;
 use std::rt::Files;
 
@@ -36,7 +36,7 @@ machines share results.
 ";
 
 /// Prints the help.
-pub fn help<R: Print>(rt: &R) -> Result<(), OptionError> {
+pub fn print_help<R: Print>(rt: &R) -> Result<(), OptionError> {
     print!(rt; "{HELP}")?;
     Ok(())
 }

@@ -1,6 +1,6 @@
 //! Links by which the program runs in place of compilers: a folder with them comes before those of the compilers in `PATH`.
 
-use crate::options::error::OptionError;
+use crate::error::OptionError;
 use std::fs;
 use std::os::unix::fs::symlink;
 use std::rt::Files;

@@ -1,7 +1,7 @@
 //! Options as they are read from words, in order. `-zs` is `-z -s`, `-M5G` is `-M 5G`, and `--max-size=5G` is `--max-size 5G`.
 
-use crate::options::asked::Asked;
-use crate::options::error::OptionError;
+use crate::asked::Asked;
+use crate::error::OptionError;
 use std::alloc::Global;
 
 /// A word that is no option, or lacks its value.

@@ -1,6 +1,6 @@
 //! Settings, shown and set.
 
-use crate::options::error::OptionError;
+use crate::error::OptionError;
 use cache_settings::{Key, Settings, Variables, set_in_file, shown};
 use std::alloc::Global;
 use std::rt::Files;

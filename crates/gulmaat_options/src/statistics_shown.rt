@@ -2,8 +2,8 @@
 
 ghost use Rattle.std.specs.Prelude.{◌≡◌, ◌*◌, ◌/◌, IfSome};
 
-use crate::options::error::OptionError;
-use crate::options::help::line_of;
+use crate::error::OptionError;
+use crate::help::line_of;
 use cache_dir::kept_in;
 use cache_statistics::{
     Counts, HITS, MISSES, PASSED, REMOTE, ZEROED, counts_at, is_error, is_passed, updated_at,

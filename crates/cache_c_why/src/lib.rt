@@ -1,0 +1,6 @@
+//! What differed between two calls of a C compiler with the same outputs: of each one that was compiled it is kept of what its key was made.
+#![tactic(auto)]
+
+mod fingerprints;
+
+pub use fingerprints::{note_fingerprint, why_of_c};
