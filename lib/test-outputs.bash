@@ -40,6 +40,40 @@ output_places() {
     is "$cc: onto nothing: a hit" since 1 0
 }
 
+# Calls that compilers refuse, warn of or answer in a way of their own, though a call with the same text was kept; and files that can be read only once.
+output_refusals() {
+    local cc=$1 words
+    printf 'int refused;\n' >source
+    cp source refused.c
+    "$host" $cc -c refused.c -o refused.o
+    for words in '-o refused.c' '-o ./refused.c' "-o $PWD/refused.c" '-MF refused.d -o refused.o' '-MD -MF refused.o -o refused.o' \
+        '-MD -MF ./refused.o -o refused.o' '-MD -o refused.o'; do
+        rm -f refused.o refused.d
+        cp source refused.c
+        $cc -c refused.c $words 2>plain.err
+        echo $? >plain.state
+        cat refused.[cdo] >plain.bytes 2>&1
+        rm -f refused.o refused.d
+        cp source refused.c
+        "$host" $cc -c refused.c $words 2>ours.err
+        echo $? >ours.state
+        cat refused.[cdo] >ours.bytes 2>&1
+        is "$cc: $words: status" cmp -s plain.state ours.state
+        is "$cc: $words: messages" cmp -s plain.err ours.err
+        is "$cc: $words: files" cmp -s plain.bytes ours.bytes
+    done
+    for words in -include -imacros; do
+        $cc -c refused.c $words <(echo 'int once;') -o plain.o
+        "$host" $cc -c refused.c $words <(echo 'int once;') -o refused.o
+        is "$cc: $words, to be read once" cmp -s plain.o refused.o
+    done
+    [ "$cc" != clang ] || {
+        mark
+        "$host" clang --target=x86_64-linux-gnu -fno-integrated-as -c refused.c -o refused.o
+        is "clang: another assembler for another machine isn't kept" since 0 0
+    }
+}
+
 outputs() {
     local cc=$1 dir=$work/outputs-$1 turn number
     mkdir -p "$dir/fake"
@@ -94,5 +128,6 @@ outputs() {
     done
     is "$cc: assembler with -MD: kept" since 1 1
     output_places "$cc"
+    output_refusals "$cc"
     cd "$work" || return
 }

@@ -191,6 +191,9 @@ searches() {
     search_spellings "$cc"
     search_names "$cc"
     search_hidden "$cc"
+    search_spliced "$cc"
+    search_no_folder "$cc"
+    search_tree
     search_messages "$cc"
     search_unclear "$cc"
     search_others "$cc"
@@ -335,6 +338,60 @@ search_hidden() {
         settle
         search_none "$cc: compared by $text" $cc
     done
+}
+
+# Names that go on in the next line, sources in other sets of characters, and a time that a macro takes into another file: there is no manifest.
+search_spliced() {
+    local cc=$1 text
+    for text in '#include "val\\\nue.h"' '#include <val\\\nue.h>' '#define NAME "val\\\nue.h"\n#include NAME' '#define NA\\\nME "value.h"\n#include NAME' \
+        '#if __has_include("val\\\nue.h")\n#include "value.h"\n#endif' '#define HA\\\nS 1\n#define CAT(x) <x.h>\n#ifdef HAS\n#include CAT(value)\n#endif'; do
+        printf "$text\nint value = VALUE;\n" >it.c
+        settle
+        search_none "$cc: goes on in $text" $cc -Iearly -Ilate
+    done
+    printf '#define MANY \\\n 7\n#include "value.h"\nint value = VALUE + MANY;\n' >it.c
+    settle
+    search_case "$cc: a macro that goes on" 'printf "#define VALUE 7\n" >early/value.h' "rm early/value.h" $cc -Iearly -Ilate
+    [ "$cc" != gcc ] || {
+        printf '#include "value.h"\nint value = VALUE;\n' >it.c
+        settle
+        search_none "$cc: another set of characters" $cc -finput-charset=ISO-8859-1 -Iearly -Ilate
+        search_case "$cc: the usual set of characters" 'printf "#define VALUE 7\n" >early/value.h' "rm early/value.h" \
+            $cc -finput-charset=UTF-8 -Iearly -Ilate
+    }
+    printf '#define STAMP __TIMESTAMP__\n' >late/stamp.h
+    printf '#include "stamp.h"\nconst char *stamp = STAMP;\n' >it.c
+    touch -d '2001-01-01 12:00' it.c late/stamp.h
+    settle
+    search_none "$cc: a stamp that a macro takes into another file" $cc -Ilate
+    touch -d '2002-01-01 12:00' it.c
+    search_call "$cc: a stamp that a macro takes into another file, later" $cc -Ilate
+}
+
+# What the compiler is told to look in is no folder at first, or not any more.
+search_no_folder() {
+    local cc=$1 turn
+    search_tree
+    printf '#include "value.h"\nint value = VALUE;\n' >it.c
+    printf '#define VALUE 3\n' >late/value.h
+    rm -rf early
+    echo file >early
+    settle
+    for turn in first second; do search_call "$cc: a file in a folder's place, $turn" $cc -Iearly -Ilate; done
+    rm early
+    mkdir early
+    printf '#define VALUE 4\n' >early/value.h
+    settle
+    for turn in first second; do search_call "$cc: a folder in a file's place, $turn" $cc -Iearly -Ilate; done
+    rm early/value.h
+    settle
+    for turn in first second third; do search_call "$cc: an empty folder, $turn" $cc -Iearly -Ilate; done
+    rmdir early
+    settle
+    for turn in first second third; do search_call "$cc: no folder, $turn" $cc -Iearly -Ilate; done
+    echo file >early
+    settle
+    for turn in first second; do search_call "$cc: a file again, $turn" $cc -Iearly -Ilate -Wmissing-include-dirs; done
 }
 
 # Messages beside texts that don't show what they say, and lines that they quote: each call prints its own.

@@ -13,7 +13,7 @@ use cache_call_log::CallFacts;
 use cache_files::results::Kept;
 use cache_format::KeptMessages;
 use cache_host::{CommandLine, Host, HostError};
-use cache_known_options::Beside;
+use cache_known_options::{Beside, PlacedWords};
 use cache_settings::Key;
 use cache_source_files::{Audit, have_plain_places};
 use cache_watch_lists::Unwatched;
@@ -21,8 +21,10 @@ use ckeys_records::ConfigError;
 use ckeys_time_macros::Zone;
 use cmdlines_tables::CCompilerKind;
 use std::alloc::Global;
+use std::fs;
 use std::fs::File;
 use std::io::Read;
+use std::os::unix::fs::MetadataExt;
 use std::rt::Files;
 use wrap_base::store_key::StoreKey;
 use wrap_base::{Answer, Config, How, Request};
@@ -116,8 +118,37 @@ enum Turn {
     Give,
     /// More is known now, so the session is asked again.
     Ask,
-    /// They were kept, and where they belong lies what only the compiler writes as it does.
-    Pass,
+    /// They were kept, and for that reason they aren't put where they belong: only the compiler writes there as it does, or refuses to.
+    Pass(&'static str),
+}
+
+/// The file that lies under a path, by its device and its number there, where there is one.
+fn file_at<R: Files>(rt: &R, path: &OsBytes) -> Option<(u64, u64)> {
+    let path = str::from_utf8(path.as_bytes()).ok()?;
+    let found = fs::metadata(rt, path).ok()?;
+    Some((found.dev(), found.ino()))
+}
+
+/// Whether that file is an input of the call.
+fn is_input<R: Files>(rt: &R, line: &CommandLine, file: (u64, u64)) -> bool {
+    for placed in PlacedWords::of(line.words.as_slice()) {
+        if placed.is_input() && file_at(rt, placed.word) == Some(file) {
+            return true;
+        }
+    }
+    false
+}
+
+/// Whether one of these paths is an input's, which compilers refuse to write over.
+fn are_inputs<R: Files>(rt: &R, line: &CommandLine, paths: &[OsBytes]) -> bool {
+    for path in paths {
+        if let Some(file) = file_at(rt, path) {
+            if is_input(rt, line, file) {
+                return true;
+            }
+        }
+    }
+    false
 }
 
 /// What becomes of kept outputs.
@@ -136,7 +167,10 @@ fn turn_of<R: Files + AllocGlobal>(
     }
     let paths = known.with_side_paths(&paths_of(rt.alloc(), given.outputs)?)?;
     if !have_plain_places(rt, paths.as_slice())? {
-        return Ok(Turn::Pass);
+        return Ok(Turn::Pass("pass: output is no plain file"));
+    }
+    if are_inputs(rt, call.line, paths.as_slice()) {
+        return Ok(Turn::Pass("pass: output is an input"));
     }
     match known.is_to_audit(rt.alloc(), call.line, call.hint, key, given)? {
         true => Ok(Turn::Ask),
@@ -163,7 +197,7 @@ fn act_on_outputs<P: Print + Files<File = File> + AllocGlobal, I: Read>(
     match turn {
         Turn::Give => Ok(Some(keep_or_give(rt, call, host, answered, given, known)?)),
         Turn::Ask => Ok(None),
-        Turn::Pass => Ok(Some(pass(rt.alloc(), "pass: output is no plain file")?)),
+        Turn::Pass(reason) => Ok(Some(pass(rt.alloc(), reason)?)),
     }
 }
 

@@ -13,13 +13,26 @@ use std::io::Read;
 use std::rt::Files;
 use wrap_base::{CDescription, Compiler};
 
+/// How names of compilers for Windows may end, by the kind of their threads, as on Debian.
+const OF_THREADS: [&str; 2] = ["-win32", "-posix"];
+
+/// A path without that end.
+fn without_threads(path: &str) -> &str {
+    for end in &OF_THREADS {
+        if let Some(front) = path.strip_suffix(*end) {
+            return front;
+        }
+    }
+    path
+}
+
 /// The compiler that the file of this path is, with all links followed, where it is one that is supported here.
 pub fn kind_of<R: Files + AllocGlobal>(
     rt: &R,
     path: &str,
 ) -> Result<Option<CCompilerKind>, HostError> {
     let file = fs::canonicalize(rt, path)?;
-    match compiler_of(file.as_str().as_bytes()) {
+    match compiler_of(without_threads(file.as_str()).as_bytes()) {
         Some(EntryCompiler::C(CCompilerKind::Gcc)) => Ok(Some(CCompilerKind::Gcc)),
         Some(EntryCompiler::C(CCompilerKind::Clang)) => Ok(Some(CCompilerKind::Clang)),
         _ => Ok(None),

@@ -4,7 +4,8 @@
 use base_files::OsBytes;
 use cache_host::{CommandLine, HostError};
 use cache_known_options::{
-    PlacedWords, beside_of, for_preprocessor, is_among, side_ending, unknown_word,
+    PlacedWords, behind_front, beside_of, for_preprocessor, is_among, odd_dependency_file,
+    side_ending, unknown_word,
 };
 use cache_settings::Key;
 use cache_statistics::TO_STANDARD_OUTPUT;
@@ -49,6 +50,19 @@ fn asks_beside(word: &[u8]) -> bool {
 fn is_seen_to(option: &[u8]) -> bool {
     asks_beside(option) || option == b"-specs".as_slice()
 }
+
+/// Words by which a Clang has another program assemble.
+const ASSEMBLED: [&str; 2] = ["-fno-integrated-as", "-no-integrated-as"];
+
+/// What words begin with by which it runs an assembler that isn't in its digest then, or a program that takes debug information out.
+const RUNNING: [&str; 6] = [
+    "--target",
+    "-target",
+    "--gcc-toolchain",
+    "-gcc-toolchain",
+    "--gcc-install-dir",
+    "-gsplit-dwarf",
+];
 
 /// The words that a GCC takes for granted: it records its options unless it is told not to.
 const OF_GCC: [&str; 1] = ["-grecord-gcc-switches"];
@@ -117,10 +131,25 @@ fn unknown_in(
         Some(word) => Some(word),
         None => unclear_word(alloc, line)?,
     };
+    let word = word.or(odd_dependency_file(words));
+    let word = word.or(word_running_others(kind, words));
     match word.or(late_language(words)) {
         Some(word) => Ok(Some(format!(in alloc; "{word}")?)),
         None => Ok(None),
     }
+}
+
+/// The word by which a Clang that has another program assemble runs one that isn't in its digest.
+fn word_running_others(kind: CCompilerKind, words: &[OsBytes]) -> Option<&OsBytes> {
+    let is_assembled = words
+        .iter()
+        .any(|word| is_among(&ASSEMBLED, word.as_bytes()));
+    if kind != CCompilerKind::Clang || !is_assembled {
+        return None;
+    }
+    words
+        .iter()
+        .find(|word| behind_front(&RUNNING, word.as_bytes()).is_some())
 }
 
 /// Whether a word says of which language the inputs after it are.

@@ -3,7 +3,7 @@
 //! them on: after all other words.
 
 use crate::handed_on::definitions_in;
-use crate::placed::{PlacedWords, behind_front, is_among};
+use crate::placed::{Placed, PlacedWords, behind_front, is_among};
 use crate::text_words::{OF_DEPENDENCIES, with_ending};
 use base_files::{Listed, OsBytes};
 use std::alloc::{AllocError, Global};
@@ -235,6 +235,61 @@ impl<'a> Said<'a> {
             (None, None) => return Ok(None),
         };
         Ok(Some(OsBytes::from_vec(path)))
+    }
+}
+
+/// The path that a word of a command gives the dependency file, where it is the value of such an option or has it in itself.
+fn path_in(placed: Placed<'_>) -> Option<&[u8]> {
+    let word = placed.word.as_bytes();
+    match placed.option {
+        Some(option) if option.as_bytes() == b"-MF".as_slice() => Some(word),
+        Some(_) => None,
+        None => match for_preprocessor(word) {
+            Some((_, path)) => Some(path),
+            None => word.strip_prefix(b"-MF").filter(|path| !path.is_empty()),
+        },
+    }
+}
+
+/// The path of the object in a word of a command, where it is the value of that option or has it in itself.
+fn object_in(placed: Placed<'_>) -> Option<&[u8]> {
+    let word = placed.word.as_bytes();
+    match placed.option {
+        Some(option) if option.as_bytes() == b"-o".as_slice() => Some(word),
+        Some(_) => None,
+        None => word.strip_prefix(b"-o"),
+    }
+}
+
+/// A path without the front that means nothing.
+fn short_path(path: &[u8]) -> &[u8] {
+    path.strip_prefix(b"./").unwrap_or(path)
+}
+
+/// Whether a word asks for a dependency file.
+fn asks(placed: Placed<'_>) -> bool {
+    let word = placed.word.as_bytes();
+    placed.option.is_none() && (is_among(&ASKING, word) || for_preprocessor(word).is_some())
+}
+
+/// The word that names a dependency file though none is asked for, of which compilers say that it's wrong, or names the object as that file.
+pub fn odd_dependency_file(words: &[OsBytes]) -> Option<&OsBytes> {
+    let mut is_asked = false;
+    let mut named = None;
+    let mut object = None;
+    for placed in PlacedWords::of(words) {
+        is_asked = is_asked || asks(placed);
+        if let Some(path) = path_in(placed) {
+            named = Some((placed.word, short_path(path)));
+        }
+        if let Some(path) = object_in(placed) {
+            object = Some(short_path(path));
+        }
+    }
+    let (word, path) = named?;
+    match is_asked && object != Some(path) {
+        true => None,
+        false => Some(word),
     }
 }
 

@@ -12,8 +12,8 @@ use std::alloc::{AllocError, Global};
 /// What words begin with that only look as if they began as one of `FRONTS`.
 const OTHERS: [&str; 4] = ["-obj", "-lang", "-include-pch", "-fbuiltin-module-map"];
 
-/// Words that name a file which is written, whether its name follows in the same word or is the next word.
-const NAME_OUTPUT: [&str; 2] = ["-o", "-MF"];
+/// Words that name a file which is written, or is read before the input, whether its name follows in the same word or is the next word.
+const NAME_FILES: [&str; 4] = ["-o", "-MF", "-include", "-imacros"];
 
 /// What words begin with that may go on in any way.
 const FRONTS: [&str; 28] = [
@@ -175,7 +175,7 @@ fn is_level(level: &[u8]) -> bool {
     level.iter().all(|byte| byte.is_ascii_alphanumeric())
 }
 
-/// Whether it is the path of a file, and not of what another process reads.
+/// Whether it is the path of a file, and not of what another process reads or writes, which can be read only once.
 fn is_file(path: &[u8]) -> bool {
     path == b"/dev/null".as_slice()
         || path != b"-".as_slice() && !path.starts_with(b"/dev/") && !path.starts_with(b"/proc/")
@@ -183,7 +183,7 @@ fn is_file(path: &[u8]) -> bool {
 
 /// Whether a word that begins with one of `FRONTS`, and may contain a path, is known.
 fn is_known_front(word: &[u8]) -> bool {
-    match behind_front(&NAME_OUTPUT, word) {
+    match behind_front(&NAME_FILES, word) {
         Some((_, path)) => is_file(path) && !begins_with(&OTHERS, word),
         None => !begins_with(&OTHERS, word),
     }
@@ -221,7 +221,7 @@ fn is_known_option(alloc: Global, word: &[u8]) -> Result<bool, AllocError> {
 /// Whether the value of an option is known.
 fn is_known_value(alloc: Global, option: &[u8], value: &[u8]) -> Result<bool, AllocError> {
     if takes_any(option) {
-        return Ok(!is_among(&NAME_OUTPUT, option) || is_file(value));
+        return Ok(!is_among(&NAME_FILES, option) || is_file(value));
     }
     if option == b"-Xassembler".as_slice() {
         return is_for_assembler(alloc, value);

@@ -15,6 +15,9 @@ const LEFT_OUT: [&str; 2] = [
     "ignoring duplicate directory \"",
 ];
 
+/// How a GCC's line ends on what it was told to look in and is no folder: that may become one.
+const NO_FOLDER: &str = ": not a directory";
+
 /// What Clang says of a GCC whose headers it may take.
 const INSTALLATIONS: [&str; 2] = [
     "Found candidate GCC installation: ",
@@ -94,7 +97,8 @@ impl<'a> SearchList<'a> {
         Ok(part)
     }
 
-    /// The list in what a compiler prints beside the text when it is asked to say what it does. None where there is none.
+    /// The list in what a compiler prints beside the text when it is asked to say what it does. None where there is none, or where it is to look in what
+    /// is no folder.
     pub fn read(alloc: Global, said: &'a [u8]) -> Result<Option<SearchList<'a>>, AllocError> {
         let Ok(said) = str::from_utf8(said) else {
             return Ok(None);
@@ -102,6 +106,9 @@ impl<'a> SearchList<'a> {
         let mut list = SearchList::new(alloc);
         let mut part = Part::Before;
         for line in said.split('\n') {
+            if line.ends_with(NO_FOLDER) {
+                return Ok(None);
+            }
             part = list.take(part, line)?;
         }
         Ok(match part {

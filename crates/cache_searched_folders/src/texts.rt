@@ -28,6 +28,9 @@ const OWN_WAYS: [&str; 6] = [
     "-I-",
 ];
 
+/// Names of the set of characters in which directives are read as they are.
+const PLAIN_SETS: [&str; 4] = ["UTF-8", "utf-8", "UTF8", "utf8"];
+
 /// The options that take in a file before the input.
 const TAKING_IN: [&str; 2] = ["-include", "-imacros"];
 
@@ -71,6 +74,9 @@ fn directives_in<'a>(
     for source in sources {
         if pastes_time(source.contents) {
             return Err(Unwatched::Pasted);
+        }
+        if hands_on_time(source.contents) {
+            return Err(Unwatched::Time);
         }
         match directives_of(alloc, source.contents)? {
             Some(found) => all.push(found)?,
@@ -313,14 +319,28 @@ fn search_words<R: Files + AllocGlobal>(
     Ok(())
 }
 
+/// Whether by a word sources are in another set of characters, so that a compiler may read directives in them that look otherwise.
+fn names_other_set(word: &[u8]) -> bool {
+    match word.strip_prefix(b"-finput-charset=") {
+        Some(name) => !is_among(&PLAIN_SETS, name),
+        None => false,
+    }
+}
+
 /// Whether words have a compiler find files in a way of its own.
 fn are_own_ways(words: &[OsBytes]) -> bool {
     for word in words {
-        if behind_front(&OWN_WAYS, word.as_bytes()).is_some() {
+        let word = word.as_bytes();
+        if behind_front(&OWN_WAYS, word).is_some() || names_other_set(word) {
             return true;
         }
     }
     false
+}
+
+/// Whether a source may have a macro of which the time of another file comes: that of the file in which it is used.
+fn hands_on_time(source: &[u8]) -> bool {
+    memmem::find(source, b"__TIMESTAMP__").is_some() && memmem::find(source, b"define").is_some()
 }
 
 /// Takes all files that the text names.

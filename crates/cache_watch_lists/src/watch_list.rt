@@ -254,8 +254,9 @@ fn folder_holds<'a, R: Files + AllocGlobal>(
 ) -> Result<(Option<u64>, &'a [u8]), Unwatched> {
     let (row, rest) = folder_ahead(bytes)?;
     let path = text_of(row.path)?;
-    let now = State::at(rt, path)?;
-    if !is_as_twin(rt, row, now)? {
+    let found = fs::metadata(rt, path)?;
+    let now = State::of(&found);
+    if !found.is_dir() || !is_as_twin(rt, row, now)? {
         return Ok((None, rest));
     }
     if row.looking == Looking::Settled.code() && now == row.state {
