@@ -75,15 +75,25 @@ fn granted_by(kind: CCompilerKind) -> &'static [&'static str] {
     }
 }
 
-/// Whether the words ask for an object, and for it on standard output.
-fn is_on_standard_output(words: &[OsBytes]) -> bool {
+/// Whether the words name that path as the output.
+fn is_output(words: &[OsBytes], path: &[u8]) -> bool {
     let behind = words.iter().skip(1);
-    let is_named = words.iter().zip(behind).any(|pair| pair.0.as_bytes() == "-o".as_bytes()
-        && pair.1.as_bytes() == "-".as_bytes());
-    (is_named || has_word(words, b"-o-"))
-        && has_word(words, b"-c")
-        && !has_word(words, b"-E")
-        && !has_word(words, b"-S")
+    words.iter().zip(behind).any(|pair| pair.0.as_bytes() == "-o".as_bytes()
+        && pair.1.as_bytes() == path)
+}
+
+/// Why nothing can be kept of where the words ask for an object: on standard output, or nowhere.
+fn reason_by_output(words: &[OsBytes]) -> Option<&'static str> {
+    if !has_word(words, b"-c") || has_word(words, b"-E") || has_word(words, b"-S") {
+        return None;
+    }
+    if is_output(words, b"-") || has_word(words, b"-o-") {
+        return Some(TO_STANDARD_OUTPUT);
+    }
+    match is_output(words, b"/dev/null") {
+        true => Some("output is no plain file"),
+        false => None,
+    }
 }
 
 /// The variable that speaks against keeping in a call of a compiler of that kind, or the option, or the word that isn't known.
@@ -98,8 +108,8 @@ pub fn reason_against(
             return Ok(Some(format!(in alloc; "{name}")?));
         }
     }
-    if is_on_standard_output(line.words.as_slice()) {
-        return Ok(Some(String::from_str(alloc, TO_STANDARD_OUTPUT)?));
+    if let Some(reason) = reason_by_output(line.words.as_slice()) {
+        return Ok(Some(String::from_str(alloc, reason)?));
     }
     let options = options_in(alloc, line.words.as_slice(), &[])?;
     let option = options.iter().find(|option| !is_seen_to(option.as_bytes()));

@@ -31,12 +31,12 @@ fn ends_with_mark(front: &[u8]) -> bool {
 }
 
 /// Whether a name that comes after these bytes may be defined there: `define` comes before it, after a `#`, or a comment does that may come
-/// after `define`.
+/// after `define`, and whose end a line that goes on may cut in two.
 fn may_be_defined(front: &[u8]) -> bool {
     let before = before_gap(front);
     match before.strip_suffix(b"define") {
         Some(front) => ends_with_mark(before_gap(front)),
-        None => before.ends_with(b"*/"),
+        None => before.ends_with(b"*/") || before.ends_with(b"\n/"),
     }
 }
 

@@ -5,6 +5,7 @@
 
 use crate::guards::guard_behind;
 use crate::hidden::{PIECE, has_pragma, pastes_probe};
+use crate::splices::cuts_names;
 use memchr::{memchr, memchr_iter, memmem, memrchr};
 use std::alloc::{AllocError, Global};
 
@@ -199,13 +200,17 @@ fn line_at(source: &[u8], at: usize) -> &[u8] {
     line_ahead(source.get(begin..).unwrap_or(&[]))
 }
 
-/// The name between these marks at the front of a text. None where a character of it may have another spelling, which begins with `??`.
+/// The name between these marks at the front of a text. None where a character of it may have another spelling, which begins with `??`, or
+/// where a line ends in it.
 fn between(text: &[u8], first: u8, last: u8) -> Option<&[u8]> {
     let (front, rest) = text.split_first()?;
     if *front != first {
         return None;
     }
     let name = rest.get(..memchr(last, rest)?)?;
+    if name.contains(&b'\n') || name.contains(&b'\r') {
+        return None;
+    }
     match memmem::find(name, b"??") {
         Some(_) => None,
         None => Some(name),
@@ -227,12 +232,20 @@ pub(crate) fn name_ahead(text: &[u8]) -> Option<Asked<'_>> {
     Some(Asked { name, search })
 }
 
+/// Whether what comes after a mark in a line, which isn't read as a name, may yet be one: with another spelling in it, or with the end of a
+/// line.
+fn may_differ(text: &[u8]) -> bool {
+    let text = before_spaces(text);
+    text.contains(&b'\\') || text.contains(&b'\r') || memmem::find(text, b"??").is_some()
+}
+
 /// Whether a name may be computed by what comes in place of a written one: a macro begins there, or a comment, a line continuation,
-/// or something in quotes that is no name, or a name with another spelling in it. All else fails to compile, or is in a comment.
+/// or something in quotes that is no name, or a name with another spelling in it or that goes on in the next line. All else fails to compile,
+/// or is in a comment.
 fn may_be_computed(operand: &[u8]) -> bool {
     match operand {
         [b'/' | b'\\', ..] | [b'"', b'<', ..] => true,
-        [b'"' | b'<', name @ ..] => memmem::find(name, b"??").is_some(),
+        [b'"' | b'<', name @ ..] => may_differ(name),
         [byte, ..] => is_letter(*byte),
         [] => false,
     }
@@ -275,10 +288,16 @@ pub(crate) fn value_of<T: Copy>(table: &[(&str, T)], word: &[u8]) -> Option<T> {
     None
 }
 
-/// Whether a pragma of these two words asks for a file.
-fn asks_for_file(word: &[u8], second: &[u8]) -> bool {
+/// Whether a text begins with what may be a comment or the end of a line that goes on: what comes after that isn't read.
+fn is_unread(text: &[u8]) -> bool {
+    matches!(text, [b'/' | b'\\', ..])
+}
+
+/// Whether a pragma of that word asks for a file, or may do so by its second word, with which the rest begins.
+fn asks_for_file(word: &[u8], rest: &[u8]) -> bool {
+    let (second, _) = word_ahead(rest);
     match value_of(FILE_PRAGMAS, word) {
-        Some(Some(next)) => next.as_bytes() == second,
+        Some(Some(next)) => next.as_bytes() == second || is_unread(rest),
         Some(None) => true,
         None => false,
     }
@@ -368,12 +387,12 @@ impl<'a> Directives<'a> {
         Ok(())
     }
 
-    /// Takes what comes after `pragma`. False where it asks for a file.
+    /// Takes what comes after `pragma`. False where it asks for a file, or may do so.
     fn take_pragma(&mut self, operand: &[u8]) -> bool {
-        let (word, rest) = word_ahead(behind_spaces(operand));
-        let (second, _) = word_ahead(behind_spaces(rest));
+        let operand = behind_spaces(operand);
+        let (word, rest) = word_ahead(operand);
         self.is_once = self.is_once || word == b"once".as_slice();
-        !asks_for_file(word, second)
+        !is_unread(operand) && !asks_for_file(word, behind_spaces(rest))
     }
 
     /// Takes a directive: what comes before its `#`, and what after that and after a comment there. False where it can't be determined what
@@ -421,7 +440,9 @@ impl<'a> Directives<'a> {
                     return Ok(true);
                 }
                 self.probes.push(name)?;
-                Ok(takes && !is_next)
+                // What it hands on is a word.
+                let (word, _) = word_ahead(behind_spaces(operand));
+                Ok(takes && !is_next && !word.is_empty())
             }
             // Another name for the probe.
             (_, Some((name, _))) => Ok(name.starts_with(PROBE)),
@@ -517,7 +538,7 @@ impl<'a> Directives<'a> {
 /// What a source asks for. None where that can't be determined.
 pub fn directives_of(alloc: Global, source: &[u8]) -> Result<Option<Directives<'_>>, AllocError> {
     let mut found = Directives::new(alloc);
-    if !found.take_directives(alloc, source)? {
+    if cuts_names(source) || !found.take_directives(alloc, source)? {
         return Ok(None);
     }
     if has_pragma(source) || !found.take_all_probes(source)? {

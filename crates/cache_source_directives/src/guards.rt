@@ -2,7 +2,7 @@
 //!
 //! One is only named where that is certain: what begins as a directive is none in a comment, in a string or in a line that goes on.
 
-use crate::definitions::behind_defined;
+use crate::definitions::{before_gap, behind_defined};
 use crate::directives::{
     before_spaces, behind_gap, behind_spaces, may_begin_directive, value_of, word_ahead,
 };
@@ -45,6 +45,12 @@ fn begins_line(front: &[u8]) -> bool {
     }
 }
 
+/// Whether a `*` after these bytes begins a comment, whose begin a line that goes on may cut in two.
+fn begins_comment(front: &[u8]) -> bool {
+    let is_cut = front.ends_with(b"\n") && before_gap(front).ends_with(b"/");
+    is_cut || front.ends_with(b"/")
+}
+
 /// The groups of lines around a place, up to which a source is read.
 #[derive(Drop)]
 struct Groups<'a> {
@@ -61,7 +67,7 @@ impl<'a> Groups<'a> {
         if self.in_comment {
             self.in_comment = !behind.starts_with(b"*/");
         } else {
-            self.in_comment = front.ends_with(b"/");
+            self.in_comment = begins_comment(front);
         }
     }
 

@@ -7,6 +7,7 @@ mod directives;
 mod guards;
 mod hidden;
 mod numbers;
+mod splices;
 mod times;
 
 pub use definitions::{add_defined, add_said, name_alone};

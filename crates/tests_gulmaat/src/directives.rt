@@ -11,7 +11,7 @@ use std::test::Fail;
 use tests_kit::{holds, is_that, words};
 
 /// Sources, and what they ask for; `none` where that can't be determined.
-const SOURCES: [(&str, &str); 98] = [
+const SOURCES: [(&str, &str); 126] = [
     ("", ""),
     ("int x;\n", ""),
     ("#include \"a.h\"\n", " \"a.h\""),
@@ -54,6 +54,7 @@ const SOURCES: [(&str, &str); 98] = [
     ("#ifndef A_B\n#include NAME(a)\n#endif\n", " unclear"),
     ("#ifdef __A_B\n#include NAME(a)\n#endif\n", " unclear"),
     ("/*\n#ifdef A_B\n*/\n#include NAME(a)\n", " unclear"),
+    ("/\\\n*\n#ifdef A_B\n*/\n#include NAME(a)\n", " unclear"),
     ("#ifdef A_B\n/*\n#endif\n*/\n#include NAME(a)\n", " unclear"),
     ("a \\\n#ifdef A_B\n#include NAME(a)\n", " unclear"),
     ("R\"(\n#ifdef A_B\n)\"\n#include NAME(a)\n", " unclear"),
@@ -89,6 +90,42 @@ const SOURCES: [(&str, &str); 98] = [
     ("int x; ??/ \r\n", "none"),
     ("/* See asm-???/a.h. */\n#include <a.h>\n", " <a.h>"),
     ("#include \"a??/b.h\"\n", " unclear"),
+    ("#include \"a\\\n.h\"\n", " unclear"),
+    ("#include <a\\ \r\n.h>\n", " unclear"),
+    ("#include_next <a\\\n.h>\n", " unclear"),
+    ("#ifdef A_B\n#include \"a.h\\\n\"\n#endif\n", " unless A_B"),
+    ("#import <a\\\n.h>\n", " unclear once"),
+    ("#include <a\\\r.h>\n", " unclear"),
+    ("#include <a.h\r\n", ""),
+    ("#if __has_include(\"q\\\n.h\")\n", "none"),
+    ("#if __has_include(<q.\\\t\nh>)\n", "none"),
+    ("#define HAS(x) __has_include(\"q\\\n.h\")\n", "none"),
+    ("#define HDR_\\\nNAME <a.h>\n", "none"),
+    ("#define HDR\\\r\n_NAME <a.h>\n", "none"),
+    ("#define HDR_\\ \nNAME <a.h>\n", "none"),
+    ("#define H\\\n\\\n\\\nDR <a.h>\n", "none"),
+    ("#define /* a */ HDR_\\\nNAME <a.h>\n", "none"),
+    ("#define HDR_\\\rNAME <a.h>\n", "none"),
+    ("#include HDR_\\\nNAME\n", "none"),
+    ("#define MY_\\\nGUARD 1\n#ifdef MY_GUARD\n", "none"),
+    ("#ifdef MY_\\\nGUARD\n#include CAT(n)\n#endif\n", "none"),
+    ("#pragma on\\\nce\n", "none"),
+    ("#pragma \\\nonce\n", "none"),
+    ("#pragma clang \\\nmodule import a\n", "none"),
+    ("#if _\\\n_has_include(<a.h>)\n", "none"),
+    (
+        "#define F(x) \\\n do { \\\n  g(x); \\\n } while (0)\n#include <a.h>\n",
+        " <a.h>",
+    ),
+    (
+        "#define F\\\n\tg(\"a\\n\\\n b\");\\\n\\\n\th(\"\\\\\\\n\");\n#include <a.h>\n",
+        " <a.h>",
+    ),
+    (
+        "#if defined(A) \\\n && B && \\\r\nC\n#include <a.h>\n",
+        " <a.h>",
+    ),
+    ("#pragma GCC poison a \\\n b\n#include <a.h>\n", " <a.h>"),
     ("#embed <a.bin>\n", "none"),
     ("#pragma GCC dependency \"a.h\"\n", "none"),
     ("#pragma GCC diagnostic push\n", ""),
@@ -188,7 +225,7 @@ fn sources_ask_for_files(rt: HostRuntime) -> Result<(), Fail> {
 }
 
 /// Sources, and what `NAME` stands for in them; `none` where that may be something other than the name of a file.
-const DEFINED: [(&str, &str); 20] = [
+const DEFINED: [(&str, &str); 25] = [
     ("", ""),
     ("#define NAME <a.h>\n", " <a.h>"),
     ("#define NAME \"a.h\"", " \"a.h\""),
@@ -208,6 +245,11 @@ const DEFINED: [(&str, &str); 20] = [
     ("#define NAME \\\n <a.h>\n", "none"),
     ("%: /* a */ define NAME OTHER\n", "none"),
     ("??=\\\ndefine NAME OTHER\n", "none"),
+    ("#define NAME <a\\\n.h>\n", "none"),
+    ("#define NAME \"a.h\\\r\n\"\n", "none"),
+    ("#define NAME <a.h> \\\n x\n", "none"),
+    ("#define /* a *\\\n/ NAME OTHER\n", "none"),
+    ("#define OTHER(x) \\\n x; \\\n NAME\n", ""),
     ("// They define NAME as needed.\n", ""),
 ];
 
@@ -234,13 +276,14 @@ fn macros_stand_for_files(rt: HostRuntime) -> Result<(), Fail> {
 }
 
 /// Sources, and whether they may define `A_B` where it isn't defined yet.
-const DEFINING: [(&str, bool); 7] = [
+const DEFINING: [(&str, bool); 8] = [
     ("#define A_B\n", true),
     ("#ifdef A_B\n#define A_B 1\n#endif\n", false),
     ("#ifdef A_B\n# /* a */ endif\n#define A_B 1\n", true),
     ("#ifdef A_B\n#else\n#define A_B\n#endif\n", true),
     ("#ifdef X_Y\n#define A_B\n#endif\n", true),
     ("/*\n#ifdef A_B */\n#define A_B\n", true),
+    ("#define \\\nA_B \\\n 1\n", true),
     ("#define A_BC\n#undef A_B\n#define X A_B\n", false),
 ];
 

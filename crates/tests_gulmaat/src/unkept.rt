@@ -5,7 +5,7 @@ use std::test::Fail;
 use tests_kit::holds;
 
 /// Texts that take in files.
-const DIRECTIVES: [&str; 24] = [
+const DIRECTIVES: [&str; 49] = [
     ".incbin \"a.bin\"",
     "\t.include \"a.s\"\n",
     "start: .INCBIN \"a.bin\"",
@@ -30,10 +30,35 @@ const DIRECTIVES: [&str; 24] = [
     "asm(\".inc\" \"\" \"\" \"\" \"\" \"\" \"\" \"\" \"\" \"\" \"\" \"\" \"\" \"\" \"\" \"\" \"\" \"\" \"\" \"\" \"\" \"bin \\\"a.bin\\\"\");",
     "asm(\".inc\"\n# 4 \"x.c\"\n# 4 \"x.c\"\n# 4 \"x.c\"\n# 4 \"x.c\"\n# 4 \"x.c\"\n# 4 \"x.c\"\n# 4 \"x.c\"\n# 4 \"x.c\"\n# 4 \"x.c\"\n# 4 \"x.c\"\n# 4 \"x.c\"\n# 4 \"x.c\"\n# 4 \"x.c\"\n# 4 \"x.c\"\n# 4 \"x.c\"\n# 4 \"x.c\"\n# 4 \"x.c\"\n# 4 \"x.c\"\n# 4 \"x.c\"\n# 4 \"x.c\"\n\"bin \\\"a.bin\\\"\");",
     ".incbin",
+    ".macro m op\n.\\op \"d.bin\"\n.endm\nm incbin\n",
+    ".macro m op\n\t.\\op\\()bin \"d.bin\"\n.endm\nm inc\n",
+    ".irp f,incbin\n.\\f \"d.bin\"\n.endr\n",
+    ".irp f,bin\nstart: .inc\\f \"d.bin\"\n.endr\n",
+    ".irpc f,b\nnop; .INC\\f\\()in \"d.bin\"\n.endr\n",
+    ".altmacro\n.macro m x\n.inc&x \"d.bin\"\n.endm\nm bin\n",
+    ".macro m\n.\\()incbin \"d.bin\"\n.endm\nm\n",
+    ".macro m op\nn .\\op\n.endm\n",
+    ".macro m op\n\\op \"d.bin\"\n.endm\nm .incbin\n.globl x\n",
+    ".macro m op, file\n\\op \"\\file\"\n.endm\nm .include, a.s\n",
+    ".irp op,.incbin,.x\n\\op \"d.bin\"\n.endr\n",
+    "asm(\".macro m op\\n.\\\\op \\\"d.bin\\\"\\n.endm\\nm incbin\");",
+    "asm(\".macro m op\\n\"\n\".\\\\op \\\"d.bin\\\"\\n\"\n\".endm\\nm incbin\");",
+    "asm(\"nop\\n\\t.inc\\\\op \\\"d.bin\\\"\\n\");",
+    "asm(\"nop\\012.inc\\134op \\\"d.bin\\\"\\n\");",
+    "asm(\".inc\" \"\\\\op \\\"d.bin\\\"\\n\");",
+    "asm(\".inc{bin|x} \\\"d.bin\\\"\" : : );",
+    "asm(\".{inc|x}bin \\\"d.bin\\\"\" : : );",
+    "asm(\".{x|inc}bin \\\"d.bin\\\"\" : : );",
+    "asm(\"nop\\n\\t.{incbin|include} \\\"d.bin\\\"\" : : );",
+    "asm(\"{.incbin|.x} \\\"d.bin\\\"\" : : );",
+    "asm(\"{.x|.include} \\\"d.s\\\"\" : : );",
+    "asm(\"{nop; .inc|.x}bin \\\"d.bin\\\"\" : : );",
+    "asm(\".incbin{ \\\"d.bin\\\"| 1}\" : : );",
+    "# 1 \"x.c\"\n#pragma GCC pch_preprocess \"./h.h.gch\"\nint x;\n",
 ];
 
 /// Texts that take in none.
-const MEMBERS: [&str; 12] = [
+const MEMBERS: [&str; 26] = [
     "",
     "int x;",
     "options.include = x;",
@@ -46,6 +71,20 @@ const MEMBERS: [&str; 12] = [
     "puts(\".include_dirs\");",
     "# 1 \"a.include/x.h\"",
     "x = .5; y = 1.e3;",
+    ".macro branch cond\n\tb.\\cond label\n.endm\n",
+    "asm(\"nop\\n\\tb.\\\\cond label\\n\");",
+    ".macro m name\n.L\\name:\n.globl \\name\n.Lfoo\\@:\n.\\@:\n.endm\n",
+    "asm(\".L\\\\name:\\n.globl \\\\name\\n.\\\\@:\");",
+    ".macro m insn\n\\insn x0, x1\n.endm\nm add\n",
+    ".section .text.\\name, \"ax\"\n",
+    "asm(\"{movl %1, %0|mov %0, %1}\" : : );",
+    "asm(\"add{l}\\t{%1, %0|%0, %1}\\n\\t.byte 1\" : : );",
+    "asm(\"{.intel|.att}_syntax noprefix\" : : );",
+    "puts(\".\\n\"); puts(\"Wait .\\n\"); puts(\"..\\r\\n.\\r\\n\");",
+    "format(\"{:.{}f} {0:.{1}f} .{}\", x);",
+    "s = { .include{ 1 }, .include\n= 2 };",
+    "x.include\n    .include(\"a\")\n    .incbin[1];",
+    "#pragma GCC diagnostic push\n",
 ];
 
 #[test]
