@@ -1,5 +1,5 @@
 # shellcheck shell=bash disable=SC2086,SC2154
-# Files of specs that words name, and options that a GCC takes for granted: a part of bin/test-builds, whose host, work and functions it uses.
+# Files of specs that words name, options that a GCC takes for granted, and a GCC by its name: a part of bin/test-builds, whose host, work and functions it uses.
 
 # A command ends the same, prints the same and makes the same object with gulmaat before it; and it is so many hits by text, compiles and
 # direct hits.
@@ -87,6 +87,19 @@ specs_of_headers() {
     specs_case "specs with a folder, and no header there" "$words" 0 0 1
 }
 
+# A GCC whose name ends with the kind of its threads, behind a link, as Debian's compilers for Windows.
+gcc_by_threads() {
+    local kind one=5
+    mkdir -p fake
+    for kind in win32 posix; do
+        one=$((one + 1))
+        printf 'exec %s "$@"\n' "$(command -v gcc)" | stand_in "fake/x86_64-w64-mingw32-gcc-$kind"
+        ln -sf "x86_64-w64-mingw32-gcc-$kind" fake/x86_64-w64-mingw32-gcc
+        specs_case "a GCC of $kind" "$PWD/fake/x86_64-w64-mingw32-gcc -DONE=$one" 0 1 0
+        specs_case "a GCC of $kind, again" "$PWD/fake/x86_64-w64-mingw32-gcc -DONE=$one" 0 0 1
+    done
+}
+
 specs() {
     mkdir -p "$work/specs"
     cd "$work/specs" || return
@@ -99,6 +112,7 @@ specs() {
     specs_case "gcc -grecord-gcc-switches" "gcc -g -grecord-gcc-switches" 0 1 0
     specs_case "gcc -grecord-gcc-switches again" "gcc -g -grecord-gcc-switches" 0 0 1
     specs_case "clang -grecord-gcc-switches" "clang -g -grecord-gcc-switches" 0 0 0
+    gcc_by_threads
     specs_of_headers
     cd "$top" || exit
 }
