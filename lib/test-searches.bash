@@ -352,6 +352,9 @@ search_spliced() {
     printf '#define MANY \\\n 7\n#include "value.h"\nint value = VALUE + MANY;\n' >it.c
     settle
     search_case "$cc: a macro that goes on" 'printf "#define VALUE 7\n" >early/value.h' "rm early/value.h" $cc -Iearly -Ilate
+    printf '#include "value.h"\nint value = VALUE;\nconst char *usage = "One.\\n\\\nWith none.\\n";\n' >it.c
+    settle
+    search_case "$cc: a string that goes on" 'printf "#define VALUE 7\n" >early/value.h' "rm early/value.h" $cc -Iearly -Ilate
     [ "$cc" != gcc ] || {
         printf '#include "value.h"\nint value = VALUE;\n' >it.c
         settle

@@ -24,16 +24,21 @@ fn next_line(text: &[u8]) -> Option<&[u8]> {
     None
 }
 
-/// Whether bytes before the end of a line that goes on end within a name. Lines that go on and have nothing else may come after that.
+/// Whether bytes before the end of a line that goes on end within a name. Lines that go on and have nothing else may come after that. Letters
+/// after a `\` are of a string, as in a text of several lines (`\n\`).
 fn ends_in_name(front: &[u8]) -> bool {
     let name = match front.last() {
         Some(b'\r' | b'\n') => before_gap(front),
         _ => front,
     };
-    match name.last() {
-        Some(byte) => is_letter(*byte),
-        None => false,
+    let mut has_letters = false;
+    for byte in name.iter().rev() {
+        if !is_letter(*byte) {
+            return has_letters && *byte != b'\\';
+        }
+        has_letters = true;
     }
+    has_letters
 }
 
 /// Whether the line of the `\` at that place of a source goes on, and a name does so with it.
