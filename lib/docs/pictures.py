@@ -114,7 +114,7 @@ def call_picture():
         box(right, 28, 230, ["the compiler alone", "uncacheable, by reason"]),
         box(middle, 130, wide, ["Is there a manifest that still fits?", "cache_files: result keys and states", "cache_watch_lists: new headers"], "proved"),
         box(right, 138, 230, ["the preprocessor", "its text, and lines as written"]),
-        box(middle, 240, wide, ["Which key, and what is answered?", "wrap_replay: `serve` over recorded answers", "wrap, wrap_turns, ckeys, rustkeys"], "proved"),
+        box(middle, 240, wide, ["Which key, and what is answered?", "wrap_replay: `serve` over recorded answers", "wrap, ckeys, rustkeys"], "proved"),
         box(middle, 350, wide, ["Is there a result of this key?", "cache_dir, cache_format: kept here", "cache_remote_storage: on a server"], "proved"),
         box(right, 358, 230, ["gulmaat-remote", "in C: Redis, HTTP, a folder"]),
         box(middle, 460, wide, ["What did the compile make?", "cache_c_calls, cache_rustc_calls: is it kept?", "manifest, result, statistics"], "proved"),

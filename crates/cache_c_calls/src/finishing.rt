@@ -6,13 +6,13 @@ use crate::deciding::{AskedCall, End, What};
 use base_blake2::Blake2b256;
 use base_files::{Listed, OsBytes};
 use cache_c_known::{Given, Known, Watched, keep, note_hint, renew};
-use cache_call_log::CallFacts;
 use cache_dir::{Kind, make_room};
 use cache_host::{CommandLine, Host, HostError, into_text};
 use cache_remote_storage::{Shared, share};
 use cache_source_files::{
     Audit, OldFile, lock_paths, print_again, write_dependencies, write_outputs, write_side_files,
 };
+use cache_statistics::CallFacts;
 use ckeys_include_records::PreprocessorCacheEntry;
 use ckeys_include_records::entry_key::EntryKey;
 use cmdlines_tables::CCompilerKind;

@@ -2,13 +2,14 @@
 
 ghost use Rattle.std.specs.Prelude.{◌≡◌, ◌≤◌};
 
+use crate::finishing::{give, have_places, keep_made, paths_of};
+use crate::known::KnownCrate;
 use base_blake2::Blake2b256;
 use base_files::{Listed, OsBytes};
 use cache_host::{Additions, CommandLine, Host, HostError, into_text};
-use cache_rustc_kept::{FoundCrate, PartRows, found};
-use cache_rustc_known::{KnownCrate, give, have_places, keep_made, paths_of};
 use cache_rustc_requests::{
-    additions_of, reason_against, rustc_at, toolchain_word, variable_of, variables_of,
+    FoundCrate, PartRows, additions_of, found, reason_against, rustc_at, toolchain_word,
+    variable_of, variables_of,
 };
 use cache_source_files::Audit;
 use ckeys_records::{ConfigError, Fault, Step};

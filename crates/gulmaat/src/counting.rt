@@ -1,13 +1,12 @@
 //! What a call came to is counted, and reported in a line of the log where one is kept.
 
 use cache_c_calls::{End, What};
-use cache_call_log::CallFacts;
-use cache_call_log::front::front;
 use cache_host::{CommandLine, HostError, Tally, tell_line};
 use cache_rustc_requests::is_named_rustc;
 use cache_settings::Key;
 use cache_source_files::{Audit, log};
-use cache_statistics::{REMOTE, count, counters_of, name_of};
+use cache_statistics::front::front;
+use cache_statistics::{CallFacts, REMOTE, count, counters_of, name_of};
 use std::alloc::Global;
 use std::fs::File;
 use std::rt::{Clock, Files};

@@ -3,11 +3,11 @@
 ghost use Rattle.std.specs.Prelude.{◌≡◌, ◌≤◌};
 
 use cache_c_calls::{End, What, decide_on_c};
-use cache_call_log::CallFacts;
 use cache_host::{CommandLine, Host, HostError};
 use cache_rustc_calls::{RustcEnd, RustcWhat, decide_on_rustc};
 use cache_rustc_requests::is_named_rustc;
 use cache_settings::Key;
+use cache_statistics::CallFacts;
 use std::fs::File;
 use std::io::Read;
 use std::rt::Files;

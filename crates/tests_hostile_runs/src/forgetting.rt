@@ -7,7 +7,7 @@ use base_bounded_store::LruStore;
 use sccache_scenarios::read_scenario;
 use std::alloc::{AllocError, Global};
 use std::num::NonZeroUsize;
-use tests_failing_kit::{Forgetful, Order};
+use tests_kit::{Forgetful, Order};
 use wrap_base::MapStore;
 
 /// Which of the stores follows orders.

@@ -12,8 +12,7 @@ use sccache_script_tool::{
 };
 use sha2::Sha256;
 use std::alloc::{AllocError, AllocFailed, Global};
-use tests_failing_kit::FailTool;
-use tests_kit::FailFiles;
+use tests_kit::{FailFiles, FailTool};
 use thiserror::Error;
 use wrap::Session;
 use wrap_base::store_key::{Pairs, StoreKey};

@@ -3,7 +3,7 @@
 use base_bounded_store::LruStore;
 use ckeys_base::Store;
 use std::hash::Hash;
-use tests_failing_kit::Forgetful;
+use tests_kit::Forgetful;
 use wrap_base::MapStore;
 
 /// What is seen of a store.

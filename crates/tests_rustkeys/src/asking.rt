@@ -13,8 +13,7 @@ use rustkeys::{
 };
 use sha2::Sha256;
 use std::alloc::{AllocError, Global};
-use tests_failing_kit::FailTool;
-use tests_kit::{FailFiles, files_of, words};
+use tests_kit::{FailFiles, FailTool, files_of, words};
 
 /// A request for a library of a crate `foo`.
 pub(crate) const FIRST: &str =

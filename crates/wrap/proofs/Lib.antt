@@ -3,3 +3,10 @@ pub mod RunSteps
 pub mod RustSteps
 pub mod ExampleLemmas
 pub mod DirectExampleLemmas
+pub mod StepLemmas
+pub mod TurnLemmas
+pub mod RustLemmas
+pub mod GatherLemmas
+pub mod PrepareLemmas
+pub mod PassedLemmas
+pub mod PathLemmas

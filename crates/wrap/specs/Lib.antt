@@ -32,3 +32,8 @@ pub use Rattle.wrap_keys.specs.Whole
 pub use Rattle.wrap_fingerprints.specs.Fingerprints
 pub use Rattle.wrap_fingerprints.specs.Telling
 pub use Rattle.wrap_fingerprints.specs.Explaining
+pub mod Prepared
+pub mod RustPrepared
+pub mod Gathering
+pub mod PathMap
+pub mod Steps

@@ -1,8 +1,16 @@
-//! The session that answers requests, and with it all that a caller of it names.
+//! The session that answers requests, and with it all that a caller of it names. What one request is answered, of whichever family, goes by
+//! the verdict on it and its key, over the stores of the session.
 #![tactic(auto)]
 
+mod answering;
+mod c_calls;
+mod compile;
 mod laws;
+mod outputs;
+mod prepared;
+mod rust_calls;
 mod session;
+mod sizes;
 
 pub use base_bounded_store::LruStore;
 pub use base_files::{

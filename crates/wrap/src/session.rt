@@ -17,7 +17,9 @@ ghost use Rattle.wrap_keys.specs.Whole.{AllAnswer, Each, IsAnswered, OneFresh, R
 ghost use Rattle.wrap.specs.Serving.{BeginTrue, IsTurn, KeepsHistory, account_of, call_of};
 ghost use Rattle.wrap.specs.Sessions.{held_by};
 
+use crate::c_calls::c_turn;
 use crate::laws::call_keys_tell_records;
+use crate::rust_calls::rust_turn;
 use base_files::Files;
 use ckeys::{EntryKey, PreprocessorCacheEntry, records_are_true};
 use ckeys_base::{HashState, Store};
@@ -27,7 +29,6 @@ use std::marker::{Model, PhantomData};
 use wrap_base::store_key::{Pairs, StoreKey};
 use wrap_base::{Answer, Call, Config, Named, Reason, Request, Tool};
 use wrap_fingerprints::{Fingerprint, request_fingerprint};
-use wrap_turns::{c_turn, rust_turn};
 
 /// Answers requests under one configuration, from a store of include records and one of what was compiled, by one hash
 /// function. Contracts see what the configuration fixes, and the stores.

@@ -1,7 +1,0 @@
-pub mod StepLemmas
-pub mod TurnLemmas
-pub mod RustLemmas
-pub mod GatherLemmas
-pub mod PrepareLemmas
-pub mod PassedLemmas
-pub mod PathLemmas
