@@ -119,7 +119,7 @@ def call_picture():
         box(right, 358, 230, ["gulmaat-remote", "in C: Redis, HTTP, a folder"]),
         box(middle, 460, wide, ["What did the compile make?", "cache_c_calls, cache_rustc_calls: is it kept?", "manifest, result, statistics"], "proved"),
         box(right, 468, 230, ["the compiler", "outputs and messages"]),
-        box(left, 350, 170, ["outputs in place", "cache_source_files,", "cache_rustc_known"], "proved"),
+        box(left, 350, 170, ["outputs in place", "cache_source_files,", "cache_rustc_calls"], "proved"),
         way([(105, 66), (105, 110)]),
         way([(190, 140), (220, 140), (220, 51), (middle, 51)], "asks", (196, 100)),
         way([(middle + wide, 51), (right, 51)], "no", (middle + wide + 24, 45)),
