@@ -36,11 +36,13 @@ fn difference(one: &[u8], other: &[u8]) -> Option<usize> {
     if one == other {
         return None;
     }
-    let alike = one
-        .iter()
-        .zip(other.iter())
-        .take_while(|pair| pair.0 == pair.1);
-    Some(alike.count())
+    for (at, byte) in one.iter().enumerate() {
+        match other.get(at) {
+            Some(there) if *there == *byte => {}
+            _ => return Some(at),
+        }
+    }
+    Some(one.len())
 }
 
 /// Copies of outputs.
@@ -59,11 +61,14 @@ pub fn difference_of_outputs(
     made: &[Output],
 ) -> Result<Option<String>, AllocError> {
     if kept.len() != made.len() {
-        return Ok(Some(format!(in alloc; "outputs")?));
+        return Ok(Some(String::from_str(alloc, "outputs")?));
     }
-    for (kept, made) in kept.iter().zip(made.iter()) {
+    for (number, kept) in kept.iter().enumerate() {
+        let Some(made) = made.get(number) else {
+            break;
+        };
         if kept.name.as_bytes() != made.name.as_bytes() {
-            return Ok(Some(format!(in alloc; "outputs")?));
+            return Ok(Some(String::from_str(alloc, "outputs")?));
         }
         if let Some(at) = difference(kept.contents.as_bytes(), made.contents.as_bytes()) {
             return Ok(Some(format!(in alloc; "object at byte {at}")?));

@@ -34,7 +34,7 @@ fn first_rule(list: &[u8]) -> &[u8] {
 
 /// Whether it is a name, or a part of one that has spaces in it, and no end of a line that goes on.
 fn is_name(part: &[u8]) -> bool {
-    !part.is_empty() && part != b"\\".as_slice()
+    !matches!(part, [] | b"\\")
 }
 
 /// The names of a rule, cut at spaces and at the ends of its lines.
@@ -51,6 +51,10 @@ fn names_in(alloc: Global, rule: &[u8]) -> Result<HashSet<&[u8]>, AllocError> {
 /// Whether all files that a compile's dependency file names are in the list of those that its text is made of.
 pub fn names_files_of(alloc: Global, written: &[u8], list: &[u8]) -> Result<bool, AllocError> {
     let known = names_in(alloc, first_rule(list))?;
-    let mut parts = first_rule(written).split(|byte| *byte == b' ' || *byte == b'\n');
-    Ok(parts.all(|part| !is_name(part) || (&known).contains(&part)))
+    for part in first_rule(written).split(|byte| *byte == b' ' || *byte == b'\n') {
+        if is_name(part) && !(&known).contains(&part) {
+            return Ok(false);
+        }
+    }
+    Ok(true)
 }

@@ -1,7 +1,7 @@
 //! Files that are loaded from the disk, and those that a text names.
 
 use crate::headers::look_up_shared;
-use crate::tokens::{Tokens, is_settled, token_of};
+use crate::tokens::{Tokens, has_any, is_settled, token_of};
 use base_files::{FileTime, Files as CallFiles, Metadata, OsBytes, join};
 use base_snapshots::{LoadedFile, SnapshotFiles};
 use cache_disk::{read_of_size, time_of};
@@ -171,10 +171,7 @@ pub fn load<R: Files + AllocGlobal>(
 fn embeds(contents: &OsBytes) -> bool {
     let contents = contents.as_bytes();
     // Most files don't even have the part that both spellings share.
-    memmem::find(contents, b"embed").is_some()
-        && EMBEDS
-            .iter()
-            .any(|word| memmem::find(contents, word.as_bytes()).is_some())
+    memmem::find(contents, b"embed").is_some() && has_any(contents, &EMBEDS)
 }
 
 /// Whether a file that was loaded before the preprocessor ran has that state and these contents still. They are what the preprocessor read then,
@@ -279,7 +276,10 @@ fn load_regular<R: Files + AllocGlobal>(
         OnDisk::File(held, _) => embeds(held),
         OnDisk::NoFile | OnDisk::Unknown => false,
     };
-    Ok(!takes_in && take(path.clone()?, token, files)?)
+    match takes_in {
+        true => Ok(false),
+        false => take(path.clone()?, token, files),
+    }
 }
 
 /// Loads a file that a text names. False where it can't be recorded.
@@ -296,9 +296,8 @@ fn load_named_file<R: Files + AllocGlobal>(
             load_regular(rt, line, path, found, contents, files, tokens)
         }
         Lying::File(_, None) | Lying::Unknown => Ok(false),
-        Lying::Nothing | Lying::Other => {
-            Ok(tokens.has_whole(path) || take(path.clone()?, OnDisk::NoFile, files)?)
-        }
+        Lying::Nothing | Lying::Other if tokens.has_whole(path) => Ok(true),
+        Lying::Nothing | Lying::Other => take(path.clone()?, OnDisk::NoFile, files),
     }
 }
 

@@ -53,6 +53,19 @@ fn lock_name<R: Files + AllocGlobal>(
     Ok(Some(String::from_str(rt.alloc(), name)?))
 }
 
+/// Adds the name of the lock of a path, where it has one.
+fn add_lock<R: Files + AllocGlobal>(
+    rt: &R,
+    line: &CommandLine,
+    path: &OsBytes,
+    names: &mut BTreeSet<String>,
+) -> Result<(), HostError> {
+    if let Some(name) = lock_name(rt, line, path)? {
+        names.insert(name)?;
+    }
+    Ok(())
+}
+
 /// The names of the locks of outputs' paths and of a dependency file's, in their order.
 fn lock_names<R: Files + AllocGlobal>(
     rt: &R,
@@ -61,10 +74,11 @@ fn lock_names<R: Files + AllocGlobal>(
     dependency_file: Option<&OsBytes>,
 ) -> Result<BTreeSet<String>, HostError> {
     let mut names = BTreeSet::new(rt.alloc());
-    for path in paths.iter().chain(dependency_file) {
-        if let Some(name) = lock_name(rt, line, path)? {
-            names.insert(name)?;
-        }
+    for path in paths {
+        add_lock(rt, line, path, &mut names)?;
+    }
+    if let Some(path) = dependency_file {
+        add_lock(rt, line, path, &mut names)?;
     }
     Ok(names)
 }
@@ -142,7 +156,10 @@ pub fn made_since<R: Files + AllocGlobal>(
     before: &[Option<State>],
 ) -> Result<Listed<Option<OsBytes>>, HostError> {
     let mut files = Listed::new(rt.alloc());
-    for (path, before) in paths.iter().zip(before.iter()) {
+    for (number, path) in paths.iter().enumerate() {
+        let Some(before) = before.get(number) else {
+            break;
+        };
         let path = into_text(path.clone()?)?;
         let now = State::at(rt, path.as_str()).ok();
         files.push(match now == *before {

@@ -130,8 +130,8 @@ pub fn write_side_files<R: Files>(
     messages: &KeptMessages,
 ) -> Result<(), HostError> {
     let paths = wanted.paths.as_slice();
-    for (ending, path) in wanted.endings.iter().zip(paths.iter()) {
-        if let Some(contents) = side_file(messages, ending) {
+    for (number, ending) in wanted.endings.as_slice().iter().enumerate() {
+        if let (Some(path), Some(contents)) = (paths.get(number), side_file(messages, ending)) {
             let old = old_side_file(kind, ending);
             write_anew(rt, text_in(path)?, contents.as_bytes(), old)?;
         }

@@ -3,8 +3,9 @@
 use base_files::{OsBytes, join};
 use cache_disk::folder_of;
 use cache_host::{CommandLine, HostError};
-use cache_known_options::{Placed, PlacedWords};
+use cache_known_options::{Placed, PlacedWords, behind_front, is_among};
 use cache_written_lines::NamedFiles;
+use memchr::memrchr;
 use std::alloc::Global;
 use std::collections::BTreeSet;
 use std::fs;
@@ -17,7 +18,7 @@ const ENDINGS: [&str; 2] = [".gch", ".pch"];
 const PREDEFINED: &[u8] = b"/stdc-predef.h";
 
 /// Words for a folder that is searched, which follows in the same word or is the next one.
-const FOLDERS: [&[u8]; 4] = [b"-I", b"-iquote", b"-isystem", b"-idirafter"];
+const FOLDERS: [&str; 4] = ["-I", "-iquote", "-isystem", "-idirafter"];
 
 /// Variables that list folders which are searched.
 const VARIABLES: [&[u8]; 3] = [b"CPATH", b"C_INCLUDE_PATH", b"CPLUS_INCLUDE_PATH"];
@@ -27,19 +28,29 @@ const PARTS: usize = 4;
 
 /// The first file that a text takes in: a compiler looks for a precompiled header for that one alone.
 fn first_taken_in(named: &NamedFiles) -> Option<&OsBytes> {
-    let paths = named.files.iter().map(|file| &file.path);
-    paths
-        .filter(|path| !path.as_bytes().ends_with(PREDEFINED))
-        .nth(1)
+    let mut is_input = true;
+    for file in named.files.iter() {
+        if file.path.as_bytes().ends_with(PREDEFINED) {
+            continue;
+        }
+        if !is_input {
+            return Some(&file.path);
+        }
+        is_input = false;
+    }
+    None
 }
 
 /// The folder by which a word has a compiler search.
 fn folder_in(placed: Placed<'_>) -> Option<&[u8]> {
     let word = placed.word.as_bytes();
     match placed.option {
-        Some(option) if FOLDERS.contains(&option.as_bytes()) => Some(word),
+        Some(option) if is_among(&FOLDERS, option.as_bytes()) => Some(word),
         Some(_) => None,
-        None => FOLDERS.iter().find_map(|front| word.strip_prefix(*front)),
+        None => match behind_front(&FOLDERS, word) {
+            Some((_, folder)) => Some(folder),
+            None => None,
+        },
     }
 }
 
@@ -59,11 +70,10 @@ fn folders_of<'a>(
     }
     for variable in &VARIABLES {
         let list = line.value_of(variable);
-        for folder in list
-            .split(|byte| *byte == b':')
-            .filter(|folder| !folder.is_empty())
-        {
-            folders.insert(folder)?;
+        for folder in list.split(|byte| *byte == b':') {
+            if !folder.is_empty() {
+                folders.insert(folder)?;
+            }
         }
     }
     Ok(folders)
@@ -72,9 +82,13 @@ fn folders_of<'a>(
 /// The names by which a header of that path may have been asked for: its last parts, so many at most.
 fn header_names(alloc: Global, path: &[u8]) -> Result<Vec<&[u8]>, HostError> {
     let mut names = Vec::new(alloc);
-    let slashes = path.iter().enumerate().rev().filter(|pair| *pair.1 == b'/');
-    for (at, _) in slashes.take(PARTS) {
+    let mut front = path;
+    for _ in 0..PARTS {
+        let Some(at) = memrchr(b'/', front) else {
+            break;
+        };
         names.push(path.get(at.saturating_add(1)..).unwrap_or(&[]))?;
+        front = front.get(..at).unwrap_or(&[]);
     }
     Ok(names)
 }

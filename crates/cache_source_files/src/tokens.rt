@@ -34,6 +34,16 @@ fn has(contents: &[u8], text: &str) -> bool {
     memmem::find(contents, text.as_bytes()).is_some()
 }
 
+/// Whether one of these texts is in these contents.
+pub(crate) fn has_any(contents: &[u8], texts: &[&str]) -> bool {
+    for text in texts {
+        if has(contents, text) {
+            return true;
+        }
+    }
+    false
+}
+
 /// The token of these contents. None where they look like one.
 pub fn token_of(alloc: Global, contents: &[u8]) -> Result<Option<OsBytes>, AllocError> {
     if contents.starts_with(MARK) {
@@ -44,10 +54,12 @@ pub fn token_of(alloc: Global, contents: &[u8]) -> Result<Option<OsBytes>, Alloc
     let mut token = Vec::with_capacity(alloc, 128)?;
     token.extend_from_slice(MARK)?;
     token.extend_from_slice(digest.finish(alloc)?.as_bytes())?;
-    if PARTS.iter().any(|part| has(contents, part)) {
-        for word in WORDS.iter().filter(|word| has(contents, word)) {
-            token.push(b' ')?;
-            token.extend_from_slice(word.as_bytes())?;
+    if has_any(contents, &PARTS) {
+        for word in &WORDS {
+            if has(contents, word) {
+                token.push(b' ')?;
+                token.extend_from_slice(word.as_bytes())?;
+            }
         }
     }
     Ok(Some(OsBytes::from_vec(token)))
@@ -190,7 +202,10 @@ impl Tokens {
         found: &Metadata,
         began: FileTime,
     ) -> Result<bool, AllocError> {
-        Ok(is_settled(found, began) && self.devices.have(rt, found.dev())?)
+        match is_settled(found, began) {
+            true => self.devices.have(rt, found.dev()),
+            false => Ok(false),
+        }
     }
 
     /// Notes the token of a file, where it can be known again, in a call that began at that moment.
