@@ -6,6 +6,7 @@ use crate::handed_on::definitions_in;
 use crate::placed::{Placed, PlacedWords, behind_front, is_among};
 use crate::text_words::{OF_DEPENDENCIES, with_ending};
 use base_files::{Listed, OsBytes};
+use memchr::memrchr;
 use std::alloc::{AllocError, Global};
 
 /// Words that ask the preprocessor for a dependency file; its path follows in the same word.
@@ -94,7 +95,7 @@ impl<'a> Said<'a> {
         option: &[u8],
         value: &'a [u8],
     ) -> Result<(), AllocError> {
-        if option == b"-MF".as_slice() {
+        if matches!(option, b"-MF") {
             self.path = Some(value);
             return Ok(());
         }
@@ -103,7 +104,7 @@ impl<'a> Said<'a> {
             self.said.push(again(alloc, option)?)?;
             return self.said.push(again(alloc, value)?);
         }
-        if option == b"-o".as_slice() {
+        if matches!(option, b"-o") {
             self.object = Some(value);
         }
         self.others.push(again(alloc, value)?)
@@ -118,10 +119,7 @@ impl<'a> Said<'a> {
         let has_target = begins_with_target(word);
         self.has_target = self.has_target || has_target;
         // With a target for the preprocessor the object may be one too: Clang has it as one then, and GCC for a file that `-MD` asks for.
-        is_asking
-            || has_target
-            || word == b"-MP".as_slice()
-            || target_for_preprocessor(word).is_some()
+        is_asking || has_target || matches!(word, b"-MP") || target_for_preprocessor(word).is_some()
     }
 
     /// Takes a word that is no value, and says whether it is one of those that say something of the dependency file, or one of definitions,
@@ -137,7 +135,7 @@ impl<'a> Said<'a> {
             self.said.push(again(alloc, front.as_bytes())?)?;
             return Ok(true);
         }
-        if word == b"-MF".as_slice() || is_among(&OF_TARGET, word) {
+        if matches!(word, b"-MF") || is_among(&OF_TARGET, word) {
             return Ok(true);
         }
         if let Some(path) = word.strip_prefix(b"-MF") {
@@ -157,14 +155,14 @@ impl<'a> Said<'a> {
             return Ok(());
         }
         self.others.push(again(alloc, word)?)?;
-        if word == b"-S".as_slice() {
+        if matches!(word, b"-S") {
             return self.said.push(again(alloc, word)?);
         }
-        match word.strip_prefix(b"-o") {
-            Some([]) => {}
-            Some(object) => self.object = Some(object),
-            None if word.starts_with(b"-") => {}
-            None => self.input = Some(word),
+        match word {
+            b"-o" => {}
+            [b'-', b'o', object @ ..] => self.object = Some(object),
+            [b'-', ..] => {}
+            _ => self.input = Some(word),
         }
         Ok(())
     }
@@ -242,11 +240,12 @@ impl<'a> Said<'a> {
 fn path_in(placed: Placed<'_>) -> Option<&[u8]> {
     let word = placed.word.as_bytes();
     match placed.option {
-        Some(option) if option.as_bytes() == b"-MF".as_slice() => Some(word),
+        Some(option) if matches!(option.as_bytes(), b"-MF") => Some(word),
         Some(_) => None,
         None => match for_preprocessor(word) {
             Some((_, path)) => Some(path),
-            None => word.strip_prefix(b"-MF").filter(|path| !path.is_empty()),
+            None if matches!(word, b"-MF") => None,
+            None => word.strip_prefix(b"-MF"),
         },
     }
 }
@@ -255,7 +254,7 @@ fn path_in(placed: Placed<'_>) -> Option<&[u8]> {
 fn object_in(placed: Placed<'_>) -> Option<&[u8]> {
     let word = placed.word.as_bytes();
     match placed.option {
-        Some(option) if option.as_bytes() == b"-o".as_slice() => Some(word),
+        Some(option) if matches!(option.as_bytes(), b"-o") => Some(word),
         Some(_) => None,
         None => word.strip_prefix(b"-o"),
     }
@@ -295,8 +294,8 @@ pub fn odd_dependency_file(words: &[OsBytes]) -> Option<&OsBytes> {
 
 /// The name of a file, without the folders of its path.
 pub(crate) fn file_name(path: &[u8]) -> &[u8] {
-    match path.rsplit(|byte| *byte == b'/').next() {
-        Some(name) => name,
+    match memrchr(b'/', path) {
+        Some(at) => path.get(at.saturating_add(1)..).unwrap_or(path),
         None => path,
     }
 }

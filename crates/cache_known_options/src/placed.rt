@@ -119,7 +119,9 @@ impl<'a> Iterator for PlacedWords<'a> {
     ghost remaining = { λ words. at_most (length words.rest.now) };
 
     fn next(&mut self) -> Option<Placed<'a>> {
-        let (word, rest) = self.rest.split_first()?;
+        let [word, rest @ ..] = self.rest else {
+            return None;
+        };
         self.rest = rest;
         let placed = Placed {
             word,

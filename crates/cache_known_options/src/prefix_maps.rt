@@ -57,7 +57,9 @@ fn keeps_names(word: &[u8]) -> bool {
 /// The two names in what comes after such a word's front; nothing where it isn't certain where the second one begins, or the next word.
 fn names_in(value: &[u8]) -> Option<(&[u8], &[u8])> {
     let (old, new) = value.split_at_checked(memchr(b'=', value)?)?;
-    let new = new.strip_prefix(b"=")?;
+    let [_, new @ ..] = new else {
+        return None;
+    };
     match memchr2(b'=', b'\n', new) {
         Some(_) => None,
         None => Some((old, new)),
@@ -79,16 +81,15 @@ enum Mapped<'a> {
 /// What a word with these names maps for a call in that folder. GCC maps each name that begins so, wherever its parts end, so that an empty one
 /// stands for all. Where the folder's name comes to nothing, an assembler writes the folder that it runs in.
 fn mapped_by<'a>(dir: &'a [u8], old: &[u8], new: &[u8]) -> Mapped<'a> {
-    match old.first() {
-        None => return Mapped::Unclear,
-        Some(b'/') if is_plain(old) => {}
-        Some(b'/') => return Mapped::Unclear,
-        Some(_) => return Mapped::Relative,
+    match old {
+        [b'/', ..] if is_plain(old) => {}
+        [] | [b'/', ..] => return Mapped::Unclear,
+        _ => return Mapped::Relative,
     }
     match dir.strip_prefix(old) {
         None => Mapped::Other,
         Some([]) if new.is_empty() => Mapped::Unclear,
-        Some(rest) if rest.is_empty() || rest.starts_with(b"/") => Mapped::Folder(rest),
+        Some(rest) if matches!(rest, [] | [b'/', ..]) => Mapped::Folder(rest),
         Some(_) => Mapped::Unclear,
     }
 }
@@ -260,7 +261,7 @@ impl PrefixMaps {
 
 /// What comes before the marker of a folder in a text, and after it. GCC prints it second, where there is debug information.
 fn marked<'a>(text: &'a [u8], dir: &[u8]) -> Option<(&'a [u8], &'a [u8])> {
-    let first = memchr(b'\n', text)?.checked_add(1)?;
+    let first = memchr(b'\n', text)?.saturating_add(1);
     let (before, marker) = text.split_at_checked(first)?;
     let name = marker.strip_prefix(MARKER)?;
     let behind = name.strip_prefix(dir)?.strip_prefix(MARKER_END)?;

@@ -1,8 +1,9 @@
 //! The words by which a compiler prints the text of a command: the caller's own, except for the object, followed by `-E`.
 
-use crate::dependencies::{ASKING, begins_with_target};
+use crate::dependencies::{ASKING, begins_with_target, file_name};
 use crate::placed::{Placed, PlacedWords, is_among};
 use base_files::{Listed, OsBytes};
+use memchr::memrchr;
 use std::alloc::{AllocError, Global};
 
 /// What the words of a command say of its dependency file.
@@ -38,7 +39,7 @@ impl<'a> Dependencies<'a> {
 pub(crate) fn object_in(placed: Placed<'_>) -> Option<&[u8]> {
     let word = placed.word.as_bytes();
     match placed.option {
-        Some(option) if option.as_bytes() == b"-o".as_slice() => Some(word),
+        Some(option) if matches!(option.as_bytes(), b"-o") => Some(word),
         Some(_) => None,
         None if placed.takes_value() => None,
         None => word.strip_prefix(b"-o"),
@@ -48,7 +49,7 @@ pub(crate) fn object_in(placed: Placed<'_>) -> Option<&[u8]> {
 /// Whether a word is one of those that name the object.
 fn names_object(placed: Placed<'_>) -> bool {
     match placed.option {
-        Some(option) => option.as_bytes() == b"-o".as_slice(),
+        Some(option) => matches!(option.as_bytes(), b"-o"),
         None => placed.word.as_bytes().starts_with(b"-o"),
     }
 }
@@ -91,13 +92,10 @@ pub(crate) const OF_DEPENDENCIES: &str = ".d";
 
 /// The path of a file beside an object: the object's path with that ending in place of the last dot of its name and what comes after it.
 pub(crate) fn with_ending(alloc: Global, object: &[u8], with: &str) -> Result<Vec<u8>, AllocError> {
-    let name = match object.rsplit(|byte| *byte == b'/').next() {
-        Some(name) => name,
-        None => object,
-    };
-    let ending = match name.rsplit(|byte| *byte == b'.').next() {
-        Some(ending) if ending.len() < name.len() => ending.len().saturating_add(1),
-        _ => 0,
+    let name = file_name(object);
+    let ending = match memrchr(b'.', name) {
+        Some(at) => name.len().saturating_sub(at),
+        None => 0,
     };
     let stem = object.get(..object.len().saturating_sub(ending));
     let mut path = Vec::with_capacity(alloc, object.len())?;

@@ -73,7 +73,10 @@ fn rest_behind<'a>(table: &'a str, front: &[u8]) -> Option<&'a [u8]> {
     let table = table.as_bytes();
     let at = memmem::find(table, front)?;
     let behind = table.get(at..)?.strip_prefix(front)?;
-    behind.split(|byte| *byte == b' ').next()
+    match memchr(b' ', behind) {
+        Some(end) => behind.get(..end),
+        None => Some(behind),
+    }
 }
 
 /// A word as a table has it, after a space: an option that turns off what another one turns on loses its `no-`.
@@ -114,13 +117,13 @@ fn is_named(names: &[u8], name: &[u8]) -> bool {
 
 /// Whether a value is as the table says: a number, any text, or names with commas between them.
 fn fits(said: &[u8], value: &[u8]) -> bool {
-    if said == b"#".as_slice() {
-        return is_number(value);
-    }
-    said == b"*".as_slice()
-        || value
+    match said {
+        b"#" => is_number(value),
+        b"*" => true,
+        _ => value
             .split(|byte| *byte == b',')
-            .all(|name| is_named(said, name))
+            .all(|name| is_named(said, name)),
+    }
 }
 
 /// Whether the table has that word up to its first `=`, and allows what comes after it.
@@ -152,7 +155,10 @@ fn is_parameter(word: &[u8]) -> bool {
 
 /// Whether a word for the assembler is known.
 fn is_for_assembler(alloc: Global, word: &[u8]) -> Result<bool, AllocError> {
-    Ok(is_listed(alloc, ASSEMBLER, word)? || is_valued(alloc, ASSEMBLER, word)?)
+    match is_listed(alloc, ASSEMBLER, word)? {
+        true => Ok(true),
+        false => is_valued(alloc, ASSEMBLER, word),
+    }
 }
 
 /// Whether all words for the assembler are known, which have commas between them.
@@ -177,8 +183,11 @@ fn is_level(level: &[u8]) -> bool {
 
 /// Whether it is the path of a file, and not of what another process reads or writes, which can be read only once.
 fn is_file(path: &[u8]) -> bool {
-    path == b"/dev/null".as_slice()
-        || path != b"-".as_slice() && !path.starts_with(b"/dev/") && !path.starts_with(b"/proc/")
+    match path {
+        b"/dev/null" => true,
+        b"-" => false,
+        _ => !path.starts_with(b"/dev/") && !path.starts_with(b"/proc/"),
+    }
 }
 
 /// Whether a word that begins with one of `FRONTS`, and may contain a path, is known.
@@ -215,7 +224,10 @@ fn is_known_option(alloc: Global, word: &[u8]) -> Result<bool, AllocError> {
     if let Some(parameter) = word.strip_prefix(b"--param=") {
         return Ok(is_parameter(parameter));
     }
-    Ok(is_among(&OFF, word) || is_listed(alloc, WHOLE, word)? || is_valued(alloc, VALUED, word)?)
+    match is_among(&OFF, word) || is_listed(alloc, WHOLE, word)? {
+        true => Ok(true),
+        false => is_valued(alloc, VALUED, word),
+    }
 }
 
 /// Whether the value of an option is known.
@@ -223,16 +235,12 @@ fn is_known_value(alloc: Global, option: &[u8], value: &[u8]) -> Result<bool, Al
     if takes_any(option) {
         return Ok(!is_among(&NAME_FILES, option) || is_file(value));
     }
-    if option == b"-Xassembler".as_slice() {
-        return is_for_assembler(alloc, value);
+    match option {
+        b"-Xassembler" => is_for_assembler(alloc, value),
+        b"-Xclang" => is_listed(alloc, CLANG, value),
+        b"-mllvm" => is_valued(alloc, LLVM, value),
+        _ => Ok(is_parameter(value)),
     }
-    if option == b"-Xclang".as_slice() {
-        return is_listed(alloc, CLANG, value);
-    }
-    if option == b"-mllvm".as_slice() {
-        return is_valued(alloc, LLVM, value);
-    }
-    Ok(is_parameter(value))
 }
 
 /// Whether a word is known in its place.
