@@ -69,11 +69,11 @@ fn push_configuration(
 fn names_of_words(alloc: Global, driver: &str) -> Result<Vec<String>, HostError> {
     let mut names = Vec::new(alloc);
     push_configuration(alloc, driver, ".cfg", &mut names)?;
-    for (at, byte) in driver.bytes().enumerate() {
+    for (at, byte) in driver.as_bytes().iter().enumerate() {
         let Some((machine, _)) = driver.split_at_checked(at) else {
             continue;
         };
-        if byte == b'-' {
+        if *byte == b'-' {
             push_configuration(alloc, machine, ".cfg", &mut names)?;
             push_configuration(alloc, machine, "-clang.cfg", &mut names)?;
             push_configuration(alloc, machine, "-clang++.cfg", &mut names)?;

@@ -41,11 +41,7 @@ pub fn kind_of<R: Files + AllocGlobal>(
 
 /// Whether the executable is called as a compiler of C++.
 fn is_plusplus(executable: &str) -> bool {
-    let mut parts = executable.as_bytes().rsplit(|byte| *byte == b'/');
-    match parts.next() {
-        Some(name) => name.contains(&b'+'),
-        None => false,
-    }
+    file_name(executable).as_bytes().contains(&b'+')
 }
 
 /// Variables that give messages their language, their colours and the form of links in them.
@@ -86,6 +82,19 @@ pub(crate) fn add_folder(
     additions.add_if_any(alloc, "PWD", line.value_of(b"PWD"))
 }
 
+/// Adds those of these variables that a call has.
+fn add_variables(
+    alloc: Global,
+    line: &CommandLine,
+    names: &[&'static str],
+    additions: &mut Additions,
+) -> Result<(), HostError> {
+    for name in names {
+        additions.add_if_any(alloc, name, line.value_of(name.as_bytes()))?;
+    }
+    Ok(())
+}
+
 /// Adds what a compiler does differently by its name, as a Clang that is called as one of C++ or for another machine, and by variables, though
 /// no text shows it: its messages, and of a Clang the folder, whose name it writes into objects.
 pub(crate) fn add_surroundings(
@@ -99,9 +108,8 @@ pub(crate) fn add_surroundings(
         "driver",
         file_name(line.executable.as_str()).as_bytes(),
     )?;
-    for name in OF_MESSAGES.iter().chain(&OF_OBJECTS) {
-        additions.add_if_any(alloc, name, line.value_of(name.as_bytes()))?;
-    }
+    add_variables(alloc, line, &OF_MESSAGES, additions)?;
+    add_variables(alloc, line, &OF_OBJECTS, additions)?;
     match kind {
         CCompilerKind::Clang => add_folder(alloc, line, additions),
         _ => Ok(()),

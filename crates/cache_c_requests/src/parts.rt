@@ -9,6 +9,7 @@ use cache_dir::{Kind, state_of};
 use cache_disk::read_whole;
 use cache_host::{CommandLine, Fields, Host, HostError, into_text, messages_of, words_of};
 use cmdlines_tables::CCompilerKind;
+use memchr::memchr;
 use std::alloc::Global;
 use std::fs;
 use std::io::Read;
@@ -36,9 +37,17 @@ const USUAL_PATH: &[u8] = b"/bin:/usr/bin";
 
 /// The text without the end of its line.
 fn without_line_end(text: &[u8]) -> &[u8] {
-    match text.split_last() {
-        Some((b'\n', front)) => front,
+    match text {
+        [front @ .., b'\n'] => front,
         _ => text,
+    }
+}
+
+/// The first line of a text.
+fn first_line(text: &[u8]) -> &[u8] {
+    match memchr(b'\n', text) {
+        Some(at) => text.get(..at).unwrap_or(text),
+        None => text,
     }
 }
 
@@ -123,8 +132,7 @@ fn ask_specs<P: Print + Files + AllocGlobal, I: Read>(
     ensures { host.new.compiled ≡ 0 }
 {
     let said = ask(rt, line, host, "-print-search-dirs")?;
-    let first = said.split(|byte| *byte == b'\n').next();
-    let Some(folder) = first.and_then(|first| first.strip_prefix(b"install: ")) else {
+    let Some(folder) = first_line(&said).strip_prefix(b"install: ") else {
         return Err(HostError::Parts);
     };
     for place in specs_places(rt.alloc(), folder)? {
@@ -138,9 +146,9 @@ fn specs_places(alloc: Global, folder: &[u8]) -> Result<Vec<String>, HostError> 
     let Ok(folder) = str::from_utf8(folder) else {
         return Err(HostError::Unreadable);
     };
-    let mut parts = folder.trim_end_matches('/').rsplit('/');
-    let version = parts.next().unwrap_or("");
-    let machine = parts.next().unwrap_or("");
+    let path = folder.trim_end_matches('/');
+    let (above, version) = path.rsplit_once('/').unwrap_or(("", path));
+    let (_, machine) = above.rsplit_once('/').unwrap_or(("", above));
     let mut places = Vec::new(alloc);
     push_place(alloc, folder, "specs", &mut places)?;
     let library = format!(in alloc; "{folder}../../../../{machine}/lib/")?;

@@ -48,7 +48,7 @@ fn asks_beside(word: &[u8]) -> bool {
 
 /// Whether gulmaat sees itself to an option that the session passes through.
 fn is_seen_to(option: &[u8]) -> bool {
-    asks_beside(option) || option == b"-specs".as_slice()
+    asks_beside(option) || matches!(option, b"-specs")
 }
 
 /// Words by which a Clang has another program assemble.
@@ -77,9 +77,14 @@ fn granted_by(kind: CCompilerKind) -> &'static [&'static str] {
 
 /// Whether the words name that path as the output.
 fn is_output(words: &[OsBytes], path: &[u8]) -> bool {
-    let behind = words.iter().skip(1);
-    words.iter().zip(behind).any(|pair| pair.0.as_bytes() == "-o".as_bytes()
-        && pair.1.as_bytes() == path)
+    let mut is_value = false;
+    for word in words {
+        if is_value && word.as_bytes() == path {
+            return true;
+        }
+        is_value = matches!(word.as_bytes(), b"-o");
+    }
+    false
 }
 
 /// Why nothing can be kept of where the words ask for an object: on standard output, or nowhere.
